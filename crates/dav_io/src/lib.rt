@@ -1,0 +1,22 @@
+//! The outside of a server as its code sees it: sources of bytes, sinks for them, clocks, and the small types that
+//! cross every layer. An object of the outside counts its faults, and answers `Failed` only where the count rose.
+#![tactic(auto)]
+
+mod clock;
+mod failure;
+mod faults;
+mod fields;
+mod memory;
+mod octets;
+mod outside;
+mod sure;
+mod text;
+
+pub use clock::{Clock, Moment, SetClock};
+pub use failure::{Failed, NoMemory};
+pub use fields::{Field, Fields};
+pub use memory::{MemSink, MemSource};
+pub use octets::Octets;
+pub use outside::{Sink, Source};
+pub use sure::{SureSink, SureSource};
+pub use text::Text;
