@@ -20,3 +20,6 @@ pub use octets::Octets;
 pub use outside::{Sink, Source};
 pub use sure::{SureSink, SureSource};
 pub use text::Text;
+
+#[cfg(test)]
+mod tests;
