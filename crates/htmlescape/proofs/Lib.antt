@@ -1,0 +1,14 @@
+pub mod Tables
+pub mod Written
+pub mod Utf8
+pub mod Escaping
+pub mod Encoding
+pub mod Known
+pub mod Items
+pub mod Steps
+pub mod Fronts
+pub mod Moves
+pub mod Going
+pub mod Agreement
+pub mod InMemory
+pub mod Undone

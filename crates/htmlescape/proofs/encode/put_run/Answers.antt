@@ -1,0 +1,5 @@
+use Rattle.htmlescape.proofs.Written.{appends_last}
+use Rattle.htmlescape.proofs.encode.put_run.Goals as goal
+
+pub returns-in-Ok : goal.returns-in-Ok
+returns-in-Ok g c = appends_last _ _ _ _ _ _ c.in-Ok.ensures c.put.ensures
