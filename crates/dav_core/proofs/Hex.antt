@@ -1,0 +1,119 @@
+-- Hexadecimal digits, the last one apart.
+use Rattle.std.proofs.Common.{◌≡◌, ℕ, zero, suc, ◌/◌, ◌%◌, ◌^◌, ◌<◌, ◌≤◌, cond, false, ◌≢◌, List, [], ◌∷◌, ◌++◌, length, length-append, Option, None, Some, MatchOption, refl, sym, ap, ◌∙◌, ⊎_elim, append_assoc, eq-eqb, ne_eqb, arith}
+use Rattle.std.proofs.lemmas.Bool.{cases_lt as order}
+use Rattle.std.proofs.lemmas.List.{append_cancel_right}
+use Rattle.std.specs.Fmt.{digit_glyph, digits_onto, digits}
+use Rattle.std.specs.Borrow.{Bor}
+use Rattle.dav_core.specs.Ends.{EndsOtherwise}
+use Rattle.dav_core.specs.Info.{hex}
+
+abbrev spell : ℕ → ℕ → List ℕ → List ℕ
+spell k n acc = digits_onto k 16 false n acc
+
+abbrev pub last_digit : ℕ → ℕ
+last_digit n = digit_glyph false (n % 16)
+
+spell_last : (k n : ℕ) (acc : List ℕ) → n < 16 → spell (suc k) n acc ≡ last_digit n ∷ acc
+spell_last k n acc h = ap (λ t. cond t (last_digit n ∷ acc) (spell k (n / 16) (last_digit n ∷ acc))) (eq-eqb (n / 16) 0 (omega arith))
+
+spell_next : (k n : ℕ) (acc : List ℕ) → 16 ≤ n → spell (suc k) n acc ≡ spell k (n / 16) (last_digit n ∷ acc)
+spell_next k n acc h = ap (λ t. cond t (last_digit n ∷ acc) (spell k (n / 16) (last_digit n ∷ acc))) (ne_eqb (n / 16) 0 (λ e. omega arith))
+
+spell-append : (k n : ℕ) (acc : List ℕ) → spell k n acc ≡ spell k n [] ++ acc
+spell-append zero n acc = refl
+spell-append (suc k) n acc = ⊎_elim
+    (λ l. spell_last k n acc l ∙ ap (λ x. x ++ acc) (sym (spell_last k n [] l)))
+    (λ l. spell_next k n acc l ∙ spell-append k (n / 16) (last_digit n ∷ acc) ∙ sym (append_assoc (spell k (n / 16) []) (last_digit n ∷ []) acc) ∙ ap (λ x. x ++ acc) (sym (spell_next k n [] l ∙ spell-append k (n / 16) (last_digit n ∷ []))))
+    (order n 16)
+
+-- the digit limit does not matter once it is large enough
+spell_enough : (j k n : ℕ) (acc : List ℕ) → n < 16 ^ suc j → n < 16 ^ suc k → spell (suc j) n acc ≡ spell (suc k) n acc
+spell_enough zero k n acc p q = spell_last zero n acc (omega arith) ∙ sym (spell_last k n acc (omega arith))
+spell_enough (suc j) zero n acc p q = spell_last (suc j) n acc (omega arith) ∙ sym (spell_last zero n acc (omega arith))
+spell_enough (suc j) (suc k) n acc p q = ⊎_elim
+    (λ l. spell_last (suc j) n acc l ∙ sym (spell_last (suc k) n acc l))
+    (λ l. spell_next (suc j) n acc l ∙ spell_enough j k (n / 16) (last_digit n ∷ acc) (omega arith) (omega arith) ∙ sym (spell_next (suc k) n acc l))
+    (order n 16)
+
+onto_nil : (n : ℕ) → spell 64 n [] ≡ hex n
+unfolding digits
+onto_nil n = refl
+
+pub hex_one : (n : ℕ) → n < 16 → hex n ≡ last_digit n ∷ []
+hex_one n h = sym (onto_nil n) ∙ spell_last 63 n [] h
+
+pub hex_more : (n : ℕ) → 16 ≤ n → n < 2 ^ 64 → hex n ≡ hex (n / 16) ++ (last_digit n ∷ [])
+hex_more n h small =
+    sym (onto_nil n) ∙ spell_next 63 n [] h ∙ spell_enough 62 63 (n / 16) (last_digit n ∷ []) (omega arith) (omega arith) ∙ spell-append 64 (n / 16) (last_digit n ∷ [])
+    ∙ ap (λ x. x ++ (last_digit n ∷ [])) (onto_nil (n / 16))
+
+-- ends of texts
+
+pub snoc_same : (a b : List ℕ) (x y : ℕ) → a ++ (x ∷ []) ≡ b ++ (y ∷ []) → (a ≡ b) × (x ≡ y)
+snoc_same [] [] x y e = (refl, cc)
+snoc_same [] (d ∷ []) x y e = cc
+snoc_same [] (d ∷ f ∷ b) x y e = cc
+snoc_same (c ∷ []) [] x y e = cc
+snoc_same (c ∷ f ∷ a) [] x y e = cc
+snoc_same (c ∷ a) (d ∷ b) x y e =
+    let tails : a ++ (x ∷ []) ≡ b ++ (y ∷ []) = cc in
+    let same = snoc_same a b x y tails in
+    let heads : c ≡ d = cc in
+    ((λ i. heads i ∷ same.0 i), same.1)
+
+-- all digits but the last
+stem : (n : ℕ) → n < 2 ^ 64 → (s : List ℕ) × (hex n ≡ s ++ (last_digit n ∷ []))
+stem n small = ⊎_elim (λ l. ([], hex_one n l)) (λ l. (hex (n / 16), hex_more n l small)) (order n 16)
+
+pub none_ends : (text : List ℕ) (n : ℕ) → n < 2 ^ 64 → length text ≡ 0 → EndsOtherwise text (hex n)
+none_ends text n small none front e =
+    let s = stem n small in
+    let lengths = ap length (e ∙ ap (λ x. front ++ x) s.1) in
+    omega (arith, lengths, length-append front (s.0 ++ (last_digit n ∷ [])), length-append s.0 (last_digit n ∷ []))
+
+pub other_digit : (text rest : List ℕ) (last n : ℕ) → n < 2 ^ 64 → text ≡ rest ++ (last ∷ []) → last ≢ last_digit n → EndsOtherwise text (hex n)
+other_digit text rest last n small parts other front e =
+    let s = stem n small in
+    other (snoc_same rest (front ++ s.0) last (last_digit n) (sym parts ∙ e ∙ ap (λ x. front ++ x) s.1 ∙ sym (append_assoc front s.0 (last_digit n ∷ [])))).1
+
+pub one_digit : (text rest : List ℕ) (last n : ℕ) → n < 16 → text ≡ rest ++ (last ∷ []) → last ≡ last_digit n → text ≡ rest ++ hex n
+one_digit text rest last n small parts same = parts ∙ ap (λ d. rest ++ (d ∷ [])) same ∙ ap (λ x. rest ++ x) (sym (hex_one n small))
+
+pub more_digits : (text rest front : List ℕ) (last n : ℕ) → 16 ≤ n → n < 2 ^ 64 → text ≡ rest ++ (last ∷ []) → last ≡ last_digit n → rest ≡ front ++ hex (n / 16) → text ≡ front ++ hex n
+more_digits text rest front last n large small parts same e =
+    parts ∙ ap (λ d. rest ++ (d ∷ [])) same ∙ ap (λ x. x ++ (last_digit n ∷ [])) e ∙ append_assoc front (hex (n / 16)) (last_digit n ∷ []) ∙ ap (λ x. front ++ x) (sym (hex_more n large small))
+
+pub more_otherwise : (text rest : List ℕ) (last n : ℕ) → 16 ≤ n → n < 2 ^ 64 → text ≡ rest ++ (last ∷ []) → EndsOtherwise rest (hex (n / 16)) → EndsOtherwise text (hex n)
+more_otherwise text rest last n large small parts never front e =
+    never front (snoc_same rest (front ++ hex (n / 16)) last (last_digit n)
+    (sym parts ∙ e ∙ ap (λ x. front ++ x) (hex_more n large small) ∙ sym (append_assoc front (hex (n / 16)) (last_digit n ∷ [])))).0
+
+pub found_more : (r : Option (Bor (List ℕ))) (text rest : List ℕ) (last n : ℕ) → 16 ≤ n → n < 2 ^ 64 → text ≡ rest ++ (last ∷ []) → last ≡ last_digit n
+    → MatchOption r (EndsOtherwise rest (hex (n / 16))) (λ front. rest ≡ front.now ++ hex (n / 16))
+    → MatchOption r (EndsOtherwise text (hex n)) (λ front. text ≡ front.now ++ hex n)
+found_more None text rest last n large small parts same never = more_otherwise text rest last n large small parts never
+found_more (Some front) text rest last n large small parts same e = more_digits text rest front.now last n large small parts same e
+
+-- a dash and an end
+
+-- a text that doesn't end so doesn't end with more
+pub longer_otherwise : (text end : List ℕ) (b : ℕ) → EndsOtherwise text end → EndsOtherwise text (b ∷ end)
+longer_otherwise text end b never front e = never (front ++ (b ∷ [])) (e ∙ sym (append_assoc front (b ∷ []) end))
+
+pub dash_only : (text rest end : List ℕ) (b : ℕ) → text ≡ rest ++ end → length rest ≡ 0 → EndsOtherwise text (b ∷ end)
+dash_only text rest end b parts none front e =
+    let lengths = ap length (sym parts ∙ e) in
+    omega (arith, lengths, none, length-append rest end, length-append front (b ∷ end))
+
+pub other_dash : (text rest front end : List ℕ) (last b : ℕ) → text ≡ rest ++ end → rest ≡ front ++ (last ∷ []) → last ≢ b → EndsOtherwise text (b ∷ end)
+other_dash text rest front end last b parts snoc other f e =
+    other (snoc_same front f last b (sym snoc ∙ append_cancel_right rest (f ++ (b ∷ [])) end (sym parts ∙ e ∙ sym (append_assoc f (b ∷ []) end)))).1
+
+pub dashed : (text rest front end : List ℕ) (last b : ℕ) → text ≡ rest ++ end → rest ≡ front ++ (last ∷ []) → last ≡ b → text ≡ front ++ (b ∷ end)
+dashed text rest front end last b parts snoc same =
+    parts ∙ ap (λ x. x ++ end) snoc ∙ append_assoc front (last ∷ []) end ∙ ap (λ d. front ++ (d ∷ end)) same
+
+-- what stands before an end decides a whole
+pub whole_by_front : (text front start end : List ℕ) → text ≡ front ++ end → ((text ≡ start ++ end) → front ≡ start) × ((front ≡ start) → text ≡ start ++ end)
+whole_by_front text front start end parts =
+    ((λ e. append_cancel_right front start end (sym parts ∙ e)), (λ e. parts ∙ ap (λ x. x ++ end) e))

@@ -1,0 +1,205 @@
+-- What each call of a disk does, as a relation between the disk before and after it.
+use Rattle.std.specs.Prelude.{◌≡◌, ◌≤◌, ◌+◌, ◌&&◌, ℕ, List, [], length, take, drop, min, Bool, true, false, IsTrue, Option, None, Some, IsSome, Result, Ok, Err, IfOk, IfErr, OnErr, IsOk}
+use Rattle.std.specs.Result.{IsErrOf}
+use Rattle.std.specs.Option.{option_map}
+use Rattle.dav_io.specs.Counts.{Rose, one_more}
+use Rattle.dav_io.specs.Told.{Both}
+use Rattle.dav_core.specs.declared.tree.Row.{Row}
+use Rattle.dav_core.specs.declared.tree.Kind.{Kind}
+use Rattle.dav_core.specs.declared.handle.Meta.{Meta}
+use Rattle.dav_core.specs.declared.handle.Handle.{Handle}
+use Rattle.dav_core.specs.declared.handle.OpenOptions.{OpenOptions}
+use Rattle.dav_core.specs.declared.handle.DiskError.{DiskError}
+use Rattle.dav_core.specs.declared.handle.DiskError.TheVariants.{NotFound, Exists, NotDir, IsDir, NotEmpty, Failed, NoMemory}
+use Rattle.dav_core.specs.Path.{Names}
+use Rattle.dav_core.specs.Tree.{look, is_linked, is_file}
+use Rattle.dav_core.specs.World.{World, OpenFile, put, bytes_of, time_of}
+use Rattle.dav_core.specs.Changes.{turned}
+
+-- what every disk knows of a live handle: what stands behind it, and how it was opened
+pub record Live : Type 0 where
+  pub kind : Kind
+  pub how : OpenOptions
+
+-- A disk as contracts see it.
+pub record DiskState : Type 0 where
+  -- the world, where it is told
+  pub told : Option World
+  pub faults : ℕ
+  pub asked : ℕ
+  -- it tells that a read gives all bytes that stand there and fit
+  pub whole : Bool
+  -- the live handles
+  pub live : ℕ → Option Live
+  -- the live listers, each with a bound on the names that it has still to give
+  pub listers : ℕ → Option ℕ
+
+-- A call that is counted: a fault is answered only where one was met.
+pub record Asks {T : Type 0} (result : Result T DiskError) (old new : DiskState) : Type 0 where
+  pub counts : old.faults ≤ new.faults
+  pub rose : IsErrOf result Failed → Rose old.faults new.faults
+  pub asked : new.asked ≡ one_more old.asked
+  pub whole : IsTrue old.whole → IsTrue new.whole
+  pub listers : new.listers ≡ old.listers
+
+-- The tree calls for this refusal, or a fault or want of memory was met.
+abbrev pub Refused : {T : Type 0} → DiskError → Result T DiskError → Type 0
+Refused Failed found = Unit {0}
+Refused NoMemory found = Unit {0}
+Refused e found = found ≡ Err e
+
+-- a refusal that the tree calls for
+pub refused_of : {T : Type 0} (e : DiskError) (found : Result T DiskError) → found ≡ Err e → Refused e found
+refused_of NotFound found h = h
+refused_of Exists found h = h
+refused_of NotDir found h = h
+refused_of IsDir found h = h
+refused_of NotEmpty found h = h
+refused_of Failed found h = tt
+refused_of NoMemory found h = tt
+
+-- what stands at a path, as it is told
+pub record IsMetaOf (w : World) (row : Row) (meta : Meta) : Type 0 where
+  pub kind : meta.kind ≡ row.kind
+  pub number : meta.number ≡ row.number
+  pub len : meta.len ≡ length (bytes_of w row.number)
+  pub modified : meta.modified ≡ Some row.time
+
+abbrev pub MetaIn : Names → Result Meta DiskError → World → Type 0
+MetaIn path (Ok meta) w = (row : Row) × (look w.tree path ≡ Ok row) × IsMetaOf w row meta
+MetaIn path (Err e) w = Refused e (look w.tree path)
+
+-- the refusals of a look at a path
+abbrev pub MayRefuseMeta : DiskError → Type 0
+MayRefuseMeta NotFound = Unit {0}
+MayRefuseMeta NotDir = Unit {0}
+MayRefuseMeta Failed = Unit {0}
+MayRefuseMeta e = ⊥
+
+pub record Metas (old : DiskState) (path : Names) (result : Result Meta DiskError) (new : DiskState) : Type 0 where
+  pub asks : Asks result old new
+  pub only : IfErr result MayRefuseMeta
+  pub world : new.told ≡ old.told
+  pub live : new.live ≡ old.live
+  pub told : (w : World) → old.told ≡ Some w → is_linked w.tree path ≡ false → MetaIn path result w
+
+-- an open file of this number at its first byte
+abbrev pub at_start : ℕ → OpenFile
+at_start number = record { number = number; place = 0 }
+
+abbrev pub with_opens : World → (ℕ → Option OpenFile) → World
+with_opens w opens = record w { opens = opens }
+
+-- What is opened is what stands at the path, at its first byte.
+abbrev pub OpenedIn : Names → Result Handle DiskError → Option Kind → World → World → Type 0
+OpenedIn path (Ok h) kind v w = (number : ℕ) × (w ≡ with_opens v (put h.0 (Some (at_start number)) v.opens))
+    × (is_linked v.tree path ≡ false → (row : Row) × (look v.tree path ≡ Ok row) × (row.number ≡ number) × (kind ≡ Some row.kind))
+OpenedIn path (Err e) kind v w = (w ≡ v) × (is_linked v.tree path ≡ false → Refused e (look v.tree path))
+
+-- the kind of what a live handle has open
+abbrev pub kind_at : DiskState → ℕ → Option Kind
+kind_at s h = option_map (λ l. l.kind) (s.live h)
+
+-- the kind that the answered handle has
+abbrev pub kind_opened : Result Handle DiskError → DiskState → Option Kind
+kind_opened (Ok h) s = kind_at s h.0
+kind_opened (Err e) s = None
+
+abbrev pub LiveAfterOpen : OpenOptions → Result Handle DiskError → (ℕ → Option Live) → (ℕ → Option Live) → Type 0
+LiveAfterOpen how (Ok h) old new = (kind : Kind) × (old h.0 ≡ None) × (new ≡ put h.0 (Some (record { kind = kind; how = how })) old)
+LiveAfterOpen how (Err e) old new = new ≡ old
+
+-- the refusals of opening for reading
+abbrev pub MayRefuseOpen : DiskError → Type 0
+MayRefuseOpen NotFound = Unit {0}
+MayRefuseOpen NotDir = Unit {0}
+MayRefuseOpen Failed = Unit {0}
+MayRefuseOpen NoMemory = Unit {0}
+MayRefuseOpen e = ⊥
+
+-- A file or directory is opened for reading. (Opening for writing adds its cases here.)
+pub record Opens (old : DiskState) (path : Names) (how : OpenOptions) (result : Result Handle DiskError) (new : DiskState) : Type 0 where
+  pub asks : Asks result old new
+  pub only : IfErr result MayRefuseOpen
+  pub live : LiveAfterOpen how result old.live new.live
+  pub told : Both old.told new.told (OpenedIn path result (kind_opened result new))
+
+abbrev pub FileMetaIn : ℕ → Result Meta DiskError → World → Type 0
+FileMetaIn h (Ok meta) w = (o : OpenFile) × (w.opens h ≡ Some o) × (meta.number ≡ o.number) × (meta.len ≡ length (bytes_of w o.number))
+    × (is_file meta.kind ≡ true → meta.modified ≡ time_of w o.number)
+FileMetaIn h (Err e) w = Unit {0}
+
+pub record FileMetas (old : DiskState) (h : ℕ) (result : Result Meta DiskError) (new : DiskState) : Type 0 where
+  pub asks : Asks result old new
+  pub only : OnErr result (result ≡ Err Failed)
+  pub world : new.told ≡ old.told
+  pub live : new.live ≡ old.live
+  pub kind : IfOk result (λ meta. kind_at old h ≡ Some meta.kind)
+  pub told : (w : World) → old.told ≡ Some w → FileMetaIn h result w
+
+-- The place of an open file is set.
+abbrev pub placed : World → ℕ → OpenFile → ℕ → World
+placed w h o place = with_opens w (put h (Some (record o { place = place })) w.opens)
+
+abbrev pub SoughtIn : ℕ → ℕ → Result Unit DiskError → World → World → Type 0
+SoughtIn h place (Ok x) v w = (o : OpenFile) × (v.opens h ≡ Some o) × (w ≡ placed v h o place)
+SoughtIn h place (Err e) v w = w ≡ v
+
+pub record Seeks (old : DiskState) (h place : ℕ) (result : Result Unit DiskError) (new : DiskState) : Type 0 where
+  pub asks : Asks result old new
+  pub only : OnErr result (result ≡ Err Failed)
+  pub live : new.live ≡ old.live
+  pub told : Both old.told new.told (SoughtIn h place result)
+
+-- the bytes from a file's place on
+abbrev pub rest_of : World → OpenFile → List ℕ
+rest_of w o = drop o.place (bytes_of w o.number)
+
+abbrev pub ReadIn : Bool → ℕ → List ℕ → Result ℕ DiskError → World → World → Type 0
+ReadIn whole h buffer (Ok n) v w = (o : OpenFile) × (v.opens h ≡ Some o) × (n ≤ length (rest_of v o)) × (take n buffer ≡ take n (rest_of v o))
+    × (n ≡ 0 → rest_of v o ≡ []) × (whole ≡ true → n ≡ min (length buffer) (length (rest_of v o))) × (w ≡ placed v h o (o.place + n))
+ReadIn whole h buffer (Err e) v w = w ≡ v
+
+-- a regular file that was opened for reading
+abbrev pub can_read : Option Live → Bool
+can_read None = false
+can_read (Some l) = is_file l.kind && l.how.read
+
+abbrev pub MayRefuseRead : DiskError → Type 0
+MayRefuseRead IsDir = Unit {0}
+MayRefuseRead Failed = Unit {0}
+MayRefuseRead e = ⊥
+
+pub record Reads (old : DiskState) (h : ℕ) (buffer : List ℕ) (result : Result ℕ DiskError) (new : DiskState) : Type 0 where
+  pub asks : Asks result old new
+  pub within : IfOk result (λ n. n ≤ length buffer)
+  pub only : IfErr result MayRefuseRead
+  -- a regular file that was opened for reading is refused only by a fault
+  pub refused : can_read (old.live h) ≡ true → OnErr result (result ≡ Err Failed)
+  -- and over a told disk nothing else is read
+  pub readable : IsSome old.told → IsOk result → can_read (old.live h) ≡ true
+  pub live : new.live ≡ old.live
+  pub told : Both old.told new.told (ReadIn old.whole h buffer result)
+
+abbrev pub ClosedIn : ℕ → World → World → Type 0
+ClosedIn h v w = w ≡ with_opens v (put h None v.opens)
+
+pub record Closes (old : DiskState) (h : ℕ) (new : DiskState) : Type 0 where
+  pub counts : new.faults ≡ old.faults
+  pub asked : new.asked ≡ old.asked
+  pub whole : IsTrue old.whole → IsTrue new.whole
+  pub listers : new.listers ≡ old.listers
+  pub live : new.live ≡ put h None old.live
+  pub told : Both old.told new.told (ClosedIn h)
+
+abbrev pub TurnedIn : {E : Type 0} → Result Unit E → World → World → Type 0
+TurnedIn (Ok x) v w = w ≡ turned v
+TurnedIn (Err e) v w = w ≡ v
+
+pub record Turns {E : Type 0} (old : DiskState) (result : Result Unit E) (new : DiskState) : Type 0 where
+  pub counts : new.faults ≡ old.faults
+  pub asked : new.asked ≡ old.asked
+  pub whole : IsTrue old.whole → IsTrue new.whole
+  pub listers : new.listers ≡ old.listers
+  pub live : new.live ≡ old.live
+  pub told : Both old.told new.told (TurnedIn result)

@@ -1,0 +1,16 @@
+pub mod Path
+pub mod Tree
+pub mod World
+pub mod Changes
+pub mod Options
+pub mod Errors
+pub mod Disk
+pub mod Tables
+pub mod Keeps
+pub mod DavPath
+pub mod Info
+pub mod Ends
+pub mod ContentTypes
+pub mod Grammar
+pub mod Methods
+pub mod Statuses

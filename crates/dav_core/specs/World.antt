@@ -1,0 +1,59 @@
+-- All that a disk may tell of itself.
+use Rattle.std.specs.Prelude.{◌≡◌, ◌<◌, ◌==◌, ℕ, List, [], length, cond, true, Option, None, Some, slice_index_or}
+use Rattle.std.specs.Option.{option_map}
+use Rattle.dav_core.specs.declared.tree.Row.{Row}
+use Rattle.dav_core.specs.declared.tree.Kind.TheVariants.{File}
+use Rattle.dav_core.specs.declared.time.FileTime.{FileTime}
+use Rattle.dav_core.specs.declared.change.Change.{Change}
+use Rattle.dav_core.specs.Path.{Names}
+use Rattle.dav_core.specs.Tree.{is_tree}
+
+-- the bytes of a file, and the time of its last change
+pub record Stored : Type 0 where
+  pub bytes : List ℕ
+  pub time : FileTime
+
+-- an open file: the number of what was opened, and the place at which it is read and written
+pub record OpenFile : Type 0 where
+  pub number : ℕ
+  pub place : ℕ
+
+pub record World : Type 0 where
+  pub tree : List Row
+  -- The files by their numbers. A file that was removed stays here: its number is never given again.
+  pub files : ℕ → Option Stored
+  -- the open files by their handles
+  pub opens : ℕ → Option OpenFile
+  -- the open listings, with their names to come
+  pub listings : ℕ → Option Names
+  -- the greatest number and the latest time used so far
+  pub greatest : ℕ
+  pub latest : FileTime
+  -- the batches of changes to come
+  pub script : List (List Change)
+
+-- f with another value at k
+abbrev pub put : {A : Type 0} → ℕ → A → (ℕ → A) → ℕ → A
+put k a f n = cond (n == k) a (f n)
+
+abbrev pub bytes_or_none : Option Stored → List ℕ
+bytes_or_none None = []
+bytes_or_none (Some stored) = stored.bytes
+
+-- the bytes of a file number; none where no file has the number
+abbrev pub bytes_of : World → ℕ → List ℕ
+bytes_of w number = bytes_or_none (w.files number)
+
+-- the time of a file number
+abbrev pub time_of : World → ℕ → Option FileTime
+time_of w number = option_map (λ s. s.time) (w.files number)
+
+-- the number of what a handle has open
+abbrev pub number_of : World → ℕ → Option ℕ
+number_of w h = option_map (λ o. o.number) (w.opens h)
+
+-- What holds of every world that is told: its rows are a tree, and each file of the tree is stored with its row's time.
+pub record IsWorld (w : World) : Type 0 where
+  pub tree : is_tree w.tree ≡ true
+  pub stored : (k : ℕ) (d : Row) → k < length w.tree → (slice_index_or w.tree k d).kind ≡ File
+      → time_of w (slice_index_or w.tree k d).number ≡ Some (slice_index_or w.tree k d).time

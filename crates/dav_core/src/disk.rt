@@ -1,0 +1,100 @@
+ghost use Rattle.std.specs.Prelude.{◌≡◌, ◌<◌, length, IsSome, Option, None, Some};
+ghost use Rattle.std.specs.Borrow.{GName};
+ghost use Rattle.dav_core.specs.World.{World, IsWorld};
+ghost use Rattle.dav_core.specs.Options.{reading};
+ghost use Rattle.dav_core.specs.Disk.{DiskState, Metas, FileMetas, Opens, Seeks, Reads, Closes, Turns};
+
+use crate::{DiskError, FsPath, Handle, Meta, OpenOptions};
+use dav_io::NoMemory;
+
+/// A disk that is asked call by call. It counts the calls asked of it and the faults that it met; both counts stay at
+/// the greatest u64 once they are there. It may tell its world; then each call does to that world what its relation
+/// says. A disk that doesn't tell still keeps its counts, its live handles and its live listers.
+pub trait Disk {
+    /// What contracts see of the disk.
+    ghost state: { Self → DiskState };
+
+    /// The loan that the disk stands on: none for an owned disk, and for a `&mut` its own.
+    ghost loan: { Self → Option GName } = { λ _. None };
+
+    /// What stands at a path, links followed.
+    fn meta(&mut self, path: &FsPath) -> Result<Meta, DiskError>
+        ensures done { Metas (state self.old) path.now result (state self.new) }
+        ensures loan { loan self.new ≡ loan self.old };
+
+    /// Opens what stands at a path, at its first byte. New files would be open to everybody where `public` is set.
+    fn open(&mut self, path: &FsPath, how: OpenOptions, public: bool) -> Result<Handle, DiskError>
+        requires { how ≡ reading }
+        ensures done { Opens (state self.old) path.now how result (state self.new) }
+        ensures loan { loan self.new ≡ loan self.old };
+
+    /// What is known of an open file.
+    fn file_meta(&mut self, file: Handle) -> Result<Meta, DiskError>
+        requires { IsSome ((state self.old).live file.0) }
+        ensures done { FileMetas (state self.old) file.0 result (state self.new) }
+        ensures loan { loan self.new ≡ loan self.old };
+
+    /// Sets the place of an open file, in bytes from its first.
+    fn seek(&mut self, file: Handle, place: u64) -> Result<(), DiskError>
+        requires { IsSome ((state self.old).live file.0) }
+        ensures done { Seeks (state self.old) file.0 place result (state self.new) }
+        ensures loan { loan self.new ≡ loan self.old };
+
+    /// Reads bytes from an open file's place on to the front of `into`, and answers how many. 0 comes exactly where no
+    /// byte stands there.
+    fn read(&mut self, file: Handle, into: &mut [u8]) -> Result<usize, DiskError>
+        requires live { IsSome ((state self.old).live file.0) }
+        requires room { 0 < length into.old }
+        ensures done { Reads (state self.old) file.0 into.new result (state self.new) }
+        ensures loan { loan self.new ≡ loan self.old };
+
+    /// Ends an open file. It is no counted call, and can't be refused.
+    fn close(&mut self, file: Handle)
+        requires { IsSome ((state self.old).live file.0) }
+        ensures done { Closes (state self.old) file.0 (state self.new) }
+        ensures loan { loan self.new ≡ loan self.old };
+
+    /// Lets the outside make its next batch of changes, whole. Where memory is refused it makes nothing.
+    fn turn(&mut self) -> Result<(), NoMemory>
+        ensures done { Turns (state self.old) result (state self.new) }
+        ensures loan { loan self.new ≡ loan self.old };
+
+    /// What is told is a world.
+    ghost world: { (d : Self) (w : World) → (state d).told ≡ Some w → IsWorld w };
+}
+
+impl<D: Disk> Disk for &mut D {
+    ghost state = { λ d. D.state d.now };
+
+    ghost loan = { λ d. Some d.ghost_name };
+
+    fn meta(&mut self, path: &FsPath) -> Result<Meta, DiskError> {
+        Disk::meta(&mut **self, path)
+    }
+
+    fn open(&mut self, path: &FsPath, how: OpenOptions, public: bool) -> Result<Handle, DiskError> {
+        Disk::open(&mut **self, path, how, public)
+    }
+
+    fn file_meta(&mut self, file: Handle) -> Result<Meta, DiskError> {
+        Disk::file_meta(&mut **self, file)
+    }
+
+    fn seek(&mut self, file: Handle, place: u64) -> Result<(), DiskError> {
+        Disk::seek(&mut **self, file, place)
+    }
+
+    fn read(&mut self, file: Handle, into: &mut [u8]) -> Result<usize, DiskError> {
+        Disk::read(&mut **self, file, into)
+    }
+
+    fn close(&mut self, file: Handle) {
+        Disk::close(&mut **self, file)
+    }
+
+    fn turn(&mut self) -> Result<(), NoMemory> {
+        Disk::turn(&mut **self)
+    }
+
+    ghost world = { λ d w e. D.world d.now w e };
+}

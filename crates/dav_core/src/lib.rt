@@ -1,0 +1,42 @@
+//! Paths, trees, times and the disk on which the server stands, call by call.
+#![tactic(auto)]
+
+mod change;
+mod content_types;
+mod dav_error;
+mod dav_path;
+mod disk;
+mod error;
+mod etag;
+mod grammar;
+mod handle;
+pub mod laws;
+mod meta;
+mod method;
+mod names;
+mod parse_error;
+mod parsing;
+mod path;
+mod prefix;
+mod tag;
+mod time;
+mod tree;
+mod url;
+
+pub use change::{Batch, Change};
+pub use content_types::content_type;
+pub use dav_error::DavError;
+pub use dav_path::DavPath;
+pub use disk::Disk;
+pub use error::FsError;
+pub use etag::ETag;
+pub use handle::{DiskError, Handle, Lister, Meta, OpenOptions};
+pub use meta::DavMetaData;
+pub use method::{DavMethod, DavMethodSet, dav_method};
+pub use parse_error::ParseError;
+pub use path::FsPath;
+pub use time::FileTime;
+pub use tree::{Kind, Row, Tree};
+
+#[cfg(test)]
+mod tests;

@@ -1,0 +1,122 @@
+ghost use Rattle.std.specs.Prelude.{◌≡◌, ◌↔◌, ◌∷◌, ◌==◌, IfOk, IsTrue, true, nat_eq};
+ghost use Rattle.std.specs.List.{list_any};
+ghost use Rattle.std.specs.Hash as fed;
+ghost use Rattle.std.specs.Hash.{items_Alike};
+ghost use Rattle.std.specs.Cmp.Lexicographic.{pointwise, lists_equiv, nat_list_eq_equiv};
+ghost use Rattle.std.specs.Cmp.{partial_equiv_from_equiv};
+ghost use Rattle.std.specs.Cmp.Rules.{hashing};
+ghost use Rattle.std.proofs.Common.{rules};
+ghost use Rattle.dav_core.specs.Path.{parts_names, is_dots, is_plain, all_plain};
+
+use dav_io::{NoMemory, Text};
+use std::alloc::Global;
+use std::hash::{Hash, Hasher};
+use std::marker::Model;
+
+/// A path from a disk's root: a list of plain names. A plain name is a nonempty text without slash and NUL that is
+/// neither `.` nor `..`. A contract sees a path as the list of its names' bytes.
+#[derive(Drop)]
+pub struct FsPath {
+    names: Vec<Text>,
+}
+
+impl Model for FsPath {
+    ghost use Rattle.std.specs.Prelude.{ℕ, List, ◌≡◌, true};
+    ghost use Rattle.dav_core.specs.Path.{all_plain};
+
+    ghost Value = { List (List ℕ) };
+
+    ghost view = { λ p. p.names.items };
+
+    ghost invariant = { λ p. all_plain p.names.items ≡ true };
+}
+
+// Whether a name holds a slash or NUL.
+fn has_parting(bytes: &[u8]) -> bool
+    ensures { result ≡ list_any parts_names bytes.now }
+{
+    bytes.iter().any(|b| *b == b'/' || *b == 0)
+}
+
+// Whether a name is `.` or `..`.
+fn is_dots_name(bytes: &[u8]) -> bool
+    ensures { result ≡ is_dots bytes.now }
+{
+    if bytes == b".".as_slice() {
+        return true;
+    }
+    bytes == b"..".as_slice()
+}
+
+// Whether a name is plain.
+fn is_plain_name(name: &Text) -> bool
+    ensures { result ≡ is_plain name.now }
+{
+    let bytes = name.as_slice();
+    if bytes.is_empty() {
+        return false;
+    }
+    if has_parting(bytes) {
+        return false;
+    }
+    !is_dots_name(bytes)
+}
+
+impl FsPath {
+    /// Whether all names are plain, as `new` needs them.
+    pub fn fits(names: &[Text]) -> bool
+        ensures { result ≡ all_plain names.now }
+    {
+        names.iter().all(|name| is_plain_name(name))
+    }
+
+    pub fn new(names: Vec<Text>) -> Self
+        requires { all_plain names.items ≡ true }
+        ensures { result ≡ names.items }
+    {
+        FsPath { names }
+    }
+
+    /// The names, from the root on.
+    pub fn as_slice(&self) -> &[Text]
+        ensures value { result.now ≡ self.now }
+        ensures plain { all_plain self.now ≡ true }
+    {
+        self.names.as_slice()
+    }
+
+    pub fn try_clone(&self) -> Result<Self, NoMemory>
+        ensures { IfOk result (λ copy. copy ≡ self.now) }
+    {
+        let alloc: Global = *self.names.allocator();
+        let mut copy = Vec::new(alloc);
+        for name in self.as_slice() {
+            copy.push(name.try_clone()?)?;
+        }
+        Ok(FsPath { names: copy })
+    }
+}
+
+impl PartialEq for FsPath {
+    ghost eq = { pointwise (pointwise nat_eq) };
+
+    ghost laws = { partial_equiv_from_equiv (lists_equiv nat_list_eq_equiv) };
+
+    fn eq(&self, other: &FsPath) -> bool {
+        self.as_slice() == other.as_slice()
+    }
+}
+
+impl Eq for FsPath {
+    ghost laws = { lists_equiv nat_list_eq_equiv };
+}
+
+impl Hash for FsPath {
+    ghost hash_input = { fed.slice (fed.slice fed.u8) };
+
+    ghost respects_eq = { (items_Alike {F = fed.slice fed.u8} (record { fed = Prim.search (hashing, rules) })).fed };
+
+    fn hash<H: Hasher>(&self, state: &mut H) {
+        self.as_slice().hash(state);
+    }
+}

@@ -1,0 +1,112 @@
+// The text of the entity tag of a disk's metadata: written where memory is had, compared where none is.
+ghost use Rattle.std.specs.Prelude.{◌≡◌, ◌↔◌, ◌++◌, ◌<◌, true, false, IfOk, IsTrue, MatchOption, codes, length};
+ghost use Rattle.std.specs.Fmt.{digit_glyph};
+ghost use Rattle.dav_core.specs.Ends.{EndsOtherwise};
+ghost use Rattle.dav_core.specs.Info.{hex, micros as the_micros, tag_at, is_in_years};
+
+use crate::{FileTime, Kind, Meta};
+use dav_io::{NoMemory, Text};
+use std::alloc::Global;
+
+// Whole microseconds since 1970.
+fn micros(time: FileTime) -> u64
+    requires { is_in_years time.secs ≡ true }
+    ensures { result ≡ the_micros time }
+{
+    time.secs as u64 * 1_000_000 + u64::from(time.nanos / 1000)
+}
+
+// The text of the tag at a known time.
+pub fn tag_text(alloc: Global, meta: &Meta, time: FileTime) -> Result<Text, NoMemory>
+    requires { is_in_years time.secs ≡ true }
+    ensures { IfOk result (λ text. text ≡ tag_at meta.now.kind meta.now.number meta.now.len time) }
+{
+    let (number, len, micros) = (meta.number, meta.len, micros(time));
+    match meta.kind {
+        Kind::File => Ok(Text::new(format!(in alloc; "{number:x}-{len:x}-{micros:x}")?)),
+        Kind::Dir | Kind::Link => Ok(Text::new(format!(in alloc; "{number:x}-{micros:x}")?)),
+    }
+}
+
+// The digit of a number below 16.
+fn digit(n: u64) -> u8
+    requires { n < 16 }
+    ensures { result ≡ digit_glyph false n }
+{
+    if n < 10 {
+        b'0' + n as u8
+    } else {
+        b'a' + (n - 10) as u8
+    }
+}
+
+// What stands before the digits of a number at the end of a text.
+fn before_digits<'a>(text: &'a [u8], number: u64) -> Option<&'a [u8]>
+    ensures { MatchOption result (EndsOtherwise text.now (hex number)) (λ front. text.now ≡ front.now ++ hex number) }
+{
+    let Some((last, front)) = text.split_last() else {
+        return None;
+    };
+    if *last != digit(number % 16) {
+        return None;
+    }
+    if number < 16 {
+        return Some(front);
+    }
+    before_digits(front, number / 16)
+}
+
+// What stands before a dash and the digits of a number at the end of a text.
+fn before_part<'a>(text: &'a [u8], number: u64) -> Option<&'a [u8]>
+    ensures { MatchOption result (EndsOtherwise text.now (codes "-" ++ hex number)) (λ front. text.now ≡ front.now ++ (codes "-" ++ hex number)) }
+{
+    let Some(rest) = before_digits(text, number) else {
+        return None;
+    };
+    let Some((last, front)) = rest.split_last() else {
+        return None;
+    };
+    if *last == b'-' { Some(front) } else { None }
+}
+
+// Whether a text is the digits of a number.
+fn is_digits(text: &[u8], number: u64) -> bool
+    ensures { IsTrue result ↔ (text.now ≡ hex number) }
+{
+    match before_digits(text, number) {
+        Some(front) => front.is_empty(),
+        None => false,
+    }
+}
+
+// Whether a text is two numbers with a dash between.
+fn is_pair(text: &[u8], first: u64, last: u64) -> bool
+    ensures { IsTrue result ↔ (text.now ≡ hex first ++ (codes "-" ++ hex last)) }
+{
+    match before_part(text, last) {
+        Some(front) => is_digits(front, first),
+        None => false,
+    }
+}
+
+// Whether a text is three numbers with dashes between.
+fn is_triple(text: &[u8], first: u64, middle: u64, last: u64) -> bool
+    ensures { IsTrue result ↔ (text.now ≡ hex first ++ (codes "-" ++ (hex middle ++ (codes "-" ++ hex last)))) }
+{
+    match before_part(text, last) {
+        Some(front) => is_pair(front, first, middle),
+        None => false,
+    }
+}
+
+// Whether a text is that of the tag at a known time.
+pub fn has_text(meta: &Meta, time: FileTime, text: &[u8]) -> bool
+    requires { is_in_years time.secs ≡ true }
+    ensures { IsTrue result ↔ (tag_at meta.now.kind meta.now.number meta.now.len time ≡ text.now) }
+{
+    let (number, len, micros) = (meta.number, meta.len, micros(time));
+    match meta.kind {
+        Kind::File => is_triple(text, number, len, micros),
+        Kind::Dir | Kind::Link => is_pair(text, number, micros),
+    }
+}
