@@ -1,0 +1,120 @@
+-- What a call does to what is known is what the trait of disks asks, with the counts beside it.
+use Rattle.std.proofs.Common.{◌≡◌, ◌≤◌, ℕ, List, Bool, ◌↔◌, true, false, IsTrue, IsErrOf, Option, Some, Result, Ok, Err, inl, inr, refl, ap, ◌∙◌}
+use Rattle.std.specs.Option.{option_map}
+use Rattle.dav_io.specs.Counts.{one_more}
+use Rattle.dav_core.specs.declared.tree.Row.{Row}
+use Rattle.dav_core.specs.declared.handle.Meta.{Meta}
+use Rattle.dav_core.specs.declared.handle.Handle.{Handle}
+use Rattle.dav_core.specs.declared.handle.OpenOptions.{OpenOptions}
+use Rattle.dav_core.specs.declared.handle.DiskError.{DiskError}
+use Rattle.dav_core.specs.declared.handle.DiskError.TheVariants.{NotFound, Exists, NotDir, IsDir, NotEmpty, Failed, NoMemory}
+use Rattle.dav_core.specs.Path.{Names}
+use Rattle.dav_core.specs.Tree.{look, IsTreeRefusal, look_err}
+use Rattle.dav_core.specs.World.{World, put}
+use Rattle.dav_core.specs.Keeps.{put_same}
+use Rattle.dav_core.specs.Disk.{Live, Asks, Refused, refused_of, Metas, MayRefuseMeta, Opens, MayRefuseOpen}
+use Rattle.dav_disk.specs.Calls.{Known, state_of, FindsMeta, RefusesOpen, OpensAt}
+
+-- what a counted call makes of the counts, and of whether reads are whole
+pub record Counted (faults asked : ℕ) (whole : Bool) (met more : ℕ) (still : Bool) : Type 0 where
+  pub rises : faults ≤ met
+  pub counts : more ≡ one_more asked
+  pub keeps : IsTrue whole → IsTrue still
+
+asks_ok : {T : Type 0} (v : T) (k n : Known) (f a : ℕ) (x : Bool) (g b : ℕ) (y : Bool) → Counted f a x g b y → Asks {T = T} (Ok v) (state_of k f a x) (state_of n g b y)
+asks_ok v k n f a x g b y c = record { counts = c.rises; rose = λ h. cc; asked = c.counts; whole = c.keeps; listers = refl }
+
+asks_err : {T : Type 0} (e : DiskError) (k n : Known) (f a : ℕ) (x : Bool) (g b : ℕ) (y : Bool) → (e ≡ Failed → ⊥) → Counted f a x g b y → Asks {T = T} (Err e) (state_of k f a x) (state_of n g b y)
+asks_err e k n f a x g b y fine c = record { counts = c.rises; rose = λ h. absurd (fine (let same : e ≡ Failed = cc in same)); asked = c.counts; whole = c.keeps; listers = refl }
+
+no_fault : (e : DiskError) → IsTreeRefusal e → e ≡ Failed → ⊥
+no_fault e (inl h) f = cc
+no_fault e (inr h) f = cc
+
+may_meta : (e : DiskError) → IsTreeRefusal e → MayRefuseMeta e
+may_meta e (inl h) = rw h tt
+may_meta e (inr h) = rw h tt
+
+same_world : (v w : World) → Some v ≡ Some w → v ≡ w
+same_world v w e = cc
+
+pub meta_done : (k : Known) (f a : ℕ) (x : Bool) (g b : ℕ) (y : Bool) (path : Names) (result : Result Meta DiskError) → Counted f a x g b y → FindsMeta k.world path result
+    → Metas (state_of k f a x) path result (state_of k g b y)
+meta_done k f a x g b y path (Ok meta) c found = record {
+  asks = asks_ok meta k k f a x g b y c;
+  only = tt;
+  world = refl;
+  live = refl;
+  told = λ w e linked. (let same = same_world k.world w e in rw (← same) found);
+}
+meta_done k f a x g b y path (Err e) c found = record {
+  asks = asks_err e k k f a x g b y (no_fault e (look_err k.world.tree path e found)) c;
+  only = may_meta e (look_err k.world.tree path e found);
+  world = refl;
+  live = refl;
+  told = λ w h linked. (let same = same_world k.world w h in rw (← same) (refused_of e (look k.world.tree path) found));
+}
+
+by_tree : (e : DiskError) → IsTreeRefusal e → MayRefuseOpen e
+by_tree e (inl h) = rw h tt
+by_tree e (inr h) = rw h tt
+
+may_open : (tree : List Row) (path : Names) (e : DiskError) → RefusesOpen e (look tree path) → MayRefuseOpen e
+may_open tree path NotFound h = tt
+may_open tree path Exists h = by_tree Exists (look_err tree path Exists h)
+may_open tree path NotDir h = tt
+may_open tree path IsDir h = by_tree IsDir (look_err tree path IsDir h)
+may_open tree path NotEmpty h = by_tree NotEmpty (look_err tree path NotEmpty h)
+may_open tree path Failed h = tt
+may_open tree path NoMemory h = tt
+
+refused_open : (e : DiskError) (found : Result Row DiskError) → RefusesOpen e found → Refused e found
+refused_open NotFound found h = h
+refused_open Exists found h = h
+refused_open NotDir found h = h
+refused_open IsDir found h = h
+refused_open NotEmpty found h = h
+refused_open Failed found h = tt
+refused_open NoMemory found h = tt
+
+open_no_fault : (tree : List Row) (path : Names) (e : DiskError) → RefusesOpen e (look tree path) → e ≡ Failed → ⊥
+open_no_fault tree path NotFound h f = cc
+open_no_fault tree path Exists h f = cc
+open_no_fault tree path NotDir h f = cc
+open_no_fault tree path IsDir h f = cc
+open_no_fault tree path NotEmpty h f = cc
+open_no_fault tree path Failed h f = no_fault Failed (look_err tree path Failed h) refl
+open_no_fault tree path NoMemory h f = cc
+
+kind_put : (live : ℕ → Option Live) (h : ℕ) (l : Live) (new : ℕ → Option Live) → new ≡ put h (Some l) live → option_map (λ l. l.kind) (new h) ≡ Some l.kind
+kind_put live h l new e = ap (λ (t : ℕ → Option Live). option_map (λ (l : Live). l.kind) (t h)) e ∙ ap (option_map (λ (l : Live). l.kind)) (put_same h (Some l) live)
+
+pub open_done : (k n : Known) (f a : ℕ) (x : Bool) (g b : ℕ) (y : Bool) (path : Names) (how : OpenOptions) (result : Result Handle DiskError) → Counted f a x g b y → OpensAt k path how result n
+    → Opens (state_of k f a x) path how result (state_of n g b y)
+open_done k n f a x g b y path how (Ok h) c (row, found, free, e) =
+    let live = ap (λ (n : Known). n.live) e in
+    record {
+      asks = asks_ok h k n f a x g b y c;
+      only = tt;
+      live = (row.kind, free, live);
+      told = (row.number, ap (λ (n : Known). n.world) e, λ linked. (row, found, refl, kind_put k.live h.0 (record { kind = row.kind; how = how }) n.live live));
+    }
+open_done k n f a x g b y path how (Err e) c (same, refuses) = record {
+  asks = asks_err e k n f a x g b y (open_no_fault k.world.tree path e refuses) c;
+  only = may_open k.world.tree path e refuses;
+  live = ap (λ (n : Known). n.live) same;
+  told = (ap (λ (n : Known). n.world) same, λ linked. refused_open e (look k.world.tree path) refuses);
+}
+
+pub meta_no_fault : (w : World) (path : Names) (result : Result Meta DiskError) → FindsMeta w path result → IsErrOf result Failed → ⊥
+meta_no_fault w path (Ok meta) found h = cc
+meta_no_fault w path (Err e) found h = no_fault e (look_err w.tree path e found) (let same : e ≡ Failed = cc in same)
+
+pub opens_no_fault : (k n : Known) (path : Names) (how : OpenOptions) (result : Result Handle DiskError) → OpensAt k path how result n → IsErrOf result Failed → ⊥
+opens_no_fault k n path how (Ok h) opens f = cc
+opens_no_fault k n path how (Err e) opens f = open_no_fault k.world.tree path e opens.1 (let same : e ≡ Failed = cc in same)
+
+-- a call whose number isn't in the schedule
+pub not_scheduled : {C : Type 0} (b : Bool) → b ≡ false → (IsTrue b ↔ C) → C → ⊥
+not_scheduled true e h c = cc
+not_scheduled false e h c = let t : false ≡ true = h.1 c in cc

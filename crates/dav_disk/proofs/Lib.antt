@@ -1,0 +1,12 @@
+pub mod Walks
+pub mod Opened
+pub mod Added
+pub mod Done
+pub mod Trees
+pub mod Changed
+pub mod Moved
+pub mod Lists
+pub mod Copies
+pub mod Times
+pub mod Renames
+pub mod Turned

@@ -1,0 +1,50 @@
+-- What the parts of a disk's calls do that meet no fault.
+use Rattle.std.specs.Prelude.{◌≡◌, ◌+◌, ℕ, List, length, take, min, Bool, true, false, Option, None, Some, Result, Ok, Err}
+use Rattle.dav_core.specs.declared.tree.Row.{Row}
+use Rattle.dav_core.specs.declared.handle.Meta.{Meta}
+use Rattle.dav_core.specs.declared.handle.Handle.{Handle}
+use Rattle.dav_core.specs.declared.handle.OpenOptions.{OpenOptions}
+use Rattle.dav_core.specs.declared.handle.DiskError.{DiskError}
+use Rattle.dav_core.specs.declared.handle.DiskError.TheVariants.{IsDir, NoMemory}
+use Rattle.dav_core.specs.Path.{Names}
+use Rattle.dav_core.specs.Tree.{look}
+use Rattle.dav_core.specs.World.{World, OpenFile, put}
+use Rattle.dav_core.specs.Disk.{Live, DiskState, MetaIn, at_start, with_opens, placed, rest_of, can_read}
+
+-- a told world, and what is known of the live handles
+pub record Known : Type 0 where
+  pub world : World
+  pub live : ℕ → Option Live
+
+-- the state of a disk that knows this, after so many faults and calls
+abbrev pub state_of : Known → ℕ → ℕ → Bool → DiskState
+state_of k faults asked whole = record { told = Some k.world; faults = faults; asked = asked; whole = whole; live = k.live; listers = λ _. None }
+
+abbrev pub FindsMeta : World → Names → Result Meta DiskError → Type 0
+FindsMeta w path (Ok meta) = MetaIn path (Ok meta) w
+FindsMeta w path (Err e) = look w.tree path ≡ Err e
+
+abbrev pub RefusesOpen : DiskError → Result Row DiskError → Type 0
+RefusesOpen NoMemory found = Unit {0}
+RefusesOpen e found = found ≡ Err e
+
+-- What stands at the path is opened under a handle that was free.
+abbrev pub OpensAt : Known → Names → OpenOptions → Result Handle DiskError → Known → Type 0
+OpensAt k path how (Ok h) n = (row : Row) × (look k.world.tree path ≡ Ok row) × (k.live h.0 ≡ None)
+    × (n ≡ record { world = with_opens k.world (put h.0 (Some (at_start row.number)) k.world.opens); live = put h.0 (Some (record { kind = row.kind; how = how })) k.live })
+OpensAt k path how (Err e) n = (n ≡ k) × RefusesOpen e (look k.world.tree path)
+
+abbrev pub with_place : Known → ℕ → OpenFile → ℕ → Known
+with_place k h o place = record k { world = placed k.world h o place }
+
+abbrev pub Places : Known → ℕ → ℕ → Known → Type 0
+Places k h place n = (o : OpenFile) × (k.world.opens h ≡ Some o) × (n ≡ with_place k h o place)
+
+-- At most so many bytes are read: all that stand there, that fit and that may be given.
+abbrev pub ReadsAt : Known → ℕ → ℕ → List ℕ → Result ℕ DiskError → Known → Type 0
+ReadsAt k h most buffer (Ok n) t = (o : OpenFile) × (k.world.opens h ≡ Some o) × (can_read (k.live h) ≡ true)
+    × (n ≡ min most (min (length buffer) (length (rest_of k.world o)))) × (take n buffer ≡ take n (rest_of k.world o)) × (t ≡ with_place k h o (o.place + n))
+ReadsAt k h most buffer (Err e) t = (e ≡ IsDir) × (can_read (k.live h) ≡ false) × (t ≡ k)
+
+abbrev pub with_closed : Known → ℕ → Known
+with_closed k h = record { world = with_opens k.world (put h None k.world.opens); live = put h None k.live }

@@ -1,0 +1,35 @@
+-- What a disk in memory tells, and when it fails.
+use Rattle.std.specs.Prelude.{◌≡◌, ◌==◌, ◌↔◌, ℕ, List, Bool, length, Contains, Result}
+use Rattle.std.specs.Result.{IsErrOf}
+use Rattle.dav_io.specs.Counts.{one_more}
+use Rattle.dav_core.specs.declared.handle.DiskError.{DiskError}
+use Rattle.dav_core.specs.declared.handle.DiskError.TheVariants.{Failed}
+use Rattle.dav_core.specs.Disk.{DiskState}
+use Rattle.dav_core.specs.World.{World}
+use Rattle.dav_disk.specs.Calls.{state_of}
+use Rattle.dav_disk.specs.Memory.{known_of}
+use Rattle.dav_disk.specs.declared.mem_disk.MemDisk.{MemDisk}
+
+abbrev pub is_empty : List ℕ → Bool
+is_empty lens = length lens == 0
+
+-- Reads are whole where no short length is left.
+abbrev pub mem_state : MemDisk → DiskState
+mem_state d = state_of (known_of d.memory) d.faults.met d.faults.asked (is_empty d.lens.items)
+
+abbrev pub mem_world : MemDisk → World
+mem_world d = (known_of d.memory).world
+
+-- the numbers, from 1, of the calls that fail
+abbrev pub fails_at : MemDisk → List ℕ
+fails_at d = d.faults.fail.items
+
+-- the most bytes that each of the next reads gives
+abbrev pub lens_left : MemDisk → List ℕ
+lens_left d = d.lens.items
+
+-- The call fails exactly where its number is one of those that fail. Else it meets no fault.
+pub record Follows {T : Type 0} (old : MemDisk) (result : Result T DiskError) (new : MemDisk) : Type 0 where
+  pub fails : IsErrOf result Failed ↔ Contains (fails_at old) (one_more old.faults.asked)
+  pub quiet : (IsErrOf result Failed → ⊥) → new.faults.met ≡ old.faults.met
+  pub stays : fails_at new ≡ fails_at old

@@ -1,0 +1,10 @@
+pub mod Files
+pub mod Rows
+pub mod Calls
+pub mod Memory
+pub mod Worlds
+pub mod Lengths
+pub mod Failing
+pub mod Sure
+pub mod Drawn
+pub mod Moves

@@ -1,0 +1,18 @@
+//! Disks in memory, which tell their world.
+#![tactic(auto)]
+
+mod drawn;
+mod faults;
+mod mem_disk;
+mod memory;
+mod paths;
+mod rows;
+mod sure_disk;
+mod tables;
+mod tree;
+
+pub use mem_disk::MemDisk;
+pub use sure_disk::SureDisk;
+
+#[cfg(test)]
+mod tests;

@@ -1,0 +1,238 @@
+ghost use Rattle.std.specs.Prelude.{◌≡◌, ◌<◌, ◌≤◌, ◌++◌, ◌∷◌, [], ℕ, All, None, Some, IfOk, IsSome, OnOk, OnErr, true, length, drop};
+ghost use Rattle.dav_disk.specs.Lengths.{first_of, UsesLength};
+
+use crate::faults::Faults;
+use crate::memory::Memory;
+use dav_core::{Change, Disk, DiskError, FileTime, FsPath, Handle, Meta, OpenOptions};
+use dav_io::NoMemory;
+use std::alloc::Global;
+
+/// A disk in memory that tells its world. It fails at the calls of the numbers given, and its next reads give no more
+/// bytes than the lengths given. A call that fails leaves the world whole.
+#[derive(Drop)]
+pub struct MemDisk {
+    memory: Memory,
+    faults: Faults,
+    lens: Vec<usize>,
+    ghost some: { All (λ n. 0 < n) lens.items },
+}
+
+// The most bytes that the next read gives.
+fn first_len(lens: &[usize]) -> usize
+    requires { All (λ n. 0 < n) lens.now }
+    ensures some { 0 < result }
+    ensures first { result ≡ first_of lens.now }
+    ensures whole { length lens.now ≡ 0 → result ≡ usize.MAX }
+{
+    match lens.first() {
+        Some(len) => *len,
+        None => usize::MAX,
+    }
+}
+
+// Takes the first length away.
+fn drop_first(lens: &mut Vec<usize>)
+    ensures { lens.new.items ≡ drop 1 lens.old.items }
+{
+    if !lens.is_empty() {
+        let _ = lens.remove(0);
+    }
+}
+
+impl MemDisk {
+    ghost use Rattle.dav_disk.specs.Rows.{first_world, can_add as the_can_add, with_dir, with_file, with_batch};
+    ghost use Rattle.dav_disk.specs.Calls.{state_of};
+    ghost use Rattle.dav_disk.specs.Failing.{mem_state, mem_world, is_empty, fails_at, lens_left};
+
+    /// A root directory alone, of number 1 and time 0. The latest time used is 1 second past 1970, and no call fails.
+    pub fn new(alloc: Global) -> Result<Self, NoMemory>
+        ensures made { IfOk result (λ d. mem_state d ≡ state_of (record { world = first_world; live = λ _. None }) 0 0 true) }
+        ensures fails { IfOk result (λ d. fails_at d ≡ []) }
+        ensures lens { IfOk result (λ d. lens_left d ≡ []) }
+    {
+        let memory = Memory::new(alloc)?;
+        Ok(MemDisk {
+            memory,
+            faults: Faults {
+                fail: Vec::new(alloc),
+                asked: 0,
+                met: 0,
+            },
+            lens: Vec::new(alloc),
+        })
+    }
+
+    /// Whether a row of this number and time may be set at a path, as `add_dir` and `add_file` need it: the path is free
+    /// under a directory, the number is new and below 2^63, and the time is before the year 10000.
+    pub fn can_add(&self, path: &FsPath, number: u64, time: FileTime) -> bool
+        ensures { result ≡ the_can_add (mem_world self.now) path.now number time }
+    {
+        self.memory.can_add(path, number, time)
+    }
+
+    /// Sets a directory. Other times stay.
+    pub fn add_dir(&mut self, path: &FsPath, number: u64, time: FileTime) -> Result<(), NoMemory>
+        requires { the_can_add (mem_world self.old) path.now number time ≡ true }
+        ensures ok { OnOk result (mem_state self.new ≡ record (mem_state self.old) { told = Some (with_dir (mem_world self.old) path.now number time) }) }
+        ensures err { OnErr result (mem_state self.new ≡ mem_state self.old) }
+        ensures fails { fails_at self.new ≡ fails_at self.old }
+        ensures lens { lens_left self.new ≡ lens_left self.old }
+    {
+        self.memory.add_dir(path, number, time)
+    }
+
+    /// Sets a file with these bytes. Other times stay.
+    pub fn add_file(
+        &mut self,
+        path: &FsPath,
+        number: u64,
+        time: FileTime,
+        bytes: &[u8],
+    ) -> Result<(), NoMemory>
+        requires { the_can_add (mem_world self.old) path.now number time ≡ true }
+        ensures ok { OnOk result (mem_state self.new ≡ record (mem_state self.old) { told = Some (with_file (mem_world self.old) path.now number time bytes.now) }) }
+        ensures err { OnErr result (mem_state self.new ≡ mem_state self.old) }
+        ensures fails { fails_at self.new ≡ fails_at self.old }
+        ensures lens { lens_left self.new ≡ lens_left self.old }
+    {
+        self.memory.add_file(path, number, time, bytes)
+    }
+
+    /// Makes the call of this number, counted from 1 as asked, fail.
+    pub fn fail(&mut self, call: u64) -> Result<(), NoMemory>
+        ensures ok { OnOk result (fails_at self.new ≡ fails_at self.old ++ call ∷ []) }
+        ensures err { OnErr result (fails_at self.new ≡ fails_at self.old) }
+        ensures state { mem_state self.new ≡ mem_state self.old }
+        ensures lens { lens_left self.new ≡ lens_left self.old }
+    {
+        self.faults.fail.push(call)?;
+        Ok(())
+    }
+
+    /// Limits the next reads to these lengths, each at least 1, in place of the lengths left from an earlier call. A
+    /// length is used up by each read that is not refused.
+    pub fn short(&mut self, lens: Vec<usize>)
+        requires { All (λ n. 0 < n) lens.items }
+        ensures lens { lens_left self.new ≡ lens.items }
+        ensures state { mem_state self.new ≡ record (mem_state self.old) { whole = is_empty lens.items } }
+        ensures fails { fails_at self.new ≡ fails_at self.old }
+    {
+        self.lens = lens;
+    }
+
+    /// Adds a batch of changes that `turn` makes when its turn comes.
+    pub fn script(&mut self, batch: Vec<Change>) -> Result<(), NoMemory>
+        ensures ok { OnOk result (mem_state self.new ≡ record (mem_state self.old) { told = Some (with_batch (mem_world self.old) batch.items) }) }
+        ensures err { OnErr result (mem_state self.new ≡ mem_state self.old) }
+        ensures fails { fails_at self.new ≡ fails_at self.old }
+        ensures lens { lens_left self.new ≡ lens_left self.old }
+    {
+        self.memory.script(batch)
+    }
+
+    /// How many calls were asked, refused ones too. It stays at the greatest u64 once it is there.
+    pub fn asked(&self) -> u64
+        ensures { result ≡ (mem_state self.now).asked }
+    {
+        self.faults.asked
+    }
+
+    /// How many faults were met. It stays at the greatest u64 once it is there.
+    pub fn faults(&self) -> u64
+        ensures { result ≡ (mem_state self.now).faults }
+    {
+        self.faults.met
+    }
+}
+
+impl Disk for MemDisk {
+    ghost use Rattle.dav_core.specs.Disk.{Metas, FileMetas, Opens, Seeks, Reads};
+    ghost use Rattle.dav_core.specs.Options.{reading};
+    ghost use Rattle.dav_disk.specs.Failing.{mem_state, mem_world, Follows, lens_left};
+    ghost use Rattle.dav_disk.specs.Worlds.{told_world};
+
+    ghost state = { mem_state };
+
+    fn meta(&mut self, path: &FsPath) -> Result<Meta, DiskError>
+        ensures done { Metas (mem_state self.old) path.now result (mem_state self.new) }
+        ensures loan { ⟦<MemDisk as Disk>⟧.loan self.new ≡ ⟦<MemDisk as Disk>⟧.loan self.old }
+        ensures schedule { Follows self.old result self.new }
+        ensures lens { lens_left self.new ≡ lens_left self.old }
+    {
+        if self.faults.next() {
+            return Err(DiskError::Failed);
+        }
+        self.memory.meta(path)
+    }
+
+    fn open(&mut self, path: &FsPath, how: OpenOptions, _public: bool) -> Result<Handle, DiskError>
+        requires { how ≡ reading }
+        ensures done { Opens (mem_state self.old) path.now how result (mem_state self.new) }
+        ensures loan { ⟦<MemDisk as Disk>⟧.loan self.new ≡ ⟦<MemDisk as Disk>⟧.loan self.old }
+        ensures schedule { Follows self.old result self.new }
+        ensures lens { lens_left self.new ≡ lens_left self.old }
+    {
+        if self.faults.next() {
+            return Err(DiskError::Failed);
+        }
+        self.memory.open(path, how)
+    }
+
+    fn file_meta(&mut self, file: Handle) -> Result<Meta, DiskError>
+        requires { IsSome ((mem_state self.old).live file.0) }
+        ensures done { FileMetas (mem_state self.old) file.0 result (mem_state self.new) }
+        ensures loan { ⟦<MemDisk as Disk>⟧.loan self.new ≡ ⟦<MemDisk as Disk>⟧.loan self.old }
+        ensures schedule { Follows self.old result self.new }
+        ensures lens { lens_left self.new ≡ lens_left self.old }
+    {
+        if self.faults.next() {
+            return Err(DiskError::Failed);
+        }
+        Ok(self.memory.file_meta(file))
+    }
+
+    fn seek(&mut self, file: Handle, place: u64) -> Result<(), DiskError>
+        requires { IsSome ((mem_state self.old).live file.0) }
+        ensures done { Seeks (mem_state self.old) file.0 place result (mem_state self.new) }
+        ensures loan { ⟦<MemDisk as Disk>⟧.loan self.new ≡ ⟦<MemDisk as Disk>⟧.loan self.old }
+        ensures schedule { Follows self.old result self.new }
+        ensures lens { lens_left self.new ≡ lens_left self.old }
+    {
+        if self.faults.next() {
+            return Err(DiskError::Failed);
+        }
+        self.memory.seek(file, place);
+        Ok(())
+    }
+
+    fn read(&mut self, file: Handle, into: &mut [u8]) -> Result<usize, DiskError>
+        requires live { IsSome ((mem_state self.old).live file.0) }
+        requires room { 0 < length into.old }
+        ensures done { Reads (mem_state self.old) file.0 into.new result (mem_state self.new) }
+        ensures loan { ⟦<MemDisk as Disk>⟧.loan self.new ≡ ⟦<MemDisk as Disk>⟧.loan self.old }
+        ensures schedule { Follows self.old result self.new }
+        ensures lens { UsesLength (lens_left self.old) result (lens_left self.new) }
+    {
+        if self.faults.next() {
+            return Err(DiskError::Failed);
+        }
+        let most = first_len(&self.lens);
+        match self.memory.read(file, most, into) {
+            Ok(count) => {
+                drop_first(&mut self.lens);
+                Ok(count)
+            }
+            Err(e) => Err(e),
+        }
+    }
+
+    fn close(&mut self, file: Handle) {
+        self.memory.close(file);
+    }
+
+    fn turn(&mut self) -> Result<(), NoMemory> {
+        self.memory.turn()
+    }
+
+    ghost world = { λ d w e. told_world (mem_world d) w d.memory.tree d.memory.stored e };
+}

@@ -1,0 +1,43 @@
+// Walks over the rows of a tree.
+ghost use Rattle.std.specs.Prelude.{◌≡◌, Option, Ok, Err, IfOk, IfSome, MatchResult};
+ghost use Rattle.std.specs.Option.{option_map};
+ghost use Rattle.dav_core.specs.Tree.{row_at as the_row_at, look as found};
+
+use dav_core::{DiskError, Kind, Row};
+use dav_io::Text;
+
+// The first row of a path.
+fn first_at<'a>(rows: &'a [Row], path: &[Text]) -> Option<&'a Row>
+    ensures { option_map (λ r. r.now) result ≡ the_row_at rows.now path.now }
+{
+    rows.iter().find(|row| path == row.path.as_slice())
+}
+
+// The row at a path.
+pub fn row_at<'a>(rows: &'a [Row], path: &[Text]) -> Option<&'a Row>
+    ensures found { option_map (λ r. r.now) result ≡ the_row_at rows.now path.now }
+    ensures path { IfSome result (λ r. r.now.path ≡ path.now) }
+{
+    first_at(rows, path)
+}
+
+// The row at a path, or what a call on it is refused with.
+pub fn look<'a>(rows: &'a [Row], path: &[Text]) -> Result<&'a Row, DiskError>
+    ensures found { MatchResult result (λ r. found rows.now path.now ≡ Ok r.now) (λ e. found rows.now path.now ≡ Err e) }
+    ensures path { IfOk result (λ r. r.now.path ≡ path.now) }
+{
+    for i in 0..path.len() {
+        match row_at(rows, &path[..i]) {
+            None => return Err(DiskError::NotFound),
+            Some(row) => {
+                if row.kind != Kind::Dir {
+                    return Err(DiskError::NotDir);
+                }
+            }
+        }
+    }
+    match row_at(rows, path) {
+        Some(row) => Ok(row),
+        None => Err(DiskError::NotFound),
+    }
+}
