@@ -1,0 +1,43 @@
+-- What a disk of the machine keeps.
+use Rattle.std.specs.Prelude.{◌≡◌, ◌⊎◌, ℕ, List, [], ◌∷◌, ◌++◌, false, Option, None, Some}
+use Rattle.std.specs.Option.{option_map}
+use Rattle.std.specs.BTreeMap.{BTreeMap}
+use Rattle.dav_core.specs.declared.handle.DiskError.{DiskError}
+use Rattle.dav_core.specs.declared.handle.DiskError.TheVariants.{NotFound, NotDir}
+use Rattle.dav_core.specs.Path.{Names}
+use Rattle.dav_core.specs.World.{World, IsWorld}
+use Rattle.dav_core.specs.Disk.{Live, DiskState}
+use Rattle.dav_core.specs.Tables.{at_key}
+use Rattle.dav_host.specs.declared.opens.HostFile.{HostFile}
+
+-- the most bytes of a path's text
+abbrev pub room : ℕ
+room = 8192
+
+-- each name after a slash
+abbrev pub below : Names → List ℕ
+below [] = []
+below (name ∷ names) = (47 ∷ name) ++ below names
+
+-- the text of a path below a root
+abbrev pub host_path : List ℕ → Names → List ℕ
+host_path root names = root ++ below names
+
+abbrev pub live_of : {F : Type 0} → HostFile F → Live
+live_of f = record { kind = f.kind; how = f.how }
+
+-- what is known of a live handle
+abbrev pub live_at : {F : Type 0} → BTreeMap ℕ (HostFile F) → ℕ → Option Live
+live_at opens h = option_map live_of (at_key opens h)
+
+-- A disk that tells nothing keeps its counts and its live handles.
+abbrev pub untold : ℕ → ℕ → (ℕ → Option Live) → DiskState
+untold faults asked live = record { told = None; faults = faults; asked = asked; whole = false; live = live; listers = λ _. None }
+
+-- the refusals of a walk
+abbrev pub IsWalkRefusal : DiskError → Type 0
+IsWalkRefusal e = (e ≡ NotFound) ⊎ (e ≡ NotDir)
+
+-- nothing is told
+pub never_told : (w : World) → None ≡ Some w → IsWorld w
+never_told w e = cc

@@ -1,0 +1,47 @@
+// What the machine says of a file, as a disk's answer.
+ghost use Rattle.std.specs.Prelude.{◌≢◌, IfSome};
+
+use dav_core::{FileTime, Kind, Meta};
+use std::fs::Metadata;
+use std::os::unix::fs::MetadataExt;
+use std::time::UNIX_EPOCH;
+
+fn file_time(secs: i64, nanos: i64) -> Option<FileTime> {
+    let nanos = u32::try_from(nanos).ok()?;
+    (nanos < 1_000_000_000).then_some(FileTime { secs, nanos })
+}
+
+fn created_time(found: &Metadata) -> Option<FileTime> {
+    let since = found.created().ok()?.duration_since(UNIX_EPOCH).ok()?;
+    let secs = i64::try_from(since.as_secs()).ok()?;
+    Some(FileTime {
+        secs,
+        nanos: since.subsec_nanos(),
+    })
+}
+
+// None for what is neither a directory nor a regular file nor a symbolic link.
+fn kind_of(found: &Metadata) -> Option<Kind> {
+    if found.is_dir() {
+        return Some(Kind::Dir);
+    }
+    if found.is_symlink() {
+        return Some(Kind::Link);
+    }
+    found.is_file().then_some(Kind::File)
+}
+
+// What the machine says, or None where a disk has no kind for it. The owner may run it where bit 0o100 of its mode is
+// set.
+pub fn meta_of(found: &Metadata) -> Option<Meta> {
+    Some(Meta {
+        kind: kind_of(found)?,
+        number: found.ino(),
+        len: found.len(),
+        modified: file_time(found.mtime(), found.mtime_nsec()),
+        created: created_time(found),
+        accessed: file_time(found.atime(), found.atime_nsec()),
+        changed: file_time(found.ctime(), found.ctime_nsec()),
+        exec: found.mode() & 0o100 != 0,
+    })
+}
