@@ -1,0 +1,10 @@
+pub mod Wrote
+pub mod Lines
+pub mod FieldLemmas
+pub mod HeadLemmas
+pub mod Refusals
+pub mod RequestLemmas
+pub mod Holding
+pub mod Members
+pub mod Pushing
+pub mod Waiting

@@ -1,0 +1,9 @@
+pub mod Writing
+pub mod Answers
+pub mod Heads
+pub mod Requests
+pub mod Pending
+pub mod Parsing
+pub mod Taking
+pub mod Fields
+pub mod Reading

@@ -1,0 +1,153 @@
+//! The bytes of answers.
+ghost use Rattle.std.specs.Prelude.{◌≡◌, ◌+◌, ◌%◌, ◌++◌, ◌≤◌, length, IfOk, OnOk};
+ghost use Rattle.dav_wire.specs.Answers.{phrase, three_digits, status_line, field_line, field_lines, has_close_field, is_close_field, close_place, with_close, written_fields, head_text, bad_request_text as refusal};
+
+use dav_io::{Field, NoMemory, Octets};
+use std::alloc::Global;
+use std::cmp::Ordering;
+
+/// The answer to a request that can't be read.
+pub fn bad_request_text() -> &'static [u8]
+    ensures { result.now ≡ refusal }
+{
+    b"HTTP/1.1 400 Bad Request\r\nconnection: close\r\ncontent-length: 0\r\n\r\n"
+}
+
+/// The head of an answer, with `connection: close` in its place where the answer closes and the fields don't say so.
+pub fn answer_head(
+    alloc: Global,
+    status: u16,
+    fields: &[Field],
+    close: bool,
+) -> Result<Octets, NoMemory>
+    ensures { IfOk result (λ text. text ≡ head_text status fields.now close) }
+{
+    let mut text = Vec::with_capacity(alloc, 256)?;
+    write_status(&mut text, status)?;
+    write_all(&mut text, fields, close)?;
+    text.extend_from_slice(b"\r\n")?;
+    Ok(Octets::new(text))
+}
+
+fn write_all(text: &mut Vec<u8>, fields: &[Field], close: bool) -> Result<(), NoMemory>
+    ensures { OnOk result (text.new.items ≡ text.old.items ++ field_lines (written_fields close fields.now)) }
+{
+    if close && !says_close(fields) {
+        return write_closing(text, fields);
+    }
+    write_fields(text, fields)
+}
+
+fn write_closing(text: &mut Vec<u8>, fields: &[Field]) -> Result<(), NoMemory>
+    ensures { OnOk result (text.new.items ≡ text.old.items ++ field_lines (with_close fields.now)) }
+{
+    let (front, back) = fields.split_at(place(fields));
+    write_fields(text, front)?;
+    text.extend_from_slice(b"connection: close\r\n")?;
+    write_fields(text, back)?;
+    Ok(())
+}
+
+/// Is `connection: close` among the fields?
+pub fn says_close(fields: &[Field]) -> bool
+    ensures { result ≡ has_close_field fields.now }
+{
+    fields.iter().any(|field| is_close(field))
+}
+
+fn is_close(field: &Field) -> bool
+    ensures { result ≡ is_close_field field.now }
+{
+    field.name.as_str() == "connection" && field.value.as_slice() == b"close".as_slice()
+}
+
+// Where `connection` has its place among the names.
+fn place(fields: &[Field]) -> usize
+    ensures value { result ≡ close_place fields.now }
+    ensures within { result ≤ length fields.now }
+{
+    let mut count = 0;
+    for field in fields {
+        if field.name.as_slice().cmp(b"connection".as_slice()) == Ordering::Greater {
+            return count;
+        }
+        count += 1;
+    }
+    count
+}
+
+fn write_fields(text: &mut Vec<u8>, fields: &[Field]) -> Result<(), NoMemory>
+    ensures { OnOk result (text.new.items ≡ text.old.items ++ field_lines fields.now) }
+{
+    for field in fields {
+        write_field(text, field)?;
+    }
+    Ok(())
+}
+
+fn write_field(text: &mut Vec<u8>, field: &Field) -> Result<(), NoMemory>
+    ensures { OnOk result (text.new.items ≡ text.old.items ++ field_line field.now) }
+{
+    text.extend_from_slice(field.name.as_slice())?;
+    text.extend_from_slice(b": ")?;
+    text.extend_from_slice(field.value.as_slice())?;
+    text.extend_from_slice(b"\r\n")?;
+    Ok(())
+}
+
+fn write_status(text: &mut Vec<u8>, status: u16) -> Result<(), NoMemory>
+    ensures { OnOk result (text.new.items ≡ text.old.items ++ status_line status) }
+{
+    text.extend_from_slice(b"HTTP/1.1 ")?;
+    text.extend_from_slice(&digits(status))?;
+    text.extend_from_slice(b" ")?;
+    text.extend_from_slice(phrase_of(status).as_bytes())?;
+    text.extend_from_slice(b"\r\n")?;
+    Ok(())
+}
+
+fn digits(status: u16) -> [u8; 3]
+    ensures { result ≡ three_digits status }
+{
+    [
+        digit_of(status / 100),
+        digit_of(status / 10),
+        digit_of(status),
+    ]
+}
+
+fn digit_of(n: u16) -> u8
+    ensures { result ≡ 48 + n % 10 }
+{
+    b'0' + (n % 10) as u8
+}
+
+#[tactic(auto, unfolding(crate::specs::Answers::phrase))]
+fn phrase_of(status: u16) -> &'static str
+    ensures { result.now ≡ phrase status }
+{
+    match status {
+        200 => "OK",
+        201 => "Created",
+        204 => "No Content",
+        206 => "Partial Content",
+        302 => "Found",
+        304 => "Not Modified",
+        400 => "Bad Request",
+        403 => "Forbidden",
+        404 => "Not Found",
+        405 => "Method Not Allowed",
+        409 => "Conflict",
+        412 => "Precondition Failed",
+        413 => "Payload Too Large",
+        414 => "URI Too Long",
+        415 => "Unsupported Media Type",
+        416 => "Range Not Satisfiable",
+        500 => "Internal Server Error",
+        501 => "Not Implemented",
+        502 => "Bad Gateway",
+        507 => "Insufficient Storage",
+        508 => "Loop Detected",
+        _ => "",
+    }
+}

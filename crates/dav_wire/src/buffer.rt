@@ -1,0 +1,37 @@
+//! A buffer of bytes that are taken from a source.
+ghost use Rattle.std.specs.Prelude.{◌≡◌, ◌+◌, ◌<◌, ◌≤◌, length, take, drop};
+ghost use Rattle.dav_wire.specs.Taking.{TakesAt};
+
+use dav_io::{Failed, Source};
+
+// Moves bytes to the front. Where they don't overlap that place it is one copy of them.
+pub fn move_front(buffer: &mut [u8], start: usize, len: usize)
+    requires { start + len ≤ length buffer.old }
+    ensures front { take len buffer.new ≡ take len (drop start buffer.old) }
+    ensures len { length buffer.new ≡ length buffer.old }
+{
+    if len <= start {
+        let (front, back) = buffer.split_at_mut(start);
+        front[..len].copy_from_slice(&back[..len]);
+    } else {
+        let (used, _) = buffer.split_at_mut(start + len);
+        used.rotate_left(start);
+    }
+}
+
+// Takes bytes from a source, once, and at most so many, and puts them from the place on.
+pub fn take_at<S: Source>(
+    source: &mut S,
+    buffer: &mut [u8],
+    at: usize,
+    most: usize,
+) -> Result<usize, Failed>
+    requires place { at < length buffer.old }
+    requires some { 0 < most }
+    ensures { TakesAt (S.stream source.old) buffer.old at most result buffer.new (S.stream source.new) }
+{
+    let most = most.min(buffer.len() - at);
+    let (_, room) = buffer.split_at_mut(at);
+    let (room, _) = room.split_at_mut(most);
+    source.take(room)
+}

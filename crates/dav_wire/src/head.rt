@@ -1,0 +1,168 @@
+//! The head of a request, read from the front of a buffer.
+ghost use Rattle.std.specs.Prelude.{◌≡◌, ◌≤◌, ◌<◌, [], map, length, All, Err, IfOk, OnOk};
+ghost use Rattle.http_header.specs.FieldName.{IsFieldName};
+ghost use Rattle.http_header.specs.FieldValue.{IsFieldValue, plain_value};
+ghost use Rattle.http_header.specs.HeaderMap.{append, append_all, value_count};
+ghost use Rattle.http_header.specs.Token.{IsToken, lowercase};
+ghost use Rattle.http_uri.specs.Uri.{Spells, SpellsNone};
+ghost use Rattle.httparse.specs.Spans.{IsHeaderWithin, header_bytes, IsRequestWithin, IsRequestOf};
+ghost use Rattle.dav_wire.specs.Heads.{IsReadAt, IsField, kept_span, version_of};
+ghost use Rattle.dav_wire.specs.Parsing.{Parses};
+ghost use Rattle.dav_wire.specs.Requests.{Refusal};
+ghost use Rattle.dav_wire.specs.declared.head.PartError.TheVariants.{Refused};
+
+use dav_io::NoMemory;
+use http::header::{HeaderMapError, HeaderName, HeaderNameError, HeaderValue, HeaderValueError};
+use http::method::MethodError;
+use http::request::Parts;
+use http::{HeaderMap, Method, Uri, Version};
+use http_uri::UriError;
+use httparse::Status;
+use httparse::spans::{HeaderSpan, RequestSpans, parse_request};
+use std::alloc::Global;
+
+// A head, and how many bytes it takes.
+#[derive(Drop)]
+pub struct ReadHead {
+    pub parts: Parts,
+    pub len: usize,
+}
+
+// Why a part of a head was not read.
+#[derive(Clone, Copy, Debug, PartialEq, Eq, Drop)]
+pub enum PartError {
+    Refused,
+    NoMemory,
+}
+
+// The head at the front of a buffer, or nothing where more bytes may make one.
+pub fn read_head(
+    alloc: Global,
+    buf: &[u8],
+    spans: &mut [HeaderSpan],
+) -> Result<Option<ReadHead>, PartError>
+    requires short { length buf.now ≤ 65536 }
+    requires room { length spans.old ≡ 256 }
+    ensures { Parses buf.now result }
+{
+    match parse_request(buf, spans) {
+        Ok(Status::Complete(head)) => {
+            let len = head.len;
+            match read_parts(alloc, buf, spans, head) {
+                Ok(parts) => Ok(Some(ReadHead { parts, len })),
+                Err(PartError::Refused) => Err(PartError::Refused),
+                Err(PartError::NoMemory) => Err(PartError::NoMemory),
+            }
+        }
+        Ok(Status::Partial) => Ok(None),
+        Err(_) => Err(PartError::Refused),
+    }
+}
+
+// The parts of a head, from where they stand in the buffer.
+fn read_parts(
+    alloc: Global,
+    buf: &[u8],
+    spans: &[HeaderSpan],
+    head: RequestSpans,
+) -> Result<Parts, PartError>
+    requires short { length buf.now ≤ 65536 }
+    requires room { length spans.now ≤ 256 }
+    requires within { IsRequestWithin buf.now spans.now head }
+    requires complete { IsRequestOf buf.now spans.now head }
+    ensures ok { IfOk result (IsReadAt buf.now head.len) }
+    ensures refused { result ≡ Err Refused → Refusal buf.now }
+{
+    let uri = match read_target(alloc, head.path.of(buf)) {
+        Ok(uri) => uri,
+        Err(error) => return Err(error),
+    };
+    let Ok(method) = read_method(alloc, head.method.of(buf)) else {
+        return Err(PartError::NoMemory);
+    };
+    let Ok(headers) = read_fields(alloc, buf, &spans[..head.headers]) else {
+        return Err(PartError::NoMemory);
+    };
+    let version = version(head.version);
+    Ok(Parts {
+        method,
+        uri,
+        version,
+        headers,
+    })
+}
+
+fn read_method(alloc: Global, word: &[u8]) -> Result<Method, NoMemory>
+    requires { IsToken word.now }
+    ensures { IfOk result (λ method. method ≡ word.now) }
+{
+    match Method::from_bytes(alloc, word) {
+        Ok(method) => Ok(method),
+        Err(MethodError::Invalid) => unreachable!("the word was read as one"),
+        Err(MethodError::OutOfMemory) => Err(NoMemory),
+    }
+}
+
+fn read_target(alloc: Global, text: &[u8]) -> Result<Uri, PartError>
+    ensures ok { IfOk result (Spells text.now) }
+    ensures refused { result ≡ Err Refused → SpellsNone text.now }
+{
+    match Uri::from_bytes(alloc, text) {
+        Ok(uri) => Ok(uri),
+        Err(UriError::Invalid(_)) => Err(PartError::Refused),
+        Err(UriError::OutOfMemory) => Err(PartError::NoMemory),
+    }
+}
+
+// The version of a head, by its minor number.
+fn version(minor: u8) -> Version
+    ensures { result ≡ version_of minor }
+{
+    if minor == 0 {
+        Version::HTTP_10
+    } else {
+        Version::HTTP_11
+    }
+}
+
+fn read_fields(alloc: Global, buf: &[u8], spans: &[HeaderSpan]) -> Result<HeaderMap, NoMemory>
+    requires few { length spans.now ≤ 256 }
+    requires within { All (IsHeaderWithin (length buf.now)) spans.now }
+    requires fields { All (λ span. IsField (header_bytes buf.now span)) spans.now }
+    ensures { IfOk result (λ headers. headers ≡ append_all [] (map (kept_span buf.now) spans.now)) }
+{
+    let mut headers = HeaderMap::new(alloc);
+    for span in spans {
+        add_field(alloc, &mut headers, span.name.of(buf), span.value.of(buf))?;
+    }
+    Ok(headers)
+}
+
+fn add_field(
+    alloc: Global,
+    headers: &mut HeaderMap,
+    name: &[u8],
+    value: &[u8],
+) -> Result<(), NoMemory>
+    requires name { IsFieldName name.now }
+    requires value { IsFieldValue value.now }
+    requires names { length headers.old < 256 }
+    requires values { value_count headers.old < 256 }
+    ensures { OnOk result (headers.new ≡ append headers.old (lowercase name.now) (plain_value value.now)) }
+{
+    let name = match HeaderName::from_bytes(alloc, name) {
+        Ok(name) => name,
+        Err(HeaderNameError::Invalid) => unreachable!("the name was read as one"),
+        Err(HeaderNameError::OutOfMemory) => return Err(NoMemory),
+    };
+    let value = match HeaderValue::from_bytes(alloc, value) {
+        Ok(value) => value,
+        Err(HeaderValueError::Invalid) => unreachable!("the value was read as one"),
+        Err(HeaderValueError::OutOfMemory) => return Err(NoMemory),
+    };
+    match headers.append(name, value) {
+        Ok(_) => Ok(()),
+        Err(HeaderMapError::MaxSizeReached) => unreachable!("there is room"),
+        Err(HeaderMapError::OutOfMemory) => Err(NoMemory),
+    }
+}

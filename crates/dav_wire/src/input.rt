@@ -1,0 +1,113 @@
+//! The bytes of an input that were taken from its source and not yet passed.
+ghost use Rattle.std.specs.Prelude.{◌≡◌, ◌≤◌, [], drop, length, IfOk};
+ghost use Rattle.dav_io.specs.Outside.{Stream};
+ghost use Rattle.dav_wire.specs.Reading.{Finds, Fills};
+
+use crate::buffer::{move_front, take_at};
+use crate::head::{PartError, read_head};
+use crate::next::{Found, ReadError};
+use dav_io::{NoMemory, Source};
+use httparse::spans::{EMPTY_HEADER_SPAN, HeaderSpan};
+use std::alloc::Global;
+use std::marker::Model;
+
+/// The longest head of a request, in bytes.
+const LONGEST: usize = 65_536;
+
+// One byte more, which tells a head that is too long.
+const ROOM: usize = 65_537;
+
+const MOST_FIELDS: usize = 256;
+
+/// Once so many bytes were taken, no more are.
+const MOST_TAKEN: u64 = 1_152_921_504_606_846_976;
+
+/// The bytes that were taken from a source and not yet passed, and the number of all that were taken. The buffer is made
+/// once. A contract sees the two.
+#[derive(Drop)]
+pub struct Input {
+    buffer: Vec<u8>,
+    spans: Vec<HeaderSpan>,
+    start: usize,
+    end: usize,
+    taken: u64,
+}
+
+impl Model for Input {
+    ghost use Rattle.std.specs.Prelude.{◌≡◌, ◌≤◌, ◌^◌, length, slice_range};
+    ghost use Rattle.dav_wire.specs.Pending.{Pending};
+
+    ghost Value = { Pending };
+
+    ghost view = { λ i. record { bytes = slice_range i.buffer.items i.start i.end; taken = i.taken } };
+
+    ghost invariant = { λ i. (i.start ≤ i.end) × (i.end ≤ 65537) × (length i.buffer.items ≡ 65537) × (length i.spans.items ≡ 256) × (i.taken ≤ 2 ^ 60) };
+}
+
+impl Input {
+    /// Nothing taken yet.
+    pub fn new(alloc: Global) -> Result<Self, NoMemory>
+        ensures { IfOk result (λ input. input ≡ record { bytes = []; taken = 0 }) }
+    {
+        Ok(Input {
+            buffer: vec![in alloc; 0; ROOM]?,
+            spans: vec![in alloc; EMPTY_HEADER_SPAN; MOST_FIELDS]?,
+            start: 0,
+            end: 0,
+            taken: 0,
+        })
+    }
+
+    /// The bytes taken and not yet passed.
+    pub fn pending(&self) -> &[u8]
+        ensures { result.now ≡ self.now.bytes }
+    {
+        &self.buffer[self.start..self.end]
+    }
+
+    /// Takes more bytes, in one call of the source, and answers how many. 0 is the end of the input.
+    pub fn fill<S: Source>(&mut self, source: &mut S) -> Result<usize, ReadError>
+        requires { length self.old.bytes ≤ 65536 }
+        ensures { Fills (S.stream source.old) self.old result self.new (S.stream source.new) }
+    {
+        let left = MOST_TAKEN - self.taken;
+        if left == 0 {
+            return Err(ReadError::TooMuch);
+        }
+        move_front(&mut self.buffer, self.start, self.end - self.start);
+        self.end -= self.start;
+        self.start = 0;
+        let most = left.min(ROOM as u64) as usize;
+        match take_at(source, &mut self.buffer, self.end, most) {
+            Ok(count) => {
+                self.end += count;
+                self.taken += count as u64;
+                Ok(count)
+            }
+            Err(_) => Err(ReadError::Failed),
+        }
+    }
+
+    /// What stands at the front of the bytes held. It asks no source. A whole head is passed; otherwise nothing changes.
+    pub fn next_head(&mut self, alloc: Global) -> Result<Found, NoMemory>
+        ensures finds { Finds self.old.bytes result self.new.bytes }
+        ensures taken { self.new.taken ≡ self.old.taken }
+    {
+        let len = (self.end - self.start).min(LONGEST);
+        let front = &self.buffer[self.start..self.start + len];
+        match read_head(alloc, front, &mut self.spans) {
+            Ok(Some(head)) => {
+                self.start += head.len;
+                Ok(Found::Whole(head.parts))
+            }
+            Ok(None) => {
+                if len < self.end - self.start {
+                    return Ok(Found::Refused);
+                }
+                Ok(Found::More)
+            }
+            Err(PartError::Refused) => Ok(Found::Refused),
+            Err(PartError::NoMemory) => Err(NoMemory),
+        }
+    }
+}

@@ -1,0 +1,26 @@
+//! The wire of a server: requests are read from a source, and the bytes of answers are written to a sink.
+#![tactic(auto)]
+
+mod answers;
+mod buffer;
+mod fields;
+mod head;
+mod input;
+pub mod laws;
+mod next;
+mod output;
+mod reading;
+mod request;
+mod writing;
+
+pub use answers::{answer_head, bad_request_text, says_close};
+pub use fields::{asks_close, first_value, has_body_fields, has_field};
+pub use input::Input;
+pub use next::{Found, Next, ReadError};
+pub use output::Output;
+pub use reading::{read_flushing, read_request};
+pub use request::{into_request, is_old};
+pub use writing::put_all;
+
+#[cfg(test)]
+mod tests;
