@@ -1,0 +1,5 @@
+pub mod Dates
+pub mod Finding
+pub mod Refusing
+pub mod Upkeep
+pub mod Stepping
