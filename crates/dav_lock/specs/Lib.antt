@@ -1,0 +1,6 @@
+pub mod Pairs
+pub mod Forests
+pub mod Events
+pub mod Trees
+pub mod Heights
+pub mod Tokens

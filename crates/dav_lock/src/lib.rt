@@ -1,0 +1,19 @@
+//! Element trees, as a reader of XML gives them, and the lock system of a server.
+#![tactic(auto)]
+
+mod element;
+mod fakels;
+mod lease;
+mod lock;
+mod locks;
+mod pairs;
+#[cfg(test)]
+mod tests;
+mod token;
+
+pub use element::{Element, Nodes, XmlNode};
+pub use fakels::{DavLockSystem, FakeLs};
+pub use lease::{Lease, end_of, grant};
+pub use lock::{DavLock, LockError};
+pub use locks::Locks;
+pub use pairs::Pairs;

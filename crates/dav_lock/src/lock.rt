@@ -1,0 +1,72 @@
+ghost use Rattle.std.specs.Prelude.{◌≡◌, IfOk};
+
+use crate::{Element, Lease};
+use dav_core::DavPath;
+use dav_io::{Moment, NoMemory, Text};
+use thiserror::Error;
+
+/// Why a lock system refused a call.
+#[derive(Debug, Drop, PartialEq, Error)]
+pub enum LockError {
+    #[error("out of memory")]
+    NoMemory,
+}
+
+impl From<NoMemory> for LockError {
+    fn from(_: NoMemory) -> Self {
+        LockError::NoMemory
+    }
+}
+
+/// A lock on a path (RFC 4918 section 6).
+#[derive(Drop)]
+pub struct DavLock {
+    pub token: Text,
+    pub path: DavPath,
+    pub principal: Option<Text>,
+    pub owner: Option<Element>,
+    /// When it ends, where a moment can tell it.
+    pub timeout_at: Option<Moment>,
+    pub timeout: Option<Lease>,
+    pub shared: bool,
+    pub deep: bool,
+}
+
+impl DavLock {
+    pub fn try_clone(&self) -> Result<Self, NoMemory>
+        ensures { IfOk result (λ copy. copy ≡ self.now) }
+    {
+        let token = self.token.try_clone()?;
+        let path = self.path.try_clone()?;
+        let principal = copy_principal(&self.principal)?;
+        let owner = copy_owner(&self.owner)?;
+        Ok(DavLock {
+            token,
+            path,
+            principal,
+            owner,
+            timeout_at: self.timeout_at,
+            timeout: self.timeout,
+            shared: self.shared,
+            deep: self.deep,
+        })
+    }
+}
+
+fn copy_principal(principal: &Option<Text>) -> Result<Option<Text>, NoMemory>
+    ensures { IfOk result (λ copy. copy ≡ principal.now) }
+{
+    match principal {
+        None => Ok(None),
+        Some(principal) => Ok(Some(principal.try_clone()?)),
+    }
+}
+
+fn copy_owner(owner: &Option<Element>) -> Result<Option<Element>, NoMemory>
+    ensures { IfOk result (λ copy. copy ≡ owner.now) }
+{
+    match owner {
+        None => Ok(None),
+        Some(owner) => Ok(Some(owner.try_clone()?)),
+    }
+}

@@ -1,0 +1,39 @@
+ghost use Rattle.std.specs.Prelude.{◌≡◌, [], IfOk};
+
+use crate::DavLock;
+use dav_io::NoMemory;
+use std::alloc::Global;
+use std::marker::Model;
+
+/// Locks, in their order. A contract sees their list.
+#[derive(Drop)]
+pub struct Locks {
+    locks: Vec<DavLock>,
+}
+
+impl Model for Locks {
+    ghost use Rattle.std.specs.Prelude.{List};
+    ghost use Rattle.dav_lock.specs.declared.lock.DavLock.{DavLock};
+    ghost use Rattle.std.specs.Coded.{codes};
+    ghost use Rattle.dav_lock.specs.Events.{forest_code};
+
+    ghost Value = { List DavLock };
+
+    ghost coded = { Prim.hlevel (codes, forest_code) };
+
+    ghost view = { λ l. l.locks.items };
+}
+
+impl Locks {
+    pub fn new(locks: Vec<DavLock>) -> Self
+        ensures { result ≡ locks.items }
+    {
+        Locks { locks }
+    }
+
+    pub fn as_slice(&self) -> &[DavLock]
+        ensures { result.now ≡ self.now }
+    {
+        self.locks.as_slice()
+    }
+}
