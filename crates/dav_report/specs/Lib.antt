@@ -1,0 +1,14 @@
+pub mod ComponentNames
+pub mod Filters
+pub mod FilterEvents
+pub mod FilterLists
+pub mod FilterDepths
+pub mod Children
+pub mod Requests
+pub mod Calendars
+pub mod AddressBooks
+pub mod Answers
+pub mod Lines
+pub mod Cuts
+pub mod Making
+pub mod Iterators

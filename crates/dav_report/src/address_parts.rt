@@ -1,0 +1,152 @@
+//! Reading an address book request.
+ghost use Rattle.std.specs.Prelude.{◌≡◌, IfOk, option_map, option_copied};
+ghost use Rattle.std.specs.Option.{option_and_then};
+ghost use Rattle.std.specs.List.{flat_map};
+ghost use Rattle.dav_report.specs.Children.{last_of};
+ghost use Rattle.dav_report.specs.Requests.{number};
+ghost use Rattle.dav_report.specs.AddressBooks.{property_filter, outer_filters, all_filters, counts, all_counts, address_query};
+
+use crate::carddav::{AddressBookQuery, PropertyFilter};
+use crate::children::{copy_attribute, element_named, first_text, has_named};
+use crate::filter_parts::{later, read_last_match, read_parameters, read_properties};
+use dav_io::{NoMemory, Text};
+use dav_lock::{Element, Nodes};
+use std::alloc::Global;
+
+/// The filter of a property, or nothing where one is at fault.
+fn read_property(alloc: Global, element: &Element) -> Result<Option<PropertyFilter>, NoMemory>
+    ensures { IfOk result (λ read. read ≡ property_filter element.now) }
+{
+    let name = match copy_attribute(element, "name")? {
+        Some(name) => name,
+        None => return Ok(None),
+    };
+    let param_filters = match read_parameters(alloc, &element.children)? {
+        Some(filters) => filters,
+        None => return Ok(None),
+    };
+    let is_not_defined = has_named(&element.children, "is-not-defined");
+    let text_match = read_last_match(alloc, &element.children)?;
+    Ok(Some(PropertyFilter {
+        name,
+        is_not_defined,
+        text_match,
+        param_filters,
+    }))
+}
+
+/// The filters of properties, or nothing where one is at fault.
+fn read_filters(alloc: Global, children: &Nodes) -> Result<Option<Vec<PropertyFilter>>, NoMemory>
+    ensures { IfOk result
+        (λ read. option_map (λ filters. filters.items) read ≡ outer_filters children.now) }
+{
+    let mut filters = Vec::new(alloc);
+    for node in children.as_slice() {
+        let element = match element_named(node, "prop-filter") {
+            Some(element) => element,
+            None => continue,
+        };
+        let filter = match read_property(alloc, element)? {
+            Some(filter) => filter,
+            None => return Ok(None),
+        };
+        filters.push(filter)?;
+    }
+    Ok(Some(filters))
+}
+
+/// The first text of the last `nresults` that has one.
+fn last_count(children: &Nodes) -> Option<&Text>
+    ensures { option_copied result ≡ last_of (counts children.now) }
+{
+    let mut last = None;
+    for node in children.as_slice() {
+        let element = match element_named(node, "nresults") {
+            Some(element) => element,
+            None => continue,
+        };
+        let text = match first_text(&element.children) {
+            Some(text) => text,
+            None => continue,
+        };
+        last = Some(text);
+    }
+    last
+}
+
+/// The last count in the last `limit` that has one.
+fn last_limit(children: &Nodes) -> Option<&Text>
+    ensures { option_copied result ≡ last_of (all_counts children.now) }
+{
+    let mut last = None;
+    for node in children.as_slice() {
+        let element = match element_named(node, "limit") {
+            Some(element) => element,
+            None => continue,
+        };
+        let text = match last_count(&element.children) {
+            Some(text) => text,
+            None => continue,
+        };
+        last = Some(text);
+    }
+    last
+}
+
+/// The number that a text stands for.
+fn read_number(text: &Text) -> Option<u32>
+    ensures { result ≡ number text.now }
+{
+    text.as_str().parse::<u32>().ok()
+}
+
+fn read_limit(children: &Nodes) -> Option<u32>
+    ensures { result ≡ option_and_then number (last_of (all_counts children.now)) }
+{
+    match last_limit(children) {
+        Some(text) => read_number(text),
+        None => None,
+    }
+}
+
+/// The filter that a query keeps, which is the last; or nothing where any is at fault.
+fn kept_filter(alloc: Global, children: &Nodes) -> Result<Option<Option<PropertyFilter>>, NoMemory>
+    ensures { IfOk result
+        (λ read. read
+        ≡ option_map (λ filters. last_of (flat_map (λ fs. fs) filters)) (all_filters children.now)) }
+{
+    let mut kept = None;
+    for node in children.as_slice() {
+        let element = match element_named(node, "filter") {
+            Some(element) => element,
+            None => continue,
+        };
+        let filters = match read_filters(alloc, &element.children)? {
+            Some(filters) => filters,
+            None => return Ok(None),
+        };
+        kept = later(kept, filters);
+    }
+    Ok(Some(kept))
+}
+
+/// What a query asks for, or nothing where a filter is at fault.
+pub(crate) fn read_address_query(
+    alloc: Global,
+    children: &Nodes,
+) -> Result<Option<AddressBookQuery>, NoMemory>
+    ensures { IfOk result (λ read. read ≡ address_query children.now) }
+{
+    match kept_filter(alloc, children)? {
+        Some(prop_filter) => {
+            let properties = read_properties(alloc, children)?;
+            let limit = read_limit(children);
+            Ok(Some(AddressBookQuery {
+                prop_filter,
+                properties,
+                limit,
+            }))
+        }
+        None => Ok(None),
+    }
+}

@@ -1,0 +1,119 @@
+use crate::caldav::property_filter::copy_range;
+use crate::caldav::{PropertyFilters, TimeRange};
+use dav_io::{NoMemory, Text};
+use std::alloc::Global;
+use std::marker::Model;
+
+/// What is asked of a calendar component and of those in it (RFC 4791 section 9.7.1).
+#[cycle(filters)]
+#[derive(Drop)]
+pub struct ComponentFilter {
+    pub name: Text,
+    /// The component must not be there.
+    pub is_not_defined: bool,
+    pub time_range: Option<TimeRange>,
+    pub prop_filters: PropertyFilters,
+    pub comp_filters: ComponentFilters,
+}
+
+/// Filters of components, in their order. A contract sees them as data of its own, since a filter holds others.
+#[cycle(filters)]
+#[derive(Drop)]
+pub struct ComponentFilters {
+    filters: Vec<ComponentFilter>,
+}
+
+impl Model for ComponentFilters {
+    ghost use Rattle.dav_report.specs.Filters.{Filters, filters_depth};
+    ghost use Rattle.dav_report.specs.FilterEvents.{filters_code};
+
+    ghost Value = { Filters };
+
+    ghost coded = { filters_code };
+
+    ghost use Rattle.dav_report.specs.FilterLists.{filters_of};
+
+    ghost view = { λ f. filters_of f.filters.items };
+
+    ghost size = { filters_depth };
+
+    ghost use Rattle.dav_report.specs.FilterDepths.{below_depth};
+
+    ghost size_decreases = { λ a h. below_depth a.filters.items };
+}
+
+impl ComponentFilters {
+    ghost use Rattle.std.specs.Prelude.{◌≡◌, [], ◌∷◌, IfOk, OnOk, OnErr};
+    ghost use Rattle.dav_report.specs.Filters.{no_filters, joined};
+    ghost use Rattle.dav_report.specs.FilterLists.{filters_of};
+
+    pub fn new(filters: Vec<ComponentFilter>) -> Self
+        ensures { result ≡ filters_of filters.items }
+    {
+        ComponentFilters { filters }
+    }
+
+    /// No filters yet, from this allocator on.
+    pub fn empty(alloc: Global) -> Self
+        ensures { result ≡ no_filters }
+    {
+        ComponentFilters {
+            filters: Vec::new(alloc),
+        }
+    }
+
+    pub fn as_slice(&self) -> &[ComponentFilter]
+        ensures { filters_of result.now ≡ self.now }
+    {
+        self.filters.as_slice()
+    }
+
+    /// Gives the filters back, and takes no memory.
+    pub fn into_vec(self) -> Vec<ComponentFilter>
+        ensures { filters_of result.items ≡ self }
+    {
+        self.filters
+    }
+
+    /// Adds a filter after the others. Where memory is refused, nothing changes.
+    pub fn push(&mut self, filter: ComponentFilter) -> Result<(), NoMemory>
+        ensures ok { OnOk result (self.new ≡ joined self.old (filters_of (filter ∷ []))) }
+        ensures err { OnErr result (self.new ≡ self.old) }
+    {
+        self.filters.push(filter)?;
+        Ok(())
+    }
+
+    #[cycle(copies)]
+    pub fn try_clone(&self) -> Result<Self, NoMemory>
+        ensures { IfOk result (λ copy. copy ≡ self.now) }
+    {
+        let alloc: Global = *self.filters.allocator();
+        let mut filters = Vec::new(alloc);
+        for filter in self.as_slice() {
+            filters.push(filter.try_clone()?)?;
+        }
+        Ok(ComponentFilters { filters })
+    }
+}
+
+impl ComponentFilter {
+    ghost use Rattle.std.specs.Prelude.{◌≡◌, IfOk};
+
+    #[cycle(copies)]
+    pub fn try_clone(&self) -> Result<Self, NoMemory>
+        ensures { IfOk result (λ copy. copy ≡ self.now) }
+    {
+        let name = self.name.try_clone()?;
+        let time_range = copy_range(&self.time_range)?;
+        let prop_filters = self.prop_filters.try_clone()?;
+        let comp_filters = self.comp_filters.try_clone()?;
+        Ok(ComponentFilter {
+            name,
+            is_not_defined: self.is_not_defined,
+            time_range,
+            prop_filters,
+            comp_filters,
+        })
+    }
+}

@@ -1,0 +1,109 @@
+ghost use Rattle.std.specs.Prelude.{◌≡◌, [], ◌∷◌, IfOk};
+
+use super::CalendarComponentType;
+use crate::names::copy_text;
+use dav_io::{NoMemory, Text};
+use std::alloc::Global;
+use std::marker::Model;
+
+/// Kinds of components, in their order. A contract sees their list.
+#[derive(Drop)]
+pub struct ComponentTypes {
+    kinds: Vec<CalendarComponentType>,
+}
+
+impl Model for ComponentTypes {
+    ghost use Rattle.std.specs.Prelude.{List};
+    ghost use Rattle.dav_report.specs.declared.caldav.resource.CalendarComponentType.{CalendarComponentType};
+
+    ghost Value = { List CalendarComponentType };
+
+    ghost view = { λ c. c.kinds.items };
+}
+
+impl ComponentTypes {
+    pub fn new(kinds: Vec<CalendarComponentType>) -> Self
+        ensures { result ≡ kinds.items }
+    {
+        ComponentTypes { kinds }
+    }
+
+    pub fn as_slice(&self) -> &[CalendarComponentType]
+        ensures { result.now ≡ self.now }
+    {
+        self.kinds.as_slice()
+    }
+
+    pub fn try_clone(&self) -> Result<Self, NoMemory>
+        ensures { IfOk result (λ copy. copy ≡ self.now) }
+    {
+        let alloc: Global = *self.kinds.allocator();
+        Ok(ComponentTypes {
+            kinds: Vec::from_slice(alloc, self.as_slice())?,
+        })
+    }
+}
+
+/// The properties of a calendar collection (RFC 4791 section 5.2). Sizes are in bytes.
+#[derive(Drop)]
+pub struct CalendarProperties {
+    pub description: Option<Text>,
+    pub timezone: Option<Text>,
+    pub supported_components: ComponentTypes,
+    pub max_resource_size: Option<u64>,
+    pub color: Option<Text>,
+    pub display_name: Option<Text>,
+}
+
+impl CalendarProperties {
+    /// Events, todos, journals and free-busy times, in resources of at most 1 MiB.
+    pub fn defaults(alloc: Global) -> Result<Self, NoMemory>
+        ensures { IfOk result
+            (λ made. made
+            ≡ record {
+              description = None;
+              timezone = None;
+              supported_components = CalendarComponentType.VEvent
+                  ∷ CalendarComponentType.VTodo
+                  ∷ CalendarComponentType.VJournal
+                  ∷ CalendarComponentType.VFreeBusy
+                  ∷ [];
+              max_resource_size = Some 1048576;
+              color = None;
+              display_name = None;
+            }) }
+    {
+        let kinds = vec![in alloc;
+            CalendarComponentType::VEvent,
+            CalendarComponentType::VTodo,
+            CalendarComponentType::VJournal,
+            CalendarComponentType::VFreeBusy,
+        ]?;
+        Ok(CalendarProperties {
+            description: None,
+            timezone: None,
+            supported_components: ComponentTypes::new(kinds),
+            max_resource_size: Some(1024 * 1024),
+            color: None,
+            display_name: None,
+        })
+    }
+
+    pub fn try_clone(&self) -> Result<Self, NoMemory>
+        ensures { IfOk result (λ copy. copy ≡ self.now) }
+    {
+        let description = copy_text(&self.description)?;
+        let timezone = copy_text(&self.timezone)?;
+        let supported_components = self.supported_components.try_clone()?;
+        let color = copy_text(&self.color)?;
+        let display_name = copy_text(&self.display_name)?;
+        Ok(CalendarProperties {
+            description,
+            timezone,
+            supported_components,
+            max_resource_size: self.max_resource_size,
+            color,
+            display_name,
+        })
+    }
+}

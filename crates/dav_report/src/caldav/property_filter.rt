@@ -1,0 +1,122 @@
+ghost use Rattle.std.specs.Prelude.{◌≡◌, [], ◌∷◌, ◌++◌, IfOk, OnOk, OnErr};
+
+use crate::filters::copy_match;
+use crate::names::copy_text;
+use crate::{ParameterFilters, TextMatch};
+use dav_io::{NoMemory, Text};
+use std::alloc::Global;
+use std::marker::Model;
+
+/// The times between two dates, in the form of RFC 4791 section 9.9. A side that isn't given is open.
+#[derive(Drop)]
+pub struct TimeRange {
+    pub start: Option<Text>,
+    pub end: Option<Text>,
+}
+
+impl TimeRange {
+    pub fn try_clone(&self) -> Result<Self, NoMemory>
+        ensures { IfOk result (λ copy. copy ≡ self.now) }
+    {
+        let start = copy_text(&self.start)?;
+        let end = copy_text(&self.end)?;
+        Ok(TimeRange { start, end })
+    }
+}
+
+/// A copy of a range, where there is one.
+pub(crate) fn copy_range(range: &Option<TimeRange>) -> Result<Option<TimeRange>, NoMemory>
+    ensures { IfOk result (λ copy. copy ≡ range.now) }
+{
+    match range {
+        None => Ok(None),
+        Some(range) => Ok(Some(range.try_clone()?)),
+    }
+}
+
+/// What is asked of a property of a calendar component (RFC 4791 section 9.7.2).
+#[derive(Drop)]
+pub struct PropertyFilter {
+    pub name: Text,
+    /// The property must not be there.
+    pub is_not_defined: bool,
+    pub text_match: Option<TextMatch>,
+    pub time_range: Option<TimeRange>,
+    pub param_filters: ParameterFilters,
+}
+
+impl PropertyFilter {
+    pub fn try_clone(&self) -> Result<Self, NoMemory>
+        ensures { IfOk result (λ copy. copy ≡ self.now) }
+    {
+        let name = self.name.try_clone()?;
+        let text_match = copy_match(&self.text_match)?;
+        let time_range = copy_range(&self.time_range)?;
+        let param_filters = self.param_filters.try_clone()?;
+        Ok(PropertyFilter {
+            name,
+            is_not_defined: self.is_not_defined,
+            text_match,
+            time_range,
+            param_filters,
+        })
+    }
+}
+
+/// Filters of properties, in their order. A contract sees their list.
+#[derive(Drop)]
+pub struct PropertyFilters {
+    filters: Vec<PropertyFilter>,
+}
+
+impl Model for PropertyFilters {
+    ghost use Rattle.std.specs.Prelude.{List};
+    ghost use Rattle.dav_report.specs.declared.caldav.property_filter.PropertyFilter.{PropertyFilter};
+
+    ghost Value = { List PropertyFilter };
+
+    ghost view = { λ f. f.filters.items };
+}
+
+impl PropertyFilters {
+    pub fn new(filters: Vec<PropertyFilter>) -> Self
+        ensures { result ≡ filters.items }
+    {
+        PropertyFilters { filters }
+    }
+
+    /// No filters yet, from this allocator on.
+    pub fn empty(alloc: Global) -> Self
+        ensures { result ≡ [] }
+    {
+        PropertyFilters {
+            filters: Vec::new(alloc),
+        }
+    }
+
+    pub fn as_slice(&self) -> &[PropertyFilter]
+        ensures { result.now ≡ self.now }
+    {
+        self.filters.as_slice()
+    }
+
+    /// Adds a filter after the others. Where memory is refused, nothing changes.
+    pub fn push(&mut self, filter: PropertyFilter) -> Result<(), NoMemory>
+        ensures ok { OnOk result (self.new ≡ self.old ++ filter ∷ []) }
+        ensures err { OnErr result (self.new ≡ self.old) }
+    {
+        self.filters.push(filter)?;
+        Ok(())
+    }
+
+    pub fn try_clone(&self) -> Result<Self, NoMemory>
+        ensures { IfOk result (λ copy. copy ≡ self.now) }
+    {
+        let alloc: Global = *self.filters.allocator();
+        let mut filters = Vec::new(alloc);
+        for filter in self.as_slice() {
+            filters.push(filter.try_clone()?)?;
+        }
+        Ok(PropertyFilters { filters })
+    }
+}

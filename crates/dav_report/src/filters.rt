@@ -1,0 +1,151 @@
+//! What calendar and address book filters share.
+ghost use Rattle.std.specs.Prelude.{◌≡◌, [], ◌∷◌, ◌++◌, IfOk, OnOk, OnErr, false};
+
+use crate::names::copy_text;
+use dav_io::{NoMemory, Text};
+use std::alloc::Global;
+use std::marker::Model;
+
+/// The text that a property or a parameter is compared with (RFC 4791 section 9.7.5, RFC 6352 section 10.5.4).
+#[derive(Drop)]
+pub struct TextMatch {
+    pub text: Text,
+    pub collation: Option<Text>,
+    /// What matches is then what the comparison refuses.
+    pub negate_condition: bool,
+    /// `equals`, `contains`, `starts-with` or `ends-with`.
+    pub match_type: Option<Text>,
+}
+
+impl TextMatch {
+    /// A comparison with the empty text.
+    pub fn defaults(alloc: Global) -> Result<Self, NoMemory>
+        ensures { IfOk result
+            (λ made. made
+            ≡ record { text = []; collation = None; negate_condition = false; match_type = None }) }
+    {
+        Ok(TextMatch {
+            text: Text::copy(alloc, "")?,
+            collation: None,
+            negate_condition: false,
+            match_type: None,
+        })
+    }
+
+    pub fn try_clone(&self) -> Result<Self, NoMemory>
+        ensures { IfOk result (λ copy. copy ≡ self.now) }
+    {
+        let text = self.text.try_clone()?;
+        let collation = copy_text(&self.collation)?;
+        let match_type = copy_text(&self.match_type)?;
+        Ok(TextMatch {
+            text,
+            collation,
+            negate_condition: self.negate_condition,
+            match_type,
+        })
+    }
+}
+
+/// A copy of a comparison, where there is one.
+pub(crate) fn copy_match(text: &Option<TextMatch>) -> Result<Option<TextMatch>, NoMemory>
+    ensures { IfOk result (λ copy. copy ≡ text.now) }
+{
+    match text {
+        None => Ok(None),
+        Some(text) => Ok(Some(text.try_clone()?)),
+    }
+}
+
+/// What is asked of a property's parameter (RFC 6352 section 10.5.2).
+#[derive(Drop)]
+pub struct ParameterFilter {
+    pub name: Text,
+    /// The parameter must not be there.
+    pub is_not_defined: bool,
+    pub text_match: Option<TextMatch>,
+}
+
+impl ParameterFilter {
+    /// Asks that the parameter of this name is there.
+    pub fn new(alloc: Global, name: &str) -> Result<Self, NoMemory>
+        ensures { IfOk result
+            (λ made. made ≡ record { name = name.now; is_not_defined = false; text_match = None }) }
+    {
+        Ok(ParameterFilter {
+            name: Text::copy(alloc, name)?,
+            is_not_defined: false,
+            text_match: None,
+        })
+    }
+
+    pub fn try_clone(&self) -> Result<Self, NoMemory>
+        ensures { IfOk result (λ copy. copy ≡ self.now) }
+    {
+        let name = self.name.try_clone()?;
+        let text_match = copy_match(&self.text_match)?;
+        Ok(ParameterFilter {
+            name,
+            is_not_defined: self.is_not_defined,
+            text_match,
+        })
+    }
+}
+
+/// Filters of parameters, in their order. A contract sees their list.
+#[derive(Drop)]
+pub struct ParameterFilters {
+    filters: Vec<ParameterFilter>,
+}
+
+impl Model for ParameterFilters {
+    ghost use Rattle.std.specs.Prelude.{List};
+    ghost use Rattle.dav_report.specs.declared.filters.ParameterFilter.{ParameterFilter};
+
+    ghost Value = { List ParameterFilter };
+
+    ghost view = { λ f. f.filters.items };
+}
+
+impl ParameterFilters {
+    pub fn new(filters: Vec<ParameterFilter>) -> Self
+        ensures { result ≡ filters.items }
+    {
+        ParameterFilters { filters }
+    }
+
+    /// No filters yet, from this allocator on.
+    pub fn empty(alloc: Global) -> Self
+        ensures { result ≡ [] }
+    {
+        ParameterFilters {
+            filters: Vec::new(alloc),
+        }
+    }
+
+    pub fn as_slice(&self) -> &[ParameterFilter]
+        ensures { result.now ≡ self.now }
+    {
+        self.filters.as_slice()
+    }
+
+    /// Adds a filter after the others. Where memory is refused, nothing changes.
+    pub fn push(&mut self, filter: ParameterFilter) -> Result<(), NoMemory>
+        ensures ok { OnOk result (self.new ≡ self.old ++ filter ∷ []) }
+        ensures err { OnErr result (self.new ≡ self.old) }
+    {
+        self.filters.push(filter)?;
+        Ok(())
+    }
+
+    pub fn try_clone(&self) -> Result<Self, NoMemory>
+        ensures { IfOk result (λ copy. copy ≡ self.now) }
+    {
+        let alloc: Global = *self.filters.allocator();
+        let mut filters = Vec::new(alloc);
+        for filter in self.as_slice() {
+            filters.push(filter.try_clone()?)?;
+        }
+        Ok(ParameterFilters { filters })
+    }
+}

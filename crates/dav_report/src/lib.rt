@@ -1,0 +1,30 @@
+//! Calendar and address book reports over element trees: their types, the elements that answers are made of, and the
+//! reading of a request (RFC 4791 and RFC 6352).
+#![tactic(auto)]
+
+mod address_parts;
+pub mod caldav;
+mod calendar_parts;
+pub mod carddav;
+mod children;
+mod content;
+mod element_ext;
+mod element_iters;
+mod error;
+mod filter_parts;
+mod filters;
+mod makers;
+mod names;
+mod parse;
+#[cfg(test)]
+mod tests;
+
+pub use content::{
+    extract_calendar_uid, extract_vcard_fn, extract_vcard_uid, is_calendar_data, is_vcard_data,
+};
+pub use element_ext::ElementExt;
+pub use element_iters::{Elements, ElementsInto};
+pub use error::ReportError;
+pub use filters::{ParameterFilter, ParameterFilters, TextMatch};
+pub use names::Names;
+pub use parse::{parse_addressbook_report, parse_calendar_report};
