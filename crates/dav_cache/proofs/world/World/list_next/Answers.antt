@@ -1,0 +1,12 @@
+use Rattle.std.proofs.Common.{sym, subst}
+use Rattle.dav_cache.specs.declared.place.Place.TheVariants.{Lists}
+use Rattle.dav_cache.specs.Core.{Listing, Rises, AllRise}
+use Rattle.dav_cache.proofs.Rising.{rise-at, rise-next}
+use Rattle.dav_cache.proofs.world.World.list_next.Goals as goal
+
+pub set-requires-clause-place : goal.set-requires-clause-place
+set-requires-clause-place c =
+    let found = c.in-Some-Lists.ensures.lookup in
+    let all = subst AllRise (sym c.deref.ensures.value) c.self.invariant in
+    let place = subst Rises c.in-Some-Lists.field-0-is (rise-at c.deref.result.now c.args.caller c.in-Some-Lists.field-0.now found.3.0 found.1 all) in
+    subst (λ (l : Listing). Rises (Lists l)) (sym c.in_ok-listing-in-Some-Lists.ensures) (rise-next _ c.in-Some-Lists.listing _ place)

@@ -1,0 +1,63 @@
+-- What the calls that ask a disk leave. Where an entry stands the disk is asked exactly one `meta`, and else nothing.
+use Rattle.std.specs.Prelude.{◌≡◌, ◌<◌, ◌≤◌, ◌+◌, ◌&&◌, ℕ, Bool, true, false, List, length, Option, Some, None, Result, Ok, Err, is_ok, if◌then◌else◌}
+use Rattle.dav_core.specs.declared.handle.Meta.{Meta}
+use Rattle.dav_core.specs.declared.handle.DiskError.{DiskError}
+use Rattle.dav_core.specs.Disk.{DiskState, Metas}
+use Rattle.dav_core.specs.Tree.{is_dir}
+use Rattle.dav_io.specs.Counts.{greatest}
+use Rattle.dav_io.specs.declared.clock.Moment.{Moment}
+use Rattle.dav_cache.specs.declared.du_cache.Sealed.{Sealed}
+use Rattle.dav_cache.specs.declared.du_cache.Sealed.TheVariants.{Done, Last, NoMemory}
+use Rattle.dav_cache.specs.Trees.{Name, Names, FileTime, same_path, fold_path}
+use Rattle.dav_cache.specs.Entries.{PathEntry, Paths, PathCache, without, promoted, DuKey, DuEntry, DotCache, dir_key, same_key, concludes, sealed, is_time}
+
+-- the entry comes to the front where something stood at its path, and goes where nothing did
+abbrev pub probed : Bool → Names → PathEntry → Paths → Paths
+probed true key e entries = promoted key (Some e) entries
+probed false key e entries = without (same_path key) entries
+
+-- the path and what was said of it
+abbrev pub found_by : Names → Result Meta DiskError → Option (Names × Meta)
+found_by path (Ok meta) = Some (path, meta)
+found_by path (Err e) = None
+
+-- a look-up of a path whose entry is given
+abbrev pub Looks : Option PathEntry → PathCache → Names → DiskState → Option (Names × Meta) → PathCache → DiskState → Type 0
+Looks None old asked before found new after = (found ≡ None) × (new ≡ old) × (after ≡ before)
+Looks (Some e) old asked before found new after =
+    (answer : Result Meta DiskError) × Metas before e.path answer after × (found ≡ found_by e.path answer)
+    × (new ≡ record old { entries = probed (is_ok answer) (fold_path asked) e old.entries })
+
+-- ---- whether a name is absent
+
+-- the directory stands with this time
+abbrev pub has_time : FileTime → Result Meta DiskError → Bool
+has_time time (Ok meta) = is_dir meta.kind && is_time time meta.modified
+has_time time (Err e) = false
+
+-- without the directory's entry
+abbrev pub dropped : Names → DotCache → DotCache
+dropped dir old = record old { entries = without (same_key (dir_key dir)) old.entries }
+
+-- a name that is asked about, where the directory's entry is given
+abbrev pub Denies : Option DuEntry → DotCache → Names → Name → DiskState → Bool → DotCache → DiskState → Type 0
+Denies None old dir name before absent new after = (absent ≡ false) × (new ≡ old) × (after ≡ before)
+Denies (Some e) old dir name before absent new after =
+    (answer : Result Meta DiskError) × Metas before dir answer after × (absent ≡ (has_time e.time answer && concludes old.entries dir name e.number))
+    × (new ≡ (if has_time e.time answer then old else dropped dir old))
+
+-- ---- sealing a listing
+
+-- a seal of which so many puts find memory
+abbrev pub sealed_within : DotCache → DuKey → FileTime → Moment → List Name → ℕ → DotCache
+sealed_within old dir time now names room = record {
+  entries = sealed old.size (record { dir = dir.dir; time = time; moment = now; number = old.next }) names room old.entries;
+  size = old.size;
+  next = old.next + 1;
+}
+
+-- At the greatest number nothing more is remembered. Where memory was refused a put was not made
+abbrev pub Seals : DotCache → DuKey → FileTime → Moment → List Name → Sealed → DotCache → Type 0
+Seals old dir time now names Done new = (old.next < greatest) × (new ≡ sealed_within old dir time now names (length names + 1))
+Seals old dir time now names Last new = (greatest ≤ old.next) × (new ≡ old)
+Seals old dir time now names NoMemory new = (old.next < greatest) × (room : ℕ) × (room ≤ length names) × (new ≡ sealed_within old dir time now names room)

@@ -1,0 +1,181 @@
+ghost use Rattle.std.specs.Prelude.{◌≡◌, ℕ, List, ◌<◌, ◌≤◌, ◌-◌, ◌++◌, Some, None, OnOk, OnErr, take, drop, length, slice_index_or, true, false};
+ghost use Rattle.dav_cache.specs.Trees.{FileTime as Time, is_dot, is_less};
+ghost use Rattle.dav_cache.specs.Entries.{kept, is_rising};
+ghost use Rattle.dav_cache.specs.Core.{one_time as the_one_time};
+ghost use Rattle.dav_cache.specs.Builder as builder;
+
+use crate::trees::is_time;
+use crate::{DuKey, Remember, Sealed};
+use dav_core::{Disk, DiskError, FileTime, FsPath, Kind, Meta};
+use dav_io::{Moment, NoMemory, Text};
+use std::alloc::Global;
+use std::marker::Model;
+
+/// Gathers the names of a listing that begin with `._`, to be sealed at its end.
+#[derive(Drop)]
+pub struct DUCacheBuilder {
+    key: DuKey,
+    before: Option<FileTime>,
+    names: Vec<Text>,
+    faulted: bool,
+    finished: bool,
+}
+
+impl Model for DUCacheBuilder {
+    ghost use Rattle.std.specs.Prelude.{◌≡◌, None, true};
+    ghost use Rattle.dav_cache.specs.Builder.{BuilderState};
+    ghost use Rattle.dav_cache.specs.Entries.{are_sealable};
+
+    ghost Value = { BuilderState };
+
+    ghost view = { λ b. record { dir = b.key.dir; before = b.before; names = b.names.items; faulted = b.faulted; finished = b.finished } };
+
+    ghost invariant = { λ b. (b.key.name ≡ None) × (are_sealable b.names.items ≡ true) };
+}
+
+impl DUCacheBuilder {
+    /// Begins a listing: asks the disk for the directory's time.
+    pub fn start<D: Disk>(alloc: Global, dir: FsPath, disk: &mut D) -> Self
+        ensures done { builder.Starts (D.state disk.old) dir result (D.state disk.new) }
+        ensures loan { D.loan disk.new ≡ D.loan disk.old }
+    {
+        let before = time_found(disk.meta(&dir));
+        DUCacheBuilder {
+            key: DuKey { dir, name: None },
+            before,
+            names: Vec::new(alloc),
+            faulted: false,
+            finished: false,
+        }
+    }
+
+    /// Keeps a name of the listing, where it begins with `._`. Memory that is refused is a listing fault too.
+    pub fn add(&mut self, name: &str) -> Result<(), NoMemory>
+        ensures ok { OnOk result (self.new ≡ builder.with_name name.now self.old) }
+        ensures err { OnErr result (self.new ≡ record self.old { faulted = true }) }
+    {
+        if !begins_dot(name.as_bytes()) {
+            return Ok(());
+        }
+        let alloc: Global = *self.names.allocator();
+        match keep(&mut self.names, alloc, name) {
+            Ok(()) => Ok(()),
+            Err(error) => {
+                self.faulted = true;
+                Err(error)
+            }
+        }
+    }
+
+    /// Notes a listing fault: nothing will be sealed.
+    pub fn fault(&mut self)
+        ensures { self.new ≡ record self.old { faulted = true } }
+    {
+        self.faulted = true;
+    }
+
+    /// Ends the listing: asks the disk for the directory's time again, and seals the names where both times are known
+    /// and equal and no fault was noted. It is ended then also where memory is refused, and a second end does nothing.
+    pub fn finish<D: Disk, R: Remember>(
+        &mut self,
+        disk: &mut D,
+        memory: &mut R,
+        now: Moment,
+    ) -> Result<(), NoMemory>
+        requires { (time : Time) → builder.may_settle self.old ≡ Some time → R.may_seal memory.old self.old.dir time self.old.names }
+        ensures done { builder.Finishes R.state self.old.finished self.old (D.state disk.old) now memory.old result self.new (D.state disk.new) memory.new }
+        ensures loan { D.loan disk.new ≡ D.loan disk.old }
+    {
+        if self.finished {
+            return Ok(());
+        }
+        let before = self.may_settle();
+        self.finished = true;
+        let after = time_found(disk.meta(&self.key.dir));
+        let Some(time) = one_time(before, after) else {
+            return Ok(());
+        };
+        let alloc: Global = *self.names.allocator();
+        match memory.seal(alloc, &self.key, time, self.names.as_slice(), now) {
+            Sealed::NoMemory => Err(NoMemory),
+            Sealed::Done | Sealed::Last => Ok(()),
+        }
+    }
+
+    // The time that the names may be sealed with, if the directory still has it.
+    fn may_settle(&self) -> Option<FileTime>
+        ensures { result ≡ builder.may_settle self.now }
+    {
+        if self.finished {
+            return None;
+        }
+        if self.faulted { None } else { self.before }
+    }
+}
+
+// The time of a directory that was found.
+fn time_found(found: Result<Meta, DiskError>) -> Option<FileTime>
+    ensures { result ≡ builder.time_found found }
+{
+    match found {
+        Ok(meta) => if meta.kind == Kind::Dir {
+            meta.modified
+        } else {
+            None
+        },
+        Err(_) => None,
+    }
+}
+
+// The time that was found before and after.
+fn one_time(before: Option<FileTime>, after: Option<FileTime>) -> Option<FileTime>
+    ensures { result ≡ the_one_time before after }
+{
+    let before = before?;
+    if is_time(before, after) {
+        Some(before)
+    } else {
+        None
+    }
+}
+
+// Whether the bytes of a name begin with `._`.
+fn begins_dot(name: &[u8]) -> bool
+    ensures { result ≡ is_dot name.now }
+{
+    match name {
+        [a, b, ..] => *a == b'.' && *b == b'_',
+        _ => false,
+    }
+}
+
+// How many of the names don't come after this one.
+fn place_of(names: &[Text], name: &Text) -> usize
+    ensures within { result ≤ length names.now }
+    ensures place { kept name.now names.now ≡ kept name.now (take result names.now) ++ drop result names.now }
+    ensures before { (d : List ℕ) → 0 < result → is_less name.now (slice_index_or names.now (result - 1) d) ≡ false }
+{
+    let mut at = names.len();
+    while at > 0 {
+        if !name.cmp(&names[at - 1]).is_lt() {
+            return at;
+        }
+        at -= 1;
+    }
+    at
+}
+
+// Keeps a name among names that rise, in its place and once.
+fn keep(names: &mut Vec<Text>, alloc: Global, name: &str) -> Result<(), NoMemory>
+    requires { is_rising None names.old.items ≡ true }
+    ensures ok { OnOk result (names.new.items ≡ kept name.now names.old.items) }
+    ensures err { OnErr result (names.new.items ≡ names.old.items) }
+{
+    let name = Text::copy(alloc, name)?;
+    let at = place_of(names, &name);
+    if at > 0 && names[at - 1] == name {
+        return Ok(());
+    }
+    names.insert(at, name)?;
+    Ok(())
+}

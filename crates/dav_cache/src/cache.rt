@@ -1,0 +1,181 @@
+ghost use Rattle.std.specs.Prelude.{◌≡◌, ◌↔◌, ◌<◌, ◌-◌, [], length, take, Option, Some, None, option_map, false, IfOk, IfSome, IsTrue, OnOk, OnErr};
+ghost use Rattle.std.specs.Option.{option_map_or};
+ghost use Rattle.std.specs.Map.{lookup};
+ghost use Rattle.lru.specs.LruCache.{last_entry};
+ghost use Rattle.dav_cache.specs.Trees.{same_path, fold_path};
+ghost use Rattle.dav_cache.specs.Entries as entries;
+ghost use Rattle.dav_cache.specs.Calls.{Looks};
+
+use crate::{FoldedPath, fold};
+use dav_core::{Disk, FsPath, Meta};
+use dav_io::{Moment, NoMemory};
+use lru::LruCache;
+use std::alloc::Global;
+use std::marker::Model;
+use std::num::NonZeroUsize;
+
+/// An entry of the path cache: where a path was found, and when it was put, in whole seconds since 1970-01-01 UTC.
+#[derive(Drop)]
+pub struct PathEntry {
+    pub path: FsPath,
+    pub secs: u64,
+}
+
+/// Remembers for folded paths where they were found. A contract sees its entries, the most recently used first, and
+/// how many it may have.
+#[derive(Drop)]
+pub struct Cache {
+    entries: LruCache<FoldedPath, PathEntry>,
+}
+
+impl Model for Cache {
+    ghost use Rattle.dav_cache.specs.Entries.{PathCache, AllFolded};
+
+    ghost Value = { PathCache };
+
+    ghost view = { λ c. record { entries = c.entries.entries; size = c.entries.cap } };
+
+    ghost invariant = { λ c. AllFolded c.entries.entries };
+}
+
+impl Cache {
+    /// An empty cache for this many entries. It reserves no room for them.
+    pub fn new(alloc: Global, size: usize) -> Result<Self, NoMemory>
+        requires { 0 < size }
+        ensures { IfOk result (λ cache. cache ≡ record { entries = []; size = size }) }
+    {
+        let cap = NonZeroUsize::new(size).unwrap();
+        Ok(Cache {
+            entries: LruCache::sparse(alloc, cap)?,
+        })
+    }
+
+    /// The number of entries.
+    pub fn len(&self) -> usize
+        ensures value { result ≡ length self.now.entries }
+        ensures folded { entries.AllFolded self.now.entries }
+    {
+        self.entries.len()
+    }
+
+    /// Whether there is no entry.
+    pub fn is_empty(&self) -> bool
+        ensures { IsTrue result ↔ (self.now.entries ≡ []) }
+    {
+        self.entries.is_empty()
+    }
+
+    /// Puts an entry for where the path is, first. A full cache drops its last entry. A moment is in nanoseconds.
+    pub fn insert(&mut self, path: &FsPath, now: Moment) -> Result<(), NoMemory>
+        ensures ok { OnOk result (self.new ≡ record self.old { entries = entries.inserted self.old.size path.now now self.old.entries }) }
+        ensures err { OnErr result (self.new ≡ self.old) }
+    {
+        let key = fold(self.allocator(), path)?;
+        let entry = PathEntry {
+            path: path.try_clone()?,
+            secs: now.0 / 1_000_000_000,
+        };
+        self.put(key, entry)
+    }
+
+    /// Looks a path up. Where an entry has the folded path, the disk is asked for what stands at the entry's path: the
+    /// entry comes to the front, and where the disk refuses goes instead. Memory is taken before both.
+    pub fn get<D: Disk>(
+        &mut self,
+        path: &FsPath,
+        disk: &mut D,
+    ) -> Result<Option<(FsPath, Meta)>, NoMemory>
+        ensures looked { IfOk result (λ found. Looks (lookup (same_path (fold_path path.now)) self.old.entries) self.old path.now (D.state disk.old) found self.new (D.state disk.new)) }
+        ensures folds { IfOk result (λ found. IfSome found (λ f. fold_path f.0 ≡ fold_path path.now)) }
+        ensures err { OnErr result (self.new ≡ self.old) }
+        ensures unasked { OnErr result (D.state disk.new ≡ D.state disk.old) }
+        ensures loan { D.loan disk.new ≡ D.loan disk.old }
+    {
+        let key = fold(self.allocator(), path)?;
+        let Some(found) = self.path_of(&key)? else {
+            return Ok(None);
+        };
+        match disk.meta(&found) {
+            Ok(meta) => {
+                self.promote(&key);
+                Ok(Some((found, meta)))
+            }
+            Err(_) => {
+                self.remove(&key);
+                Ok(None)
+            }
+        }
+    }
+
+    /// Removes the last entry as long as it is 900 s old. A moment is in nanoseconds.
+    pub fn purge(&mut self, now: Moment)
+        ensures { self.new ≡ record self.old { entries = entries.purged (entries.is_old_path now) self.old.entries } }
+    {
+        while self.last_is_old(now) {
+            self.drop_last();
+        }
+    }
+
+    fn allocator(&self) -> Global {
+        *self.entries.allocator()
+    }
+
+    /// The path that the key's entry tells.
+    pub(crate) fn path_of(&self, key: &FoldedPath) -> Result<Option<FsPath>, NoMemory>
+        ensures value { IfOk result (λ found. found ≡ option_map (λ e. e.path) (lookup (same_path key.now) self.now.entries)) }
+        ensures folds { IfOk result (λ found. IfSome found (λ path. fold_path path ≡ key.now)) }
+    {
+        match self.entries.peek(key) {
+            Some(entry) => Ok(Some(entry.path.try_clone()?)),
+            None => Ok(None),
+        }
+    }
+
+    /// Brings the key's entry to the front.
+    pub(crate) fn promote(&mut self, key: &FoldedPath)
+        ensures { self.new ≡ record self.old { entries = entries.promoted key.now (lookup (same_path key.now) self.old.entries) self.old.entries } }
+    {
+        let _len = self.entries.len();
+        self.entries.promote(key);
+    }
+
+    /// Takes the key's entry out.
+    pub(crate) fn remove(&mut self, key: &FoldedPath)
+        ensures { self.new ≡ record self.old { entries = entries.without (same_path key.now) self.old.entries } }
+    {
+        let _len = self.entries.len();
+        let _entry = self.entries.pop(key);
+    }
+
+    /// Puts an entry first.
+    fn put(&mut self, key: FoldedPath, entry: PathEntry) -> Result<(), NoMemory>
+        requires { key ≡ fold_path entry.path }
+        ensures ok { OnOk result (self.new ≡ record self.old { entries = entries.put self.old.size (same_path key) key entry self.old.entries }) }
+        ensures err { OnErr result (self.new ≡ self.old) }
+    {
+        let _len = self.entries.len();
+        self.entries.put(key, entry)?;
+        Ok(())
+    }
+
+    fn drop_last(&mut self)
+        ensures { self.new ≡ record self.old { entries = take (length self.old.entries - 1) self.old.entries } }
+    {
+        let _pair = self.entries.pop_lru();
+    }
+
+    fn last_is_old(&self, now: Moment) -> bool
+        ensures { result ≡ option_map_or (λ e. entries.is_old_path now e.1) (last_entry self.now.entries) false }
+    {
+        match self.entries.peek_lru() {
+            Some((_, entry)) => match entry.secs.checked_add(900) {
+                Some(end) => end <= now.0 / 1_000_000_000,
+                None => false,
+            },
+            None => false,
+        }
+    }
+}
+
+#[cfg(test)]
+mod tests;

@@ -1,0 +1,32 @@
+//! Two caches before a tree that changes, and why they are never noticed. The path cache remembers where a path was
+//! found that folds like the one asked; the dot-underscore cache remembers which `._` names a directory had at a time.
+#![tactic(auto)]
+
+mod builder;
+mod cache;
+mod du_cache;
+mod event;
+mod folding;
+mod key;
+pub mod laws;
+mod names;
+mod owned;
+mod place;
+mod remember;
+mod trees;
+mod world;
+
+pub use builder::DUCacheBuilder;
+pub use cache::{Cache, PathEntry};
+pub use du_cache::{DuCache, Sealed};
+pub use event::{Event, Told};
+pub use folding::{FoldedPath, fold};
+pub use key::{DuEntry, DuKey};
+pub use names::Names;
+pub use owned::Owned;
+pub use place::{Listing, Place};
+pub use remember::{Forget, Remember};
+pub use world::World;
+
+#[cfg(test)]
+mod tests;

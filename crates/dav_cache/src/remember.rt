@@ -1,0 +1,114 @@
+ghost use Rattle.std.specs.Prelude.{◌≡◌, ◌<◌, List, None, Option, true, IfOk, OnOk, OnErr};
+ghost use Rattle.dav_cache.specs.Trees.{Name, Names, FileTime as Time};
+ghost use Rattle.dav_cache.specs.Entries.{are_sealable};
+ghost use Rattle.dav_cache.specs.Memory as memory;
+ghost use Rattle.dav_cache.specs.Memory.{MemoryState};
+
+use crate::{DuKey, Sealed};
+use dav_core::{Disk, FileTime, FsPath, Meta};
+use dav_io::{Moment, NoMemory, Text};
+use std::alloc::Global;
+
+/// What a store remembers between its calls: where paths were found, and which names that begin with `._` directories
+/// had. It may tell its two caches; then each call does to their entries what its relation says. A memory that doesn't
+/// tell still never knows more after a call than before it, save what it is sealed with. Want of memory leaves it and
+/// the disk as they were, save in `seal`.
+pub trait Remember {
+    /// What contracts see of the memory.
+    ghost state: { Self → MemoryState };
+
+    /// Whether it may be sealed with these names for a directory path and a time.
+    ghost may_seal: { Self → Names → Time → List Name → Type 0 } = { λ _ _ _ _. Unit {0} };
+
+    /// Looks a path up, and asks the disk what stands where it was found.
+    fn get<D: Disk>(
+        &mut self,
+        alloc: Global,
+        path: &FsPath,
+        disk: &mut D,
+    ) -> Result<Option<(FsPath, Meta)>, NoMemory>
+        ensures done { IfOk result (λ found. memory.Gets (state self.old) path.now (D.state disk.old) found (state self.new) (D.state disk.new)) }
+        ensures err { OnErr result (self.new ≡ self.old) }
+        ensures unasked { OnErr result (D.state disk.new ≡ D.state disk.old) }
+        ensures loan { D.loan disk.new ≡ D.loan disk.old };
+
+    /// Remembers where a path is. A moment is in nanoseconds.
+    fn insert(&mut self, alloc: Global, path: &FsPath, now: Moment) -> Result<(), NoMemory>
+        ensures done { OnOk result (memory.Inserts (state self.old) path.now now (state self.new)) }
+        ensures err { OnErr result (self.new ≡ self.old) };
+
+    /// Whether the name is known to be absent from the directory, as the disk has it now.
+    fn negative<D: Disk>(
+        &mut self,
+        alloc: Global,
+        dir: &FsPath,
+        name: &Text,
+        disk: &mut D,
+    ) -> Result<bool, NoMemory>
+        ensures done { IfOk result (λ absent. memory.Negates (state self.old) dir.now name.now (D.state disk.old) absent (state self.new) (D.state disk.new)) }
+        ensures err { OnErr result (self.new ≡ self.old) }
+        ensures unasked { OnErr result (D.state disk.new ≡ D.state disk.old) }
+        ensures loan { D.loan disk.new ≡ D.loan disk.old };
+
+    /// Remembers the names of a directory that begin with `._`, as it had them at this time.
+    fn seal(
+        &mut self,
+        alloc: Global,
+        dir: &DuKey,
+        time: FileTime,
+        names: &[Text],
+        now: Moment,
+    ) -> Sealed
+        requires dir { dir.now.name ≡ None }
+        requires names { are_sealable names.now ≡ true }
+        requires may { may_seal self.old dir.now.dir time names.now }
+        ensures { memory.SealsIn (state self.old) dir.now time names.now now result (state self.new) };
+
+    /// Forgets what is old.
+    fn purge(&mut self, now: Moment)
+        ensures { memory.Purges (state self.old) now (state self.new) };
+}
+
+/// A memory that remembers nothing.
+#[derive(Clone, Copy, Debug)]
+pub struct Forget;
+
+impl Remember for Forget {
+    ghost state = { λ _. memory.nothing_kept };
+
+    fn get<D: Disk>(
+        &mut self,
+        _alloc: Global,
+        _path: &FsPath,
+        _disk: &mut D,
+    ) -> Result<Option<(FsPath, Meta)>, NoMemory> {
+        Ok(None)
+    }
+
+    fn insert(&mut self, _alloc: Global, _path: &FsPath, _now: Moment) -> Result<(), NoMemory> {
+        Ok(())
+    }
+
+    fn negative<D: Disk>(
+        &mut self,
+        _alloc: Global,
+        _dir: &FsPath,
+        _name: &Text,
+        _disk: &mut D,
+    ) -> Result<bool, NoMemory> {
+        Ok(false)
+    }
+
+    fn seal(
+        &mut self,
+        _alloc: Global,
+        _dir: &DuKey,
+        _time: FileTime,
+        _names: &[Text],
+        _now: Moment,
+    ) -> Sealed {
+        Sealed::Done
+    }
+
+    fn purge(&mut self, _now: Moment) {}
+}
