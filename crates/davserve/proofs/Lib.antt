@@ -1,0 +1,3 @@
+pub mod Exchanging
+pub mod Served
+pub mod Finding

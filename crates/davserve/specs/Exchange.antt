@@ -1,0 +1,104 @@
+-- An exchange is a request and all that is answered to it. Its steps, its answers and its bytes are functions of it.
+use Rattle.std.specs.Prelude.{◌≡◌, ◌≤◌, ◌⊎◌, ◌↔◌, ◌||◌, ℕ, List, [], ◌∷◌, ◌++◌, Bool, false, IsTrue, true, Ok, Option, take}
+use Rattle.std.specs.List.{flat_map}
+use Rattle.http.specs.declared.request.Parts.{Parts}
+use Rattle.http.specs.declared.version.TheConstants.Version.{HTTP_10}
+use Rattle.http.specs.Request.{head_of, body_of}
+use Rattle.httparse.specs.Grammar.{RequestHead}
+use Rattle.dav_io.specs.Counts.{Rose}
+use Rattle.dav_io.specs.Told.{Both}
+use Rattle.dav_io.specs.Outside.{Stream}
+use Rattle.dav_io.specs.declared.clock.Moment.{Moment}
+use Rattle.dav_io.specs.declared.fields.Field.{Field}
+use Rattle.dav_model.specs.declared.step.Step.{Step}
+use Rattle.dav_model.specs.declared.step.Step.TheVariants.{Request, Poll, Purge, Turn}
+use Rattle.dav_model.specs.declared.answer.Answer.{Answer}
+use Rattle.dav_model.specs.declared.answer.Answer.TheVariants.{Reply as Replied, Piece, End, Broken, Done}
+use Rattle.dav_model.specs.Requests.{Asked}
+use Rattle.dav_model.specs.Bodies.{Playing}
+use Rattle.dav_model.specs.Trail.{Point}
+use Rattle.dav_model.specs.Play.{Played}
+use Rattle.dav_wire.specs.Answers.{head_text, has_close_field}
+use Rattle.dav_wire.specs.Fields.{asks_close}
+use Rattle.dav_wire.specs.Heads.{IsRead}
+
+pub record Exchange : Type 0 where
+  pub request : Asked
+  pub now : Moment
+  -- whether the request asks that the connection closes
+  pub closing : Bool
+  pub status : ℕ
+  pub fields : List Field
+  pub body : ℕ
+  pub pieces : List (List ℕ)
+
+-- a request of HTTP/1.0, or with a member `close` of a field `connection`
+abbrev pub AsksClose : Parts → Bool → Type 0
+AsksClose parts closing = IsTrue closing ↔ ((parts.version ≡ HTTP_10) ⊎ (asks_close parts.headers ≡ true))
+
+-- whether nothing more is read after the answer
+abbrev pub is_closed : Exchange → Bool
+is_closed x = x.closing || has_close_field x.fields
+
+-- a turn and a poll for each piece
+abbrev pub piece_steps : ℕ → List (List ℕ) → List Step
+piece_steps body [] = []
+piece_steps body (piece ∷ pieces) = Turn ∷ Poll body ∷ piece_steps body pieces
+
+abbrev pub piece_answers : List (List ℕ) → List Answer
+piece_answers [] = []
+piece_answers (piece ∷ pieces) = Done ∷ Piece piece ∷ piece_answers pieces
+
+abbrev pub begun_steps : Exchange → List Step
+begun_steps x = (Turn ∷ Purge x.now ∷ Request x.request x.now ∷ []) ++ piece_steps x.body x.pieces
+
+abbrev pub begun_answers : Exchange → List Answer
+begun_answers x = (Done ∷ Done ∷ Replied x.status x.fields x.body ∷ []) ++ piece_answers x.pieces
+
+-- The steps of an exchange: a turn, a purge, the request, and then a turn and a poll until the end.
+abbrev pub steps_of : Exchange → List Step
+steps_of x = begun_steps x ++ Turn ∷ Poll x.body ∷ []
+
+abbrev pub answers_of : Exchange → List Answer
+answers_of x = begun_answers x ++ Done ∷ End ∷ []
+
+-- the wire form of the reply and its pieces
+abbrev pub wire_of : Exchange → List ℕ
+wire_of x = head_text x.status x.fields x.closing ++ flat_map (λ piece. piece) x.pieces
+
+-- The exchange is that of this head: its request is what the head says, without a body.
+pub record IsOf (head : RequestHead) (x : Exchange) : Type 0 where
+  pub parts : IsRead head (head_of x.request)
+  pub empty : body_of x.request ≡ []
+  pub closing : AsksClose (head_of x.request) x.closing
+
+abbrev pub with_pieces : Asked → Moment → Bool → ℕ → List Field → ℕ → List (List ℕ) → Exchange
+with_pieces request now closing status fields body pieces = record { request = request; now = now; closing = closing; status = status; fields = fields; body = body; pieces = pieces }
+
+-- An exchange has got so far, and its bytes are written or held.
+pub record Begun (s : Point) (p : Playing) (request : Asked) (now : Moment) (closing : Bool) (status : ℕ) (fields : List Field) (body : ℕ) (old new : Stream) (held : List ℕ) (t : Point) (q : Playing) : Type 0 where
+  pub pieces : List (List ℕ)
+  pub played : Played s p (begun_steps (with_pieces request now closing status fields body pieces)) [] (begun_answers (with_pieces request now closing status fields body pieces)) (Ok tt) t q
+  pub counts : old.faults ≤ new.faults
+  pub written : Both old.bytes new.bytes (λ a b. b ++ held ≡ a ++ wire_of (with_pieces request now closing status fields body pieces))
+
+-- An exchange was made, and its bytes are written.
+pub record Exchanged (s : Point) (p : Playing) (request : Asked) (now : Moment) (closing closed : Bool) (old new : Stream) (t : Point) (q : Playing) : Type 0 where
+  pub exchange : Exchange
+  pub request_is : exchange.request ≡ request
+  pub now_is : exchange.now ≡ now
+  pub closing_is : exchange.closing ≡ closing
+  pub closed_is : is_closed exchange ≡ closed
+  pub played : Played s p (steps_of exchange) [] (answers_of exchange) (Ok tt) t q
+  pub counts : old.faults ≤ new.faults
+  pub written : Both old.bytes new.bytes (λ a b. b ≡ a ++ wire_of exchange)
+
+-- A body broke: the bytes end with the last piece before it.
+pub record Broke (s : Point) (p : Playing) (request : Asked) (now : Moment) (closing : Bool) (old new : Stream) (t : Point) (q : Playing) : Type 0 where
+  pub exchange : Exchange
+  pub request_is : exchange.request ≡ request
+  pub now_is : exchange.now ≡ now
+  pub closing_is : exchange.closing ≡ closing
+  pub played : Played s p (steps_of exchange) [] (begun_answers exchange ++ Done ∷ Broken ∷ []) (Ok tt) t q
+  pub counts : old.faults ≤ new.faults
+  pub written : Both old.bytes new.bytes (λ a b. b ≡ a ++ wire_of exchange)

@@ -1,0 +1,4 @@
+pub mod Words
+pub mod Exchange
+pub mod Ends
+pub mod Serving

@@ -1,0 +1,102 @@
+// One request, and all that is answered to it.
+ghost use Rattle.std.specs.Prelude.{◌≡◌, ◌+◌, ◌<◌, ◌≤◌, ◌^◌, IfOk, OnOk, []};
+ghost use Rattle.http.specs.Request.{head_of};
+ghost use Rattle.dav_handler.specs.Player.{playing_of, point_at};
+ghost use Rattle.davserve.specs.Exchange.{AsksClose};
+ghost use Rattle.davserve.specs.Ends.{Exchanges, ended_by};
+
+use crate::turns::{poll_turn, request_turn};
+use dav_core::Disk;
+use dav_handler::{Answer, Player};
+use dav_io::{Field, Moment, NoMemory, Octets, Sink};
+use dav_wire::{Output, answer_head, asks_close, is_old, says_close};
+use http::Request;
+use http::request::Parts;
+use std::alloc::Global;
+
+/// How an exchange ended.
+#[derive(Clone, Copy, Debug, PartialEq, Eq)]
+pub enum Ended {
+    /// All is written, and another request may follow.
+    Open,
+    /// All is written, and nothing more is read.
+    Closed,
+    /// The sink failed.
+    SinkFailed,
+    /// The body broke.
+    Broke,
+}
+
+/// Whether a request asks that the connection closes.
+pub fn closes_after(parts: &Parts) -> bool
+    ensures { AsksClose parts.now result }
+{
+    if is_old(parts.version) {
+        return true;
+    }
+    asks_close(&parts.headers)
+}
+
+/// Answers one request, and writes the answer as it comes. All is given to the sink before this returns.
+pub fn exchange<K: Sink, D: Disk>(
+    alloc: Global,
+    player: &mut Player<D>,
+    output: &mut Output,
+    sink: &mut K,
+    now: Moment,
+    closing: bool,
+    request: Request<Octets>,
+) -> Result<Ended, NoMemory>
+    requires replies { player.old.replies + 4 < 2 ^ 32 }
+    requires empty { output.old ≡ [] }
+    ensures loan { D.loan player.new.store.disk ≡ D.loan player.old.store.disk }
+    ensures replies { OnOk result (player.new.replies ≤ player.old.replies + 1) }
+    ensures held { OnOk result (output.new ≡ []) }
+    ensures ends { IfOk result (λ ended. Exchanges (point_at player.old) (playing_of player.old) request now closing (K.stream sink.old) (K.stream sink.new) ended (point_at player.new) (playing_of player.new)) }
+{
+    let reply = match request_turn(alloc, player, now, request) {
+        Ok(reply) => reply,
+        Err(error) => return Err(error),
+    };
+    let head = match answer_head(alloc, reply.status, reply.headers.as_slice(), closing) {
+        Ok(head) => head,
+        Err(error) => return Err(error),
+    };
+    if output.push(sink, head.as_slice()).is_err() {
+        return Ok(Ended::SinkFailed);
+    }
+    'pieces: loop {
+        let answer = match poll_turn(alloc, player, reply.body) {
+            Ok(answer) => answer,
+            Err(error) => return Err(error),
+        };
+        match answer {
+            Answer::Piece(piece) => match output.push(sink, piece.as_slice()) {
+                Ok(()) => {}
+                Err(_) => return Ok(Ended::SinkFailed),
+            },
+            Answer::End => break,
+            _ => match output.flush(sink) {
+                Ok(()) => return Ok(Ended::Broke),
+                Err(_) => return Ok(Ended::SinkFailed),
+            },
+        }
+    }
+    match output.flush(sink) {
+        Ok(()) => Ok(what_follows(closing, reply.headers.as_slice())),
+        Err(_) => Ok(Ended::SinkFailed),
+    }
+}
+
+// Whether another request may follow an answer.
+fn what_follows(closing: bool, fields: &[Field]) -> Ended
+    ensures { result ≡ ended_by closing fields.now }
+{
+    if closing {
+        return Ended::Closed;
+    }
+    if says_close(fields) {
+        return Ended::Closed;
+    }
+    Ended::Open
+}

@@ -1,0 +1,251 @@
+ghost use Rattle.std.specs.Prelude.{◌<◌};
+
+use crate::run::run;
+use dav_core::{FileTime, FsPath};
+use dav_disk::MemDisk;
+use dav_io::{MemSink, MemSource, Moment, NoMemory, Octets, SetClock, Text};
+use std::alloc::Global;
+use std::test::Fail;
+
+const HEAD: &[u8] =
+    b"HTTP/1.1 200 OK\r\naccept-ranges: bytes\r\ncontent-length: 10\r\ncontent-type: text/plain\r\netag: \"1a-a-f4240\"\r\nlast-modified: Thu, 01 Jan 1970 00:00:01 GMT\r\n\r\n";
+
+const CLOSING: &[u8] =
+    b"HTTP/1.1 200 OK\r\naccept-ranges: bytes\r\nconnection: close\r\ncontent-length: 10\r\ncontent-type: text/plain\r\netag: \"1a-a-f4240\"\r\nlast-modified: Thu, 01 Jan 1970 00:00:01 GMT\r\n\r\n";
+
+const EMPTY: &[u8] =
+    b"HTTP/1.1 200 OK\r\naccept-ranges: bytes\r\ncontent-length: 0\r\ncontent-type: text/plain\r\netag: \"1b-0-f4240\"\r\nlast-modified: Thu, 01 Jan 1970 00:00:01 GMT\r\n\r\n";
+
+const MISSING: &[u8] = b"HTTP/1.1 404 Not Found\r\ncontent-length: 0\r\n\r\n";
+
+const NOT_BUILT: &[u8] =
+    b"HTTP/1.1 501 Not Implemented\r\nconnection: close\r\ncontent-length: 0\r\n\r\n";
+
+const BAD: &[u8] = b"HTTP/1.1 400 Bad Request\r\nconnection: close\r\ncontent-length: 0\r\n\r\n";
+
+const DIGITS: &[u8] = b"0123456789";
+
+const SECOND: FileTime = FileTime { secs: 1, nanos: 0 };
+
+/// What a run came to: its status, and whether exactly the wanted bytes were written.
+#[derive(Clone, Copy, PartialEq, Eq, Debug)]
+enum Came {
+    Wanted(u8),
+    Other(u8),
+}
+
+fn octets(alloc: Global, parts: &[&[u8]]) -> Result<Octets, NoMemory> {
+    let mut all = Octets::empty(alloc);
+    for part in parts {
+        all.extend(part)?;
+    }
+    Ok(all)
+}
+
+fn path_of(alloc: Global, word: &str) -> Result<FsPath, NoMemory> {
+    let mut names = Vec::new(alloc);
+    names.push(Text::copy(alloc, word)?)?;
+    if !FsPath::fits(&names) {
+        return Err(NoMemory);
+    }
+    Ok(FsPath::new(names))
+}
+
+fn set_file(
+    alloc: Global,
+    disk: &mut MemDisk,
+    name: &str,
+    number: u64,
+    bytes: &[u8],
+) -> Result<(), NoMemory> {
+    let path = path_of(alloc, name)?;
+    if disk.can_add(&path, number, SECOND) {
+        return disk.add_file(&path, number, SECOND, bytes);
+    }
+    Err(NoMemory)
+}
+
+// A folder with a file of ten bytes and an empty one.
+fn folder(alloc: Global) -> Result<MemDisk, NoMemory> {
+    let mut disk = MemDisk::new(alloc)?;
+    set_file(alloc, &mut disk, "f.txt", 0x1a, DIGITS)?;
+    set_file(alloc, &mut disk, "e.txt", 0x1b, b"")?;
+    Ok(disk)
+}
+
+// Serves a disk to an input, over streams that move at most so many bytes a call.
+fn serves(
+    alloc: Global,
+    disk: &mut MemDisk,
+    input: &[u8],
+    most: usize,
+    fail: [Vec<u64>; 2],
+    wanted: &[&[u8]],
+) -> Result<Came, NoMemory>
+    requires { 0 < most }
+{
+    let mut words = Vec::new(alloc);
+    words.push(String::from_str(alloc, "folder")?)?;
+    words.push(String::from_str(alloc, "serve")?)?;
+    let [fail_source, fail_sink] = fail;
+    let mut source = MemSource::new(octets(alloc, &[input])?, most, fail_source);
+    let mut sink = MemSink::new(alloc, 100_000, most, fail_sink)?;
+    let mut clock = SetClock::new(Moment(0));
+    let status = run(alloc, &words, &mut source, &mut sink, disk, &mut clock)?;
+    if sink.written() == octets(alloc, wanted)?.as_slice() {
+        return Ok(Came::Wanted(status));
+    }
+    Ok(Came::Other(status))
+}
+
+fn never(alloc: Global) -> [Vec<u64>; 2] {
+    [Vec::new(alloc), Vec::new(alloc)]
+}
+
+// The same over streams of 1 and of all bytes a call.
+fn always(alloc: Global, input: &[u8], wanted: &[&[u8]]) -> Result<[Came; 2], NoMemory> {
+    let one = serves(alloc, &mut folder(alloc)?, input, 1, never(alloc), wanted)?;
+    let all = serves(
+        alloc,
+        &mut folder(alloc)?,
+        input,
+        100_000,
+        never(alloc),
+        wanted,
+    )?;
+    Ok([one, all])
+}
+
+#[test]
+fn requests_are_answered(rt: HostRuntime) -> Result<(), Fail> {
+    let alloc = rt.alloc();
+    let well = [Came::Wanted(0); 2];
+    let get = b"GET /f.txt HTTP/1.1\r\nHost: h\r\n\r\n";
+    assert_eq!(rt; always(alloc, get, &[HEAD, DIGITS])?, well);
+    let browser =
+        b"GET /f.txt HTTP/1.1\r\nHost: h\r\nUser-Agent: Mozilla/5.0 (X11; Linux)\r\nAccept: text/html,*/*;q=0.8\r\nAccept-Language: en\r\nAccept-Encoding: gzip, br\r\nConnection: keep-alive\r\nUpgrade-Insecure-Requests: 1\r\nSec-Fetch-Dest: document\r\nSec-Fetch-Mode: navigate\r\nSec-Fetch-Site: none\r\nDNT: 1\r\n\r\n";
+    assert_eq!(rt; always(alloc, browser, &[HEAD, DIGITS])?, well);
+    // A method that isn't built closes, and the request behind it isn't read.
+    let head = b"HEAD /f.txt HTTP/1.1\r\n\r\nGET /f.txt HTTP/1.1\r\n\r\n";
+    assert_eq!(rt; always(alloc, head, &[NOT_BUILT])?, well);
+    let missing = b"GET /n.txt HTTP/1.1\r\n\r\n";
+    assert_eq!(rt; always(alloc, missing, &[MISSING])?, well);
+    let three =
+        b"GET /n.txt HTTP/1.1\r\n\r\nGET /e.txt HTTP/1.1\r\n\r\nGET /f.txt HTTP/1.1\r\n\r\n";
+    assert_eq!(rt;
+        always(alloc, three, &[MISSING, EMPTY, HEAD, DIGITS])?,
+        well
+    );
+    let closes = b"GET /f.txt HTTP/1.1\r\nConnection: x, Close\r\n\r\nGET /e.txt HTTP/1.1\r\n\r\n";
+    assert_eq!(rt; always(alloc, closes, &[CLOSING, DIGITS])?, well);
+    assert_eq!(rt;
+        always(alloc, b"GET /f.txt HTTP/1.0\n\nGET", &[CLOSING, DIGITS])?,
+        well
+    );
+    assert_eq!(rt; always(alloc, b"", &[])?, well);
+    Ok(())
+}
+
+#[test]
+fn inputs_that_end_or_are_refused(rt: HostRuntime) -> Result<(), Fail> {
+    let alloc = rt.alloc();
+    let six = [Came::Wanted(6); 2];
+    assert_eq!(rt; always(alloc, b"GET /f", &[])?, six);
+    let cut = b"GET /f.txt HTTP/1.1\r\n\r\nGET /e.txt HTTP/1.1\r\n";
+    assert_eq!(rt; always(alloc, cut, &[HEAD, DIGITS])?, six);
+    let bad = b"GET /f.txt HTTP/1.1\r\n\r\nGET /e.txt HTTP/9.1\r\n\r\n";
+    assert_eq!(rt; always(alloc, bad, &[HEAD, DIGITS, BAD])?, six);
+    Ok(())
+}
+
+// The status of a run over a disk whose call of this number fails, and whether the answer ends behind its head.
+fn breaks(alloc: Global, call: u64) -> Result<Came, NoMemory> {
+    let mut disk = folder(alloc)?;
+    disk.fail(call)?;
+    let get = b"GET /f.txt HTTP/1.1\r\n\r\n";
+    serves(alloc, &mut disk, get, 100_000, never(alloc), &[HEAD])
+}
+
+// The status of a run whose source or sink fails in its first call.
+fn fails(alloc: Global, at_sink: bool) -> Result<Came, NoMemory> {
+    let mut fail = never(alloc);
+    let [source, sink] = &mut fail;
+    if at_sink {
+        sink.push(1)?;
+    } else {
+        source.push(1)?;
+    }
+    let get = b"GET /f.txt HTTP/1.1\r\n\r\n";
+    serves(alloc, &mut folder(alloc)?, get, 100_000, fail, &[])
+}
+
+#[test]
+fn the_outside_fails(rt: HostRuntime) -> Result<(), Fail> {
+    let alloc = rt.alloc();
+    assert_eq!(rt; breaks(alloc, 4)?, Came::Wanted(5));
+    assert_eq!(rt; fails(alloc, false)?, Came::Wanted(3));
+    assert_eq!(rt; fails(alloc, true)?, Came::Wanted(4));
+    Ok(())
+}
+
+// A file of three pieces and a byte comes whole, whatever the reads give.
+fn long_file(alloc: Global, short: bool) -> Result<Came, NoMemory> {
+    let bytes = Vec::from_elem(alloc, 7u8, 49_153)?;
+    let mut disk = MemDisk::new(alloc)?;
+    set_file(alloc, &mut disk, "long.bin", 0x1a, &bytes)?;
+    if short {
+        let mut lens = Vec::new(alloc);
+        lens.push(1)?;
+        lens.push(16_383)?;
+        disk.short(lens);
+    }
+    let head: &[u8] =
+        b"HTTP/1.1 200 OK\r\naccept-ranges: bytes\r\ncontent-length: 49153\r\ncontent-type: application/octet-stream\r\netag: \"1a-c001-f4240\"\r\nlast-modified: Thu, 01 Jan 1970 00:00:01 GMT\r\n\r\n";
+    let get = b"GET /long.bin HTTP/1.1\r\n\r\n";
+    serves(
+        alloc,
+        &mut disk,
+        get,
+        100_000,
+        never(alloc),
+        &[head, &bytes],
+    )
+}
+
+#[test]
+fn a_long_file_comes_whole(rt: HostRuntime) -> Result<(), Fail> {
+    let alloc = rt.alloc();
+    assert_eq!(rt; long_file(alloc, false)?, Came::Wanted(0));
+    assert_eq!(rt; long_file(alloc, true)?, Came::Wanted(0));
+    Ok(())
+}
+
+// The status of a run over these words, and whether nothing was written.
+fn status_of(alloc: Global, given: &[&str]) -> Result<(u8, bool), NoMemory> {
+    let mut words = Vec::new(alloc);
+    for word in given {
+        words.push(String::from_str(alloc, word)?)?;
+    }
+    let mut disk = folder(alloc)?;
+    let mut source = MemSource::new(
+        octets(alloc, &[b"GET /f.txt HTTP/1.1\r\n\r\n"])?,
+        9,
+        Vec::new(alloc),
+    );
+    let mut sink = MemSink::new(alloc, 1_000, 9, Vec::new(alloc))?;
+    let mut clock = SetClock::new(Moment(0));
+    let status = run(alloc, &words, &mut source, &mut sink, &mut disk, &mut clock)?;
+    Ok((status, sink.written().is_empty()))
+}
+
+#[test]
+fn words_are_understood_or_not(rt: HostRuntime) -> Result<(), Fail> {
+    let alloc = rt.alloc();
+    assert_eq!(rt; status_of(alloc, &[])?, (2, true));
+    assert_eq!(rt; status_of(alloc, &["folder"])?, (2, true));
+    assert_eq!(rt; status_of(alloc, &["", "serve"])?, (2, true));
+    assert_eq!(rt; status_of(alloc, &["folder", "serves"])?, (2, true));
+    assert_eq!(rt; status_of(alloc, &["folder", "serve", "x"])?, (2, true));
+    assert_eq!(rt; status_of(alloc, &["folder", "serve"])?, (0, false));
+    Ok(())
+}

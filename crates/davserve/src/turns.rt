@@ -1,0 +1,87 @@
+// Steps of the player, a few at a time.
+ghost use Rattle.std.specs.Prelude.{◌≡◌, ◌+◌, ◌<◌, ◌≤◌, ◌^◌, ◌∷◌, [], IfOk, OnOk, Ok};
+ghost use Rattle.dav_handler.specs.Player.{playing_of, point_at};
+ghost use Rattle.dav_model.specs.Play.{Played};
+ghost use Rattle.dav_model.specs.Answered.{IsReply};
+ghost use Rattle.dav_model.specs.declared.step.Step.TheVariants.{Poll, Purge, Request as Asks, Turn};
+ghost use Rattle.dav_model.specs.declared.answer.Answer.TheVariants.{Done, Reply as Replied};
+
+use dav_core::Disk;
+use dav_handler::{Answer, Player, Step, play};
+use dav_io::{Fields, Moment, NoMemory, Octets};
+use http::Request;
+use std::alloc::Global;
+
+/// A reply: its status, its fields and the number of its body.
+#[derive(Drop)]
+pub struct Reply {
+    pub status: u16,
+    pub headers: Fields,
+    pub body: u32,
+}
+
+/// A turn of the outside and a poll.
+pub fn poll_turn<D: Disk>(
+    alloc: Global,
+    player: &mut Player<D>,
+    body: u32,
+) -> Result<Answer, NoMemory>
+    requires { player.old.replies + 2 < 2 ^ 32 }
+    ensures loan { D.loan player.new.store.disk ≡ D.loan player.old.store.disk }
+    ensures replies { OnOk result (player.new.replies ≤ player.old.replies) }
+    ensures played { IfOk result (λ a. Played (point_at player.old) (playing_of player.old) (Turn ∷ Poll body ∷ []) [] (Done ∷ a ∷ []) (Ok tt) (point_at player.new) (playing_of player.new)) }
+{
+    let mut answers = Vec::new(alloc);
+    let steps = [Step::Turn, Step::Poll(body)];
+    match play(player, &steps, &mut answers) {
+        Ok(()) => {}
+        Err(error) => return Err(error),
+    }
+    match answers.pop() {
+        Some(answer) => Ok(answer),
+        None => unreachable!(),
+    }
+}
+
+/// A turn of the outside, a purge and a request.
+pub fn request_turn<D: Disk>(
+    alloc: Global,
+    player: &mut Player<D>,
+    now: Moment,
+    request: Request<Octets>,
+) -> Result<Reply, NoMemory>
+    requires { player.old.replies + 3 < 2 ^ 32 }
+    ensures loan { D.loan player.new.store.disk ≡ D.loan player.old.store.disk }
+    ensures replies { OnOk result (player.new.replies ≤ player.old.replies + 1) }
+    ensures played { IfOk result (λ r. Played (point_at player.old) (playing_of player.old) (Turn ∷ Purge now ∷ Asks request now ∷ []) [] (Done ∷ Done ∷ Replied r.status r.headers r.body ∷ []) (Ok tt) (point_at player.new) (playing_of player.new)) }
+{
+    let mut answers = Vec::new(alloc);
+    let steps = [Step::Turn, Step::Purge(now), Step::Request { request, now }];
+    match play(player, &steps, &mut answers) {
+        Ok(()) => {}
+        Err(error) => return Err(error),
+    }
+    match answers.pop() {
+        Some(answer) => Ok(into_reply(answer)),
+        None => unreachable!(),
+    }
+}
+
+// The reply that an answer is.
+fn into_reply(answer: Answer) -> Reply
+    requires { IsReply answer }
+    ensures { answer ≡ Replied result.status result.headers result.body }
+{
+    match answer {
+        Answer::Reply {
+            status,
+            headers,
+            body,
+        } => Reply {
+            status,
+            headers,
+            body,
+        },
+        _ => unreachable!(),
+    }
+}
