@@ -79,7 +79,8 @@ fn serves(
     disk: &mut MemDisk,
     input: &[u8],
     most: usize,
-    fail: [Vec<u64>; 2],
+    fail_source: Vec<u64>,
+    fail_sink: Vec<u64>,
     wanted: &[&[u8]],
 ) -> Result<Came, NoMemory>
     requires { 0 < most }
@@ -87,7 +88,6 @@ fn serves(
     let mut words = Vec::new(alloc);
     words.push(String::from_str(alloc, "folder")?)?;
     words.push(String::from_str(alloc, "serve")?)?;
-    let [fail_source, fail_sink] = fail;
     let mut source = MemSource::new(octets(alloc, &[input])?, most, fail_source);
     let mut sink = MemSink::new(alloc, 100_000, most, fail_sink)?;
     let mut clock = SetClock::new(Moment(0));
@@ -98,51 +98,57 @@ fn serves(
     Ok(Came::Other(status))
 }
 
-fn never(alloc: Global) -> [Vec<u64>; 2] {
-    [Vec::new(alloc), Vec::new(alloc)]
+// The same over streams that move so many bytes a call and never fail.
+fn well(
+    alloc: Global,
+    disk: &mut MemDisk,
+    input: &[u8],
+    most: usize,
+    wanted: &[&[u8]],
+) -> Result<Came, NoMemory>
+    requires { 0 < most }
+{
+    let source = Vec::new(alloc);
+    let sink = Vec::new(alloc);
+    serves(alloc, disk, input, most, source, sink, wanted)
 }
 
 // The same over streams of 1 and of all bytes a call.
 fn always(alloc: Global, input: &[u8], wanted: &[&[u8]]) -> Result<[Came; 2], NoMemory> {
-    let one = serves(alloc, &mut folder(alloc)?, input, 1, never(alloc), wanted)?;
-    let all = serves(
-        alloc,
-        &mut folder(alloc)?,
-        input,
-        100_000,
-        never(alloc),
-        wanted,
-    )?;
+    let mut first = folder(alloc)?;
+    let one = well(alloc, &mut first, input, 1, wanted)?;
+    let mut second = folder(alloc)?;
+    let all = well(alloc, &mut second, input, 100_000, wanted)?;
     Ok([one, all])
 }
 
 #[test]
 fn requests_are_answered(rt: HostRuntime) -> Result<(), Fail> {
     let alloc = rt.alloc();
-    let well = [Came::Wanted(0); 2];
+    let done = [Came::Wanted(0); 2];
     let get = b"GET /f.txt HTTP/1.1\r\nHost: h\r\n\r\n";
-    assert_eq!(rt; always(alloc, get, &[HEAD, DIGITS])?, well);
+    assert_eq!(rt; always(alloc, get, &[HEAD, DIGITS])?, done);
     let browser =
         b"GET /f.txt HTTP/1.1\r\nHost: h\r\nUser-Agent: Mozilla/5.0 (X11; Linux)\r\nAccept: text/html,*/*;q=0.8\r\nAccept-Language: en\r\nAccept-Encoding: gzip, br\r\nConnection: keep-alive\r\nUpgrade-Insecure-Requests: 1\r\nSec-Fetch-Dest: document\r\nSec-Fetch-Mode: navigate\r\nSec-Fetch-Site: none\r\nDNT: 1\r\n\r\n";
-    assert_eq!(rt; always(alloc, browser, &[HEAD, DIGITS])?, well);
+    assert_eq!(rt; always(alloc, browser, &[HEAD, DIGITS])?, done);
     // A method that isn't built closes, and the request behind it isn't read.
     let head = b"HEAD /f.txt HTTP/1.1\r\n\r\nGET /f.txt HTTP/1.1\r\n\r\n";
-    assert_eq!(rt; always(alloc, head, &[NOT_BUILT])?, well);
+    assert_eq!(rt; always(alloc, head, &[NOT_BUILT])?, done);
     let missing = b"GET /n.txt HTTP/1.1\r\n\r\n";
-    assert_eq!(rt; always(alloc, missing, &[MISSING])?, well);
+    assert_eq!(rt; always(alloc, missing, &[MISSING])?, done);
     let three =
         b"GET /n.txt HTTP/1.1\r\n\r\nGET /e.txt HTTP/1.1\r\n\r\nGET /f.txt HTTP/1.1\r\n\r\n";
     assert_eq!(rt;
         always(alloc, three, &[MISSING, EMPTY, HEAD, DIGITS])?,
-        well
+        done
     );
     let closes = b"GET /f.txt HTTP/1.1\r\nConnection: x, Close\r\n\r\nGET /e.txt HTTP/1.1\r\n\r\n";
-    assert_eq!(rt; always(alloc, closes, &[CLOSING, DIGITS])?, well);
+    assert_eq!(rt; always(alloc, closes, &[CLOSING, DIGITS])?, done);
     assert_eq!(rt;
         always(alloc, b"GET /f.txt HTTP/1.0\n\nGET", &[CLOSING, DIGITS])?,
-        well
+        done
     );
-    assert_eq!(rt; always(alloc, b"", &[])?, well);
+    assert_eq!(rt; always(alloc, b"", &[])?, done);
     Ok(())
 }
 
@@ -163,20 +169,20 @@ fn breaks(alloc: Global, call: u64) -> Result<Came, NoMemory> {
     let mut disk = folder(alloc)?;
     disk.fail(call)?;
     let get = b"GET /f.txt HTTP/1.1\r\n\r\n";
-    serves(alloc, &mut disk, get, 100_000, never(alloc), &[HEAD])
+    well(alloc, &mut disk, get, 100_000, &[HEAD])
 }
 
 // The status of a run whose source or sink fails in its first call.
 fn fails(alloc: Global, at_sink: bool) -> Result<Came, NoMemory> {
-    let mut fail = never(alloc);
-    let [source, sink] = &mut fail;
-    if at_sink {
-        sink.push(1)?;
-    } else {
-        source.push(1)?;
-    }
+    let mut disk = folder(alloc)?;
+    let mut first = Vec::new(alloc);
+    first.push(1)?;
+    let never = Vec::new(alloc);
     let get = b"GET /f.txt HTTP/1.1\r\n\r\n";
-    serves(alloc, &mut folder(alloc)?, get, 100_000, fail, &[])
+    if at_sink {
+        return serves(alloc, &mut disk, get, 100_000, never, first, &[]);
+    }
+    serves(alloc, &mut disk, get, 100_000, first, never, &[])
 }
 
 #[test]
@@ -202,14 +208,7 @@ fn long_file(alloc: Global, short: bool) -> Result<Came, NoMemory> {
     let head: &[u8] =
         b"HTTP/1.1 200 OK\r\naccept-ranges: bytes\r\ncontent-length: 49153\r\ncontent-type: application/octet-stream\r\netag: \"1a-c001-f4240\"\r\nlast-modified: Thu, 01 Jan 1970 00:00:01 GMT\r\n\r\n";
     let get = b"GET /long.bin HTTP/1.1\r\n\r\n";
-    serves(
-        alloc,
-        &mut disk,
-        get,
-        100_000,
-        never(alloc),
-        &[head, &bytes],
-    )
+    well(alloc, &mut disk, get, 100_000, &[head, &bytes])
 }
 
 #[test]
