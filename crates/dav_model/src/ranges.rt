@@ -1,0 +1,31 @@
+use std::marker::Model;
+
+/// Bytes of a file: `count` of them from the place `start` on.
+#[derive(Clone, Copy, Debug, PartialEq, Eq)]
+pub struct Slice {
+    pub start: u64,
+    pub count: u64,
+}
+
+/// Slices, in order.
+#[derive(Drop)]
+pub struct Slices {
+    slices: Vec<Slice>,
+}
+
+impl Model for Slices {
+    ghost use Rattle.std.specs.Prelude.{List};
+    ghost use Rattle.dav_model.specs.declared.ranges.Slice.{Slice};
+
+    ghost Value = { List Slice };
+
+    ghost view = { λ s. s.slices.items };
+}
+
+/// What of a file is asked for.
+#[derive(Drop)]
+pub enum Ranges {
+    Whole,
+    Unsatisfiable,
+    Parts(Slices),
+}
