@@ -192,13 +192,12 @@ abbrev pub IsSent : DavMethod → WebPath → Stood → Sent → Reply → Type 
 IsSent method path stood sent reply = (date : Option (List ℕ)) × IsDate stood.modified date
     × (reply ≡ sent_reply (is_get method) (type_of_last (last_name path.names)) stood date sent)
 
+abbrev pub redirected_fields : List ℕ → Option (List ℕ) → Option (List ℕ) → List Field
+redirected_fields address tag date = field (codes "content-length") (codes "0") ∷ (field_where (codes "etag") (quoted_where tag) ++ (field_where (codes "last-modified") date ++ field (codes "location") address ∷ []))
+
 -- the client is sent to another address
 abbrev pub redirected : List ℕ → Option (List ℕ) → Option (List ℕ) → Reply
-redirected address tag date = record {
-  status = 302;
-  fields = field (codes "content-length") (codes "0") ∷ (field_where (codes "etag") (quoted_where tag) ++ (field_where (codes "last-modified") date ++ field (codes "location") address ∷ []));
-  parts = [];
-}
+redirected address tag date = record { status = 302; fields = redirected_fields address tag date; parts = [] }
 
 abbrev pub is_set : Option Bool → Bool
 is_set None = false

@@ -1,0 +1,4 @@
+//! GET and HEAD of files, over any store.
+#![tactic(auto)]
+
+mod headers;
