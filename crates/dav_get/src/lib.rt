@@ -2,3 +2,7 @@
 #![tactic(auto)]
 
 mod headers;
+mod part;
+mod parts;
+
+pub use part::BodyPart;

@@ -1,6 +1,7 @@
 -- The head: status, header fields and parts of the answer to a GET or HEAD, by the world and the request alone.
 use Rattle.std.specs.Prelude.{◌≡◌, ◌==◌, ◌&&◌, ◌⊎◌, ◌+◌, ◌-◌, ℕ, List, [], ◌∷◌, ◌++◌, Bool, true, false, cond, not, length, codes, decimal, Option, None, Some, Result, Ok, Err}
 use Rattle.std.specs.Option.{option_map}
+use Rattle.std.specs.List.{flat_map}
 use Rattle.http_header.specs.HeaderMap.{Entries, get}
 use Rattle.http_header.specs.FieldValue.{FieldValue}
 use Rattle.dav_io.specs.declared.fields.Field.{Field}
@@ -148,9 +149,12 @@ part_head type len part = codes "\n--BOUNDARY\nContent-Range: bytes " ++ (span_t
 abbrev pub last_boundary : List ℕ
 last_boundary = codes "\n--BOUNDARY--\n"
 
+-- each slice behind its text, and the last boundary
+abbrev pub two_parts : List ℕ → ℕ → ℕ → Slice → List Part
+two_parts type number len part = text (part_head type len part) ∷ slice number part.start part.count ∷ []
+
 abbrev pub several_parts : List ℕ → ℕ → ℕ → List Slice → List Part
-several_parts type number len [] = text last_boundary ∷ []
-several_parts type number len (part ∷ parts) = text (part_head type len part) ∷ slice number part.start part.count ∷ several_parts type number len parts
+several_parts type number len parts = flat_map (two_parts type number len) parts ++ text last_boundary ∷ []
 
 -- bytes of a file, if there are some
 abbrev pub slice_where : ℕ → ℕ → ℕ → List Part

@@ -1,3 +1,5 @@
+ghost use Rattle.std.specs.Prelude.{◌≡◌};
+
 use std::marker::Model;
 
 /// Bytes of a file: `count` of them from the place `start` on.
@@ -20,6 +22,20 @@ impl Model for Slices {
     ghost Value = { List Slice };
 
     ghost view = { λ s. s.slices.items };
+}
+
+impl Slices {
+    pub fn new(slices: Vec<Slice>) -> Self
+        ensures { result ≡ slices.items }
+    {
+        Slices { slices }
+    }
+
+    pub fn as_slice(&self) -> &[Slice]
+        ensures { result.now ≡ self.now }
+    {
+        self.slices.as_slice()
+    }
 }
 
 /// What of a file is asked for.
