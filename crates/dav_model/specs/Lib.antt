@@ -6,3 +6,4 @@ pub mod Trail
 pub mod Play
 pub mod Joining
 pub mod Answered
+pub mod Slices

@@ -5,9 +5,11 @@
 
 mod answer;
 pub mod laws;
+mod ranges;
 mod step;
 mod target;
 
 pub use answer::Answer;
+pub use ranges::{Ranges, Slice, Slices};
 pub use step::Step;
 pub use target::Target;
