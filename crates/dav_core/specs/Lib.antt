@@ -14,3 +14,4 @@ pub mod ContentTypes
 pub mod Grammar
 pub mod Methods
 pub mod Statuses
+pub mod Blanks

@@ -3,7 +3,8 @@ ghost use Rattle.std.specs.Prelude.{◌≡◌, [], ◌++◌, ℕ, IfOk, OnOk};
 ghost use Rattle.std.specs.List.{AllByRecursion};
 ghost use Rattle.dav_model.specs.Head.{last_boundary, part_head as the_part_head, sent_parts as the_sent_parts, several_parts, slice_where, two_parts};
 ghost use Rattle.dav_get.specs.Parts.{parts_of};
-ghost use Rattle.dav_get.specs.Within.{IsSentOf, IsWithin};
+ghost use Rattle.dav_model.specs.Slices.{IsWithin};
+ghost use Rattle.dav_get.specs.Within.{IsSentOf};
 
 use crate::headers::span;
 use crate::part::BodyPart;

@@ -33,7 +33,7 @@ use Rattle.dav_model.specs.declared.target.Target.TheVariants.{At, Refused}
 use Rattle.dav_model.specs.Bodies.{Part, text, slice}
 use Rattle.dav_model.specs.Conditions.{condition_of, ranges_apply}
 use Rattle.dav_model.specs.Requests.{Asked, fields_of, gates}
-use Rattle.dav_model.specs.Slices.{slices_of}
+use Rattle.dav_model.specs.Slices.{ranges}
 use Rattle.dav_model.specs.Times.{IsDate}
 
 -- the fields of a request
@@ -102,7 +102,7 @@ first_value fields name = option_map (λ v. v.bytes) (get fields name)
 abbrev pub sent_by : Option ℕ → Bool → Option (List ℕ) → ℕ → Sent
 sent_by (Some status) on range len = Alone status
 sent_by None false range len = All
-sent_by None true range len = sent_ranges (slices_of range len)
+sent_by None true range len = sent_ranges (ranges range len)
 
 abbrev pub sent_of : DavMethod → Fields → Stood → Sent
 sent_of method fields stood = sent_by (condition_of method fields true stood.tag stood.modified) (ranges_apply fields stood.tag stood.modified)
