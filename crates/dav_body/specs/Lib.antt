@@ -1,0 +1,5 @@
+pub mod Steps
+pub mod Streams
+pub mod Bodies
+pub mod Frames
+pub mod Collecting
