@@ -3,6 +3,8 @@
 
 mod body;
 mod buffer;
+mod deciding;
+mod get;
 mod headers;
 mod open_at;
 mod part;

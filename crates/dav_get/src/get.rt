@@ -1,0 +1,117 @@
+//! GET and HEAD over a store. There is one function for each line of the table from which a file is in hand, so that a file
+//! that was opened is always closed or given to a body.
+ghost use Rattle.std.specs.Prelude.{◌≡◌, ◌<◌, ◌⊎◌, ℕ, true, IsSome, None, Some, Ok, Err};
+ghost use Rattle.dav_core.specs.Disk.{can_read};
+ghost use Rattle.dav_core.specs.Info.{Info};
+ghost use Rattle.dav_core.specs.Tree.{is_file};
+ghost use Rattle.dav_model.specs.Head.{is_well_known as the_is_well_known, sent_of};
+ghost use Rattle.dav_model.specs.Sizes.{read_size_of};
+ghost use Rattle.dav_store.specs.Standing.{Seen};
+ghost use Rattle.dav_store.specs.View.{the_view, Closes};
+ghost use Rattle.dav_get.specs.Lives.{HeldOrClosed, HasMost, OpenOnlyHeld};
+ghost use Rattle.dav_get.specs.Prepared.{AreReady};
+ghost use Rattle.dav_get.specs.Table.{AfterMeta, AfterSeek, ByPlace, ByRedirect, GetsFile, Gets, GivesBody, Holds, IsEmpty, Sends, SendsFile, stood_by, first_place as the_first_place};
+ghost use Rattle.dav_get.specs.Within.{IsSentOf};
+
+use crate::body::GetBody;
+use crate::buffer::ReadBuffer;
+use crate::deciding::{decide, first_place};
+use crate::open_at::OpenAt;
+use crate::prepared::{Prepared, prepare};
+use dav_core::{DavError, DavMetaData, DavMethod, DavPath};
+use dav_model::{Outcome, Sent, Settings};
+use dav_store::{GuardedFileSystem, file_close, file_metadata, file_seek};
+use http::HeaderMap;
+use std::alloc::Global;
+
+/// What a GET or HEAD is answered with.
+type Given<F> = Result<(Outcome, GetBody<F>), DavError>;
+
+// Closes the file, and answers this error.
+fn give_up<S: GuardedFileSystem<C>, C>(fs: &mut S, file: S::File, error: DavError) -> Given<S::File>
+    requires { IsSome ((S.Disk.state (S.inside fs.old)).live (S.File.handle file)) }
+    ensures closed { Closes (the_view S.GuardedFileSystem S.Disk.Disk S.File.DavFile) fs.old file fs.new }
+    ensures error { result ≡ Err error }
+    ensures life { HeldOrClosed (the_view S.GuardedFileSystem S.Disk.Disk S.File.DavFile) (S.File.handle file) fs.old result fs.new }
+    ensures loan { S.Disk.loan (S.inside fs.new) ≡ S.Disk.loan (S.inside fs.old) }
+{
+    file_close(fs, file);
+    Err(error)
+}
+
+// Closes the file, and answers without a body.
+fn answer_alone<S: GuardedFileSystem<C>, C>(
+    alloc: Global,
+    fs: &mut S,
+    file: S::File,
+    outcome: Outcome,
+) -> Given<S::File>
+    requires { IsSome ((S.Disk.state (S.inside fs.old)).live (S.File.handle file)) }
+    ensures closed { Closes (the_view S.GuardedFileSystem S.Disk.Disk S.File.DavFile) fs.old file fs.new }
+    ensures given { GivesBody (λ o body. (o ≡ outcome) × IsEmpty body) result }
+    ensures life { HeldOrClosed (the_view S.GuardedFileSystem S.Disk.Disk S.File.DavFile) (S.File.handle file) fs.old result fs.new }
+    ensures loan { S.Disk.loan (S.inside fs.new) ≡ S.Disk.loan (S.inside fs.old) }
+{
+    file_close(fs, file);
+    Ok((
+        outcome,
+        GetBody::new(Vec::new(alloc), None, ReadBuffer::none(alloc)),
+    ))
+}
+
+// Gives the parts that were made ready over the file; where there are none, the file is closed.
+fn hold<S: GuardedFileSystem<C>, C>(
+    fs: &mut S,
+    file: S::File,
+    place: u64,
+    prepared: Prepared,
+    size: usize,
+) -> (Outcome, GetBody<S::File>)
+    requires live { can_read ((S.Disk.state (S.inside fs.old)).live (S.File.handle file)) ≡ true }
+    requires place { (f : Seen) → S.File.seen file (S.Disk.state (S.inside fs.old)) ≡ Some f → f.place ≡ place }
+    requires some { 0 < size }
+    requires ready { AreReady size prepared.parts.items prepared.buffer }
+    ensures outcome { result.0 ≡ prepared.outcome }
+    ensures holds { Holds (the_view S.GuardedFileSystem S.Disk.Disk S.File.DavFile) prepared.parts.items file place fs.old result.1 fs.new }
+    ensures life { HeldOrClosed (the_view S.GuardedFileSystem S.Disk.Disk S.File.DavFile) (S.File.handle file) fs.old (Ok result) fs.new }
+    ensures most { HasMost size (Ok result) }
+    ensures loan { S.Disk.loan (S.inside fs.new) ≡ S.Disk.loan (S.inside fs.old) }
+{
+    let Prepared {
+        outcome,
+        parts,
+        buffer,
+    } = prepared;
+    if parts.is_empty() {
+        file_close(fs, file);
+        return (outcome, GetBody::new(parts, None, buffer));
+    }
+    let open = OpenAt { file, place };
+    (outcome, GetBody::new(parts, Some(open), buffer))
+}
+
+// Sends this of the file, which stands at this place.
+fn send<S: GuardedFileSystem<C>, C>(
+    alloc: Global,
+    settings: &Settings,
+    fs: &mut S,
+    file: S::File,
+    place: u64,
+    method: DavMethod,
+    path: &DavPath,
+    meta: &S::Meta,
+    sent: &Sent,
+) -> Given<S::File>
+    requires live { can_read ((S.Disk.state (S.inside fs.old)).live (S.File.handle file)) ≡ true }
+    requires place { (f : Seen) → S.File.seen file (S.Disk.state (S.inside fs.old)) ≡ Some f → f.place ≡ place }
+    requires within { IsSentOf (S.Meta.info meta.now).len sent.now }
+    ensures table { GivesBody (λ outcome body. Sends (the_view S.GuardedFileSystem S.Disk.Disk S.File.DavFile) method path.now (S.Meta.info meta.now) sent.now file place fs.old outcome body fs.new) result ⊎ (result ≡ Err DavError.NoMemory) }
+    ensures life { HeldOrClosed (the_view S.GuardedFileSystem S.Disk.Disk S.File.DavFile) (S.File.handle file) fs.old result fs.new }
+    ensures most { HasMost (read_size_of settings.now.read_buf_size) result }
+    ensures loan { S.Disk.loan (S.inside fs.new) ≡ S.Disk.loan (S.inside fs.old) }
+{
+    match prepare(alloc, settings, method, path, meta, sent) {
+        Ok(prepared) => Ok(hold(fs, file, place, prepared, settings.read_size())),
+        Err(_) => give_up(fs, file, DavError::NoMemory),
+    }
+}
