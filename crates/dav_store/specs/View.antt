@@ -24,7 +24,7 @@ pub record View (S C F : Type 0) : Type 1 where
   pub handle : F → ℕ
   pub seen : F → DiskState → Option Seen
 
-abbrev pub the_view : {S C D M F : Type 0} → StoreGhosts S C D M F → DiskGhosts D → FileGhosts F D M → View S C F
+abbrev pub the_view : {S C D M F L E : Type 0} → StoreGhosts S C D M F L E → DiskGhosts D → FileGhosts F D M → View S C F
 the_view store disk file = record {
   state = λ s. disk.state (store.inside s);
   loan = λ s. disk.loan (store.inside s);
