@@ -54,7 +54,18 @@ pub trait DavFile<D: Disk> {
         requires some { 0 < count }
         ensures done { FileGives (D.state disk.old) (handle self.old) (seen self.old (D.state disk.old)) count result (D.state disk.new) (seen self.new (D.state disk.new)) }
         ensures handle { handle self.new ≡ handle self.old }
-        ensures loan { D.loan disk.new ≡ D.loan disk.old };
+        ensures loan { D.loan disk.new ≡ D.loan disk.old }
+    {
+        let Ok(mut buffer) = vec![in alloc; 0u8; count] else {
+            return Err(FsError::NoMemory);
+        };
+        let length = self.read_into(disk, buffer.as_mut_slice())?;
+        buffer.truncate(length);
+        match Bytes::from_vec(buffer) {
+            Ok(bytes) => Ok(bytes),
+            Err(_) => Err(FsError::NoMemory),
+        }
+    }
 
     /// Writes all these bytes at its place, or at its end where it was opened to append. A refused write may have
     /// written a front of them.
