@@ -52,7 +52,7 @@ the_view store disk file = record {
 
 -- A store's listings likewise.
 pub record Listings (S C L E : Type 0) : Type 1 where
-  pub lister : L → ℕ
+  pub lister : L → Option ℕ
   pub to_come : L → Option ℕ → ℕ
   pub admits : S → L → Type 0
   pub lists : S → C → WebPath → ReadDirMeta → Result L FsError → S → Type 0

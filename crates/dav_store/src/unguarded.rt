@@ -1,4 +1,4 @@
-ghost use Rattle.std.specs.Prelude.{◌≡◌, ℕ, Bool, Option, IsSome, Result};
+ghost use Rattle.std.specs.Prelude.{◌≡◌, ℕ, Bool, Option, Result};
 ghost use Rattle.std.specs.Borrow.{sem, Lends};
 ghost use Rattle.dav_io.specs.declared.clock.Moment.{Moment};
 ghost use Rattle.dav_core.specs.declared.error.FsError.{FsError};
@@ -8,7 +8,7 @@ ghost use Rattle.dav_core.specs.Info.{Info};
 ghost use Rattle.dav_core.specs.Keeps.{Keeps};
 ghost use Rattle.dav_store.specs.Standing.{info_in};
 ghost use Rattle.dav_store.specs.Frames.{KeepsOpen, OpensOne};
-ghost use Rattle.dav_store.specs.Listings.{EndsList, GoesOn, ListsOne, Nearer};
+ghost use Rattle.dav_store.specs.Listings.{EndsList, GoesOn, HasLister, ListsOne, Nearer, left_of};
 ghost use Rattle.dav_store.specs.declared.entry.ReadDirMeta.{ReadDirMeta};
 
 use crate::{DavDirEntry, DavFile, GuardedFileSystem, ReadDirMeta};
@@ -43,7 +43,7 @@ pub trait DavFileSystem {
 
     ghost opens: { Self → WebPath → OpenOptions → Result Self.File FsError → Self → Type 0 };
 
-    ghost lister: { Self.Dir → ℕ };
+    ghost lister: { Self.Dir → Option ℕ };
 
     ghost to_come: { Self.Dir → Option ℕ → ℕ };
 
@@ -109,17 +109,17 @@ pub trait DavFileSystem {
 
     /// The next entry, or None after the last. Each answer but None and want of memory leaves fewer answers to come.
     fn next_entry(&mut self, dir: &mut Self::Dir) -> Result<Option<Self::Entry>, FsError>
-        requires live { IsSome ((Self.Disk.state (inside self.old)).listers (lister dir.old)) }
+        requires live { HasLister (Self.Disk.state (inside self.old)) (lister dir.old) }
         requires admits { admits self.old dir.old }
         ensures done { lists_on self.old dir.old result self.new dir.new }
-        ensures nearer { Nearer (to_come dir.old ((Self.Disk.state (inside self.old)).listers (lister dir.old))) result (to_come dir.new ((Self.Disk.state (inside self.new)).listers (lister dir.new))) }
+        ensures nearer { Nearer (to_come dir.old (left_of (Self.Disk.state (inside self.old)) (lister dir.old))) result (to_come dir.new (left_of (Self.Disk.state (inside self.new)) (lister dir.new))) }
         ensures goes_on { GoesOn (Self.Disk.state (inside self.old)) (lister dir.old) (Self.Disk.state (inside self.new)) }
         ensures lister { lister dir.new ≡ lister dir.old }
         ensures loan { Self.Disk.loan (inside self.new) ≡ Self.Disk.loan (inside self.old) };
 
     /// Ends a listing.
     fn end_dir(&mut self, dir: Self::Dir)
-        requires { IsSome ((Self.Disk.state (inside self.old)).listers (lister dir)) }
+        requires { HasLister (Self.Disk.state (inside self.old)) (lister dir) }
         ensures done { ends_list self.old dir self.new }
         ensures ends { EndsList (Self.Disk.state (inside self.old)) (lister dir) (Self.Disk.state (inside self.new)) }
         ensures loan { Self.Disk.loan (inside self.new) ≡ Self.Disk.loan (inside self.old) };
