@@ -1,6 +1,7 @@
 //! Paths, trees, times and the disk on which the server stands, call by call.
 #![tactic(auto)]
 
+mod blanks;
 mod change;
 mod content_types;
 mod dav_error;
@@ -23,6 +24,7 @@ mod time;
 mod tree;
 mod url;
 
+pub use blanks::trimmed;
 pub use change::{Batch, Change};
 pub use content_types::content_type;
 pub use dav_error::DavError;

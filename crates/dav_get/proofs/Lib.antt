@@ -1,2 +1,4 @@
 pub mod Dates
 pub mod Several
+pub mod Bounds
+pub mod Going

@@ -4,6 +4,7 @@ ghost use Rattle.std.specs.Prelude.{◌≡◌, ◌<◌, ◌⊎◌, ℕ, true, Is
 ghost use Rattle.dav_core.specs.Disk.{can_read};
 ghost use Rattle.dav_core.specs.Info.{Info};
 ghost use Rattle.dav_core.specs.Tree.{is_file};
+ghost use Rattle.dav_model.specs.declared.sent.Sent.TheVariants.{Unsatisfied};
 ghost use Rattle.dav_model.specs.Head.{is_well_known as the_is_well_known, sent_of};
 ghost use Rattle.dav_model.specs.Sizes.{read_size_of};
 ghost use Rattle.dav_store.specs.Standing.{Seen};
@@ -17,7 +18,7 @@ use crate::body::GetBody;
 use crate::buffer::ReadBuffer;
 use crate::deciding::{decide, first_place};
 use crate::open_at::OpenAt;
-use crate::prepared::{Prepared, prepare};
+use crate::prepared::{Prepared, prepare, prepare_unsatisfied};
 use dav_core::{DavError, DavMetaData, DavMethod, DavPath};
 use dav_model::{Outcome, Sent, Settings};
 use dav_store::{GuardedFileSystem, file_close, file_metadata, file_seek};
@@ -112,6 +113,58 @@ fn send<S: GuardedFileSystem<C>, C>(
 {
     match prepare(alloc, settings, method, path, meta, sent) {
         Ok(prepared) => Ok(hold(fs, file, place, prepared, settings.read_size())),
+        Err(_) => give_up(fs, file, DavError::NoMemory),
+    }
+}
+
+// Sends this of the file, which is moved to the first part before. Where it can't be moved there, no range could be met.
+fn send_from<S: GuardedFileSystem<C>, C>(
+    alloc: Global,
+    settings: &Settings,
+    fs: &mut S,
+    file: S::File,
+    method: DavMethod,
+    path: &DavPath,
+    meta: &S::Meta,
+    sent: &Sent,
+) -> Given<S::File>
+    requires live { can_read ((S.Disk.state (S.inside fs.old)).live (S.File.handle file)) ≡ true }
+    requires place { (f : Seen) → S.File.seen file (S.Disk.state (S.inside fs.old)) ≡ Some f → f.place ≡ 0 }
+    requires within { IsSentOf (S.Meta.info meta.now).len sent.now }
+    ensures table { GivesBody (λ outcome body. ByPlace (the_view S.GuardedFileSystem S.Disk.Disk S.File.DavFile) (the_first_place sent.now) method path.now (S.Meta.info meta.now) sent.now file fs.old outcome body fs.new) result ⊎ (result ≡ Err DavError.NoMemory) }
+    ensures life { HeldOrClosed (the_view S.GuardedFileSystem S.Disk.Disk S.File.DavFile) (S.File.handle file) fs.old result fs.new }
+    ensures most { HasMost (read_size_of settings.now.read_buf_size) result }
+    ensures loan { S.Disk.loan (S.inside fs.new) ≡ S.Disk.loan (S.inside fs.old) }
+{
+    let Some(start) = first_place(sent) else {
+        return send(alloc, settings, fs, file, 0, method, path, meta, sent);
+    };
+    let mut file = file;
+    match file_seek(fs, &mut file, start) {
+        Ok(_) => send(alloc, settings, fs, file, start, method, path, meta, sent),
+        Err(_) => send_unplaced(alloc, settings, fs, file, start, method, path, meta),
+    }
+}
+
+// No range could be met, as the file couldn't be moved to the first.
+fn send_unplaced<S: GuardedFileSystem<C>, C>(
+    alloc: Global,
+    settings: &Settings,
+    fs: &mut S,
+    file: S::File,
+    start: u64,
+    method: DavMethod,
+    path: &DavPath,
+    meta: &S::Meta,
+) -> Given<S::File>
+    requires { IsSome ((S.Disk.state (S.inside fs.old)).live (S.File.handle file)) }
+    ensures table { GivesBody (λ outcome body. Sends (the_view S.GuardedFileSystem S.Disk.Disk S.File.DavFile) method path.now (S.Meta.info meta.now) Unsatisfied file start fs.old outcome body fs.new) result ⊎ (result ≡ Err DavError.NoMemory) }
+    ensures life { HeldOrClosed (the_view S.GuardedFileSystem S.Disk.Disk S.File.DavFile) (S.File.handle file) fs.old result fs.new }
+    ensures most { HasMost (read_size_of settings.now.read_buf_size) result }
+    ensures loan { S.Disk.loan (S.inside fs.new) ≡ S.Disk.loan (S.inside fs.old) }
+{
+    match prepare_unsatisfied(alloc, method, path, meta) {
+        Ok(outcome) => answer_alone(alloc, fs, file, outcome),
         Err(_) => give_up(fs, file, DavError::NoMemory),
     }
 }

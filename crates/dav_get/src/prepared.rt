@@ -5,7 +5,9 @@ ghost use Rattle.dav_model.specs.Head.{is_get as the_is_get, sent_status};
 ghost use Rattle.dav_model.specs.Sizes.{read_size_of};
 ghost use Rattle.dav_get.specs.Bodies.{is_part};
 ghost use Rattle.dav_get.specs.Prepared.{AreReady, IsPrepared};
+ghost use Rattle.dav_get.specs.Table.{IsOutcome};
 ghost use Rattle.dav_get.specs.Within.{IsSentOf};
+ghost use Rattle.dav_model.specs.declared.sent.Sent.TheVariants.{Unsatisfied};
 
 use crate::buffer::ReadBuffer;
 use crate::headers::sent_fields;
@@ -76,5 +78,22 @@ pub(crate) fn prepare<M: DavMetaData>(
         outcome: Outcome { status, fields },
         parts,
         buffer,
+    })
+}
+
+/// Makes ready the answer in which nothing of a file is sent, since no range could be met.
+pub(crate) fn prepare_unsatisfied<M: DavMetaData>(
+    alloc: Global,
+    method: DavMethod,
+    path: &DavPath,
+    meta: &M,
+) -> Result<Outcome, NoMemory>
+    ensures { IfOk result (IsOutcome method path.now (M.info meta.now) Unsatisfied) }
+{
+    let kind = path.get_mime_type_str();
+    let fields = sent_fields(alloc, is_get(method), kind, meta, &Sent::Unsatisfied)?;
+    Ok(Outcome {
+        status: 416,
+        fields,
     })
 }
