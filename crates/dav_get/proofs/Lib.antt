@@ -2,3 +2,4 @@ pub mod Dates
 pub mod Several
 pub mod Bounds
 pub mod Going
+pub mod Living
