@@ -7,3 +7,4 @@ pub mod Play
 pub mod Joining
 pub mod Answered
 pub mod Slices
+pub mod Conditions
