@@ -15,3 +15,6 @@ pub mod Grammar
 pub mod Methods
 pub mod Statuses
 pub mod Blanks
+pub mod Tags
+pub mod TagReading
+pub mod Commas

@@ -17,7 +17,8 @@ use Rattle.dav_model.specs.declared.ranges.Slice.{Slice}
 use Rattle.dav_model.specs.declared.sent.Sent.{Sent}
 use Rattle.dav_model.specs.declared.sent.Sent.TheVariants.{All, Alone, Unsatisfied, One, Several}
 use Rattle.dav_model.specs.declared.settings.Settings.{Settings}
-use Rattle.dav_model.specs.Head.{Fields, Stood, is_get, is_set, is_well_known, redirected_fields, sent_fields, sent_of, sent_parts, sent_status, well_known}
+use Rattle.dav_model.specs.Conditions.{Fields}
+use Rattle.dav_model.specs.Head.{Stood, is_get, is_set, is_well_known, redirected_fields, sent_fields, sent_of, sent_parts, sent_status, well_known}
 use Rattle.dav_model.specs.Times.{IsDate}
 use Rattle.dav_get.specs.declared.body.GetBody.{GetBody}
 use Rattle.dav_get.specs.declared.open_at.OpenAt.{OpenAt}
