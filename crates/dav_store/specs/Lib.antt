@@ -1,0 +1,6 @@
+pub mod Standing
+pub mod Frames
+pub mod Files
+pub mod Bodies
+pub mod View
+pub mod Shows

@@ -1,0 +1,98 @@
+ghost use Rattle.std.specs.Prelude.{◌≡◌, Bool, Result};
+ghost use Rattle.std.specs.Borrow.{sem, Lends};
+ghost use Rattle.dav_io.specs.declared.clock.Moment.{Moment};
+ghost use Rattle.dav_core.specs.declared.error.FsError.{FsError};
+ghost use Rattle.dav_core.specs.declared.handle.OpenOptions.{OpenOptions};
+ghost use Rattle.dav_core.specs.DavPath.{WebPath};
+ghost use Rattle.dav_core.specs.Info.{Info};
+ghost use Rattle.dav_core.specs.Keeps.{Keeps};
+ghost use Rattle.dav_store.specs.Standing.{info_in};
+ghost use Rattle.dav_store.specs.Frames.{OpensOne};
+
+use crate::DavFile;
+use dav_core::{DavMetaData, DavPath, Disk, FsError, OpenOptions};
+use dav_io::Moment;
+
+/// A store whose calls are made with credentials. What each call may answer, and which store it leaves, is a relation
+/// of the store; that a call closes no file and opens none but its own is said of every store.
+pub trait GuardedFileSystem<C> {
+    type Disk: Disk;
+
+    type Meta: DavMetaData + Drop;
+
+    type File: DavFile<Self::Disk, Meta = Self::Meta>;
+
+    /// The disk inside it.
+    ghost inside: { Self → Self.Disk };
+
+    /// The store with another disk inside.
+    ghost with_disk: { Self → Self.Disk → Self };
+
+    /// The store with its moment set.
+    ghost with_now: { Self → Moment → Self };
+
+    /// Whether names that fold alike are one.
+    ghost folding: { Self → Bool };
+
+    /// Whether it has nothing and does nothing.
+    ghost void: { Self → Bool };
+
+    /// What a look at a path may answer, links followed.
+    ghost looks: { Self → C → WebPath → Result Info FsError → Self → Type 0 };
+
+    /// What a look at a path may answer, links not followed.
+    ghost looks_at_link: { Self → C → WebPath → Result Info FsError → Self → Type 0 };
+
+    /// What an opening of a path may answer.
+    ghost opens: { Self → C → WebPath → OpenOptions → Result Self.File FsError → Self → Type 0 };
+
+    /// Lends the disk.
+    fn disk(&mut self) -> &mut Self::Disk
+        ensures* writes_back { sem 𝓛 (Lends Self.row Self.Disk.row self.entry result (with_disk self.old)) }
+        ensures value { result.now ≡ inside self.old };
+
+    /// Sets the moment by which its memory judges what is too old.
+    fn set_now(&mut self, now: Moment)
+        ensures done { self.new ≡ with_now self.old now }
+        ensures disk { inside self.new ≡ inside self.old };
+
+    /// Whether names that fold alike are one.
+    fn folds(&self) -> bool
+        ensures { result ≡ folding self.now };
+
+    /// Whether it has nothing and does nothing.
+    fn is_void(&self) -> bool
+        ensures { result ≡ void self.now };
+
+    /// What stands at a path, links followed.
+    fn metadata(&mut self, path: &DavPath, credentials: &C) -> Result<Self::Meta, FsError>
+        ensures done { looks self.old credentials.now path.now (info_in Self.Meta.info result) self.new }
+        ensures keeps { Keeps (Self.Disk.state (inside self.old)) (Self.Disk.state (inside self.new)) }
+        ensures loan { Self.Disk.loan (inside self.new) ≡ Self.Disk.loan (inside self.old) };
+
+    /// What stands at a path, links not followed.
+    fn symlink_metadata(&mut self, path: &DavPath, credentials: &C) -> Result<Self::Meta, FsError>
+        ensures done { looks_at_link self.old credentials.now path.now (info_in Self.Meta.info result) self.new }
+        ensures keeps { Keeps (Self.Disk.state (inside self.old)) (Self.Disk.state (inside self.new)) }
+        ensures loan { Self.Disk.loan (inside self.new) ≡ Self.Disk.loan (inside self.old) };
+
+    /// Opens what stands at a path, at its first byte.
+    fn open(
+        &mut self,
+        path: &DavPath,
+        options: OpenOptions,
+        credentials: &C,
+    ) -> Result<Self::File, FsError>
+        ensures done { opens self.old credentials.now path.now options result self.new }
+        ensures one { OpensOne Self.File.handle Self.File.seen options (Self.Disk.state (inside self.old)) result (Self.Disk.state (inside self.new)) }
+        ensures loan { Self.Disk.loan (inside self.new) ≡ Self.Disk.loan (inside self.old) };
+
+    /// What is put inside is inside.
+    ghost puts_inside: { (s : Self) (d : Self.Disk) → inside (with_disk s d) ≡ d };
+
+    /// Of two disks put inside the second stays.
+    ghost puts_over: { (s : Self) (d e : Self.Disk) → with_disk (with_disk s d) e ≡ with_disk s e };
+
+    /// Putting inside what is inside changes nothing.
+    ghost puts_back: { (s : Self) → with_disk s (inside s) ≡ s };
+}
