@@ -3,3 +3,4 @@ pub mod Streams
 pub mod Bodies
 pub mod Frames
 pub mod Collecting
+pub mod Readers

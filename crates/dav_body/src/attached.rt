@@ -1,12 +1,12 @@
 ghost use Rattle.std.specs.Prelude.{◌≡◌, [], IfSome, OnSome};
-ghost use Rattle.std.specs.Option.{option_map};
 ghost use Rattle.futures.specs.Runs.{After, Within};
 ghost use Rattle.futures.specs.Poll.{IfReady, OnPending};
 ghost use Rattle.futures.specs.Task.{Covers, Keeps};
 ghost use Rattle.dav_body.specs.Streams.{IsReady};
 ghost use Rattle.dav_body.specs.Bodies.{MayPoll, BodyGives};
-ghost use Rattle.dav_body.specs.Frames.{framed as framed_result, MayGive, Framed, FrameGives};
+ghost use Rattle.dav_body.specs.Frames.{MayGive, Framed, FrameGives};
 
+use crate::framing::framed;
 use crate::{Body, Steps};
 use bytes::Bytes;
 use futures::task::{Context, Poll};
@@ -29,17 +29,6 @@ impl<'a, S, X> Attached<'a, S, X> {
         ensures same_with { result.with.ghost_name ≡ with.entry.ghost_name }
     {
         Attached { alloc, body, with }
-    }
-}
-
-// A piece as one data frame; an error and the end as they are.
-fn framed<E>(answer: Option<Result<Bytes, E>>) -> Option<Result<Frame<Bytes>, E>>
-    ensures { result ≡ option_map framed_result answer }
-{
-    match answer {
-        Some(Ok(piece)) => Some(Ok(Frame::data(piece))),
-        Some(Err(error)) => Some(Err(error)),
-        None => None,
     }
 }
 

@@ -11,11 +11,13 @@ use futures::task::Poll;
 use std::alloc::Global;
 
 /// A body: bytes that are given once, a stream, or nothing.
+#[derive(Drop)]
 pub struct Body<S> {
     pub inner: BodyType<S>,
 }
 
 /// What a body gives.
+#[derive(Drop)]
 pub enum BodyType<S> {
     /// The bytes in one piece, also where there are none; nothing once they were given.
     Bytes(Option<Bytes>),

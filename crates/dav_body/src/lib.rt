@@ -6,10 +6,12 @@ mod attached;
 mod body;
 mod collecting;
 mod fault;
+mod framing;
 pub mod laws;
 mod sender;
 mod steps;
 mod stream;
+mod stream_body;
 
 pub use attached::Attached;
 pub use body::{Body, BodyType};
@@ -18,6 +20,7 @@ pub use fault::BodyFault;
 pub use sender::{Sender, SenderFuture};
 pub use steps::Steps;
 pub use stream::AsyncStream;
+pub use stream_body::StreamBody;
 
 #[cfg(test)]
 mod tests;

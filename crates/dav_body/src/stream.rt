@@ -7,6 +7,7 @@ use futures::task::Poll;
 use std::alloc::Global;
 
 /// A stream of the items that steps give.
+#[derive(Drop)]
 pub struct AsyncStream<S> {
     steps: S,
     ended: bool,

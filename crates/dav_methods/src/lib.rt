@@ -6,3 +6,4 @@ mod fields;
 mod standing;
 
 pub use conditions::{if_match, ifrange_match, ranges_are_heard};
+pub use fields::first_value;
