@@ -3,3 +3,4 @@ pub mod Several
 pub mod Bounds
 pub mod Going
 pub mod Living
+pub mod Sending

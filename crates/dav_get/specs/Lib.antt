@@ -5,3 +5,4 @@ pub mod Bodies
 pub mod Table
 pub mod Lives
 pub mod Prepared
+pub mod Right

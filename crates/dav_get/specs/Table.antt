@@ -11,6 +11,7 @@ use Rattle.dav_core.specs.Options.{reading}
 use Rattle.dav_core.specs.Statuses.{of_fs}
 use Rattle.dav_core.specs.Tree.{is_dir, is_file}
 use Rattle.dav_store.specs.Files.{FileRedirects}
+use Rattle.dav_store.specs.Frames.{OpensOne}
 use Rattle.dav_store.specs.View.{View, Lent, seen_in, Says, Seeks, Closes}
 use Rattle.dav_model.specs.declared.outcome.Outcome.{Outcome}
 use Rattle.dav_model.specs.declared.ranges.Slice.{Slice}
@@ -141,7 +142,7 @@ module _ {S C F : Type 0} (view : View S C F) where
   abbrev pub ByKind : Bool → Settings → C → DavMethod → WebPath → Fields → S → Given F → S → Type 0
   ByKind true settings c method path fields s result t = (t ≡ s) × (result ≡ Err (StatusClose 501))
   ByKind false settings c method path fields s result t = (opened : Result F FsError) × (m : S)
-      × view.opens s c path reading opened m × AfterOpen opened settings method path fields m result t
+      × view.opens s c path reading opened m × OpensOne view.handle view.seen reading (view.state s) opened (view.state m) × AfterOpen opened settings method path fields m result t
 
   abbrev pub AfterLook : Result Info FsError → Settings → C → DavMethod → WebPath → Fields → S → Given F → S → Type 0
   AfterLook (Err e) settings c method path fields s result t = (t ≡ s) × (result ≡ Err (of_fs e))

@@ -10,7 +10,7 @@ ghost use Rattle.dav_store.specs.Standing.{Seen};
 ghost use Rattle.dav_store.specs.View.{the_view, Closes};
 ghost use Rattle.dav_get.specs.Lives.{HeldOrClosed, HasMost, OpenOnlyHeld};
 ghost use Rattle.dav_get.specs.Prepared.{AreReady};
-ghost use Rattle.dav_get.specs.Table.{ByKind, ByPlace, ByRedirect, ByWellKnown, GetsFile, GivesBody, Holds, IsEmpty, IsRedirect, Redirects, Sends, SendsFile, first_place as the_first_place};
+ghost use Rattle.dav_get.specs.Table.{ByKind, ByPlace, ByRedirect, ByWellKnown, Gets, GetsFile, GivesBody, Holds, IsEmpty, IsRedirect, Redirects, Sends, SendsFile, first_place as the_first_place};
 ghost use Rattle.dav_get.specs.Within.{IsSentOf};
 
 use crate::body::GetBody;
@@ -18,7 +18,7 @@ use crate::buffer::ReadBuffer;
 use crate::deciding::{decide, first_place};
 use crate::open_at::OpenAt;
 use crate::prepared::{Prepared, is_get, prepare, prepare_unsatisfied};
-use crate::headers::redirected_fields;
+use crate::headers::{redirected_fields, well_known_fields};
 use dav_core::{DavError, DavMetaData, DavMethod, DavPath, FsError, OpenOptions};
 use dav_io::Text;
 use dav_model::{Outcome, Sent, Settings};
@@ -363,5 +363,38 @@ fn is_well_known(settings: &Settings, method: DavMethod, path: &DavPath) -> bool
     match path.names().as_slice() {
         [first, second] => first.as_str() == "remote.php" && second.as_str() == "webdav",
         _ => false,
+    }
+}
+
+// A GET or HEAD, by the table alone.
+fn get_once<S: GuardedFileSystem<C>, C>(
+    alloc: Global,
+    settings: &Settings,
+    fs: &mut S,
+    credentials: &C,
+    method: DavMethod,
+    path: &DavPath,
+    fields: &HeaderMap,
+) -> Given<S::File>
+    ensures table { Gets (the_view S.GuardedFileSystem S.Disk.Disk S.File.DavFile) settings.now credentials.now method path.now fields.now fs.old result fs.new ⊎ (result ≡ Err DavError.NoMemory) }
+    ensures life { OpenOnlyHeld (the_view S.GuardedFileSystem S.Disk.Disk S.File.DavFile) fs.old result fs.new }
+    ensures most { HasMost (read_size_of settings.now.read_buf_size) result }
+    ensures loan { S.Disk.loan (S.inside fs.new) ≡ S.Disk.loan (S.inside fs.old) }
+{
+    if !is_well_known(settings, method, path) {
+        return look(alloc, settings, fs, credentials, method, path, fields);
+    }
+    match well_known_fields(alloc) {
+        Ok(fields) => {
+            let outcome = Outcome {
+                status: 200,
+                fields,
+            };
+            Ok((
+                outcome,
+                GetBody::new(Vec::new(alloc), None, ReadBuffer::none(alloc)),
+            ))
+        }
+        Err(_) => Err(DavError::NoMemory),
     }
 }
