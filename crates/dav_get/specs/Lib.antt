@@ -1,2 +1,6 @@
 pub mod Within
 pub mod Parts
+pub mod OpenFiles
+pub mod Bodies
+pub mod BodySteps
+pub mod BodyLent
