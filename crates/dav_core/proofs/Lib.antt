@@ -6,3 +6,4 @@ pub mod Utf8
 pub mod Fits
 pub mod Links
 pub mod Plain
+pub mod TagMembers

@@ -47,7 +47,7 @@ module _ {F : Type 0} (handle : F → ℕ) (seen : F → DiskState → Option Se
       let same : f.stands.number ≡ number = has h f refl at in
       rw (sym (bytes ∙ ap (bytes_of w) same)) ((are h refl).told f at)
 
-  takes_right : (s t : DiskState) (b : GetBody F) (left : List BodyPart) (answer : Answer) (rest : List BodyPart) (told : Option World) (number : ℕ)
+  pub takes_right : (s t : DiskState) (b : GetBody F) (left : List BodyPart) (answer : Answer) (rest : List BodyPart) (told : Option World) (number : ℕ)
       → (list_any is_slice left ≡ true → is_some b.file ≡ true) → StandsIn seen s told b.file → HasNumber seen s b.file number
       → Takes seen s b.file b.most (Rose s.faults t.faults) left answer rest
       → PollsParts told s.whole b.most s.faults t.faults (parts_of number left) answer (parts_of number rest)

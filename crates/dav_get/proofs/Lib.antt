@@ -6,3 +6,6 @@ pub mod BodyRight
 pub mod BodyKept
 pub mod BodyBound
 pub mod BodyMade
+pub mod Bounds
+pub mod Going
+pub mod Living

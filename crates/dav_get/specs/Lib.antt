@@ -4,3 +4,6 @@ pub mod OpenFiles
 pub mod Bodies
 pub mod BodySteps
 pub mod BodyLent
+pub mod Table
+pub mod Lives
+pub mod Prepared

@@ -1,13 +1,9 @@
 -- Slices that lie in a file.
-use Rattle.std.specs.Prelude.{◌≤◌, ◌<◌, ◌+◌, ℕ, List}
+use Rattle.std.specs.Prelude.{ℕ}
 use Rattle.std.specs.List.{AllByRecursion}
-use Rattle.dav_model.specs.declared.ranges.Slice.{Slice}
+use Rattle.dav_model.specs.Slices.{IsWithin}
 use Rattle.dav_model.specs.declared.sent.Sent.{Sent}
 use Rattle.dav_model.specs.declared.sent.Sent.TheVariants.{All, Alone, Unsatisfied, One, Several}
-
--- a slice that isn't empty, of a file of this length
-abbrev pub IsWithin : ℕ → Slice → Type 0
-IsWithin len part = (0 < part.count) × (part.start + part.count ≤ len)
 
 -- what is sent of a file of this length is there
 abbrev pub IsSentOf : ℕ → Sent → Type 0

@@ -1,11 +1,11 @@
-ghost use Rattle.std.specs.Prelude.{◌≡◌, ◌≤◌, ◌<◌, ◌+◌, ◌-◌, ◌^◌, [], ◌∷◌, List, true, vec_len, drop, None, IfSome, IsSome, max};
+ghost use Rattle.std.specs.Prelude.{◌≡◌, ◌≤◌, ◌<◌, ◌+◌, ◌-◌, ◌^◌, [], ◌∷◌, List, true, vec_len, length, drop, None, IfSome, IsSome, max};
 ghost use Rattle.std.specs.Borrow.{sem};
 ghost use Rattle.dav_core.specs.Disk.{can_read};
 ghost use Rattle.dav_model.specs.declared.ranges.Slice.{Slice};
 ghost use Rattle.dav_get.specs.declared.part.BodyPart.{BodyPart};
 ghost use Rattle.dav_get.specs.declared.part.BodyPart.TheVariants.{Text as TextPart, Slice as SlicePart};
-ghost use Rattle.dav_get.specs.Bodies.{left_of, next_most_of, IsHeld, Closes, Passes, passed, answer_of, IsInside, Polls, IsPolled};
-ghost use Rattle.dav_get.specs.BodyLent.{EndsPolled};
+ghost use Rattle.dav_get.specs.Bodies.{left_of, next_most_of, IsHeld, Closes, Passes, passed, answer_of, IsInside, IfPiece, Polls, IsPolled};
+ghost use Rattle.dav_get.specs.BodyLent.{EndsPolled, answer_in};
 
 use crate::{BodyPart, OpenAt, ReadBuffer};
 use dav_core::Disk;
@@ -14,6 +14,7 @@ use dav_store::DavFile;
 
 /// The body of an answer: texts and slices of one open file, in order. It isn't dropped while it has its file open:
 /// the poll that gives the last piece ends the file, and so does `close`.
+#[derive(Drop)]
 pub struct GetBody<F> {
     pub(crate) parts: Vec<BodyPart>,
     pub(crate) next: usize,
@@ -80,7 +81,7 @@ impl<F> GetBody<F> {
         F: DavFile<D>,
         requires { IfSome self.old.file (λ h. IsSome ((D.state disk.old).live (F.handle h.file))) }
         ensures done { Closes F.handle (D.state disk.old) self.old.file (D.state disk.new) }
-        ensures body { self.new ≡ record self.old { file = None } }
+        ensures rest { self.new ≡ record self.old { file = None } }
         ensures loan { D.loan disk.new ≡ D.loan disk.old }
     {
         if let Some(open) = self.file.take() {
@@ -219,6 +220,7 @@ impl<F> GetBody<F> {
         F: DavFile<D>,
         requires { IsHeld F.handle F.seen (D.state disk.old) self.old }
         ensures* ends { sem 𝓛 (EndsPolled F.row F.handle F.seen (D.state disk.old) (D.state disk.new) self.entry self.old result) }
+        ensures bound { IfPiece (answer_in result) (λ piece. length piece ≤ next_most_of (left_of self.old) (vec_len self.old.buffer)) }
         ensures loan { D.loan disk.new ≡ D.loan disk.old }
     {
         match self.poll(disk) {

@@ -1,6 +1,7 @@
 // The header fields of answers.
 ghost use Rattle.std.specs.Prelude.{◌≡◌, ◌<◌, [], ◌++◌, ◌∷◌, List, ℕ, true, Option, None, Some, IfOk, OnOk, codes, decimal, string_bytes};
-ghost use Rattle.dav_get.specs.Within.{IsWithin, IsSentOf};
+ghost use Rattle.dav_model.specs.Slices.{IsWithin};
+ghost use Rattle.dav_get.specs.Within.{IsSentOf};
 ghost use Rattle.std.specs.Option.{option_map};
 ghost use Rattle.dav_core.specs.Info.{is_in_years, natural};
 ghost use Rattle.dav_model.specs.Times.{IsDate};

@@ -2,8 +2,6 @@
 use Rattle.std.specs.Prelude.{◌≡◌, ◌==◌, ◌&&◌, ◌⊎◌, ◌+◌, ◌-◌, ℕ, List, [], ◌∷◌, ◌++◌, Bool, true, false, cond, not, length, codes, decimal, Option, None, Some, Result, Ok, Err}
 use Rattle.std.specs.Option.{option_map}
 use Rattle.std.specs.List.{flat_map}
-use Rattle.http_header.specs.HeaderMap.{Entries, get}
-use Rattle.http_header.specs.FieldValue.{FieldValue}
 use Rattle.dav_io.specs.declared.fields.Field.{Field}
 use Rattle.dav_core.specs.declared.tree.Row.{Row}
 use Rattle.dav_core.specs.declared.tree.Kind.{Kind}
@@ -31,14 +29,10 @@ use Rattle.dav_model.specs.declared.sent.Sent.TheVariants.{All, Alone, Unsatisfi
 use Rattle.dav_model.specs.declared.target.Target.{Target}
 use Rattle.dav_model.specs.declared.target.Target.TheVariants.{At, Refused}
 use Rattle.dav_model.specs.Bodies.{Part, text, slice}
-use Rattle.dav_model.specs.Conditions.{condition_of, ranges_apply}
+use Rattle.dav_model.specs.Conditions.{Fields, condition, first_bytes, ranges_are_heard, strong}
 use Rattle.dav_model.specs.Requests.{Asked, fields_of, gates}
-use Rattle.dav_model.specs.Slices.{slices_of}
+use Rattle.dav_model.specs.Slices.{ranges}
 use Rattle.dav_model.specs.Times.{IsDate}
-
--- the fields of a request
-abbrev pub Fields : Type 0
-Fields = Entries FieldValue
 
 -- what is answered to a request
 pub record Reply : Type 0 where
@@ -94,19 +88,15 @@ sent_ranges Whole = All
 sent_ranges Unsatisfiable = Unsatisfied
 sent_ranges (Parts parts) = sent_parts_of parts
 
--- the first value of a field
-abbrev pub first_value : Fields → List ℕ → Option (List ℕ)
-first_value fields name = option_map (λ v. v.bytes) (get fields name)
-
 -- A precondition that fails decides; after it, or where If-Range turns them off, ranges don't count (RFC 9110, section 13.2.2).
 abbrev pub sent_by : Option ℕ → Bool → Option (List ℕ) → ℕ → Sent
 sent_by (Some status) on range len = Alone status
 sent_by None false range len = All
-sent_by None true range len = sent_ranges (slices_of range len)
+sent_by None true range len = sent_ranges (ranges range len)
 
 abbrev pub sent_of : DavMethod → Fields → Stood → Sent
-sent_of method fields stood = sent_by (condition_of method fields true stood.tag stood.modified) (ranges_apply fields stood.tag stood.modified)
-    (first_value fields (codes "range")) stood.len
+sent_of method fields stood = sent_by (condition method fields true (strong stood.tag) stood.modified) (ranges_are_heard fields (strong stood.tag) stood.modified)
+    (first_bytes fields (codes "range")) stood.len
 
 abbrev pub sent_status : Sent → ℕ
 sent_status All = 200

@@ -2,14 +2,14 @@ ghost use Rattle.std.specs.Prelude.{◌≡◌};
 
 use std::marker::Model;
 
-/// Bytes of a file: `count` of them from the place `start` on.
+/// Bytes of a file one after another: the place of the first, and how many they are.
 #[derive(Clone, Copy, Debug, PartialEq, Eq)]
 pub struct Slice {
     pub start: u64,
     pub count: u64,
 }
 
-/// Slices, in order.
+/// Slices in their order. A contract sees them as their list.
 #[derive(Drop)]
 pub struct Slices {
     slices: Vec<Slice>,
@@ -38,10 +38,13 @@ impl Slices {
     }
 }
 
-/// What of a file is asked for.
+/// What a field `range` asks of a file.
 #[derive(Drop)]
 pub enum Ranges {
+    /// The whole file, as if there were no such field.
     Whole,
+    /// Nothing that the file could give (416).
     Unsatisfiable,
+    /// Parts of the file, one or more, in the order in which they are asked for.
     Parts(Slices),
 }

@@ -1,5 +1,5 @@
 -- What the calls of an open file do, where it is told what it is.
-use Rattle.std.specs.Prelude.{◌≡◌, ◌≤◌, ◌+◌, ◌&&◌, ◌⊎◌, ℕ, nat_le, List, [], length, take, drop, min, Bool, true, Option, None, Some, IsSome, IfSome, Result, Ok, Err, IfOk, OnErr}
+use Rattle.std.specs.Prelude.{◌≡◌, ◌≤◌, ◌<◌, ◌+◌, ◌&&◌, ◌⊎◌, ◌++◌, ◌-◌, ℕ, nat_le, List, [], length, take, drop, replicate, min, Bool, true, Option, None, Some, IsSome, IfSome, Result, Ok, Err, IfOk, OnErr, if◌then◌else◌}
 use Rattle.std.specs.List.{list_all}
 use Rattle.dav_io.specs.Counts.{Rose}
 use Rattle.dav_io.specs.Told.{Both}
@@ -8,6 +8,7 @@ use Rattle.dav_core.specs.declared.error.FsError.TheVariants.{GeneralFailure, No
 use Rattle.dav_core.specs.Disk.{DiskState, Live, can_read, kind_at}
 use Rattle.dav_core.specs.Info.{Info}
 use Rattle.dav_core.specs.Keeps.{Keeps, KeepsBut, SameOpen}
+use Rattle.dav_store.specs.Frames.{KeepsOpenBut}
 use Rattle.dav_store.specs.Standing.{Standing, Seen, AgreesOpen}
 
 -- the same file at the same place
@@ -102,6 +103,33 @@ pub record FileFlushes (s : DiskState) (seen : Option Seen) (result : Result Uni
   pub done : result ≡ Ok tt
   pub disk : t ≡ s
   pub same : after ≡ seen
+
+-- bytes with others in them from a place on; a gap before the place is filled with zeros
+abbrev pub written : ℕ → List ℕ → List ℕ → List ℕ
+written place from bytes = take place bytes ++ (replicate (place - length bytes) 0 ++ (from ++ drop (place + length from) bytes))
+
+-- the place at which a file is written: its end, where it was opened to append
+abbrev pub write_place : Option Live → Seen → ℕ
+write_place None f = f.place
+write_place (Some l) f = if l.how.append then length f.stands.bytes else f.place
+
+-- These bytes stand in the file, and its place is behind them.
+pub record IsWritten (place : ℕ) (from : List ℕ) (f g : Seen) : Type 0 where
+  pub number : g.stands.number ≡ f.stands.number
+  pub kind : g.stands.kind ≡ f.stands.kind
+  pub bytes : g.stands.bytes ≡ written place from f.stands.bytes
+  pub len : g.stands.len ≡ length g.stands.bytes
+  pub placed : g.place ≡ place + length from
+
+-- A refused write may have written a front.
+abbrev pub WritesIn : Option Live → List ℕ → Result Unit FsError → Seen → Seen → Type 0
+WritesIn l from (Ok x) f g = (from ≡ [] → g ≡ f) × (0 < length from → IsWritten (write_place l f) from f g)
+WritesIn l from (Err e) f g = (g ≡ f) ⊎ ((n : ℕ) × (0 < n) × (n ≤ length from) × IsWritten (write_place l f) (take n from) f g)
+
+pub record FileWrites (s : DiskState) (h : ℕ) (seen : Option Seen) (from : List ℕ) (result : Result Unit FsError) (t : DiskState) (after : Option Seen) : Type 0 where
+  pub keeps : KeepsOpenBut h s t
+  pub live : t.live h ≡ s.live h
+  pub told : Both seen after (WritesIn (s.live h) from result)
 
 -- The file is open no more.
 pub record FileCloses (s : DiskState) (h : ℕ) (t : DiskState) : Type 0 where

@@ -1,9 +1,10 @@
-ghost use Rattle.std.specs.Prelude.{◌≡◌, ◌<◌, ℕ, length, Option, IsSome};
+ghost use Rattle.std.specs.Prelude.{◌≡◌, ◌<◌, ℕ, List, length, Option, IsSome, Result};
+ghost use Rattle.dav_core.specs.declared.error.FsError.{FsError};
 ghost use Rattle.dav_core.specs.Disk.{DiskState};
 ghost use Rattle.dav_store.specs.Standing.{Seen, info_in};
-ghost use Rattle.dav_store.specs.Files.{SameSeen, LeavesOpen, FileSays, FileSeeks, FileReads, FileGives, FileRedirects, FileFlushes, FileCloses};
+ghost use Rattle.dav_store.specs.Files.{SameSeen, LeavesOpen, FileSays, FileSeeks, FileReads, FileGives, FileRedirects, FileFlushes, FileWrites, FileCloses};
 
-use bytes::Bytes;
+use bytes::{Buf, Bytes};
 use dav_core::{DavMetaData, Disk, FsError};
 use dav_io::Text;
 use std::alloc::Global;
@@ -18,6 +19,9 @@ pub trait DavFile<D: Disk> {
 
     /// What it is and its place, where the disk tells it.
     ghost seen: { Self → DiskState → Option Seen };
+
+    /// What a writing of bytes may answer, by the file and the disk before and after.
+    ghost writes: { Self → DiskState → List ℕ → Result Unit FsError → Self → DiskState → Type 0 };
 
     /// Its metadata as it is now. It is refused only by a fault.
     fn metadata(&mut self, disk: &mut D) -> Result<Self::Meta, FsError>
@@ -49,6 +53,34 @@ pub trait DavFile<D: Disk> {
         requires live { IsSome ((D.state disk.old).live (handle self.old)) }
         requires some { 0 < count }
         ensures done { FileGives (D.state disk.old) (handle self.old) (seen self.old (D.state disk.old)) count result (D.state disk.new) (seen self.new (D.state disk.new)) }
+        ensures handle { handle self.new ≡ handle self.old }
+        ensures loan { D.loan disk.new ≡ D.loan disk.old }
+    {
+        let Ok(mut buffer) = vec![in alloc; 0u8; count] else {
+            return Err(FsError::NoMemory);
+        };
+        let length = self.read_into(disk, buffer.as_mut_slice())?;
+        buffer.truncate(length);
+        match Bytes::from_vec(buffer) {
+            Ok(bytes) => Ok(bytes),
+            Err(_) => Err(FsError::NoMemory),
+        }
+    }
+
+    /// Writes all these bytes at its place, or at its end where it was opened to append. A refused write may have
+    /// written a front of them.
+    fn write_bytes(&mut self, disk: &mut D, buf: &[u8]) -> Result<(), FsError>
+        requires { IsSome ((D.state disk.old).live (handle self.old)) }
+        ensures done { writes self.old (D.state disk.old) buf.now result self.new (D.state disk.new) }
+        ensures one { FileWrites (D.state disk.old) (handle self.old) (seen self.old (D.state disk.old)) buf.now result (D.state disk.new) (seen self.new (D.state disk.new)) }
+        ensures handle { handle self.new ≡ handle self.old }
+        ensures loan { D.loan disk.new ≡ D.loan disk.old };
+
+    /// The same of the bytes of a buffer.
+    fn write_buf<B: Buf + Drop>(&mut self, disk: &mut D, buf: B) -> Result<(), FsError>
+        requires { IsSome ((D.state disk.old).live (handle self.old)) }
+        ensures done { writes self.old (D.state disk.old) (B.unread buf) result self.new (D.state disk.new) }
+        ensures one { FileWrites (D.state disk.old) (handle self.old) (seen self.old (D.state disk.old)) (B.unread buf) result (D.state disk.new) (seen self.new (D.state disk.new)) }
         ensures handle { handle self.new ≡ handle self.old }
         ensures loan { D.loan disk.new ≡ D.loan disk.old };
 

@@ -1,4 +1,4 @@
-ghost use Rattle.std.specs.Prelude.{◌≡◌, Bool, Result};
+ghost use Rattle.std.specs.Prelude.{◌≡◌, ℕ, Bool, Option, Result};
 ghost use Rattle.std.specs.Borrow.{sem, Lends};
 ghost use Rattle.dav_io.specs.declared.clock.Moment.{Moment};
 ghost use Rattle.dav_core.specs.declared.error.FsError.{FsError};
@@ -7,9 +7,11 @@ ghost use Rattle.dav_core.specs.DavPath.{WebPath};
 ghost use Rattle.dav_core.specs.Info.{Info};
 ghost use Rattle.dav_core.specs.Keeps.{Keeps};
 ghost use Rattle.dav_store.specs.Standing.{info_in};
-ghost use Rattle.dav_store.specs.Frames.{OpensOne};
+ghost use Rattle.dav_store.specs.Frames.{KeepsOpen, OpensOne};
+ghost use Rattle.dav_store.specs.Listings.{EndsList, GoesOn, HasLister, ListsOne, Nearer, left_of};
+ghost use Rattle.dav_store.specs.declared.entry.ReadDirMeta.{ReadDirMeta};
 
-use crate::DavFile;
+use crate::{DavDirEntry, DavFile, ReadDirMeta};
 use dav_core::{DavMetaData, DavPath, Disk, FsError, OpenOptions};
 use dav_io::Moment;
 
@@ -21,6 +23,11 @@ pub trait GuardedFileSystem<C> {
     type Meta: DavMetaData + Drop;
 
     type File: DavFile<Self::Disk, Meta = Self::Meta>;
+
+    /// An open listing. It isn't dropped: `end_dir` ends it.
+    type Dir;
+
+    type Entry: DavDirEntry<Self::Disk, Meta = Self::Meta> + Drop;
 
     /// The disk inside it.
     ghost inside: { Self → Self.Disk };
@@ -45,6 +52,35 @@ pub trait GuardedFileSystem<C> {
 
     /// What an opening of a path may answer.
     ghost opens: { Self → C → WebPath → OpenOptions → Result Self.File FsError → Self → Type 0 };
+
+    /// The lister of the disk that a listing holds, if it holds one.
+    ghost lister: { Self.Dir → Option ℕ };
+
+    /// How many answers a listing has to come, by what the disk has of its lister.
+    ghost to_come: { Self.Dir → Option ℕ → ℕ };
+
+    /// Whether the store may remember what a listing gives.
+    ghost admits: { Self → Self.Dir → Type 0 } = { λ _ _. Unit {0} };
+
+    /// What the beginning of a listing may answer.
+    ghost lists: { Self → C → WebPath → ReadDirMeta → Result Self.Dir FsError → Self → Type 0 };
+
+    /// What a listing may answer next.
+    ghost lists_on: { Self → Self.Dir → Result (Option Self.Entry) FsError → Self → Self.Dir → Type 0 };
+
+    /// What the end of a listing leaves.
+    ghost ends_list: { Self → Self.Dir → Self → Type 0 };
+
+    /// What the making of a directory may answer, and likewise for the other writing calls.
+    ghost makes_dir: { Self → C → WebPath → Result Unit FsError → Self → Type 0 };
+
+    ghost removes_dir: { Self → C → WebPath → Result Unit FsError → Self → Type 0 };
+
+    ghost removes_file: { Self → C → WebPath → Result Unit FsError → Self → Type 0 };
+
+    ghost renames: { Self → C → WebPath → WebPath → Result Unit FsError → Self → Type 0 };
+
+    ghost copies: { Self → C → WebPath → WebPath → Result Unit FsError → Self → Type 0 };
 
     /// Lends the disk.
     fn disk(&mut self) -> &mut Self::Disk
@@ -85,6 +121,64 @@ pub trait GuardedFileSystem<C> {
     ) -> Result<Self::File, FsError>
         ensures done { opens self.old credentials.now path.now options result self.new }
         ensures one { OpensOne Self.File.handle Self.File.seen options (Self.Disk.state (inside self.old)) result (Self.Disk.state (inside self.new)) }
+        ensures loan { Self.Disk.loan (inside self.new) ≡ Self.Disk.loan (inside self.old) };
+
+    /// Begins a listing of the directory at a path.
+    fn read_dir(
+        &mut self,
+        path: &DavPath,
+        meta: ReadDirMeta,
+        credentials: &C,
+    ) -> Result<Self::Dir, FsError>
+        ensures done { lists self.old credentials.now path.now meta result self.new }
+        ensures one { ListsOne lister (Self.Disk.state (inside self.old)) result (Self.Disk.state (inside self.new)) }
+        ensures loan { Self.Disk.loan (inside self.new) ≡ Self.Disk.loan (inside self.old) };
+
+    /// The next entry, or None after the last. Each answer but None and want of memory leaves fewer answers to come.
+    fn next_entry(&mut self, dir: &mut Self::Dir) -> Result<Option<Self::Entry>, FsError>
+        requires live { HasLister (Self.Disk.state (inside self.old)) (lister dir.old) }
+        requires admits { admits self.old dir.old }
+        ensures done { lists_on self.old dir.old result self.new dir.new }
+        ensures nearer { Nearer (to_come dir.old (left_of (Self.Disk.state (inside self.old)) (lister dir.old))) result (to_come dir.new (left_of (Self.Disk.state (inside self.new)) (lister dir.new))) }
+        ensures goes_on { GoesOn (Self.Disk.state (inside self.old)) (lister dir.old) (Self.Disk.state (inside self.new)) }
+        ensures lister { lister dir.new ≡ lister dir.old }
+        ensures loan { Self.Disk.loan (inside self.new) ≡ Self.Disk.loan (inside self.old) };
+
+    /// Ends a listing.
+    fn end_dir(&mut self, dir: Self::Dir)
+        requires { HasLister (Self.Disk.state (inside self.old)) (lister dir) }
+        ensures done { ends_list self.old dir self.new }
+        ensures ends { EndsList (Self.Disk.state (inside self.old)) (lister dir) (Self.Disk.state (inside self.new)) }
+        ensures loan { Self.Disk.loan (inside self.new) ≡ Self.Disk.loan (inside self.old) };
+
+    /// Makes a directory at a path.
+    fn create_dir(&mut self, path: &DavPath, credentials: &C) -> Result<(), FsError>
+        ensures done { makes_dir self.old credentials.now path.now result self.new }
+        ensures keeps { KeepsOpen (Self.Disk.state (inside self.old)) (Self.Disk.state (inside self.new)) }
+        ensures loan { Self.Disk.loan (inside self.new) ≡ Self.Disk.loan (inside self.old) };
+
+    /// Removes the directory at a path.
+    fn remove_dir(&mut self, path: &DavPath, credentials: &C) -> Result<(), FsError>
+        ensures done { removes_dir self.old credentials.now path.now result self.new }
+        ensures keeps { KeepsOpen (Self.Disk.state (inside self.old)) (Self.Disk.state (inside self.new)) }
+        ensures loan { Self.Disk.loan (inside self.new) ≡ Self.Disk.loan (inside self.old) };
+
+    /// Removes the file at a path.
+    fn remove_file(&mut self, path: &DavPath, credentials: &C) -> Result<(), FsError>
+        ensures done { removes_file self.old credentials.now path.now result self.new }
+        ensures keeps { KeepsOpen (Self.Disk.state (inside self.old)) (Self.Disk.state (inside self.new)) }
+        ensures loan { Self.Disk.loan (inside self.new) ≡ Self.Disk.loan (inside self.old) };
+
+    /// Moves what stands at a path to another.
+    fn rename(&mut self, from: &DavPath, to: &DavPath, credentials: &C) -> Result<(), FsError>
+        ensures done { renames self.old credentials.now from.now to.now result self.new }
+        ensures keeps { KeepsOpen (Self.Disk.state (inside self.old)) (Self.Disk.state (inside self.new)) }
+        ensures loan { Self.Disk.loan (inside self.new) ≡ Self.Disk.loan (inside self.old) };
+
+    /// Copies a file's bytes to another path.
+    fn copy(&mut self, from: &DavPath, to: &DavPath, credentials: &C) -> Result<(), FsError>
+        ensures done { copies self.old credentials.now from.now to.now result self.new }
+        ensures keeps { KeepsOpen (Self.Disk.state (inside self.old)) (Self.Disk.state (inside self.new)) }
         ensures loan { Self.Disk.loan (inside self.new) ≡ Self.Disk.loan (inside self.old) };
 
     /// What is put inside is inside.

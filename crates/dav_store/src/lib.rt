@@ -3,12 +3,14 @@
 #![tactic(auto)]
 
 mod body_reader;
+mod entry;
 mod file;
 mod guarded;
 mod through;
 mod unguarded;
 
 pub use body_reader::BodyReader;
+pub use entry::{DavDirEntry, ReadDirMeta};
 pub use file::DavFile;
 pub use guarded::GuardedFileSystem;
 pub use through::{file_close, file_metadata, file_read, file_seek};
