@@ -22,7 +22,7 @@ enum Seen {
     Pending,
 }
 
-fn seen(answer: Poll<Option<Result<Bytes, BodyFault>>>) -> Seen {
+fn what_came(answer: Poll<Option<Result<Bytes, BodyFault>>>) -> Seen {
     match answer {
         Poll::Ready(Some(Ok(piece))) => match piece.as_slice() {
             [] => Seen::Piece(0, 0),
@@ -157,7 +157,7 @@ fn is_text(bytes: &[u8], text: &[u8]) -> bool {
     bytes == text
 }
 
-fn digits(left: u8, breaks: bool) -> Body<Digits>
+fn counting_down(left: u8, breaks: bool) -> Body<Digits>
     requires { left ≤ 10 }
 {
     Body::from_stream(AsyncStream::new(Digits { left, breaks }))
@@ -168,7 +168,7 @@ fn polls(alloc: Global, mut body: Body<Digits>) -> [Seen; 5] {
     let mut count = 0;
     let mut all = [Seen::Pending; 5];
     for one in all.iter_mut() {
-        *one = seen(body.poll_next(alloc, &mut count));
+        *one = what_came(body.poll_next(alloc, &mut count));
     }
     all
 }
@@ -207,7 +207,7 @@ fn a_stream_gives_its_items_and_its_end_once(rt: HostRuntime) {
         Seen::End,
         Seen::End,
     ];
-    assert!(rt; polls(alloc, digits(2, false)) == wanted);
+    assert!(rt; polls(alloc, counting_down(2, false)) == wanted);
     let wanted = [
         Seen::Piece(1, b'0'),
         Seen::Broken,
@@ -215,7 +215,7 @@ fn a_stream_gives_its_items_and_its_end_once(rt: HostRuntime) {
         Seen::End,
         Seen::End,
     ];
-    assert!(rt; polls(alloc, digits(1, true)) == wanted);
+    assert!(rt; polls(alloc, counting_down(1, true)) == wanted);
 }
 
 #[test]
@@ -234,11 +234,11 @@ fn bytes_are_given_once_also_where_there_are_none(rt: HostRuntime) -> Result<(),
 #[test]
 fn all_pieces_are_joined(rt: HostRuntime) {
     let alloc = rt.alloc();
-    assert!(rt; collected(alloc, digits(3, false), b"210"));
+    assert!(rt; collected(alloc, counting_down(3, false), b"210"));
     assert!(rt; collected(alloc, Body::from_bytes(Bytes::from_static(b"abc")), b"abc"));
     assert!(rt; collected(alloc, Body::empty(), b""));
     let mut count = 0;
-    let broken = collect(alloc, &mut digits(1, true), &mut count);
+    let broken = collect(alloc, &mut counting_down(1, true), &mut count);
     assert!(rt; matches!(&broken, Err(BodyFault::Broken)));
 }
 
@@ -261,14 +261,14 @@ fn a_body_gives_its_steps_back(rt: HostRuntime) {
         left: 3,
         breaks: false,
     });
-    assert!(rt; seen(stream.poll_next(alloc, &mut count)) == Seen::Piece(1, b'2'));
+    assert!(rt; what_came(stream.poll_next(alloc, &mut count)) == Seen::Piece(1, b'2'));
     assert!(rt; stream.into_steps().left == 2);
     assert!(rt; count == 1);
 }
 
 #[test]
 fn a_piece_is_one_frame(rt: HostRuntime) -> Result<(), Fail> {
-    let mut body = digits(2, false);
+    let mut body = counting_down(2, false);
     let mut count = 0;
     let mut attached = Attached::new(rt.alloc(), &mut body, &mut count);
     let got = block_on(&rt, poll_fn(move |cx| attached.poll_frame(cx)))?;

@@ -83,3 +83,66 @@ TouchesOwn handle seen s (Some h) t (Some g) = KeepsBut (handle h.file) s t × (
 abbrev pub IfPiece : Answer → (List ℕ → Type 0) → Type 0
 IfPiece (Piece piece) P = P piece
 IfPiece answer P = Unit {0}
+
+-- what a poll does
+pub record Polls {F : Type 0} (handle : F → ℕ) (seen : F → DiskState → Option Seen) (s : DiskState) (b : GetBody F) (answer : Answer) (t : DiskState) (c : GetBody F) : Type 0 where
+  pub disk : TouchesOwn handle seen s b.file t c.file
+  pub takes : Takes seen s b.file b.most (Rose s.faults t.faults) (left_of b) answer (left_of c)
+  pub held : IsHeld handle seen t c
+  pub bound : IfPiece answer (λ piece. length piece ≤ next_most_of (left_of b) (length b.buffer.items))
+  pub most : c.most ≡ b.most
+  pub room : length c.buffer.items ≡ length b.buffer.items
+
+-- the number of the body's file, where it is told
+abbrev pub HasNumber : {F : Type 0} → (F → DiskState → Option Seen) → DiskState → Option (OpenAt F) → ℕ → Type 0
+HasNumber {F} seen s file number = (h : OpenAt F) (f : Seen) → file ≡ Some h → seen h.file s ≡ Some f → f.stands.number ≡ number
+
+-- The body has these parts left. Where no number is told, any may stand for it.
+pub record HasParts {F : Type 0} (seen : F → DiskState → Option Seen) (s : DiskState) (parts : List Part) (b : GetBody F) : Type 0 where
+  pub number : ℕ
+  pub are : parts ≡ parts_of number (left_of b)
+  pub file : HasNumber seen s b.file number
+
+-- The body's file is told, with the bytes that a world has under its number.
+abbrev pub StandsIn : {F : Type 0} → (F → DiskState → Option Seen) → DiskState → Option World → Option (OpenAt F) → Type 0
+StandsIn {F} seen s told file = (w : World) (h : OpenAt F) → told ≡ Some w → file ≡ Some h → (f : Seen) × (seen h.file s ≡ Some f) × (f.stands.bytes ≡ bytes_of w f.stands.number)
+
+-- What a poll does, and that it is a poll of the parts that are left: in every run for their lengths, and for the bytes
+-- of a world in which the file stands.
+pub record IsPolled {F : Type 0} (handle : F → ℕ) (seen : F → DiskState → Option Seen) (s : DiskState) (b : GetBody F) (answer : Answer) (t : DiskState) (c : GetBody F) : Type 0 where
+  pub does : Polls handle seen s b answer t c
+  pub right : (told : Option World) (parts : List Part) → StandsIn seen s told b.file → HasParts seen s parts b
+      → (rest : List Part) × HasParts seen t rest c × PollsParts told s.whole b.most s.faults t.faults parts answer rest
+
+-- the text that stands first
+abbrev pub text_of : List BodyPart → List ℕ
+text_of [] = []
+text_of (Text bytes ∷ parts) = bytes
+text_of (SliceOf slice ∷ parts) = []
+
+-- what is given, as an answer
+abbrev pub answer_of : {F : Type 0} → Given → GetBody F → Answer
+answer_of (GivenText at) c = Piece (text_of (drop at c.parts.items))
+answer_of (GivenRead n) c = Piece (take n c.buffer.items)
+answer_of GivenEnd c = End
+answer_of GivenBroken c = Broken
+
+abbrev pub IsText : List BodyPart → Type 0
+IsText [] = ⊥
+IsText (Text bytes ∷ parts) = Unit {0}
+IsText (SliceOf slice ∷ parts) = ⊥
+
+-- what is given stands in the body
+abbrev pub IsInside : {F : Type 0} → Given → GetBody F → Type 0
+IsInside (GivenText at) c = IsText (drop at c.parts.items)
+IsInside (GivenRead n) c = n ≤ length c.buffer.items
+IsInside GivenEnd c = Unit {0}
+IsInside GivenBroken c = Unit {0}
+
+-- The same is left of the same file.
+pub record SameLeft {F : Type 0} (handle : F → ℕ) (seen : F → DiskState → Option Seen) (s : DiskState) (b : GetBody F) (t : DiskState) (c : GetBody F) : Type 0 where
+  pub disk : TouchesOwn handle seen s b.file t c.file
+  pub left : left_of c ≡ left_of b
+  pub held : IsHeld handle seen t c
+  pub most : c.most ≡ b.most
+  pub room : length c.buffer.items ≡ length b.buffer.items

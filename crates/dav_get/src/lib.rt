@@ -2,6 +2,7 @@
 #![tactic(auto)]
 
 mod body;
+mod body_steps;
 mod buffer;
 mod deciding;
 mod get;

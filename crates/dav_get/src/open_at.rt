@@ -7,6 +7,7 @@ use dav_model::Slice;
 use dav_store::DavFile;
 
 /// An open file, and the place at which it stands.
+#[derive(Drop)]
 pub struct OpenAt<F> {
     pub file: F,
     pub place: u64,
