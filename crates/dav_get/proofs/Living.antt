@@ -1,5 +1,6 @@
 -- What a GET leaves open, call by call.
 use Rattle.std.proofs.Common.{◌≡◌, ℕ, Option, None, Some, Result, Ok, Err, refl, sym, ap, subst, ◌∙◌}
+use Rattle.dav_core.specs.declared.handle.OpenOptions.{OpenOptions}
 use Rattle.dav_core.specs.Disk.{DiskState}
 use Rattle.dav_core.specs.Keeps.{Keeps, KeepsBut, keeps_but, keeps_then, but_then, closed_again}
 use Rattle.dav_core.specs.Options.{reading}
@@ -34,11 +35,11 @@ module _ {S C F : Type 0} (view : View S C F) where
       (subst (λ j. KeepsBut j (view.state s) (view.state t)) (sym kept.1) (but_then n (view.state s) (view.state m) (view.state t) keeps kept.0), ap (view.state s).live kept.1 ∙ fresh)
 
   -- The file in hand was opened before.
-  pub opened_before : (s m t : S) (file : F) (result : Given F) → IsOpened reading (view.state s) (view.handle file) (view.seen file (view.state m)) (view.state m)
+  pub opened_before : (how : OpenOptions) (s m t : S) (file : F) (result : Given F) → how ≡ reading → IsOpened how (view.state s) (view.handle file) (view.seen file (view.state m)) (view.state m)
       → HeldOrClosed view (view.handle file) m result t → OpenOnlyHeld view s result t
-  opened_before s m t file (Ok r) opened life = (life.0, only_new (view.handle file) s m t r.1.file (opened.kept refl) opened.fresh life.1)
-  opened_before s m t file (Err e) opened life =
-      closed_again (view.handle file) (view.state s) (view.state t) (but_then (view.handle file) (view.state s) (view.state m) (view.state t) (opened.kept refl) life.0) opened.fresh life.1
+  opened_before how s m t file (Ok r) is opened life = (life.0, only_new (view.handle file) s m t r.1.file (opened.kept is) opened.fresh life.1)
+  opened_before how s m t file (Err e) is opened life =
+      closed_again (view.handle file) (view.state s) (view.state t) (but_then (view.handle file) (view.state s) (view.state m) (view.state t) (opened.kept is) life.0) opened.fresh life.1
 
   only_before : (s m t : S) (held : Option (OpenAt F)) → Keeps (view.state s) (view.state m) → OpensOnly view m held t → OpensOnly view s held t
   only_before s m t None keeps only = keeps_then (view.state s) (view.state m) (view.state t) keeps only

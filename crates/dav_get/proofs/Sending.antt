@@ -1,4 +1,5 @@
 -- What is sent of a file by its row of the table is what the definition says.
+use Rattle.std.specs.Prelude.{codes}
 use Rattle.std.proofs.Common.{◌≡◌, ◌≤◌, ℕ, Bool, true, false, cond, List, [], ◌∷◌, Option, None, Some, Result, Ok, Err, IfOk, IfSome, refl, sym, ap, subst, ◌∙◌, arith, ◌⊎◌, inl, inr}
 use Rattle.dav_io.specs.Counts.{Rose}
 use Rattle.dav_io.specs.Told.{Both, told_after}
@@ -37,12 +38,12 @@ pub record Says (info : Info) (stood : Stood) : Type 0 where
 -- the same is sent by metadata and by what is told
 pub sent_alike : (method : DavMethod) (fields : Fields) (info : Info) (stood : Stood) → Says info stood → sent_of method fields (stood_by info None) ≡ sent_of method fields stood
 sent_alike method fields info stood says = λ i. sent_by (condition method fields true (strong (says.tag i)) (says.modified i)) (ranges_are_heard fields (strong (says.tag i)) (says.modified i))
-    (first_bytes fields _) (says.len i)
+    (first_bytes fields (codes "range")) (says.len i)
 
 reply_alike : {F : Type 0} (method : DavMethod) (path : WebPath) (info : Info) (stood : Stood) (sent : Sent) (outcome : Outcome) (body : GetBody F) (parts : List BodyPart) (date : Option (List ℕ)) → Says info stood
     → outcome ≡ record { status = sent_status sent; fields = sent_fields (is_get method) (type_of path) info.len info.tag date sent }
     → left_of body ≡ parts → parts_of stood.number parts ≡ sent_parts (is_get method) (type_of path) stood.number info.len sent
-    → reply_at {F} stood.number (Ok (outcome, body)) ≡ sent_reply (is_get method) (type_of path) stood date sent
+    → reply_at {F = F} stood.number (Ok (outcome, body)) ≡ sent_reply (is_get method) (type_of path) stood date sent
 reply_alike method path info stood sent outcome body parts date says is left are =
     let status : outcome.status ≡ sent_status sent = ap (λ (o : Outcome). o.status) is in
     let fields : outcome.fields ≡ sent_fields (is_get method) (type_of path) stood.len stood.tag date sent =
@@ -53,16 +54,16 @@ reply_alike method path info stood sent outcome body parts date says is left are
 
 module _ {S C F : Type 0} (view : View S C F) where
   held_left : (parts : List BodyPart) (file : F) (place : ℕ) (s : S) (body : GetBody F) (t : S) → Holds view parts file place s body t → left_of body ≡ parts
-  held_left [] file place s body t (closed, left, none) = left
+  held_left [] file place s body t (closed, (left, none)) = left
   held_left (part ∷ parts) file place s body t (same, left, some) = left
 
   held_counts : (parts : List BodyPart) (file : F) (place : ℕ) (s : S) (body : GetBody F) (t : S) → Holds view parts file place s body t → (view.state s).faults ≤ (view.state t).faults
-  held_counts [] file place s body t (closed, left, none) = let same = closed.done.counts in omega arith
+  held_counts [] file place s body t (closed, (left, none)) = let same = closed.done.counts in omega arith
   held_counts (part ∷ parts) file place s body t (same, left, some) = rw same (omega arith)
 
   held_number : (parts : List BodyPart) (file : F) (place : ℕ) (s : S) (body : GetBody F) (t : S) (outcome : Outcome) (f : Seen) → seen_in view s file ≡ Some f
       → Holds view parts file place s body t → IsOfNumber view f.stands.number t (Ok (outcome, body))
-  held_number [] file place s body t outcome f told (closed, left, none) h some = cc
+  held_number [] file place s body t outcome f told (closed, (left, none)) h some = cc
   held_number (part ∷ parts) file place s body t outcome f told (same, left, some) h is =
       let e : record { file = file; place = place } ≡ h = cc in
       let at : seen_in view t h.file ≡ Some f = rw (same, ← e) told in
@@ -70,7 +71,7 @@ module _ {S C F : Type 0} (view : View S C F) where
 
   -- A row that sends is right.
   pub sends_right : (method : DavMethod) (path : WebPath) (info : Info) (stood : Stood) (sent : Sent) (file : F) (place : ℕ) (s : S) (outcome : Outcome) (body : GetBody F) (t : S) → Says info stood
-      → Sends view method path info sent file place s outcome body t → IsSent method path stood sent (reply_at {F} stood.number (Ok (outcome, body)))
+      → Sends view method path info sent file place s outcome body t → IsSent method path stood sent (reply_at {F = F} stood.number (Ok (outcome, body)))
   sends_right method path info stood sent file place s outcome body t says row =
       let (date, dated, is) = row.outcome_is in
       (date, subst (λ time. IsDate time date) says.modified dated,
@@ -98,8 +99,8 @@ module _ {S C F : Type 0} (view : View S C F) where
   sought_right : (sought : Result ℕ FsError) (method : DavMethod) (path : WebPath) (fields : Fields) (info : Info) (stood : Stood) (sent : Sent) (file g : F) (start : ℕ) (s m : S) (outcome : Outcome) (body : GetBody F) (t : S) (f : Seen)
       → Says info stood → sent ≡ sent_of method fields stood → first_place sent ≡ Some start → f.stands.number ≡ stood.number → seen_in view s file ≡ Some f → can_read ((view.state s).live (view.handle file)) ≡ true
       → Seeks view s file start sought m g → AfterSeek view sought method path info sent g start m outcome body t
-      → (IsSent method path stood sent (reply_at {F} stood.number (Ok (outcome, body))) × IsOfNumber view stood.number t (Ok (outcome, body)))
-      ⊎ (IsUnplaced method fields path stood (reply_at {F} stood.number (Ok (outcome, body))) × Rose (view.state s).faults (view.state t).faults)
+      → (IsSent method path stood sent (reply_at {F = F} stood.number (Ok (outcome, body))) × IsOfNumber view stood.number t (Ok (outcome, body)))
+      ⊎ (IsUnplaced method fields path stood (reply_at {F = F} stood.number (Ok (outcome, body))) × Rose (view.state s).faults (view.state t).faults)
   sought_right (Ok n) method path fields info stood sent file g start s m outcome body t f says is first number told live seeks row =
       let (h, at, moved) = told_after (seen_in view s file) (seen_in view m g) (SeeksIn start (Ok n)) f seeks.done.told told in
       let same : h.stands.number ≡ stood.number = ap (λ (x : Seen). x.stands.number) moved ∙ number in
@@ -114,8 +115,8 @@ module _ {S C F : Type 0} (view : View S C F) where
   pub placed_right : (place : Option ℕ) (method : DavMethod) (path : WebPath) (fields : Fields) (info : Info) (stood : Stood) (sent : Sent) (file : F) (s : S) (outcome : Outcome) (body : GetBody F) (t : S) (f : Seen)
       → Says info stood → sent ≡ sent_of method fields stood → first_place sent ≡ place → f.stands.number ≡ stood.number → seen_in view s file ≡ Some f → can_read ((view.state s).live (view.handle file)) ≡ true
       → ByPlace view place method path info sent file s outcome body t
-      → (IsSent method path stood sent (reply_at {F} stood.number (Ok (outcome, body))) × IsOfNumber view stood.number t (Ok (outcome, body)))
-      ⊎ (IsUnplaced method fields path stood (reply_at {F} stood.number (Ok (outcome, body))) × Rose (view.state s).faults (view.state t).faults)
+      → (IsSent method path stood sent (reply_at {F = F} stood.number (Ok (outcome, body))) × IsOfNumber view stood.number t (Ok (outcome, body)))
+      ⊎ (IsUnplaced method fields path stood (reply_at {F = F} stood.number (Ok (outcome, body))) × Rose (view.state s).faults (view.state t).faults)
   placed_right None method path fields info stood sent file s outcome body t f says is first number told live row =
       inl (sends_right method path info stood sent file 0 s outcome body t says row,
         subst (λ k. IsOfNumber view k t (Ok (outcome, body))) number (sends_number method path info sent file 0 s outcome body t f told row))
