@@ -9,3 +9,4 @@ pub mod BodyMade
 pub mod Bounds
 pub mod Going
 pub mod Living
+pub mod BodyEnds
