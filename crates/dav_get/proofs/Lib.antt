@@ -10,3 +10,5 @@ pub mod Bounds
 pub mod Going
 pub mod Living
 pub mod Sending
+pub mod BodyEnds
+pub mod Righting

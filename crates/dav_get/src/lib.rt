@@ -2,6 +2,7 @@
 #![tactic(auto)]
 
 mod body;
+pub mod body_laws;
 mod body_steps;
 mod buffer;
 mod deciding;
