@@ -46,7 +46,7 @@ says_of info there agrees = record { len = agrees.len; modified = agrees.modifie
 
 -- a regular file that was opened for reading may be read
 reads_of : (live : Option Live) (kind : Kind) → IsSome live → ((l : Live) → live ≡ Some l → l.how ≡ reading) → option_map (λ l. l.kind) live ≡ Some kind → is_file kind ≡ true → can_read live ≡ true
-reads_of None kind some how is file = absurd some
+reads_of None kind some how is file = cc
 reads_of (Some l) kind some how is file =
     let same : l.kind ≡ kind = cc in
     let read : l.how.read ≡ true = ap (λ (o : OpenOptions). o.read) (how l refl) in
@@ -106,3 +106,43 @@ module _ {S C F : Type 0} (view : View S C F) (settings : Settings) (method : Da
             }))
           | inr unplaced ↦ inr (inr (record { spoiled = inr unplaced.0; rose = unplaced.1 }))
         ]
+
+    -- a file that may send the client to another address
+    redirect_right : (said : Result (Option (List ℕ)) FsError) (info : Info) (file g : F) (s m : S) (result : Given F) (t : S) → Agrees info there → is_set settings.redirect ≡ true
+        → seen_in view s file ≡ Some (seen_of there) → can_read ((view.state s).live (view.handle file)) ≡ true
+        → Redirects view s file said m g → AfterRedirect view said method path fields info g m result t → RightHead view settings method fields path (Ok there) s result t
+    redirect_right (Err e) info file g s m result t agrees set told live asked (closed, err) =
+        let spoiled : Spoiled {T = Option (List ℕ)} (view.state s) (Err e) (view.state m) = rw told at asked.done.told in
+        spoiled_right (Ok there) s m t (Err e) e result refl spoiled (closed_counts m g t closed) err
+    redirect_right (Ok (Some address)) info file g s m (Err e) t agrees set told live asked row = absurd row
+    redirect_right (Ok (Some address)) info file g s m (Ok r) t agrees set told live asked ((date, dated, is), closed, (left, none)) =
+        let to : Some address ≡ there.redirect = rw told at asked.done.told in
+        let where' : address_of settings (stood_of there) ≡ Some address = ap (λ b. cond b there.redirect None) set ∙ sym to in
+        let reply : reply_at {F = F} there.number (Ok r) ≡ redirected address there.tag date =
+            λ i. record {
+              status = ap (λ (o : Outcome). o.status) is i;
+              fields = (ap (λ (o : Outcome). o.fields) is ∙ (λ j. redirected_fields address (agrees.tag j) date)) i;
+              parts = ap (parts_of there.number) left i;
+            } in
+        inr (inl (record {
+          head = as_head _ (subst (λ a. IsFileHead a method fields path (stood_of there) (reply_at {F = F} there.number (Ok r))) (sym where')
+              (date, subst (λ time. IsDate time date) agrees.modified dated, reply));
+          file = λ h some. absurd (none_some r.1.file h none some);
+        }))
+      where
+        none_some : (o : Option (OpenAt F)) (h : OpenAt F) → o ≡ None → o ≡ Some h → ⊥
+        none_some o h a b = let x : None ≡ Some h = sym a ∙ b in cc
+    redirect_right (Ok None) info file g s m result t agrees set told live asked row =
+        let to : None ≡ there.redirect = rw told at asked.done.told in
+        let none : address_of settings (stood_of there) ≡ None = ap (λ b. cond b there.redirect None) set ∙ sym to in
+        let told2 : seen_in view m g ≡ Some (seen_of there) = asked.done.same ∙ told in
+        let live2 : can_read ((view.state m).live (view.handle g)) ≡ true = ap (λ h. can_read ((view.state m).live h)) asked.handle ∙ ap can_read (asked.done.keeps.live (view.handle file)) ∙ live in
+        right_before (Ok there) s m result t asked.done.keeps.counts (sends_file_right info g m result t (seen_of there) agrees none refl told2 live2 row)
+
+    by_redirect_right : (b : Bool) (info : Info) (file : F) (s : S) (result : Given F) (t : S) → is_set settings.redirect ≡ b → Agrees info there
+        → seen_in view s file ≡ Some (seen_of there) → can_read ((view.state s).live (view.handle file)) ≡ true
+        → ByRedirect view b method path fields info file s result t → RightHead view settings method fields path (Ok there) s result t
+    by_redirect_right false info file s result t set agrees told live row =
+        sends_file_right info file s result t (seen_of there) agrees (ap (λ b. cond b there.redirect None) set) refl told live row
+    by_redirect_right true info file s result t set agrees told live (said, g, m, asked, row) =
+        redirect_right said info file g s m result t agrees set told live asked row
