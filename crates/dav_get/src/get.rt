@@ -6,7 +6,11 @@ ghost use Rattle.dav_core.specs.Options.{reading};
 ghost use Rattle.dav_model.specs.declared.sent.Sent.TheVariants.{Unsatisfied};
 ghost use Rattle.dav_model.specs.Head.{is_set, is_well_known as the_is_well_known};
 ghost use Rattle.dav_model.specs.Sizes.{read_size_of};
-ghost use Rattle.dav_store.specs.Standing.{Seen};
+ghost use Rattle.std.specs.Prelude.{Result};
+ghost use Rattle.dav_core.specs.declared.error.FsError.{FsError};
+ghost use Rattle.dav_store.specs.Shows.{Shows};
+ghost use Rattle.dav_store.specs.Standing.{Seen, Standing};
+ghost use Rattle.dav_get.specs.Right.{OpensLooked, RightHead};
 ghost use Rattle.dav_store.specs.View.{the_view, Closes};
 ghost use Rattle.dav_get.specs.Lives.{HeldOrClosed, HasMost, OpenOnlyHeld};
 ghost use Rattle.dav_get.specs.Prepared.{AreReady};
@@ -364,6 +368,31 @@ fn is_well_known(settings: &Settings, method: DavMethod, path: &DavPath) -> bool
         [first, second] => first.as_str() == "remote.php" && second.as_str() == "webdav",
         _ => false,
     }
+}
+
+/// Answers a GET or HEAD (RFC 9110, sections 9.3.1, 9.3.2, 13 and 14) over any store: preconditions, one range or several, and
+/// the body that gives them. An error is the store's refusal, 405 for what is neither a directory nor a regular file, or 501
+/// with a close for a directory, whose form isn't built. A file that was opened is closed again, or held by the body.
+///
+/// `table` tells which call of the store gave the answer. `right` says that the answer is the head of what the store shows
+/// at the path, unless a fault was met or memory was refused.
+pub fn handle_get<S: GuardedFileSystem<C>, C>(
+    alloc: Global,
+    settings: &Settings,
+    fs: &mut S,
+    credentials: &C,
+    method: DavMethod,
+    path: &DavPath,
+    fields: &HeaderMap,
+) -> Given<S::File>
+    ensures table { Gets (the_view S.GuardedFileSystem S.Disk.Disk S.File.DavFile) settings.now credentials.now method path.now fields.now fs.old result fs.new ⊎ (result ≡ Err DavError.NoMemory) }
+    ensures right { (looked opened : Result Standing FsError) → Shows (the_view S.GuardedFileSystem S.Disk.Disk S.File.DavFile) fs.old credentials.now path.now looked opened
+        → OpensLooked looked opened → RightHead (the_view S.GuardedFileSystem S.Disk.Disk S.File.DavFile) settings.now method fields.now path.now looked fs.old result fs.new }
+    ensures life { OpenOnlyHeld (the_view S.GuardedFileSystem S.Disk.Disk S.File.DavFile) fs.old result fs.new }
+    ensures most { HasMost (read_size_of settings.now.read_buf_size) result }
+    ensures loan { S.Disk.loan (S.inside fs.new) ≡ S.Disk.loan (S.inside fs.old) }
+{
+    get_once(alloc, settings, fs, credentials, method, path, fields)
 }
 
 // A GET or HEAD, by the table alone.

@@ -16,6 +16,7 @@ mod ranges;
 
 pub use body::{GetBody, Polled};
 pub use buffer::ReadBuffer;
+pub use get::handle_get;
 pub use open_at::OpenAt;
 pub use part::BodyPart;
 pub use ranges::slices;
