@@ -109,9 +109,11 @@ opened_ok w v path h s t is flat linked at (number, e, rows) =
         → v ≡ with_opens w (put h.0 (Some (at_start number)) w.opens) → look w.tree path.names ≡ Ok row → row.number ≡ number → kind_at t h.0 ≡ Some row.kind
         → OpensThere seen_by (looked w path) (Ok (record { handle = h })) t
     ok_row w v path h t row number is flat at e stands same kind =
-        rw (stands, flat) (seen_in w row.kind (at_start row.number),
+        rw (stands, flat) (
+          seen_in w row.kind (at_start row.number),
           ap (λ told. seen_with told (t.live h.0) h.0) at ∙ seen_opened w v h.0 number (t.live h.0) row.kind e kind ∙ ap (λ n. Some (seen_in w row.kind (at_start n))) (sym same),
-          is_there w path.names row is stands)
+          is_there w path.names row is stands,
+        )
 
 opened_err : (w v : World) (path : WebPath) (e : DiskError) (kind : Option Kind) (s t : DiskState) → path.slash ≡ false → is_linked w.tree path.names ≡ false → OpenedIn path.names (Err e) kind w v
     → Asks {T = Handle} (Err e) s t → OpensThere {F = PlainFile} seen_by (looked w path) (Err (fs_error_of e)) t ⊎ Spoiled {T = PlainFile} s (Err (fs_error_of e)) t
