@@ -1,9 +1,8 @@
 -- A plain store over a told disk shows what stands in the world.
-use Rattle.std.proofs.Common.{◌≡◌, ◌≢◌, ◌≤◌, ◌<◌, ℕ, suc, Bool, true, false, List, [], ◌∷◌, length, get_or, Option, None, Some, Result, Ok, Err, refl, sym, ap, subst, ◌∙◌, if◌then◌else◌, inl, inr, ◌⊎◌, arith, ◌&&◌, not}
+use Rattle.std.proofs.Common.{◌≡◌, ◌≤◌, ◌<◌, ℕ, suc, Bool, true, false, List, [], ◌∷◌, length, get_or, Option, None, Some, Result, Ok, Err, refl, sym, ap, subst, ◌∙◌, if◌then◌else◌, inl, inr, ◌⊎◌, arith}
 use Rattle.std.specs.List.{AllByRecursion}
 use Rattle.std.specs.Option.{option_map}
-use Rattle.dav_io.specs.Told.{Both, told_after}
-use Rattle.dav_io.specs.Counts.{Rose}
+use Rattle.dav_io.specs.Told.{told_after}
 use Rattle.dav_core.specs.declared.error.FsError.{FsError}
 use Rattle.dav_core.specs.declared.error.FsError.TheVariants.{Forbidden}
 use Rattle.dav_core.specs.declared.handle.DiskError.{DiskError}
@@ -11,26 +10,25 @@ use Rattle.dav_core.specs.declared.handle.DiskError.TheVariants.{NotFound, NotDi
 use Rattle.dav_core.specs.declared.handle.Handle.{Handle}
 use Rattle.dav_core.specs.declared.handle.Meta.{Meta}
 use Rattle.dav_core.specs.declared.handle.OpenOptions.{OpenOptions}
-use Rattle.dav_core.specs.declared.time.FileTime.{FileTime}
 use Rattle.dav_core.specs.declared.tree.Kind.{Kind}
 use Rattle.dav_core.specs.declared.tree.Kind.TheVariants.{Dir, File, Link}
 use Rattle.dav_core.specs.declared.tree.Row.{Row}
 use Rattle.dav_core.specs.DavPath.{WebPath}
-use Rattle.dav_core.specs.Disk.{DiskState, Live, Asks, Metas, MetaIn, IsMetaOf, Opens, OpenedIn, Refused, at_start, kind_at, kind_opened, with_opens}
+use Rattle.dav_core.specs.Disk.{DiskState, Live, Asks, MetaIn, IsMetaOf, Opens, OpenedIn, Refused, at_start, kind_at, kind_opened, with_opens}
 use Rattle.dav_core.specs.Errors.{fs_error_of}
-use Rattle.dav_core.specs.Info.{Info, info_of, known, tag_of}
+use Rattle.dav_core.specs.Info.{Info, info_of, known}
 use Rattle.dav_core.specs.Keeps.{put_same}
 use Rattle.dav_core.specs.Options.{reading}
 use Rattle.dav_core.specs.Path.{Names}
-use Rattle.dav_core.specs.Tree.{is_dir, is_file, is_linked, look, look_all}
+use Rattle.dav_core.specs.Tree.{is_file, is_linked, look, look_all}
 use Rattle.dav_core.specs.World.{World, IsWorld, OpenFile, bytes_of, time_of, put}
 use Rattle.dav_store.specs.Files.{Spoiled}
-use Rattle.dav_store.specs.Shows.{Shows, Looked, here, looks, looks_at_link, LooksThere, OpensThere, IsThere, seen_of}
+use Rattle.dav_store.specs.Shows.{Shows, Looked, here, looks, looks_at_link, LooksThere, OpensThere, IsThere}
 use Rattle.dav_store.specs.Standing.{Agrees, Seen, Standing}
 use Rattle.dav_store.specs.View.{View}
 use Rattle.dav_plain.specs.declared.file.PlainFile.{PlainFile}
 use Rattle.dav_plain.specs.Calls.{IsOpening, Looks, filed, looked_as, seen_by}
-use Rattle.dav_plain.specs.Standing.{found, looked, opened, seen_in, seen_with, standing_as, standing_of, under_slash}
+use Rattle.dav_plain.specs.Standing.{looked, opened, seen_in, seen_with, standing_as, standing_of, under_slash}
 
 -- a refusal that the tree calls for, or a fault or want of memory
 refused : {T U V : Type 0} (e : DiskError) (stands : Result U DiskError) (answer : Result T DiskError) (s t : DiskState) → Refused e stands → answer ≡ Err e → Asks answer s t
