@@ -1,5 +1,5 @@
 -- What the plain store answers, by what its disk answers.
-use Rattle.std.specs.Prelude.{◌≡◌, ◌≢◌, ◌⊎◌, ◌&&◌, ℕ, List, [], Bool, true, false, not, None, Some, Option, Result, Ok, Err, refl, if◌then◌else◌}
+use Rattle.std.specs.Prelude.{◌≡◌, ◌≢◌, ℕ, List, [], Bool, true, false, None, Some, Option, Result, Ok, Err, refl}
 use Rattle.dav_io.specs.Told.{Both}
 use Rattle.dav_core.specs.declared.error.FsError.{FsError}
 use Rattle.dav_core.specs.declared.error.FsError.TheVariants.{Forbidden, NotImplemented}
@@ -13,12 +13,11 @@ use Rattle.dav_core.specs.Errors.{fs_error_of}
 use Rattle.dav_core.specs.Info.{Info, info_of}
 use Rattle.dav_core.specs.Keeps.{SameOpen}
 use Rattle.dav_core.specs.Options.{reading}
-use Rattle.dav_core.specs.Tree.{is_dir}
 use Rattle.dav_core.specs.World.{World, OpenFile}
 use Rattle.dav_store.specs.Files.{LeavesOpen, SameSeen}
 use Rattle.dav_store.specs.Standing.{Seen}
 use Rattle.dav_plain.specs.declared.file.PlainFile.{PlainFile}
-use Rattle.dav_plain.specs.Standing.{under_slash, seen_at, seen_with, seen_in}
+use Rattle.dav_plain.specs.Standing.{under_slash, seen_at, seen_with}
 
 -- refused, with nothing asked
 abbrev pub Refuses : {S T : Type 0} → FsError → S → Result T FsError → S → Type 0

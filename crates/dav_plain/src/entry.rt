@@ -7,7 +7,7 @@ use dav_io::Text;
 use dav_store::DavDirEntry;
 
 /// A listing. It has no entries, since no disk lists so far.
-#[derive(Debug)]
+#[derive(Debug, Drop)]
 pub struct PlainDir;
 
 /// An entry of a listing: its name, which is plain, and what the listing read of it.

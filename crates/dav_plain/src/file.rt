@@ -1,4 +1,6 @@
-ghost use Rattle.std.specs.Prelude.{◌≡◌, ℕ};
+ghost use Rattle.std.specs.Prelude.{◌≡◌, ◌⊎◌, ◌<◌, ℕ, Err, IsSome, OnErr, false, length};
+ghost use Rattle.dav_core.specs.Disk.{can_read};
+ghost use Rattle.dav_store.specs.Files.{FileReads, FileSeeks, IsFault};
 
 use crate::PlainMeta;
 use bytes::Buf;
@@ -40,14 +42,29 @@ impl<D: Disk> DavFile<D> for PlainFile {
         }
     }
 
-    fn seek(&mut self, disk: &mut D, place: u64) -> Result<u64, FsError> {
+    /// Sets its place. It is refused only by a fault, whatever it is.
+    fn seek(&mut self, disk: &mut D, place: u64) -> Result<u64, FsError>
+        requires { IsSome ((D.state disk.old).live self.old.handle.0) }
+        ensures done { FileSeeks (D.state disk.old) self.old.handle.0 (seen_by self.old (D.state disk.old)) place result (D.state disk.new) (seen_by self.new (D.state disk.new)) }
+        ensures handle { self.new.handle.0 ≡ self.old.handle.0 }
+        ensures loan { D.loan disk.new ≡ D.loan disk.old }
+        ensures only { OnErr result (IsFault (D.state disk.old) result (D.state disk.new)) }
+    {
         match disk.seek(self.handle, place) {
             Ok(()) => Ok(place),
             Err(e) => Err(e.into()),
         }
     }
 
-    fn read_into(&mut self, disk: &mut D, into: &mut [u8]) -> Result<usize, FsError> {
+    /// Reads bytes from its place on. What is no regular file opened for reading may be forbidden.
+    fn read_into(&mut self, disk: &mut D, into: &mut [u8]) -> Result<usize, FsError>
+        requires live { IsSome ((D.state disk.old).live self.old.handle.0) }
+        requires room { 0 < length into.old }
+        ensures done { FileReads (D.state disk.old) self.old.handle.0 (seen_by self.old (D.state disk.old)) into.new result (D.state disk.new) (seen_by self.new (D.state disk.new)) }
+        ensures handle { self.new.handle.0 ≡ self.old.handle.0 }
+        ensures loan { D.loan disk.new ≡ D.loan disk.old }
+        ensures only { OnErr result (IsFault (D.state disk.old) result (D.state disk.new) ⊎ ((result ≡ Err FsError.Forbidden) × (can_read ((D.state disk.old).live self.old.handle.0) ≡ false))) }
+    {
         match disk.read(self.handle, into) {
             Ok(count) => Ok(count),
             Err(e) => Err(e.into()),

@@ -4,9 +4,13 @@
 mod entry;
 mod file;
 mod fs;
+pub mod laws;
 mod meta;
 
 pub use entry::{PlainDir, PlainEntry};
 pub use file::PlainFile;
 pub use fs::PlainFs;
 pub use meta::PlainMeta;
+
+#[cfg(test)]
+mod tests;

@@ -1,5 +1,5 @@
 -- What the calls of an open file do, where it is told what it is.
-use Rattle.std.specs.Prelude.{◌≡◌, ◌≤◌, ◌<◌, ◌+◌, ◌&&◌, ◌⊎◌, ◌++◌, ◌-◌, ℕ, nat_le, List, [], length, take, drop, replicate, min, Bool, true, Option, None, Some, IsSome, IfSome, Result, Ok, Err, IfOk, OnErr, if◌then◌else◌}
+use Rattle.std.specs.Prelude.{◌≡◌, ◌≤◌, ◌<◌, ◌+◌, ◌&&◌, ◌⊎◌, ◌++◌, ◌-◌, ℕ, nat_le, List, [], length, take, drop, replicate, min, Bool, true, Option, None, Some, IfSome, Result, Ok, Err, IfOk, OnErr, if◌then◌else◌}
 use Rattle.std.specs.List.{list_all}
 use Rattle.dav_io.specs.Counts.{Rose}
 use Rattle.dav_io.specs.Told.{Both}
@@ -9,7 +9,7 @@ use Rattle.dav_core.specs.Disk.{DiskState, Live, can_read, kind_at}
 use Rattle.dav_core.specs.Info.{Info}
 use Rattle.dav_core.specs.Keeps.{Keeps, KeepsBut, SameOpen}
 use Rattle.dav_store.specs.Frames.{KeepsOpenBut}
-use Rattle.dav_store.specs.Standing.{Standing, Seen, AgreesOpen}
+use Rattle.dav_store.specs.Standing.{Seen, AgreesOpen}
 
 -- the same file at the same place
 abbrev pub SameSeen : Option Seen → Option Seen → Type 0

@@ -4,9 +4,8 @@ use Rattle.dav_io.specs.Told.{Both}
 use Rattle.dav_core.specs.declared.error.FsError.{FsError}
 use Rattle.dav_core.specs.declared.handle.OpenOptions.{OpenOptions}
 use Rattle.dav_core.specs.Disk.{DiskState, Live}
-use Rattle.dav_core.specs.Keeps.{Keeps, KeepsBut, SameOpen, SameBesidesOpens}
+use Rattle.dav_core.specs.Keeps.{Keeps, KeepsBut, SameOpen}
 use Rattle.dav_core.specs.Options.{reading}
-use Rattle.dav_core.specs.World.{World}
 use Rattle.dav_store.specs.Standing.{Seen}
 
 -- The same handles and listers are live, and every open file has its number and its place. What stands may differ.

@@ -1,5 +1,5 @@
 -- What stands at a path, as a store tells it, and how an answer's metadata agrees with it.
-use Rattle.std.specs.Prelude.{◌≡◌, ℕ, List, Bool, true, Option, Result, Ok, Err}
+use Rattle.std.specs.Prelude.{◌≡◌, ℕ, List, true, Option, Result, Ok, Err}
 use Rattle.dav_core.specs.declared.error.FsError.{FsError}
 use Rattle.dav_core.specs.declared.time.FileTime.{FileTime}
 use Rattle.dav_core.specs.declared.tree.Kind.{Kind}

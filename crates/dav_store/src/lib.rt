@@ -15,3 +15,6 @@ pub use file::DavFile;
 pub use guarded::GuardedFileSystem;
 pub use through::{file_close, file_metadata, file_read, file_seek};
 pub use unguarded::DavFileSystem;
+
+#[cfg(test)]
+mod tests;
