@@ -23,6 +23,7 @@ mod parsing;
 mod path;
 mod prefix;
 mod tag;
+pub mod tag_laws;
 mod time;
 mod tree;
 mod url;
@@ -44,6 +45,5 @@ pub use parse_error::ParseError;
 pub use path::FsPath;
 pub use time::FileTime;
 pub use tree::{Kind, Row, Tree};
-
 #[cfg(test)]
 mod tests;

@@ -6,3 +6,6 @@ mod fields;
 mod standing;
 
 pub use conditions::{if_match, ifrange_match, ranges_are_heard};
+
+#[cfg(test)]
+mod tests;
