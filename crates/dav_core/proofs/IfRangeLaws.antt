@@ -6,7 +6,7 @@ use Rattle.httpdate.specs.Reader.{parse, read_name}
 use Rattle.httpdate.specs.Text.{day_name}
 use Rattle.httpdate.proofs.ReaderLemmas.{read_name_sound}
 use Rattle.dav_core.proofs.TagLaws.{tag_sound, tag_complete}
-use Rattle.dav_core.specs.Tags.{IsTag, IsIfRange, spelled, weak_mark}
+use Rattle.dav_core.specs.Tags.{IsTag, IsIfRange, weak_mark}
 use Rattle.dav_core.specs.TagReading.{tag_of, tag_or_date, if_range_of}
 use Rattle.dav_core.specs.declared.etag.ETag.{ETag}
 use Rattle.dav_core.specs.declared.if_range.IfRange.{IfRange}

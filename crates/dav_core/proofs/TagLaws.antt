@@ -1,7 +1,7 @@
 -- What the readers of tags and lists read is what the grammar has.
-use Rattle.std.proofs.Common.{◌≡◌, ◌==◌, ◌<◌, ◌&&◌, ◌||◌, ◌++◌, ◌∷◌, [], ℕ, zero, suc, Bool, true, false, cond, not, List, length, take, drop, reverse, codes, bytes_eq, Option, None, Some, option_map, filter_map, Decides, refl, sym, ap, subst, ◌∙◌, inl, inr, arith, append_assoc, append-nil, take-append-drop, true≢false, eqb-true, ne_eqb}
+use Rattle.std.proofs.Common.{◌≡◌, ◌==◌, ◌<◌, ◌&&◌, ◌++◌, ◌∷◌, [], ℕ, Bool, true, false, cond, not, List, length, take, drop, reverse, codes, bytes_eq, Option, None, Some, option_map, filter_map, refl, sym, ap, subst, ◌∙◌, inl, inr, arith, append_assoc, append-nil, take-append-drop, true≢false, eqb-true, ne_eqb}
 use Rattle.std.specs.List.{list_all, cons_option, onto_first, join_with_byte, AllZip}
-use Rattle.std.proofs.lemmas.Bool.{cases_Bool, and_parts, and_from, and_right, or_cases}
+use Rattle.std.proofs.lemmas.Bool.{and_parts, and_from, and_right, or_cases}
 use Rattle.std.proofs.lemmas.List.{reverse-append, reverse-reverse}
 use Rattle.std.proofs.lemmas.List.Folds.{list_all-append}
 use Rattle.std.proofs.lemmas.Slice.Eq.{bytes_eq-Decides}

@@ -1,6 +1,6 @@
 -- A list of tags is its first member and, behind a comma, the others.
-use Rattle.std.proofs.Common.{◌≡◌, ◌==◌, ◌&&◌, ◌++◌, ◌∷◌, [], ℕ, Bool, true, false, not, List, take, drop, Option, None, Some, option_map, option_to_list, refl, sym, ap, ◌∙◌, inl, inr, add-one, append_assoc, append-nil}
-use Rattle.std.specs.List.{cons_option, onto_first}
+use Rattle.std.proofs.Common.{◌≡◌, ◌==◌, ◌&&◌, ◌++◌, ◌∷◌, [], ℕ, Bool, false, not, List, take, drop, Option, None, Some, option_map, option_to_list, refl, sym, ap, ◌∙◌, inl, inr, add-one, append_assoc, append-nil}
+use Rattle.std.specs.List.{onto_first}
 use Rattle.std.proofs.lemmas.Bool.{cases_Bool}
 use Rattle.dav_core.specs.Blanks.{trimmed}
 use Rattle.dav_core.specs.Commas.{comma_place, Adds}

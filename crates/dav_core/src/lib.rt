@@ -45,5 +45,6 @@ pub use parse_error::ParseError;
 pub use path::FsPath;
 pub use time::FileTime;
 pub use tree::{Kind, Row, Tree};
+
 #[cfg(test)]
 mod tests;
