@@ -47,4 +47,6 @@ pub use time::FileTime;
 pub use tree::{Kind, Row, Tree};
 
 #[cfg(test)]
+mod tag_tests;
+#[cfg(test)]
 mod tests;
