@@ -7,3 +7,5 @@ pub mod Fits
 pub mod Links
 pub mod Plain
 pub mod TagMembers
+pub mod TagLaws
+pub mod IfRangeLaws

@@ -1,6 +1,6 @@
 -- A list of tags is its first member and, behind a comma, the others.
-use Rattle.std.proofs.Common.{◌≡◌, ◌==◌, ◌&&◌, ◌++◌, ◌∷◌, [], ℕ, Bool, true, false, not, List, take, drop, Option, None, Some, option_map, option_to_list, refl, sym, ap, ◌∙◌, inl, inr, add-one, append_assoc, append-nil}
-use Rattle.std.specs.List.{cons_option, onto_first}
+use Rattle.std.proofs.Common.{◌≡◌, ◌==◌, ◌&&◌, ◌++◌, ◌∷◌, [], ℕ, Bool, false, not, List, take, drop, Option, None, Some, option_map, option_to_list, refl, sym, ap, ◌∙◌, inl, inr, add-one, append_assoc, append-nil}
+use Rattle.std.specs.List.{onto_first}
 use Rattle.std.proofs.lemmas.Bool.{cases_Bool}
 use Rattle.dav_core.specs.Blanks.{trimmed}
 use Rattle.dav_core.specs.Commas.{comma_place, Adds}
@@ -8,11 +8,11 @@ use Rattle.dav_core.specs.TagReading.{after_byte, all_tags, members, said_in, wi
 use Rattle.dav_core.specs.declared.etag.ETag.{ETag}
 
 -- the members behind a comma
-abbrev members_behind : List ℕ → List (List ℕ)
+abbrev pub members_behind : List ℕ → List (List ℕ)
 members_behind [] = []
 members_behind (b ∷ bytes) = members false bytes
 
-cut : (quoted : Bool) (text : List ℕ) → members quoted text ≡ take (comma_place quoted text) text ∷ members_behind (drop (comma_place quoted text) text)
+pub cut : (quoted : Bool) (text : List ℕ) → members quoted text ≡ take (comma_place quoted text) text ∷ members_behind (drop (comma_place quoted text) text)
 cut quoted [] = refl
 cut quoted (b ∷ bytes) =
     let later = cut (after_byte quoted b) bytes in

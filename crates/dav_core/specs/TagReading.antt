@@ -1,5 +1,5 @@
 -- Readers of tags and lists. What they read is what the grammar has; laws say so.
-use Rattle.std.specs.Prelude.{◌==◌, ◌&&◌, ℕ, Bool, true, false, not, List, [], ◌∷◌, ◌++◌, codes, bytes_eq, take, drop, reverse, Option, None, Some, option_map, if◌then◌else◌}
+use Rattle.std.specs.Prelude.{◌==◌, ◌&&◌, ℕ, Bool, true, false, not, List, [], ◌∷◌, codes, bytes_eq, take, drop, reverse, Option, None, Some, option_map, if◌then◌else◌}
 use Rattle.std.specs.List.{list_all, cons_option, onto_first}
 use Rattle.httpdate.specs.Date.{parse_secs}
 use Rattle.dav_core.specs.Blanks.{trimmed}

@@ -1,5 +1,5 @@
 // Entity tags as fields write them, and their comparison.
-ghost use Rattle.std.specs.Prelude.{◌≡◌, IfOk, option_copied, option_map};
+ghost use Rattle.std.specs.Prelude.{◌≡◌, IfOk, option_copied};
 ghost use Rattle.std.specs.List.{list_all};
 ghost use Rattle.dav_core.specs.TagReading as reading;
 ghost use Rattle.dav_core.specs.Tags as tags;

@@ -23,6 +23,7 @@ mod parsing;
 mod path;
 mod prefix;
 mod tag;
+pub mod tag_laws;
 mod time;
 mod tree;
 mod url;
@@ -45,5 +46,7 @@ pub use path::FsPath;
 pub use time::FileTime;
 pub use tree::{Kind, Row, Tree};
 
+#[cfg(test)]
+mod tag_tests;
 #[cfg(test)]
 mod tests;

@@ -1,5 +1,5 @@
 -- What std reads as a number of 64 bits, and the bound that it is.
-use Rattle.std.proofs.Common.{◌≡◌, ◌<◌, ◌^◌, ◌==◌, ◌&&◌, ℕ, zero, suc, List, [], ◌∷◌, length, get_or, Bool, true, false, cond, not, Option, None, Some, option_map, IsUtf8, IsAscii, drop, refl, sym, ap, ◌∙◌, arith, eqb-true, ltb-true, lt-ltb, ne_eqb, nat_lt}
+use Rattle.std.proofs.Common.{◌≡◌, ◌<◌, ◌^◌, ◌==◌, ◌&&◌, ℕ, zero, suc, List, [], ◌∷◌, length, Bool, true, false, cond, not, Option, None, Some, option_map, IsUtf8, IsAscii, drop, refl, sym, ap, ◌∙◌, arith, eqb-true, ltb-true, lt-ltb, ne_eqb, nat_lt}
 use Rattle.std.specs.Str.{all_ascii_digits}
 use Rattle.std.specs.Str.Parse.{AllDigits, IsNumeral, digits_value, without_leading_plus}
 use Rattle.std.proofs.lemmas.Bool.{and_from, and_parts, not-true, eqb-false}

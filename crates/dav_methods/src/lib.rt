@@ -7,3 +7,6 @@ mod standing;
 
 pub use conditions::{if_match, ifrange_match, ranges_are_heard};
 pub use fields::first_value;
+
+#[cfg(test)]
+mod tests;

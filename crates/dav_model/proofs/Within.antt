@@ -1,11 +1,11 @@
 -- Every slice that a value asks for lies within the file.
-use Rattle.std.proofs.Common.{◌≡◌, ◌<◌, ◌≤◌, ◌+◌, ◌-◌, ◌&&◌, ℕ, min, List, [], ◌∷◌, Bool, true, false, cond, Option, None, Some, IfSome, Result, IfOk, Ok, Err, refl, subst, sym, arith, nat_le, nat_lt, leb-true, ltb-true}
+use Rattle.std.proofs.Common.{◌≡◌, ◌+◌, ◌-◌, ◌&&◌, ℕ, min, List, [], ◌∷◌, Bool, true, false, cond, Option, None, Some, IfSome, Result, IfOk, Ok, Err, refl, subst, sym, arith, nat_le, nat_lt, leb-true, ltb-true}
 use Rattle.std.specs.List.{AllByRecursion, filter_map}
 use Rattle.std.proofs.lemmas.Bool.{and_parts}
 use Rattle.dav_model.specs.declared.ranges.Slice.{Slice}
 use Rattle.dav_model.specs.declared.ranges.Ranges.{Ranges}
 use Rattle.dav_model.specs.declared.ranges.Ranges.TheVariants.{Whole}
-use Rattle.dav_model.specs.Slices.{Bounds, IsWithin, AreWithin, slice_between, slice_of, with_slice, all_slices, answer, is_readable, kept, pieces, ranges, end_of}
+use Rattle.dav_model.specs.Slices.{Bounds, IsWithin, AreWithin, slice_between, slice_of, with_slice, all_slices, answer, is_readable, kept, pieces, ranges}
 
 slice_where : (len : ℕ) (t : Bool) (slice : Slice) → (t ≡ true → IsWithin len slice) → IfSome (cond t (Some slice) None) (IsWithin len)
 slice_where len true slice within = within refl
