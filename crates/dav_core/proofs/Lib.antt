@@ -6,3 +6,5 @@ pub mod Utf8
 pub mod Fits
 pub mod Links
 pub mod Plain
+pub mod Back
+pub mod Made

@@ -17,6 +17,7 @@ mod names;
 mod parse_error;
 mod parsing;
 mod path;
+mod plain_name;
 mod prefix;
 mod tag;
 mod time;
