@@ -8,3 +8,4 @@ pub mod Links
 pub mod Plain
 pub mod Back
 pub mod Made
+pub mod TagMembers

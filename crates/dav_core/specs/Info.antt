@@ -1,5 +1,6 @@
 -- What metadata says of what stands at a path, and the rule by which a disk's metadata says it.
-use Rattle.std.specs.Prelude.{ℕ, ◌+◌, ◌*◌, ◌/◌, nat_lt, Bool, false, List, ◌++◌, codes, ℤ, pos, negsuc, Option, None, Some, Result, Ok, Err, if◌then◌else◌}
+use Rattle.std.specs.Prelude.{◌≡◌, true, refl, ℕ, ◌+◌, ◌*◌, ◌/◌, nat_lt, Bool, false, List, ◌++◌, codes, ℤ, pos, negsuc, Option, None, Some, Result, Ok, Err, if◌then◌else◌}
+use Rattle.std.proofs.Common.{sym, ap, ◌∙◌}
 use Rattle.std.specs.Fmt.{digits}
 use Rattle.dav_core.specs.declared.error.FsError.{FsError}
 use Rattle.dav_core.specs.declared.error.FsError.TheVariants.{NotImplemented}
@@ -81,4 +82,36 @@ info_of m = record {
   changed = whole_secs (known m.changed);
   exec = runs m.kind m.exec;
   tag = tag_of m.kind m.number m.len (known m.modified);
+}
+
+-- a time, where it is known, lies in the years that can be shown
+abbrev pub IsInYears : Option FileTime → Type 0
+IsInYears known = (time : FileTime) → known ≡ Some time → is_in_years time.secs ≡ true
+
+-- Every time that metadata says lies in the years that can be shown.
+pub record AreInYears (info : Info) : Type 0 where
+  pub modified : IsInYears info.modified
+  pub created : IsInYears info.created
+  pub accessed : IsInYears info.accessed
+  pub changed : IsInYears info.changed
+
+or_unknown : (b : Bool) (time shown : FileTime) → is_in_years time.secs ≡ b → (if b then Some time else None) ≡ Some shown → is_in_years shown.secs ≡ true
+or_unknown true time shown in_years e = let same : time ≡ shown = cc in ap (λ (t : FileTime). is_in_years t.secs) (sym same) ∙ in_years
+or_unknown false time shown in_years e = cc
+
+known_in_years : (time : Option FileTime) → IsInYears (known time)
+known_in_years None shown e = cc
+known_in_years (Some time) shown e = or_unknown (is_in_years time.secs) time shown refl e
+
+whole_in_years : (time : Option FileTime) → IsInYears time → IsInYears (whole_secs time)
+whole_in_years None known shown e = cc
+whole_in_years (Some time) known shown e = let same : record time { nanos = 0 } ≡ shown = cc in ap (λ (t : FileTime). is_in_years t.secs) (sym same) ∙ known time refl
+
+-- those of a disk's metadata do
+pub info_in_years : (m : Meta) → AreInYears (info_of m)
+info_in_years m = record {
+  modified = known_in_years m.modified;
+  created = known_in_years m.created;
+  accessed = known_in_years m.accessed;
+  changed = whole_in_years (known m.changed) (known_in_years m.changed);
 }

@@ -14,3 +14,7 @@ pub mod ContentTypes
 pub mod Grammar
 pub mod Methods
 pub mod Statuses
+pub mod Blanks
+pub mod Tags
+pub mod TagReading
+pub mod Commas

@@ -1,6 +1,7 @@
 //! Paths, trees, times and the disk on which the server stands, call by call.
 #![tactic(auto)]
 
+mod blanks;
 mod change;
 mod content_types;
 mod dav_error;
@@ -8,8 +9,11 @@ mod dav_path;
 mod disk;
 mod error;
 mod etag;
+mod etag_list;
+mod etag_reading;
 mod grammar;
 mod handle;
+mod if_range;
 pub mod laws;
 mod meta;
 mod method;
@@ -24,6 +28,7 @@ mod time;
 mod tree;
 mod url;
 
+pub use blanks::trimmed;
 pub use change::{Batch, Change};
 pub use content_types::content_type;
 pub use dav_error::DavError;
@@ -31,7 +36,9 @@ pub use dav_path::DavPath;
 pub use disk::Disk;
 pub use error::FsError;
 pub use etag::ETag;
+pub use etag_list::{EtagList, Tags};
 pub use handle::{DiskError, Handle, Lister, Meta, OpenOptions};
+pub use if_range::{IfRange, date_secs};
 pub use meta::DavMetaData;
 pub use method::{DavMethod, DavMethodSet, dav_method};
 pub use parse_error::ParseError;

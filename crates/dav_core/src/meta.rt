@@ -1,6 +1,6 @@
 ghost use Rattle.std.specs.Prelude.{◌≡◌, ◌↔◌, Bool, IfOk, IsTrue, Some, codes};
 ghost use Rattle.dav_core.specs.DavPath.{is_in_home};
-ghost use Rattle.dav_core.specs.Info.{Info, said, info_of, known as the_known, whole_secs as the_whole_secs};
+ghost use Rattle.dav_core.specs.Info.{AreInYears, Info, said, info_of, info_in_years, known as the_known, whole_secs as the_whole_secs};
 ghost use Rattle.dav_core.specs.Path.{Names};
 ghost use Rattle.dav_core.specs.Tree.{is_dir as is_dir_kind, is_file as is_file_kind, is_link as is_link_kind};
 
@@ -66,6 +66,9 @@ pub trait DavMetaData {
     /// Whether this is the text of its entity tag. It takes no memory.
     fn has_tag(&self, tag: &[u8]) -> bool
         ensures { IsTrue result ↔ ((info self.now).tag ≡ Some tag.now) };
+
+    /// A time before 1970 or after 9999 is unknown.
+    ghost in_years: { (m : Self) → AreInYears (info m) };
 }
 
 // A time that is known.
@@ -178,4 +181,6 @@ impl DavMetaData for Meta {
             None => false,
         }
     }
+
+    ghost in_years = { info_in_years };
 }

@@ -3,6 +3,8 @@ use Rattle.std.proofs.Common.{suc, Bool, true, false, refl, sym, ◌∙◌, inl,
 use Rattle.std.specs.Prelude.{Option, Some, ◌⊎◌, ◌≡◌, ◌≤◌, ◌<◌, ◌+◌, ◌-◌, ◌==◌, ℕ, List, [], ◌∷◌, length, take, drop, min, replicate, cond, IsTrue}
 use Rattle.dav_core.specs.World.{World, bytes_of}
 use Rattle.dav_io.specs.Counts.{Rose}
+use Rattle.dav_model.specs.declared.settings.Settings.{Settings}
+use Rattle.dav_model.specs.Sizes.{zeros_size}
 use Rattle.dav_model.specs.declared.answer.Answer.{Answer}
 use Rattle.dav_model.specs.declared.answer.Answer.TheVariants.{Piece, End, Broken}
 
@@ -12,19 +14,12 @@ pub data Part : Type 0 where
   -- bytes of a file number, from a place on
   slice : (number start count : ℕ) → Part
 
--- a player as its answers show it: how many replies it gave, and what each body has left
+-- a player as its answers show it: what is set, how many replies it gave, and what each body has left
 pub record Playing : Type 0 where
+  pub settings : Settings
   pub replies : ℕ
   -- An unknown or ended body has nothing left.
   pub left : ℕ → List Part
-
--- the size of the read buffer, in bytes
-abbrev pub read_size : ℕ
-read_size = 16384
-
--- the most zeros in a piece
-abbrev pub zeros_size : ℕ
-zeros_size = 4096
 
 -- a slice moved on by n bytes; it goes when nothing of it is left
 abbrev pub moved : ℕ → ℕ → ℕ → ℕ → List Part → List Part
@@ -35,23 +30,23 @@ abbrev pub standing_from : World → ℕ → ℕ → List ℕ
 standing_from w number start = drop start (bytes_of w number)
 
 -- A piece of a slice: a nonempty front of the bytes that stand there now, as long as the bounds allow where reads are
--- whole; or zeros where no byte stands.
-abbrev pub PieceOf : Bool → List ℕ → ℕ → List ℕ → Type 0
-PieceOf whole [] count piece = piece ≡ replicate (min count zeros_size) 0
-PieceOf whole (b ∷ bytes) count piece = (0 < length piece) × (length piece ≤ min count read_size) × (piece ≡ take (length piece) (b ∷ bytes))
-    × (IsTrue whole → length piece ≡ min (min count read_size) (length (b ∷ bytes)))
+-- whole; or zeros where no byte stands. `most` is the size of the read buffer.
+abbrev pub PieceOf : Bool → ℕ → List ℕ → ℕ → List ℕ → Type 0
+PieceOf whole most [] count piece = piece ≡ replicate (min count zeros_size) 0
+PieceOf whole most (b ∷ bytes) count piece = (0 < length piece) × (length piece ≤ min count most) × (piece ≡ take (length piece) (b ∷ bytes))
+    × (IsTrue whole → length piece ≡ min (min count most) (length (b ∷ bytes)))
 
 -- The first part gives this piece, and leaves those parts. The piece's bytes are those of the world, where it is told.
-abbrev pub Gives : Option World → Bool → Part → List Part → List ℕ → List Part → Type 0
-Gives told whole (text bytes) parts piece rest = (piece ≡ bytes) × (rest ≡ parts)
-Gives told whole (slice number start count) parts piece rest = (0 < length piece) × (length piece ≤ count) × (rest ≡ moved number start count (length piece) parts)
-    × ((w : World) → told ≡ Some w → PieceOf whole (standing_from w number start) count piece)
+abbrev pub Gives : Option World → Bool → ℕ → Part → List Part → List ℕ → List Part → Type 0
+Gives told whole most (text bytes) parts piece rest = (piece ≡ bytes) × (rest ≡ parts)
+Gives told whole most (slice number start count) parts piece rest = (0 < length piece) × (length piece ≤ count) × (rest ≡ moved number start count (length piece) parts)
+    × ((w : World) → told ≡ Some w → PieceOf whole most (standing_from w number start) count piece)
 
 -- A poll of a body with these parts left gives this answer, and leaves those. It breaks only where the count of faults
 -- rose, and nothing is left then.
-abbrev pub Polls : Option World → Bool → ℕ → ℕ → List Part → Answer → List Part → Type 0
-Polls told whole before after [] answer rest = (answer ≡ End) × (rest ≡ [])
-Polls told whole before after (part ∷ parts) answer rest = ((piece : List ℕ) × (answer ≡ Piece piece) × Gives told whole part parts piece rest)
+abbrev pub Polls : Option World → Bool → ℕ → ℕ → ℕ → List Part → Answer → List Part → Type 0
+Polls told whole most before after [] answer rest = (answer ≡ End) × (rest ≡ [])
+Polls told whole most before after (part ∷ parts) answer rest = ((piece : List ℕ) × (answer ≡ Piece piece) × Gives told whole most part parts piece rest)
     ⊎ ((answer ≡ Broken) × (rest ≡ []) × Rose before after)
 
 -- how many bytes a body has left, and one for each text
@@ -66,10 +61,10 @@ moved_size true number start count n parts e some within = omega arith
 moved_size false number start count n parts e some within = omega arith
 
 -- a piece leaves less
-pub polls_shrink : (told : Option World) (whole : Bool) (before after : ℕ) (left : List Part) (answer : Answer) (rest : List Part)
-    → Polls told whole before after left answer rest → (piece : List ℕ) → answer ≡ Piece piece → size rest < size left
-polls_shrink told whole before after [] answer rest (e, none) piece f = let g : Piece piece ≡ End = sym f ∙ e in cc
-polls_shrink told whole before after (part ∷ parts) answer rest (inr (e, none, rose)) piece f = let g : Piece piece ≡ Broken = sym f ∙ e in cc
-polls_shrink told whole before after (text bytes ∷ parts) answer rest (inl (p, e, (is, are))) piece f = rw are (omega arith)
-polls_shrink told whole before after (slice number start count ∷ parts) answer rest (inl (p, e, (some, within, are, right))) piece f =
+pub polls_shrink : (told : Option World) (whole : Bool) (most before after : ℕ) (left : List Part) (answer : Answer) (rest : List Part)
+    → Polls told whole most before after left answer rest → (piece : List ℕ) → answer ≡ Piece piece → size rest < size left
+polls_shrink told whole most before after [] answer rest (e, none) piece f = let g : Piece piece ≡ End = sym f ∙ e in cc
+polls_shrink told whole most before after (part ∷ parts) answer rest (inr (e, none, rose)) piece f = let g : Piece piece ≡ Broken = sym f ∙ e in cc
+polls_shrink told whole most before after (text bytes ∷ parts) answer rest (inl (p, e, (is, are))) piece f = rw are (omega arith)
+polls_shrink told whole most before after (slice number start count ∷ parts) answer rest (inl (p, e, (some, within, are, right))) piece f =
     rw are (moved_size _ number start count (length p) parts refl some within)

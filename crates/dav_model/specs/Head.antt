@@ -1,21 +1,38 @@
--- The head: status, header fields and parts of the answer to a request, by the world alone.
-use Rattle.std.specs.Prelude.{◌≡◌, ◌==◌, ℕ, List, [], ◌∷◌, ◌++◌, Bool, true, false, cond, length, codes, decimal, Option, None, Some, Result, Ok, Err, unwrap_or, slice_get, ◌-◌}
+-- The head: status, header fields and parts of the answer to a GET or HEAD, by the world and the request alone.
+use Rattle.std.specs.Prelude.{◌≡◌, ◌==◌, ◌&&◌, ◌⊎◌, ◌+◌, ◌-◌, ℕ, List, [], ◌∷◌, ◌++◌, Bool, true, false, cond, not, length, codes, decimal, Option, None, Some, Result, Ok, Err}
+use Rattle.std.specs.Option.{option_map}
+use Rattle.std.specs.List.{flat_map}
 use Rattle.dav_io.specs.declared.fields.Field.{Field}
 use Rattle.dav_core.specs.declared.tree.Row.{Row}
 use Rattle.dav_core.specs.declared.tree.Kind.{Kind}
 use Rattle.dav_core.specs.declared.tree.Kind.TheVariants.{Dir, File, Link}
+use Rattle.dav_core.specs.declared.time.FileTime.{FileTime}
 use Rattle.dav_core.specs.declared.handle.DiskError.{DiskError}
-use Rattle.dav_core.specs.declared.handle.DiskError.TheVariants.{NotDir}
-use Rattle.dav_core.specs.Path.{Names}
-use Rattle.dav_core.specs.Tree.{look}
-use Rattle.dav_core.specs.World.{World, bytes_of}
-use Rattle.dav_model.specs.Bodies.{Part, slice}
+use Rattle.dav_core.specs.declared.error.FsError.{FsError}
+use Rattle.dav_core.specs.declared.error.FsError.TheVariants.{Forbidden}
+use Rattle.dav_core.specs.declared.method.DavMethod.{DavMethod}
+use Rattle.dav_core.specs.declared.method.DavMethod.TheVariants.{Get}
+use Rattle.dav_core.specs.DavPath.{WebPath, last_name, type_of_last}
+use Rattle.dav_core.specs.Errors.{fs_error_of}
 use Rattle.dav_core.specs.Info.{known_time, tag_of}
-use Rattle.dav_model.specs.Times.{IsDate}
-use Rattle.dav_core.specs.ContentTypes.{content_type_of}
+use Rattle.dav_core.specs.Methods.{same_method}
+use Rattle.dav_core.specs.Path.{same_names}
+use Rattle.dav_core.specs.Statuses.{fs_status}
+use Rattle.dav_core.specs.Tree.{look, is_file}
+use Rattle.dav_core.specs.World.{World, bytes_of}
+use Rattle.dav_model.specs.declared.settings.Settings.{Settings}
+use Rattle.dav_model.specs.declared.ranges.Slice.{Slice}
+use Rattle.dav_model.specs.declared.ranges.Ranges.{Ranges}
+use Rattle.dav_model.specs.declared.ranges.Ranges.TheVariants.{Whole, Unsatisfiable, Parts}
+use Rattle.dav_model.specs.declared.sent.Sent.{Sent}
+use Rattle.dav_model.specs.declared.sent.Sent.TheVariants.{All, Alone, Unsatisfied, One, Several}
 use Rattle.dav_model.specs.declared.target.Target.{Target}
 use Rattle.dav_model.specs.declared.target.Target.TheVariants.{At, Refused}
-use Rattle.dav_model.specs.Requests.{Asked, gates}
+use Rattle.dav_model.specs.Bodies.{Part, text, slice}
+use Rattle.dav_model.specs.Conditions.{Fields, condition, first_bytes, ranges_are_heard, strong}
+use Rattle.dav_model.specs.Requests.{Asked, fields_of, gates}
+use Rattle.dav_model.specs.Slices.{ranges}
+use Rattle.dav_model.specs.Times.{IsDate}
 
 -- what is answered to a request
 pub record Reply : Type 0 where
@@ -39,6 +56,10 @@ closing close = cond close (field (codes "connection") (codes "close") ∷ []) [
 abbrev pub refusal : ℕ → Bool → Reply
 refusal status close = record { status = status; fields = closing close ++ field (codes "content-length") (codes "0") ∷ []; parts = [] }
 
+-- the answer where the disk failed
+abbrev pub failure : Reply
+failure = refusal 500 false
+
 abbrev pub quoted : List ℕ → List ℕ
 quoted tag = 34 ∷ (tag ++ 34 ∷ [])
 
@@ -46,49 +67,208 @@ abbrev pub quoted_where : Option (List ℕ) → Option (List ℕ)
 quoted_where None = None
 quoted_where (Some tag) = Some (quoted tag)
 
--- all bytes of a file of this number and length
-abbrev pub whole_of : ℕ → ℕ → List Part
-whole_of number count = cond (count == 0) [] (slice number 0 count ∷ [])
+-- What stands at a path, as far as an answer speaks of it: its length in bytes, the time of its last change where it is
+-- known, the text of its entity tag, and the address that a client is sent to in its place.
+pub record Stood : Type 0 where
+  pub kind : Kind
+  pub number : ℕ
+  pub len : ℕ
+  pub modified : Option FileTime
+  pub tag : Option (List ℕ)
+  pub address : Option (List ℕ)
 
--- the last name of a path; the root has none
-abbrev pub last_name : Names → List ℕ
-last_name path = unwrap_or (slice_get path (length path - 1)) []
+-- one slice or several
+abbrev pub sent_parts_of : List Slice → Sent
+sent_parts_of [] = All
+sent_parts_of (part ∷ []) = One part
+sent_parts_of (part ∷ next ∷ parts) = Several (part ∷ next ∷ parts)
 
--- the fields of a whole file
-abbrev pub file_fields : Names → ℕ → Option (List ℕ) → Option (List ℕ) → List Field
-file_fields path len tag date = field (codes "accept-ranges") (codes "bytes") ∷ field (codes "content-length") (decimal len)
-    ∷ field (codes "content-type") (content_type_of (last_name path)) ∷ (field_where (codes "etag") (quoted_where tag) ++ field_where (codes "last-modified") date)
+abbrev pub sent_ranges : Ranges → Sent
+sent_ranges Whole = All
+sent_ranges Unsatisfiable = Unsatisfied
+sent_ranges (Parts parts) = sent_parts_of parts
 
--- a whole file
-abbrev pub file_reply : Names → World → Row → Option (List ℕ) → Reply
-file_reply path w row date = record {
-  status = 200;
-  fields = file_fields path (length (bytes_of w row.number)) (tag_of File row.number (length (bytes_of w row.number)) (known_time row.time)) date;
-  parts = whole_of row.number (length (bytes_of w row.number));
+-- A precondition that fails decides; after it, or where If-Range turns them off, ranges don't count (RFC 9110, section 13.2.2).
+abbrev pub sent_by : Option ℕ → Bool → Option (List ℕ) → ℕ → Sent
+sent_by (Some status) on range len = Alone status
+sent_by None false range len = All
+sent_by None true range len = sent_ranges (ranges range len)
+
+abbrev pub sent_of : DavMethod → Fields → Stood → Sent
+sent_of method fields stood = sent_by (condition method fields true (strong stood.tag) stood.modified) (ranges_are_heard fields (strong stood.tag) stood.modified)
+    (first_bytes fields (codes "range")) stood.len
+
+abbrev pub sent_status : Sent → ℕ
+sent_status All = 200
+sent_status (Alone status) = status
+sent_status Unsatisfied = 416
+sent_status (One part) = 206
+sent_status (Several parts) = 206
+
+-- The number of the field `content-length`. It is that of the slice, or of the whole file, where the method is HEAD, the
+-- status is 304 or a body follows; several slices have none.
+abbrev pub sent_length : Bool → ℕ → Sent → Option ℕ
+sent_length gives len All = Some len
+sent_length gives len (Alone status) = Some (cond (gives && not (status == 304)) 0 len)
+sent_length gives len Unsatisfied = Some (cond gives 0 len)
+sent_length gives len (One part) = Some part.count
+sent_length gives len (Several parts) = None
+
+-- the first and the last byte of a slice, and the length of the file (RFC 9110, section 14.4)
+abbrev pub span_text : ℕ → Slice → List ℕ
+span_text len part = decimal part.start ++ (codes "-" ++ (decimal (part.start + part.count - 1) ++ (codes "/" ++ decimal len)))
+
+abbrev pub sent_range : ℕ → Sent → Option (List ℕ)
+sent_range len All = None
+sent_range len (Alone status) = None
+sent_range len Unsatisfied = Some (codes "bytes */" ++ decimal len)
+sent_range len (One part) = Some (codes "bytes " ++ span_text len part)
+sent_range len (Several parts) = None
+
+abbrev pub sent_type : List ℕ → Sent → List ℕ
+sent_type type All = type
+sent_type type (Alone status) = type
+sent_type type Unsatisfied = type
+sent_type type (One part) = type
+sent_type type (Several parts) = codes "multipart/byteranges; boundary=BOUNDARY"
+
+-- the text before a slice of several
+abbrev pub part_head : List ℕ → ℕ → Slice → List ℕ
+part_head type len part = codes "\n--BOUNDARY\nContent-Range: bytes " ++ (span_text len part ++ (codes "\nContent-Type: " ++ (type ++ codes "\n\n")))
+
+abbrev pub last_boundary : List ℕ
+last_boundary = codes "\n--BOUNDARY--\n"
+
+-- each slice behind its text, and the last boundary
+abbrev pub two_parts : List ℕ → ℕ → ℕ → Slice → List Part
+two_parts type number len part = text (part_head type len part) ∷ slice number part.start part.count ∷ []
+
+abbrev pub several_parts : List ℕ → ℕ → ℕ → List Slice → List Part
+several_parts type number len parts = flat_map (two_parts type number len) parts ++ text last_boundary ∷ []
+
+-- bytes of a file, if there are some
+abbrev pub slice_where : ℕ → ℕ → ℕ → List Part
+slice_where number start count = cond (count == 0) [] (slice number start count ∷ [])
+
+abbrev pub given_parts : List ℕ → ℕ → ℕ → Sent → List Part
+given_parts type number len All = slice_where number 0 len
+given_parts type number len (Alone status) = []
+given_parts type number len Unsatisfied = []
+given_parts type number len (One part) = slice_where number part.start part.count
+given_parts type number len (Several parts) = several_parts type number len parts
+
+-- HEAD has no body.
+abbrev pub sent_parts : Bool → List ℕ → ℕ → ℕ → Sent → List Part
+sent_parts gives type number len sent = cond gives (given_parts type number len sent) []
+
+-- the fields of a file's answer, in the order of their names
+abbrev pub sent_fields : Bool → List ℕ → ℕ → Option (List ℕ) → Option (List ℕ) → Sent → List Field
+sent_fields gives type len tag date sent =
+    field (codes "accept-ranges") (codes "bytes")
+    ∷ (field_where (codes "content-length") (option_map decimal (sent_length gives len sent))
+    ++ (field_where (codes "content-range") (sent_range len sent)
+    ++ (field (codes "content-type") (sent_type type sent)
+    ∷ (field_where (codes "etag") (quoted_where tag) ++ field_where (codes "last-modified") date))))
+
+-- a file's answer; `date` is the text of its time, and `gives` whether a body may follow
+abbrev pub sent_reply : Bool → List ℕ → Stood → Option (List ℕ) → Sent → Reply
+sent_reply gives type stood date sent = record {
+  status = sent_status sent;
+  fields = sent_fields gives type stood.len stood.tag date sent;
+  parts = sent_parts gives type stood.number stood.len sent;
 }
 
--- The answer where a row stands at the path. Nothing is said of a symbolic link.
-abbrev pub IsReplyAt : Kind → Names → Bool → World → Row → Reply → Type 0
-IsReplyAt File path true w row reply = reply ≡ refusal 403 false
-IsReplyAt File path false w row reply = (date : Option (List ℕ)) × IsDate (known_time row.time) date × (reply ≡ file_reply path w row date)
-IsReplyAt Dir path slash w row reply = reply ≡ refusal 501 true
-IsReplyAt Link path slash w row reply = Unit {0}
+abbrev pub is_get : DavMethod → Bool
+is_get method = same_method method Get
 
--- The answer where a look at the path found this: nothing there is 404, a file on the way there is 403.
-abbrev pub IsReplyFound : Names → Bool → World → Result Row DiskError → Reply → Type 0
-IsReplyFound path slash w (Ok row) reply = IsReplyAt row.kind path slash w row reply
-IsReplyFound path slash w (Err NotDir) reply = reply ≡ refusal 403 false
-IsReplyFound path slash w (Err e) reply = reply ≡ refusal 404 false
+-- This of the file at the path is sent.
+abbrev pub IsSent : DavMethod → WebPath → Stood → Sent → Reply → Type 0
+IsSent method path stood sent reply = (date : Option (List ℕ)) × IsDate stood.modified date
+    × (reply ≡ sent_reply (is_get method) (type_of_last (last_name path.names)) stood date sent)
+
+abbrev pub redirected_fields : List ℕ → Option (List ℕ) → Option (List ℕ) → List Field
+redirected_fields address tag date = field (codes "content-length") (codes "0") ∷ (field_where (codes "etag") (quoted_where tag) ++ (field_where (codes "last-modified") date ++ field (codes "location") address ∷ []))
+
+-- the client is sent to another address
+abbrev pub redirected : List ℕ → Option (List ℕ) → Option (List ℕ) → Reply
+redirected address tag date = record { status = 302; fields = redirected_fields address tag date; parts = [] }
+
+abbrev pub is_set : Option Bool → Bool
+is_set None = false
+is_set (Some b) = b
+
+-- the address that the client is sent to, where that is set
+abbrev pub address_of : Settings → Stood → Option (List ℕ)
+address_of settings stood = cond (is_set settings.redirect) stood.address None
+
+abbrev pub IsFileHead : Option (List ℕ) → DavMethod → Fields → WebPath → Stood → Reply → Type 0
+IsFileHead (Some address) method fields path stood reply = (date : Option (List ℕ)) × IsDate stood.modified date × (reply ≡ redirected address stood.tag date)
+IsFileHead None method fields path stood reply = IsSent method path stood (sent_of method fields stood) reply
+
+-- The answer where a directory, a file or a link stands. A directory's form isn't built.
+abbrev pub IsKindHead : Kind → Settings → DavMethod → Fields → WebPath → Stood → Reply → Type 0
+IsKindHead Dir settings method fields path stood reply = reply ≡ refusal 501 true
+IsKindHead File settings method fields path stood reply = IsFileHead (address_of settings stood) method fields path stood reply
+IsKindHead Link settings method fields path stood reply = reply ≡ refusal 405 false
+
+-- The answer to a GET or HEAD by what stands at its path, or why nothing does.
+abbrev pub IsHeadAt : Settings → DavMethod → Fields → WebPath → Result Stood FsError → Reply → Type 0
+IsHeadAt settings method fields path (Ok stood) reply = IsKindHead stood.kind settings method fields path stood reply
+IsHeadAt settings method fields path (Err e) reply = reply ≡ refusal (fs_status e) false
+
+-- the page that clients of a well-known server look for: it is there whatever stands in the tree
+abbrev pub is_well_known : Settings → DavMethod → WebPath → Bool
+is_well_known settings method path = is_get method && (not (is_set settings.autoindex) && (path.slash && same_names path.names (codes "remote.php" ∷ codes "webdav" ∷ [])))
+
+abbrev pub well_known : Reply
+well_known = record { status = 200; fields = field (codes "accept-ranges") (codes "bytes") ∷ field (codes "content-length") (codes "0") ∷ []; parts = [] }
+
+abbrev pub IsHeadOr : Bool → Settings → DavMethod → Fields → WebPath → Result Stood FsError → Reply → Type 0
+IsHeadOr true settings method fields path found reply = reply ≡ well_known
+IsHeadOr false settings method fields path found reply = IsHeadAt settings method fields path found reply
+
+-- a row of a world, as far as an answer speaks of it
+abbrev pub stood_in : World → Row → Stood
+stood_in w row = record {
+  kind = row.kind;
+  number = row.number;
+  len = length (bytes_of w row.number);
+  modified = known_time row.time;
+  tag = tag_of row.kind row.number (length (bytes_of w row.number)) (known_time row.time);
+  address = None;
+}
+
+-- A file with a final slash is forbidden, and so is a path below a file.
+abbrev pub found_with : Bool → World → Result Row DiskError → Result Stood FsError
+found_with slash w (Ok row) = cond (slash && is_file row.kind) (Err Forbidden) (Ok (stood_in w row))
+found_with slash w (Err e) = Err (fs_error_of e)
+
+-- what stands at a path of a world
+abbrev pub found_in : World → WebPath → Result Stood FsError
+found_in w path = found_with path.slash w (look w.tree path.names)
 
 -- the answer to what is asked for
-abbrev pub IsReplyTo : World → Target → Reply → Type 0
-IsReplyTo w (Refused status close) reply = reply ≡ refusal status close
-IsReplyTo w (At names slash) reply = IsReplyFound names slash w (look w.tree names) reply
+abbrev pub IsReplyTo : Settings → World → Fields → Target → Reply → Type 0
+IsReplyTo settings w fields (Refused status close) reply = reply ≡ refusal status close
+IsReplyTo settings w fields (At method path) reply = IsHeadOr (is_well_known settings method path) settings method fields path (found_in w path) reply
 
 -- The head of a request over a world: the one right answer.
-abbrev pub IsHead : World → Asked → Reply → Type 0
-IsHead w request reply = IsReplyTo w (gates request) reply
+abbrev pub IsHead : Settings → World → Asked → Reply → Type 0
+IsHead settings w request reply = IsReplyTo settings w (fields_of request) (gates request) reply
 
--- the answer where the disk failed
-abbrev pub failure : Reply
-failure = refusal 500 false
+-- Where a part or several are sent, and the file couldn't be placed at the first: no range could be met.
+pub record IsUnplaced (method : DavMethod) (fields : Fields) (path : WebPath) (stood : Stood) (reply : Reply) : Type 0 where
+  pub partial : sent_status (sent_of method fields stood) ≡ 206
+  pub sent : IsSent method path stood Unsatisfied reply
+
+-- What may be answered in place of the head where the disk failed: a failure, or that no range could be met.
+abbrev pub IsSpoiledAt : DavMethod → Fields → WebPath → Result Stood FsError → Reply → Type 0
+IsSpoiledAt method fields path (Err e) reply = reply ≡ failure
+IsSpoiledAt method fields path (Ok stood) reply = (reply ≡ failure) ⊎ IsUnplaced method fields path stood reply
+
+abbrev pub IsSpoiledTo : World → Fields → Target → Reply → Type 0
+IsSpoiledTo w fields (Refused status close) reply = ⊥
+IsSpoiledTo w fields (At method path) reply = IsSpoiledAt method fields path (found_in w path) reply
+
+abbrev pub IsSpoiled : World → Asked → Reply → Type 0
+IsSpoiled w request reply = IsSpoiledTo w (fields_of request) (gates request) reply

@@ -8,6 +8,7 @@ use Rattle.dav_model.specs.declared.step.Step.{Step}
 use Rattle.dav_model.specs.declared.answer.Answer.{Answer}
 use Rattle.dav_model.specs.Trail.{Point, Trail, GoesRefused, last_of}
 use Rattle.dav_model.specs.Bodies.{Playing, Polls}
+use Rattle.dav_model.specs.Sizes.{read_size_of}
 use Rattle.std.specs.List.{AllByRecursion}
 use Rattle.dav_model.specs.declared.step.Step.TheVariants.{Request, Poll, Abandon, Purge, Turn}
 use Rattle.dav_model.specs.Play.{StaysOpen, Stands, Stepped, Plays, Valid, NoLinks, Played, Ends}
@@ -238,7 +239,7 @@ played_counts s p xs old new t q r = counts_of s r.rest (last_of s r.trail) t (t
 pub record PollSays (s : Point) (p : Playing) (body : ℕ) (answer : Answer) (t : Point) (q : Playing) : Type 0 where
   pub mid : Point
   pub counts : s.faults ≤ mid.faults
-  pub polls : Polls mid.told mid.whole mid.faults t.faults (p.left body) answer (q.left body)
+  pub polls : Polls mid.told mid.whole (read_size_of p.settings.read_buf_size) mid.faults t.faults (p.left body) answer (q.left body)
 
 pub poll_says : (s : Point) (p : Playing) (body : ℕ) (a b : Answer) (t : Point) (q : Playing)
     → Played s p (Turn ∷ Poll body ∷ []) [] (a ∷ b ∷ []) (Ok tt) t q → PollSays s p body b t q
@@ -249,5 +250,5 @@ poll_says s p body a b t q r =
     record {
       mid = two.mid;
       counts = two.counts;
-      polls = rw left (subst (λ (z : Playing). Polls two.mid.told two.mid.whole two.mid.faults t.faults (z.left body) b rest) two.first.1 polls);
+      polls = rw left (subst (λ (z : Playing). Polls two.mid.told two.mid.whole (read_size_of z.settings.read_buf_size) two.mid.faults t.faults (z.left body) b rest) two.first.1 polls);
     }

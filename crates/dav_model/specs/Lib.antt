@@ -1,6 +1,9 @@
+pub mod Sizes
 pub mod Bodies
 pub mod Times
 pub mod Requests
+pub mod Slices
+pub mod Conditions
 pub mod Head
 pub mod Trail
 pub mod Play

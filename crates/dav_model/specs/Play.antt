@@ -13,8 +13,10 @@ use Rattle.dav_model.specs.Trail.{Point, Trail, Goes, GoesRefused, last_of}
 use Rattle.dav_model.specs.Bodies.{Part, text, slice, Playing, Polls}
 use Rattle.dav_model.specs.declared.target.Target.{Target}
 use Rattle.dav_model.specs.declared.target.Target.TheVariants.{At, Refused}
+use Rattle.dav_model.specs.declared.settings.Settings.{Settings}
+use Rattle.dav_model.specs.Sizes.{read_size_of}
 use Rattle.dav_model.specs.Requests.{Asked, gates}
-use Rattle.dav_model.specs.Head.{Reply, refusal, failure, IsHead}
+use Rattle.dav_model.specs.Head.{Reply, refusal, IsHead, IsSpoiled}
 
 -- no row is a symbolic link
 abbrev pub NoLinks : Point → Type 0
@@ -28,21 +30,21 @@ pub record Valid (s : Point) (ts : List Point) : Type 0 where
 -- what the gates refuse
 abbrev pub Gated : Target → Reply → Type 0
 Gated (Refused status close) reply = reply ≡ refusal status close
-Gated (At names slash) reply = Unit {0}
+Gated (At method path) reply = Unit {0}
 
 -- The answer to a request between two points. What the gates refuse is refused in every run; where `valid` holds, the
--- reply is the head of the world before the step, or a failure where the count rose.
-pub record Replies (valid : Type 0) (s t : Point) (request : Asked) (reply : Reply) : Type 0 where
+-- reply is the head of the world before the step, or what may stand in its place where the count rose.
+pub record Replies (valid : Type 0) (settings : Settings) (s t : Point) (request : Asked) (reply : Reply) : Type 0 where
   pub gated : Gated (gates request) reply
   pub failed : reply.status ≡ 500 → Rose s.faults t.faults
-  pub right : valid → (w : World) → s.told ≡ Some w → IsHead w request reply ⊎ ((reply ≡ failure) × Rose s.faults t.faults)
+  pub right : valid → (w : World) → s.told ≡ Some w → IsHead settings w request reply ⊎ (IsSpoiled w request reply × Rose s.faults t.faults)
 
 -- The answer to a step, and what it leaves of the player.
 abbrev pub Stands : Type 0 → Playing → Point → Point → Step → Answer → Playing → Type 0
 Stands valid p s t (Request request now) answer q = (reply : Reply) × (answer ≡ Replied reply.status reply.fields p.replies)
-    × (q ≡ record { replies = p.replies + 1; left = put p.replies reply.parts p.left }) × Replies valid s t request reply
+    × (q ≡ record p { replies = p.replies + 1; left = put p.replies reply.parts p.left }) × Replies valid p.settings s t request reply
 Stands valid p s t (Poll body) answer q = (rest : List Part) × (q ≡ record p { left = put body rest p.left })
-    × Polls s.told s.whole s.faults t.faults (p.left body) answer rest
+    × Polls s.told s.whole (read_size_of p.settings.read_buf_size) s.faults t.faults (p.left body) answer rest
 Stands valid p s t (Abandon body) answer q = (answer ≡ Done) × (q ≡ record p { left = put body [] p.left })
 Stands valid p s t (Purge now) answer q = (answer ≡ Done) × (q ≡ p)
 Stands valid p s t Turn answer q = (answer ≡ Done) × (q ≡ p)

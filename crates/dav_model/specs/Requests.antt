@@ -1,12 +1,15 @@
 -- Requests by their method, their fields and their target, and whether their form is answered.
-use Rattle.std.specs.Prelude.{◌==◌, ◌&&◌, ℕ, List, [], ◌∷◌, Bool, true, false, cond, not, length, codes, is_some, Result, Ok, Err}
-use Rattle.std.specs.List.{list_any}
-use Rattle.std.specs.Str.{bytes_eq}
+use Rattle.std.specs.Prelude.{◌==◌, ◌&&◌, ◌||◌, ℕ, List, [], Bool, true, false, cond, not, length, codes, is_some, Result, Ok, Err}
 use Rattle.http.specs.declared.request.Request.{Request}
 use Rattle.http.specs.Request.{head_of, body_of}
 use Rattle.http_uri.specs.Uri.{uri_path}
-use Rattle.http_header.specs.HeaderMap.{get}
+use Rattle.http_header.specs.HeaderMap.{Entries, get}
+use Rattle.http_header.specs.FieldValue.{FieldValue}
+use Rattle.dav_core.specs.declared.dav_error.DavError.{DavError}
+use Rattle.dav_core.specs.declared.method.DavMethod.{DavMethod}
+use Rattle.dav_core.specs.declared.method.DavMethod.TheVariants.{Get, Head}
 use Rattle.dav_core.specs.declared.parse_error.ParseError.{ParseError}
+use Rattle.dav_core.specs.Methods.{method_of, same_method}
 use Rattle.dav_core.specs.Statuses.{path_status}
 use Rattle.dav_core.specs.DavPath.{WebPath}
 use Rattle.dav_core.specs.Grammar.{parsed}
@@ -17,41 +20,35 @@ use Rattle.dav_model.specs.declared.target.Target.TheVariants.{At, Refused}
 abbrev pub Asked : Type 0
 Asked = Request (List ℕ)
 
-abbrev pub method_is : Asked → List ℕ → Bool
-method_is r word = bytes_eq (head_of r).method word
+abbrev pub fields_of : Asked → Entries FieldValue
+fields_of r = (head_of r).headers
 
 -- whether the request has a field of this lower-case name
 abbrev pub has_field : Asked → List ℕ → Bool
-has_field r name = is_some (get (head_of r).headers name)
+has_field r name = is_some (get (fields_of r) name)
 
-abbrev pub target_read : Result WebPath ParseError → Target
-target_read (Ok path) = At path.names path.slash
-target_read (Err fault) = Refused (path_status fault) false
+-- no body, and no field that announces one
+abbrev pub is_bare : Asked → Bool
+is_bare r = length (body_of r) == 0 && (not (has_field r (codes "content-length")) && not (has_field r (codes "transfer-encoding")))
 
--- what the path of a target asks for
-abbrev pub target_of : List ℕ → Target
-target_of path = target_read (parsed path [])
-
--- A GET without a body: what is asked before the path is read.
-abbrev pub is_bare_get : Asked → Bool
-is_bare_get r = method_is r (codes "GET") && (length (body_of r) == 0 && (not (has_field r (codes "content-length")) && not (has_field r (codes "transfer-encoding"))))
-
--- the fields with conditions (RFC 9110, section 13.1)
-abbrev pub conditions : List (List ℕ)
-conditions = codes "if-match" ∷ codes "if-none-match" ∷ codes "if-modified-since" ∷ codes "if-unmodified-since" ∷ []
-
--- the fields whose forms are not built
-abbrev pub unbuilt_fields : List (List ℕ)
-unbuilt_fields = codes "if" ∷ codes "range" ∷ codes "if-range" ∷ conditions
-
-abbrev pub has_unbuilt_field : Asked → Bool
-has_unbuilt_field r = list_any (has_field r) unbuilt_fields
+-- the methods whose form is built
+abbrev pub is_reading : DavMethod → Bool
+is_reading method = same_method method Get || same_method method Head
 
 -- A form that isn't built is refused with 501, and the connection closes.
-abbrev pub built_target : Bool → Target → Target
-built_target unbuilt (Refused status close) = Refused status close
-built_target unbuilt (At names slash) = cond unbuilt (Refused 501 true) (At names slash)
+abbrev pub unbuilt : Target
+unbuilt = Refused 501 true
+
+-- The path is read before the field `if` is looked at.
+abbrev pub target_read : DavMethod → Bool → Result WebPath ParseError → Target
+target_read method has_if (Ok path) = cond has_if unbuilt (At method path)
+target_read method has_if (Err fault) = Refused (path_status fault) false
+
+abbrev pub target_by : Asked → Result DavMethod DavError → Target
+target_by r (Err e) = unbuilt
+target_by r (Ok method) = cond (is_reading method && is_bare r)
+    (target_read method (has_field r (codes "if")) (parsed (uri_path (head_of r).uri) [])) unbuilt
 
 -- The gates: what a request asks for, or what it is refused with whatever stands on the disk.
 abbrev pub gates : Asked → Target
-gates r = cond (is_bare_get r) (built_target (has_unbuilt_field r) (target_of (uri_path (head_of r).uri))) (Refused 501 true)
+gates r = target_by r (method_of (head_of r).method)

@@ -5,9 +5,17 @@
 
 mod answer;
 pub mod laws;
+mod outcome;
+mod ranges;
+mod sent;
+mod settings;
 mod step;
 mod target;
 
 pub use answer::Answer;
+pub use outcome::Outcome;
+pub use ranges::{Ranges, Slice, Slices};
+pub use sent::Sent;
+pub use settings::Settings;
 pub use step::Step;
 pub use target::Target;

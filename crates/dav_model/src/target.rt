@@ -1,10 +1,10 @@
-use dav_core::FsPath;
+use dav_core::{DavMethod, DavPath};
 
 /// What a request asks for, as far as it can be told without the disk.
 #[derive(Drop)]
 pub enum Target {
-    /// What stands at this path, asked for with or without a final slash.
-    At { names: FsPath, slash: bool },
+    /// What stands at this path, by GET or HEAD.
+    At { method: DavMethod, path: DavPath },
     /// Nothing: it is refused with this status, and the connection closes where `close` is set.
     Refused { status: u16, close: bool },
 }

@@ -1,0 +1,135 @@
+-- What a poll does with each kind of part.
+use Rattle.std.proofs.Common.{◌≡◌, ◌≢◌, ◌≤◌, ◌<◌, ◌+◌, ◌-◌, ◌==◌, ◌^◌, ◌&&◌, ℕ, List, [], ◌∷◌, length, take, drop, min, max, cond, Bool, true, false, Option, None, Some, refl, sym, ◌∙◌, ap, inl, inr, arith, MatchOption}
+use Rattle.std.specs.Prelude.{is_some, nat_lt}
+use Rattle.std.specs.List.{list_all, list_any}
+use Rattle.std.proofs.lemmas.Grind.{common_steps}
+use Rattle.std.proofs.lemmas.Bool.Decides.{nat_tests}
+use Rattle.dav_io.specs.Counts.{Rose}
+use Rattle.dav_core.specs.Disk.{DiskState}
+use Rattle.dav_model.specs.declared.ranges.Slice.{Slice}
+use Rattle.dav_model.specs.declared.answer.Answer.{Answer}
+use Rattle.dav_model.specs.declared.answer.Answer.TheVariants.{Piece, End, Broken}
+use Rattle.dav_store.specs.Standing.{Seen}
+use Rattle.dav_store.specs.Files.{FileCloses}
+use Rattle.dav_get.specs.declared.part.BodyPart.{BodyPart}
+use Rattle.dav_get.specs.declared.part.BodyPart.TheVariants.{Text, Slice as SliceOf}
+use Rattle.dav_get.specs.declared.open_at.OpenAt.{OpenAt}
+use Rattle.dav_get.specs.declared.body.GetBody.{GetBody}
+use Rattle.dav_get.specs.OpenFiles.{IsAt, SameStands, IsPieceOf, Fills}
+use Rattle.dav_get.specs.Bodies.{left_of, is_part, is_slice, next_most_of, IsHeld, Closes, Passes, passed, Takes, TouchesOwn, IfPiece, Polls}
+use Rattle.dav_get.proofs.Touching.{touches_none, touches_then, closes_touch, passes_touch, held_then}
+
+-- what a slice that is a part has
+pub slice_is_part : (slice : Slice) → is_part (SliceOf slice) ≡ true → (0 < slice.count) × (slice.start + slice.count < 2 ^ 64)
+slice_is_part slice is = grind (arith, nat_tests)
+
+-- the parts that follow the first
+later_parts : (part : BodyPart) (parts : List BodyPart) → list_all is_part (part ∷ parts) ≡ true → (is_part part ≡ true) × (list_all is_part parts ≡ true)
+later_parts part parts all = grind (arith, common_steps)
+
+moved_is_part : (b : Bool) (slice : Slice) (n : ℕ) (parts : List BodyPart) → (slice.count - n == 0) ≡ b → is_part (SliceOf slice) ≡ true → n ≤ slice.count → list_all is_part parts ≡ true
+    → list_all is_part (cond b parts (SliceOf (record { start = slice.start + n; count = slice.count - n }) ∷ parts)) ≡ true
+moved_is_part true slice n parts e is within all = all
+moved_is_part false slice n parts e is within all = grind (arith, nat_tests)
+
+module _ {F : Type 0} (handle : F → ℕ) (seen : F → DiskState → Option Seen) where
+  -- a body at its end
+  pub held_over : (s : DiskState) (b : GetBody F) → left_of b ≡ [] → b.file ≡ None → IsHeld handle seen s b
+  held_over s b left none = record {
+    parts = rw left refl;
+    needs = λ has. let none : false ≡ true = rw left at has in cc;
+    over = λ over. rw none refl;
+    some = λ has. let none : false ≡ true = rw left at has in cc;
+    room = λ has. let none : false ≡ true = rw left at has in cc;
+    file = λ h is. let f : Some h ≡ None = sym is ∙ none in cc;
+  }
+
+  -- nothing is left
+  pub end_polls : (s : DiskState) (b : GetBody F) → left_of b ≡ [] → IsHeld handle seen s b → Polls handle seen s b End s b
+  end_polls s b left held = record {
+    disk = touches_none handle seen s b.file;
+    takes = rw left (refl, refl);
+    held = held;
+    bound = tt;
+    most = refl;
+    room = refl;
+  }
+
+  pub text_polls : (s t : DiskState) (b c : GetBody F) (bytes : List ℕ) (rest : List BodyPart) → left_of b ≡ Text bytes ∷ rest → IsHeld handle seen s b
+      → left_of c ≡ rest → Passes handle s b (left_of c) t c.file → c.most ≡ b.most → length c.buffer.items ≡ length b.buffer.items
+      → (piece : List ℕ) → piece ≡ bytes → Polls handle seen s b (Piece piece) t c
+  text_polls s t b c bytes rest is held left passes most room piece same =
+      let all = rw is at held.parts in
+      let later = later_parts (Text bytes) rest all in record {
+        disk = passes_touch handle seen s t b (left_of c) c.file passes;
+        takes = rw (is, same) (refl, left);
+        held = held_then handle seen s t b c held passes (rw left later.1) (λ has. rw is (rw left at has)) most room;
+        bound = rw (is, same) (omega arith);
+        most = most;
+        room = room;
+      }
+
+  -- a body whose file was used, before its slice moves on
+  pub held_filled : (s m : DiskState) (b c : GetBody F) (slice : Slice) (most : ℕ) (buffer : List ℕ) (n : ℕ) (h g : OpenAt F) → IsHeld handle seen s b
+      → Fills handle seen s h slice most buffer (Some n) m g → b.file ≡ Some h → c.file ≡ Some g → left_of c ≡ left_of b → (left_of b ≡ [] → ⊥)
+      → c.most ≡ b.most → length c.buffer.items ≡ length b.buffer.items → IsHeld handle seen m c
+  held_filled s m b c slice most buffer n h g held fills before after left some same room = record {
+    parts = rw left held.parts;
+    needs = λ has. rw after refl;
+    over = λ none. absurd (some (sym left ∙ none));
+    some = λ has. rw same (held.some (rw left at has));
+    room = λ has. rw (same, room) (held.room (rw left at has));
+    file = λ k is. let e : k ≡ g = (let f : Some g ≡ Some k = sym after ∙ is in cc) in rw e fills.answer.4;
+  }
+
+  pub fill_touches : (s m : DiskState) (file other : Option (OpenAt F)) (slice : Slice) (most : ℕ) (buffer : List ℕ) (result : Option ℕ) (h g : OpenAt F)
+      → Fills handle seen s h slice most buffer result m g → file ≡ Some h → other ≡ Some g → TouchesOwn handle seen s file m other
+  fill_touches s m file other slice most buffer result h g fills before after = rw (before, after) (fills.keeps, fills.same, fills.live, fills.stands)
+
+  pub slice_polls : (s m t : DiskState) (b d c : GetBody F) (slice : Slice) (rest : List BodyPart) (most : ℕ) (buffer : List ℕ) (n : ℕ) (h g : OpenAt F)
+      → left_of b ≡ SliceOf slice ∷ rest → IsHeld handle seen s b → most ≡ b.most
+      → Fills handle seen s h slice most buffer (Some n) m g → b.file ≡ Some h → d.file ≡ Some g → left_of d ≡ left_of b
+      → d.most ≡ b.most → length d.buffer.items ≡ length b.buffer.items
+      → length buffer ≡ length b.buffer.items
+      → left_of c ≡ passed slice n rest → Passes handle m d (left_of c) t c.file → c.most ≡ d.most → length c.buffer.items ≡ length d.buffer.items
+      → (piece : List ℕ) → piece ≡ take n buffer → Polls handle seen s b (Piece piece) t c
+  slice_polls s m t b d c slice rest most buffer n h g is held size fills before after same dm dr len left passes cm cr piece front =
+      let all = rw is at held.parts in
+      let parts = later_parts (SliceOf slice) rest all in
+      let inside : n ≤ length buffer = fills.answer.0 in
+      let within : n ≤ slice.count = fills.answer.1 in
+      let some : 0 < n = fills.answer.2 in
+      let long : length (take n buffer) ≡ n = grind (arith, common_steps) in
+      let there : IsHeld handle seen m d = held_filled s m b d slice most buffer n h g held fills before after same (λ none. let e : SliceOf slice ∷ rest ≡ [] = sym is ∙ none in cc) dm dr in
+      record {
+        disk = touches_then handle seen s m t b.file d.file c.file (fill_touches s m b.file d.file slice most buffer (Some n) h g fills before after) (passes_touch handle seen m t d (left_of c) c.file passes);
+        takes = rw (is, front) (inl (
+          take n buffer,
+          refl,
+          (λ k file. let e : k ≡ h = (let f : Some h ≡ Some k = sym before ∙ file in cc) in rw (e, ← size) fills.answer.3),
+          rw long some,
+          rw long within,
+          rw long left,
+        ));
+        held = held_then handle seen m t d c there passes (rw left (moved_is_part _ slice n rest refl parts.0 within parts.1)) (λ has. rw (same, is) refl) cm cr;
+        bound = rw (is, front, long) (omega arith);
+        most = cm ∙ dm;
+        room = cr ∙ dr;
+      }
+
+  pub broken_polls : (s m t : DiskState) (b d c : GetBody F) (slice : Slice) (rest : List BodyPart) (most : ℕ) (buffer : List ℕ) (h g : OpenAt F)
+      → left_of b ≡ SliceOf slice ∷ rest
+      → Fills handle seen s h slice most buffer None m g → b.file ≡ Some h → d.file ≡ Some g
+      → left_of c ≡ [] → Closes handle m d.file t → c.file ≡ None → c.most ≡ b.most → length c.buffer.items ≡ length b.buffer.items
+      → Polls handle seen s b Broken t c
+  broken_polls s m t b d c slice rest most buffer h g is fills before after left closes none cm cr =
+      let closed : FileCloses m (handle g.file) t = rw after at closes in
+      let rose : Rose s.faults t.faults = rw closed.counts fills.answer in
+      record {
+        disk = rw none (touches_then handle seen s m t b.file d.file None (fill_touches s m b.file d.file slice most buffer None h g fills before after) (closes_touch handle seen m t d.file closes));
+        takes = rw is (inr (refl, left, rose));
+        held = held_over t c left none;
+        bound = tt;
+        most = cm;
+        room = cr;
+      }

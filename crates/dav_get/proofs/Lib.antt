@@ -1,0 +1,14 @@
+pub mod Dates
+pub mod Several
+pub mod Touching
+pub mod BodyPolls
+pub mod BodyRight
+pub mod BodyKept
+pub mod BodyBound
+pub mod BodyMade
+pub mod Bounds
+pub mod Going
+pub mod Living
+pub mod Sending
+pub mod BodyEnds
+pub mod Righting

@@ -1,0 +1,19 @@
+use Rattle.std.proofs.Common.{Some, ap, length, take, refl, sym, ◌∙◌}
+use Rattle.std.specs.Vec.{with_items}
+use Rattle.std.proofs.lemmas.List.{with_items_is}
+use Rattle.dav_get.proofs.BodyPolls.{slice_polls}
+use Rattle.dav_get.proofs.body.GetBody.take_slice.Goals as goal
+
+pub fill-requires-clause-at : goal.fill-requires-clause-at
+fill-requires-clause-at g c = c.requires.held.file c.in-Some.open c.in-Some.is
+
+pub returns-clause-done : goal.returns-clause-done
+returns-clause-done g c =
+    let long = c.fill.auto.into ∙ ap length c.deref_mut.ensures.value in
+    let items = with_items_is c.args.self.now.buffer c.fill.new.into (long ∙ sym c.args.self.now.buffer.ok.0) in
+    slice_polls g.F.DavFile.handle g.F.DavFile.seen _ _ _ c.args.self.now
+    (record c.args.self.now { file = Some c.fill.new.self; buffer = with_items c.args.self.now.buffer c.fill.new.into })
+    c.advance.new.self c.args.slice _ _ c.fill.new.into c.in-Some-fill.count c.in-Some.open c.fill.new.self
+    c.requires.slice c.requires.held refl c.in-Some-fill.ensures.done c.in-Some.is refl refl refl (ap length items ∙ long) long
+    c.advance.ensures.left c.advance.ensures.done c.advance.ensures.most (ap (λ v. length v.items) c.advance.ensures.buffer)
+    _ (c.in-Ok.ensures ∙ ap (take c.in-Some-fill.count) (c.deref.ensures.value ∙ items))

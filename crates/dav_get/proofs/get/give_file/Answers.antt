@@ -1,0 +1,16 @@
+use Rattle.std.proofs.Common.{◌≡◌}
+use Rattle.dav_store.specs.View.{the_view}
+use Rattle.dav_get.proofs.Living.{held_kept}
+use Rattle.dav_get.proofs.get.give_file.Goals as goal
+
+pub returns-in-Ok-Some-clause-life : goal.returns-in-Ok-Some-clause-life
+returns-in-Ok-Some-clause-life g c =
+    held_kept (the_view g.S.GuardedFileSystem g.S.Disk.Disk g.S.File.DavFile) _ _ _ _ _ _ c.file_redirect.ensures.done.keeps c.file_redirect.ensures.handle c.send_away.ensures.life
+
+pub returns-in-Ok-None-clause-life : goal.returns-in-Ok-None-clause-life
+returns-in-Ok-None-clause-life g c =
+    held_kept (the_view g.S.GuardedFileSystem g.S.Disk.Disk g.S.File.DavFile) _ _ _ _ _ _ c.file_redirect.ensures.done.keeps c.file_redirect.ensures.handle c.send_file-in-Ok-None.ensures.life
+
+pub returns-in-Err-clause-life : goal.returns-in-Err-clause-life
+returns-in-Err-clause-life g c =
+    held_kept (the_view g.S.GuardedFileSystem g.S.Disk.Disk g.S.File.DavFile) _ _ _ _ _ _ c.file_redirect.ensures.done.keeps c.file_redirect.ensures.handle c.give_up.ensures.life

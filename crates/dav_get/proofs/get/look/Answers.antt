@@ -1,0 +1,8 @@
+use Rattle.std.proofs.Common.{◌≡◌}
+use Rattle.dav_store.specs.View.{the_view}
+use Rattle.dav_get.proofs.Living.{looked_before}
+use Rattle.dav_get.proofs.get.look.Goals as goal
+
+pub returns-else-is_dir-clause-life : goal.returns-else-is_dir-clause-life
+returns-else-is_dir-clause-life g c =
+    looked_before (the_view g.S.GuardedFileSystem g.S.Disk.Disk g.S.File.DavFile) _ _ _ _ c.metadata.ensures.keeps c.open_file.ensures.life

@@ -1,0 +1,10 @@
+pub mod Within
+pub mod Parts
+pub mod OpenFiles
+pub mod Bodies
+pub mod BodySteps
+pub mod BodyLent
+pub mod Table
+pub mod Lives
+pub mod Prepared
+pub mod Right

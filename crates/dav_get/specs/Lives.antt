@@ -1,0 +1,33 @@
+-- What a GET leaves open: nothing but the file of its body.
+use Rattle.std.specs.Prelude.{◌≡◌, ℕ, true, Option, None, Some, Result, Ok, Err}
+use Rattle.std.specs.List.{list_any}
+use Rattle.dav_core.specs.Keeps.{Keeps, KeepsBut}
+use Rattle.dav_store.specs.View.{View}
+use Rattle.dav_get.specs.declared.body.GetBody.{GetBody}
+use Rattle.dav_get.specs.declared.open_at.OpenAt.{OpenAt}
+use Rattle.dav_get.specs.Bodies.{IsHeld, is_slice, left_of}
+use Rattle.dav_get.specs.Table.{Given}
+
+module _ {S C F : Type 0} (view : View S C F) where
+  -- the file in hand is the body's, or is closed
+  abbrev pub KeptOrClosed : ℕ → S → Option (OpenAt F) → S → Type 0
+  KeptOrClosed n s None t = KeepsBut n (view.state s) (view.state t) × ((view.state t).live n ≡ None)
+  KeptOrClosed n s (Some h) t = KeepsBut n (view.state s) (view.state t) × (view.handle h.file ≡ n)
+
+  abbrev pub HeldOrClosed : ℕ → S → Given F → S → Type 0
+  HeldOrClosed n s (Ok r) t = IsHeld view.handle view.seen (view.state t) r.1 × KeptOrClosed n s r.1.file t
+  HeldOrClosed n s (Err e) t = KeepsBut n (view.state s) (view.state t) × ((view.state t).live n ≡ None)
+
+  -- Nothing is open that wasn't, but the body's file.
+  abbrev pub OpensOnly : S → Option (OpenAt F) → S → Type 0
+  OpensOnly s None t = Keeps (view.state s) (view.state t)
+  OpensOnly s (Some h) t = KeepsBut (view.handle h.file) (view.state s) (view.state t) × ((view.state s).live (view.handle h.file) ≡ None)
+
+  abbrev pub OpenOnlyHeld : S → Given F → S → Type 0
+  OpenOnlyHeld s (Ok r) t = IsHeld view.handle view.seen (view.state t) r.1 × OpensOnly s r.1.file t
+  OpenOnlyHeld s (Err e) t = Keeps (view.state s) (view.state t)
+
+-- where slices of a file are left, a piece has at most so many bytes
+abbrev pub HasMost : {F : Type 0} → ℕ → Given F → Type 0
+HasMost most (Ok r) = list_any is_slice (left_of r.1) ≡ true → r.1.most ≡ most
+HasMost most (Err e) = Unit {0}

@@ -1,0 +1,22 @@
+-- What is made ready before a file is given.
+use Rattle.std.specs.Prelude.{◌≡◌, ◌≤◌, ◌⊎◌, ℕ, List, [], true, vec_len, max}
+use Rattle.std.specs.List.{list_all}
+use Rattle.dav_core.specs.declared.method.DavMethod.{DavMethod}
+use Rattle.dav_core.specs.DavPath.{WebPath}
+use Rattle.dav_core.specs.Info.{Info}
+use Rattle.dav_model.specs.declared.sent.Sent.{Sent}
+use Rattle.dav_get.specs.declared.buffer.ReadBuffer.{ReadBuffer}
+use Rattle.dav_get.specs.declared.part.BodyPart.{BodyPart}
+use Rattle.dav_get.specs.declared.prepared.Prepared.{Prepared}
+use Rattle.dav_get.specs.Bodies.{is_part}
+use Rattle.dav_get.specs.Table.{IsOutcome, ArePartsOf}
+
+-- Each part is sound, and there is room for their pieces.
+pub record AreReady (size : ℕ) (parts : List BodyPart) (buffer : ReadBuffer) : Type 0 where
+  pub sound : list_all is_part parts ≡ true
+  pub room : (parts ≡ []) ⊎ ((buffer.most ≡ size) × (max buffer.most 4096 ≤ vec_len buffer.bytes))
+
+pub record IsPrepared (size : ℕ) (method : DavMethod) (path : WebPath) (info : Info) (sent : Sent) (p : Prepared) : Type 0 where
+  pub outcome_is : IsOutcome method path info sent p.outcome
+  pub are : ArePartsOf method path info sent p.parts.items
+  pub ready : AreReady size p.parts.items p.buffer

@@ -1,0 +1,257 @@
+ghost use Rattle.std.specs.Prelude.{◌≡◌, ◌≤◌, ◌<◌, ◌+◌, ◌-◌, ◌^◌, [], ◌∷◌, List, true, vec_len, length, drop, None, IfSome, IsSome, max};
+ghost use Rattle.std.specs.Borrow.{sem};
+ghost use Rattle.dav_core.specs.Disk.{can_read};
+ghost use Rattle.dav_model.specs.declared.ranges.Slice.{Slice};
+ghost use Rattle.dav_get.specs.declared.part.BodyPart.{BodyPart};
+ghost use Rattle.dav_get.specs.declared.part.BodyPart.TheVariants.{Text as TextPart, Slice as SlicePart};
+ghost use Rattle.dav_get.specs.Bodies.{left_of, next_most_of, IsHeld, Closes, Passes, passed, answer_of, IsInside, IfPiece, Polls, IsPolled};
+ghost use Rattle.dav_get.specs.BodyLent.{EndsPolled, answer_in};
+
+use crate::{BodyPart, OpenAt, ReadBuffer};
+use dav_core::Disk;
+use dav_model::Slice;
+use dav_store::DavFile;
+
+/// The body of an answer: texts and slices of one open file, in order. It isn't dropped while it has its file open:
+/// the poll that gives the last piece ends the file, and so does `close`.
+#[derive(Drop)]
+pub struct GetBody<F> {
+    pub(crate) parts: Vec<BodyPart>,
+    pub(crate) next: usize,
+    pub(crate) file: Option<OpenAt<F>>,
+    pub(crate) most: usize,
+    pub(crate) buffer: Vec<u8>,
+}
+
+/// What a poll of a body gives.
+pub enum Polled<'a> {
+    /// The next piece, which isn't empty.
+    Piece(&'a [u8]),
+    /// Nothing is left.
+    End,
+    /// The disk failed, and nothing is left.
+    Broken,
+}
+
+// Where the next piece stands.
+#[derive(Clone, Copy, Debug)]
+pub(crate) enum Given {
+    // It is the text of this index.
+    Text(usize),
+    // So many bytes at the front of the buffer.
+    Read(usize),
+    End,
+    Broken,
+}
+
+impl<F> GetBody<F> {
+    /// A body of these parts. Their slices are of the file.
+    pub fn new(parts: Vec<BodyPart>, file: Option<OpenAt<F>>, buffer: ReadBuffer) -> Self
+        ensures left { left_of result ≡ parts.items }
+        ensures file { result.file ≡ file }
+        ensures most { result.most ≡ buffer.most }
+        ensures room { vec_len result.buffer ≡ vec_len buffer.bytes }
+    {
+        let ReadBuffer { most, bytes } = buffer;
+        GetBody {
+            parts,
+            next: 0,
+            file,
+            most,
+            buffer: bytes,
+        }
+    }
+
+    /// At least the length of the next piece, in bytes; 0 where nothing is left.
+    pub fn next_most(&self) -> usize
+        ensures { result ≡ next_most_of (left_of self.now) (vec_len self.now.buffer) }
+    {
+        if self.next >= self.parts.len() {
+            return 0;
+        }
+        match &self.parts[self.next] {
+            BodyPart::Text(text) => text.as_slice().len(),
+            BodyPart::Slice(slice) => slice.count.min(self.buffer.len() as u64) as usize,
+        }
+    }
+
+    // Ends the file, where it is still open.
+    fn end<D: Disk>(&mut self, disk: &mut D)
+    where
+        F: DavFile<D>,
+        requires { IfSome self.old.file (λ h. IsSome ((D.state disk.old).live (F.handle h.file))) }
+        ensures done { Closes F.handle (D.state disk.old) self.old.file (D.state disk.new) }
+        ensures rest { self.new ≡ record self.old { file = None } }
+        ensures loan { D.loan disk.new ≡ D.loan disk.old }
+    {
+        if let Some(open) = self.file.take() {
+            let OpenAt { file, place: _ } = open;
+            file.close(disk);
+        }
+    }
+
+    // The next part was given. After the last the file is ended.
+    pub(crate) fn pass<D: Disk>(&mut self, disk: &mut D)
+    where
+        F: DavFile<D>,
+        requires next { self.old.next < vec_len self.old.parts }
+        requires live { IfSome self.old.file (λ h. IsSome ((D.state disk.old).live (F.handle h.file))) }
+        ensures done { Passes F.handle (D.state disk.old) self.old (left_of self.new) (D.state disk.new) self.new.file }
+        ensures parts { self.new.parts ≡ self.old.parts }
+        ensures next { self.new.next ≡ self.old.next + 1 }
+        ensures most { self.new.most ≡ self.old.most }
+        ensures buffer { self.new.buffer ≡ self.old.buffer }
+        ensures loan { D.loan disk.new ≡ D.loan disk.old }
+    {
+        self.next += 1;
+        if self.next == self.parts.len() {
+            self.end(disk);
+        }
+    }
+
+    // A slice gave so many bytes, and moves on.
+    pub(crate) fn advance<D: Disk>(&mut self, disk: &mut D, slice: Slice, count: u64)
+    where
+        F: DavFile<D>,
+        requires next { self.old.next < vec_len self.old.parts }
+        requires within { count ≤ slice.count }
+        requires fits { slice.start + slice.count < 2 ^ 64 }
+        requires live { IfSome self.old.file (λ h. IsSome ((D.state disk.old).live (F.handle h.file))) }
+        ensures done { Passes F.handle (D.state disk.old) self.old (left_of self.new) (D.state disk.new) self.new.file }
+        ensures left { left_of self.new ≡ passed slice count (drop (self.old.next + 1) self.old.parts.items) }
+        ensures most { self.new.most ≡ self.old.most }
+        ensures buffer { self.new.buffer ≡ self.old.buffer }
+        ensures loan { D.loan disk.new ≡ D.loan disk.old }
+    {
+        if count == slice.count {
+            self.pass(disk);
+            return;
+        }
+        self.parts[self.next] = BodyPart::Slice(Slice {
+            start: slice.start + count,
+            count: slice.count - count,
+        });
+    }
+
+    // Nothing is given any more.
+    pub(crate) fn give_up<D: Disk>(&mut self, disk: &mut D)
+    where
+        F: DavFile<D>,
+        requires { IfSome self.old.file (λ h. IsSome ((D.state disk.old).live (F.handle h.file))) }
+        ensures done { Closes F.handle (D.state disk.old) self.old.file (D.state disk.new) }
+        ensures left { left_of self.new ≡ [] }
+        ensures file { self.new.file ≡ None }
+        ensures most { self.new.most ≡ self.old.most }
+        ensures buffer { self.new.buffer ≡ self.old.buffer }
+        ensures loan { D.loan disk.new ≡ D.loan disk.old }
+    {
+        self.next = self.parts.len();
+        self.end(disk);
+    }
+
+    // Makes one poll.
+    fn step<D: Disk>(&mut self, disk: &mut D) -> Given
+    where
+        F: DavFile<D>,
+        requires { IsHeld F.handle F.seen (D.state disk.old) self.old }
+        ensures done { Polls F.handle F.seen (D.state disk.old) self.old (answer_of result self.new) (D.state disk.new) self.new }
+        ensures inside { IsInside result self.new }
+        ensures loan { D.loan disk.new ≡ D.loan disk.old }
+    {
+        if self.next >= self.parts.len() {
+            return Given::End;
+        }
+        match &self.parts[self.next] {
+            BodyPart::Text(_) => {
+                let at = self.next;
+                self.pass(disk);
+                Given::Text(at)
+            }
+            BodyPart::Slice(slice) => {
+                let slice = *slice;
+                self.step_slice(disk, slice)
+            }
+        }
+    }
+
+    // Makes one poll, where a slice is next.
+    fn step_slice<D: Disk>(&mut self, disk: &mut D, slice: Slice) -> Given
+    where
+        F: DavFile<D>,
+        requires held { IsHeld F.handle F.seen (D.state disk.old) self.old }
+        requires next { self.old.next < vec_len self.old.parts }
+        requires slice { left_of self.old ≡ SlicePart slice ∷ drop (self.old.next + 1) self.old.parts.items }
+        ensures done { Polls F.handle F.seen (D.state disk.old) self.old (answer_of result self.new) (D.state disk.new) self.new }
+        ensures inside { IsInside result self.new }
+        ensures loan { D.loan disk.new ≡ D.loan disk.old }
+    {
+        let Some(open) = &mut self.file else {
+            unreachable!("a body with a slice has its file");
+        };
+        match open.fill(disk, slice, self.most, &mut self.buffer) {
+            None => {
+                self.give_up(disk);
+                Given::Broken
+            }
+            Some(count) => {
+                self.advance(disk, slice, count as u64);
+                Given::Read(count)
+            }
+        }
+    }
+
+    // Makes one poll.
+    fn poll<D: Disk>(&mut self, disk: &mut D) -> Given
+    where
+        F: DavFile<D>,
+        requires { IsHeld F.handle F.seen (D.state disk.old) self.old }
+        ensures done { IsPolled F.handle F.seen (D.state disk.old) self.old (answer_of result self.new) (D.state disk.new) self.new }
+        ensures inside { IsInside result self.new }
+        ensures loan { D.loan disk.new ≡ D.loan disk.old }
+    {
+        self.step(disk)
+    }
+
+    /// The next piece: a whole text, or bytes of the file as they stand now, or zeros where no byte stands. It takes no
+    /// memory. `Broken` comes only where the disk's count of faults rose. The file is ended with the last piece, and
+    /// where the body broke; then it is at its end.
+    pub fn poll_piece<'a, D: Disk>(&'a mut self, disk: &mut D) -> Polled<'a>
+    where
+        F: DavFile<D>,
+        requires { IsHeld F.handle F.seen (D.state disk.old) self.old }
+        ensures* ends { sem 𝓛 (EndsPolled F.row F.handle F.seen (D.state disk.old) (D.state disk.new) self.entry self.old result) }
+        ensures bound { IfPiece (answer_in result) (λ piece. length piece ≤ next_most_of (left_of self.old) (vec_len self.old.buffer)) }
+        ensures loan { D.loan disk.new ≡ D.loan disk.old }
+    {
+        match self.poll(disk) {
+            Given::Text(at) => match &self.parts[at] {
+                BodyPart::Text(text) => Polled::Piece(text.as_slice()),
+                BodyPart::Slice(_) => unreachable!("a text was given"),
+            },
+            Given::Read(count) => Polled::Piece(&self.buffer[..count]),
+            Given::End => Polled::End,
+            Given::Broken => Polled::Broken,
+        }
+    }
+
+    /// Ends the body, and its file where it is still open.
+    pub fn close<D: Disk>(self, disk: &mut D)
+    where
+        F: DavFile<D>,
+        requires { IsHeld F.handle F.seen (D.state disk.old) self }
+        ensures done { Closes F.handle (D.state disk.old) self.file (D.state disk.new) }
+        ensures loan { D.loan disk.new ≡ D.loan disk.old }
+    {
+        let GetBody {
+            parts: _,
+            next: _,
+            file,
+            most: _,
+            buffer: _,
+        } = self;
+        if let Some(open) = file {
+            let OpenAt { file, place: _ } = open;
+            file.close(disk);
+        }
+    }
+}

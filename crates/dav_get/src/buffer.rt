@@ -1,0 +1,37 @@
+ghost use Rattle.std.specs.Prelude.{◌≡◌, ◌<◌, IfOk, max, vec_len};
+
+use dav_io::NoMemory;
+use std::alloc::Global;
+
+/// Room for the pieces of a file. It is made before the file is opened, so that a file in hand is never lost to want of
+/// memory.
+#[derive(Drop)]
+pub struct ReadBuffer {
+    pub(crate) most: usize,
+    pub(crate) bytes: Vec<u8>,
+}
+
+impl ReadBuffer {
+    /// Room for pieces of at most `read_size` bytes of a file, and of at most 4,096 zeros.
+    pub fn new(alloc: Global, read_size: usize) -> Result<Self, NoMemory>
+        requires { 0 < read_size }
+        ensures { IfOk result (λ buffer. (buffer.most ≡ read_size) × (vec_len buffer.bytes ≡ max read_size 4096)) }
+    {
+        let bytes = vec![in alloc; 0; read_size.max(4096)]?;
+        Ok(ReadBuffer {
+            most: read_size,
+            bytes,
+        })
+    }
+
+    /// No room, for a body without a slice.
+    pub fn none(alloc: Global) -> Self
+        ensures most { result.most ≡ 0 }
+        ensures bytes { vec_len result.bytes ≡ 0 }
+    {
+        ReadBuffer {
+            most: 0,
+            bytes: Vec::new(alloc),
+        }
+    }
+}

@@ -1,0 +1,76 @@
+// What of a file is sent.
+ghost use Rattle.std.specs.Prelude.{◌≡◌, ℕ, None, IfOk};
+ghost use Rattle.dav_model.specs.Head.{sent_of, sent_ranges};
+ghost use Rattle.dav_model.specs.Slices.{AreWithin};
+ghost use Rattle.dav_get.specs.Table.{stood_by, first_place as the_first_place};
+ghost use Rattle.dav_get.specs.Within.{IsSentOf};
+
+use crate::ranges::slices;
+use dav_core::{DavMetaData, DavMethod, ETag, FileTime};
+use dav_io::NoMemory;
+use dav_methods::{first_value, if_match, ranges_are_heard};
+use dav_model::{Ranges, Sent};
+use http::HeaderMap;
+use std::alloc::Global;
+
+// What of a file is sent for its ranges.
+fn of_ranges(ranges: Ranges) -> Sent
+    ensures sent { result ≡ sent_ranges ranges }
+    ensures within { (len : ℕ) → AreWithin len ranges → IsSentOf len result }
+{
+    match ranges {
+        Ranges::Whole => Sent::All,
+        Ranges::Unsatisfiable => Sent::Unsatisfied,
+        Ranges::Parts(parts) => match parts.as_slice() {
+            [] => Sent::All,
+            [part] => Sent::One(*part),
+            _ => Sent::Several(parts),
+        },
+    }
+}
+
+/// What of a file is sent in answer to these fields. A precondition that fails decides; otherwise the ranges, where they
+/// are heard.
+pub(crate) fn decide<M: DavMetaData>(
+    alloc: Global,
+    method: DavMethod,
+    fields: &HeaderMap,
+    meta: &M,
+) -> Result<Sent, NoMemory>
+    ensures sent { IfOk result (λ sent. sent ≡ sent_of method fields.now (stood_by (M.info meta.now) None)) }
+    ensures within { IfOk result (IsSentOf (M.info meta.now).len) }
+{
+    if let Some(status) = if_match(alloc, method, fields, Some(meta))? {
+        return Ok(Sent::Alone(status.as_u16()));
+    }
+    let tag = ETag::from_meta(alloc, meta)?;
+    if !ranges_are_heard(alloc, fields, tag.as_ref(), modified(meta))? {
+        return Ok(Sent::All);
+    }
+    let ranges = slices(alloc, first_value(fields, "range"), meta.len())?;
+    Ok(of_ranges(ranges))
+}
+
+// The time of the last change, where it is known.
+fn modified<M: DavMetaData>(meta: &M) -> Option<FileTime>
+    ensures { result ≡ (M.info meta.now).modified }
+{
+    match meta.modified() {
+        Ok(time) => Some(time),
+        Err(_) => None,
+    }
+}
+
+/// The place to which the file is moved before the first part is given.
+pub(crate) fn first_place(sent: &Sent) -> Option<u64>
+    ensures { result ≡ the_first_place sent.now }
+{
+    match sent {
+        Sent::All | Sent::Alone(_) | Sent::Unsatisfied => None,
+        Sent::One(part) => Some(part.start),
+        Sent::Several(parts) => match parts.as_slice().first() {
+            Some(part) => Some(part.start),
+            None => None,
+        },
+    }
+}

@@ -1,0 +1,400 @@
+//! GET and HEAD over a store. There is one function for each line of the table from which a file is in hand, so that a file
+//! that was opened is always closed or given to a body.
+ghost use Rattle.std.specs.Prelude.{◌≡◌, ◌<◌, ◌⊎◌, true, false, IsSome, None, Some, Ok, Err};
+ghost use Rattle.dav_core.specs.Disk.{can_read, Live};
+ghost use Rattle.dav_core.specs.Options.{reading};
+ghost use Rattle.dav_model.specs.declared.sent.Sent.TheVariants.{Unsatisfied};
+ghost use Rattle.dav_model.specs.Head.{is_set, is_well_known as the_is_well_known};
+ghost use Rattle.dav_model.specs.Sizes.{read_size_of};
+ghost use Rattle.dav_store.specs.Standing.{Seen};
+ghost use Rattle.dav_store.specs.View.{the_view, Closes};
+ghost use Rattle.dav_get.specs.Lives.{HeldOrClosed, HasMost, OpenOnlyHeld};
+ghost use Rattle.dav_get.specs.Prepared.{AreReady};
+ghost use Rattle.dav_get.specs.Table.{ByKind, ByPlace, ByRedirect, ByWellKnown, Gets, GetsFile, GivesBody, Holds, IsEmpty, IsRedirect, Redirects, Sends, SendsFile, first_place as the_first_place};
+ghost use Rattle.dav_get.specs.Within.{IsSentOf};
+
+use crate::body::GetBody;
+use crate::buffer::ReadBuffer;
+use crate::deciding::{decide, first_place};
+use crate::open_at::OpenAt;
+use crate::prepared::{Prepared, is_get, prepare, prepare_unsatisfied};
+use crate::headers::{redirected_fields, well_known_fields};
+use dav_core::{DavError, DavMetaData, DavMethod, DavPath, FsError, OpenOptions};
+use dav_io::Text;
+use dav_model::{Outcome, Sent, Settings};
+use dav_store::{DavFile, GuardedFileSystem, file_close, file_metadata, file_seek};
+use http::{HeaderMap, StatusCode};
+use std::alloc::Global;
+
+/// What a GET or HEAD is answered with.
+type Given<F> = Result<(Outcome, GetBody<F>), DavError>;
+
+// Closes the file, and answers this error.
+fn give_up<S: GuardedFileSystem<C>, C>(fs: &mut S, file: S::File, error: DavError) -> Given<S::File>
+    requires { IsSome ((S.Disk.state (S.inside fs.old)).live (S.File.handle file)) }
+    ensures closed { Closes (the_view S.GuardedFileSystem S.Disk.Disk S.File.DavFile) fs.old file fs.new }
+    ensures error { result ≡ Err error }
+    ensures life { HeldOrClosed (the_view S.GuardedFileSystem S.Disk.Disk S.File.DavFile) (S.File.handle file) fs.old result fs.new }
+    ensures loan { S.Disk.loan (S.inside fs.new) ≡ S.Disk.loan (S.inside fs.old) }
+{
+    file_close(fs, file);
+    Err(error)
+}
+
+// Closes the file, and answers without a body.
+fn answer_alone<S: GuardedFileSystem<C>, C>(
+    alloc: Global,
+    fs: &mut S,
+    file: S::File,
+    outcome: Outcome,
+) -> Given<S::File>
+    requires { IsSome ((S.Disk.state (S.inside fs.old)).live (S.File.handle file)) }
+    ensures closed { Closes (the_view S.GuardedFileSystem S.Disk.Disk S.File.DavFile) fs.old file fs.new }
+    ensures given { GivesBody (λ o body. (o ≡ outcome) × IsEmpty body) result }
+    ensures life { HeldOrClosed (the_view S.GuardedFileSystem S.Disk.Disk S.File.DavFile) (S.File.handle file) fs.old result fs.new }
+    ensures loan { S.Disk.loan (S.inside fs.new) ≡ S.Disk.loan (S.inside fs.old) }
+{
+    file_close(fs, file);
+    Ok((
+        outcome,
+        GetBody::new(Vec::new(alloc), None, ReadBuffer::none(alloc)),
+    ))
+}
+
+// Gives the parts that were made ready over the file; where there are none, the file is closed.
+fn hold<S: GuardedFileSystem<C>, C>(
+    fs: &mut S,
+    file: S::File,
+    place: u64,
+    prepared: Prepared,
+    size: usize,
+) -> (Outcome, GetBody<S::File>)
+    requires live { can_read ((S.Disk.state (S.inside fs.old)).live (S.File.handle file)) ≡ true }
+    requires place { (f : Seen) → S.File.seen file (S.Disk.state (S.inside fs.old)) ≡ Some f → f.place ≡ place }
+    requires some { 0 < size }
+    requires ready { AreReady size prepared.parts.items prepared.buffer }
+    ensures outcome { result.0 ≡ prepared.outcome }
+    ensures holds { Holds (the_view S.GuardedFileSystem S.Disk.Disk S.File.DavFile) prepared.parts.items file place fs.old result.1 fs.new }
+    ensures life { HeldOrClosed (the_view S.GuardedFileSystem S.Disk.Disk S.File.DavFile) (S.File.handle file) fs.old (Ok result) fs.new }
+    ensures most { HasMost size (Ok result) }
+    ensures loan { S.Disk.loan (S.inside fs.new) ≡ S.Disk.loan (S.inside fs.old) }
+{
+    let Prepared {
+        outcome,
+        parts,
+        buffer,
+    } = prepared;
+    if parts.is_empty() {
+        file_close(fs, file);
+        return (outcome, GetBody::new(parts, None, buffer));
+    }
+    let open = OpenAt { file, place };
+    (outcome, GetBody::new(parts, Some(open), buffer))
+}
+
+// Sends this of the file, which stands at this place.
+fn send<S: GuardedFileSystem<C>, C>(
+    alloc: Global,
+    settings: &Settings,
+    fs: &mut S,
+    file: S::File,
+    place: u64,
+    method: DavMethod,
+    path: &DavPath,
+    meta: &S::Meta,
+    sent: &Sent,
+) -> Given<S::File>
+    requires live { can_read ((S.Disk.state (S.inside fs.old)).live (S.File.handle file)) ≡ true }
+    requires place { (f : Seen) → S.File.seen file (S.Disk.state (S.inside fs.old)) ≡ Some f → f.place ≡ place }
+    requires within { IsSentOf (S.Meta.info meta.now).len sent.now }
+    ensures table { GivesBody (λ outcome body. Sends (the_view S.GuardedFileSystem S.Disk.Disk S.File.DavFile) method path.now (S.Meta.info meta.now) sent.now file place fs.old outcome body fs.new) result ⊎ (result ≡ Err DavError.NoMemory) }
+    ensures life { HeldOrClosed (the_view S.GuardedFileSystem S.Disk.Disk S.File.DavFile) (S.File.handle file) fs.old result fs.new }
+    ensures most { HasMost (read_size_of settings.now.read_buf_size) result }
+    ensures loan { S.Disk.loan (S.inside fs.new) ≡ S.Disk.loan (S.inside fs.old) }
+{
+    match prepare(alloc, settings, method, path, meta, sent) {
+        Ok(prepared) => Ok(hold(fs, file, place, prepared, settings.read_size())),
+        Err(_) => give_up(fs, file, DavError::NoMemory),
+    }
+}
+
+// Sends this of the file, which is moved to the first part before. Where it can't be moved there, no range could be met.
+fn send_from<S: GuardedFileSystem<C>, C>(
+    alloc: Global,
+    settings: &Settings,
+    fs: &mut S,
+    file: S::File,
+    method: DavMethod,
+    path: &DavPath,
+    meta: &S::Meta,
+    sent: &Sent,
+) -> Given<S::File>
+    requires live { can_read ((S.Disk.state (S.inside fs.old)).live (S.File.handle file)) ≡ true }
+    requires place { (f : Seen) → S.File.seen file (S.Disk.state (S.inside fs.old)) ≡ Some f → f.place ≡ 0 }
+    requires within { IsSentOf (S.Meta.info meta.now).len sent.now }
+    ensures table { GivesBody (λ outcome body. ByPlace (the_view S.GuardedFileSystem S.Disk.Disk S.File.DavFile) (the_first_place sent.now) method path.now (S.Meta.info meta.now) sent.now file fs.old outcome body fs.new) result ⊎ (result ≡ Err DavError.NoMemory) }
+    ensures life { HeldOrClosed (the_view S.GuardedFileSystem S.Disk.Disk S.File.DavFile) (S.File.handle file) fs.old result fs.new }
+    ensures most { HasMost (read_size_of settings.now.read_buf_size) result }
+    ensures loan { S.Disk.loan (S.inside fs.new) ≡ S.Disk.loan (S.inside fs.old) }
+{
+    let Some(start) = first_place(sent) else {
+        return send(alloc, settings, fs, file, 0, method, path, meta, sent);
+    };
+    let mut file = file;
+    match file_seek(fs, &mut file, start) {
+        Ok(_) => send(alloc, settings, fs, file, start, method, path, meta, sent),
+        Err(_) => send_unplaced(alloc, settings, fs, file, start, method, path, meta),
+    }
+}
+
+// No range could be met, as the file couldn't be moved to the first.
+fn send_unplaced<S: GuardedFileSystem<C>, C>(
+    alloc: Global,
+    settings: &Settings,
+    fs: &mut S,
+    file: S::File,
+    start: u64,
+    method: DavMethod,
+    path: &DavPath,
+    meta: &S::Meta,
+) -> Given<S::File>
+    requires { IsSome ((S.Disk.state (S.inside fs.old)).live (S.File.handle file)) }
+    ensures table { GivesBody (λ outcome body. Sends (the_view S.GuardedFileSystem S.Disk.Disk S.File.DavFile) method path.now (S.Meta.info meta.now) Unsatisfied file start fs.old outcome body fs.new) result ⊎ (result ≡ Err DavError.NoMemory) }
+    ensures life { HeldOrClosed (the_view S.GuardedFileSystem S.Disk.Disk S.File.DavFile) (S.File.handle file) fs.old result fs.new }
+    ensures most { HasMost (read_size_of settings.now.read_buf_size) result }
+    ensures loan { S.Disk.loan (S.inside fs.new) ≡ S.Disk.loan (S.inside fs.old) }
+{
+    match prepare_unsatisfied(alloc, method, path, meta) {
+        Ok(outcome) => answer_alone(alloc, fs, file, outcome),
+        Err(_) => give_up(fs, file, DavError::NoMemory),
+    }
+}
+
+// Asks the file for the address to which it sends a client.
+fn file_redirect<S: GuardedFileSystem<C>, C>(
+    alloc: Global,
+    fs: &mut S,
+    file: &mut S::File,
+) -> Result<Option<Text>, FsError>
+    requires { IsSome ((S.Disk.state (S.inside fs.old)).live (S.File.handle file.old)) }
+    ensures { Redirects (the_view S.GuardedFileSystem S.Disk.Disk S.File.DavFile) fs.old file.old result fs.new file.new }
+{
+    file.redirect_url(alloc, fs.disk())
+}
+
+// Sends of a regular file what its metadata and the fields of the request call for.
+fn send_file<S: GuardedFileSystem<C>, C>(
+    alloc: Global,
+    settings: &Settings,
+    fs: &mut S,
+    file: S::File,
+    method: DavMethod,
+    path: &DavPath,
+    fields: &HeaderMap,
+    meta: &S::Meta,
+) -> Given<S::File>
+    requires live { can_read ((S.Disk.state (S.inside fs.old)).live (S.File.handle file)) ≡ true }
+    requires place { (f : Seen) → S.File.seen file (S.Disk.state (S.inside fs.old)) ≡ Some f → f.place ≡ 0 }
+    ensures table { SendsFile (the_view S.GuardedFileSystem S.Disk.Disk S.File.DavFile) method path.now fields.now (S.Meta.info meta.now) file fs.old result fs.new ⊎ (result ≡ Err DavError.NoMemory) }
+    ensures life { HeldOrClosed (the_view S.GuardedFileSystem S.Disk.Disk S.File.DavFile) (S.File.handle file) fs.old result fs.new }
+    ensures most { HasMost (read_size_of settings.now.read_buf_size) result }
+    ensures loan { S.Disk.loan (S.inside fs.new) ≡ S.Disk.loan (S.inside fs.old) }
+{
+    match decide(alloc, method, fields, meta) {
+        Ok(sent) => send_from(alloc, settings, fs, file, method, path, meta, &sent),
+        Err(_) => give_up(fs, file, DavError::NoMemory),
+    }
+}
+
+// Sends the client to another address.
+fn send_away<S: GuardedFileSystem<C>, C>(
+    alloc: Global,
+    fs: &mut S,
+    file: S::File,
+    meta: &S::Meta,
+    address: &Text,
+) -> Given<S::File>
+    requires { IsSome ((S.Disk.state (S.inside fs.old)).live (S.File.handle file)) }
+    ensures table { GivesBody (λ outcome body. IsRedirect (S.Meta.info meta.now) address.now outcome × Closes (the_view S.GuardedFileSystem S.Disk.Disk S.File.DavFile) fs.old file fs.new × IsEmpty body) result ⊎ (result ≡ Err DavError.NoMemory) }
+    ensures life { HeldOrClosed (the_view S.GuardedFileSystem S.Disk.Disk S.File.DavFile) (S.File.handle file) fs.old result fs.new }
+    ensures loan { S.Disk.loan (S.inside fs.new) ≡ S.Disk.loan (S.inside fs.old) }
+{
+    match redirected_fields(alloc, address, meta) {
+        Ok(fields) => {
+            let outcome = Outcome {
+                status: 302,
+                fields,
+            };
+            answer_alone(alloc, fs, file, outcome)
+        }
+        Err(_) => give_up(fs, file, DavError::NoMemory),
+    }
+}
+
+// Gives a regular file that was opened, or the address to which it sends a client.
+fn give_file<S: GuardedFileSystem<C>, C>(
+    alloc: Global,
+    settings: &Settings,
+    fs: &mut S,
+    file: S::File,
+    method: DavMethod,
+    path: &DavPath,
+    fields: &HeaderMap,
+    meta: &S::Meta,
+) -> Given<S::File>
+    requires live { can_read ((S.Disk.state (S.inside fs.old)).live (S.File.handle file)) ≡ true }
+    requires place { (f : Seen) → S.File.seen file (S.Disk.state (S.inside fs.old)) ≡ Some f → f.place ≡ 0 }
+    ensures table { ByRedirect (the_view S.GuardedFileSystem S.Disk.Disk S.File.DavFile) (is_set settings.now.redirect) method path.now fields.now (S.Meta.info meta.now) file fs.old result fs.new ⊎ (result ≡ Err DavError.NoMemory) }
+    ensures life { HeldOrClosed (the_view S.GuardedFileSystem S.Disk.Disk S.File.DavFile) (S.File.handle file) fs.old result fs.new }
+    ensures most { HasMost (read_size_of settings.now.read_buf_size) result }
+    ensures loan { S.Disk.loan (S.inside fs.new) ≡ S.Disk.loan (S.inside fs.old) }
+{
+    if !is_on(settings.redirect) {
+        return send_file(alloc, settings, fs, file, method, path, fields, meta);
+    }
+    let mut file = file;
+    match file_redirect(alloc, fs, &mut file) {
+        Ok(Some(address)) => send_away(alloc, fs, file, meta, &address),
+        Ok(None) => send_file(alloc, settings, fs, file, method, path, fields, meta),
+        Err(error) => give_up(fs, file, DavError::from(error)),
+    }
+}
+
+// Whether something is set, and set to yes.
+fn is_on(setting: Option<bool>) -> bool
+    ensures { result ≡ is_set setting }
+{
+    match setting {
+        Some(on) => on,
+        None => false,
+    }
+}
+
+// Looks at a file that was opened, and gives it where it is a regular one.
+fn get_file<S: GuardedFileSystem<C>, C>(
+    alloc: Global,
+    settings: &Settings,
+    fs: &mut S,
+    file: S::File,
+    method: DavMethod,
+    path: &DavPath,
+    fields: &HeaderMap,
+) -> Given<S::File>
+    requires live { IsSome ((S.Disk.state (S.inside fs.old)).live (S.File.handle file)) }
+    requires reads { (l : Live) → (S.Disk.state (S.inside fs.old)).live (S.File.handle file) ≡ Some l → l.how ≡ reading }
+    requires place { (f : Seen) → S.File.seen file (S.Disk.state (S.inside fs.old)) ≡ Some f → f.place ≡ 0 }
+    ensures table { GetsFile (the_view S.GuardedFileSystem S.Disk.Disk S.File.DavFile) settings.now method path.now fields.now file fs.old result fs.new ⊎ (result ≡ Err DavError.NoMemory) }
+    ensures life { HeldOrClosed (the_view S.GuardedFileSystem S.Disk.Disk S.File.DavFile) (S.File.handle file) fs.old result fs.new }
+    ensures most { HasMost (read_size_of settings.now.read_buf_size) result }
+    ensures loan { S.Disk.loan (S.inside fs.new) ≡ S.Disk.loan (S.inside fs.old) }
+{
+    let mut file = file;
+    match file_metadata(fs, &mut file) {
+        Ok(meta) => {
+            if meta.is_file() {
+                return give_file(alloc, settings, fs, file, method, path, fields, &meta);
+            }
+            give_up(fs, file, DavError::Status(StatusCode::METHOD_NOT_ALLOWED))
+        }
+        Err(error) => give_up(fs, file, DavError::from(error)),
+    }
+}
+
+// Opens what isn't a directory, and gives it.
+fn open_file<S: GuardedFileSystem<C>, C>(
+    alloc: Global,
+    settings: &Settings,
+    fs: &mut S,
+    credentials: &C,
+    method: DavMethod,
+    path: &DavPath,
+    fields: &HeaderMap,
+) -> Given<S::File>
+    ensures table { ByKind (the_view S.GuardedFileSystem S.Disk.Disk S.File.DavFile) false settings.now credentials.now method path.now fields.now fs.old result fs.new }
+    ensures life { OpenOnlyHeld (the_view S.GuardedFileSystem S.Disk.Disk S.File.DavFile) fs.old result fs.new }
+    ensures most { HasMost (read_size_of settings.now.read_buf_size) result }
+    ensures loan { S.Disk.loan (S.inside fs.new) ≡ S.Disk.loan (S.inside fs.old) }
+{
+    match fs.open(path, OpenOptions::read(), credentials) {
+        Ok(file) => get_file(alloc, settings, fs, file, method, path, fields),
+        Err(error) => Err(DavError::from(error)),
+    }
+}
+
+// Looks at the path, and gives what stands there.
+fn look<S: GuardedFileSystem<C>, C>(
+    alloc: Global,
+    settings: &Settings,
+    fs: &mut S,
+    credentials: &C,
+    method: DavMethod,
+    path: &DavPath,
+    fields: &HeaderMap,
+) -> Given<S::File>
+    ensures table { ByWellKnown (the_view S.GuardedFileSystem S.Disk.Disk S.File.DavFile) false settings.now credentials.now method path.now fields.now fs.old result fs.new }
+    ensures life { OpenOnlyHeld (the_view S.GuardedFileSystem S.Disk.Disk S.File.DavFile) fs.old result fs.new }
+    ensures most { HasMost (read_size_of settings.now.read_buf_size) result }
+    ensures loan { S.Disk.loan (S.inside fs.new) ≡ S.Disk.loan (S.inside fs.old) }
+{
+    match fs.metadata(path, credentials) {
+        Ok(meta) => {
+            if meta.is_dir() {
+                return Err(DavError::StatusClose(StatusCode::NOT_IMPLEMENTED));
+            }
+            open_file(alloc, settings, fs, credentials, method, path, fields)
+        }
+        Err(error) => Err(DavError::from(error)),
+    }
+}
+
+// Whether the page is asked for that clients of a well-known server look for.
+fn is_well_known(settings: &Settings, method: DavMethod, path: &DavPath) -> bool
+    ensures { result ≡ the_is_well_known settings.now method path.now }
+{
+    if !is_get(method) {
+        return false;
+    }
+    if is_on(settings.autoindex) {
+        return false;
+    }
+    if !path.is_collection() {
+        return false;
+    }
+    match path.names().as_slice() {
+        [first, second] => first.as_str() == "remote.php" && second.as_str() == "webdav",
+        _ => false,
+    }
+}
+
+// A GET or HEAD, by the table alone.
+fn get_once<S: GuardedFileSystem<C>, C>(
+    alloc: Global,
+    settings: &Settings,
+    fs: &mut S,
+    credentials: &C,
+    method: DavMethod,
+    path: &DavPath,
+    fields: &HeaderMap,
+) -> Given<S::File>
+    ensures table { Gets (the_view S.GuardedFileSystem S.Disk.Disk S.File.DavFile) settings.now credentials.now method path.now fields.now fs.old result fs.new ⊎ (result ≡ Err DavError.NoMemory) }
+    ensures life { OpenOnlyHeld (the_view S.GuardedFileSystem S.Disk.Disk S.File.DavFile) fs.old result fs.new }
+    ensures most { HasMost (read_size_of settings.now.read_buf_size) result }
+    ensures loan { S.Disk.loan (S.inside fs.new) ≡ S.Disk.loan (S.inside fs.old) }
+{
+    if !is_well_known(settings, method, path) {
+        return look(alloc, settings, fs, credentials, method, path, fields);
+    }
+    match well_known_fields(alloc) {
+        Ok(fields) => {
+            let outcome = Outcome {
+                status: 200,
+                fields,
+            };
+            Ok((
+                outcome,
+                GetBody::new(Vec::new(alloc), None, ReadBuffer::none(alloc)),
+            ))
+        }
+        Err(_) => Err(DavError::NoMemory),
+    }
+}

@@ -1,0 +1,219 @@
+// The header fields of answers.
+ghost use Rattle.std.specs.Prelude.{◌≡◌, ◌<◌, [], ◌++◌, ◌∷◌, List, ℕ, true, Option, None, Some, IfOk, OnOk, codes, decimal, string_bytes};
+ghost use Rattle.dav_model.specs.Slices.{IsWithin};
+ghost use Rattle.dav_get.specs.Within.{IsSentOf};
+ghost use Rattle.std.specs.Option.{option_map};
+ghost use Rattle.dav_core.specs.Info.{is_in_years, natural};
+ghost use Rattle.dav_model.specs.Times.{IsDate};
+ghost use Rattle.dav_model.specs.Head.{field, field_where, quoted, quoted_where, sent_fields as the_sent_fields, sent_length as the_sent_length, sent_range as the_sent_range, sent_type as the_sent_type, span_text, redirected_fields as the_redirected_fields, well_known};
+
+use dav_core::{DavMetaData, FileTime};
+use dav_io::{Field, Fields, NoMemory, Octets, Text};
+use dav_model::{Sent, Slice};
+use httpdate::HttpDate;
+use std::alloc::Global;
+
+// Adds a field.
+fn add(alloc: Global, fields: &mut Vec<Field>, name: &str, value: &[u8]) -> Result<(), NoMemory>
+    ensures { OnOk result (fields.new.items ≡ fields.old.items ++ field name.now value.now ∷ []) }
+{
+    let name = Text::copy(alloc, name)?;
+    let value = Octets::new(Vec::from_slice(alloc, value)?);
+    fields.push(Field { name, value })?;
+    Ok(())
+}
+
+// A tag between its quotes.
+fn quote(alloc: Global, tag: &Text) -> Result<Octets, NoMemory>
+    ensures { IfOk result (λ value. value ≡ quoted tag.now) }
+{
+    let mut value = Octets::empty(alloc);
+    value.extend(b"\"")?;
+    value.extend(tag.as_slice())?;
+    value.extend(b"\"")?;
+    Ok(value)
+}
+
+// Adds the entity tag, where there is one.
+fn add_tag<M: DavMetaData>(alloc: Global, fields: &mut Vec<Field>, meta: &M) -> Result<(), NoMemory>
+    ensures { OnOk result (fields.new.items ≡ fields.old.items ++ field_where (codes "etag") (quoted_where (M.info meta.now).tag)) }
+{
+    let Some(tag) = meta.etag(alloc)? else {
+        return Ok(());
+    };
+    let value = quote(alloc, &tag)?;
+    add(alloc, fields, "etag", value.as_slice())
+}
+
+// The whole seconds of a known time, since 1970.
+fn secs_of(time: FileTime) -> u64
+    requires { is_in_years time.secs ≡ true }
+    ensures secs { result ≡ natural time.secs }
+    ensures known { result < 253_402_300_800 }
+{
+    time.secs as u64
+}
+
+// The text of a known time.
+fn date_of(time: FileTime) -> [u8; 29]
+    requires { is_in_years time.secs ≡ true }
+    ensures { IsDate (Some time) (Some result) }
+{
+    match HttpDate::from_unix_secs(secs_of(time)) {
+        Ok(date) => date.to_bytes(),
+        Err(_) => unreachable!(),
+    }
+}
+
+// Adds the time of the last change, where it is known.
+fn add_date<M: DavMetaData>(
+    alloc: Global,
+    fields: &mut Vec<Field>,
+    meta: &M,
+) -> Result<(), NoMemory>
+    ensures { OnOk result ((date : Option (List ℕ)) × IsDate (M.info meta.now).modified date × (fields.new.items ≡ fields.old.items ++ field_where (codes "last-modified") date)) }
+{
+    match meta.modified() {
+        Ok(time) => {
+            let date = date_of(time);
+            add(alloc, fields, "last-modified", &date)?;
+            Ok(())
+        }
+        Err(_) => Ok(()),
+    }
+}
+
+// The number of the field `content-length`, where it stands.
+fn sent_length(gives: bool, len: u64, sent: &Sent) -> Option<u64>
+    ensures { result ≡ the_sent_length gives len sent.now }
+{
+    match sent {
+        Sent::All => Some(len),
+        Sent::Alone(status) => {
+            if gives && *status != 304 {
+                return Some(0);
+            }
+            Some(len)
+        }
+        Sent::Unsatisfied => {
+            if gives {
+                return Some(0);
+            }
+            Some(len)
+        }
+        Sent::One(part) => Some(part.count),
+        Sent::Several(_) => None,
+    }
+}
+
+// Adds `content-length`, where it stands.
+fn add_length(
+    alloc: Global,
+    fields: &mut Vec<Field>,
+    gives: bool,
+    len: u64,
+    sent: &Sent,
+) -> Result<(), NoMemory>
+    ensures { OnOk result (fields.new.items ≡ fields.old.items ++ field_where (codes "content-length") (option_map decimal (the_sent_length gives len sent.now))) }
+{
+    let Some(number) = sent_length(gives, len, sent) else {
+        return Ok(());
+    };
+    let text = format!(in alloc; "{number}")?;
+    add(alloc, fields, "content-length", text.as_bytes())
+}
+
+/// The first and the last byte of a slice, and the length of the file (RFC 9110, section 14.4).
+pub(crate) fn span(alloc: Global, len: u64, part: &Slice) -> Result<String, NoMemory>
+    requires { IsWithin len part.now }
+    ensures { IfOk result (λ text. string_bytes text ≡ span_text len part.now) }
+{
+    let first = part.start;
+    let last = part.start + (part.count - 1);
+    Ok(format!(in alloc; "{first}-{last}/{len}")?)
+}
+
+// Adds `content-range`, where it stands.
+fn add_range(
+    alloc: Global,
+    fields: &mut Vec<Field>,
+    len: u64,
+    sent: &Sent,
+) -> Result<(), NoMemory>
+    requires { IsSentOf len sent.now }
+    ensures { OnOk result (fields.new.items ≡ fields.old.items ++ field_where (codes "content-range") (the_sent_range len sent.now)) }
+{
+    match sent {
+        Sent::All | Sent::Alone(_) | Sent::Several(_) => Ok(()),
+        Sent::Unsatisfied => {
+            let text = format!(in alloc; "bytes */{len}")?;
+            add(alloc, fields, "content-range", text.as_bytes())
+        }
+        Sent::One(part) => {
+            let span = span(alloc, len, part)?;
+            let text = format!(in alloc; "bytes {span}")?;
+            add(alloc, fields, "content-range", text.as_bytes())
+        }
+    }
+}
+
+// The content type of what is sent of a file of this type.
+fn sent_type<'a>(kind: &'a str, sent: &Sent) -> &'a str
+    ensures { result.now ≡ the_sent_type kind.now sent.now }
+{
+    match sent {
+        Sent::Several(_) => "multipart/byteranges; boundary=BOUNDARY",
+        _ => kind,
+    }
+}
+
+/// The fields of a file's answer, in the order of their names. `gives` is whether a body may follow.
+pub(crate) fn sent_fields<M: DavMetaData>(
+    alloc: Global,
+    gives: bool,
+    kind: &str,
+    meta: &M,
+    sent: &Sent,
+) -> Result<Fields, NoMemory>
+    requires { IsSentOf (M.info meta.now).len sent.now }
+    ensures { IfOk result (λ fields. (date : Option (List ℕ)) × IsDate (M.info meta.now).modified date
+        × (fields ≡ the_sent_fields gives kind.now (M.info meta.now).len (M.info meta.now).tag date sent.now)) }
+{
+    let len = meta.len();
+    let mut fields = Vec::new(alloc);
+    add(alloc, &mut fields, "accept-ranges", b"bytes")?;
+    add_length(alloc, &mut fields, gives, len, sent)?;
+    add_range(alloc, &mut fields, len, sent)?;
+    let kind = sent_type(kind, sent);
+    add(alloc, &mut fields, "content-type", kind.as_bytes())?;
+    add_tag(alloc, &mut fields, meta)?;
+    add_date(alloc, &mut fields, meta)?;
+    Ok(Fields::new(fields))
+}
+
+/// The fields of an answer that sends the client to another address.
+pub(crate) fn redirected_fields<M: DavMetaData>(
+    alloc: Global,
+    address: &Text,
+    meta: &M,
+) -> Result<Fields, NoMemory>
+    ensures { IfOk result (λ fields. (date : Option (List ℕ)) × IsDate (M.info meta.now).modified date
+        × (fields ≡ the_redirected_fields address.now (M.info meta.now).tag date)) }
+{
+    let mut fields = Vec::new(alloc);
+    add(alloc, &mut fields, "content-length", b"0")?;
+    add_tag(alloc, &mut fields, meta)?;
+    add_date(alloc, &mut fields, meta)?;
+    add(alloc, &mut fields, "location", address.as_slice())?;
+    Ok(Fields::new(fields))
+}
+
+/// The fields of the page that clients of a well-known server look for.
+pub(crate) fn well_known_fields(alloc: Global) -> Result<Fields, NoMemory>
+    ensures { IfOk result (λ fields. fields ≡ well_known.fields) }
+{
+    let mut fields = Vec::new(alloc);
+    add(alloc, &mut fields, "accept-ranges", b"bytes")?;
+    add(alloc, &mut fields, "content-length", b"0")?;
+    Ok(Fields::new(fields))
+}

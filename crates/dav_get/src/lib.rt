@@ -1,0 +1,24 @@
+//! GET and HEAD of files, over any store.
+#![tactic(auto)]
+
+mod body;
+pub mod body_laws;
+mod body_steps;
+mod buffer;
+mod deciding;
+mod get;
+mod headers;
+mod open_at;
+mod part;
+mod parts;
+mod prepared;
+mod ranges;
+
+pub use body::{GetBody, Polled};
+pub use buffer::ReadBuffer;
+pub use open_at::OpenAt;
+pub use part::BodyPart;
+pub use ranges::slices;
+
+#[cfg(test)]
+mod tests;

@@ -1,0 +1,94 @@
+ghost use Rattle.std.specs.Prelude.{◌≡◌, ◌≤◌, ◌<◌, ◌+◌, ◌^◌, length};
+ghost use Rattle.dav_core.specs.Disk.{can_read};
+ghost use Rattle.dav_get.specs.OpenFiles.{IsAt, Moves, Fills};
+
+use dav_core::Disk;
+use dav_model::Slice;
+use dav_store::DavFile;
+
+/// An open file, and the place at which it stands.
+#[derive(Drop)]
+pub struct OpenAt<F> {
+    pub file: F,
+    pub place: u64,
+}
+
+impl<F> OpenAt<F> {
+    // Moves the file to a place, where it isn't there. It answers whether it is there.
+    fn move_to<D: Disk>(&mut self, disk: &mut D, start: u64) -> bool
+    where
+        F: DavFile<D>,
+        requires { IsAt F.handle F.seen (D.state disk.old) self.old }
+        ensures done { Moves F.handle F.seen (D.state disk.old) self.old start result (D.state disk.new) self.new }
+        ensures loan { D.loan disk.new ≡ D.loan disk.old }
+    {
+        if self.place == start {
+            return true;
+        }
+        if self.file.seek(disk, start).is_err() {
+            return false;
+        }
+        self.place = start;
+        true
+    }
+
+    // Reads the front of a slice that begins where the file stands.
+    fn read_here<D: Disk>(
+        &mut self,
+        disk: &mut D,
+        slice: Slice,
+        most: usize,
+        into: &mut [u8],
+    ) -> Option<usize>
+    where
+        F: DavFile<D>,
+        requires at { IsAt F.handle F.seen (D.state disk.old) self.old }
+        requires here { self.old.place ≡ slice.start }
+        requires slice { 0 < slice.count }
+        requires fits { slice.start + slice.count < 2 ^ 64 }
+        requires some { 0 < most }
+        requires room { most ≤ length into.old }
+        requires zeros { 4096 ≤ length into.old }
+        ensures done { Fills F.handle F.seen (D.state disk.old) self.old slice most into.new result (D.state disk.new) self.new }
+        ensures loan { D.loan disk.new ≡ D.loan disk.old }
+    {
+        let wanted = slice.count.min(most as u64) as usize;
+        match self.file.read_into(disk, &mut into[..wanted]) {
+            Err(_) => None,
+            Ok(0) => {
+                let zeros = slice.count.min(4096) as usize;
+                into[..zeros].fill(0);
+                Some(zeros)
+            }
+            Ok(count) => {
+                self.place = slice.start + count as u64;
+                Some(count)
+            }
+        }
+    }
+
+    /// Puts the next piece of a slice at the front of `into`, and answers its length; or None, where the disk failed.
+    pub(crate) fn fill<D: Disk>(
+        &mut self,
+        disk: &mut D,
+        slice: Slice,
+        most: usize,
+        into: &mut [u8],
+    ) -> Option<usize>
+    where
+        F: DavFile<D>,
+        requires at { IsAt F.handle F.seen (D.state disk.old) self.old }
+        requires slice { 0 < slice.count }
+        requires fits { slice.start + slice.count < 2 ^ 64 }
+        requires some { 0 < most }
+        requires room { most ≤ length into.old }
+        requires zeros { 4096 ≤ length into.old }
+        ensures done { Fills F.handle F.seen (D.state disk.old) self.old slice most into.new result (D.state disk.new) self.new }
+        ensures loan { D.loan disk.new ≡ D.loan disk.old }
+    {
+        if !self.move_to(disk, slice.start) {
+            return None;
+        }
+        self.read_here(disk, slice, most, into)
+    }
+}

@@ -1,0 +1,111 @@
+ghost use Rattle.std.specs.Prelude.{◌≡◌, IfOk, codes, option_copied, option_map};
+ghost use Rattle.dav_model.specs.Conditions as conditions;
+
+use crate::fields::{date_in, first_value, list_in};
+use crate::standing::{Standing, is_at};
+use dav_core::{DavMetaData, DavMethod, ETag, FileTime, IfRange};
+use dav_io::NoMemory;
+use http::{HeaderMap, StatusCode};
+use std::alloc::Global;
+
+// Whether `if-match`, or without it `if-unmodified-since`, is false.
+fn is_refused(alloc: Global, fields: &HeaderMap, there: &Standing) -> Result<bool, NoMemory>
+    ensures { IfOk result (λ refused. refused ≡ conditions.is_refused (conditions.list_in fields.now (codes "if-match")) (conditions.date_in fields.now (codes "if-unmodified-since")) there.now.stands there.now.tag there.now.time) }
+{
+    if let Some(list) = list_in(alloc, fields, "if-match")? {
+        return Ok(!there.matches_strongly(&list));
+    }
+    match date_in(fields, "if-unmodified-since") {
+        Some(date) => Ok(!(there.stands && there.is_unmodified(date))),
+        None => Ok(false),
+    }
+}
+
+// GET and HEAD.
+fn reads(method: DavMethod) -> bool
+    ensures { result ≡ conditions.reads method }
+{
+    matches!(method, DavMethod::Get | DavMethod::Head)
+}
+
+// The status where `if-none-match`, or without it `if-modified-since` of a method that reads, is false.
+fn repeated(
+    alloc: Global,
+    method: DavMethod,
+    fields: &HeaderMap,
+    there: &Standing,
+) -> Result<Option<StatusCode>, NoMemory>
+    ensures { IfOk result (λ status. status ≡ conditions.repeated method (conditions.list_in fields.now (codes "if-none-match")) (conditions.date_in fields.now (codes "if-modified-since")) there.now.stands there.now.tag there.now.time) }
+{
+    if let Some(list) = list_in(alloc, fields, "if-none-match")? {
+        if !there.matches_weakly(&list) {
+            return Ok(None);
+        }
+        if reads(method) {
+            return Ok(Some(StatusCode::NOT_MODIFIED));
+        }
+        return Ok(Some(StatusCode::PRECONDITION_FAILED));
+    }
+    match date_in(fields, "if-modified-since") {
+        Some(date) if reads(method) && there.is_unmodified(date) => {
+            Ok(Some(StatusCode::NOT_MODIFIED))
+        }
+        _ => Ok(None),
+    }
+}
+
+/// The status that the preconditions of a request give in place of its method's own answer (RFC 9110 section 13.2.2):
+/// 304, 412 or none. `meta` is that of what stands at the path, if anything does.
+///
+/// A field whose value isn't readable counts as absent. Of `if-match` and `if-none-match` all values count, of the two
+/// dates the first. Where the time of the last change is unknown, `if-unmodified-since` gives 412.
+pub fn if_match<M: DavMetaData>(
+    alloc: Global,
+    method: DavMethod,
+    fields: &HeaderMap,
+    meta: Option<&M>,
+) -> Result<Option<StatusCode>, NoMemory>
+    ensures { IfOk result (λ status. status ≡ conditions.condition_of method fields.now (option_map (λ m. M.info m.now) meta.entry)) }
+{
+    let there = Standing::of(alloc, meta)?;
+    if is_refused(alloc, fields, &there)? {
+        return Ok(Some(StatusCode::PRECONDITION_FAILED));
+    }
+    repeated(alloc, method, fields, &there)
+}
+
+/// Whether a value of `if-range` matches a tag and the time of the last change (RFC 9110 section 13.1.5): a tag by strong
+/// comparison, a date where it is the time in whole seconds.
+pub fn ifrange_match(r: &IfRange, tag: Option<&ETag>, modified: Option<FileTime>) -> bool
+    ensures { result ≡ conditions.range_matches r.now (option_copied tag.entry) modified }
+{
+    match r {
+        IfRange::Tag(wanted) => match tag {
+            Some(tag) => wanted.strong_eq(tag),
+            None => false,
+        },
+        IfRange::Date(date) => match modified {
+            Some(time) => is_at(time.secs, *date),
+            None => false,
+        },
+    }
+}
+
+/// Whether the ranges of a request are to be heard, by its first field `if-range`: where there is none, and where it
+/// matches. A value that isn't readable doesn't match.
+pub fn ranges_are_heard(
+    alloc: Global,
+    fields: &HeaderMap,
+    tag: Option<&ETag>,
+    modified: Option<FileTime>,
+) -> Result<bool, NoMemory>
+    ensures { IfOk result (λ heard. heard ≡ conditions.ranges_are_heard fields.now (option_copied tag.entry) modified) }
+{
+    let Some(value) = first_value(fields, "if-range") else {
+        return Ok(true);
+    };
+    match IfRange::parse(alloc, value)? {
+        Some(r) => Ok(ifrange_match(&r, tag, modified)),
+        None => Ok(false),
+    }
+}

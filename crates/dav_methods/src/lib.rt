@@ -1,0 +1,9 @@
+//! The preconditions of a request, judged on what stands at its path.
+#![tactic(auto)]
+
+mod conditions;
+mod fields;
+mod standing;
+
+pub use conditions::{if_match, ifrange_match, ranges_are_heard};
+pub use fields::first_value;

@@ -1,0 +1,2 @@
+pub mod RangeRows
+pub mod Within

@@ -1,0 +1,58 @@
+ghost use Rattle.std.specs.Prelude.{◌≡◌, ◌<◌, IfOk, [], None};
+ghost use Rattle.dav_model.specs.Sizes.{read_size_of};
+
+use dav_core::DavMethodSet;
+use dav_io::{NoMemory, Text};
+use std::alloc::Global;
+
+/// What the owner of a server may set. What isn't set has its default.
+#[derive(Drop)]
+pub struct Settings {
+    /// The path under which the server stands; empty for the root.
+    pub prefix: Text,
+    /// The methods that are answered.
+    pub allow: Option<DavMethodSet>,
+    /// Who asks.
+    pub principal: Option<Text>,
+    pub hide_symlinks: Option<bool>,
+    /// Whether a directory is answered with a page of its entries.
+    pub autoindex: Option<bool>,
+    /// The name of the file that stands for its directory.
+    pub indexfile: Option<Text>,
+    /// The most bytes of a file in one piece of a body; 0 is the default, 16,384.
+    pub read_buf_size: Option<usize>,
+    /// Whether a file's redirect address is answered in its place.
+    pub redirect: Option<bool>,
+}
+
+impl Settings {
+    /// Nothing is set.
+    pub fn defaults(alloc: Global) -> Settings
+        ensures prefix { result.prefix ≡ [] }
+        ensures read { result.read_buf_size ≡ None }
+        ensures autoindex { result.autoindex ≡ None }
+        ensures redirect { result.redirect ≡ None }
+    {
+        Settings {
+            prefix: Text::new(String::new(alloc)),
+            allow: None,
+            principal: None,
+            hide_symlinks: None,
+            autoindex: None,
+            indexfile: None,
+            read_buf_size: None,
+            redirect: None,
+        }
+    }
+
+    /// The most bytes of a file in one piece of a body.
+    pub fn read_size(&self) -> usize
+        ensures value { result ≡ read_size_of self.now.read_buf_size }
+        ensures some { 0 < result }
+    {
+        match self.read_buf_size {
+            Some(size) if size > 0 => size,
+            _ => 16_384,
+        }
+    }
+}

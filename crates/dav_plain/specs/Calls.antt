@@ -1,0 +1,66 @@
+-- What the plain store answers, by what its disk answers.
+use Rattle.std.specs.Prelude.{◌≡◌, ◌≢◌, ◌⊎◌, ◌&&◌, ℕ, List, [], Bool, true, false, not, None, Some, Option, Result, Ok, Err, refl, if◌then◌else◌}
+use Rattle.dav_io.specs.Told.{Both}
+use Rattle.dav_core.specs.declared.error.FsError.{FsError}
+use Rattle.dav_core.specs.declared.error.FsError.TheVariants.{Forbidden, NotImplemented}
+use Rattle.dav_core.specs.declared.handle.DiskError.{DiskError}
+use Rattle.dav_core.specs.declared.handle.Handle.{Handle}
+use Rattle.dav_core.specs.declared.handle.Meta.{Meta}
+use Rattle.dav_core.specs.declared.handle.OpenOptions.{OpenOptions}
+use Rattle.dav_core.specs.DavPath.{WebPath}
+use Rattle.dav_core.specs.Disk.{DiskState, Live, Metas, Opens}
+use Rattle.dav_core.specs.Errors.{fs_error_of}
+use Rattle.dav_core.specs.Info.{Info, info_of}
+use Rattle.dav_core.specs.Keeps.{SameOpen}
+use Rattle.dav_core.specs.Options.{reading}
+use Rattle.dav_core.specs.Tree.{is_dir}
+use Rattle.dav_core.specs.World.{World, OpenFile}
+use Rattle.dav_store.specs.Files.{LeavesOpen, SameSeen}
+use Rattle.dav_store.specs.Standing.{Seen}
+use Rattle.dav_plain.specs.declared.file.PlainFile.{PlainFile}
+use Rattle.dav_plain.specs.Standing.{under_slash, seen_at, seen_with, seen_in}
+
+-- refused, with nothing asked
+abbrev pub Refuses : {S T : Type 0} → FsError → S → Result T FsError → S → Type 0
+Refuses e s result t = (result ≡ Err e) × (t ≡ s)
+
+-- what metadata is, where the path ends with a slash or doesn't
+abbrev pub looked_as : Bool → Result Meta DiskError → Result Info FsError
+looked_as slash (Ok m) = under_slash slash m.kind (info_of m)
+looked_as slash (Err e) = Err (fs_error_of e)
+
+abbrev pub Looks : DiskState → WebPath → Result Info FsError → DiskState → Type 0
+Looks s path result t = (answer : Result Meta DiskError) × Metas s path.names answer t × (result ≡ looked_as path.slash answer)
+
+abbrev pub filed : Result Handle DiskError → Result PlainFile FsError
+filed (Ok h) = Ok (record { handle = h })
+filed (Err e) = Err (fs_error_of e)
+
+-- A path with a final slash isn't opened. Files are opened for reading alone.
+pub record IsOpening (s : DiskState) (path : WebPath) (how : OpenOptions) (result : Result PlainFile FsError) (t : DiskState) : Type 0 where
+  pub slash : path.slash ≡ true → Refuses Forbidden s result t
+  pub unbuilt : path.slash ≡ false → how ≢ reading → Refuses NotImplemented s result t
+  pub asked : path.slash ≡ false → how ≡ reading → (answer : Result Handle DiskError) × Opens s path.names reading answer t × (result ≡ filed answer)
+
+-- Nothing is written, and that alone is not refused.
+abbrev pub Writes : {F : Type 0} → F → DiskState → List ℕ → Result Unit FsError → F → DiskState → Type 0
+Writes f s [] result g t = (result ≡ Ok tt) × (g ≡ f) × (t ≡ s)
+Writes f s from result g t = (result ≡ Err NotImplemented) × (g ≡ f) × (t ≡ s)
+
+abbrev pub seen_by : PlainFile → DiskState → Option Seen
+seen_by f s = seen_at s f.handle.0
+
+same_file : (v w : World) (l : Live) (h : ℕ) (a b : Option OpenFile) → v.opens h ≡ a → w.opens h ≡ b → b ≡ a → SameSeen (seen_with (Some v) (Some l) h) (seen_with (Some w) (Some l) h)
+same_file v w l h None b e f g = rw (e, f, g) tt
+same_file v w l h (Some o) b e f g = rw (e, f, g) (refl, refl)
+
+stays_with : (h : ℕ) (a b : Option World) (k l : Option Live) → Both a b (SameOpen h) → l ≡ k → SameSeen (seen_with a k h) (seen_with b l h)
+stays_with h None None k l same e = tt
+stays_with h None (Some w) k l same e = absurd same
+stays_with h (Some v) None k l same e = absurd same
+stays_with h (Some v) (Some w) None l same e = rw e tt
+stays_with h (Some v) (Some w) (Some k) l same e = rw e (same_file v w k h (v.opens h) (w.opens h) refl refl same)
+
+-- what others do leaves a file's number and place
+pub plain_stays : (f : PlainFile) (s t : DiskState) → LeavesOpen f.handle.0 s t → SameSeen (seen_by f s) (seen_by f t)
+plain_stays f s t leaves = stays_with f.handle.0 s.told t.told (s.live f.handle.0) (t.live f.handle.0) leaves.opened leaves.live

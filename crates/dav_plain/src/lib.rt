@@ -1,0 +1,12 @@
+//! The plain store: a disk from its root on, with no folding, no rules of an operating system and no memory.
+#![tactic(auto)]
+
+mod entry;
+mod file;
+mod fs;
+mod meta;
+
+pub use entry::{PlainDir, PlainEntry};
+pub use file::PlainFile;
+pub use fs::PlainFs;
+pub use meta::PlainMeta;

@@ -1,0 +1,71 @@
+ghost use Rattle.std.specs.Prelude.{codes};
+ghost use Rattle.dav_core.specs.DavPath.{is_in_home};
+ghost use Rattle.dav_core.specs.Info.{info_of};
+
+use dav_core::{DavMetaData, DavPath, FileTime, FsError, Meta};
+use dav_io::{NoMemory, Text};
+use std::alloc::Global;
+
+/// What a disk says of what stands at a path, or of an open file.
+#[derive(Clone, Copy, Debug)]
+pub struct PlainMeta(pub Meta);
+
+impl DavMetaData for PlainMeta {
+    ghost info = { λ m. info_of m.0 };
+
+    ghost calendar = { λ _ names. is_in_home (codes "calendars") names };
+
+    ghost addressbook = { λ _ names. is_in_home (codes "addressbooks") names };
+
+    fn len(&self) -> u64 {
+        DavMetaData::len(&self.0)
+    }
+
+    fn modified(&self) -> Result<FileTime, FsError> {
+        self.0.modified()
+    }
+
+    fn created(&self) -> Result<FileTime, FsError> {
+        self.0.created()
+    }
+
+    fn accessed(&self) -> Result<FileTime, FsError> {
+        self.0.accessed()
+    }
+
+    fn status_changed(&self) -> Result<FileTime, FsError> {
+        self.0.status_changed()
+    }
+
+    fn is_dir(&self) -> bool {
+        self.0.is_dir()
+    }
+
+    fn is_file(&self) -> bool {
+        self.0.is_file()
+    }
+
+    fn is_symlink(&self) -> bool {
+        self.0.is_symlink()
+    }
+
+    fn is_calendar(&self, path: &DavPath) -> bool {
+        self.0.is_calendar(path)
+    }
+
+    fn is_addressbook(&self, path: &DavPath) -> bool {
+        self.0.is_addressbook(path)
+    }
+
+    fn executable(&self) -> Result<bool, FsError> {
+        self.0.executable()
+    }
+
+    fn etag(&self, alloc: Global) -> Result<Option<Text>, NoMemory> {
+        self.0.etag(alloc)
+    }
+
+    fn has_tag(&self, tag: &[u8]) -> bool {
+        self.0.has_tag(tag)
+    }
+}

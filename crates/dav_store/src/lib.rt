@@ -1,0 +1,17 @@
+//! Stores: what stands at the paths of a server, its open files, and the body of a request. A store's calls are relations
+//! of the store itself, so what is proved over the traits holds of every store.
+#![tactic(auto)]
+
+mod body_reader;
+mod entry;
+mod file;
+mod guarded;
+mod through;
+mod unguarded;
+
+pub use body_reader::BodyReader;
+pub use entry::{DavDirEntry, ReadDirMeta};
+pub use file::DavFile;
+pub use guarded::GuardedFileSystem;
+pub use through::{file_close, file_metadata, file_read, file_seek};
+pub use unguarded::DavFileSystem;
