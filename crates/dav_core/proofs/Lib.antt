@@ -6,6 +6,8 @@ pub mod Utf8
 pub mod Fits
 pub mod Links
 pub mod Plain
+pub mod Back
+pub mod Made
 pub mod TagMembers
 pub mod TagLaws
 pub mod IfRangeLaws

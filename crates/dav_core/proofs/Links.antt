@@ -12,7 +12,7 @@ link_table : agree_below (contains LINK) (λ b. not (stays b)) 128 ≡ true
 link_table = refl
 
 -- the set of `LINK` is what links leave out
-escapes : (b : ℕ) → should_percent_encode LINK b ≡ not (stays b)
+pub escapes : (b : ℕ) → should_percent_encode LINK b ≡ not (stays b)
 unfolding should_percent_encode
 escapes b = elim (cases_lt b 128) [
   | inl small ↦ let same = agree_below_at (contains LINK) (λ c. not (stays c)) 128 b link_table small in grind (arith, nat_tests)

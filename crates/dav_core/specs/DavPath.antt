@@ -1,10 +1,10 @@
 -- The path of a request as contracts see it.
-use Rattle.std.specs.Prelude.{◌==◌, ◌||◌, ◌&&◌, ◌++◌, nat_le, ℕ, List, [], ◌∷◌, Bool, false, not, length, codes, ◌-◌, slice_get, Option, None, Some, if◌then◌else◌}
-use Rattle.std.specs.List.{flat_map}
-use Rattle.std.specs.Str.{bytes_eq}
+use Rattle.std.specs.Prelude.{◌≡◌, ◌==◌, ◌||◌, ◌&&◌, ◌++◌, nat_le, ℕ, List, [], ◌∷◌, Bool, true, false, not, length, codes, ◌-◌, slice_get, Option, None, Some, if◌then◌else◌}
+use Rattle.std.specs.List.{flat_map, list_all}
+use Rattle.std.specs.Str.{bytes_eq, is_utf8}
 use Rattle.percent_encoding.specs.Percent.{percent_encode_byte}
 use Rattle.dav_core.specs.ContentTypes.{content_type_of, octet_stream}
-use Rattle.dav_core.specs.Path.{Names}
+use Rattle.dav_core.specs.Path.{Names, is_plain}
 
 -- the prefix under which the server stands, the names below it, and whether a slash ends it
 pub record WebPath : Type 0 where
@@ -52,3 +52,12 @@ link_byte b = if stays b then (b ∷ []) else percent_encode_byte b
 
 abbrev pub link_of : List ℕ → List ℕ
 link_of bytes = flat_map link_byte bytes
+
+-- names that are plain and UTF-8
+abbrev pub are_texts : Names → Bool
+are_texts names = list_all is_plain names && list_all is_utf8 names
+
+-- What holds of each path that a text gives, and that the calls make of one.
+pub record IsPath (path : WebPath) : Type 0 where
+  pub texts : are_texts (path.prefix ++ path.names) ≡ true
+  pub ends : ends_well path ≡ true

@@ -1,13 +1,14 @@
 // The steps by which a path's text is read.
 ghost use Rattle.std.specs.Prelude.{◌≡◌, ◌≢◌, ◌==◌, ◌&&◌, IfOk, IfErr, OnOk, OnErr, Ok, Err, map, true, false, length, ◌≤◌};
-ghost use Rattle.std.specs.List.{list_all, list_any, position_or_len};
+ghost use Rattle.std.specs.List.{list_all, position_or_len};
 ghost use Rattle.std.specs.Str.{is_utf8};
 ghost use Rattle.percent_encoding.specs.Percent.{percent_decode as decoding};
 ghost use Rattle.dav_core.specs.Grammar as grammar;
 ghost use Rattle.dav_core.specs.Grammar.{readable as the_readable};
-ghost use Rattle.dav_core.specs.Path.{is_plain as the_is_plain, is_dots as the_is_dots, parts_names, all_plain};
+ghost use Rattle.dav_core.specs.Path.{all_plain};
 
 use crate::ParseError;
+use crate::plain_name::is_plain;
 use dav_io::{NoMemory, Text};
 use percent_encoding::percent_decode;
 use std::alloc::Global;
@@ -125,36 +126,6 @@ fn kept_of<'a>(alloc: Global, segments: &[&'a [u8]]) -> Result<Vec<&'a [u8]>, Pa
         }
     }
     Ok(kept)
-}
-
-// Whether bytes hold a slash or NUL.
-fn has_parting(bytes: &[u8]) -> bool
-    ensures { result ≡ list_any parts_names bytes.now }
-{
-    bytes.iter().any(|b| *b == b'/' || *b == 0)
-}
-
-// Whether bytes are `.` or `..`.
-pub fn is_dots(bytes: &[u8]) -> bool
-    ensures { result ≡ the_is_dots bytes.now }
-{
-    if bytes == b".".as_slice() {
-        return true;
-    }
-    bytes == b"..".as_slice()
-}
-
-// Whether bytes are a plain name.
-pub fn is_plain(bytes: &[u8]) -> bool
-    ensures { result ≡ the_is_plain bytes.now }
-{
-    if bytes.is_empty() {
-        return false;
-    }
-    if has_parting(bytes) {
-        return false;
-    }
-    !is_dots(bytes)
 }
 
 // The name that bytes are.

@@ -21,6 +21,7 @@ mod names;
 mod parse_error;
 mod parsing;
 mod path;
+mod plain_name;
 mod prefix;
 mod tag;
 pub mod tag_laws;

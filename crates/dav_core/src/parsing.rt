@@ -3,7 +3,8 @@ ghost use Rattle.std.specs.Prelude.{◌≡◌, ◌≢◌, ◌||◌, ◌==◌, If
 ghost use Rattle.dav_core.specs.Grammar as grammar;
 ghost use Rattle.dav_core.specs.Path.{all_plain, is_dots as the_is_dots};
 
-use crate::grammar::{before_query, is_dots, is_readable, names_in, segments};
+use crate::grammar::{before_query, is_readable, names_in, segments};
+use crate::plain_name::is_dots;
 use crate::prefix::{begins_with, prefix_names};
 use crate::{DavPath, FsPath, ParseError};
 use dav_io::Text;

@@ -1,13 +1,13 @@
 ghost use Rattle.std.specs.Prelude.{◌≡◌, ◌↔◌, ◌∷◌, ◌==◌, IfOk, IsTrue, true, nat_eq};
-ghost use Rattle.std.specs.List.{list_any};
 ghost use Rattle.std.specs.Hash as fed;
 ghost use Rattle.std.specs.Hash.{items_Alike};
 ghost use Rattle.std.specs.Cmp.Lexicographic.{pointwise, lists_equiv, nat_list_eq_equiv};
 ghost use Rattle.std.specs.Cmp.{partial_equiv_from_equiv};
 ghost use Rattle.std.specs.Cmp.Rules.{hashing};
 ghost use Rattle.std.proofs.Common.{rules};
-ghost use Rattle.dav_core.specs.Path.{parts_names, is_dots, is_plain, all_plain};
+ghost use Rattle.dav_core.specs.Path.{all_plain};
 
+use crate::plain_name::is_plain;
 use dav_io::{NoMemory, Text};
 use std::alloc::Global;
 use std::hash::{Hash, Hasher};
@@ -31,43 +31,12 @@ impl Model for FsPath {
     ghost invariant = { λ p. all_plain p.names.items ≡ true };
 }
 
-// Whether a name holds a slash or NUL.
-fn has_parting(bytes: &[u8]) -> bool
-    ensures { result ≡ list_any parts_names bytes.now }
-{
-    bytes.iter().any(|b| *b == b'/' || *b == 0)
-}
-
-// Whether a name is `.` or `..`.
-fn is_dots_name(bytes: &[u8]) -> bool
-    ensures { result ≡ is_dots bytes.now }
-{
-    if bytes == b".".as_slice() {
-        return true;
-    }
-    bytes == b"..".as_slice()
-}
-
-// Whether a name is plain.
-fn is_plain_name(name: &Text) -> bool
-    ensures { result ≡ is_plain name.now }
-{
-    let bytes = name.as_slice();
-    if bytes.is_empty() {
-        return false;
-    }
-    if has_parting(bytes) {
-        return false;
-    }
-    !is_dots_name(bytes)
-}
-
 impl FsPath {
     /// Whether all names are plain, as `new` needs them.
     pub fn fits(names: &[Text]) -> bool
         ensures { result ≡ all_plain names.now }
     {
-        names.iter().all(|name| is_plain_name(name))
+        names.iter().all(|name| is_plain(name.as_slice()))
     }
 
     pub fn new(names: Vec<Text>) -> Self

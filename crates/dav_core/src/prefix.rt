@@ -4,7 +4,8 @@ ghost use Rattle.std.specs.List.{filter};
 ghost use Rattle.dav_core.specs.Grammar as grammar;
 ghost use Rattle.dav_core.specs.Path.{is_front, is_plain as the_is_plain, all_plain};
 
-use crate::grammar::{begins_with_slash, is_plain};
+use crate::grammar::begins_with_slash;
+use crate::plain_name::is_plain;
 use dav_io::{NoMemory, Text};
 use std::alloc::Global;
 

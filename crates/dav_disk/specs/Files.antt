@@ -1,7 +1,8 @@
 -- The tables that a disk in memory keeps, as the world has them.
-use Rattle.std.specs.Prelude.{◌≡◌, ℕ, List, Option, Some, All}
+use Rattle.std.specs.Prelude.{◌≡◌, ℕ, List, Option, None, Some, false, All}
 use Rattle.std.specs.Option.{option_map}
 use Rattle.std.specs.BTreeMap.{BTreeMap}
+use Rattle.dav_core.specs.declared.handle.Meta.{Meta}
 use Rattle.dav_core.specs.declared.tree.Row.{Row}
 use Rattle.dav_core.specs.declared.tree.Kind.TheVariants.{File}
 use Rattle.dav_core.specs.World.{Stored, OpenFile}
@@ -38,3 +39,10 @@ IsStored files row = row.kind ≡ File → option_map (λ s. s.time) (files row.
 -- Each file of the tree is stored with its row's time.
 abbrev pub AreStored : List Row → (ℕ → Option Stored) → Type 0
 AreStored tree files = All (IsStored files) tree
+
+-- what is said of a row beside its kind, its number, its length and the time of its last change: nothing
+pub record SaysNoMore (meta : Meta) : Type 0 where
+  pub created : meta.created ≡ None
+  pub accessed : meta.accessed ≡ None
+  pub changed : meta.changed ≡ None
+  pub exec : meta.exec ≡ false

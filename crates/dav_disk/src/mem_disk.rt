@@ -149,12 +149,14 @@ impl Disk for MemDisk {
     ghost use Rattle.dav_core.specs.Disk.{Metas, FileMetas, Opens, Seeks, Reads};
     ghost use Rattle.dav_core.specs.Options.{reading};
     ghost use Rattle.dav_disk.specs.Failing.{mem_state, mem_world, Follows, lens_left};
+    ghost use Rattle.dav_disk.specs.Files.{SaysNoMore};
     ghost use Rattle.dav_disk.specs.Worlds.{told_world};
 
     ghost state = { mem_state };
 
     fn meta(&mut self, path: &FsPath) -> Result<Meta, DiskError>
         ensures done { Metas (mem_state self.old) path.now result (mem_state self.new) }
+        ensures more { IfOk result SaysNoMore }
         ensures loan { ⟦<MemDisk as Disk>⟧.loan self.new ≡ ⟦<MemDisk as Disk>⟧.loan self.old }
         ensures schedule { Follows self.old result self.new }
         ensures lens { lens_left self.new ≡ lens_left self.old }
@@ -181,6 +183,7 @@ impl Disk for MemDisk {
     fn file_meta(&mut self, file: Handle) -> Result<Meta, DiskError>
         requires { IsSome ((mem_state self.old).live file.0) }
         ensures done { FileMetas (mem_state self.old) file.0 result (mem_state self.new) }
+        ensures more { IfOk result SaysNoMore }
         ensures loan { ⟦<MemDisk as Disk>⟧.loan self.new ≡ ⟦<MemDisk as Disk>⟧.loan self.old }
         ensures schedule { Follows self.old result self.new }
         ensures lens { lens_left self.new ≡ lens_left self.old }

@@ -1,7 +1,7 @@
 ghost use Rattle.std.specs.Prelude.{◌≡◌, ◌≤◌, ◌<◌, ℕ, All, None, Some, Ok, Option, IfOk, OnOk, OnErr, IsSome, true, option_map};
 ghost use Rattle.dav_core.specs.Tree.{is_tree, is_file};
 ghost use Rattle.dav_core.specs.World.{time_of};
-ghost use Rattle.dav_disk.specs.Files.{AreStored, stored_at};
+ghost use Rattle.dav_disk.specs.Files.{AreStored, SaysNoMore, stored_at};
 ghost use Rattle.dav_disk.specs.Rows.{root_row as the_root};
 
 use crate::drawn::Drawn;
@@ -66,7 +66,8 @@ impl Memory {
 
     // What stands at a path.
     pub fn meta(&self, path: &FsPath) -> Result<Meta, DiskError>
-        ensures { FindsMeta (known_of self.now).world path.now result }
+        ensures found { FindsMeta (known_of self.now).world path.now result }
+        ensures more { IfOk result SaysNoMore }
     {
         let row = match look(&self.rows, path.as_slice()) {
             Ok(row) => row,
@@ -124,6 +125,7 @@ impl Memory {
         requires { IsSome ((known_of self.now).live file.0) }
         ensures kind { option_map (λ l. l.kind) ((known_of self.now).live file.0) ≡ Some result.kind }
         ensures found { FileMetaIn file.0 (Ok result) (known_of self.now).world }
+        ensures more { SaysNoMore result }
     {
         let opened = open_file(&self.opens, file.0);
         Meta {

@@ -1,4 +1,4 @@
-ghost use Rattle.std.specs.Prelude.{◌≡◌, None, Some, IfOk, OnOk, OnErr, true};
+ghost use Rattle.std.specs.Prelude.{◌≡◌, None, Some, IfOk, IsSome, OnOk, OnErr, true};
 
 use crate::memory::Memory;
 use dav_core::{Change, Disk, DiskError, FileTime, FsPath, Handle, Meta, OpenOptions};
@@ -74,12 +74,18 @@ impl SureDisk {
 }
 
 impl Disk for SureDisk {
+    ghost use Rattle.dav_core.specs.Disk.{Metas, FileMetas};
+    ghost use Rattle.dav_disk.specs.Files.{SaysNoMore};
     ghost use Rattle.dav_disk.specs.Sure.{sure_state, sure_world};
     ghost use Rattle.dav_disk.specs.Worlds.{told_world};
 
     ghost state = { sure_state };
 
-    fn meta(&mut self, path: &FsPath) -> Result<Meta, DiskError> {
+    fn meta(&mut self, path: &FsPath) -> Result<Meta, DiskError>
+        ensures done { Metas (sure_state self.old) path.now result (sure_state self.new) }
+        ensures loan { ⟦<SureDisk as Disk>⟧.loan self.new ≡ ⟦<SureDisk as Disk>⟧.loan self.old }
+        ensures more { IfOk result SaysNoMore }
+    {
         self.asked = self.asked.saturating_add(1);
         self.memory.meta(path)
     }
@@ -94,7 +100,12 @@ impl Disk for SureDisk {
         self.memory.open(path, how)
     }
 
-    fn file_meta(&mut self, file: Handle) -> Result<Meta, DiskError> {
+    fn file_meta(&mut self, file: Handle) -> Result<Meta, DiskError>
+        requires { IsSome ((sure_state self.old).live file.0) }
+        ensures done { FileMetas (sure_state self.old) file.0 result (sure_state self.new) }
+        ensures loan { ⟦<SureDisk as Disk>⟧.loan self.new ≡ ⟦<SureDisk as Disk>⟧.loan self.old }
+        ensures more { IfOk result SaysNoMore }
+    {
         self.asked = self.asked.saturating_add(1);
         Ok(self.memory.file_meta(file))
     }

@@ -14,3 +14,6 @@ pub use dav_model::{Answer, Step};
 pub use player::Player;
 pub use playing::play;
 pub use store::PlainFs;
+
+#[cfg(test)]
+mod tests;

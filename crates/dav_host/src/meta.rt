@@ -1,12 +1,16 @@
 // What the machine says of a file, as a disk's answer.
-ghost use Rattle.std.specs.Prelude.{◌≢◌, IfSome};
+ghost use Rattle.std.specs.Prelude.{◌≡◌, ◌<◌, pos, IfSome};
+ghost use Rattle.std.specs.Fs.{file_type};
+ghost use Rattle.dav_host.specs.Kinds.{IsKind, Tells};
 
 use dav_core::{FileTime, Kind, Meta};
 use std::fs::Metadata;
 use std::os::unix::fs::MetadataExt;
 use std::time::UNIX_EPOCH;
 
-fn file_time(secs: i64, nanos: i64) -> Option<FileTime> {
+fn file_time(secs: i64, nanos: i64) -> Option<FileTime>
+    ensures { IfSome result (λ time. (time.secs ≡ secs) × (pos time.nanos ≡ nanos) × (time.nanos < 1_000_000_000)) }
+{
     let nanos = u32::try_from(nanos).ok()?;
     (nanos < 1_000_000_000).then_some(FileTime { secs, nanos })
 }
@@ -21,7 +25,9 @@ fn created_time(found: &Metadata) -> Option<FileTime> {
 }
 
 // None for what is neither a directory nor a regular file nor a symbolic link.
-fn kind_of(found: &Metadata) -> Option<Kind> {
+fn kind_of(found: &Metadata) -> Option<Kind>
+    ensures { IsKind (file_type found.now) result }
+{
     if found.is_dir() {
         return Some(Kind::Dir);
     }
@@ -33,7 +39,9 @@ fn kind_of(found: &Metadata) -> Option<Kind> {
 
 // What the machine says, or None where a disk has no kind for it. The owner may run it where bit 0o100 of its mode is
 // set.
-pub fn meta_of(found: &Metadata) -> Option<Meta> {
+pub fn meta_of(found: &Metadata) -> Option<Meta>
+    ensures { Tells found.now result }
+{
     Some(Meta {
         kind: kind_of(found)?,
         number: found.ino(),
