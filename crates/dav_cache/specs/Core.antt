@@ -108,7 +108,7 @@ one_time (Some time) after = if is_time time after then Some time else None
 unfoldable pub settled : Listing → Option FileTime → Option FileTime
 settled l after = if l.whole then one_time l.before after else None
 
--- the entries that a seal leaves, where there is one. Path the greatest number nothing more is remembered
+-- the entries that a seal leaves, where there is one. At the greatest number nothing more is remembered
 unfoldable pub new_dots : State → Listing → Moment → ℕ → Option FileTime → Option Dots
 new_dots s l now room None = None
 new_dots s l now room (Some time) =

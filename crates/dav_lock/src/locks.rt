@@ -36,4 +36,15 @@ impl Locks {
     {
         self.locks.as_slice()
     }
+
+    pub fn try_clone(&self) -> Result<Self, NoMemory>
+        ensures { IfOk result (λ copy. copy ≡ self.now) }
+    {
+        let alloc: Global = *self.locks.allocator();
+        let mut locks = Vec::new(alloc);
+        for lock in self.as_slice() {
+            locks.push(lock.try_clone()?)?;
+        }
+        Ok(Locks { locks })
+    }
 }

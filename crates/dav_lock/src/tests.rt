@@ -135,7 +135,8 @@ fn answers_all(alloc: Global) -> Option<bool> {
     locks.unlock(&path, "t").ok()?;
     locks.check(&path, None, false, true, &[]).ok()?;
     locks.delete(&path).ok()?;
-    Some(locks.discover(alloc, &path).ok()?.as_slice().is_empty())
+    let found = locks.discover(alloc, &path).ok()?.try_clone().ok()?;
+    Some(found.as_slice().is_empty())
 }
 
 #[test]

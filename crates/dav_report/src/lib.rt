@@ -3,6 +3,7 @@
 #![tactic(auto)]
 
 mod address_parts;
+mod answer;
 pub mod caldav;
 mod calendar_parts;
 pub mod carddav;
@@ -19,6 +20,7 @@ mod parse;
 #[cfg(test)]
 mod tests;
 
+pub use answer::{Record, Records, Report};
 pub use content::{
     extract_calendar_uid, extract_vcard_fn, extract_vcard_uid, is_calendar_data, is_vcard_data,
 };

@@ -4,6 +4,7 @@ use crate::carddav::{
     create_supported_address_data,
 };
 use crate::*;
+use dav_core::DavPath;
 use dav_io::{NoMemory, Text};
 use dav_lock::{Element, XmlNode};
 use std::alloc::Global;
@@ -124,12 +125,21 @@ fn depth_of(filter: &ComponentFilter) -> usize {
     depth
 }
 
+/// A copy of the report that is asked for.
+fn copied_calendar(alloc: Global, root: &Element) -> Result<CalDavReportType, ReportError> {
+    Ok(parse_calendar_report(alloc, root)?.try_clone()?)
+}
+
+fn copied_addresses(alloc: Global, root: &Element) -> Result<CardDavReportType, ReportError> {
+    Ok(parse_addressbook_report(alloc, root)?.try_clone()?)
+}
+
 fn calendar(alloc: Global, root: Result<Element, NoMemory>) -> Told {
     let root = match root {
         Ok(root) => root,
         Err(_) => return Told::Other,
     };
-    match parse_calendar_report(alloc, &root) {
+    match copied_calendar(alloc, &root) {
         Ok(CalDavReportType::CalendarQuery(query)) => match &query.comp_filter {
             Some(filter) => Told::Depth(depth_of(filter)),
             None => Told::NoFilter,
@@ -146,7 +156,7 @@ fn addresses(alloc: Global, root: Result<Element, NoMemory>) -> Told {
         Ok(root) => root,
         Err(_) => return Told::Other,
     };
-    match parse_addressbook_report(alloc, &root) {
+    match copied_addresses(alloc, &root) {
         Ok(CardDavReportType::AddressBookQuery(query)) => Told::Limit(query.limit),
         Ok(CardDavReportType::AddressBookMultiget { hrefs }) => Told::Links(hrefs.as_slice().len()),
         Err(ReportError::BadRequest) => Told::Bad,
@@ -184,6 +194,11 @@ fn two_filters(alloc: Global, first_named: bool) -> Result<Element, NoMemory> {
     let root = asking(alloc, "calendar-query", first)?;
     let second = with(alloc, element(alloc, "filter", &[])?, nested(alloc, 0)?)?;
     with(alloc, root, second)
+}
+
+/// A query whose one filter lacks its name.
+fn nameless(alloc: Global) -> Result<Element, NoMemory> {
+    asking(alloc, "calendar-query", element(alloc, "comp-filter", &[])?)
 }
 
 fn free_busy(alloc: Global, has_range: bool) -> Result<Element, NoMemory> {
@@ -237,6 +252,7 @@ fn calendar_requests_are_read(rt: HostRuntime) {
     assert!(rt; calendar(alloc, deep_query(alloc, 3)) == Told::Depth(3));
     assert!(rt; calendar(alloc, two_filters(alloc, true)) == Told::Depth(0));
     assert!(rt; calendar(alloc, two_filters(alloc, false)) == Told::Bad);
+    assert!(rt; calendar(alloc, nameless(alloc)) == Told::Bad);
     assert!(rt; calendar(alloc, element(alloc, "calendar-query", &[])) == Told::NoFilter);
     assert!(rt; calendar(alloc, element(alloc, "mkcalendar", &[])) == Told::Bad);
     assert!(rt; calendar(alloc, free_busy(alloc, true)) == Told::Range(false));
@@ -309,19 +325,16 @@ fn comparisons_are_negated_by_yes_alone(rt: HostRuntime) {
     assert!(rt; compared(alloc, "YES") == Some((true, false, 1)));
 }
 
-/// How deep the filter of a query is, whose copy and whose own tree are dropped.
-fn copied_deep(alloc: Global, levels: u32) -> Option<usize> {
-    let root = deep_query(alloc, levels).ok()?;
-    let report = parse_calendar_report(alloc, &root).ok()?;
-    match report.try_clone().ok()? {
-        CalDavReportType::CalendarQuery(query) => Some(depth_of(&query.comp_filter?)),
-        _ => None,
-    }
+/// A query for addresses with an element of this height in its filter, where the reader passes it over.
+fn deep_addresses(alloc: Global, levels: u32) -> Result<Element, NoMemory> {
+    asking(alloc, "addressbook-query", nested(alloc, levels)?)
 }
 
 #[test]
-fn filters_of_300_levels_are_read_and_copied(rt: HostRuntime) {
-    assert!(rt; copied_deep(rt.alloc(), 300) == Some(300));
+fn trees_of_500_levels_are_read_copied_and_dropped(rt: HostRuntime) {
+    let alloc = rt.alloc();
+    assert!(rt; calendar(alloc, deep_query(alloc, 500)) == Told::Depth(500));
+    assert!(rt; addresses(alloc, deep_addresses(alloc, 500)) == Told::Limit(None));
 }
 
 fn count_lent(made: &Element) -> usize {
@@ -398,4 +411,28 @@ fn elements_are_made_and_taken_apart(rt: HostRuntime) {
     assert!(rt; children(alloc) == Some((2, 2, 2)));
     assert!(rt; made_all(alloc) == Some((2, 2)));
     assert!(rt; defaults_all(alloc) == Some(4));
+}
+
+/// How many resources, and how many links that led to none, a copied answer has.
+fn answered(alloc: Global) -> Option<(usize, usize)> {
+    let selected = Record {
+        path: DavPath::new(alloc, "/c/e.ics").ok()?,
+        etag: Text::copy(alloc, "1a-a").ok()?,
+        text: Text::copy(alloc, "BEGIN:VCALENDAR").ok()?,
+    };
+    let mut records = Records::empty(alloc);
+    records.push(selected).ok()?;
+    let mut missing = Names::empty(alloc);
+    missing.push(Text::copy(alloc, "/c/no.ics").ok()?).ok()?;
+    let copy = Report { records, missing }.try_clone().ok()?;
+    let records = Records::new(Vec::new(alloc));
+    if !records.as_slice().is_empty() {
+        return None;
+    }
+    Some((copy.records.as_slice().len(), copy.missing.as_slice().len()))
+}
+
+#[test]
+fn answers_are_copied(rt: HostRuntime) {
+    assert!(rt; answered(rt.alloc()) == Some((1, 1)));
 }

@@ -288,6 +288,12 @@ fn each_low_character_goes_there_and_back(rt: HostRuntime) -> Result<(), Fail> {
     Ok(())
 }
 
+// A page's title, as the crate's documentation makes it.
+fn title(alloc: Global, name: &str) -> Result<String, NoMemory> {
+    let safe = encode_minimal(alloc, name)?;
+    Ok(format!(in alloc; "<title>{safe}</title>")?)
+}
+
 #[test]
 fn encoders_give_the_worked_texts(rt: HostRuntime) -> Result<(), Fail> {
     let alloc = rt.alloc();
@@ -298,6 +304,8 @@ fn encoders_give_the_worked_texts(rt: HostRuntime) -> Result<(), Fail> {
     );
     let minimal = encode_minimal(alloc, "<em>Hej!</em>")?;
     assert_eq!(rt; minimal.as_str(), "&lt;em&gt;Hej!&lt;/em&gt;");
+    let page = title(alloc, "a<b>")?;
+    assert_eq!(rt; page.as_str(), "<title>a&lt;b&gt;</title>");
     let both = encode_minimal(alloc, "a'b&c\u{20ac}\u{ff}\u{100}")?;
     assert_eq!(rt; both.as_str(), "a&#x27;b&amp;c\u{20ac}\u{ff}\u{100}");
     let mut sink = SureSink::new(alloc, 40)?;
