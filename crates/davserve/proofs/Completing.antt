@@ -1,5 +1,5 @@
 -- With which status a run ends where no fault ends it.
-use Rattle.std.proofs.Common.{◌≡◌, ◌<◌, ◌≤◌, ◌+◌, ◌^◌, ◌++◌, ◌⊎◌, ℕ, zero, suc, List, [], ◌∷◌, Bool, true, false, IsTrue, Option, Some, None, length, get_or, sym, ap, subst, ◌∙◌, refl, inl, inr, arith, append-nil, length-append, true≢false, Result, Ok, Err, IfOk}
+use Rattle.std.proofs.Common.{◌≡◌, ◌<◌, ◌≤◌, ◌+◌, ◌^◌, ◌++◌, ◌||◌, ◌⊎◌, ℕ, zero, suc, List, [], ◌∷◌, Bool, true, false, IsTrue, Option, Some, None, length, get_or, sym, ap, subst, ◌∙◌, refl, inl, inr, arith, append-nil, length-append, true≢false, Result, Ok, Err, IfOk}
 use Rattle.std.specs.List.{AllByRecursion}
 use Rattle.std.proofs.lemmas.Str.{IsUtf8-from_ascii}
 use Rattle.httparse.specs.Grammar.{is_token_byte, is_uri_byte, lf, RequestHead, IsRequestHead, print_request, ReadsRequest}
@@ -9,11 +9,13 @@ use Rattle.dav_io.specs.Outside.{Stream}
 use Rattle.dav_io.specs.declared.clock.Moment.{Moment}
 use Rattle.dav_io.specs.declared.failure.NoMemory.{NoMemory}
 use Rattle.dav_model.specs.Trail.{Point}
+use Rattle.http.specs.Request.{head_of}
+use Rattle.dav_wire.specs.Answers.{has_close_field}
 use Rattle.dav_wire.specs.Requests.{IsRequest, Requests, Refusal, never, long, many, target, HasNone}
 use Rattle.dav_wire.proofs.RequestLemmas.{request_is_one, refusal_has_none, unfinished_none, requests_are_one, end_has_none}
 use Rattle.davserve.specs.Exchange.{Exchange, is_closed}
 use Rattle.davserve.specs.Serving.{Chain, Alike, IsOpen, Follow, TookBytes, ServedAll, ServedClosing, ServedRefusing, ServedUnfinished, ServeEnds}
-use Rattle.davserve.specs.Completing.{Faultless, Closes, StayOpen, IsValid, IsInvalid, IsStopped, StatusIs}
+use Rattle.davserve.specs.Completing.{Faultless, Closes, StayOpen, AsksClosing, IsLeft, IsValid, IsInvalid, IsStopped, StatusIs}
 use Rattle.davserve.proofs.Served.{head_some}
 
 -- the shortest head of the grammar
@@ -116,6 +118,20 @@ some_left held b some e =
     let whole = sym (length-append held b) ∙ ap (length {A = ℕ}) e in
     absurd (omega arith)
 
+closed_by : (closing other : Bool) → IsTrue closing → closing || other ≡ false → ⊥
+closed_by true other t e = absurd (true≢false e)
+closed_by false other t e = absurd (true≢false (sym t))
+
+-- a request that asks for it closes
+asked_closes : (shown : Option Moment) (s : Point) (heads : List RequestHead) (last : RequestHead) → AsksClosing last → Closes shown s (heads ++ last ∷ [])
+asked_closes shown s [] last asks [] m chain alike o = absurd alike
+asked_closes shown s [] last asks (x ∷ xs) m chain (is, alike) o = closed_by x.closing (has_close_field x.fields) (is.closing.1 (asks (head_of x.request) is.parts)) o.0
+asked_closes shown s (head ∷ heads) last asks [] m chain alike o = absurd alike
+asked_closes shown s (head ∷ heads) last asks (x ∷ xs) m (n, q, played, chain) (is, alike) o = asked_closes shown n heads last asks xs m chain alike o.1
+
+left_valid : (shown : Option Moment) (s : Point) (a : List ℕ) → IsLeft a → IsValid shown s a
+left_valid shown s a left = record { heads = left.heads ++ left.last ∷ []; rest = left.rest; requests = left.requests; ends = inr (asked_closes shown s left.heads left.last left.asks) }
+
 module _ (shown : Option Moment) (input source : Stream) (s : Point) (old new : Stream) (t : Point) (a : List ℕ) (told : input.bytes ≡ Some a) where
   valid_not_refused : IsValid shown s a → ServedRefusing shown input source s old new t → ⊥
   valid_not_refused valid v =
@@ -192,7 +208,7 @@ module _ (shown : Option Moment) (input source : Stream) (s : Point) (old new : 
       absurd (omega arith)
 
   pub status_is : StatusIs shown input source s old new status t
-  status_is = record { valid = λ a told v. valid_is a told v ends.only; invalid = λ a told v. invalid_is a told v ends.only; goes_on = goes_on }
+  status_is = record { valid = λ a told v. valid_is a told v ends.only; left = λ a told v. valid_is a told (left_valid shown s a v) ends.only; invalid = λ a told v. invalid_is a told v ends.only; goes_on = goes_on }
 
 pub completes : (shown : Option Moment) (input source : Stream) (s : Point) (old new : Stream) (t : Point) (result : Result ℕ NoMemory)
     → IfOk result (λ status. ServeEnds shown input source s old new status t) → IfOk result (λ status. StatusIs shown input source s old new status t)
