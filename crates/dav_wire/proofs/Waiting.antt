@@ -8,7 +8,7 @@ use Rattle.http.specs.declared.request.Parts.{Parts}
 use Rattle.httparse.specs.Grammar.{RequestHead, HasNoRequest, MayBecomeRequest}
 use Rattle.dav_wire.specs.Pending.{Pending}
 use Rattle.dav_wire.specs.Requests.{IsRequest, Refusal, IsUnfinished}
-use Rattle.dav_wire.specs.Reading.{Finds, Fills, Moves, Gives, Left, Behind, end_at, sending, ReadsNext}
+use Rattle.dav_wire.specs.Reading.{Finds, Fills, FillsThen, Moves, Gives, Left, Behind, end_at, sending, ReadsNext}
 use Rattle.dav_wire.specs.declared.next.Found.TheVariants.{Whole, Refused as FoundRefused, More}
 use Rattle.dav_wire.specs.declared.next.Next.{Next}
 use Rattle.dav_wire.specs.declared.next.Next.TheVariants.{Request, Refused}
@@ -197,52 +197,21 @@ pub more_of : (kept later : List ℕ) → Finds kept (Ok More) later → HasNoRe
 more_of kept later (same, short, none, may) =
     (subst HasNoRequest (sym same) none, subst MayBecomeRequest (sym same) may, subst (λ (x : List ℕ). length x ≤ 65536) (sym same) short)
 
--- what was taken before, and then a call of the reader
-pub reads_later : (old mid new : Stream) (held kept later : Pending) (result : Result Next ReadError) → Waited old held mid kept
-    → ReadsNext mid kept result later new → ReadsNext old held result later new
-reads_later old mid new held kept later result w r = record {
-  counts = let a = w.counts in let b = r.counts in omega arith;
-  failed = λ is. (rose_later old.faults mid.faults new.faults w.counts (r.failed is).0, (r.failed is).1);
-  too_much = r.too_much;
-  over = r.over;
-  taken = let a = w.taken in let b = r.taken in omega arith;
-  ready = λ head rest request.
-      let before = w.ready head rest request in
-      let after = r.ready head rest (subst (λ (p : Pending). IsRequest p.bytes head rest) (sym before.1) request) in
-      (after.0 ∙ before.0, after.1 ∙ ap (λ (p : Pending). p.taken) before.1);
-  told = both_then old.bytes mid.bytes new.bytes (Came held kept) (Left kept result later) (Left held result later)
-      (λ a b d p q. (subst (λ (x : List ℕ). Gives result x (later.bytes ++ d)) (sym p.0) q.0, omega (arith, p.1, q.1))) w.told r.told;
-}
+-- a call of the source behind a flush
+pub fills_then : (old new : Stream) (held kept : Pending) (r : Result ℕ ReadError) → Fills old held r kept new → FillsThen old held r kept new
+fills_then old new held kept (Ok n) f = f
+fills_then old new held kept (Err Failed) f = f
+fills_then old new held kept (Err TooMuch) f = f
+fills_then old new held kept (Err WithoutMemory) f = f
+fills_then old new held kept (Err Unsent) f = absurd (f.sent refl)
 
--- what waits couldn't be given to the sink
-pub gives_unsent : (old mid : Stream) (held kept later : Pending) → Waited old held mid kept → later.bytes ≡ kept.bytes
-    → later.taken ≡ kept.taken → ReadsNext old held (Err Unsent) later mid
-gives_unsent old mid held kept later w found same = record {
-  counts = w.counts;
-  failed = λ e. cc;
-  too_much = λ e. cc;
-  over = λ e. absurd e;
-  taken = let a = w.taken in omega arith;
-  ready = λ head rest r. let e = w.ready head rest r in (e.0, same ∙ ap (λ (p : Pending). p.taken) e.1);
-  told = both_map old.bytes mid.bytes (Came held kept) (Left held (Err Unsent) later)
-      (λ a b p. (ap (λ (x : List ℕ). x ++ b) found ∙ sym p.0, same_taken kept later (length b) _ same p.1)) w.told;
-}
+count_sending : (r : Result ℕ ReadError) → (r ≡ Err Unsent → ⊥) → sending r ≡ Ok tt
+count_sending (Ok n) none = refl
+count_sending (Err Failed) none = refl
+count_sending (Err TooMuch) none = refl
+count_sending (Err WithoutMemory) none = refl
+count_sending (Err Unsent) none = absurd (none refl)
 
--- nothing was given to the sink
-pub sends_none : (old : Stream) (held : List ℕ) → Pushes old held [] (Ok tt) held old
-sends_none old held = holds old held [] held (sym (append-nil held))
-
-sending_is : (r : Result Next ReadError) → (r ≡ Err Unsent → ⊥) → sending r ≡ Ok tt
-sending_is (Ok next) none = refl
-sending_is (Err Failed) none = refl
-sending_is (Err TooMuch) none = refl
-sending_is (Err WithoutMemory) none = refl
-sending_is (Err Unsent) none = absurd (none refl)
-
--- what was held was given to the sink, and the reader doesn't say otherwise
-pub sends_all : (old new : Stream) (held later : List ℕ) (r : Result Next ReadError) → (r ≡ Err Unsent → ⊥) → Pushes old held [] (Ok tt) later new
-    → Pushes old held [] (sending r) later new
-sends_all old new held later r none p = subst (λ (x : Result Unit SinkFailed). Pushes old held [] x later new) (sym (sending_is r none)) p
-
-pub fill_sent : (old new : Stream) (held kept : Pending) (e : ReadError) → Fills old held (Err e) kept new → error_of e ≡ error_of Unsent → ⊥
-fill_sent old new held kept e f same = f.sent (ap Err (error_is e Unsent same))
+pub sends_before : (old new : Stream) (held later : List ℕ) (source filled : Stream) (before kept : Pending) (r : Result ℕ ReadError) → Fills source before r kept filled
+    → Pushes old held [] (Ok tt) later new → Pushes old held [] (sending r) later new
+sends_before old new held later source filled before kept r f p = subst (λ (x : Result Unit SinkFailed). Pushes old held [] x later new) (sym (count_sending r f.sent)) p

@@ -89,9 +89,17 @@ pub record ReadsNext (old : Stream) (held : Pending) (result : Result Next ReadE
   pub told : Both old.bytes new.bytes (Left held result kept)
 
 -- did the sink take what was given to it, by what the reader gives
-abbrev pub sending : Result Next ReadError → Result Unit SinkFailed
-sending (Ok next) = Ok tt
+abbrev pub sending : {A : Type 0} → Result A ReadError → Result Unit SinkFailed
+sending (Ok x) = Ok tt
 sending (Err Failed) = Ok tt
 sending (Err TooMuch) = Ok tt
 sending (Err WithoutMemory) = Ok tt
 sending (Err Unsent) = Err (record {})
+
+-- One call of the source, which is made only where the sink took all that was held for it.
+abbrev pub FillsThen : Stream → Pending → Result ℕ ReadError → Pending → Stream → Type 0
+FillsThen old held (Ok n) kept new = Fills old held (Ok n) kept new
+FillsThen old held (Err Failed) kept new = Fills old held (Err Failed) kept new
+FillsThen old held (Err TooMuch) kept new = Fills old held (Err TooMuch) kept new
+FillsThen old held (Err WithoutMemory) kept new = Fills old held (Err WithoutMemory) kept new
+FillsThen old held (Err Unsent) kept new = (kept ≡ held) × (new ≡ old)

@@ -18,7 +18,7 @@ pub use fields::{asks_close, first_value, has_body_fields, has_field};
 pub use input::Input;
 pub use next::{Found, Next, ReadError};
 pub use output::Output;
-pub use reading::{read_flushing, read_request};
+pub use reading::{fill_flushing, read_request};
 pub use request::{into_request, is_old};
 pub use writing::put_all;
 

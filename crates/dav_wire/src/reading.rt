@@ -1,7 +1,7 @@
 //! Reading requests.
-ghost use Rattle.std.specs.Prelude.{◌≡◌, ◌⊎◌, [], Err};
+ghost use Rattle.std.specs.Prelude.{◌≡◌, ◌≤◌, [], Err, length};
 ghost use Rattle.dav_io.specs.Outside.{Stream};
-ghost use Rattle.dav_wire.specs.Reading.{ReadsNext, end_at, sending};
+ghost use Rattle.dav_wire.specs.Reading.{ReadsNext, FillsThen, end_at, sending};
 ghost use Rattle.dav_wire.specs.Writing.{Pushes};
 ghost use Rattle.dav_wire.specs.declared.next.ReadError.TheVariants.{Unsent};
 
@@ -38,37 +38,23 @@ pub fn read_request<S: Source>(
     }
 }
 
-/// The next request of an input. Before the source is asked, all that is held for the sink is given to it.
-pub fn read_flushing<S: Source, K: Sink>(
-    alloc: Global,
+/// Takes more bytes, in one call of the source. Before the source is asked, all that is held for the sink is given to it.
+pub fn fill_flushing<S: Source, K: Sink>(
     input: &mut Input,
     source: &mut S,
     output: &mut Output,
     sink: &mut K,
-) -> Result<Next, ReadError>
-    ensures reads { ReadsNext (S.stream source.old) input.old result input.new (S.stream source.new) }
+) -> Result<usize, ReadError>
+    requires { length input.old.bytes ≤ 65536 }
+    ensures fills { FillsThen (S.stream source.old) input.old result input.new (S.stream source.new) }
     ensures sends { Pushes (K.stream sink.old) output.old [] (sending result) output.new (K.stream sink.new) }
-    ensures first { (output.new ≡ []) ⊎ (S.stream source.new ≡ S.stream source.old) }
+    ensures emptied { output.new ≡ [] }
 {
-    match input.next_head(alloc) {
-        Ok(Found::Whole(parts)) => return Ok(Next::Request(parts)),
-        Ok(Found::Refused) => return Ok(Next::Refused),
-        Ok(Found::More) => {}
-        Err(_) => return Err(ReadError::NoMemory),
-    }
     match output.flush(sink) {
         Ok(()) => {}
         Err(_) => return Err(ReadError::Unsent),
     }
-    match input.fill(source) {
-        Ok(count) => {
-            if count == 0 {
-                return Ok(end_of(input));
-            }
-        }
-        Err(error) => return Err(error),
-    }
-    read_request(alloc, input, source)
+    input.fill(source)
 }
 
 // What an input is at its end.

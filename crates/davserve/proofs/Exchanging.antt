@@ -1,9 +1,8 @@
 -- From steps and pushes to exchanges.
-use Rattle.std.proofs.Common.{◌≡◌, ◌<◌, ◌≤◌, ◌++◌, ◌||◌, ℕ, List, [], ◌∷◌, Bool, true, false, cond, Ok, Err, Result, Option, sym, ap, subst, ◌∙◌, refl, inl, inr, true≢false, arith, append_assoc, append-nil}
+use Rattle.std.proofs.Common.{◌≡◌, ◌<◌, ◌≤◌, ◌++◌, ◌||◌, ℕ, List, [], ◌∷◌, Bool, true, false, cond, Ok, Err, Result, Option, sym, ap, subst, ◌∙◌, refl, inl, inr, arith, append_assoc, append-nil}
 use Rattle.std.specs.List.{flat_map}
-use Rattle.std.specs.Result.{is_err}
 use Rattle.dav_io.specs.Counts.{Rose}
-use Rattle.dav_io.specs.Told.{Both, both_then, both_map}
+use Rattle.dav_io.specs.declared.failure.NoMemory.{NoMemory}
 use Rattle.dav_io.specs.Outside.{Stream}
 use Rattle.dav_io.specs.declared.failure.Failed.{Failed}
 use Rattle.dav_io.specs.declared.clock.Moment.{Moment}
@@ -18,11 +17,12 @@ use Rattle.dav_model.specs.Trail.{Point}
 use Rattle.dav_model.specs.Play.{Played}
 use Rattle.dav_model.specs.Joining.{played_join, played_counts, poll_says}
 use Rattle.dav_wire.specs.Answers.{head_text, has_close_field}
-use Rattle.dav_wire.specs.Writing.{Pushes, Pushed}
+use Rattle.dav_wire.specs.Writing.{Pushes, Sent, SentFront}
+use Rattle.dav_wire.proofs.Pushing.{none_sent, sent_more, sent_front, sent_push, sent_push_front}
 use Rattle.davserve.specs.declared.exchange.Ended.{Ended}
 use Rattle.davserve.specs.declared.exchange.Ended.TheVariants.{Open, Closed}
-use Rattle.davserve.specs.Exchange.{Exchange, is_closed, piece_steps, piece_answers, begun_steps, begun_answers, steps_of, answers_of, wire_of, with_pieces, Begun, Exchanged, Broke}
-use Rattle.davserve.specs.Ends.{Exchanges, SinkRose, ended_by}
+use Rattle.davserve.specs.Exchange.{Exchange, is_closed, piece_steps, piece_answers, begun_steps, begun_answers, steps_of, answers_of, wire_of, with_pieces}
+use Rattle.davserve.specs.Ends.{IsAt, Begun, Whole, BrokenOff, Unheard, Underway, Reached, SinkStopped, MemoryStopped, RefusedAt, Exchanges, ended_by}
 
 -- a poll that gives a piece leaves less of the body
 pub poll_shrinks : (s : Point) (p : Playing) (body : ℕ) (a b : Answer) (t : Point) (q : Playing) (piece : List ℕ)
@@ -62,106 +62,171 @@ more_bytes : (pieces : List (List ℕ)) (piece : List ℕ) → flat_map (λ x. x
 more_bytes [] piece = sym (append-nil piece)
 more_bytes (x ∷ pieces) piece = append_assoc x (flat_map (λ x. x) pieces) piece ∙ ap (λ z. x ++ z) (more_bytes pieces piece)
 
--- what was sent or held, and then some bytes
-appended : (a b c held later sent more : List ℕ) → b ++ held ≡ a ++ sent → c ++ later ≡ b ++ (held ++ more) → c ++ later ≡ a ++ (sent ++ more)
-appended a b c held later sent more p q = q ∙ sym (append_assoc b held more) ∙ ap (λ z. z ++ more) p ∙ append_assoc a sent more
-
-first_sent : (a c held later sent : List ℕ) → held ≡ [] → c ++ later ≡ a ++ (held ++ sent) → c ++ later ≡ a ++ (sent ++ [])
-first_sent a c held later sent none q = q ∙ ap (λ z. a ++ (z ++ sent)) none ∙ ap (λ z. a ++ z) (sym (append-nil sent))
-
-all_sent : (a b c held later sent : List ℕ) → b ++ held ≡ a ++ sent → later ≡ [] → c ++ later ≡ b ++ (held ++ []) → c ≡ a ++ sent
-all_sent a b c held later sent p none q = sym (append-nil c) ∙ ap (λ z. c ++ z) (sym none) ∙ q ∙ ap (λ z. b ++ z) (append-nil held) ∙ p
+-- the bytes of the head alone
+first_bytes : (before head : List ℕ) → before ++ head ≡ before ++ (head ++ [])
+first_bytes before head = ap (λ z. before ++ z) (sym (append-nil head))
 
 module _ (request : Asked) (now : Moment) (closing : Bool) (status : ℕ) (fields : List Field) (body : ℕ) where
-  -- the head was written or is held
-  pub begun_first : (s t : Point) (p q : Playing) (old new : Stream) (held later head : List ℕ) → held ≡ [] → head ≡ head_text status fields closing
+  is_at : (pieces : List (List ℕ)) → IsAt request now closing (with_pieces request now closing status fields body pieces)
+  is_at pieces = record { request_is = refl; now_is = refl; closing_is = refl }
+
+  -- a piece more
+  piece_bytes : (before piece : List ℕ) (pieces : List (List ℕ))
+      → (before ++ wire_of (with_pieces request now closing status fields body pieces)) ++ piece ≡ before ++ wire_of (with_pieces request now closing status fields body (pieces ++ piece ∷ []))
+  piece_bytes before piece pieces =
+      append_assoc before (head_text status fields closing ++ flat_map (λ x. x) pieces) piece
+      ∙ ap (λ z. before ++ z) (append_assoc (head_text status fields closing) (flat_map (λ x. x) pieces) piece ∙ ap (λ z. head_text status fields closing ++ z) (more_bytes pieces piece))
+
+  piece_played : (s m t : Point) (p q r : Playing) (piece : List ℕ) (pieces : List (List ℕ))
+      → Played s p (begun_steps (with_pieces request now closing status fields body pieces)) [] (begun_answers (with_pieces request now closing status fields body pieces)) (Ok tt) m q
+      → Played m q (Turn ∷ Poll body ∷ []) [] (Done ∷ Piece piece ∷ []) (Ok tt) t r
+      → Played s p (begun_steps (with_pieces request now closing status fields body (pieces ++ piece ∷ []))) [] (begun_answers (with_pieces request now closing status fields body (pieces ++ piece ∷ []))) (Ok tt) t r
+  piece_played s m t p q r piece pieces first second =
+      let x = with_pieces request now closing status fields body pieces in
+      let y = with_pieces request now closing status fields body (pieces ++ piece ∷ []) in
+      subst (λ z. Played s p z [] (begun_answers y) (Ok tt) t r) (ap (λ z. Turn ∷ Purge now ∷ Request request now ∷ z) (more_steps body pieces piece))
+      (subst (λ z. Played s p (begun_steps x ++ Turn ∷ Poll body ∷ []) [] z (Ok tt) t r) (ap (λ z. Done ∷ Done ∷ Replied status fields body ∷ z) (more_answers pieces piece))
+      (played_join s m t p q r (begun_steps x) (Turn ∷ Poll body ∷ []) [] (begun_answers x) (Done ∷ Piece piece ∷ []) (Ok tt) first second))
+
+  -- the head was sent or is held
+  pub begun_first : (s t : Point) (p q : Playing) (old new : Stream) (before later head : List ℕ) → head ≡ head_text status fields closing
       → Played s p (Turn ∷ Purge now ∷ Request request now ∷ []) [] (Done ∷ Done ∷ Replied status fields body ∷ []) (Ok tt) t q
-      → Pushes old held head (Ok tt) later new → Begun s p request now closing status fields body old new later t q
-  begun_first s t p q old new held later head none is played pushes = record {
+      → Pushes old before head (Ok tt) later new → Begun s p request now closing status fields body old new before later t q
+  begun_first s t p q old new before later head is played pushes = record {
     pieces = [];
     played = played;
-    counts = pushes.counts;
-    written = both_map old.bytes new.bytes (Pushed held head (Ok tt) later) _
-        (λ a c e. first_sent a c held later (head_text status fields closing) none (e ∙ ap (λ z. a ++ (held ++ z)) is)) pushes.told;
+    sent = subst (λ z. Sent old new z later) (ap (λ z. before ++ z) is ∙ first_bytes before (head_text status fields closing)) (sent_push old new before head later pushes);
   }
 
-  -- a piece was given, and was written or is held
-  pub begun_more : (s m t : Point) (p q r : Playing) (old mid new : Stream) (held later piece bytes : List ℕ) → Begun s p request now closing status fields body old mid held m q
-      → Played m q (Turn ∷ Poll body ∷ []) [] (Done ∷ Piece piece ∷ []) (Ok tt) t r → bytes ≡ piece → Pushes mid held bytes (Ok tt) later new
-      → Begun s p request now closing status fields body old new later t r
-  begun_more s m t p q r old mid new held later piece bytes b played is pushes =
-      let x = with_pieces request now closing status fields body b.pieces in
-      let y = with_pieces request now closing status fields body (b.pieces ++ piece ∷ []) in
+  -- the sink failed at the head
+  pub first_unsent : (s t : Point) (p q : Playing) (old new : Stream) (before later head : List ℕ) (e : Failed) → head ≡ head_text status fields closing
+      → Played s p (Turn ∷ Purge now ∷ Request request now ∷ []) [] (Done ∷ Done ∷ Replied status fields body ∷ []) (Ok tt) t q
+      → Pushes old before head (Err e) later new → SinkStopped (IsAt request now closing) s p old new before t
+  first_unsent s t p q old new before later head e is played pushes =
+      let x = with_pieces request now closing status fields body [] in
       record {
-        pieces = b.pieces ++ piece ∷ [];
-        played = subst (λ z. Played s p z [] (begun_answers y) (Ok tt) t r) (ap (λ z. Turn ∷ Purge now ∷ Request request now ∷ z) (more_steps body b.pieces piece))
-            (subst (λ z. Played s p (begun_steps x ++ Turn ∷ Poll body ∷ []) [] z (Ok tt) t r) (ap (λ z. Done ∷ Done ∷ Replied status fields body ∷ z) (more_answers b.pieces piece))
-            (played_join s m t p q r (begun_steps x) (Turn ∷ Poll body ∷ []) [] (begun_answers x) (Done ∷ Piece piece ∷ []) (Ok tt) b.played played));
-        counts = let c = b.counts in let d = pushes.counts in omega arith;
-        written = both_then old.bytes mid.bytes new.bytes (λ a d. d ++ held ≡ a ++ wire_of x) (Pushed held bytes (Ok tt) later) (λ a d. d ++ later ≡ a ++ wire_of y)
-            (λ a d e u v. appended a d e held later (wire_of x) piece u (v ∙ ap (λ z. d ++ (held ++ z)) is)
-            ∙ ap (λ z. a ++ z) (append_assoc (head_text status fields closing) (flat_map (λ x. x) b.pieces) piece)
-            ∙ ap (λ z. a ++ (head_text status fields closing ++ z)) (more_bytes b.pieces piece)) b.written pushes.told;
+        bytes = wire_of x;
+        reached = inr (record { exchange = x; is = is_at []; more = []; next = inl refl; answers = []; result = Ok tt; after = q; played = played; are = refl });
+        sent = subst (λ z. SentFront old new z) (ap (λ z. before ++ z) is ∙ first_bytes before (head_text status fields closing)) (sent_push_front old new before head later e pushes);
+        rose = pushes.failed refl;
       }
 
-  -- the end was given, and all is written
-  pub begun_ends : (s m t : Point) (p q r : Playing) (old mid new : Stream) (held later : List ℕ) → Begun s p request now closing status fields body old mid held m q
-      → Played m q (Turn ∷ Poll body ∷ []) [] (Done ∷ End ∷ []) (Ok tt) t r → later ≡ [] → Pushes mid held [] (Ok tt) later new
-      → Exchanged s p request now closing (closing || has_close_field fields) old new t r
-  begun_ends s m t p q r old mid new held later b played none pushes =
+  -- a piece was given, and was sent or is held
+  pub begun_more : (s m t : Point) (p q r : Playing) (old mid new : Stream) (before held later piece bytes : List ℕ) → Begun s p request now closing status fields body old mid before held m q
+      → Played m q (Turn ∷ Poll body ∷ []) [] (Done ∷ Piece piece ∷ []) (Ok tt) t r → bytes ≡ piece → Pushes mid held bytes (Ok tt) later new
+      → Begun s p request now closing status fields body old new before later t r
+  begun_more s m t p q r old mid new before held later piece bytes b played is pushes = record {
+    pieces = b.pieces ++ piece ∷ [];
+    played = piece_played s m t p q r piece b.pieces b.played played;
+    sent = subst (λ z. Sent old new z later) (ap (λ z. (before ++ wire_of (with_pieces request now closing status fields body b.pieces)) ++ z) is ∙ piece_bytes before piece b.pieces)
+        (sent_more old mid new (before ++ wire_of (with_pieces request now closing status fields body b.pieces)) held bytes later b.sent pushes);
+  }
+
+  -- the sink failed at a piece
+  pub more_unsent : (s m t : Point) (p q r : Playing) (old mid new : Stream) (before held later piece bytes : List ℕ) (e : Failed) → Begun s p request now closing status fields body old mid before held m q
+      → Played m q (Turn ∷ Poll body ∷ []) [] (Done ∷ Piece piece ∷ []) (Ok tt) t r → bytes ≡ piece → Pushes mid held bytes (Err e) later new
+      → SinkStopped (IsAt request now closing) s p old new before t
+  more_unsent s m t p q r old mid new before held later piece bytes e b played is pushes =
+      let y = with_pieces request now closing status fields body (b.pieces ++ piece ∷ []) in
+      record {
+        bytes = wire_of y;
+        reached = inr (record {
+          exchange = y;
+          is = is_at (b.pieces ++ piece ∷ []);
+          more = [];
+          next = inl refl;
+          answers = [];
+          result = Ok tt;
+          after = r;
+          played = subst (λ z. Played s p z [] (begun_answers y ++ []) (Ok tt) t r) (sym (append-nil (begun_steps y)))
+              (subst (λ z. Played s p (begun_steps y) [] z (Ok tt) t r) (sym (append-nil (begun_answers y))) (piece_played s m t p q r piece b.pieces b.played played));
+          are = refl;
+        });
+        sent = subst (λ z. SentFront old new z) (ap (λ z. (before ++ wire_of (with_pieces request now closing status fields body b.pieces)) ++ z) is ∙ piece_bytes before piece b.pieces)
+            (sent_front old mid new (before ++ wire_of (with_pieces request now closing status fields body b.pieces)) held bytes later e b.sent pushes);
+        rose = rose_between old.faults mid.faults mid.faults new.faults b.sent.counts (omega arith) (pushes.failed refl);
+      }
+
+  -- the end was given
+  pub begun_ends : (s m t : Point) (p q r : Playing) (old new : Stream) (before held : List ℕ) → Begun s p request now closing status fields body old new before held m q
+      → Played m q (Turn ∷ Poll body ∷ []) [] (Done ∷ End ∷ []) (Ok tt) t r
+      → Whole (IsAt request now closing) s p (closing || has_close_field fields) old new before held t r
+  begun_ends s m t p q r old new before held b played =
       let x = with_pieces request now closing status fields body b.pieces in
       record {
         exchange = x;
-        request_is = refl;
-        now_is = refl;
-        closing_is = refl;
+        is = is_at b.pieces;
         closed_is = refl;
-        counts = let c = b.counts in let d = pushes.counts in omega arith;
         played = played_join s m t p q r (begun_steps x) (Turn ∷ Poll body ∷ []) [] (begun_answers x) (Done ∷ End ∷ []) (Ok tt) b.played played;
-        written = both_then old.bytes mid.bytes new.bytes (λ a d. d ++ held ≡ a ++ wire_of x) (Pushed held [] (Ok tt) later) (λ a d. d ≡ a ++ wire_of x)
-            (λ a d e u v. all_sent a d e held later (wire_of x) u none v) b.written pushes.told;
+        sent = b.sent;
       }
 
-  -- a body broke, and what came before is written
-  pub begun_breaks : (s m t : Point) (p q r : Playing) (old mid new : Stream) (held later : List ℕ) (answer : Answer) → Begun s p request now closing status fields body old mid held m q
+  -- a body broke
+  pub begun_breaks : (s m t : Point) (p q r : Playing) (old new : Stream) (before held : List ℕ) (answer : Answer) → Begun s p request now closing status fields body old new before held m q
       → Played m q (Turn ∷ Poll body ∷ []) [] (Done ∷ answer ∷ []) (Ok tt) t r → ((x : List ℕ) → answer ≡ Piece x → ⊥) → (answer ≡ End → ⊥)
-      → later ≡ [] → Pushes mid held [] (Ok tt) later new → Broke s p request now closing old new t r × Rose s.faults t.faults
-  begun_breaks s m t p q r old mid new held later answer b played piece end none pushes =
+      → BrokenOff (IsAt request now closing) s p old new before held t r
+  begun_breaks s m t p q r old new before held answer b played piece end =
       let x = with_pieces request now closing status fields body b.pieces in
-      let broken = poll_broke s m t p q r body Done answer (begun_steps x) [] (begun_answers x) b.played played piece end in (
-        record {
+      let broken = poll_broke s m t p q r body Done answer (begun_steps x) [] (begun_answers x) b.played played piece end in
+      record {
+        exchange = x;
+        is = is_at b.pieces;
+        played = played_join s m t p q r (begun_steps x) (Turn ∷ Poll body ∷ []) [] (begun_answers x) (Done ∷ Broken ∷ []) (Ok tt) b.played
+            (subst (λ z. Played m q (Turn ∷ Poll body ∷ []) [] (Done ∷ z ∷ []) (Ok tt) t r) broken.0 played);
+        sent = b.sent;
+        rose = broken.1;
+      }
+
+  -- memory was refused at a poll
+  pub poll_starved : (s m t : Point) (p q r : Playing) (old new : Stream) (before held : List ℕ) → Begun s p request now closing status fields body old new before held m q
+      → RefusedAt m q (Turn ∷ Poll body ∷ []) t r → MemoryStopped (IsAt request now closing) s p old new before held t
+  poll_starved s m t p q r old new before held b (answers, played) =
+      let x = with_pieces request now closing status fields body b.pieces in
+      record {
+        bytes = wire_of x;
+        reached = inr (record {
           exchange = x;
-          request_is = refl;
-          now_is = refl;
-          closing_is = refl;
-          counts = let c = b.counts in let d = pushes.counts in omega arith;
-          played = played_join s m t p q r (begun_steps x) (Turn ∷ Poll body ∷ []) [] (begun_answers x) (Done ∷ Broken ∷ []) (Ok tt) b.played
-              (subst (λ z. Played m q (Turn ∷ Poll body ∷ []) [] (Done ∷ z ∷ []) (Ok tt) t r) broken.0 played);
-          written = both_then old.bytes mid.bytes new.bytes (λ a d. d ++ held ≡ a ++ wire_of x) (Pushed held [] (Ok tt) later) (λ a d. d ≡ a ++ wire_of x)
-              (λ a d e u v. all_sent a d e held later (wire_of x) u none v) b.written pushes.told;
-        },
-        broken.1,
-      )
+          is = is_at b.pieces;
+          more = Turn ∷ Poll body ∷ [];
+          next = inr refl;
+          answers = answers;
+          result = Err (record {});
+          after = r;
+          played = played_join s m t p q r (begun_steps x) (Turn ∷ Poll body ∷ []) [] (begun_answers x) answers (Err (record {})) b.played played;
+          are = refl;
+        });
+        sent = b.sent;
+      }
 
-by_closed : (b : Bool) (s t : Point) (p q : Playing) (request : Asked) (now : Moment) (closing : Bool) (old new : Stream) → Exchanged s p request now closing b old new t q
-    → Exchanges s p request now closing old new (cond b Closed Open) t q
-by_closed true s t p q request now closing old new e = e
-by_closed false s t p q request now closing old new e = e
+  -- no memory for the head
+  pub head_starved : (s t : Point) (p q : Playing) (old : Stream) (before : List ℕ) (answers : List Answer) (result : Result Unit NoMemory)
+      → Played s p (Turn ∷ Purge now ∷ Request request now ∷ []) [] answers result t q → MemoryStopped (IsAt request now closing) s p old old before before t
+  head_starved s t p q old before answers result played = record {
+    bytes = [];
+    reached = inl (record {
+      exchange = with_pieces request now closing status fields body [];
+      is = is_at [];
+      no_pieces = refl;
+      answers = answers;
+      result = result;
+      after = q;
+      played = played;
+      none = refl;
+    });
+    sent = subst (λ z. Sent old old z before) (sym (append-nil before)) (none_sent old before);
+  }
 
-pub ended_as : (ended : Ended) (s t : Point) (p q : Playing) (request : Asked) (now : Moment) (closing : Bool) (fields : List Field) (old new : Stream) → ended ≡ ended_by closing fields
-    → Exchanged s p request now closing (closing || has_close_field fields) old new t q → Exchanges s p request now closing old new ended t q
-ended_as ended s t p q request now closing fields old new is e =
-    subst (λ z. Exchanges s p request now closing old new z t q) (sym is) (by_closed (closing || has_close_field fields) s t p q request now closing old new e)
+-- memory was refused at the request
+pub request_starved : (request : Asked) (now : Moment) (closing : Bool) (s t : Point) (p q : Playing) (old : Stream) (before : List ℕ)
+    → RefusedAt s p (Turn ∷ Purge now ∷ Request request now ∷ []) t q → MemoryStopped (IsAt request now closing) s p old old before before t
+request_starved request now closing s t p q old before (answers, played) = head_starved request now closing 0 [] 0 s t p q old before answers (Err (record {})) played
 
--- the sink failed behind an exchange that had begun
-pub sink_failed : (s m t : Point) (p q r : Playing) (xs ys : List Step) (a b : List Answer) (old mid new : Stream) → Played s p xs [] a (Ok tt) m q → Played m q ys [] b (Ok tt) t r
-    → old.faults ≤ mid.faults → Rose mid.faults new.faults → SinkRose s old new t
-sink_failed s m t p q r xs ys a b old mid new first second counts rose = record {
-  sink = rose_between old.faults mid.faults mid.faults new.faults counts (omega arith) rose;
-  disk = let c = played_counts s p xs [] a m q first in let d = played_counts m q ys [] b t r second in omega arith;
-}
+by_closed : (Is : Exchange → Type 0) (b : Bool) (s t : Point) (p q : Playing) (old new : Stream) (before held : List ℕ) → Whole Is s p b old new before held t q
+    → Exchanges Is s p old new before (cond b Closed Open) held t q
+by_closed Is true s t p q old new before held e = e
+by_closed Is false s t p q old new before held e = e
 
--- a push that isn't an error
-pub pushes_well : (old new : Stream) (held bytes later : List ℕ) (result : Result Unit Failed) → false ≡ is_err result → Pushes old held bytes result later new → Pushes old held bytes (Ok tt) later new
-pushes_well old new held bytes later (Ok x) e pushes = pushes
-pushes_well old new held bytes later (Err x) e pushes = absurd (true≢false (sym e))
+pub ended_as : (Is : Exchange → Type 0) (ended : Ended) (s t : Point) (p q : Playing) (closing : Bool) (fields : List Field) (old new : Stream) (before held : List ℕ) → ended ≡ ended_by closing fields
+    → Whole Is s p (closing || has_close_field fields) old new before held t q → Exchanges Is s p old new before ended held t q
+ended_as Is ended s t p q closing fields old new before held is e =
+    subst (λ z. Exchanges Is s p old new before z held t q) (sym is) (by_closed Is (closing || has_close_field fields) s t p q old new before held e)

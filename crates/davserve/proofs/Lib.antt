@@ -1,3 +1,4 @@
 pub mod Exchanging
 pub mod Served
 pub mod Finding
+pub mod Completing

@@ -1,5 +1,5 @@
 -- What a run has served, exchange by exchange.
-use Rattle.std.proofs.Common.{◌≡◌, ◌<◌, ◌≤◌, ◌+◌, ◌*◌, ◌-◌, ◌++◌, ◌||◌, ℕ, List, [], ◌∷◌, Bool, true, false, Ok, Err, Result, Option, length, take, sym, ap, subst, ◌∙◌, refl, inl, inr, ◌⊎◌, arith, append_assoc, append-nil, length-append}
+use Rattle.std.proofs.Common.{◌≡◌, ◌<◌, ◌≤◌, ◌+◌, ◌*◌, ◌-◌, ◌^◌, ◌++◌, ◌⊎◌, ℕ, List, [], ◌∷◌, Bool, true, false, Ok, Err, Result, Option, length, take, sym, ap, subst, ◌∙◌, refl, inl, inr, arith, append_assoc, append-nil, length-append}
 use Rattle.std.proofs.lemmas.List.{take_all, nil_from_length}
 use Rattle.std.specs.List.{flat_map, AllByRecursion}
 use Rattle.http.specs.declared.request.Parts.{Parts}
@@ -10,29 +10,34 @@ use Rattle.dav_io.specs.Counts.{Rose}
 use Rattle.dav_io.specs.Told.{Both, both_then, both_map, both_same}
 use Rattle.dav_io.specs.Outside.{Stream}
 use Rattle.dav_io.specs.declared.clock.Moment.{Moment}
-use Rattle.dav_model.specs.Requests.{Asked}
+use Rattle.dav_io.specs.declared.failure.Failed.{Failed}
+use Rattle.dav_model.specs.declared.step.Step.{Step}
+use Rattle.dav_model.specs.declared.step.Step.TheVariants.{Poll, Turn}
+use Rattle.dav_model.specs.declared.answer.Answer.TheVariants.{Broken, Done}
 use Rattle.dav_model.specs.Bodies.{Playing}
 use Rattle.dav_model.specs.Trail.{Point}
 use Rattle.dav_model.specs.Play.{Played}
 use Rattle.dav_model.specs.Joining.{played_counts}
 use Rattle.dav_wire.specs.Heads.{IsRead}
 use Rattle.dav_wire.specs.Pending.{Pending}
-use Rattle.dav_wire.specs.Requests.{IsRequest, Requests, Refusal, IsUnfinished}
+use Rattle.dav_wire.specs.Requests.{IsRequest, Requests, Refusal, IsUnfinished, HasNone}
 use Rattle.dav_wire.specs.Reading.{Behind, Fills, Moves}
+use Rattle.dav_wire.specs.Writing.{Pushes, Sent, SentAll, SentFront}
 use Rattle.dav_wire.specs.declared.next.ReadError.{ReadError}
 use Rattle.dav_wire.specs.Answers.{bad_request_text}
 use Rattle.dav_wire.proofs.RequestLemmas.{request_stays, refusal_stays, requests_join}
+use Rattle.dav_wire.proofs.Pushing.{none_sent, sent_on, sent_on_front, sent_flush, sent_flush_front, sent_then, sent_then_front, sent_all_of, sent_some}
 use Rattle.davserve.specs.declared.exchange.Ended.TheVariants.{Open, Closed, SinkFailed, Broke as BrokeOff}
-use Rattle.davserve.specs.Exchange.{Exchange, AsksClose, IsOf, is_closed, steps_of, answers_of, wire_of, Exchanged}
-use Rattle.davserve.specs.Ends.{fresh, Answers, Refuses, SinkRose}
-use Rattle.davserve.specs.Serving.{Chain, Alike, IsOpen, Follow, Serving, IsEmptied, LeftIs, ServedAll, ServedClosing, ServedRefusing, ServedUnfinished, ServedSoFar, ServedBroken, ServeEnds, EndsAt}
+use Rattle.davserve.specs.Exchange.{Exchange, AsksClose, IsShown, IsOf, fresh, is_closed, steps_of, answers_of, wire_of}
+use Rattle.davserve.specs.Ends.{IsAnswerTo, Answers, Whole, Unheard, Underway, Reached, SinkStopped, MemoryStopped, Finishes}
+use Rattle.davserve.specs.Serving.{Chain, Alike, IsOpen, Follow, wires, Serving, IsEmptied, LeftIs, TookBytes, Faces, ServedAll, ServedClosing, ServedRefusing, ServedUnfinished, ServedSoFar, ServedBroken, Partway, nothing, refusal, exchange, ServedPartly, Starved, ServeEnds, EndsAt}
 use Rattle.davserve.proofs.Exchanging.{rose_between}
 
 -- a head is some bytes
 method_within : (a b c d e f : List ℕ) → length b ≤ length (a ++ (b ++ 32 ∷ (c ++ 32 ∷ (d ++ (e ++ (f ++ []))))))
 method_within a b c d e f = grind (arith, length-append)
 
-head_some : (h : RequestHead) → IsRequestHead h → 0 < length (print_request h)
+pub head_some : (h : RequestHead) → IsRequestHead h → 0 < length (print_request h)
 head_some h valid =
     let same = ap (length {A = ℕ}) (print_request-append h []) in
     let whole = length-append (print_request h) [] in
@@ -58,154 +63,465 @@ chain_counts s t (x ∷ xs) (m, q, first, chain) =
     let b = chain_counts m t xs chain in
     omega arith
 
-alike_more : (hs : List RequestHead) (xs : List Exchange) (h : RequestHead) (x : Exchange) → Alike hs xs → IsOf h x → Alike (hs ++ h ∷ []) (xs ++ x ∷ [])
-alike_more [] [] h x a is = (is, tt)
-alike_more [] (y ∷ xs) h x a is = absurd a
-alike_more (g ∷ hs) [] h x a is = absurd a
-alike_more (g ∷ hs) (y ∷ xs) h x (first, a) is = (first, alike_more hs xs h x a is)
+alike_more : (shown : Option Moment) (hs : List RequestHead) (xs : List Exchange) (h : RequestHead) (x : Exchange) → Alike shown hs xs → IsOf shown h x → Alike shown (hs ++ h ∷ []) (xs ++ x ∷ [])
+alike_more shown [] [] h x a is = (is, tt)
+alike_more shown [] (y ∷ xs) h x a is = absurd a
+alike_more shown (g ∷ hs) [] h x a is = absurd a
+alike_more shown (g ∷ hs) (y ∷ xs) h x (first, a) is = (first, alike_more shown hs xs h x a is)
 
 all_more : (xs : List Exchange) (x : Exchange) → AllByRecursion IsOpen xs → IsOpen x → AllByRecursion IsOpen (xs ++ x ∷ [])
 all_more [] x a is = (is, tt)
 all_more (y ∷ xs) x (first, a) is = (first, all_more xs x a is)
 
-wires_more : (xs : List Exchange) (x : Exchange) → flat_map wire_of xs ++ wire_of x ≡ flat_map wire_of (xs ++ x ∷ [])
+wires_more : (xs : List Exchange) (x : Exchange) → wires xs ++ wire_of x ≡ wires (xs ++ x ∷ [])
 wires_more [] x = sym (append-nil (wire_of x))
-wires_more (y ∷ xs) x = append_assoc (wire_of y) (flat_map wire_of xs) (wire_of x) ∙ ap (λ z. wire_of y ++ z) (wires_more xs x)
+wires_more (y ∷ xs) x = append_assoc (wire_of y) (wires xs) (wire_of x) ∙ ap (λ z. wire_of y ++ z) (wires_more xs x)
 
-written_more : (a b d : List ℕ) (xs : List Exchange) (x : Exchange) → b ≡ a ++ (flat_map wire_of xs ++ []) → d ≡ b ++ wire_of x → d ≡ a ++ (flat_map wire_of (xs ++ x ∷ []) ++ [])
-written_more a b d xs x p q =
-    q ∙ ap (λ z. z ++ wire_of x) (p ∙ ap (λ z. a ++ z) (append-nil (flat_map wire_of xs))) ∙ append_assoc a (flat_map wire_of xs) (wire_of x)
-    ∙ ap (λ z. a ++ z) (wires_more xs x ∙ sym (append-nil (flat_map wire_of (xs ++ x ∷ []))))
+-- what was served, what of it was sent, and how many bytes were taken for it
+pub record Progress (shown : Option Moment) (input source : Stream) (held : Pending) (s : Point) (old new : Stream) (waiting : List ℕ) (t : Point) : Type 0 where
+  pub exchanges : List Exchange
+  pub serving : Serving shown false input source held.bytes s exchanges t
+  pub sent : Sent old new (wires exchanges) waiting
+  pub taken : TookBytes input source held.taken
 
--- nothing was served yet
-pub none_served : (input : Stream) (s : Point) (old : Stream) (held : List ℕ) → held ≡ [] → Serving false input input held s old old [] s
-none_served input s old held none = record {
+none_serving : (shown : Option Moment) (input : Stream) (s : Point) → Serving shown false input input [] s [] s
+none_serving shown input s = record {
   heads = [];
-  exchanges = [];
   played = refl;
   alike = tt;
   follow = tt;
   counted = omega arith;
-  counts = omega arith;
-  requests = both_same input.bytes input.bytes (λ a b. held ++ b ≡ a) (λ a. ap (λ z. z ++ a) none) refl;
-  written = both_same old.bytes old.bytes (λ a b. b ≡ a ++ ([] ++ [])) (λ a. sym (append-nil a)) refl;
+  requests = both_same input.bytes input.bytes (λ a b. b ≡ a) (λ a. refl) refl;
 }
 
-is_of : (head : RequestHead) (parts : Parts) (request : Asked) (closing : Bool) (x : Exchange) → IsRead head parts → head_of request ≡ parts → body_of request ≡ [] → AsksClose parts closing
-    → x.request ≡ request → x.closing ≡ closing → IsOf head x
-is_of head parts request closing x read is empty asks same closes = record {
-  parts = subst (λ z. IsRead head z) (sym (ap head_of same ∙ is)) read;
-  empty = ap body_of same ∙ empty;
-  closing = subst (λ z. AsksClose z x.closing) (sym (ap head_of same ∙ is)) (subst (λ z. AsksClose parts z) (sym closes) asks);
+-- nothing was served yet
+pub none_served : (shown : Option Moment) (input : Stream) (s : Point) (old : Stream) (held : Pending) (waiting : List ℕ) → held ≡ record { bytes = []; taken = 0 } → waiting ≡ []
+    → Progress shown input input held s old old waiting s
+none_served shown input s old held waiting none empty = record {
+  exchanges = [];
+  serving = subst (λ (z : List ℕ). Serving shown false input input z s [] s) (sym (ap (λ (z : Pending). z.bytes) none)) (none_serving shown input s);
+  sent = subst (λ (z : List ℕ). Sent old old [] z) (sym empty) (none_sent old []);
+  taken = both_same input.bytes input.bytes (λ a b. length a ≡ held.taken + length b)
+      (λ a. let n = ap (λ (z : Pending). z.taken) none in omega arith) refl;
 }
 
-module _ (input source : Stream) (held : List ℕ) (s : Point) (old : Stream) where
-  next_request : (hs : List RequestHead) (head : RequestHead) (rest : List ℕ) → IsRequest held head rest → Both input.bytes source.bytes (λ a b. Requests a hs (held ++ b))
-      → Both input.bytes source.bytes (λ a b. Requests a (hs ++ head ∷ []) (rest ++ b))
-  next_request hs head rest is both = both_map input.bytes source.bytes (λ a b. Requests a hs (held ++ b)) (λ a b. Requests a (hs ++ head ∷ []) (rest ++ b))
-      (λ a b r. requests_join a (held ++ b) (rest ++ b) hs (head ∷ []) r (rest ++ b, request_stays held b head rest is, refl)) both
+pub none_partly : (shown : Option Moment) (input : Stream) (s : Point) (old : Stream) → ServedPartly shown input input s old old s
+none_partly shown input s old = record {
+  closed = false;
+  held = [];
+  before = s;
+  exchanges = [];
+  serving = none_serving shown input s;
+  bytes = [];
+  partway = nothing refl refl;
+  sent = sent_some old old [] [] (none_sent old []);
+}
 
-  -- one exchange more
-  pub served_more : (mid new : Stream) (m t : Point) (parts : Parts) (now : Moment) (head : RequestHead) (rest : List ℕ) → Serving false input source held s old mid [] m
-      → IsRequest held head rest → IsRead head parts → Answers m parts now mid new Open t → Serving false input source rest s old new [] t
-  served_more mid new m t parts now head rest v is read (request, closing, q, heads, empty, asks, made) =
-      let x = made.exchange in
-      record {
-        heads = v.heads ++ head ∷ [];
-        exchanges = v.exchanges ++ x ∷ [];
-        played = chain_more s m t q v.exchanges x v.played made.played;
-        alike = alike_more v.heads v.exchanges head x v.alike (is_of head parts request closing x read heads empty asks made.request_is made.closing_is);
-        follow = all_more v.exchanges x v.follow made.closed_is;
-        counted = v.counted;
-        counts = let a = v.counts in let b = made.counts in omega arith;
-        requests = next_request v.heads head rest is v.requests;
-        written = both_then old.bytes mid.bytes new.bytes (λ a b. b ≡ a ++ (flat_map wire_of v.exchanges ++ [])) (λ b d. d ≡ b ++ wire_of x) (λ a d. d ≡ a ++ (flat_map wire_of (v.exchanges ++ x ∷ []) ++ []))
-            (λ a b d p e. written_more a b d v.exchanges x p e) v.written made.written;
-      }
+is_of : (shown : Option Moment) (head : RequestHead) (parts : Parts) (now : Moment) (x : Exchange) → IsRead head parts → IsShown shown now → IsAnswerTo parts now x → IsOf shown head x
+is_of shown head parts now x read when is = record {
+  parts = subst (λ z. IsRead head z) (sym is.parts_are) read;
+  empty = is.empty;
+  closing = subst (λ z. AsksClose z x.closing) (sym is.parts_are) is.asks;
+  moment = subst (λ z. IsShown shown z) (sym is.now_is) when;
+}
 
-  -- an answer closes
-  pub served_closing : (mid new : Stream) (m t : Point) (parts : Parts) (now : Moment) (head : RequestHead) (rest : List ℕ) → Serving false input source held s old mid [] m
-      → IsRequest held head rest → IsRead head parts → Answers m parts now mid new Closed t → ServedClosing input source s old new t
-  served_closing mid new m t parts now head rest v is read (request, closing, q, heads, empty, asks, made) =
-      let x = made.exchange in
-      record {
-        held = rest;
-        serving = record {
-          heads = v.heads ++ head ∷ [];
-          exchanges = v.exchanges ++ x ∷ [];
-          played = chain_more s m t q v.exchanges x v.played made.played;
-          alike = alike_more v.heads v.exchanges head x v.alike (is_of head parts request closing x read heads empty asks made.request_is made.closing_is);
-          follow = (v.exchanges, x, refl, v.follow, made.closed_is);
-          counted = v.counted;
-          counts = let a = v.counts in let b = made.counts in omega arith;
-          requests = next_request v.heads head rest is v.requests;
-          written = both_then old.bytes mid.bytes new.bytes (λ a b. b ≡ a ++ (flat_map wire_of v.exchanges ++ [])) (λ b d. d ≡ b ++ wire_of x) (λ a d. d ≡ a ++ (flat_map wire_of (v.exchanges ++ x ∷ []) ++ []))
-              (λ a b d p e. written_more a b d v.exchanges x p e) v.written made.written;
-        };
-      }
+faces : (shown : Option Moment) (held rest : List ℕ) (head : RequestHead) (parts : Parts) (now : Moment) → IsRequest held head rest → IsRead head parts → IsShown shown now
+    → (x : Exchange) → IsAnswerTo parts now x → Faces shown held x
+faces shown held rest head parts now stands read when x is = record { head = head; rest = rest; stands = stands; is = is_of shown head parts now x read when is }
 
-  -- the sink failed in an answer
-  pub sink_rose : (mid new : Stream) (m t : Point) (parts : Parts) (now : Moment) → Serving false input source held s old mid [] m → Answers m parts now mid new SinkFailed t → Rose old.faults new.faults
-  sink_rose mid new m t parts now v (request, closing, q, heads, empty, asks, made) = rose_between old.faults mid.faults mid.faults new.faults v.counts (omega arith) made.sink
+-- the same exchange by another predicate
+pub reached_as : (Is As : Exchange → Type 0) (s : Point) (p : Playing) (bytes : List ℕ) (t : Point) → ((x : Exchange) → Is x → As x) → Reached Is s p bytes t → Reached As s p bytes t
+reached_as Is As s p bytes t f (inl u) = inl (record {
+  exchange = u.exchange;
+  is = f u.exchange u.is;
+  no_pieces = u.no_pieces;
+  answers = u.answers;
+  result = u.result;
+  after = u.after;
+  played = u.played;
+  none = u.none;
+})
+reached_as Is As s p bytes t f (inr u) = inr (record {
+  exchange = u.exchange;
+  is = f u.exchange u.is;
+  more = u.more;
+  next = u.next;
+  answers = u.answers;
+  result = u.result;
+  after = u.after;
+  played = u.played;
+  are = u.are;
+})
 
-  -- a body broke in an answer
-  pub disk_rose : (mid new : Stream) (m t : Point) (parts : Parts) (now : Moment) (head : RequestHead) (rest : List ℕ) → Serving false input source held s old mid [] m
-      → IsRequest held head rest → IsRead head parts → Answers m parts now mid new BrokeOff t → Rose s.faults t.faults × ServedBroken input source s old new t
-  disk_rose mid new m t parts now head rest v is read (request, closing, q, heads, empty, asks, (broke, rose)) = (
-    rose_between s.faults m.faults m.faults t.faults (chain_counts s m v.exchanges v.played) (omega arith) rose,
-    record {
-      held = held;
-      mid = mid;
-      before = m;
-      serving = v;
-      head = head;
-      rest = rest;
-      stands = is;
-      request = request;
-      now = now;
-      closing = closing;
-      after = q;
-      broke = broke;
-      parts = subst (λ z. IsRead head z) (sym heads) read;
-      empty = empty;
-      asks = subst (λ z. AsksClose z closing) (sym heads) asks;
-    },
-  )
-
-  -- what no request can be was refused
-  pub served_refusing : (mid new : Stream) (t : Point) → Serving false input source held s old mid [] t → Refusal held → Refuses mid new 6 → ServedRefusing input source s old new t
-  served_refusing mid new t v refused r = record {
-    held = held;
-    serving = record {
-      heads = v.heads;
-      exchanges = v.exchanges;
-      played = v.played;
-      alike = v.alike;
-      follow = v.follow;
-      counted = v.counted;
-      counts = let a = v.counts in let b = r.counts in omega arith;
-      requests = v.requests;
-      written = both_then old.bytes mid.bytes new.bytes (λ a b. b ≡ a ++ (flat_map wire_of v.exchanges ++ [])) (λ b d. d ≡ b ++ bad_request_text) (λ a d. d ≡ a ++ (flat_map wire_of v.exchanges ++ bad_request_text))
-          (λ a b d p e. e ∙ ap (λ z. z ++ bad_request_text) (p ∙ ap (λ z. a ++ z) (append-nil (flat_map wire_of v.exchanges))) ∙ append_assoc a (flat_map wire_of v.exchanges) bad_request_text) v.written (r.invalid refl);
-    };
-    refused = both_map input.bytes source.bytes (λ a b. Requests a v.heads (held ++ b)) (λ a b. Refusal (held ++ b)) (λ a b e. refusal_stays held b refused) v.requests;
+-- what each status says
+module _ (shown : Option Moment) (input source : Stream) (s : Point) (old new : Stream) (t : Point) where
+  pub ends_all : ServedAll shown input source s old new t → (status : ℕ) → status ≡ 0 → ServeEnds shown input source s old new status t
+  ends_all v status e = record {
+    done = λ z. inl v;
+    source_failed = λ z. absurd (omega arith);
+    sink_failed = λ z. absurd (omega arith);
+    disk_failed = λ z. absurd (omega arith);
+    invalid = λ z. absurd (omega arith);
+    too_much = λ z. absurd (omega arith);
+    only = inl e;
   }
 
--- more bytes were taken, or none could be
-pub served_filled : (input source later : Stream) (held kept : Pending) (s : Point) (old new : Stream) (t : Point) (result : Result ℕ ReadError)
-    → Serving false input source held.bytes s old new [] t → Fills source held result kept later → Serving false input later kept.bytes s old new [] t
-served_filled input source later held kept s old new t result v f = record {
-  heads = v.heads;
+  pub ends_closing : ServedClosing shown input source s old new t → (status : ℕ) → status ≡ 0 → ServeEnds shown input source s old new status t
+  ends_closing v status e = record {
+    done = λ z. inr v;
+    source_failed = λ z. absurd (omega arith);
+    sink_failed = λ z. absurd (omega arith);
+    disk_failed = λ z. absurd (omega arith);
+    invalid = λ z. absurd (omega arith);
+    too_much = λ z. absurd (omega arith);
+    only = inl e;
+  }
+
+  pub ends_source : Rose input.faults source.faults → ServedSoFar shown input source s old new t → ServeEnds shown input source s old new 3 t
+  ends_source rose v = record {
+    done = λ z. absurd (omega arith);
+    source_failed = λ z. (rose, v);
+    sink_failed = λ z. absurd (omega arith);
+    disk_failed = λ z. absurd (omega arith);
+    invalid = λ z. absurd (omega arith);
+    too_much = λ z. absurd (omega arith);
+    only = inr (inl refl);
+  }
+
+  pub ends_sink : Rose old.faults new.faults → ServedPartly shown input source s old new t → (status : ℕ) → status ≡ 4 → ServeEnds shown input source s old new status t
+  ends_sink rose v status e = record {
+    done = λ z. absurd (omega arith);
+    source_failed = λ z. absurd (omega arith);
+    sink_failed = λ z. (rose, v);
+    disk_failed = λ z. absurd (omega arith);
+    invalid = λ z. absurd (omega arith);
+    too_much = λ z. absurd (omega arith);
+    only = inr (inr (inl e));
+  }
+
+  pub ends_disk : Rose s.faults t.faults → ServedBroken shown input source s old new t → (status : ℕ) → status ≡ 5 → ServeEnds shown input source s old new status t
+  ends_disk rose v status e = record {
+    done = λ z. absurd (omega arith);
+    source_failed = λ z. absurd (omega arith);
+    sink_failed = λ z. absurd (omega arith);
+    disk_failed = λ z. (rose, v);
+    invalid = λ z. absurd (omega arith);
+    too_much = λ z. absurd (omega arith);
+    only = inr (inr (inr (inl e)));
+  }
+
+  pub ends_invalid : ServedRefusing shown input source s old new t ⊎ ServedUnfinished shown input source s old new t → (status : ℕ) → status ≡ 6 → ServeEnds shown input source s old new status t
+  ends_invalid v status e = record {
+    done = λ z. absurd (omega arith);
+    source_failed = λ z. absurd (omega arith);
+    sink_failed = λ z. absurd (omega arith);
+    disk_failed = λ z. absurd (omega arith);
+    invalid = λ z. v;
+    too_much = λ z. absurd (omega arith);
+    only = inr (inr (inr (inr (inl e))));
+  }
+
+  pub ends_too_much : TookBytes input source (2 ^ 60) → ServedSoFar shown input source s old new t → ServeEnds shown input source s old new 7 t
+  ends_too_much took v = record {
+    done = λ z. absurd (omega arith);
+    source_failed = λ z. absurd (omega arith);
+    sink_failed = λ z. absurd (omega arith);
+    disk_failed = λ z. absurd (omega arith);
+    invalid = λ z. absurd (omega arith);
+    too_much = λ z. (took, v);
+    only = inr (inr (inr (inr (inr refl))));
+  }
+
+module _ (shown : Option Moment) (input source : Stream) (held : Pending) (s : Point) (old mid new : Stream) (waiting : List ℕ) (m t : Point) where
+  next_request : (hs : List RequestHead) (head : RequestHead) (rest : List ℕ) → IsRequest held.bytes head rest → Both input.bytes source.bytes (λ a b. Requests a hs (held.bytes ++ b))
+      → Both input.bytes source.bytes (λ a b. Requests a (hs ++ head ∷ []) (rest ++ b))
+  next_request hs head rest is both = both_map input.bytes source.bytes (λ a b. Requests a hs (held.bytes ++ b)) (λ a b. Requests a (hs ++ head ∷ []) (rest ++ b))
+      (λ a b r. requests_join a (held.bytes ++ b) (rest ++ b) hs (head ∷ []) r (rest ++ b, request_stays held.bytes b head rest is, refl)) both
+
+  -- one exchange more
+  pub served_more : (parts : Parts) (now : Moment) (head : RequestHead) (rest : Pending) (later : List ℕ) → Progress shown input source held s old mid waiting m
+      → IsRequest held.bytes head rest.bytes → IsRead head parts → rest.taken ≡ held.taken → IsShown shown now → Answers m parts now mid new waiting Open later t
+      → Progress shown input source rest s old new later t
+  served_more parts now head rest later v is read same when (q, made) =
+      let x = made.exchange in
+      let w = v.serving in
+      record {
+        exchanges = v.exchanges ++ x ∷ [];
+        serving = record {
+          heads = w.heads ++ head ∷ [];
+          played = chain_more s m t q v.exchanges x w.played made.played;
+          alike = alike_more shown w.heads v.exchanges head x w.alike (is_of shown head parts now x read when made.is);
+          follow = all_more v.exchanges x w.follow made.closed_is;
+          counted = w.counted;
+          requests = next_request w.heads head rest.bytes is w.requests;
+        };
+        sent = subst (λ z. Sent old new z later) (wires_more v.exchanges x) (sent_then old mid new (wires v.exchanges) waiting (wire_of x) later v.sent made.sent);
+        taken = subst (λ z. TookBytes input source z) (sym same) v.taken;
+      }
+
+  closing_serving : (parts : Parts) (now : Moment) (head : RequestHead) (rest later : List ℕ) → (v : Progress shown input source held s old mid waiting m)
+      → IsRequest held.bytes head rest → IsRead head parts → IsShown shown now → (q : Playing) → (made : Whole (IsAnswerTo parts now) m fresh true mid new waiting later t q)
+      → Serving shown true input source rest s (v.exchanges ++ made.exchange ∷ []) t
+  closing_serving parts now head rest later v is read when q made =
+      let x = made.exchange in
+      let w = v.serving in
+      record {
+        heads = w.heads ++ head ∷ [];
+        played = chain_more s m t q v.exchanges x w.played made.played;
+        alike = alike_more shown w.heads v.exchanges head x w.alike (is_of shown head parts now x read when made.is);
+        follow = (v.exchanges, x, refl, w.follow, made.closed_is);
+        counted = w.counted;
+        requests = next_request w.heads head rest is w.requests;
+      }
+
+  -- an answer closes, and then all is given to the sink
+  pub served_closing : (parts : Parts) (now : Moment) (head : RequestHead) (rest later : List ℕ) (last : Stream) (status : ℕ) → Progress shown input source held s old mid waiting m
+      → IsRequest held.bytes head rest → IsRead head parts → IsShown shown now → Answers m parts now mid new waiting Closed later t → Finishes 0 new last later status
+      → ServeEnds shown input source s old last status t
+  served_closing parts now head rest later last status v is read when (q, made) (inl (e, given)) =
+      let x = made.exchange in
+      let sent = sent_then old mid new (wires v.exchanges) waiting (wire_of x) later v.sent made.sent in
+      ends_closing shown input source s old last t (record {
+        held = rest;
+        exchanges = v.exchanges ++ x ∷ [];
+        serving = closing_serving parts now head rest later v is read when q made;
+        sent = subst (λ z. SentAll old last z) (wires_more v.exchanges x) (sent_all_of old last (wires v.exchanges ++ wire_of x) [] refl (sent_on old new last (wires v.exchanges ++ wire_of x) later [] sent given));
+      }) status e
+  served_closing parts now head rest later last status v is read when (q, made) (inr (e, given, rose)) =
+      let x = made.exchange in
+      let sent = sent_then old mid new (wires v.exchanges) waiting (wire_of x) later v.sent made.sent in
+      ends_sink shown input source s old last t (rose_between old.faults new.faults new.faults last.faults sent.counts (omega arith) rose) (record {
+        closed = true;
+        held = rest;
+        before = t;
+        exchanges = v.exchanges ++ x ∷ [];
+        serving = closing_serving parts now head rest later v is read when q made;
+        bytes = [];
+        partway = nothing refl refl;
+        sent = subst (λ z. SentFront old last z) (wires_more v.exchanges x ∙ sym (append-nil (wires (v.exchanges ++ x ∷ [])))) (sent_on_front old new last (wires v.exchanges ++ wire_of x) later sent given);
+      }) status e
+
+  -- the sink failed in an answer
+  pub served_unsent : (parts : Parts) (now : Moment) (head : RequestHead) (rest later : List ℕ) → Progress shown input source held s old mid waiting m
+      → IsRequest held.bytes head rest → IsRead head parts → IsShown shown now → Answers m parts now mid new waiting SinkFailed later t → ServeEnds shown input source s old new 4 t
+  served_unsent parts now head rest later v is read when (q, made) =
+      ends_sink shown input source s old new t (rose_between old.faults mid.faults mid.faults new.faults v.sent.counts (omega arith) made.rose) (record {
+        closed = false;
+        held = held.bytes;
+        before = m;
+        exchanges = v.exchanges;
+        serving = v.serving;
+        bytes = made.bytes;
+        partway = exchange (reached_as (IsAnswerTo parts now) (Faces shown held.bytes) m fresh made.bytes t (faces shown held.bytes rest head parts now is read when) made.reached);
+        sent = sent_then_front old mid new (wires v.exchanges) waiting made.bytes v.sent made.sent;
+      }) 4 refl
+
+  -- memory was refused in an answer
+  pub served_starved : (parts : Parts) (now : Moment) (head : RequestHead) (rest later : List ℕ) → Progress shown input source held s old mid waiting m
+      → IsRequest held.bytes head rest → IsRead head parts → IsShown shown now → MemoryStopped (IsAnswerTo parts now) m fresh mid new waiting later t
+      → Starved shown input source s old new later t
+  served_starved parts now head rest later v is read when made = record {
+    held = held.bytes;
+    before = m;
+    exchanges = v.exchanges;
+    serving = v.serving;
+    bytes = made.bytes;
+    partway = exchange (reached_as (IsAnswerTo parts now) (Faces shown held.bytes) m fresh made.bytes t (faces shown held.bytes rest head parts now is read when) made.reached);
+    sent = sent_then old mid new (wires v.exchanges) waiting made.bytes later v.sent made.sent;
+  }
+
+  -- a body broke in an answer, and then all is given to the sink
+  pub served_broken : (parts : Parts) (now : Moment) (head : RequestHead) (rest later : List ℕ) (last : Stream) (status : ℕ) → Progress shown input source held s old mid waiting m
+      → IsRequest held.bytes head rest → IsRead head parts → IsShown shown now → Answers m parts now mid new waiting BrokeOff later t → Finishes 5 new last later status
+      → ServeEnds shown input source s old last status t
+  served_broken parts now head rest later last status v is read when (q, made) (inl (e, given)) =
+      let x = made.exchange in
+      let sent = sent_then old mid new (wires v.exchanges) waiting (wire_of x) later v.sent made.sent in
+      ends_disk shown input source s old last t (rose_between s.faults m.faults m.faults t.faults (chain_counts s m v.exchanges v.serving.played) (omega arith) made.rose) (record {
+        held = held.bytes;
+        before = m;
+        exchanges = v.exchanges;
+        serving = v.serving;
+        broken = x;
+        faces = faces shown held.bytes rest head parts now is read when x made.is;
+        after = q;
+        played = made.played;
+        sent = sent_all_of old last (wires v.exchanges ++ wire_of x) [] refl (sent_on old new last (wires v.exchanges ++ wire_of x) later [] sent given);
+      }) status e
+  served_broken parts now head rest later last status v is read when (q, made) (inr (e, given, rose)) =
+      let x = made.exchange in
+      let sent = sent_then old mid new (wires v.exchanges) waiting (wire_of x) later v.sent made.sent in
+      ends_sink shown input source s old last t (rose_between old.faults new.faults new.faults last.faults sent.counts (omega arith) rose) (record {
+        closed = false;
+        held = held.bytes;
+        before = m;
+        exchanges = v.exchanges;
+        serving = v.serving;
+        bytes = wire_of x;
+        partway = exchange (inr (record {
+          exchange = x;
+          is = faces shown held.bytes rest head parts now is read when x made.is;
+          more = Turn ∷ Poll x.body ∷ [];
+          next = inr refl;
+          answers = Done ∷ Broken ∷ [];
+          result = Ok tt;
+          after = q;
+          played = made.played;
+          are = refl;
+        }));
+        sent = sent_on_front old new last (wires v.exchanges ++ wire_of x) later sent given;
+      }) status e
+
+-- what no request can be was refused, and all is given to the sink
+pub served_refusing : (shown : Option Moment) (input source : Stream) (held : Pending) (s : Point) (old mid new : Stream) (waiting : List ℕ) (t : Point) (status : ℕ)
+    → Progress shown input source held s old mid waiting t → Refusal held.bytes → Finishes 6 mid new (waiting ++ bad_request_text) status → ServeEnds shown input source s old new status t
+served_refusing shown input source held s old mid new waiting t status v refused (inl (e, given)) =
+    ends_invalid shown input source s old new t (inl (record {
+      held = held.bytes;
+      exchanges = v.exchanges;
+      serving = v.serving;
+      sent = sent_all_of old new (wires v.exchanges ++ bad_request_text) [] refl (sent_then old mid new (wires v.exchanges) waiting bad_request_text [] v.sent given);
+      refused = both_map input.bytes source.bytes (λ a b. Requests a v.serving.heads (held.bytes ++ b)) (λ a b. Refusal (held.bytes ++ b)) (λ a b r. refusal_stays held.bytes b refused) v.serving.requests;
+    })) status e
+served_refusing shown input source held s old mid new waiting t status v refused (inr (e, given, rose)) =
+    ends_sink shown input source s old new t (rose_between old.faults mid.faults mid.faults new.faults v.sent.counts (omega arith) rose) (record {
+      closed = false;
+      held = held.bytes;
+      before = t;
+      exchanges = v.exchanges;
+      serving = v.serving;
+      bytes = bad_request_text;
+      partway = refusal refl refl
+          (both_map input.bytes source.bytes (λ a b. Requests a v.serving.heads (held.bytes ++ b)) (λ a b. Refusal (held.bytes ++ b)) (λ a b r. refusal_stays held.bytes b refused) v.serving.requests);
+      sent = sent_then_front old mid new (wires v.exchanges) waiting bad_request_text v.sent given;
+    }) status e
+
+-- the same bytes are held
+pub served_same : (shown : Option Moment) (input source : Stream) (held kept : Pending) (s : Point) (old new : Stream) (waiting : List ℕ) (t : Point)
+    → kept.bytes ≡ held.bytes → kept.taken ≡ held.taken → Progress shown input source held s old new waiting t → Progress shown input source kept s old new waiting t
+served_same shown input source held kept s old new waiting t bytes taken v = record {
   exchanges = v.exchanges;
+  serving = subst (λ z. Serving shown false input source z s v.exchanges t) (sym bytes) v.serving;
+  sent = v.sent;
+  taken = subst (λ z. TookBytes input source z) (sym taken) v.taken;
+}
+
+-- all that waited was given to the sink
+pub served_flushed : (shown : Option Moment) (input source : Stream) (held : Pending) (s : Point) (old mid new : Stream) (waiting later : List ℕ) (t : Point)
+    → Progress shown input source held s old mid waiting t → Pushes mid waiting [] (Ok tt) later new → later ≡ [] → Progress shown input source held s old new later t
+served_flushed shown input source held s old mid new waiting later t v pushes none = record {
+  exchanges = v.exchanges;
+  serving = v.serving;
+  sent = subst (λ z. Sent old new (wires v.exchanges) z) (sym none) (sent_on old mid new (wires v.exchanges) waiting [] v.sent (sent_flush mid new waiting later none pushes));
+  taken = v.taken;
+}
+
+-- the sink failed between two answers
+pub served_stopped : (shown : Option Moment) (input source : Stream) (held : Pending) (s : Point) (old mid new : Stream) (waiting later : List ℕ) (t : Point) (e : Failed)
+    → Progress shown input source held s old mid waiting t → Pushes mid waiting [] (Err e) later new → ServeEnds shown input source s old new 4 t
+served_stopped shown input source held s old mid new waiting later t e v pushes =
+    ends_sink shown input source s old new t (rose_between old.faults mid.faults mid.faults new.faults v.sent.counts (omega arith) (pushes.failed refl)) (record {
+      closed = false;
+      held = held.bytes;
+      before = t;
+      exchanges = v.exchanges;
+      serving = v.serving;
+      bytes = [];
+      partway = nothing refl refl;
+      sent = subst (λ z. SentFront old new z) (sym (append-nil (wires v.exchanges))) (sent_on_front old mid new (wires v.exchanges) waiting v.sent (sent_flush_front mid new waiting later e pushes));
+    }) 4 refl
+
+-- memory was refused between two answers
+pub served_idle : (shown : Option Moment) (input source : Stream) (held : Pending) (s : Point) (old new : Stream) (waiting : List ℕ) (t : Point)
+    → Progress shown input source held s old new waiting t → Starved shown input source s old new waiting t
+served_idle shown input source held s old new waiting t v = record {
+  held = held.bytes;
+  before = t;
+  exchanges = v.exchanges;
+  serving = v.serving;
+  bytes = [];
+  partway = nothing refl refl;
+  sent = subst (λ z. Sent old new z waiting) (sym (append-nil (wires v.exchanges))) v.sent;
+}
+
+moved_bytes : (held kept : Pending) (result : Result ℕ ReadError) (b c : List ℕ) → Moves held result kept b c → length held.bytes + length b ≡ length kept.bytes + length c
+moved_bytes held kept result b c m = omega (arith, ap length m.0, length-append held.bytes b, length-append kept.bytes c)
+
+took_more : (held kept : Pending) (n : ℕ) (a b c : List ℕ) → length a ≡ held.taken + length b → Behind held n kept → Moves held (Ok n) kept b c → length a ≡ kept.taken + length c
+took_more held kept n a b c e behind m =
+    let l = moved_bytes held kept (Ok n) b c m in
+    omega (arith, behind.long, behind.taken)
+
+serving_filled : (shown : Option Moment) (input source later : Stream) (held kept : Pending) (s : Point) (xs : List Exchange) (t : Point) (result : Result ℕ ReadError)
+    → Serving shown false input source held.bytes s xs t → Fills source held result kept later → Serving shown false input later kept.bytes s xs t
+serving_filled shown input source later held kept s xs t result v f = record {
+  heads = v.heads;
   played = v.played;
   alike = v.alike;
   follow = v.follow;
   counted = let a = v.counted in let b = f.counts in omega arith;
-  counts = v.counts;
   requests = both_then input.bytes source.bytes later.bytes (λ a b. Requests a v.heads (held.bytes ++ b)) (Moves held result kept) (λ a c. Requests a v.heads (kept.bytes ++ c))
       (λ a b c r m. subst (λ z. Requests a v.heads z) m.0 r) v.requests f.told;
-  written = v.written;
 }
+
+-- more bytes were taken
+pub served_filled : (shown : Option Moment) (input source later : Stream) (held kept : Pending) (s : Point) (old new : Stream) (waiting : List ℕ) (t : Point) (n : ℕ)
+    → Progress shown input source held s old new waiting t → Fills source held (Ok n) kept later → Progress shown input later kept s old new waiting t
+served_filled shown input source later held kept s old new waiting t n v f = record {
+  exchanges = v.exchanges;
+  serving = serving_filled shown input source later held kept s v.exchanges t (Ok n) v.serving f;
+  sent = v.sent;
+  taken = both_then input.bytes source.bytes later.bytes (λ a b. length a ≡ held.taken + length b) (Moves held (Ok n) kept) (λ a c. length a ≡ kept.taken + length c)
+      (λ a b c e m. took_more held kept n a b c e f.grows m) v.taken f.told;
+}
+
+still_took : (held kept : Pending) (e : ReadError) (a b c : List ℕ) → kept ≡ held → length a ≡ held.taken + length b → Moves held (Err e) kept b c → length a ≡ kept.taken + length c
+still_took held kept e a b c same took m =
+    let l = moved_bytes held kept (Err e) b c m in
+    let x = ap (λ (z : Pending). length z.bytes) same in
+    let y = ap (λ (z : Pending). z.taken) same in
+    omega arith
+
+-- none could be taken
+pub served_unfilled : (shown : Option Moment) (input source later : Stream) (held kept : Pending) (s : Point) (old new : Stream) (waiting : List ℕ) (t : Point) (e : ReadError)
+    → Progress shown input source held s old new waiting t → Fills source held (Err e) kept later → Progress shown input later kept s old new waiting t
+served_unfilled shown input source later held kept s old new waiting t e v f = record {
+  exchanges = v.exchanges;
+  serving = serving_filled shown input source later held kept s v.exchanges t (Err e) v.serving f;
+  sent = v.sent;
+  taken = both_then input.bytes source.bytes later.bytes (λ a b. length a ≡ held.taken + length b) (Moves held (Err e) kept) (λ a c. length a ≡ kept.taken + length c)
+      (λ a b c x m. still_took held kept e a b c f.grows x m) v.taken f.told;
+}
+
+none_held : (held kept : List ℕ) → kept ≡ held → HasNoRequest held → HasNone kept
+none_held held kept same none head rest r = subst HasNoRequest (sym same) none head rest r.reads
+
+so_far : (shown : Option Moment) (input source : Stream) (held : Pending) (s : Point) (old new : Stream) (waiting : List ℕ) (t : Point)
+    → Progress shown input source held s old new waiting t → waiting ≡ [] → HasNone held.bytes → ServedSoFar shown input source s old new t
+so_far shown input source held s old new waiting t v none nobody = record {
+  held = held.bytes;
+  exchanges = v.exchanges;
+  serving = v.serving;
+  sent = sent_all_of old new (wires v.exchanges) waiting none v.sent;
+  none = nobody;
+}
+
+-- the source failed
+pub served_failed : (shown : Option Moment) (input source later : Stream) (held kept : Pending) (s : Point) (old new : Stream) (waiting : List ℕ) (t : Point) (e : ReadError)
+    → Progress shown input source held s old new waiting t → Fills source held (Err e) kept later → Rose source.faults later.faults → waiting ≡ [] → HasNoRequest held.bytes
+    → ServeEnds shown input later s old new 3 t
+served_failed shown input source later held kept s old new waiting t e v f rose none nobody =
+    ends_source shown input later s old new t (rose_between input.faults source.faults source.faults later.faults v.serving.counted (omega arith) rose)
+    (so_far shown input later kept s old new waiting t (served_unfilled shown input source later held kept s old new waiting t e v f) none (none_held held.bytes kept.bytes (ap (λ (z : Pending). z.bytes) f.grows) nobody))
+
+-- 2^60 bytes were taken
+pub served_too_much : (shown : Option Moment) (input source later : Stream) (held kept : Pending) (s : Point) (old new : Stream) (waiting : List ℕ) (t : Point) (e : ReadError)
+    → Progress shown input source held s old new waiting t → Fills source held (Err e) kept later → held.taken ≡ 2 ^ 60 → waiting ≡ [] → HasNoRequest held.bytes
+    → ServeEnds shown input later s old new 7 t
+served_too_much shown input source later held kept s old new waiting t e v f most none nobody =
+    let w = served_unfilled shown input source later held kept s old new waiting t e v f in
+    ends_too_much shown input later s old new t (subst (λ z. TookBytes input later z) (ap (λ (z : Pending). z.taken) f.grows ∙ most) w.taken)
+    (so_far shown input later kept s old new waiting t w none (none_held held.bytes kept.bytes (ap (λ (z : Pending). z.bytes) f.grows) nobody))
 
 -- at the end nothing was taken
 pub same_held : (held kept : Pending) (n : ℕ) → n ≡ 0 → Behind held n kept → kept.bytes ≡ held.bytes
@@ -220,121 +536,25 @@ emptied x y b c same none e =
     let z : length b ≡ 0 = ap length none in
     nil_from_length c (omega arith)
 
-pub source_over : (input source later : Stream) (held kept : Pending) (n : ℕ) → n ≡ 0 → Both input.bytes source.bytes (λ a b. Unit {0}) → Fills source held (Ok n) kept later → IsEmptied input later
-source_over input source later held kept n zero told f = both_then input.bytes source.bytes later.bytes (λ a b. Unit {0}) (Moves held (Ok n) kept) (λ a c. c ≡ [])
+source_over : (input source later : Stream) (held kept : Pending) (n : ℕ) → n ≡ 0 → Both input.bytes source.bytes (λ a b. length a ≡ held.taken + length b) → Fills source held (Ok n) kept later → IsEmptied input later
+source_over input source later held kept n zero told f = both_then input.bytes source.bytes later.bytes (λ a b. length a ≡ held.taken + length b) (Moves held (Ok n) kept) (λ a c. c ≡ [])
     (λ a b c u m. emptied held.bytes kept.bytes b c (same_held held kept n zero f.grows) (m.1 (ap (λ x. Ok x) zero)) m.0) told f.told
 
 -- the input is over
-ends_by : (input source : Stream) (kept : List ℕ) (s : Point) (old new : Stream) (t : Point) (status : ℕ) → Serving false input source kept s old new [] t → IsEmptied input source
-    → (0 < length kept → IsUnfinished kept) → EndsAt kept status → ServeEnds input source s old new status t
-ends_by input source [] s old new t status v over unfinished e = record {
-  done = λ z. inl (record { serving = v; over = over });
-  source_failed = λ z. absurd (omega arith);
-  sink_failed = λ z. absurd (omega arith);
-  disk_failed = λ z. absurd (omega arith);
-  invalid = λ z. absurd (omega arith);
-  too_much = λ z. absurd (omega arith);
-  only = inl e;
-}
-ends_by input source (b ∷ bytes) s old new t status v over unfinished e = record {
-  done = λ z. absurd (omega arith);
-  source_failed = λ z. absurd (omega arith);
-  sink_failed = λ z. absurd (omega arith);
-  disk_failed = λ z. absurd (omega arith);
-  invalid = λ z. inr (record { held = b ∷ bytes; serving = v; over = over; unfinished = unfinished (omega arith) });
-  too_much = λ z. absurd (omega arith);
-  only = inr (inr (inr (inr (inl e))));
-}
+ends_by : (shown : Option Moment) (input source : Stream) (kept : List ℕ) (s : Point) (old new : Stream) (t : Point) (status : ℕ) (xs : List Exchange) → Serving shown false input source kept s xs t
+    → SentAll old new (wires xs) → IsEmptied input source → (0 < length kept → IsUnfinished kept) → EndsAt kept status → ServeEnds shown input source s old new status t
+ends_by shown input source [] s old new t status xs v sent over unfinished e =
+    ends_all shown input source s old new t (record { exchanges = xs; serving = v; sent = sent; over = over }) status e
+ends_by shown input source (b ∷ bytes) s old new t status xs v sent over unfinished e =
+    ends_invalid shown input source s old new t (inr (record { held = b ∷ bytes; exchanges = xs; serving = v; sent = sent; over = over; unfinished = unfinished (omega arith) })) status e
 
 unfinished_at : (held kept : List ℕ) → kept ≡ held → length held ≤ 65536 → HasNoRequest held → MayBecomeRequest held → 0 < length kept → IsUnfinished kept
 unfinished_at held kept same short none may some = subst IsUnfinished (sym same) (record { some = subst (λ z. 0 < length z) same some; short = short; none = none; may = may })
 
-pub ends_over : (input source later : Stream) (held kept : Pending) (n : ℕ) (s : Point) (old new : Stream) (t : Point) (status : ℕ) → Serving false input source held.bytes s old new [] t
-    → n ≡ 0 → Fills source held (Ok n) kept later → length held.bytes ≤ 65536 → HasNoRequest held.bytes → MayBecomeRequest held.bytes → EndsAt kept.bytes status
-    → ServeEnds input later s old new status t
-ends_over input source later held kept n s old new t status v zero f short none may e =
-    ends_by input later kept.bytes s old new t status (served_filled input source later held kept s old new t (Ok n) v f)
-    (source_over input source later held kept n zero (both_map input.bytes source.bytes (λ a b. Requests a v.heads (held.bytes ++ b)) (λ a b. Unit {0}) (λ a b r. tt) v.requests) f)
-    (unfinished_at held.bytes kept.bytes (same_held held kept n zero f.grows) short none may) e
-
-module _ (input source : Stream) (s : Point) (old new : Stream) (t : Point) where
-  pub ends_closing : ServedClosing input source s old new t → ServeEnds input source s old new 0 t
-  ends_closing v = record {
-    done = λ z. inr v;
-    source_failed = λ z. absurd (omega arith);
-    sink_failed = λ z. absurd (omega arith);
-    disk_failed = λ z. absurd (omega arith);
-    invalid = λ z. absurd (omega arith);
-    too_much = λ z. absurd (omega arith);
-    only = inl refl;
-  }
-
-  pub ends_sink : Rose old.faults new.faults → ServeEnds input source s old new 4 t
-  ends_sink rose = record {
-    done = λ z. absurd (omega arith);
-    source_failed = λ z. absurd (omega arith);
-    sink_failed = λ z. rose;
-    disk_failed = λ z. absurd (omega arith);
-    invalid = λ z. absurd (omega arith);
-    too_much = λ z. absurd (omega arith);
-    only = inr (inr (inl refl));
-  }
-
-  pub ends_disk : Rose s.faults t.faults × ServedBroken input source s old new t → ServeEnds input source s old new 5 t
-  ends_disk rose = record {
-    done = λ z. absurd (omega arith);
-    source_failed = λ z. absurd (omega arith);
-    sink_failed = λ z. absurd (omega arith);
-    disk_failed = λ z. rose;
-    invalid = λ z. absurd (omega arith);
-    too_much = λ z. absurd (omega arith);
-    only = inr (inr (inr (inl refl)));
-  }
-
-  pub ends_source : Rose input.faults source.faults → ServedSoFar input source s old new t → ServeEnds input source s old new 3 t
-  ends_source rose v = record {
-    done = λ z. absurd (omega arith);
-    source_failed = λ z. (rose, v);
-    sink_failed = λ z. absurd (omega arith);
-    disk_failed = λ z. absurd (omega arith);
-    invalid = λ z. absurd (omega arith);
-    too_much = λ z. absurd (omega arith);
-    only = inr (inl refl);
-  }
-
-  pub ends_too_much : ServedSoFar input source s old new t → ServeEnds input source s old new 7 t
-  ends_too_much v = record {
-    done = λ z. absurd (omega arith);
-    source_failed = λ z. absurd (omega arith);
-    sink_failed = λ z. absurd (omega arith);
-    disk_failed = λ z. absurd (omega arith);
-    invalid = λ z. absurd (omega arith);
-    too_much = λ z. v;
-    only = inr (inr (inr (inr (inr refl))));
-  }
-
--- a refusal was written, or the sink failed
-refusal_ends : (input source : Stream) (held : List ℕ) (s : Point) (old mid new : Stream) (t : Point) (status : ℕ) → Serving false input source held s old mid [] t → Refusal held → Refuses mid new status
-    → (status ≡ 6) ⊎ (status ≡ 4) → ServeEnds input source s old new status t
-refusal_ends input source held s old mid new t status v refused r (inl six) = record {
-  done = λ z. absurd (omega arith);
-  source_failed = λ z. absurd (omega arith);
-  sink_failed = λ z. absurd (omega arith);
-  disk_failed = λ z. absurd (omega arith);
-  invalid = λ z. inl (served_refusing input source held s old mid new t v refused (subst (λ n. Refuses mid new n) six r));
-  too_much = λ z. absurd (omega arith);
-  only = inr (inr (inr (inr (inl six))));
-}
-refusal_ends input source held s old mid new t status v refused r (inr four) = record {
-  done = λ z. absurd (omega arith);
-  source_failed = λ z. absurd (omega arith);
-  sink_failed = λ z. rose_between old.faults mid.faults mid.faults new.faults v.counts (omega arith) (r.sink_failed z);
-  disk_failed = λ z. absurd (omega arith);
-  invalid = λ z. absurd (omega arith);
-  too_much = λ z. absurd (omega arith);
-  only = inr (inr (inl four));
-}
-
-pub ends_refusing : (input source : Stream) (held : List ℕ) (s : Point) (old mid new : Stream) (t : Point) (status : ℕ) → Serving false input source held s old mid [] t → Refusal held → Refuses mid new status
-    → ServeEnds input source s old new status t
-ends_refusing input source held s old mid new t status v refused r = refusal_ends input source held s old mid new t status v refused r r.only
+pub served_over : (shown : Option Moment) (input source later : Stream) (held kept : Pending) (n : ℕ) (s : Point) (old new : Stream) (waiting : List ℕ) (t : Point) (status : ℕ)
+    → Progress shown input source held s old new waiting t → waiting ≡ [] → n ≡ 0 → Fills source held (Ok n) kept later
+    → length held.bytes ≤ 65536 → HasNoRequest held.bytes → MayBecomeRequest held.bytes → EndsAt kept.bytes status → ServeEnds shown input later s old new status t
+served_over shown input source later held kept n s old new waiting t status v empty zero f short none may e =
+    let w = served_filled shown input source later held kept s old new waiting t n v f in
+    ends_by shown input later kept.bytes s old new t status w.exchanges w.serving (sent_all_of old new (wires w.exchanges) waiting empty w.sent)
+    (source_over input source later held kept n zero v.taken f) (unfinished_at held.bytes kept.bytes (same_held held kept n zero f.grows) short none may) e

@@ -1,23 +1,18 @@
 -- An exchange is a request and all that is answered to it. Its steps, its answers and its bytes are functions of it.
-use Rattle.std.specs.Prelude.{◌≡◌, ◌≤◌, ◌⊎◌, ◌↔◌, ◌||◌, ℕ, List, [], ◌∷◌, ◌++◌, Bool, false, IsTrue, true, Ok, Option, take}
+use Rattle.std.specs.Prelude.{◌≡◌, ◌⊎◌, ◌↔◌, ◌||◌, ℕ, List, [], ◌∷◌, ◌++◌, Bool, IsTrue, true, Option, Some, None}
 use Rattle.std.specs.List.{flat_map}
 use Rattle.http.specs.declared.request.Parts.{Parts}
 use Rattle.http.specs.declared.version.TheConstants.Version.{HTTP_10}
 use Rattle.http.specs.Request.{head_of, body_of}
 use Rattle.httparse.specs.Grammar.{RequestHead}
-use Rattle.dav_io.specs.Counts.{Rose}
-use Rattle.dav_io.specs.Told.{Both}
-use Rattle.dav_io.specs.Outside.{Stream}
 use Rattle.dav_io.specs.declared.clock.Moment.{Moment}
 use Rattle.dav_io.specs.declared.fields.Field.{Field}
 use Rattle.dav_model.specs.declared.step.Step.{Step}
 use Rattle.dav_model.specs.declared.step.Step.TheVariants.{Request, Poll, Purge, Turn}
 use Rattle.dav_model.specs.declared.answer.Answer.{Answer}
-use Rattle.dav_model.specs.declared.answer.Answer.TheVariants.{Reply as Replied, Piece, End, Broken, Done}
+use Rattle.dav_model.specs.declared.answer.Answer.TheVariants.{Reply as Replied, Piece, End, Done}
 use Rattle.dav_model.specs.Requests.{Asked}
 use Rattle.dav_model.specs.Bodies.{Playing}
-use Rattle.dav_model.specs.Trail.{Point}
-use Rattle.dav_model.specs.Play.{Played}
 use Rattle.dav_wire.specs.Answers.{head_text, has_close_field}
 use Rattle.dav_wire.specs.Fields.{asks_close}
 use Rattle.dav_wire.specs.Heads.{IsRead}
@@ -66,39 +61,20 @@ answers_of x = begun_answers x ++ Done ∷ End ∷ []
 abbrev pub wire_of : Exchange → List ℕ
 wire_of x = head_text x.status x.fields x.closing ++ flat_map (λ piece. piece) x.pieces
 
--- The exchange is that of this head: its request is what the head says, without a body.
-pub record IsOf (head : RequestHead) (x : Exchange) : Type 0 where
+-- a player with no replies and no bodies
+abbrev pub fresh : Playing
+fresh = record { replies = 0; left = λ _. [] }
+
+-- The moment is what the clock shows, where it tells.
+abbrev pub IsShown : Option Moment → Moment → Type 0
+IsShown shown now = (shown ≡ Some now) ⊎ (shown ≡ None)
+
+-- The exchange is that of this head: its request is what the head says, without a body, at the moment that the clock shows.
+pub record IsOf (shown : Option Moment) (head : RequestHead) (x : Exchange) : Type 0 where
   pub parts : IsRead head (head_of x.request)
   pub empty : body_of x.request ≡ []
   pub closing : AsksClose (head_of x.request) x.closing
+  pub moment : IsShown shown x.now
 
 abbrev pub with_pieces : Asked → Moment → Bool → ℕ → List Field → ℕ → List (List ℕ) → Exchange
 with_pieces request now closing status fields body pieces = record { request = request; now = now; closing = closing; status = status; fields = fields; body = body; pieces = pieces }
-
--- An exchange has got so far, and its bytes are written or held.
-pub record Begun (s : Point) (p : Playing) (request : Asked) (now : Moment) (closing : Bool) (status : ℕ) (fields : List Field) (body : ℕ) (old new : Stream) (held : List ℕ) (t : Point) (q : Playing) : Type 0 where
-  pub pieces : List (List ℕ)
-  pub played : Played s p (begun_steps (with_pieces request now closing status fields body pieces)) [] (begun_answers (with_pieces request now closing status fields body pieces)) (Ok tt) t q
-  pub counts : old.faults ≤ new.faults
-  pub written : Both old.bytes new.bytes (λ a b. b ++ held ≡ a ++ wire_of (with_pieces request now closing status fields body pieces))
-
--- An exchange was made, and its bytes are written.
-pub record Exchanged (s : Point) (p : Playing) (request : Asked) (now : Moment) (closing closed : Bool) (old new : Stream) (t : Point) (q : Playing) : Type 0 where
-  pub exchange : Exchange
-  pub request_is : exchange.request ≡ request
-  pub now_is : exchange.now ≡ now
-  pub closing_is : exchange.closing ≡ closing
-  pub closed_is : is_closed exchange ≡ closed
-  pub played : Played s p (steps_of exchange) [] (answers_of exchange) (Ok tt) t q
-  pub counts : old.faults ≤ new.faults
-  pub written : Both old.bytes new.bytes (λ a b. b ≡ a ++ wire_of exchange)
-
--- A body broke: the bytes end with the last piece before it.
-pub record Broke (s : Point) (p : Playing) (request : Asked) (now : Moment) (closing : Bool) (old new : Stream) (t : Point) (q : Playing) : Type 0 where
-  pub exchange : Exchange
-  pub request_is : exchange.request ≡ request
-  pub now_is : exchange.now ≡ now
-  pub closing_is : exchange.closing ≡ closing
-  pub played : Played s p (steps_of exchange) [] (begun_answers exchange ++ Done ∷ Broken ∷ []) (Ok tt) t q
-  pub counts : old.faults ≤ new.faults
-  pub written : Both old.bytes new.bytes (λ a b. b ≡ a ++ wire_of exchange)

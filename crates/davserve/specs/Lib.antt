@@ -2,3 +2,4 @@ pub mod Words
 pub mod Exchange
 pub mod Ends
 pub mod Serving
+pub mod Completing

@@ -1,9 +1,8 @@
 // One request, and all that is answered to it.
-ghost use Rattle.std.specs.Prelude.{◌≡◌, ◌+◌, ◌<◌, ◌≤◌, ◌^◌, IfOk, OnOk, []};
-ghost use Rattle.http.specs.Request.{head_of};
+ghost use Rattle.std.specs.Prelude.{◌≡◌, ◌+◌, ◌<◌, ◌^◌, IfOk, OnErr};
 ghost use Rattle.dav_handler.specs.Player.{playing_of, point_at};
 ghost use Rattle.davserve.specs.Exchange.{AsksClose};
-ghost use Rattle.davserve.specs.Ends.{Exchanges, ended_by};
+ghost use Rattle.davserve.specs.Ends.{Exchanges, IsAt, MemoryStopped, ended_by};
 
 use crate::turns::{poll_turn, request_turn};
 use dav_core::Disk;
@@ -37,7 +36,8 @@ pub fn closes_after(parts: &Parts) -> bool
     asks_close(&parts.headers)
 }
 
-/// Answers one request, and writes the answer as it comes. All is given to the sink before this returns.
+/// Answers one request, and gives the answer to the output as it comes. What the output holds then is for the caller to
+/// flush.
 pub fn exchange<K: Sink, D: Disk>(
     alloc: Global,
     player: &mut Player<D>,
@@ -47,12 +47,10 @@ pub fn exchange<K: Sink, D: Disk>(
     closing: bool,
     request: Request<Octets>,
 ) -> Result<Ended, NoMemory>
-    requires replies { player.old.replies + 4 < 2 ^ 32 }
-    requires empty { output.old ≡ [] }
+    requires { player.old.replies + 4 < 2 ^ 32 }
     ensures loan { D.loan player.new.store.disk ≡ D.loan player.old.store.disk }
-    ensures replies { OnOk result (player.new.replies ≤ player.old.replies + 1) }
-    ensures held { OnOk result (output.new ≡ []) }
-    ensures ends { IfOk result (λ ended. Exchanges (point_at player.old) (playing_of player.old) request now closing (K.stream sink.old) (K.stream sink.new) ended (point_at player.new) (playing_of player.new)) }
+    ensures ends { IfOk result (λ ended. Exchanges (IsAt request now closing) (point_at player.old) (playing_of player.old) (K.stream sink.old) (K.stream sink.new) output.old ended output.new (point_at player.new) (playing_of player.new)) }
+    ensures memory { OnErr result (MemoryStopped (IsAt request now closing) (point_at player.old) (playing_of player.old) (K.stream sink.old) (K.stream sink.new) output.old output.new (point_at player.new)) }
 {
     let reply = match request_turn(alloc, player, now, request) {
         Ok(reply) => reply,
@@ -62,8 +60,9 @@ pub fn exchange<K: Sink, D: Disk>(
         Ok(head) => head,
         Err(error) => return Err(error),
     };
-    if output.push(sink, head.as_slice()).is_err() {
-        return Ok(Ended::SinkFailed);
+    match output.push(sink, head.as_slice()) {
+        Ok(()) => {}
+        Err(_) => return Ok(Ended::SinkFailed),
     }
     'pieces: loop {
         let answer = match poll_turn(alloc, player, reply.body) {
@@ -75,16 +74,9 @@ pub fn exchange<K: Sink, D: Disk>(
                 Ok(()) => {}
                 Err(_) => return Ok(Ended::SinkFailed),
             },
-            Answer::End => break,
-            _ => match output.flush(sink) {
-                Ok(()) => return Ok(Ended::Broke),
-                Err(_) => return Ok(Ended::SinkFailed),
-            },
+            Answer::End => return Ok(what_follows(closing, reply.headers.as_slice())),
+            _ => return Ok(Ended::Broke),
         }
-    }
-    match output.flush(sink) {
-        Ok(()) => Ok(what_follows(closing, reply.headers.as_slice())),
-        Err(_) => Ok(Ended::SinkFailed),
     }
 }
 

@@ -1,8 +1,9 @@
 // The top call: all that the program does, over what is handed in.
-ghost use Rattle.std.specs.Prelude.{◌≡◌, ◌↔◌, true, false, IfOk};
+ghost use Rattle.std.specs.Prelude.{◌≡◌, ◌↔◌, true, false, IfOk, OnErr};
 ghost use Rattle.dav_model.specs.Trail.{point_of};
 ghost use Rattle.davserve.specs.Words.{is_serve as the_is_serve};
-ghost use Rattle.davserve.specs.Serving.{ServeEnds};
+ghost use Rattle.davserve.specs.Serving.{ServeEnds, ServedPartly};
+ghost use Rattle.davserve.specs.Completing.{StatusIs};
 
 use crate::serving::serve;
 use crate::words::is_serve;
@@ -26,7 +27,10 @@ pub fn run<S: Source, K: Sink, D: Disk, C: Clock>(
     ensures source { the_is_serve words.now ≡ false → S.stream source.new ≡ S.stream source.old }
     ensures sink { the_is_serve words.now ≡ false → K.stream sink.new ≡ K.stream sink.old }
     ensures disk { the_is_serve words.now ≡ false → D.state disk.new ≡ D.state disk.old }
-    ensures serves { the_is_serve words.now ≡ true → IfOk result (λ status. ServeEnds (S.stream source.old) (S.stream source.new) (point_of (D.state disk.old)) (K.stream sink.old) (K.stream sink.new) status (point_of (D.state disk.new))) }
+    ensures clock { C.shows clock.new ≡ C.shows clock.old }
+    ensures serves { the_is_serve words.now ≡ true → IfOk result (λ status. ServeEnds (C.shows clock.old) (S.stream source.old) (S.stream source.new) (point_of (D.state disk.old)) (K.stream sink.old) (K.stream sink.new) status (point_of (D.state disk.new))) }
+    ensures complete { the_is_serve words.now ≡ true → IfOk result (λ status. StatusIs (C.shows clock.old) (S.stream source.old) (S.stream source.new) (point_of (D.state disk.old)) (K.stream sink.old) (K.stream sink.new) status (point_of (D.state disk.new))) }
+    ensures memory { OnErr result (ServedPartly (C.shows clock.old) (S.stream source.old) (S.stream source.new) (point_of (D.state disk.old)) (K.stream sink.old) (K.stream sink.new) (point_of (D.state disk.new))) }
 {
     if !is_serve(words) {
         return Ok(2);

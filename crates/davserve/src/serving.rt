@@ -1,15 +1,16 @@
 // Serving the requests of a source, one after the other.
-ghost use Rattle.std.specs.Prelude.{◌≡◌, IfOk, OnOk, []};
-ghost use Rattle.http.specs.Request.{head_of};
+ghost use Rattle.std.specs.Prelude.{◌≡◌, ◌++◌, ◌≤◌, IfOk, OnErr, [], length};
 ghost use Rattle.dav_model.specs.Trail.{point_of};
-ghost use Rattle.davserve.specs.Ends.{Answers, Refuses, fresh};
-ghost use Rattle.davserve.specs.Serving.{ServeEnds, EndsAt};
+ghost use Rattle.dav_wire.specs.Answers.{bad_request_text as the_bad_request_text};
+ghost use Rattle.davserve.specs.Ends.{Answers, IsAnswerTo, MemoryStopped, Finishes};
+ghost use Rattle.davserve.specs.Exchange.{fresh};
+ghost use Rattle.davserve.specs.Serving.{ServeEnds, ServedPartly, Starved, EndsAt};
 
 use crate::exchange::{Ended, closes_after, exchange};
 use dav_core::Disk;
 use dav_handler::Player;
 use dav_io::{Clock, Moment, NoMemory, Sink, Source};
-use dav_wire::{Found, Input, Output, ReadError, bad_request_text, into_request};
+use dav_wire::{Found, Input, Output, ReadError, bad_request_text, fill_flushing, into_request};
 use http::request::Parts;
 use std::alloc::Global;
 
@@ -22,9 +23,8 @@ fn answer<K: Sink, D: Disk>(
     now: Moment,
     parts: Parts,
 ) -> Result<Ended, NoMemory>
-    requires { output.old ≡ [] }
-    ensures held { OnOk result (output.new ≡ []) }
-    ensures ends { IfOk result (λ ended. Answers (point_of (D.state disk.old)) parts now (K.stream sink.old) (K.stream sink.new) ended (point_of (D.state disk.new))) }
+    ensures ends { IfOk result (λ ended. Answers (point_of (D.state disk.old)) parts now (K.stream sink.old) (K.stream sink.new) output.old ended output.new (point_of (D.state disk.new))) }
+    ensures memory { OnErr result (MemoryStopped (IsAnswerTo parts now) (point_of (D.state disk.old)) fresh (K.stream sink.old) (K.stream sink.new) output.old output.new (point_of (D.state disk.new))) }
 {
     let closing = closes_after(&parts);
     let request = into_request(alloc, parts);
@@ -34,16 +34,22 @@ fn answer<K: Sink, D: Disk>(
     ended
 }
 
+// Gives all that waits to the sink, at the end of a run: the status, or that of a sink that failed.
+fn finish<K: Sink>(output: &mut Output, sink: &mut K, status: u8) -> u8
+    ensures { Finishes status (K.stream sink.old) (K.stream sink.new) output.old result }
+{
+    match output.flush(sink) {
+        Ok(()) => status,
+        Err(_) => 4,
+    }
+}
+
 // Refuses what no request can be.
 fn refuse<K: Sink>(output: &mut Output, sink: &mut K) -> u8
-    requires { output.old ≡ [] }
-    ensures { Refuses (K.stream sink.old) (K.stream sink.new) result }
+    ensures { Finishes 6 (K.stream sink.old) (K.stream sink.new) (output.old ++ the_bad_request_text) result }
 {
     match output.push(sink, bad_request_text()) {
-        Ok(()) => match output.flush(sink) {
-            Ok(()) => 6,
-            Err(_) => 4,
-        },
+        Ok(()) => finish(output, sink, 6),
         Err(_) => 4,
     }
 }
@@ -58,6 +64,53 @@ fn at_end(input: &Input) -> u8
     6
 }
 
+// Answers requests until the input ends, an answer closes, or something fails. Answers to requests that came together
+// leave together: what waits for the sink is given to it before the source is asked again, and at the end. Where memory
+// is refused, it waits still.
+fn answer_all<S: Source, K: Sink, D: Disk, C: Clock>(
+    alloc: Global,
+    input: &mut Input,
+    output: &mut Output,
+    source: &mut S,
+    sink: &mut K,
+    disk: &mut D,
+    clock: &mut C,
+) -> Result<u8, NoMemory>
+    requires unread { input.old ≡ record { bytes = []; taken = 0 } }
+    requires empty { output.old ≡ [] }
+    ensures clock { C.shows clock.new ≡ C.shows clock.old }
+    ensures ends { IfOk result (λ status. ServeEnds (C.shows clock.old) (S.stream source.old) (S.stream source.new) (point_of (D.state disk.old)) (K.stream sink.old) (K.stream sink.new) status (point_of (D.state disk.new))) }
+    ensures memory { OnErr result (Starved (C.shows clock.old) (S.stream source.old) (S.stream source.new) (point_of (D.state disk.old)) (K.stream sink.old) (K.stream sink.new) output.new (point_of (D.state disk.new))) }
+{
+    'requests: loop {
+        match input.next_head(alloc) {
+            Ok(Found::Whole(parts)) => {
+                let now = clock.now();
+                match answer(alloc, disk, output, sink, now, parts) {
+                    Ok(Ended::Open) => {}
+                    Ok(Ended::Closed) => return Ok(finish(output, sink, 0)),
+                    Ok(Ended::SinkFailed) => return Ok(4),
+                    Ok(Ended::Broke) => return Ok(finish(output, sink, 5)),
+                    Err(error) => return Err(error),
+                }
+            }
+            Ok(Found::Refused) => return Ok(refuse(output, sink)),
+            Ok(Found::More) => match fill_flushing(input, source, output, sink) {
+                Ok(count) => {
+                    if count == 0 {
+                        return Ok(at_end(input));
+                    }
+                }
+                Err(ReadError::Failed) => return Ok(3),
+                Err(ReadError::TooMuch) => return Ok(7),
+                Err(ReadError::NoMemory) => return Err(NoMemory),
+                Err(ReadError::Unsent) => return Ok(4),
+            },
+            Err(error) => return Err(error),
+        }
+    }
+}
+
 /// Reads requests from a source and writes their answers to a sink, until the input ends, an answer closes, or something
 /// fails. It answers the program's status.
 pub fn serve<S: Source, K: Sink, D: Disk, C: Clock>(
@@ -67,7 +120,9 @@ pub fn serve<S: Source, K: Sink, D: Disk, C: Clock>(
     disk: &mut D,
     clock: &mut C,
 ) -> Result<u8, NoMemory>
-    ensures { IfOk result (λ status. ServeEnds (S.stream source.old) (S.stream source.new) (point_of (D.state disk.old)) (K.stream sink.old) (K.stream sink.new) status (point_of (D.state disk.new))) }
+    ensures clock { C.shows clock.new ≡ C.shows clock.old }
+    ensures ends { IfOk result (λ status. ServeEnds (C.shows clock.old) (S.stream source.old) (S.stream source.new) (point_of (D.state disk.old)) (K.stream sink.old) (K.stream sink.new) status (point_of (D.state disk.new))) }
+    ensures memory { OnErr result (ServedPartly (C.shows clock.old) (S.stream source.old) (S.stream source.new) (point_of (D.state disk.old)) (K.stream sink.old) (K.stream sink.new) (point_of (D.state disk.new))) }
 {
     let mut input = match Input::new(alloc) {
         Ok(input) => input,
@@ -77,31 +132,12 @@ pub fn serve<S: Source, K: Sink, D: Disk, C: Clock>(
         Ok(output) => output,
         Err(error) => return Err(error),
     };
-    'requests: loop {
-        match input.next_head(alloc) {
-            Ok(Found::Whole(parts)) => {
-                let now = clock.now();
-                match answer(alloc, disk, &mut output, sink, now, parts) {
-                    Ok(Ended::Open) => {}
-                    Ok(Ended::Closed) => return Ok(0),
-                    Ok(Ended::SinkFailed) => return Ok(4),
-                    Ok(Ended::Broke) => return Ok(5),
-                    Err(error) => return Err(error),
-                }
-            }
-            Ok(Found::Refused) => return Ok(refuse(&mut output, sink)),
-            Ok(Found::More) => match input.fill(source) {
-                Ok(count) => {
-                    if count == 0 {
-                        return Ok(at_end(&input));
-                    }
-                }
-                Err(ReadError::Failed) => return Ok(3),
-                Err(ReadError::TooMuch) => return Ok(7),
-                Err(ReadError::NoMemory) => return Err(NoMemory),
-                Err(ReadError::Unsent) => return Ok(4),
-            },
-            Err(error) => return Err(error),
+    match answer_all(alloc, &mut input, &mut output, source, sink, disk, clock) {
+        Ok(status) => Ok(status),
+        Err(error) => {
+            // What was answered before is written also where memory is refused.
+            let _ = output.flush(sink);
+            Err(error)
         }
     }
 }

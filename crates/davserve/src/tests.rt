@@ -246,3 +246,181 @@ fn words_are_understood_or_not(rt: HostRuntime) -> Result<(), Fail> {
     assert_eq!(rt; status_of(alloc, &["folder", "serve"])?, (0, false));
     Ok(())
 }
+
+/// How many bytes the streams move in a call, for how many the sink has room, and which call of the source fails, from
+/// 1. At 0 none fails.
+#[derive(Clone, Copy)]
+struct Streams {
+    source: usize,
+    sink: usize,
+    room: usize,
+    fails: u64,
+}
+
+// What a run over these streams came to.
+fn over(alloc: Global, streams: Streams, input: &[u8], wanted: &[u8]) -> Result<Came, NoMemory> {
+    let mut words = Vec::new(alloc);
+    words.push(String::from_str(alloc, "folder")?)?;
+    words.push(String::from_str(alloc, "serve")?)?;
+    let mut fail = Vec::new(alloc);
+    fail.push(streams.fails)?;
+    let mut disk = folder(alloc)?;
+    let mut source = MemSource::new(octets(alloc, &[input])?, streams.source.max(1), fail);
+    let mut sink = MemSink::new(alloc, streams.room, streams.sink.max(1), Vec::new(alloc))?;
+    let mut clock = SetClock::new(Moment(0));
+    let status = run(alloc, &words, &mut source, &mut sink, &mut disk, &mut clock)?;
+    if sink.written() == wanted {
+        return Ok(Came::Wanted(status));
+    }
+    Ok(Came::Other(status))
+}
+
+// Whether runs come to the same over streams of all sizes.
+fn at_all_sizes(
+    alloc: Global,
+    input: &[u8],
+    status: u8,
+    wanted: &[&[u8]],
+) -> Result<bool, NoMemory> {
+    let wanted = octets(alloc, wanted)?;
+    for source in [1, 2, 7, 100_000] {
+        for sink in [1, 3, 100_000] {
+            let streams = Streams {
+                source,
+                sink,
+                room: 100_000,
+                fails: 0,
+            };
+            if over(alloc, streams, input, wanted.as_slice())? != Came::Wanted(status) {
+                return Ok(false);
+            }
+        }
+    }
+    Ok(true)
+}
+
+// A request with so many fields.
+fn with_fields(alloc: Global, count: usize) -> Result<Octets, NoMemory> {
+    let mut all = octets(alloc, &[b"GET /f.txt HTTP/1.1\r\n"])?;
+    for _ in 0..count {
+        all.extend(b"A: b\r\n")?;
+    }
+    all.extend(b"\r\n")?;
+    Ok(all)
+}
+
+// A request whose head has so many bytes, at least 28.
+fn long_head(alloc: Global, count: usize) -> Result<Octets, NoMemory> {
+    let filler = repeated(alloc, b'x', count.saturating_sub(28))?;
+    octets(
+        alloc,
+        &[
+            b"GET /f.txt HTTP/1.1\r\nA: ",
+            filler.as_slice(),
+            b"\r\n\r\n",
+        ],
+    )
+}
+
+#[test]
+fn streams_of_all_sizes_come_to_the_same(rt: HostRuntime) -> Result<(), Fail> {
+    let alloc = rt.alloc();
+    assert!(rt; at_all_sizes(alloc, b"\r\n", 6, &[])?);
+    let old = b"GET /f.txt HTTP/1.0\r\nConnection: keep-alive\r\n\r\nGET /e.txt HTTP/1.0\r\n\r\n";
+    assert!(rt; at_all_sizes(alloc, old, 0, &[CLOSING, DIGITS])?);
+    let closing =
+        b"GET /e.txt HTTP/1.1\r\n\r\nGET /f.txt HTTP/1.1\r\nConnection: foo, CLOSE\r\n\r\nGET /e.txt HTTP/1.1\r\n\r\n";
+    assert!(rt; at_all_sizes(alloc, closing, 0, &[EMPTY, CLOSING, DIGITS])?);
+    let control = b"GET /e.txt HTTP/1.1\r\n\r\nGET /e.txt HTTP/1.1\r\nA: \x01\r\n\r\n";
+    assert!(rt; at_all_sizes(alloc, control, 6, &[EMPTY, BAD])?);
+    let target = b"GET /e.txt HTTP/1.1\r\n\r\nGET /a<b HTTP/1.1\r\n\r\n";
+    assert!(rt; at_all_sizes(alloc, target, 6, &[EMPTY, BAD])?);
+    Ok(())
+}
+
+// Whether a run over streams that move all bytes in a call comes to this.
+fn at_once(alloc: Global, input: &Octets, status: u8, wanted: &[&[u8]]) -> Result<bool, NoMemory> {
+    let streams = Streams {
+        source: 100_000,
+        sink: 100_000,
+        room: 100_000,
+        fails: 0,
+    };
+    let wanted = octets(alloc, wanted)?;
+    Ok(over(alloc, streams, input.as_slice(), wanted.as_slice())? == Came::Wanted(status))
+}
+
+#[test]
+fn heads_have_limits(rt: HostRuntime) -> Result<(), Fail> {
+    let alloc = rt.alloc();
+    assert!(rt; at_once(alloc, &with_fields(alloc, 256)?, 0, &[HEAD, DIGITS])?);
+    assert!(rt; at_once(alloc, &with_fields(alloc, 257)?, 6, &[BAD])?);
+    assert!(rt; at_once(alloc, &long_head(alloc, 65_536)?, 0, &[HEAD, DIGITS])?);
+    assert!(rt; at_once(alloc, &long_head(alloc, 65_537)?, 6, &[BAD])?);
+    Ok(())
+}
+
+const GET: &[u8] = b"GET /f.txt HTTP/1.1\r\n\r\n";
+
+// Whether nothing is written where a head is cut, at each byte of it.
+fn cuts_are_unfinished(alloc: Global) -> Result<bool, NoMemory> {
+    for count in 1..GET.len() {
+        let streams = Streams {
+            source: 100,
+            sink: 100,
+            room: 1_000,
+            fails: 0,
+        };
+        let (front, _) = GET.split_at(count);
+        if over(alloc, streams, front, b"")? != Came::Wanted(6) {
+            return Ok(false);
+        }
+    }
+    Ok(true)
+}
+
+// Whether the front of an answer is written for which the sink has room, for each room.
+fn rooms_are_filled(alloc: Global, whole: &[u8]) -> Result<bool, NoMemory> {
+    for room in 0..whole.len() {
+        let streams = Streams {
+            source: 100,
+            sink: 3,
+            room,
+            fails: 0,
+        };
+        let (front, _) = whole.split_at(room);
+        if over(alloc, streams, GET, front)? != Came::Wanted(4) {
+            return Ok(false);
+        }
+    }
+    Ok(true)
+}
+
+// Whether a source that gives a byte a call ends the run at each call that fails. The answer is written where the
+// request was whole.
+fn source_fails(alloc: Global, whole: &[u8]) -> Result<bool, NoMemory> {
+    for fails in 1..25 {
+        let streams = Streams {
+            source: 1,
+            sink: 100,
+            room: 1_000,
+            fails,
+        };
+        // The request has 23 bytes.
+        let wanted: &[u8] = if fails == 24 { whole } else { b"" };
+        if over(alloc, streams, GET, wanted)? != Came::Wanted(3) {
+            return Ok(false);
+        }
+    }
+    Ok(true)
+}
+
+#[test]
+fn cuts_and_faults_at_each_place(rt: HostRuntime) -> Result<(), Fail> {
+    let alloc = rt.alloc();
+    let whole = octets(alloc, &[HEAD, DIGITS])?;
+    assert!(rt; cuts_are_unfinished(alloc)?);
+    assert!(rt; rooms_are_filled(alloc, whole.as_slice())?);
+    assert!(rt; source_fails(alloc, whole.as_slice())?);
+    Ok(())
+}

@@ -1,8 +1,9 @@
 // Steps of the player, a few at a time.
-ghost use Rattle.std.specs.Prelude.{◌≡◌, ◌+◌, ◌<◌, ◌≤◌, ◌^◌, ◌∷◌, [], IfOk, OnOk, Ok};
+ghost use Rattle.std.specs.Prelude.{◌≡◌, ◌+◌, ◌<◌, ◌≤◌, ◌^◌, ◌∷◌, [], IfOk, OnOk, OnErr, Ok};
 ghost use Rattle.dav_handler.specs.Player.{playing_of, point_at};
 ghost use Rattle.dav_model.specs.Play.{Played};
 ghost use Rattle.dav_model.specs.Answered.{IsReply};
+ghost use Rattle.davserve.specs.Ends.{RefusedAt};
 ghost use Rattle.dav_model.specs.declared.step.Step.TheVariants.{Poll, Purge, Request as Asks, Turn};
 ghost use Rattle.dav_model.specs.declared.answer.Answer.TheVariants.{Done, Reply as Replied};
 
@@ -30,6 +31,7 @@ pub fn poll_turn<D: Disk>(
     ensures loan { D.loan player.new.store.disk ≡ D.loan player.old.store.disk }
     ensures replies { OnOk result (player.new.replies ≤ player.old.replies) }
     ensures played { IfOk result (λ a. Played (point_at player.old) (playing_of player.old) (Turn ∷ Poll body ∷ []) [] (Done ∷ a ∷ []) (Ok tt) (point_at player.new) (playing_of player.new)) }
+    ensures refused { OnErr result (RefusedAt (point_at player.old) (playing_of player.old) (Turn ∷ Poll body ∷ []) (point_at player.new) (playing_of player.new)) }
 {
     let mut answers = Vec::new(alloc);
     let steps = [Step::Turn, Step::Poll(body)];
@@ -54,6 +56,7 @@ pub fn request_turn<D: Disk>(
     ensures loan { D.loan player.new.store.disk ≡ D.loan player.old.store.disk }
     ensures replies { OnOk result (player.new.replies ≤ player.old.replies + 1) }
     ensures played { IfOk result (λ r. Played (point_at player.old) (playing_of player.old) (Turn ∷ Purge now ∷ Asks request now ∷ []) [] (Done ∷ Done ∷ Replied r.status r.headers r.body ∷ []) (Ok tt) (point_at player.new) (playing_of player.new)) }
+    ensures refused { OnErr result (RefusedAt (point_at player.old) (playing_of player.old) (Turn ∷ Purge now ∷ Asks request now ∷ []) (point_at player.new) (playing_of player.new)) }
 {
     let mut answers = Vec::new(alloc);
     let steps = [Step::Turn, Step::Purge(now), Step::Request { request, now }];

@@ -1,0 +1,216 @@
+-- With which status a run ends where no fault ends it.
+use Rattle.std.proofs.Common.{◌≡◌, ◌<◌, ◌≤◌, ◌+◌, ◌^◌, ◌++◌, ◌||◌, ◌⊎◌, ℕ, zero, suc, List, [], ◌∷◌, Bool, true, false, IsTrue, Option, Some, None, length, get_or, sym, ap, subst, ◌∙◌, refl, inl, inr, arith, append-nil, length-append, true≢false, Result, Ok, Err, IfOk}
+use Rattle.std.specs.List.{AllByRecursion}
+use Rattle.std.proofs.lemmas.Str.{IsUtf8-from_ascii}
+use Rattle.httparse.specs.Grammar.{is_token_byte, is_uri_byte, lf, RequestHead, IsRequestHead, print_request, ReadsRequest}
+use Rattle.dav_io.specs.Counts.{Rose, RefusedNothing}
+use Rattle.dav_io.specs.Told.{Both, told_after}
+use Rattle.dav_io.specs.Outside.{Stream}
+use Rattle.dav_io.specs.declared.clock.Moment.{Moment}
+use Rattle.dav_io.specs.declared.failure.NoMemory.{NoMemory}
+use Rattle.dav_model.specs.Trail.{Point}
+use Rattle.http.specs.Request.{head_of}
+use Rattle.dav_wire.specs.Answers.{has_close_field}
+use Rattle.dav_wire.specs.Requests.{IsRequest, Requests, Refusal, never, long, many, target, HasNone}
+use Rattle.dav_wire.proofs.RequestLemmas.{request_is_one, refusal_has_none, unfinished_none, requests_are_one, end_has_none}
+use Rattle.davserve.specs.Exchange.{Exchange, is_closed}
+use Rattle.davserve.specs.Serving.{Chain, Alike, IsOpen, Follow, TookBytes, ServedAll, ServedClosing, ServedRefusing, ServedUnfinished, ServeEnds}
+use Rattle.davserve.specs.Completing.{Faultless, Closes, StayOpen, AsksClosing, IsLeft, IsValid, IsInvalid, IsStopped, StatusIs}
+use Rattle.davserve.proofs.Served.{head_some}
+
+-- the shortest head of the grammar
+shortest : RequestHead
+shortest = record { blank = []; method = 65 ∷ []; target = 47 ∷ []; minor = 1; line_end = lf; fields = []; last = lf }
+
+token_at : (k d : ℕ) → k < 1 → IsTrue (is_token_byte (get_or (65 ∷ []) k d))
+unfolding is_token_byte
+token_at zero d l = refl
+token_at (suc k) d l = absurd (omega arith)
+
+uri_at : (k d : ℕ) → k < 1 → IsTrue (is_uri_byte (get_or (47 ∷ []) k d))
+uri_at zero d l = refl
+uri_at (suc k) d l = absurd (omega arith)
+
+slash_at : (k : ℕ) → get_or (47 ∷ []) k 0 < 128
+slash_at zero = omega arith
+slash_at (suc k) = omega arith
+
+shortest_is : IsRequestHead shortest
+unfolding shortest
+shortest_is = record {
+  method = (omega arith, token_at);
+  target = (omega arith, uri_at);
+  target_text = IsUtf8-from_ascii (47 ∷ []) slash_at;
+  minor = omega arith;
+  fields = λ k d l. absurd (omega arith);
+}
+
+shortest_reads : ReadsRequest ([] ++ print_request shortest) shortest []
+shortest_reads = (shortest_is, sym (append-nil (print_request shortest)))
+
+fieldless : length shortest.fields ≡ 0
+unfolding shortest
+fieldless = refl
+
+-- where nothing stands, nothing is refused
+nothing_refused : (left : List ℕ) → left ≡ [] → Refusal left → ⊥
+nothing_refused left e (never none) =
+    none (print_request shortest) shortest [] (subst (λ z. ReadsRequest (z ++ print_request shortest) shortest []) (sym e) shortest_reads)
+nothing_refused left e (long past none) = let l = ap (length {A = ℕ}) e in absurd (omega arith)
+nothing_refused left e (many exceeds overflows) =
+    let more = overflows (print_request shortest) shortest [] (subst (λ z. ReadsRequest (z ++ print_request shortest) shortest []) (sym e) shortest_reads) in
+    let few = fieldless in
+    absurd (omega arith)
+nothing_refused left e (target head rest reads none) =
+    let some = head_some head reads.0 in
+    let whole = ap (length {A = ℕ}) (sym e ∙ reads.1) ∙ length-append (print_request head) rest in
+    absurd (omega arith)
+
+-- the requests up to where none stands begin with any others
+compare : (a rest left : List ℕ) (heads others : List RequestHead) → Requests a heads rest → Requests a others left → HasNone left
+    → (more : List RequestHead) × (others ≡ heads ++ more) × Requests rest more left
+compare a rest left [] others first second none = (others, refl, subst (λ z. Requests z others left) (sym first) second)
+compare a rest left (head ∷ heads) [] (after, is, later) second none = absurd (none head after (subst (λ z. IsRequest z head after) (sym second) is))
+compare a rest left (head ∷ heads) (other ∷ others) (after, is, later) (behind, stands, further) none =
+    let same = request_is_one a head other after behind is stands in
+    let found = compare behind rest left heads others (subst (λ z. Requests z heads rest) same.1 later) further none in
+    (found.0, ap (λ z. z ∷ others) (sym same.0) ∙ ap (λ z. head ∷ z) found.1, found.2)
+
+-- the exchanges of the first requests
+record Front (shown : Option Moment) (s : Point) (heads : List RequestHead) : Type 0 where
+  exchanges : List Exchange
+  last : Point
+  played : Chain s exchanges last
+  alike : Alike shown heads exchanges
+  are_open : AllByRecursion IsOpen exchanges
+
+front_of : (shown : Option Moment) (s t : Point) (heads more : List RequestHead) (xs : List Exchange) → Chain s xs t → Alike shown (heads ++ more) xs → AllByRecursion IsOpen xs
+    → Front shown s heads
+front_of shown s t [] more xs chain alike o = record { exchanges = []; last = s; played = refl; alike = tt; are_open = tt }
+front_of shown s t (head ∷ heads) more [] chain alike o = absurd alike
+front_of shown s t (head ∷ heads) more (x ∷ xs) (m, q, played, chain) (is, alike) (first, others) =
+    let f = front_of shown m t heads more xs chain alike others in
+    record { exchanges = x ∷ f.exchanges; last = f.last; played = (m, q, played, f.played); alike = (is, f.alike); are_open = (first, f.are_open) }
+
+nothing_more : (rest left : List ℕ) (more : List RequestHead) → rest ≡ [] → Requests rest more left → left ≡ []
+nothing_more rest left [] e r = r ∙ e
+nothing_more rest left (head ∷ more) e (after, is, later) = absurd (end_has_none head after (subst (λ z. IsRequest z head after) e is))
+
+-- a valid input has no place where no request stands
+no_place : (shown : Option Moment) (s t : Point) (a rest left : List ℕ) (heads others : List RequestHead) (xs : List Exchange) → Requests a heads rest → (rest ≡ []) ⊎ Closes shown s heads
+    → Requests a others left → HasNone left → (left ≡ [] → ⊥) → Chain s xs t → Alike shown others xs → AllByRecursion IsOpen xs → ⊥
+no_place shown s t a rest left heads others xs first (inl over) second none some chain alike o =
+    let c = compare a rest left heads others first second none in
+    some (nothing_more rest left c.0 over c.2)
+no_place shown s t a rest left heads others xs first (inr closes) second none some chain alike o =
+    let c = compare a rest left heads others first second none in
+    let f = front_of shown s t heads c.0 xs chain (subst (λ z. Alike shown z xs) c.1 alike) o in
+    closes f.exchanges f.last f.played f.alike f.are_open
+
+both_and : {A : Type 0} (old new : Option A) (P Q : A → A → Type 0) → Both old new P → Both old new Q → Both old new (λ a b. P a b × Q a b)
+both_and None None P Q p q = tt
+both_and None (Some b) P Q p q = absurd p
+both_and (Some a) None P Q p q = absurd p
+both_and (Some a) (Some b) P Q p q = (p, q)
+
+some_left : (held b : List ℕ) → 0 < length held → held ++ b ≡ [] → ⊥
+some_left held b some e =
+    let whole = sym (length-append held b) ∙ ap (length {A = ℕ}) e in
+    absurd (omega arith)
+
+closed_by : (closing other : Bool) → IsTrue closing → closing || other ≡ false → ⊥
+closed_by true other t e = absurd (true≢false e)
+closed_by false other t e = absurd (true≢false (sym t))
+
+-- a request that asks for it closes
+asked_closes : (shown : Option Moment) (s : Point) (heads : List RequestHead) (last : RequestHead) → AsksClosing last → Closes shown s (heads ++ last ∷ [])
+asked_closes shown s [] last asks [] m chain alike o = absurd alike
+asked_closes shown s [] last asks (x ∷ xs) m chain (is, alike) o = closed_by x.closing (has_close_field x.fields) (is.closing.1 (asks (head_of x.request) is.parts)) o.0
+asked_closes shown s (head ∷ heads) last asks [] m chain alike o = absurd alike
+asked_closes shown s (head ∷ heads) last asks (x ∷ xs) m (n, q, played, chain) (is, alike) o = asked_closes shown n heads last asks xs m chain alike o.1
+
+left_valid : (shown : Option Moment) (s : Point) (a : List ℕ) → IsLeft a → IsValid shown s a
+left_valid shown s a left = record { heads = left.heads ++ left.last ∷ []; rest = left.rest; requests = left.requests; ends = inr (asked_closes shown s left.heads left.last left.asks) }
+
+module _ (shown : Option Moment) (input source : Stream) (s : Point) (old new : Stream) (t : Point) (a : List ℕ) (told : input.bytes ≡ Some a) where
+  valid_not_refused : IsValid shown s a → ServedRefusing shown input source s old new t → ⊥
+  valid_not_refused valid v =
+      let both = told_after input.bytes source.bytes _ a (both_and input.bytes source.bytes _ _ v.serving.requests v.refused) told in
+      let left = v.held ++ both.0 in
+      no_place shown s t a valid.rest left valid.heads v.serving.heads v.exchanges valid.requests valid.ends both.2.0
+      (subst HasNone (append-nil left) (refusal_has_none left [] both.2.1)) (λ e. nothing_refused left e both.2.1) v.serving.played v.serving.alike v.serving.follow
+
+  valid_not_unfinished : IsValid shown s a → ServedUnfinished shown input source s old new t → ⊥
+  valid_not_unfinished valid v =
+      let both = told_after input.bytes source.bytes _ a (both_and input.bytes source.bytes _ _ v.serving.requests v.over) told in
+      let left = v.held ++ both.0 in
+      let same : left ≡ v.held = ap (λ z. v.held ++ z) both.2.1 ∙ append-nil v.held in
+      no_place shown s t a valid.rest left valid.heads v.serving.heads v.exchanges valid.requests valid.ends both.2.0
+      (subst HasNone (sym same) (unfinished_none v.held v.unfinished)) (some_left v.held both.0 v.unfinished.some) v.serving.played v.serving.alike v.serving.follow
+
+  invalid_not_all : IsInvalid shown s a → ServedAll shown input source s old new t → ⊥
+  invalid_not_all invalid v =
+      let both = told_after input.bytes source.bytes _ a (both_and input.bytes source.bytes _ _ v.serving.requests v.over) told in
+      let ends : Requests a v.serving.heads [] = subst (λ z. Requests a v.serving.heads z) both.2.1 both.2.0 in
+      let same = requests_are_one a invalid.rest [] invalid.heads v.serving.heads invalid.requests invalid.none ends end_has_none in
+      let l = ap (length {A = ℕ}) same.1 in
+      let some = invalid.some in
+      absurd (omega arith)
+
+  last_open : (ys : List Exchange) (y : Exchange) → AllByRecursion IsOpen (ys ++ y ∷ []) → is_closed y ≡ false
+  last_open [] y o = o.0
+  last_open (x ∷ ys) y o = last_open ys y o.1
+
+  invalid_not_closing : IsInvalid shown s a → ServedClosing shown input source s old new t → ⊥
+  invalid_not_closing invalid v =
+      let both = told_after input.bytes source.bytes _ a v.serving.requests told in
+      let c = compare a (v.held ++ both.0) invalid.rest v.serving.heads invalid.heads both.2 invalid.requests invalid.none in
+      let o = invalid.stay v.serving.heads c.0 c.1 v.exchanges t v.serving.played v.serving.alike in
+      let (ys, y, are, others, closed) = v.serving.follow in
+      absurd (true≢false (sym closed ∙ last_open ys y (subst (λ z. AllByRecursion IsOpen z) are o)))
+
+well_not_rose : (n m : ℕ) → RefusedNothing n m → Rose n m → ⊥
+well_not_rose n m w (inl less) = let e = w.same in absurd (omega arith)
+well_not_rose n m w (inr most) = let e = w.room in absurd (omega arith)
+
+module _ (shown : Option Moment) (input source : Stream) (s : Point) (old new : Stream) (status : ℕ) (t : Point) (ends : ServeEnds shown input source s old new status t) where
+  valid_is : (a : List ℕ) → input.bytes ≡ Some a → IsValid shown s a
+      → (status ≡ 0) ⊎ ((status ≡ 3) ⊎ ((status ≡ 4) ⊎ ((status ≡ 5) ⊎ ((status ≡ 6) ⊎ (status ≡ 7))))) → (status ≡ 0) ⊎ IsStopped status
+  valid_is a told valid (inl zero') = inl zero'
+  valid_is a told valid (inr (inl three)) = inr (inl three)
+  valid_is a told valid (inr (inr (inl four))) = inr (inr (inl four))
+  valid_is a told valid (inr (inr (inr (inl five)))) = inr (inr (inr (inl five)))
+  valid_is a told valid (inr (inr (inr (inr (inr seven))))) = inr (inr (inr (inr seven)))
+  valid_is a told valid (inr (inr (inr (inr (inl six))))) = elim (ends.invalid six) [
+    | inl v ↦ absurd (valid_not_refused shown input source s old new t a told valid v)
+    | inr v ↦ absurd (valid_not_unfinished shown input source s old new t a told valid v)
+  ]
+
+  invalid_is : (a : List ℕ) → input.bytes ≡ Some a → IsInvalid shown s a
+      → (status ≡ 0) ⊎ ((status ≡ 3) ⊎ ((status ≡ 4) ⊎ ((status ≡ 5) ⊎ ((status ≡ 6) ⊎ (status ≡ 7))))) → (status ≡ 6) ⊎ IsStopped status
+  invalid_is a told invalid (inr (inl three)) = inr (inl three)
+  invalid_is a told invalid (inr (inr (inl four))) = inr (inr (inl four))
+  invalid_is a told invalid (inr (inr (inr (inl five)))) = inr (inr (inr (inl five)))
+  invalid_is a told invalid (inr (inr (inr (inr (inl six))))) = inl six
+  invalid_is a told invalid (inr (inr (inr (inr (inr seven))))) = inr (inr (inr (inr seven)))
+  invalid_is a told invalid (inl none) = elim (ends.done none) [
+    | inl v ↦ absurd (invalid_not_all shown input source s old new t a told invalid v)
+    | inr v ↦ absurd (invalid_not_closing shown input source s old new t a told invalid v)
+  ]
+
+  goes_on : (a : List ℕ) → input.bytes ≡ Some a → length a < 2 ^ 60 → Faultless input source s old new t → IsStopped status → ⊥
+  goes_on a told few well (inl three) = well_not_rose input.faults source.faults well.by_source (ends.source_failed three).0
+  goes_on a told few well (inr (inl four)) = well_not_rose old.faults new.faults well.by_sink (ends.sink_failed four).0
+  goes_on a told few well (inr (inr (inl five))) = well_not_rose s.faults t.faults well.by_disk (ends.disk_failed five).0
+  goes_on a told few well (inr (inr (inr seven))) =
+      let took = told_after input.bytes source.bytes (λ x y. length x ≡ 2 ^ 60 + length y) a (ends.too_much seven).0 told in
+      let n = took.2 in
+      absurd (omega arith)
+
+  pub status_is : StatusIs shown input source s old new status t
+  status_is = record { valid = λ a told v. valid_is a told v ends.only; left = λ a told v. valid_is a told (left_valid shown s a v) ends.only; invalid = λ a told v. invalid_is a told v ends.only; goes_on = goes_on }
+
+pub completes : (shown : Option Moment) (input source : Stream) (s : Point) (old new : Stream) (t : Point) (result : Result ℕ NoMemory)
+    → IfOk result (λ status. ServeEnds shown input source s old new status t) → IfOk result (λ status. StatusIs shown input source s old new status t)
+completes shown input source s old new t (Err e) ends = tt
+completes shown input source s old new t (Ok status) ends = status_is shown input source s old new status t ends
