@@ -95,6 +95,7 @@ Redirects s (Err e) t f = Spoiled {T = Option (List ℕ)} s (Err e) t
 pub record FileRedirects (s : DiskState) (seen : Option Seen) (result : Result (Option (List ℕ)) FsError) (t : DiskState) (after : Option Seen) : Type 0 where
   pub keeps : Keeps s t
   pub same : after ≡ seen
+  pub refused : OnErr result (Spoiled s result t)
   pub printable : IfOk result (λ address. IfSome address (λ text. list_all is_printable text ≡ true))
   pub told : IfSome seen (Redirects s result t)
 
