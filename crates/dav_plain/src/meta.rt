@@ -1,6 +1,6 @@
 ghost use Rattle.std.specs.Prelude.{codes};
 ghost use Rattle.dav_core.specs.DavPath.{is_in_home};
-ghost use Rattle.dav_core.specs.Info.{info_of};
+ghost use Rattle.dav_core.specs.Info.{info_of, info_in_years};
 
 use dav_core::{DavMetaData, DavPath, FileTime, FsError, Meta};
 use dav_io::{NoMemory, Text};
@@ -68,4 +68,6 @@ impl DavMetaData for PlainMeta {
     fn has_tag(&self, tag: &[u8]) -> bool {
         self.0.has_tag(tag)
     }
+
+    ghost in_years = { λ m. info_in_years m.0 };
 }
