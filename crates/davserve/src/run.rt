@@ -15,6 +15,9 @@ use std::alloc::Global;
 /// its end, or to a request whose answer closes; 2 where the words are not understood, and then nothing is read or
 /// written; 3, 4 and 5 where the source, the sink or the disk failed; 6 where the input has no valid request at its
 /// place; 7 where 2^60 bytes were taken.
+///
+/// What the sink gets is told for each status (`serves`) and for want of memory (`memory`), and the status by the input
+/// where no fault ends the run (`complete`).
 pub fn run<S: Source, K: Sink, D: Disk, C: Clock>(
     alloc: Global,
     words: &[String],
