@@ -1,5 +1,5 @@
 -- A body at its end stays there.
-use Rattle.std.proofs.Common.{◌≡◌, ℕ, List, [], ◌∷◌, Bool, true, false, Option, None, Some, Result, Ok, Err, refl, sym, ◌∙◌, ap}
+use Rattle.std.proofs.Common.{◌≡◌, ℕ, List, [], ◌∷◌, Bool, true, false, Option, None, Some, Result, sym, ◌∙◌, ap}
 use Rattle.std.specs.List.{AllByRecursion}
 use Rattle.dav_body.specs.declared.stream.AsyncStream.{AsyncStream}
 use Rattle.dav_body.specs.declared.body.BodyType.{BodyType}

@@ -1,8 +1,8 @@
 -- Answers as frames.
-use Rattle.std.proofs.Common.{◌≡◌, List, [], ◌∷◌, map, Option, None, Some, Result, Ok, Err, refl, sym, ◌∙◌}
+use Rattle.std.proofs.Common.{◌≡◌, [], ◌∷◌, Option, None, Some, Result, refl}
 use Rattle.std.specs.Option.{option_map}
 use Rattle.http_body.specs.declared.frame.Frame.{Frame}
-use Rattle.futures.specs.Runs.{Runs, After}
+use Rattle.futures.specs.Runs.{After}
 use Rattle.std.specs.Prelude.{IfSome}
 use Rattle.dav_body.specs.Frames.{MayGive, framed, Framed}
 
