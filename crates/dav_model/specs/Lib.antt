@@ -1,4 +1,5 @@
 pub mod Sizes
+pub mod Unset
 pub mod Bodies
 pub mod Times
 pub mod Requests

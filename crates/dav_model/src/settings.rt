@@ -1,8 +1,8 @@
-ghost use Rattle.std.specs.Prelude.{◌≡◌, ◌<◌, IfOk, [], None};
+ghost use Rattle.std.specs.Prelude.{◌≡◌, ◌<◌};
 ghost use Rattle.dav_model.specs.Sizes.{read_size_of};
 
 use dav_core::DavMethodSet;
-use dav_io::{NoMemory, Text};
+use dav_io::Text;
 use std::alloc::Global;
 
 /// What the owner of a server may set. What isn't set has its default.
@@ -26,12 +26,11 @@ pub struct Settings {
 }
 
 impl Settings {
+    ghost use Rattle.dav_model.specs.Unset.{nothing_set};
+
     /// Nothing is set.
     pub fn defaults(alloc: Global) -> Settings
-        ensures prefix { result.prefix ≡ [] }
-        ensures read { result.read_buf_size ≡ None }
-        ensures autoindex { result.autoindex ≡ None }
-        ensures redirect { result.redirect ≡ None }
+        ensures { result ≡ nothing_set }
     {
         Settings {
             prefix: Text::new(String::new(alloc)),
