@@ -11,3 +11,6 @@ pub use dav_model::{Answer, Settings, Step};
 pub use dav_plain::PlainFs;
 pub use player::Player;
 pub use playing::play;
+
+#[cfg(test)]
+mod tests;
