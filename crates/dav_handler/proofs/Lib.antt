@@ -1,5 +1,6 @@
-pub mod Dates
-pub mod Finding
-pub mod Refusing
+pub mod Frames
 pub mod Upkeep
+pub mod Polling
+pub mod Tracing
+pub mod Answering
 pub mod Stepping

@@ -1,164 +1,136 @@
 -- From what a call of the player did to the clause of its step.
-use Rattle.std.proofs.Common.{◌≡◌, ◌≤◌, ◌<◌, ◌+◌, ◌-◌, ◌==◌, ℕ, Bool, true, false, cond, List, [], ◌∷◌, length, take, Option, None, Some, Ok, Err, refl, sym, ap, subst, ◌∙◌, ◌⊎◌, inl, inr, arith}
-use Rattle.std.proofs.lemmas.Bool.Decides.{nat_tests}
-use Rattle.std.proofs.lemmas.List.{length-take-le}
+use Rattle.std.proofs.Common.{◌≡◌, ◌≤◌, ◌+◌, ◌==◌, ℕ, List, [], ◌∷◌, Option, None, Some, Result, Ok, Err, refl, sym, ap, subst, ◌∙◌, ◌⊎◌, arith}
 use Rattle.dav_io.specs.Counts.{Rose}
-use Rattle.dav_io.specs.Told.{Both}
+use Rattle.dav_io.specs.Told.{Both, both_map}
 use Rattle.dav_io.specs.declared.clock.Moment.{Moment}
-use Rattle.dav_core.specs.World.{put}
-use Rattle.dav_core.specs.Disk.{DiskState}
-use Rattle.dav_core.specs.Keeps.{Keeps, KeepsBut, SameBesidesOpens, keeps_same, closes_keep}
+use Rattle.dav_io.specs.declared.failure.NoMemory.{NoMemory}
+use Rattle.dav_core.specs.World.{World, put}
+use Rattle.dav_core.specs.Changes.{turned}
+use Rattle.dav_core.specs.Disk.{DiskState, Turns, TurnedIn}
+use Rattle.dav_core.specs.Keeps.{Keeps, SameBesidesOpens, keeps_same, same_besides}
+use Rattle.dav_model.specs.declared.settings.Settings.{Settings}
 use Rattle.dav_model.specs.declared.target.Target.{Target}
-use Rattle.dav_model.specs.declared.step.Step.TheVariants.{Request, Poll, Abandon}
-use Rattle.dav_model.specs.declared.answer.Answer.TheVariants.{Reply as Replied, Piece, End, Broken, Done}
-use Rattle.dav_model.specs.Requests.{Asked, gates}
-use Rattle.dav_model.specs.Bodies.{Part, slice, Playing, moved, PieceOf, standing_from, Polls}
-use Rattle.dav_model.specs.Head.{failure, IsReplyTo}
+use Rattle.dav_model.specs.declared.step.Step.TheVariants.{Request, Poll, Abandon, Turn}
+use Rattle.dav_model.specs.declared.answer.Answer.TheVariants.{Reply as Replied, End, Done}
+use Rattle.dav_model.specs.Requests.{Asked, fields_of, gates}
+use Rattle.dav_model.specs.Bodies.{Part, Playing, Polls}
+use Rattle.dav_model.specs.Head.{IsReplyTo, IsSpoiledTo}
+use Rattle.dav_model.specs.Sizes.{read_size_of}
 use Rattle.dav_model.specs.Trail.{Point, point_of, Goes}
 use Rattle.dav_model.specs.Play.{Valid, Gated, Replies, Stepped}
-use Rattle.dav_handler.specs.declared.body.FileBody.{FileBody}
-use Rattle.dav_handler.specs.declared.body.Found.{Found}
-use Rattle.dav_handler.specs.Held.{parts_of, left_of, moved_on, ClosesBody}
-use Rattle.dav_handler.specs.Found.{reply_of, HoldsOnly, Answers, TakesPiece}
-use Rattle.dav_handler.proofs.Upkeep.{left_put, left_none}
+use Rattle.dav_plain.specs.declared.file.PlainFile.{PlainFile}
+use Rattle.dav_get.specs.declared.open_at.OpenAt.{OpenAt}
+use Rattle.dav_get.specs.Bodies.{Closes}
+use Rattle.dav_handler.specs.declared.found.Found.{Found}
+use Rattle.dav_handler.specs.Found.{Answers, HoldsOnly, OpensOnly, reply_of}
+use Rattle.dav_handler.specs.Held.{Body, ClosesBody, IsPlaying, handle_of, left_in, parts_in}
+use Rattle.dav_handler.proofs.Upkeep.{OthersStay, closes_others, gone_leave, held_undone, holds_every, left_all, left_none, left_put, turn_every}
+use Rattle.dav_handler.proofs.Polling.{stay_counts, stay_world}
 
-abbrev playing : ℕ → (ℕ → List Part) → Playing
-playing replies left = record { replies = replies; left = left }
+abbrev playing : Settings → ℕ → (ℕ → List Part) → Playing
+playing settings replies left = record { settings = settings; replies = replies; left = left }
 
-goes_keep : (s t : DiskState) (request : Asked) (now : Moment) → s.faults ≤ t.faults → Both s.told t.told SameBesidesOpens → Goes (Request request now) (point_of s) (point_of t)
-goes_keep s t request now counts world = record { counts = counts; world = world }
+opens_counts : (s t : DiskState) (file : Option (OpenAt PlainFile)) → OpensOnly s file t → s.faults ≤ t.faults
+opens_counts s t None keeps = keeps.counts
+opens_counts s t (Some h) opens = opens.0.counts
 
-counts_only : (s t : DiskState) (body : Option FileBody) → HoldsOnly s body t → s.faults ≤ t.faults
-counts_only s t None keeps = keeps.counts
-counts_only s t (Some b) (keeps, none, held) = keeps.counts
+opens_world : (s t : DiskState) (file : Option (OpenAt PlainFile)) → OpensOnly s file t → Both s.told t.told SameBesidesOpens
+opens_world s t None keeps = keeps.world
+opens_world s t (Some h) opens = opens.0.world
 
-world_only : (s t : DiskState) (body : Option FileBody) → HoldsOnly s body t → Both s.told t.told SameBesidesOpens
-world_only s t None keeps = keeps.world
-world_only s t (Some b) (keeps, none, held) = keeps.world
+counts_only : (most : ℕ) (s t : DiskState) (body : Option Body) → HoldsOnly most s body t → s.faults ≤ t.faults
+counts_only most s t None keeps = keeps.counts
+counts_only most s t (Some b) holds = opens_counts s t b.file holds.0
+
+world_only : (most : ℕ) (s t : DiskState) (body : Option Body) → HoldsOnly most s body t → Both s.told t.told SameBesidesOpens
+world_only most s t None keeps = keeps.world
+world_only most s t (Some b) holds = opens_world s t b.file holds.0
 
 -- what was found is what the request asks for
-pub replies_as : (s t : DiskState) (request : Asked) (target : Target) (found : Found) → target ≡ gates request → Answers s target found t
-    → Replies (Valid (point_of s) (point_of t ∷ [])) (point_of s) (point_of t) request (reply_of found)
-replies_as s t request target found e answers = record {
-  gated = subst (λ x. Gated x (reply_of found)) e answers.gated;
-  failed = answers.failed;
-  right = λ valid w told. subst (λ x. IsReplyTo w x (reply_of found) ⊎ ((reply_of found ≡ failure) × Rose s.faults t.faults)) e (answers.right valid.first w told);
-}
+replies_as : (settings : Settings) (s t : DiskState) (request : Asked) (found : Found) → Answers settings s (fields_of request) (gates request) found t
+    → Replies (Valid (point_of s) (point_of t ∷ [])) settings (point_of s) (point_of t) request (reply_of t found)
+replies_as settings s t request found answers = record { gated = answers.gated; failed = answers.failed; right = λ valid w told. answers.right valid.first w told }
 
 -- a reply
-pub replied : (s t : DiskState) (request : Asked) (now : Moment) (target : Target) (found : Found) (replies : ℕ) (left after : ℕ → List Part) → target ≡ gates request
-    → Answers s target found t → after ≡ put replies (parts_of found.body) left
-    → Stepped (point_of s) (playing replies left) (Request request now) (Ok (Replied found.status found.headers replies)) (point_of t) (playing (replies + 1) after)
-replied s t request now target found replies left after e answers is = (
-  goes_keep s t request now (counts_only s t found.body answers.holds) (world_only s t found.body answers.holds),
-  (reply_of found, refl, ap (playing (replies + 1)) is, replies_as s t request target found e answers),
+pub replied : (settings : Settings) (s t : DiskState) (request : Asked) (now : Moment) (found : Found) (replies : ℕ) (left after : ℕ → List Part)
+    → Answers settings s (fields_of request) (gates request) found t → after ≡ put replies (parts_in t found.body) left
+    → Stepped (point_of s) (playing settings replies left) (Request request now) (Ok (Replied found.outcome.status found.outcome.fields replies)) (point_of t) (playing settings (replies + 1) after)
+replied settings s t request now found replies left after answers is = (
+  record { counts = counts_only (read_size_of settings.read_buf_size) s t found.body answers.holds; world = world_only (read_size_of settings.read_buf_size) s t found.body answers.holds },
+  (reply_of t found, refl, ap (playing settings (replies + 1)) is, replies_as settings s t request found answers),
 )
 
+-- what is left after an answer without a body
+pub left_replied : (most : ℕ) (s t : DiskState) (at : ℕ → Option Body) (k replies : ℕ) (body : Option Body) → HoldsOnly most s body t → IsPlaying most s at replies → body ≡ None → at k ≡ None
+    → left_in t at ≡ put k (parts_in t body) (left_in s at)
+left_replied most s t at k replies body holds p e none =
+    left_all s t at (holds_every most s t body at replies holds p) ∙ left_none s k at none ∙ ap (λ x. put k x (left_in s at)) (sym (ap (parts_in t) e))
+
+-- and after one with a body
+pub left_joined : (most : ℕ) (s t : DiskState) (at new : ℕ → Option Body) (k replies : ℕ) (body : Option Body) (o : Body) → HoldsOnly most s body t → IsPlaying most s at replies → body ≡ Some o
+    → new ≡ put k (Some o) at → left_in t new ≡ put k (parts_in t body) (left_in s at)
+left_joined most s t at new k replies body o holds p e is =
+    ap (left_in t) is ∙ left_put s t at k (Some o) (λ n b ne there. holds_every most s t body at replies holds p n b there) ∙ ap (λ x. put k x (left_in s at)) (sym (ap (parts_in t) e))
+
 -- a request that was refused memory
-pub refused : (s t : DiskState) (request : Asked) (now : Moment) (replies : ℕ) (left after : ℕ → List Part) (e : _) → Keeps s t → after ≡ left
-    → Stepped (point_of s) (playing replies left) (Request request now) (Err e) (point_of t) (playing replies after)
-refused s t request now replies left after e keeps is = (record { counts = keeps.counts; world = keeps.world }, ap (playing replies) is)
+pub refused : (settings : Settings) (s t : DiskState) (request : Asked) (now : Moment) (replies : ℕ) (at : ℕ → Option Body) (e : _) → Keeps s t → IsPlaying (read_size_of settings.read_buf_size) s at replies
+    → Stepped (point_of s) (playing settings replies (left_in s at)) (Request request now) (Err e) (point_of t) (playing settings replies (left_in t at))
+refused settings s t request now replies at e keeps p =
+    (record { counts = keeps.counts; world = keeps.world }, ap (playing settings replies) (left_all s t at (holds_every (read_size_of settings.read_buf_size) s t None at replies keeps p)))
 
-closed_counts : (s t : DiskState) (o : Option FileBody) → ClosesBody o s t → s.faults ≤ t.faults
+closed_counts : (s t : DiskState) (o : Option Body) → ClosesBody o s t → s.faults ≤ t.faults
 closed_counts s t None e = rw e (omega arith)
-closed_counts s t (Some b) c = rw c.counts (omega arith)
+closed_counts s t (Some b) c = stay_counts s t b.file (closes_others s t b.file c)
 
-closed_world : (s t : DiskState) (o : Option FileBody) → ClosesBody o s t → Both s.told t.told SameBesidesOpens
+closed_world : (s t : DiskState) (o : Option Body) → ClosesBody o s t → Both s.told t.told SameBesidesOpens
 closed_world s t None e = subst (λ x. Both s.told x.told SameBesidesOpens) (sym e) (keeps_same s).world
-closed_world s t (Some b) c = (closes_keep s b.file.0 t c).world
+closed_world s t (Some b) c = stay_world s t b.file (closes_others s t b.file c)
 
 -- a body was abandoned
-pub abandoned : (s t : DiskState) (at new : ℕ → Option FileBody) (replies body : ℕ) → ClosesBody (at body) s t → new ≡ put body None at
-    → Stepped (point_of s) (playing replies (left_of at)) (Abandon body) (Ok Done) (point_of t) (playing replies (left_of new))
-abandoned s t at new replies body closes is = (
+pub abandoned : (settings : Settings) (s t : DiskState) (at new : ℕ → Option Body) (replies body : ℕ) → IsPlaying (read_size_of settings.read_buf_size) s at replies → ClosesBody (at body) s t → new ≡ put body None at
+    → Stepped (point_of s) (playing settings replies (left_in s at)) (Abandon body) (Ok Done) (point_of t) (playing settings replies (left_in t new))
+abandoned settings s t at new replies body p closes is = (
   record { counts = closed_counts s t (at body) closes; world = closed_world s t (at body) closes },
-  (refl, ap (playing replies) (ap left_of is ∙ left_put body None at)),
+  (refl, ap (playing settings replies) (ap (left_in t) is ∙ left_put s t at body None (gone_leave (read_size_of settings.read_buf_size) s t at replies body (at body) p refl closes))),
 )
 
 -- an ended body was polled
-pub polled_end : (s : DiskState) (at : ℕ → Option FileBody) (replies body : ℕ) → at body ≡ None
-    → Stepped (point_of s) (playing replies (left_of at)) (Poll body) (Ok End) (point_of s) (playing replies (left_of at))
-polled_end s at replies body none = (
+pub polled_end : (settings : Settings) (s : DiskState) (at : ℕ → Option Body) (replies body : ℕ) → at body ≡ None
+    → Stepped (point_of s) (playing settings replies (left_in s at)) (Poll body) (Ok End) (point_of s) (playing settings replies (left_in s at))
+polled_end settings s at replies body none = (
   record { counts = omega arith; world = (keeps_same s).world },
-  ([], ap (playing replies) (left_none body at none), subst (λ x. Polls s.told s.whole s.faults s.faults (parts_of x) End []) (sym none) (refl, refl)),
+  (
+    [],
+    ap (playing settings replies) (left_none s body at none),
+    subst (λ x. Polls s.told s.whole (read_size_of settings.read_buf_size) s.faults s.faults (parts_in s x) End []) (sym none) (refl, refl),
+  ),
 )
 
-polls_at : (s : Point) (faults : ℕ) (at : ℕ → Option FileBody) (body : ℕ) (b : FileBody) (answer : _) (rest : List Part) → at body ≡ Some b
-    → Polls s.told s.whole s.faults faults (slice b.number b.start b.count ∷ []) answer rest → Polls s.told s.whole s.faults faults (left_of at body) answer rest
-polls_at s faults at body b answer rest e polls = subst (λ x. Polls s.told s.whole s.faults faults (parts_of x) answer rest) (sym e) polls
+same_world : {E : Type 0} (x : E) (v w : World) → TurnedIn (Err x) v w → SameBesidesOpens v w
+same_world x v w e = rw e (same_besides v)
 
-module _ (s t : DiskState) (at new : ℕ → Option FileBody) (replies body : ℕ) (b : FileBody) where
-  -- the disk failed
-  pub polled_broken : at body ≡ Some b → new ≡ put body None at → KeepsBut b.file.0 s t → Rose s.faults t.faults
-      → Stepped (point_of s) (playing replies (left_of at)) (Poll body) (Ok Broken) (point_of t) (playing replies (left_of new))
-  polled_broken there is keeps rose = (
-    record { counts = keeps.counts; world = keeps.world },
-    ([], ap (playing replies) (ap left_of is ∙ left_put body None at), polls_at (point_of s) t.faults at body b Broken [] there (inr (refl, refl, rose))),
-  )
+turned_world : (v w : World) → w ≡ turned v → SameBesidesOpens (turned v) w
+turned_world v w e = rw e (same_besides (turned v))
 
-  all_moved : (test : Bool) (number start count n : ℕ) → n ≡ count → ((count - n == 0) ≡ test) → [] ≡ cond test [] (slice number (start + n) (count - n) ∷ [])
-  all_moved true number start count n e f = refl
-  all_moved false number start count n e f = absurd (differs (count - n) f (omega arith))
-    where
-      differs : (k : ℕ) → (k == 0) ≡ false → k ≡ 0 → ⊥
-      differs k f z = grind (arith, nat_tests)
+-- a turn of the outside
+pub turned_steps : (settings : Settings) (s t : DiskState) (at : ℕ → Option Body) (replies : ℕ) → Turns {E = NoMemory} s (Ok tt) t
+    → Stepped (point_of s) (playing settings replies (left_in s at)) Turn (Ok Done) (point_of t) (playing settings replies (left_in t at))
+turned_steps settings s t at replies turns = (
+  record { counts = rw turns.counts (omega arith); world = both_map s.told t.told (TurnedIn {E = NoMemory} (Ok tt)) (λ v w. SameBesidesOpens (turned v) w) turned_world turns.told },
+  (refl, ap (playing settings replies) (left_all s t at (turn_every s t (Ok tt) at turns))),
+)
 
-  some_moved : (test : Bool) (number start count n : ℕ) → n < count → ((count - n == 0) ≡ test) → slice number (start + n) (count - n) ∷ [] ≡ cond test [] (slice number (start + n) (count - n) ∷ [])
-  some_moved false number start count n lt f = refl
-  some_moved true number start count n lt f = absurd (same (count - n) f (omega arith))
-    where
-      same : (k : ℕ) → (k == 0) ≡ true → 0 < k → ⊥
-      same k f z = grind (arith, nat_tests)
+pub turn_refused : (settings : Settings) (s t : DiskState) (at : ℕ → Option Body) (replies : ℕ) (e : NoMemory) → Turns s (Err e) t
+    → Stepped (point_of s) (playing settings replies (left_in s at)) Turn (Err e) (point_of t) (playing settings replies (left_in t at))
+turn_refused settings s t at replies e turns = (
+  record { counts = rw turns.counts (omega arith); world = both_map s.told t.told (TurnedIn {E = NoMemory} (Err e)) SameBesidesOpens (same_world e) turns.told },
+  ap (playing settings replies) (left_all s t at (turn_every s t (Err e) at turns)),
+)
 
-  given_length : (m : DiskState) (buffer piece : List ℕ) (count place : ℕ) → TakesPiece s b buffer count place m → piece ≡ take count buffer → length piece ≡ count
-  given_length m buffer piece count place takes front = ap length front ∙ length-take-le count buffer takes.within
-
-  gives : (m : DiskState) (buffer piece : List ℕ) (count place : ℕ) (rest : List Part) → TakesPiece s b buffer count place m → piece ≡ take count buffer
-      → count ≤ b.count → rest ≡ moved b.number b.start b.count (length piece) []
-      → Polls s.told s.whole s.faults t.faults (slice b.number b.start b.count ∷ []) (Piece piece) rest
-  gives m buffer piece count place rest takes front within is = inl (
-    piece,
-    refl,
-    (
-      (let some = takes.some in let len = given_length m buffer piece count place takes front in omega arith),
-      (let len = given_length m buffer piece count place takes front in omega arith),
-      is,
-      λ w told. subst (λ x. PieceOf s.whole (standing_from w b.number b.start) b.count x) (sym front) (takes.right w told),
-    ),
-  )
-
-  -- the last piece
-  pub polled_last : (m : DiskState) (buffer piece : List ℕ) (count place : ℕ) → at body ≡ Some b → new ≡ put body None at → KeepsBut b.file.0 s t → TakesPiece s b buffer count place m
-      → piece ≡ take count buffer → count ≡ b.count
-      → Stepped (point_of s) (playing replies (left_of at)) (Poll body) (Ok (Piece piece)) (point_of t) (playing replies (left_of new))
-  polled_last m buffer piece count place there is keeps takes front all = (
-    record { counts = keeps.counts; world = keeps.world },
-    (
-      [],
-      ap (playing replies) (ap left_of is ∙ left_put body None at),
-      polls_at (point_of s) t.faults at body b (Piece piece) [] there
-          (gives m buffer piece count place [] takes front (omega arith) (all_moved _ b.number b.start b.count (length piece) (given_length m buffer piece count place takes front ∙ all) refl)),
-    ),
-  )
-
-  -- a piece with more behind it
-  pub polled_more : (m : DiskState) (buffer piece : List ℕ) (count place : ℕ) (c : FileBody) → at body ≡ Some b → new ≡ put body (Some c) at → KeepsBut b.file.0 s t → TakesPiece s b buffer count place m
-      → piece ≡ take count buffer → count < b.count → c ≡ moved_on b count place
-      → Stepped (point_of s) (playing replies (left_of at)) (Poll body) (Ok (Piece piece)) (point_of t) (playing replies (left_of new))
-  polled_more m buffer piece count place c there is keeps takes front less moves =
-      let len = given_length m buffer piece count place takes front in
-      let rest : List Part = slice b.number (b.start + length piece) (b.count - length piece) ∷ [] in
-      let same : parts_of (Some c) ≡ rest = ap (λ x. parts_of (Some x)) moves ∙ ap (λ n. slice b.number (b.start + n) (b.count - n) ∷ []) (sym len) in (
-        record { counts = keeps.counts; world = keeps.world },
-        (
-          rest,
-          ap (playing replies) (ap left_of is ∙ left_put body (Some c) at ∙ ap (λ x. put body x (left_of at)) same),
-          polls_at (point_of s) t.faults at body b (Piece piece) rest there
-              (gives m buffer piece count place rest takes front (omega arith) (some_moved _ b.number b.start b.count (length piece) (omega arith) refl)),
-        ),
-      )
-
--- a count that rose before a file was closed
-pub rose_closed : (s m t : DiskState) (o : Option FileBody) → Rose s.faults m.faults → ClosesBody o m t → Rose s.faults t.faults
-rose_closed s m t None rose e = subst (λ x. Rose s.faults x.faults) (sym e) rose
-rose_closed s m t (Some b) rose c = subst (λ n. Rose s.faults n) (sym c.counts) rose
+-- there was no room for the body of an answer
+pub undone_steps : (settings : Settings) (s m t : DiskState) (request : Asked) (now : Moment) (replies : ℕ) (at new : ℕ → Option Body) (body : Option Body) (o c : Body) (e : NoMemory)
+    → IsPlaying (read_size_of settings.read_buf_size) s at replies → HoldsOnly (read_size_of settings.read_buf_size) s body m → body ≡ Some o → c ≡ o → Closes handle_of m c.file t → new ≡ at
+    → Stepped (point_of s) (playing settings replies (left_in s at)) (Request request now) (Err e) (point_of t) (playing settings replies (left_in t new))
+undone_steps settings s m t request now replies at new body o c e p holds is same closes unchanged =
+    subst (λ z. Stepped (point_of s) (playing settings replies (left_in s at)) (Request request now) (Err e) (point_of t) (playing settings replies (left_in t z))) (sym unchanged)
+    (refused settings s t request now replies at e (held_undone (read_size_of settings.read_buf_size) s m t body o c holds is same closes) p)

@@ -1,239 +1,209 @@
 -- What a player keeps of its open bodies, call by call.
-use Rattle.std.proofs.Common.{◌≡◌, ◌≢◌, ◌+◌, ◌==◌, ℕ, Bool, true, false, cond, List, [], Option, None, Some, Result, Ok, Err, refl, sym, ap, subst, ◌∙◌, ◌⊎◌, inl, inr, arith}
-use Rattle.std.specs.List.{AllByRecursion}
-use Rattle.std.specs.Option.{option_map}
+use Rattle.std.proofs.Common.{◌≡◌, ◌≢◌, ◌≤◌, ◌+◌, ◌==◌, ℕ, Bool, true, false, cond, List, [], Option, None, Some, Result, Ok, Err, refl, sym, ap, subst, ◌∙◌, ◌⊎◌, inl, inr, arith}
+use Rattle.std.specs.Prelude.{is_some}
+use Rattle.std.specs.List.{AllByRecursion, list_any}
 use mathlib.Core.Path.{fun_ext}
-use Rattle.dav_io.specs.Told.{told_before, both_map}
 use Rattle.dav_core.specs.World.{World, put}
-use Rattle.dav_core.specs.Changes.{turned_opens}
-use Rattle.dav_core.specs.Disk.{DiskState, Closes, Turns, TurnedIn}
-use Rattle.dav_core.specs.Keeps.{Keeps, KeepsBut, SameOpen, but_then, closes_keep, closed_keep, put_other, equal_keys, other_keys, differ}
+use Rattle.dav_core.specs.Disk.{DiskState, Live, Turns, can_read}
+use Rattle.dav_core.specs.Keeps.{Keeps, KeepsBut, but_then, closed_again, put_other, equal_keys, other_keys}
+use Rattle.dav_model.specs.declared.settings.Settings.{Settings}
 use Rattle.dav_model.specs.Bodies.{Part}
 use Rattle.dav_model.specs.Trail.{point_of}
 use Rattle.dav_model.specs.Play.{HasOpen, StaysOpen}
-use Rattle.dav_handler.specs.declared.body.FileBody.{FileBody}
-use Rattle.dav_handler.specs.Held.{IsHeld, IsPlaying, parts_of, left_of, open_file_of, regular, ClosesBody}
-use Rattle.dav_handler.specs.declared.body.Found.{Found}
-use Rattle.dav_handler.specs.Found.{HoldsOnly, Finds}
-use Rattle.dav_model.specs.declared.target.Target.{Target}
-use Rattle.dav_io.specs.declared.failure.NoMemory.{NoMemory}
+use Rattle.dav_store.specs.Files.{LeavesOpen}
+use Rattle.dav_plain.specs.declared.file.PlainFile.{PlainFile}
+use Rattle.dav_plain.specs.Calls.{seen_by}
+use Rattle.dav_get.specs.declared.open_at.OpenAt.{OpenAt}
+use Rattle.dav_get.specs.Bodies.{Closes, TouchesOwn}
+use Rattle.dav_handler.specs.Found.{HoldsOnly, OpensOnly}
+use Rattle.dav_handler.specs.Held.{Body, ClosesBody, IsOpen, IsPlaying, handle_of, left_in, parts_in}
+use Rattle.dav_handler.proofs.Frames.{Leaves, body_open, but_leaves, keeps_leaves, open_stays, parts_stay, same_leaves, turn_leaves}
 
--- a body stays held by every call that leaves its handle
-pub held_but : (own : ℕ) (s t : DiskState) (b : FileBody) → KeepsBut own s t → b.file.0 ≢ own → IsHeld s b → IsHeld t b
-held_but own s t b keeps ne h = record {
-  some = h.some;
-  fits = h.fits;
-  live = keeps.live b.file.0 ne ∙ h.live;
-  file = λ w told.
-      let (v, old, same) = told_before s.told t.told (SameOpen b.file.0) w (keeps.opens b.file.0 regular ne h.live) told in
-      same ∙ h.file v old;
-}
-
-held_keep : (s t : DiskState) (b : FileBody) → Keeps s t → IsHeld s b → IsHeld t b
-held_keep s t b keeps h = record {
-  some = h.some;
-  fits = h.fits;
-  live = keeps.live b.file.0 ∙ h.live;
-  file = λ w told.
-      let (v, old, same) = told_before s.told t.told (SameOpen b.file.0) w (keeps.opens b.file.0 regular h.live) told in
-      same ∙ h.file v old;
-}
-
-pub playing_keep : (s t : DiskState) (at : ℕ → Option FileBody) (replies : ℕ) → Keeps s t → IsPlaying s at replies → IsPlaying t at replies
-playing_keep s t at replies keeps p = record { held = λ n b e. held_keep s t b keeps (p.held n b e); apart = p.apart; earlier = p.earlier }
-
-turned_open : {E : Type 0} (result : Result Unit E) (h : ℕ) (v w : World) → TurnedIn result v w → SameOpen h v w
-turned_open (Ok x) h v w e = rw e (ap (λ opens. opens h) (turned_opens v))
-turned_open (Err x) h v w e = rw e refl
-
-pub playing_turn : {E : Type 0} (s t : DiskState) (result : Result Unit E) (at : ℕ → Option FileBody) (replies : ℕ) → Turns s result t → IsPlaying s at replies → IsPlaying t at replies
-playing_turn s t result at replies turns p = record {
-  held = λ n b e.
-      let h = p.held n b e in
-      record {
-        some = h.some;
-        fits = h.fits;
-        live = ap (λ f. f b.file.0) turns.live ∙ h.live;
-        file = λ w told.
-            let (v, old, same) = told_before s.told t.told (SameOpen b.file.0) w (both_map s.told t.told (TurnedIn result) (SameOpen b.file.0) (turned_open result b.file.0) turns.told) told in
-            same ∙ h.file v old;
-      };
-  apart = p.apart;
-  earlier = p.earlier;
-}
-
-chosen : (b : Bool) (w x : Option FileBody) (c : FileBody) → cond b w x ≡ Some c → ((b ≡ true) × (w ≡ Some c)) ⊎ ((b ≡ false) × (x ≡ Some c))
+chosen : (b : Bool) (w x : Option Body) (c : Body) → cond b w x ≡ Some c → ((b ≡ true) × (w ≡ Some c)) ⊎ ((b ≡ false) × (x ≡ Some c))
 chosen true w x c e = inl (refl, e)
 chosen false w x c e = inr (refl, e)
 
 -- what stands in a table after a change at k
-pub after_put : (k : ℕ) (w : Option FileBody) (at : ℕ → Option FileBody) (n : ℕ) (c : FileBody) → put k w at n ≡ Some c
-    → ((n ≡ k) × (w ≡ Some c)) ⊎ ((n ≢ k) × (at n ≡ Some c))
+after_put : (k : ℕ) (w : Option Body) (at : ℕ → Option Body) (n : ℕ) (c : Body) → put k w at n ≡ Some c → ((n ≡ k) × (w ≡ Some c)) ⊎ ((n ≢ k) × (at n ≡ Some c))
 after_put k w at n c e = elim (chosen (n == k) w (at n) c e) as (λ _. ((n ≡ k) × (w ≡ Some c)) ⊎ ((n ≢ k) × (at n ≡ Some c)))
     [ inl p ↦ inl (equal_keys n k p.0, p.1) | inr p ↦ inr (other_keys n k p.0, p.1) ]
 
-none_some : (c : FileBody) → None ≡ Some c → ⊥
+none_some : (c : Body) → None ≡ Some c → ⊥
 none_some c e = cc
 
-inside : (b c : FileBody) → Some b ≡ Some c → b ≡ c
+inside : (b c : Body) → Some b ≡ Some c → b ≡ c
 inside b c e = cc
 
-not_there : (x : Option FileBody) (b : FileBody) → x ≡ Some b → x ≡ None → ⊥
+not_there : (x : Option Body) (b : Body) → x ≡ Some b → x ≡ None → ⊥
 not_there x b e f = cc
 
-none_either : (b : Bool) (x : Option FileBody) → x ≡ None → cond b None x ≡ None
+none_either : (b : Bool) (x : Option Body) → x ≡ None → cond b None x ≡ None
 none_either true x e = refl
 none_either false x e = e
 
-still : (at : ℕ → Option FileBody) (k n : ℕ) (b : FileBody) → put k None at n ≡ Some b → (n ≢ k) × (at n ≡ Some b)
-still at k n b e = elim (after_put k None at n b e) as (λ _. (n ≢ k) × (at n ≡ Some b)) [ inl q ↦ absurd (none_some b q.1) | inr q ↦ q ]
+parts_all : (s t : DiskState) (o : Option Body) → ((b : Body) → o ≡ Some b → Leaves s t b) → parts_in t o ≡ parts_in s o
+parts_all s t None leaves = refl
+parts_all s t (Some b) leaves = parts_stay s t b (leaves b refl)
 
--- a body ended, and its file is closed
-pub playing_end : (s t : DiskState) (at : ℕ → Option FileBody) (replies k : ℕ) (gone : FileBody) → IsPlaying s at replies → at k ≡ Some gone
-    → KeepsBut gone.file.0 s t → IsPlaying t (put k None at) replies
-playing_end s t at replies k gone p there keeps = record {
-  held = λ n b e.
-      let (ne, old) = still at k n b e in
-      held_but gone.file.0 s t b keeps (λ same. ne (p.apart n k b gone old there same)) (p.held n b old);
-  apart = λ m n b c e f same. p.apart m n b c (still at k m b e).1 (still at k n c f).1 same;
-  earlier = λ n le. none_either (n == k) (at n) (p.earlier n le);
-}
+-- the files of all bodies but one are left as they were
+abbrev pub Others : DiskState → DiskState → (ℕ → Option Body) → ℕ → Type 0
+Others s t at k = (n : ℕ) (b : Body) → n ≢ k → at n ≡ Some b → Leaves s t b
 
--- no body had the number
-pub playing_none : (s : DiskState) (at : ℕ → Option FileBody) (replies k : ℕ) → IsPlaying s at replies → IsPlaying s (put k None at) replies
-playing_none s at replies k p = record {
-  held = λ n b e. p.held n b (still at k n b e).1;
-  apart = λ m n b c e f same. p.apart m n b c (still at k m b e).1 (still at k n c f).1 same;
-  earlier = λ n le. none_either (n == k) (at n) (p.earlier n le);
-}
+-- and those of all
+abbrev pub Every : DiskState → DiskState → (ℕ → Option Body) → Type 0
+Every s t at = (n : ℕ) (b : Body) → at n ≡ Some b → Leaves s t b
 
--- one reply more
-pub playing_more : (s : DiskState) (at : ℕ → Option FileBody) (replies : ℕ) → IsPlaying s at replies → IsPlaying s at (replies + 1)
-playing_more s at replies p = record { held = p.held; apart = p.apart; earlier = λ n le. p.earlier n (omega arith) }
+pub left_all : (s t : DiskState) (at : ℕ → Option Body) → Every s t at → left_in t at ≡ left_in s at
+left_all s t at leaves = fun_ext (λ n. parts_all s t (at n) (leaves n))
 
--- a body goes on with the same file
-pub playing_moved : (s t : DiskState) (at : ℕ → Option FileBody) (replies k : ℕ) (b c : FileBody) → IsPlaying s at replies → at k ≡ Some b
-    → KeepsBut b.file.0 s t → IsHeld t c → c.file.0 ≡ b.file.0 → IsPlaying t (put k (Some c) at) replies
-playing_moved s t at replies k b c p there keeps held file =
-    let before : (n : ℕ) (x : FileBody) → put k (Some c) at n ≡ Some x → (y : FileBody) × (at n ≡ Some y) × (y.file.0 ≡ x.file.0) =
-    λ n x e. elim (after_put k (Some c) at n x e) as (λ _. (y : FileBody) × (at n ≡ Some y) × (y.file.0 ≡ x.file.0))
-    [ inl q ↦ (b, ap at q.0 ∙ there, sym file ∙ ap (λ (o : FileBody). o.file.0) (inside c x q.1)) | inr q ↦ (x, q.1, refl) ] in
-    record {
-      held = λ n x e. elim (after_put k (Some c) at n x e) as (λ _. IsHeld t x) [
-        | inl q ↦ subst (λ o. IsHeld t o) (inside c x q.1) held
-        | inr q ↦ held_but b.file.0 s t x keeps (λ same. q.0 (p.apart n k x b q.1 there same)) (p.held n x q.1)
-      ];
-      apart = λ m n x y e f same.
-          let xb = before m x e in
-          let yb = before n y f in
-          p.apart m n xb.0 yb.0 xb.1 yb.1 (xb.2 ∙ same ∙ sym yb.2);
-      earlier = λ n le. put_other k n (Some c) at (λ e. not_there (at n) b (ap at e ∙ there) (p.earlier n le)) ∙ p.earlier n le;
-    }
-
--- a body is opened
-pub playing_insert : (s t : DiskState) (at : ℕ → Option FileBody) (k : ℕ) (o : FileBody) → IsPlaying s at k
-    → KeepsBut o.file.0 s t → s.live o.file.0 ≡ None → IsHeld t o → IsPlaying t (put k (Some o) at) (k + 1)
-playing_insert s t at k o p keeps none held =
-    let fresh : (n : ℕ) (b : FileBody) → at n ≡ Some b → b.file.0 ≢ o.file.0 = λ n b e. differ s.live o.file.0 b.file.0 regular none (p.held n b e).live in
-    record {
-      held = λ n x e. elim (after_put k (Some o) at n x e) as (λ _. IsHeld t x) [
-        | inl q ↦ subst (λ z. IsHeld t z) (inside o x q.1) held
-        | inr q ↦ held_but o.file.0 s t x keeps (fresh n x q.1) (p.held n x q.1)
-      ];
-      apart = λ m n x y e f same. elim (after_put k (Some o) at m x e) as (λ _. m ≡ n) [
-        | inl q ↦ elim (after_put k (Some o) at n y f) as (λ _. m ≡ n) [
-          | inl r ↦ q.0 ∙ sym r.0
-          | inr r ↦ absurd (fresh n y r.1 (sym same ∙ sym (ap (λ (z : FileBody). z.file.0) (inside o x q.1))))
-        ]
-        | inr q ↦ elim (after_put k (Some o) at n y f) as (λ _. m ≡ n) [
-          | inl r ↦ absurd (fresh m x q.1 (same ∙ sym (ap (λ (z : FileBody). z.file.0) (inside o y r.1))))
-          | inr r ↦ p.apart m n x y q.1 r.1 same
-        ]
-      ];
-      earlier = λ n le. put_other k n (Some o) at (λ e. absurd (omega arith)) ∙ p.earlier n (omega arith);
-    }
-
-has_open : (w : World) (x : Option FileBody) → ((b : FileBody) → x ≡ Some b → w.opens b.file.0 ≡ Some (open_file_of b)) → AllByRecursion (HasOpen w) (parts_of x)
-has_open w None h = tt
-has_open w (Some b) h = ((b.file.0, ap (option_map (λ o. o.number)) (h b refl)), tt)
-
--- each body of a player has its file open
-pub stays_open : (disk : DiskState) (at : ℕ → Option FileBody) (replies count : ℕ) → IsPlaying disk at replies
-    → StaysOpen (point_of disk) (record { replies = count; left = left_of at })
-stays_open disk at replies count p w told body = has_open w (at body) (λ b e. (p.held body b e).file w told)
-
-either : (b : Bool) (w x : Option FileBody) → parts_of (cond b w x) ≡ cond b (parts_of w) (parts_of x)
-either true w x = refl
-either false w x = refl
+put_parts : (s t : DiskState) (b : Bool) (w x : Option Body) → (b ≡ false → parts_in t x ≡ parts_in s x) → parts_in t (cond b w x) ≡ cond b (parts_in t w) (parts_in s x)
+put_parts s t true w x h = refl
+put_parts s t false w x h = h refl
 
 -- what the bodies have left after a change at k
-pub left_put : (k : ℕ) (w : Option FileBody) (at : ℕ → Option FileBody) → left_of (put k w at) ≡ put k (parts_of w) (left_of at)
-left_put k w at = fun_ext (λ n. either (n == k) w (at n))
+pub left_put : (s t : DiskState) (at : ℕ → Option Body) (k : ℕ) (w : Option Body) → Others s t at k → left_in t (put k w at) ≡ put k (parts_in t w) (left_in s at)
+left_put s t at k w others = fun_ext (λ n. put_parts s t (n == k) w (at n) (λ e. parts_all s t (at n) (λ b. others n b (other_keys n k e))))
 
 absent : (b : Bool) (x : List Part) → (b ≡ true → x ≡ []) → x ≡ cond b [] x
 absent true x h = h refl
 absent false x h = refl
 
 -- a body that had nothing left has nothing left
-pub left_none : (k : ℕ) (at : ℕ → Option FileBody) → at k ≡ None → left_of at ≡ put k [] (left_of at)
-left_none k at none = fun_ext (λ n. absent (n == k) (left_of at n) (λ t. ap (λ m. parts_of (at m)) (equal_keys n k t) ∙ ap parts_of none))
+pub left_none : (s : DiskState) (k : ℕ) (at : ℕ → Option Body) → at k ≡ None → left_in s at ≡ put k [] (left_in s at)
+left_none s k at none = fun_ext (λ n. absent (n == k) (left_in s at n) (λ t. ap (λ m. parts_in s (at m)) (equal_keys n k t) ∙ ap (parts_in s) none))
 
-ended : (x : Option FileBody) (s t : DiskState) (at : ℕ → Option FileBody) (replies k : ℕ) → IsPlaying s at replies → at k ≡ x → ClosesBody x s t → IsPlaying t (put k None at) replies
-ended None s t at replies k p e closes = subst (λ z. IsPlaying z (put k None at) replies) (sym closes) (playing_none s at replies k p)
-ended (Some b) s t at replies k p e closes = playing_end s t at replies k b p e (closes_keep s b.file.0 t closes)
+module _ (most : ℕ) (s t : DiskState) (at : ℕ → Option Body) where
+  pub playing_all : (replies : ℕ) → Every s t at → IsPlaying most s at replies → IsPlaying most t at replies
+  playing_all replies leaves p = record { held = λ n b e. open_stays most s t b (leaves n b e) (p.held n b e); apart = p.apart; earlier = p.earlier }
 
--- a body was taken out
-pub playing_closed : (s t : DiskState) (at new : ℕ → Option FileBody) (replies k : ℕ) → IsPlaying s at replies → ClosesBody (at k) s t → new ≡ put k None at → IsPlaying t new replies
-playing_closed s t at new replies k p closes is = subst (λ z. IsPlaying t z replies) (sym is) (ended (at k) s t at replies k p refl closes)
+  -- the table after a change at k
+  pub playing_put : (k replies after : ℕ) (w : Option Body) → IsPlaying most s at replies → Others s t at k → ((c : Body) → w ≡ Some c → IsOpen most t c)
+      → ((n : ℕ) (b c : Body) (h g : OpenAt PlainFile) → n ≢ k → at n ≡ Some b → w ≡ Some c → b.file ≡ Some h → c.file ≡ Some g → handle_of h.file ≢ handle_of g.file)
+      → ((n : ℕ) → after ≤ n → put k w at n ≡ None) → IsPlaying most t (put k w at) after
+  playing_put k replies after w p others own apart earlier = record {
+    held = λ n b e. elim (after_put k w at n b e) as (λ _. IsOpen most t b) [ inl q ↦ own b q.1 | inr q ↦ open_stays most s t b (others n b q.0 q.1) (p.held n b q.1) ];
+    apart = λ m n b c h g e f eh fg same. elim (after_put k w at m b e) as (λ _. m ≡ n) [
+      | inl q ↦ elim (after_put k w at n c f) as (λ _. m ≡ n) [
+        | inl r ↦ q.0 ∙ sym r.0
+        | inr r ↦ absurd (apart n c b g h r.0 r.1 q.1 fg eh (sym same))
+      ]
+      | inr q ↦ elim (after_put k w at n c f) as (λ _. m ≡ n) [
+        | inl r ↦ absurd (apart m b c h g q.0 q.1 r.1 eh fg same)
+        | inr r ↦ p.apart m n b c h g q.1 r.1 eh fg same
+      ]
+    ];
+    earlier = earlier;
+  }
 
-pub but_closed : (s m t : DiskState) (at : ℕ → Option FileBody) (k : ℕ) (b : FileBody) → at k ≡ Some b → KeepsBut b.file.0 s m → ClosesBody (at k) m t → KeepsBut b.file.0 s t
-but_closed s m t at k b e keeps closes = but_then b.file.0 s m t keeps (closes_keep m b.file.0 t (subst (λ x. ClosesBody x m t) e closes))
+  pub keeps_every : (replies : ℕ) → Keeps s t → IsPlaying most s at replies → Every s t at
+  keeps_every replies keeps p n b e h file = keeps_leaves s t (handle_of h.file) keeps ((p.held n b e).held.file h file).live
 
--- a body was asked for a piece, and taken out
-pub playing_ended : (s m t : DiskState) (at new : ℕ → Option FileBody) (replies k : ℕ) (b : FileBody) → IsPlaying s at replies → at k ≡ Some b → KeepsBut b.file.0 s m
-    → ClosesBody (at k) m t → new ≡ put k None at → IsPlaying t new replies
-playing_ended s m t at new replies k b p e keeps closes is = subst (λ z. IsPlaying t z replies) (sym is) (playing_end s t at replies k b p e (but_closed s m t at k b e keeps closes))
+  -- a body was taken out
+  pub playing_out : (k replies : ℕ) → IsPlaying most s at replies → Others s t at k → IsPlaying most t (put k None at) replies
+  playing_out k replies p others = playing_put k replies replies None p others (λ c e. absurd (none_some c e)) (λ n b c h g ne there e. absurd (none_some c e))
+      (λ n le. none_either (n == k) (at n) (p.earlier n le))
 
--- a body was asked for a piece, and has more
-pub playing_advanced : (s t : DiskState) (at new : ℕ → Option FileBody) (replies k : ℕ) (b c : FileBody) → IsPlaying s at replies → at k ≡ Some b → KeepsBut b.file.0 s t
-    → IsHeld t c → c.file.0 ≡ b.file.0 → new ≡ put k (Some c) at → IsPlaying t new replies
-playing_advanced s t at new replies k b c p e keeps held file is = subst (λ z. IsPlaying t z replies) (sym is) (playing_moved s t at replies k b c p e keeps held file)
+pub turn_every : {E : Type 0} (s t : DiskState) (result : Result Unit E) (at : ℕ → Option Body) → Turns s result t → Every s t at
+turn_every s t result at turns n b e h file = turn_leaves s t result (handle_of h.file) turns
 
--- a file that was opened since is no body's yet
-playing_new : (s t : DiskState) (at : ℕ → Option FileBody) (replies own : ℕ) → KeepsBut own s t → s.live own ≡ None → IsPlaying s at replies → IsPlaying t at replies
-playing_new s t at replies own keeps none p = record {
-  held = λ n b e. held_but own s t b keeps (differ s.live own b.file.0 regular none (p.held n b e).live) (p.held n b e);
-  apart = p.apart;
-  earlier = p.earlier;
-}
+-- No other file is touched.
+abbrev pub OthersStay : DiskState → Option (OpenAt PlainFile) → DiskState → Type 0
+OthersStay s None t = t ≡ s
+OthersStay s (Some h) t = KeepsBut (handle_of h.file) s t
 
-playing_holds : (s t : DiskState) (body : Option FileBody) (at : ℕ → Option FileBody) (replies : ℕ) → HoldsOnly s body t → IsPlaying s at replies → IsPlaying t at replies
-playing_holds s t None at replies keeps p = playing_keep s t at replies keeps p
-playing_holds s t (Some b) at replies (keeps, none, held) p = playing_new s t at replies b.file.0 keeps none p
+pub touches_others : (s t : DiskState) (f g : Option (OpenAt PlainFile)) → TouchesOwn handle_of seen_by s f t g → OthersStay s f t
+touches_others s t None None touches = touches
+touches_others s t None (Some g) touches = absurd touches
+touches_others s t (Some f) None touches = touches.0
+touches_others s t (Some f) (Some g) touches = touches.0
 
--- a request was answered, or refused memory
-pub playing_finds : (s t : DiskState) (target : Target) (result : Result Found NoMemory) (at : ℕ → Option FileBody) (replies : ℕ) → Finds s target result t → IsPlaying s at replies → IsPlaying t at replies
-playing_finds s t target (Ok found) at replies answers p = playing_holds s t found.body at replies answers.holds p
-playing_finds s t target (Err e) at replies keeps p = playing_keep s t at replies keeps p
+pub closes_others : (s t : DiskState) (f : Option (OpenAt PlainFile)) → Closes handle_of s f t → OthersStay s f t
+closes_others s t None same = same
+closes_others s t (Some f) closes = closes.keeps
+
+-- what is done with the file of a body leaves those of the others
+pub others_leave : (most : ℕ) (s t : DiskState) (at : ℕ → Option Body) (replies k : ℕ) (b : Body) (file : Option (OpenAt PlainFile)) → b.file ≡ file → IsPlaying most s at replies
+    → at k ≡ Some b → OthersStay s file t → Others s t at k
+others_leave most s t at replies k b None e p there stays n c ne other h file = subst (λ x. LeavesOpen (handle_of h.file) s x) (sym stays) (same_leaves s (handle_of h.file))
+others_leave most s t at replies k b (Some g) e p there stays n c ne other h file =
+    but_leaves (handle_of g.file) s t (handle_of h.file) stays (λ same. ne (p.apart n k c b h g other there file e same)) ((p.held n c other).held.file h file).live
+
+pub gone_leave : (most : ℕ) (s t : DiskState) (at : ℕ → Option Body) (replies k : ℕ) (x : Option Body) → IsPlaying most s at replies → at k ≡ x → ClosesBody x s t → Others s t at k
+gone_leave most s t at replies k None p e closes n c ne other h file = subst (λ x. LeavesOpen (handle_of h.file) s x) (sym closes) (same_leaves s (handle_of h.file))
+gone_leave most s t at replies k (Some b) p e closes n c ne other h file = others_leave most s t at replies k b b.file refl p e (closes_others s t b.file closes) n c ne other h file
+
+-- a body was abandoned
+pub playing_closed : (most : ℕ) (s t : DiskState) (at new : ℕ → Option Body) (replies k : ℕ) → IsPlaying most s at replies → ClosesBody (at k) s t → new ≡ put k None at → IsPlaying most t new replies
+playing_closed most s t at new replies k p closes is =
+    subst (λ z. IsPlaying most t z replies) (sym is) (playing_out most s t at k replies p (gone_leave most s t at replies k (at k) p refl closes))
+
+-- what was opened is none of the bodies' files
+fresh_file : (s : DiskState) (own h : ℕ) → s.live own ≡ None → can_read (s.live h) ≡ true → h ≢ own
+fresh_file s own h none live e = let f : s.live h ≡ None = ap s.live e ∙ none in not_read (s.live h) f live
+  where
+    not_read : (o : Option Live) → o ≡ None → can_read o ≡ true → ⊥
+    not_read None e f = cc
+    not_read (Some l) e f = cc
+
+opens_every : (most : ℕ) (s t : DiskState) (file : Option (OpenAt PlainFile)) (at : ℕ → Option Body) (replies : ℕ) → OpensOnly s file t → IsPlaying most s at replies → Every s t at
+opens_every most s t None at replies keeps p n b e h file = keeps_every most s t at replies keeps p n b e h file
+opens_every most s t (Some g) at replies (keeps, none) p n b e h file =
+    let live = ((p.held n b e).held.file h file).live in
+    but_leaves (handle_of g.file) s t (handle_of h.file) keeps (fresh_file s (handle_of g.file) (handle_of h.file) none live) live
+
+pub holds_every : (most : ℕ) (s t : DiskState) (body : Option Body) (at : ℕ → Option Body) (replies : ℕ) → HoldsOnly most s body t → IsPlaying most s at replies → Every s t at
+holds_every most s t None at replies keeps p = keeps_every most s t at replies keeps p
+holds_every most s t (Some b) at replies holds p = opens_every most s t b.file at replies holds.0 p
+
+-- one reply more
+pub playing_more : (most : ℕ) (s : DiskState) (at : ℕ → Option Body) (replies : ℕ) → IsPlaying most s at replies → IsPlaying most s at (replies + 1)
+playing_more most s at replies p = record { held = p.held; apart = p.apart; earlier = λ n le. p.earlier n (omega arith) }
+
+fresh_apart : (s t : DiskState) (file : Option (OpenAt PlainFile)) (g : OpenAt PlainFile) (h : ℕ) → OpensOnly s file t → file ≡ Some g → can_read (s.live h) ≡ true → h ≢ handle_of g.file
+fresh_apart s t None g h opens e live = cc
+fresh_apart s t (Some f) g h opens e live = let same : f ≡ g = cc in rw (← same) (fresh_file s (handle_of f.file) h opens.1 live)
 
 -- the body of an answer joins the others
-pub playing_joined : (s t : DiskState) (at new : ℕ → Option FileBody) (k : ℕ) (body : Option FileBody) (o : FileBody) → IsPlaying s at k → HoldsOnly s body t → body ≡ Some o
-    → new ≡ put k (Some o) at → IsPlaying t new (k + 1)
-playing_joined s t at new k body o p holds e is =
-    let h : HoldsOnly s (Some o) t = subst (λ x. HoldsOnly s x t) e holds in
-    subst (λ z. IsPlaying t z (k + 1)) (sym is) (playing_insert s t at k o p h.0 h.1 h.2)
+pub playing_joined : (most : ℕ) (s t : DiskState) (at new : ℕ → Option Body) (k : ℕ) (body : Option Body) (o : Body) → IsPlaying most s at k → HoldsOnly most s body t → body ≡ Some o
+    → new ≡ put k (Some o) at → IsPlaying most t new (k + 1)
+playing_joined most s t at new k body o p holds e is =
+    let h : HoldsOnly most s (Some o) t = subst (λ x. HoldsOnly most s x t) e holds in
+    subst (λ z. IsPlaying most t z (k + 1)) (sym is) (
+    playing_put most s t at k k (k + 1) (Some o) p (λ n b ne there. opens_every most s t o.file at k h.0 p n b there)
+    (λ c f. subst (λ z. IsOpen most t z) (inside o c f) h.1)
+    (λ n b c hb gc ne there f file own. fresh_apart s t o.file gc (handle_of hb.file) h.0 (ap (λ (z : Body). z.file) (inside o c f) ∙ own) ((p.held n b there).held.file hb file).live)
+    (λ n le. put_other k n (Some o) at (λ same. absurd (omega arith)) ∙ p.earlier n (omega arith))
+    )
+
+undone : (s m t : DiskState) (file : Option (OpenAt PlainFile)) → OpensOnly s file m → Closes handle_of m file t → Keeps s t
+undone s m t None opens closes = subst (λ x. Keeps s x) (sym closes) opens
+undone s m t (Some f) opens closes = closed_again (handle_of f.file) s t (but_then (handle_of f.file) s m t opens.0 closes.keeps) opens.1 closes.live
 
 -- there was no room for the body of an answer
-pub playing_refused : (s m t : DiskState) (at new : ℕ → Option FileBody) (k : ℕ) (body : Option FileBody) (o : FileBody) → IsPlaying s at k → HoldsOnly s body m → body ≡ Some o
-    → Closes m o.file.0 t → new ≡ at → IsPlaying t new k
-playing_refused s m t at new k body o p holds e closes is =
-    let h : HoldsOnly s (Some o) m = subst (λ x. HoldsOnly s x m) e holds in
-    subst (λ z. IsPlaying t z k) (sym is) (playing_keep s t at k (closed_keep o.file.0 s m t h.0 h.1 closes) p)
+pub held_undone : (most : ℕ) (s m t : DiskState) (body : Option Body) (o c : Body) → HoldsOnly most s body m → body ≡ Some o → c ≡ o → Closes handle_of m c.file t → Keeps s t
+held_undone most s m t body o c holds e same closes =
+    let h : HoldsOnly most s (Some o) m = subst (λ x. HoldsOnly most s x m) e holds in
+    undone s m t o.file h.0 (subst (λ (z : Body). Closes handle_of m z.file t) same closes)
+
+each_open : (most : ℕ) (s : DiskState) (w : World) (o : Option Body) → ((b : Body) → o ≡ Some b → IsOpen most s b) → s.told ≡ Some w → AllByRecursion (HasOpen w) (parts_in s o)
+each_open most s w None is told = tt
+each_open most s w (Some b) is told = body_open most s w b (is b refl) told
+
+-- each body of a player has its file open
+pub stays_open : (most : ℕ) (s : DiskState) (at : ℕ → Option Body) (settings : Settings) (replies count : ℕ) → IsPlaying most s at replies
+    → StaysOpen (point_of s) (record { settings = settings; replies = count; left = left_in s at })
+stays_open most s at settings replies count p w told body = each_open most s w (at body) (p.held body) told
+
+-- a request that was refused memory
+pub playing_kept : (most : ℕ) (s t : DiskState) (at : ℕ → Option Body) (replies : ℕ) → Keeps s t → IsPlaying most s at replies → IsPlaying most t at replies
+playing_kept most s t at replies keeps p = playing_all most s t at replies (keeps_every most s t at replies keeps p) p
 
 -- an answer without a body
-pub left_same : (k : ℕ) (at : ℕ → Option FileBody) (body : Option FileBody) → body ≡ None → at k ≡ None → left_of at ≡ put k (parts_of body) (left_of at)
-left_same k at body e none = left_none k at none ∙ ap (λ x. put k (parts_of x) (left_of at)) (sym e)
+pub playing_kept_more : (most : ℕ) (s t : DiskState) (body : Option Body) (at : ℕ → Option Body) (replies : ℕ) → HoldsOnly most s body t → IsPlaying most s at replies → IsPlaying most t at (replies + 1)
+playing_kept_more most s t body at replies holds p = playing_more most t at replies (playing_all most s t at replies (holds_every most s t body at replies holds p) p)
 
--- an answer with a body
-pub left_joined : (k : ℕ) (at new : ℕ → Option FileBody) (body : Option FileBody) (o : FileBody) → body ≡ Some o → new ≡ put k (Some o) at → left_of new ≡ put k (parts_of body) (left_of at)
-left_joined k at new body o e is = ap left_of is ∙ left_put k (Some o) at ∙ ap (λ x. put k (parts_of x) (left_of at)) (sym e)
+-- there was no room for the body of an answer, and it was closed
+pub playing_undone : (most : ℕ) (s m t : DiskState) (at new : ℕ → Option Body) (replies : ℕ) (body : Option Body) (o c : Body) → IsPlaying most s at replies → HoldsOnly most s body m → body ≡ Some o
+    → c ≡ o → Closes handle_of m c.file t → new ≡ at → IsPlaying most t new replies
+playing_undone most s m t at new replies body o c p holds e same closes is =
+    subst (λ z. IsPlaying most t z replies) (sym is) (playing_kept most s t at replies (held_undone most s m t body o c holds e same closes) p)

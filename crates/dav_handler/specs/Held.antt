@@ -1,59 +1,81 @@
 -- What a player keeps of its open bodies.
-use Rattle.std.specs.Prelude.{◌≡◌, ◌<◌, ◌≤◌, ◌+◌, ◌-◌, ◌^◌, ℕ, List, [], ◌∷◌, Option, None, Some, IsSome}
+use Rattle.std.specs.Prelude.{◌≡◌, ◌≤◌, ℕ, List, [], true, is_some, Option, None, Some}
+use Rattle.std.specs.List.{list_any}
 use Rattle.std.specs.BTreeMap.{BTreeMap, get_by}
 use Rattle.std.specs.Ordering.{nat_cmp}
-use Rattle.dav_core.specs.declared.tree.Kind.TheVariants.{File}
-use Rattle.dav_core.specs.Options.{reading}
-use Rattle.dav_core.specs.World.{World, OpenFile}
-use Rattle.dav_core.specs.Disk.{DiskState, Live, Closes}
-use Rattle.dav_model.specs.Bodies.{Part, slice}
-use Rattle.dav_handler.specs.declared.body.FileBody.{FileBody}
+use Rattle.dav_core.specs.World.{World, put}
+use Rattle.dav_core.specs.Disk.{DiskState}
+use Rattle.dav_model.specs.declared.answer.Answer.{Answer}
+use Rattle.dav_model.specs.Bodies.{Part}
+use Rattle.dav_store.specs.Standing.{Seen}
+use Rattle.dav_plain.specs.declared.file.PlainFile.{PlainFile}
+use Rattle.dav_plain.specs.Calls.{seen_by}
+use Rattle.dav_get.specs.declared.body.GetBody.{GetBody}
+use Rattle.dav_get.specs.declared.open_at.OpenAt.{OpenAt}
+use Rattle.dav_get.specs.Bodies.{left_of, is_slice, IsHeld, Closes, IsPolled}
+use Rattle.dav_get.specs.Parts.{parts_of}
+
+abbrev pub Body : Type 0
+Body = GetBody PlainFile
 
 -- the open body of a number
-abbrev pub body_at : BTreeMap ℕ FileBody → ℕ → Option FileBody
+abbrev pub body_at : BTreeMap ℕ Body → ℕ → Option Body
 body_at bodies n = get_by (nat_cmp n) bodies
 
-abbrev pub parts_of : Option FileBody → List Part
-parts_of None = []
-parts_of (Some b) = slice b.number b.start b.count ∷ []
+-- the handle of an open file
+abbrev pub handle_of : PlainFile → ℕ
+handle_of f = f.handle.0
+
+-- the number of an open file, where it is told, and 0 where it isn't
+abbrev pub number_seen : Option Seen → ℕ
+number_seen None = 0
+number_seen (Some f) = f.stands.number
+
+abbrev pub number_in : DiskState → Option (OpenAt PlainFile) → ℕ
+number_in s None = 0
+number_in s (Some h) = number_seen (seen_by h.file s)
+
+-- what a body has left
+abbrev pub parts_in : DiskState → Option Body → List Part
+parts_in s None = []
+parts_in s (Some b) = parts_of (number_in s b.file) (left_of b)
 
 -- what each body has left
-abbrev pub left_of : (ℕ → Option FileBody) → ℕ → List Part
-left_of bodies n = parts_of (bodies n)
+abbrev pub left_in : DiskState → (ℕ → Option Body) → ℕ → List Part
+left_in s bodies n = parts_in s (bodies n)
 
--- a regular file, opened for reading
-abbrev pub regular : Live
-regular = record { kind = File; how = reading }
+-- A body that may be polled, by pieces of at most so many bytes of its file. Where the world is told, its file is open there.
+pub record IsOpen (most : ℕ) (s : DiskState) (b : Body) : Type 0 where
+  pub held : IsHeld handle_of seen_by s b
+  pub size : list_any is_slice (left_of b) ≡ true → b.most ≡ most
+  pub told : (w : World) (h : OpenAt PlainFile) → s.told ≡ Some w → b.file ≡ Some h → is_some (seen_by h.file s) ≡ true
 
--- the open file of a body
-abbrev pub open_file_of : FileBody → OpenFile
-open_file_of b = record { number = b.number; place = b.place }
-
--- The body's file is live, regular and opened for reading; where the world is told, it is the open file of its handle,
--- at the place that the body knows.
-pub record IsHeld (disk : DiskState) (b : FileBody) : Type 0 where
-  pub some : 0 < b.count
-  pub fits : b.start + b.count < 2 ^ 64
-  pub live : disk.live b.file.0 ≡ Some regular
-  pub file : (w : World) → disk.told ≡ Some w → w.opens b.file.0 ≡ Some (open_file_of b)
-
--- What a player keeps: each body's file is held, no two bodies have one handle, and bodies are numbered by earlier
--- replies.
-pub record IsPlaying (disk : DiskState) (bodies : ℕ → Option FileBody) (replies : ℕ) : Type 0 where
-  pub held : (n : ℕ) (b : FileBody) → bodies n ≡ Some b → IsHeld disk b
-  pub apart : (m n : ℕ) (b c : FileBody) → bodies m ≡ Some b → bodies n ≡ Some c → b.file.0 ≡ c.file.0 → m ≡ n
+-- What a player keeps: each body may be polled, no two bodies have one handle, and bodies are numbered by earlier replies.
+pub record IsPlaying (most : ℕ) (s : DiskState) (bodies : ℕ → Option Body) (replies : ℕ) : Type 0 where
+  pub held : (n : ℕ) (b : Body) → bodies n ≡ Some b → IsOpen most s b
+  pub apart : (m n : ℕ) (b c : Body) (h g : OpenAt PlainFile) → bodies m ≡ Some b → bodies n ≡ Some c → b.file ≡ Some h → c.file ≡ Some g
+      → handle_of h.file ≡ handle_of g.file → m ≡ n
   pub earlier : (n : ℕ) → replies ≤ n → bodies n ≡ None
 
+-- the body may be polled or closed, if there is one
+abbrev pub IsHeldBody : Option Body → DiskState → Type 0
+IsHeldBody None s = Unit {0}
+IsHeldBody (Some b) s = IsHeld handle_of seen_by s b
+
 -- The file of a body is closed, if there is one.
-abbrev pub ClosesBody : Option FileBody → DiskState → DiskState → Type 0
+abbrev pub ClosesBody : Option Body → DiskState → DiskState → Type 0
 ClosesBody None s t = t ≡ s
-ClosesBody (Some b) s t = Closes s b.file.0 t
+ClosesBody (Some b) s t = Closes handle_of s b.file t
 
--- the file of a body is live, if there is one
-abbrev pub IsLiveBody : Option FileBody → DiskState → Type 0
-IsLiveBody None s = Unit {0}
-IsLiveBody (Some b) s = IsSome (s.live b.file.0)
+-- A body of the table was polled.
+pub record PollsBody (bodies : ℕ → Option Body) (k : ℕ) (s : DiskState) (answer : Answer) (t : DiskState) (after : ℕ → Option Body) : Type 0 where
+  pub before : Body
+  pub now : Body
+  pub there : bodies k ≡ Some before
+  pub are : after ≡ put k (Some now) bodies
+  pub polled : IsPolled handle_of seen_by s before answer t now
 
--- a body moved on, with its file at another place
-abbrev pub moved_on : FileBody → ℕ → ℕ → FileBody
-moved_on b count place = record b { start = b.start + count; count = b.count - count; place = place }
+-- A body of which nothing is left is taken out.
+pub record Sweeps (bodies : ℕ → Option Body) (k : ℕ) (after : ℕ → Option Body) : Type 0 where
+  pub gone : (b : Body) → bodies k ≡ Some b → left_of b ≡ [] → after ≡ put k None bodies
+  pub stays : (b : Body) → bodies k ≡ Some b → (left_of b ≡ [] → ⊥) → after ≡ bodies

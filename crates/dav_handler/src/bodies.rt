@@ -1,30 +1,92 @@
 // The table of open bodies.
-ghost use Rattle.std.specs.Prelude.{◌≡◌, Some, None, IsSome};
+ghost use Rattle.std.specs.Prelude.{◌≡◌, ◌≤◌, ◌==◌, [], Some, None, IsSome, IsTrue, ◌↔◌, vec_len, vec_capacity};
 ghost use Rattle.dav_core.specs.World.{put};
-ghost use Rattle.dav_handler.specs.Held.{body_at, ClosesBody, IsLiveBody};
+ghost use Rattle.dav_get.specs.Bodies.{IsHeld, IsPolled, left_of, next_most_of};
+ghost use Rattle.dav_plain.specs.Calls.{seen_by};
+ghost use Rattle.dav_handler.specs.Held.{Body as AnyBody, ClosesBody, IsHeldBody, PollsBody, Sweeps, body_at, handle_of};
 
-use crate::body::FileBody;
 use dav_core::Disk;
+use dav_get::{GetBody, Polled};
+use dav_io::Octets;
+use dav_model::Answer;
+use dav_plain::{PlainFile, PlainFs};
+use dav_store::DavFileSystem;
 use std::collections::BTreeMap;
 
+/// The bodies that are open, by the numbers of their replies.
+pub type Bodies = BTreeMap<u32, GetBody<PlainFile>>;
+
 /// Takes a body out, and closes its file.
-pub fn end_body<D: Disk>(bodies: &mut BTreeMap<u32, FileBody>, disk: &mut D, body: u32)
-    requires { IsLiveBody (body_at bodies.old body) (D.state disk.old) }
+pub fn end_body<D: Disk>(bodies: &mut Bodies, store: &mut PlainFs<D>, body: u32)
+    requires { IsHeldBody (body_at bodies.old body) (D.state store.old.disk) }
     ensures bodies { body_at bodies.new ≡ put body None (body_at bodies.old) }
-    ensures disk { ClosesBody (body_at bodies.old body) (D.state disk.old) (D.state disk.new) }
-    ensures loan { D.loan disk.new ≡ D.loan disk.old }
+    ensures disk { ClosesBody (body_at bodies.old body) (D.state store.old.disk) (D.state store.new.disk) }
+    ensures loan { D.loan store.new.disk ≡ D.loan store.old.disk }
 {
     if let Some(gone) = bodies.remove(&body) {
-        disk.close(gone.file);
+        gone.close(DavFileSystem::disk(store));
     }
 }
 
-/// Puts a body in the place of the one that has its number.
-pub fn move_body(bodies: &mut BTreeMap<u32, FileBody>, body: u32, moved: FileBody)
-    requires { IsSome (body_at bodies.old body) }
-    ensures { body_at bodies.new ≡ put body (Some moved) (body_at bodies.old) }
+/// Polls a body, and copies its piece into the room for it.
+fn poll_into<D: Disk>(body: &mut GetBody<PlainFile>, disk: &mut D, room: Vec<u8>) -> Answer
+    requires held { IsHeld handle_of seen_by (D.state disk.old) body.old }
+    requires empty { room.items ≡ [] }
+    requires room { next_most_of (left_of body.old) (vec_len body.old.buffer) ≤ vec_capacity room }
+    ensures done { IsPolled handle_of seen_by (D.state disk.old) body.old result (D.state disk.new) body.new }
+    ensures loan { D.loan disk.new ≡ D.loan disk.old }
 {
-    if let Some(open) = bodies.get_mut(&body) {
-        *open = moved;
+    let mut bytes = room;
+    match body.poll_piece(disk) {
+        Polled::Piece(piece) => {
+            if bytes.extend_from_slice(piece).is_err() {
+                unreachable!("there is room for the piece");
+            }
+            Answer::Piece(Octets::new(bytes))
+        }
+        Polled::End => Answer::End,
+        Polled::Broken => Answer::Broken,
+    }
+}
+
+/// Polls the body of a number, and copies its piece into the room for it.
+pub fn poll_body<D: Disk>(
+    bodies: &mut Bodies,
+    store: &mut PlainFs<D>,
+    body: u32,
+    room: Vec<u8>,
+) -> Answer
+    requires there { IsSome (body_at bodies.old body) }
+    requires held { IsHeldBody (body_at bodies.old body) (D.state store.old.disk) }
+    requires empty { room.items ≡ [] }
+    requires room { (b : AnyBody) → body_at bodies.old body ≡ Some b → next_most_of (left_of b) (vec_len b.buffer) ≤ vec_capacity room }
+    ensures done { PollsBody (body_at bodies.old) body (D.state store.old.disk) result (D.state store.new.disk) (body_at bodies.new) }
+    ensures loan { D.loan store.new.disk ≡ D.loan store.old.disk }
+{
+    match bodies.get_mut(&body) {
+        Some(open) => poll_into(open, DavFileSystem::disk(store), room),
+        None => unreachable!("there is such a body"),
+    }
+}
+
+// Whether nothing is left of the body of a number.
+fn is_over(bodies: &Bodies, body: u32) -> bool
+    ensures some { (b : AnyBody) → body_at bodies.now body ≡ Some b → IsTrue result ↔ (next_most_of (left_of b) (vec_len b.buffer) ≡ 0) }
+{
+    match bodies.get(&body) {
+        Some(open) => open.next_most() == 0,
+        None => true,
+    }
+}
+
+/// Takes the body of a number out where nothing is left of it. Its file is closed then.
+pub fn sweep<D: Disk>(bodies: &mut Bodies, store: &mut PlainFs<D>, body: u32)
+    requires { IsHeldBody (body_at bodies.old body) (D.state store.old.disk) }
+    ensures done { Sweeps (body_at bodies.old) body (body_at bodies.new) }
+    ensures disk { D.state store.new.disk ≡ D.state store.old.disk }
+    ensures loan { D.loan store.new.disk ≡ D.loan store.old.disk }
+{
+    if is_over(bodies, body) {
+        end_body(bodies, store, body);
     }
 }

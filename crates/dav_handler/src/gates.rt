@@ -1,14 +1,14 @@
 // The gates: what a request asks for, before the disk is asked.
-ghost use Rattle.std.specs.Prelude.{◌≡◌, IfOk, true, false};
+ghost use Rattle.std.specs.Prelude.{◌≡◌, ◌||◌, IfOk, [], codes, true, false};
 ghost use Rattle.dav_model.specs.declared.target.Target.TheVariants.{Refused};
 ghost use Rattle.http_header.specs.Token.{lowercase};
-ghost use Rattle.std.specs.List.{list_any};
 ghost use Rattle.http_uri.specs.Uri.{uri_path};
+ghost use Rattle.dav_core.specs.Grammar.{parsed};
 ghost use Rattle.dav_core.specs.Statuses.{path_status};
 ghost use Rattle.dav_handler.specs.Found.{NoFailure};
-ghost use Rattle.dav_model.specs.Requests.{gates, target_of as the_target_of, conditions, has_field as the_has_field, is_bare_get as the_is_bare_get, has_unbuilt_field as the_has_unbuilt_field};
+ghost use Rattle.dav_model.specs.Requests.{gates, target_read, asks_several as the_asks_several, has_field as the_has_field, is_bare as the_is_bare, is_reading as the_is_reading};
 
-use dav_core::{DavPath, ParseError};
+use dav_core::{DavMethod, DavPath, ParseError, dav_method};
 use dav_io::{NoMemory, Octets};
 use dav_model::Target;
 use http::{Request, Uri};
@@ -21,13 +21,10 @@ fn has_field(request: &Request<Octets>, name: &str) -> bool
     request.headers().get(name).is_some()
 }
 
-// A GET without a body.
-fn is_bare_get(request: &Request<Octets>) -> bool
-    ensures { result ≡ the_is_bare_get request.now }
+// Whether the request has no body, and no field that announces one.
+fn is_bare(request: &Request<Octets>) -> bool
+    ensures { result ≡ the_is_bare request.now }
 {
-    if request.method().as_str() != "GET" {
-        return false;
-    }
     if !request.body().as_slice().is_empty() {
         return false;
     }
@@ -37,36 +34,34 @@ fn is_bare_get(request: &Request<Octets>) -> bool
     !has_field(request, "transfer-encoding")
 }
 
-// Whether the request has a field with a condition.
-fn has_condition(request: &Request<Octets>) -> bool
-    ensures { result ≡ list_any (the_has_field request.now) conditions }
+// Whether the form of a method is built.
+fn is_reading(method: DavMethod) -> bool
+    ensures { result ≡ the_is_reading method }
 {
-    if has_field(request, "if-match") {
-        return true;
+    match method {
+        DavMethod::Get | DavMethod::Head => true,
+        _ => false,
     }
-    if has_field(request, "if-none-match") {
-        return true;
+}
+
+// Whether the first value of the field `range` has a comma, by which it may ask for several parts.
+fn asks_several(request: &Request<Octets>) -> bool
+    ensures { result ≡ the_asks_several request.now }
+{
+    match request.headers().get("range") {
+        Some(value) => value.as_bytes().iter().any(|b| *b == b','),
+        None => false,
     }
-    if has_field(request, "if-modified-since") {
-        return true;
-    }
-    has_field(request, "if-unmodified-since")
 }
 
 // Whether the request has a field whose form is not built.
 fn has_unbuilt_field(request: &Request<Octets>) -> bool
-    ensures { result ≡ the_has_unbuilt_field request.now }
+    ensures { result ≡ (the_has_field request.now (codes "if") || the_asks_several request.now) }
 {
     if has_field(request, "if") {
         return true;
     }
-    if has_field(request, "range") {
-        return true;
-    }
-    if has_field(request, "if-range") {
-        return true;
-    }
-    has_condition(request)
+    asks_several(request)
 }
 
 fn refused() -> Target
@@ -95,16 +90,22 @@ fn refused_path(fault: ParseError) -> Result<Target, NoMemory>
     })
 }
 
-// What the path of a target asks for.
-fn target_of(alloc: Global, uri: &Uri) -> Result<Target, NoMemory>
-    ensures value { IfOk result (λ target. target ≡ the_target_of (uri_path uri.now)) }
+// What the path of a target asks for. It is read before fields whose form is not built count.
+fn target_of(
+    alloc: Global,
+    method: DavMethod,
+    is_unbuilt: bool,
+    uri: &Uri,
+) -> Result<Target, NoMemory>
+    ensures value { IfOk result (λ target. target ≡ target_read method is_unbuilt (parsed (uri_path uri.now) [])) }
     ensures status { IfOk result NoFailure }
 {
     match DavPath::from_uri_and_prefix(alloc, uri, "") {
         Ok(path) => {
-            let names = path.names().try_clone()?;
-            let slash = path.is_collection();
-            Ok(Target::At { names, slash })
+            if is_unbuilt {
+                return Ok(refused());
+            }
+            Ok(Target::At { method, path })
         }
         Err(fault) => refused_path(fault),
     }
@@ -115,17 +116,14 @@ pub fn target(alloc: Global, request: &Request<Octets>) -> Result<Target, NoMemo
     ensures value { IfOk result (λ target. target ≡ gates request.now) }
     ensures status { IfOk result NoFailure }
 {
-    if !is_bare_get(request) {
+    let Ok(method) = dav_method(request.method()) else {
+        return Ok(refused());
+    };
+    if !is_reading(method) {
         return Ok(refused());
     }
-    match target_of(alloc, request.uri()) {
-        Ok(Target::At { names, slash }) => {
-            if has_unbuilt_field(request) {
-                return Ok(refused());
-            }
-            Ok(Target::At { names, slash })
-        }
-        Ok(Target::Refused { status, close }) => Ok(Target::Refused { status, close }),
-        Err(error) => Err(error),
+    if !is_bare(request) {
+        return Ok(refused());
     }
+    target_of(alloc, method, has_unbuilt_field(request), request.uri())
 }

@@ -1,19 +1,16 @@
-//! Answers steps over a disk: the gates, the GET of a file, bodies that are polled piece by piece, and the player.
+//! Answers steps over a disk: the gates, GET and HEAD of files, bodies that are polled piece by piece, and the player.
 #![tactic(auto)]
 
-mod asking;
 mod bodies;
-mod body;
-mod fields;
+mod found;
 mod gates;
 mod player;
 mod playing;
-mod store;
 
-pub use dav_model::{Answer, Step};
+pub use dav_model::{Answer, Settings, Step};
+pub use dav_plain::PlainFs;
 pub use player::Player;
 pub use playing::play;
-pub use store::PlainFs;
 
 #[cfg(test)]
 mod tests;

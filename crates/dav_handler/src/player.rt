@@ -1,27 +1,28 @@
 ghost use Rattle.std.specs.Prelude.{◌≡◌, ◌<◌, ◌≤◌, ◌+◌, ◌^◌, [], Ok};
+ghost use Rattle.dav_model.specs.Sizes.{read_size_of};
+ghost use Rattle.dav_core.specs.Disk.{Turns};
 ghost use Rattle.dav_model.specs.Trail.{point_of};
 ghost use Rattle.dav_handler.specs.Held.{IsPlaying, body_at};
 
-use crate::asking::{find, take_piece};
-use crate::bodies::{end_body, move_body};
-use crate::body::FileBody;
-use crate::gates::target;
-use crate::store::PlainFs;
+use crate::bodies::{Bodies, end_body, poll_body, sweep};
+use crate::found::{Found, find_for};
 use dav_core::Disk;
 use dav_io::{Moment, NoMemory, Octets};
-use dav_model::{Answer, Step};
+use dav_model::{Answer, Outcome, Settings, Step};
+use dav_plain::PlainFs;
+use dav_store::DavFileSystem;
 use http::Request;
-use std::alloc::Global;
+use std::alloc::{AllocFailed, Global};
 use std::collections::BTreeMap;
 
-/// Answers steps over a disk. It numbers its replies from 0, and keeps for each body that has bytes left the open file
-/// that they come from.
+/// Answers steps over a disk. It numbers its replies from 0, and keeps the body of each reply of which something is left.
 pub struct Player<D: Disk> {
     alloc: Global,
+    settings: Settings,
     store: PlainFs<D>,
-    bodies: BTreeMap<u32, FileBody>,
+    bodies: Bodies,
     replies: u32,
-    ghost ok: { IsPlaying (D.state store.disk) (body_at bodies) replies },
+    ghost ok: { IsPlaying (read_size_of settings.read_buf_size) (D.state store.disk) (body_at bodies) replies },
 }
 
 impl<D: Disk> Player<D> {
@@ -30,13 +31,14 @@ impl<D: Disk> Player<D> {
     ghost use Rattle.dav_model.specs.declared.step.Step.TheVariants.{Abandon, Poll, Turn, Request as Asks};
 
     /// A player over a disk from its root on, with no reply yet.
-    pub fn plain(alloc: Global, disk: D) -> Self
+    pub fn plain(alloc: Global, disk: D, settings: Settings) -> Self
         ensures loan { D.loan result.store.disk ≡ D.loan disk }
         ensures point { point_at result ≡ point_of (D.state disk) }
-        ensures playing { playing_of result ≡ record { replies = 0; left = λ _. [] } }
+        ensures playing { playing_of result ≡ record { settings = settings; replies = 0; left = λ _. [] } }
     {
         Player {
             alloc,
+            settings,
             store: PlainFs::new(disk),
             bodies: BTreeMap::new(alloc),
             replies: 0,
@@ -63,6 +65,7 @@ impl<D: Disk> Player<D> {
     {
         let Player {
             alloc: _,
+            settings: _,
             store,
             bodies: _,
             replies: _,
@@ -75,8 +78,10 @@ impl<D: Disk> Player<D> {
         ensures done { Stepped (point_at self.old) (playing_of self.old) Turn result (point_at self.new) (playing_of self.new) }
         ensures loan { D.loan self.new.store.disk ≡ D.loan self.old.store.disk }
     {
-        self.store.disk.turn()?;
-        Ok(Answer::Done)
+        match turn_disk(&mut self.store) {
+            Ok(()) => Ok(Answer::Done),
+            Err(error) => Err(error),
+        }
     }
 
     // Abandons a body.
@@ -84,7 +89,7 @@ impl<D: Disk> Player<D> {
         ensures done { Stepped (point_at self.old) (playing_of self.old) (Abandon body) (Ok result) (point_at self.new) (playing_of self.new) }
         ensures loan { D.loan self.new.store.disk ≡ D.loan self.old.store.disk }
     {
-        end_body(&mut self.bodies, &mut self.store.disk, body);
+        end_body(&mut self.bodies, &mut self.store, body);
         Answer::Done
     }
 
@@ -94,35 +99,34 @@ impl<D: Disk> Player<D> {
         ensures done { Stepped (point_at self.old) (playing_of self.old) (Asks request.now now) result (point_at self.new) (playing_of self.new) }
         ensures loan { D.loan self.new.store.disk ≡ D.loan self.old.store.disk }
     {
-        let asked = match target(self.alloc, request) {
-            Ok(asked) => asked,
-            Err(error) => return Err(error),
-        };
-        let found = match find(self.alloc, &mut self.store.disk, &asked) {
+        let found = match find_for(self.alloc, &self.settings, &mut self.store, request) {
             Ok(found) => found,
             Err(error) => return Err(error),
         };
-        let body = self.replies;
-        match found.body {
+        let Found { outcome, body } = found;
+        let Outcome { status, fields } = outcome;
+        let number = self.replies;
+        match body {
             None => {
-                self.replies = body + 1;
+                self.replies = number + 1;
                 Ok(Answer::Reply {
-                    status: found.status,
-                    headers: found.headers,
-                    body,
+                    status,
+                    headers: fields,
+                    body: number,
                 })
             }
-            Some(file) => match self.bodies.insert(body, file) {
+            Some(open) => match self.bodies.insert(number, open) {
                 Ok(_) => {
-                    self.replies = body + 1;
+                    self.replies = number + 1;
                     Ok(Answer::Reply {
-                        status: found.status,
-                        headers: found.headers,
-                        body,
+                        status,
+                        headers: fields,
+                        body: number,
                     })
                 }
-                Err(_) => {
-                    self.store.disk.close(file.file);
+                Err(failed) => {
+                    let AllocFailed { value: (_, open) } = failed;
+                    open.close(DavFileSystem::disk(&mut self.store));
                     Err(NoMemory)
                 }
             },
@@ -134,30 +138,13 @@ impl<D: Disk> Player<D> {
         ensures done { Stepped (point_at self.old) (playing_of self.old) (Poll body) result (point_at self.new) (playing_of self.new) }
         ensures loan { D.loan self.new.store.disk ≡ D.loan self.old.store.disk }
     {
-        let Some(whole) = self.bodies.get(&body) else {
+        let Some(open) = self.bodies.get(&body) else {
             return Ok(Answer::End);
         };
-        let whole = *whole;
-        let mut bytes = vec![in self.alloc; 0; whole.count.min(16384) as usize]?;
-        let Some((count, place)) = take_piece(&mut self.store.disk, &whole, &mut bytes) else {
-            end_body(&mut self.bodies, &mut self.store.disk, body);
-            return Ok(Answer::Broken);
-        };
-        bytes.truncate(count);
-        let given = count as u64;
-        if given == whole.count {
-            end_body(&mut self.bodies, &mut self.store.disk, body);
-            return Ok(Answer::Piece(Octets::new(bytes)));
-        }
-        let moved = FileBody {
-            file: whole.file,
-            number: whole.number,
-            start: whole.start + given,
-            count: whole.count - given,
-            place,
-        };
-        move_body(&mut self.bodies, body, moved);
-        Ok(Answer::Piece(Octets::new(bytes)))
+        let room = Vec::with_capacity(self.alloc, open.next_most())?;
+        let answer = poll_body(&mut self.bodies, &mut self.store, body, room);
+        sweep(&mut self.bodies, &mut self.store, body);
+        Ok(answer)
     }
 
     // One step.
@@ -174,4 +161,12 @@ impl<D: Disk> Player<D> {
             Step::Turn => self.turn(),
         }
     }
+}
+
+// A turn of the outside, by the disk of the store.
+fn turn_disk<D: Disk>(store: &mut PlainFs<D>) -> Result<(), NoMemory>
+    ensures done { Turns (D.state store.old.disk) result (D.state store.new.disk) }
+    ensures loan { D.loan store.new.disk ≡ D.loan store.old.disk }
+{
+    DavFileSystem::disk(store).turn()
 }

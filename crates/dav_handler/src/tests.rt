@@ -1,8 +1,9 @@
 use crate::*;
 use dav_core::{Change, FileTime, FsPath};
 use dav_disk::MemDisk;
-use dav_io::{Moment, NoMemory, Octets, Text};
-use http::{Request, Uri};
+use dav_io::{Field, Moment, NoMemory, Octets, Text};
+use http::header::{HeaderName, HeaderValue};
+use http::{Method, Request, Uri};
 use std::alloc::Global;
 use std::test::Fail;
 
@@ -10,6 +11,10 @@ use std::test::Fail;
 #[derive(Clone, Copy)]
 enum Ask {
     Get(&'static str),
+    // A GET of a range.
+    Part(&'static str, &'static str),
+    // A HEAD, of a range where its text isn't empty.
+    Head(&'static str, &'static str),
     Poll(u32),
     Abandon(u32),
     Purge,
@@ -63,21 +68,45 @@ fn folder(alloc: Global) -> Result<MemDisk, NoMemory> {
     Ok(disk)
 }
 
-fn get(alloc: Global, target: &str) -> Result<Request<Octets>, NoMemory> {
+fn get(alloc: Global, target: &str, range: &str) -> Result<Request<Octets>, NoMemory> {
     let Ok(uri) = Uri::from_str(alloc, target) else {
         return Err(NoMemory);
     };
     let mut request = Request::new(alloc, Octets::empty(alloc));
     *request.uri_mut() = uri;
+    if range.is_empty() {
+        return Ok(request);
+    }
+    let Ok(name) = HeaderName::from_bytes(alloc, b"range") else {
+        return Err(NoMemory);
+    };
+    let Ok(value) = HeaderValue::from_bytes(alloc, range.as_bytes()) else {
+        return Err(NoMemory);
+    };
+    if request.headers_mut().append(name, value).is_err() {
+        return Err(NoMemory);
+    }
     Ok(request)
+}
+
+fn head(alloc: Global, target: &str, range: &str) -> Result<Request<Octets>, NoMemory> {
+    let mut request = get(alloc, target, range)?;
+    *request.method_mut() = Method::HEAD;
+    Ok(request)
+}
+
+fn request_step(request: Request<Octets>) -> Step {
+    Step::Request {
+        request,
+        now: Moment(0),
+    }
 }
 
 fn step_of(alloc: Global, ask: Ask) -> Result<Step, NoMemory> {
     match ask {
-        Ask::Get(target) => Ok(Step::Request {
-            request: get(alloc, target)?,
-            now: Moment(0),
-        }),
+        Ask::Get(target) => Ok(request_step(get(alloc, target, "")?)),
+        Ask::Part(target, range) => Ok(request_step(get(alloc, target, range)?)),
+        Ask::Head(target, range) => Ok(request_step(head(alloc, target, range)?)),
         Ask::Poll(body) => Ok(Step::Poll(body)),
         Ask::Abandon(body) => Ok(Step::Abandon(body)),
         Ask::Purge => Ok(Step::Purge(Moment(0))),
@@ -140,10 +169,50 @@ fn played(
     disk: MemDisk,
     rows: &[(Ask, Seen)],
 ) -> Result<(Option<(usize, Option<Seen>)>, u64, u64), NoMemory> {
-    let mut player = Player::plain(alloc, disk);
+    played_with(alloc, disk, Settings::defaults(alloc), rows)
+}
+
+fn played_with(
+    alloc: Global,
+    disk: MemDisk,
+    settings: Settings,
+    rows: &[(Ask, Seen)],
+) -> Result<(Option<(usize, Option<Seen>)>, u64, u64), NoMemory> {
+    let mut player = Player::plain(alloc, disk, settings);
     let wrong = first_wrong(alloc, &mut player, rows);
     let disk = player.into_disk();
     Ok((wrong?, disk.asked(), disk.faults()))
+}
+
+// Whether fields have this one.
+fn has_field(fields: &[Field], name: &str, value: &str) -> bool {
+    fields.iter().any(|field| field.name.as_str() == name
+        && field.value.as_slice() == value.as_bytes())
+}
+
+// The status of the answer to one request, and whether it has these fields.
+fn answers_with(alloc: Global, ask: Ask, wanted: &[(&str, &str)]) -> Result<(u16, bool), NoMemory> {
+    let steps = [step_of(alloc, ask)?];
+    let mut answers = Vec::new(alloc);
+    let mut player = Player::plain(alloc, folder(alloc)?, Settings::defaults(alloc));
+    let done = play(&mut player, &steps, &mut answers);
+    let _ = player.into_disk();
+    done?;
+    match answers.first() {
+        Some(
+            Answer::Reply {
+                status,
+                headers,
+                ..
+            },
+        ) => Ok((
+            *status,
+            wanted
+                .iter()
+                .all(|field| has_field(headers.as_slice(), field.0, field.1)),
+        )),
+        _ => Ok((0, false)),
+    }
 }
 
 // Each GET asks the disk three times, and each piece once.
@@ -332,5 +401,85 @@ fn a_file_that_was_cut_goes_on_with_zeros(rt: HostRuntime) -> Result<(), Fail> {
         (Ask::Poll(0), Seen::End),
     ];
     assert_eq!(rt; played(alloc, disk, &rows)?, (None, 7, 0));
+    Ok(())
+}
+
+#[test]
+fn parts_of_a_file_are_sent(rt: HostRuntime) -> Result<(), Fail> {
+    let alloc = rt.alloc();
+    let rows = [
+        (Ask::Part("/digits.txt", "bytes=2-4"), Seen::Reply(206, 0)),
+        (Ask::Poll(0), Seen::Piece(3, b'2', b'4')),
+        (Ask::Poll(0), Seen::End),
+        (
+            Ask::Part("/digits.txt", "bytes=0-18446744073709551615"),
+            Seen::Reply(206, 1),
+        ),
+        (Ask::Poll(1), Seen::Piece(10, b'0', b'9')),
+        (Ask::Part("/digits.txt", "bytes=10-"), Seen::Reply(416, 2)),
+        (Ask::Poll(2), Seen::End),
+        (Ask::Part("/digits.txt", "bytes=-"), Seen::Reply(416, 3)),
+        (Ask::Part("/digits.txt", "bytes=-11"), Seen::Reply(200, 4)),
+        (Ask::Poll(4), Seen::Piece(10, b'0', b'9')),
+        (Ask::Part("/empty.txt", "bytes=0-"), Seen::Reply(416, 5)),
+    ];
+    assert_eq!(rt; played(alloc, folder(alloc)?, &rows)?.0, None);
+    Ok(())
+}
+
+#[test]
+fn heads_tell_lengths_and_ranges(rt: HostRuntime) -> Result<(), Fail> {
+    let alloc = rt.alloc();
+    let part = Ask::Part("/digits.txt", "bytes=2-4");
+    let fields = [("content-length", "3"), ("content-range", "bytes 2-4/10")];
+    assert_eq!(rt; answers_with(alloc, part, &fields)?, (206, true));
+    let past = Ask::Part("/digits.txt", "bytes=10-");
+    let fields = [("content-length", "0"), ("content-range", "bytes */10")];
+    assert_eq!(rt; answers_with(alloc, past, &fields)?, (416, true));
+    let past = Ask::Head("/digits.txt", "bytes=10-");
+    let fields = [("content-length", "10"), ("content-range", "bytes */10")];
+    assert_eq!(rt; answers_with(alloc, past, &fields)?, (416, true));
+    let none = Ask::Part("/empty.txt", "bytes=0-");
+    let fields = [("content-length", "0"), ("content-range", "bytes */0")];
+    assert_eq!(rt; answers_with(alloc, none, &fields)?, (416, true));
+    let known = Ask::Get("/remote.php/webdav/");
+    let fields = [("content-length", "0"), ("accept-ranges", "bytes")];
+    assert_eq!(rt; answers_with(alloc, known, &fields)?, (200, true));
+    Ok(())
+}
+
+#[test]
+fn a_head_has_no_body(rt: HostRuntime) -> Result<(), Fail> {
+    let alloc = rt.alloc();
+    let rows = [
+        (Ask::Head("/digits.txt", ""), Seen::Reply(200, 0)),
+        (Ask::Poll(0), Seen::End),
+        (Ask::Head("/remote.php/webdav/", ""), Seen::Reply(404, 1)),
+        (Ask::Get("/remote.php/webdav/"), Seen::Reply(200, 2)),
+        (Ask::Poll(2), Seen::End),
+    ];
+    assert_eq!(rt; played(alloc, folder(alloc)?, &rows)?.0, None);
+    Ok(())
+}
+
+// Pieces of four bytes, from a file that is cut to six between two of them.
+#[test]
+fn a_small_buffer_gives_small_pieces(rt: HostRuntime) -> Result<(), Fail> {
+    let alloc = rt.alloc();
+    let mut disk = folder(alloc)?;
+    let path = path_of(alloc, "digits.txt")?;
+    add_change(alloc, &mut disk, Change::Cut(path, 6))?;
+    let mut settings = Settings::defaults(alloc);
+    settings.read_buf_size = Some(4);
+    let rows = [
+        (Ask::Get("/digits.txt"), Seen::Reply(200, 0)),
+        (Ask::Poll(0), Seen::Piece(4, b'0', b'3')),
+        (Ask::Turn, Seen::Done),
+        (Ask::Poll(0), Seen::Piece(2, b'4', b'5')),
+        (Ask::Poll(0), Seen::Piece(4, 0, 0)),
+        (Ask::Poll(0), Seen::End),
+        (Ask::Poll(0), Seen::End),
+    ];
+    assert_eq!(rt; played_with(alloc, disk, settings, &rows)?.0, None);
     Ok(())
 }

@@ -29,10 +29,10 @@ pub poll_shrinks : (s : Point) (p : Playing) (body : ℕ) (a b : Answer) (t : Po
     → Played s p (Turn ∷ Poll body ∷ []) [] (a ∷ b ∷ []) (Ok tt) t q → b ≡ Piece piece → size (q.left body) < size (p.left body)
 poll_shrinks s p body a b t q piece r e =
     let says = poll_says s p body a b t q r in
-    polls_shrink says.mid.told says.mid.whole says.mid.faults t.faults (p.left body) b (q.left body) says.polls piece e
+    polls_shrink says.mid.told says.mid.whole (read_size_of p.settings.read_buf_size) says.mid.faults t.faults (p.left body) b (q.left body) says.polls piece e
 
 broke_at : (told : Option _) (whole : Bool) (before after : ℕ) (left : List Part) (answer : Answer) (rest : List Part)
-    → Polls told whole before after left answer rest → ((x : List ℕ) → answer ≡ Piece x → ⊥) → (answer ≡ End → ⊥) → (answer ≡ Broken) × Rose before after
+    → Polls told whole most before after left answer rest → ((x : List ℕ) → answer ≡ Piece x → ⊥) → (answer ≡ End → ⊥) → (answer ≡ Broken) × Rose before after
 broke_at told whole before after [] answer rest (e, none) piece end = absurd (end e)
 broke_at told whole before after (part ∷ parts) answer rest (inl (x, e, gives)) piece end = absurd (piece x e)
 broke_at told whole before after (part ∷ parts) answer rest (inr (e, none, rose)) piece end = (e, rose)

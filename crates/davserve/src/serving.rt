@@ -8,7 +8,7 @@ ghost use Rattle.davserve.specs.Serving.{ServeEnds, ServedPartly, Starved, EndsA
 
 use crate::exchange::{Ended, closes_after, exchange};
 use dav_core::Disk;
-use dav_handler::Player;
+use dav_handler::{Player, Settings};
 use dav_io::{Clock, Moment, NoMemory, Sink, Source};
 use dav_wire::{Found, Input, Output, ReadError, bad_request_text, fill_flushing, into_request};
 use http::request::Parts;
@@ -28,7 +28,7 @@ fn answer<K: Sink, D: Disk>(
 {
     let closing = closes_after(&parts);
     let request = into_request(alloc, parts);
-    let mut player = Player::plain(alloc, &mut *disk);
+    let mut player = Player::plain(alloc, &mut *disk, Settings::defaults(alloc));
     let ended = exchange(alloc, &mut player, output, sink, now, closing, request);
     let _ = player.into_disk();
     ended

@@ -1,0 +1,204 @@
+-- From what a poll of a body does to the clause of its step.
+use Rattle.std.proofs.Common.{◌≡◌, ◌≢◌, ◌≤◌, ◌==◌, ℕ, Bool, true, false, cond, List, [], ◌∷◌, Option, None, Some, Ok, refl, sym, ap, subst, ◌∙◌, arith}
+use Rattle.std.specs.Prelude.{is_some}
+use Rattle.std.specs.List.{list_any}
+use mathlib.Core.Path.{fun_ext}
+use Rattle.dav_io.specs.Counts.{Rose}
+use Rattle.dav_io.specs.Told.{Both, told_before}
+use Rattle.dav_core.specs.World.{World, put}
+use Rattle.dav_core.specs.Disk.{DiskState}
+use Rattle.dav_core.specs.Keeps.{SameBesidesOpens, keeps_same, put_other, put_same}
+use Rattle.dav_model.specs.declared.answer.Answer.{Answer}
+use Rattle.dav_model.specs.declared.settings.Settings.{Settings}
+use Rattle.dav_model.specs.declared.step.Step.TheVariants.{Poll}
+use Rattle.dav_model.specs.Bodies.{Part, Playing, Polls as PollsParts}
+use Rattle.dav_model.specs.Sizes.{read_size_of}
+use Rattle.dav_model.specs.Trail.{point_of}
+use Rattle.dav_model.specs.Play.{Stepped}
+use Rattle.dav_store.specs.Standing.{Seen}
+use Rattle.dav_plain.specs.declared.file.PlainFile.{PlainFile}
+use Rattle.dav_plain.specs.Calls.{seen_by}
+use Rattle.dav_plain.proofs.Showing.{bytes_seen}
+use Rattle.dav_get.specs.declared.part.BodyPart.{BodyPart}
+use Rattle.dav_get.specs.declared.part.BodyPart.TheVariants.{Text, Slice as SliceOf}
+use Rattle.dav_get.specs.declared.open_at.OpenAt.{OpenAt}
+use Rattle.dav_get.specs.OpenFiles.{SameStands}
+use Rattle.dav_get.specs.Bodies.{left_of, is_slice, HasNumber, IsHeld, IsPolled, Polls, StandsIn, Takes, TouchesOwn}
+use Rattle.dav_get.specs.Parts.{parts_of}
+use Rattle.dav_get.proofs.BodyRight.{takes_right}
+use Rattle.dav_handler.specs.Held.{Body, IsHeldBody, IsOpen, IsPlaying, PollsBody, Sweeps, handle_of, left_in, number_in, number_seen, parts_in}
+use Rattle.dav_handler.proofs.Frames.{both_some, no_slices, texts_any}
+use Rattle.dav_handler.proofs.Upkeep.{Others, OthersStay, left_put, others_leave, playing_out, playing_put, touches_others}
+
+-- The size of the buffer counts only where a slice is next.
+polls_most : (told : Option World) (whole : Bool) (m n before after number : ℕ) (parts : List BodyPart) (answer : Answer) (rest : List Part) → (list_any is_slice parts ≡ true → m ≡ n)
+    → PollsParts told whole m before after (parts_of number parts) answer rest → PollsParts told whole n before after (parts_of number parts) answer rest
+polls_most told whole m n before after number [] answer rest h p = p
+polls_most told whole m n before after number (Text bytes ∷ parts) answer rest h p = p
+polls_most told whole m n before after number (SliceOf part ∷ parts) answer rest h p = subst (λ x. PollsParts told whole x before after (parts_of number (SliceOf part ∷ parts)) answer rest) (h refl) p
+
+slices_before : (s : DiskState) (file : Option (OpenAt PlainFile)) (most : ℕ) (cause : Type 0) (left : List BodyPart) (answer : Answer) (rest : List BodyPart)
+    → Takes seen_by s file most cause left answer rest → list_any is_slice rest ≡ true → list_any is_slice left ≡ true
+slices_before s file most cause [] answer rest (is, none) has = let f : false ≡ true = sym (ap (list_any is_slice) none) ∙ has in cc
+slices_before s file most cause (Text bytes ∷ parts) answer rest (is, left) has = sym (ap (list_any is_slice) left) ∙ has
+slices_before s file most cause (SliceOf part ∷ parts) answer rest takes has = refl
+
+touched_seen : (s t : DiskState) (f g : Option (OpenAt PlainFile)) (w : World) → TouchesOwn handle_of seen_by s f t g → t.told ≡ Some w
+    → ((v : World) (h : OpenAt PlainFile) → s.told ≡ Some v → f ≡ Some h → is_some (seen_by h.file s) ≡ true) → (k : OpenAt PlainFile) → g ≡ Some k → is_some (seen_by k.file t) ≡ true
+touched_seen s t None None w touches told was k e = cc
+touched_seen s t None (Some g) w touches told was k e = absurd touches
+touched_seen s t (Some f) None w touches told was k e = cc
+touched_seen s t (Some f) (Some g) w (keeps, same, live, stands) told was k e =
+    let (v, old, between) = told_before s.told t.told SameBesidesOpens w keeps.world told in
+    let is : g ≡ k = cc in
+    subst (λ x. is_some (seen_by x.file t) ≡ true) is (both_some (seen_by f.file s) (seen_by g.file t) (λ a b. b.stands ≡ a.stands) stands (was v f old refl))
+
+stands_number : (a b : Option Seen) → SameStands a b → number_seen b ≡ number_seen a
+stands_number None None same = refl
+stands_number None (Some g) same = absurd same
+stands_number (Some f) None same = absurd same
+stands_number (Some f) (Some g) same = ap (λ st. st.number) same
+
+touched_parts : (s t : DiskState) (f g : Option (OpenAt PlainFile)) (left : List BodyPart) → TouchesOwn handle_of seen_by s f t g → (list_any is_slice left ≡ true → is_some g ≡ true)
+    → parts_of (number_in t g) left ≡ parts_of (number_in s f) left
+touched_parts s t None None left touches needs = refl
+touched_parts s t None (Some g) left touches needs = absurd touches
+touched_parts s t (Some f) None left touches needs = texts_any 0 (number_in s (Some f)) left (no_slices (list_any is_slice left) needs)
+touched_parts s t (Some f) (Some g) left (keeps, same, live, stands) needs = ap (λ n. parts_of n left) (stands_number (seen_by f.file s) (seen_by g.file t) stands)
+
+touched_handle : (s t : DiskState) (f g : Option (OpenAt PlainFile)) (k : OpenAt PlainFile) → TouchesOwn handle_of seen_by s f t g → g ≡ Some k
+    → (h : OpenAt PlainFile) × (f ≡ Some h) × (handle_of k.file ≡ handle_of h.file)
+touched_handle s t None None k touches e = cc
+touched_handle s t None (Some g) k touches e = absurd touches
+touched_handle s t (Some f) None k touches e = cc
+touched_handle s t (Some f) (Some g) k (keeps, same, live, stands) e = let is : g ≡ k = cc in (f, refl, subst (λ (x : OpenAt PlainFile). handle_of x.file ≡ handle_of f.file) is same)
+
+number_of_seen : (o : Option Seen) (f : Seen) → o ≡ Some f → f.stands.number ≡ number_seen o
+number_of_seen None f e = cc
+number_of_seen (Some g) f e = let same : g ≡ f = cc in ap (λ (x : Seen). x.stands.number) (sym same)
+
+pub has_number : (s : DiskState) (file : Option (OpenAt PlainFile)) → HasNumber seen_by s file (number_in s file)
+has_number s None h f e told = cc
+has_number s (Some k) h f e told = let same : k ≡ h = cc in number_of_seen (seen_by k.file s) f (ap (λ (x : OpenAt PlainFile). seen_by x.file s) same ∙ told)
+
+some_is : (o : Option Seen) → is_some o ≡ true → (f : Seen) × (o ≡ Some f)
+some_is None e = cc
+some_is (Some f) e = (f, refl)
+
+stands_in : (most : ℕ) (s : DiskState) (b : Body) → IsOpen most s b → StandsIn seen_by s s.told b.file
+stands_in most s b is w h told file = let (f, e) = some_is (seen_by h.file s) (is.told w h told file) in (f, e, bytes_seen h.file s w f told e)
+
+module _ (most : ℕ) (s t : DiskState) (b c : Body) (answer : Answer) where
+  pub polled_open : IsOpen most s b → Polls handle_of seen_by s b answer t c → IsOpen most t c
+  polled_open is polls = record {
+    held = polls.held;
+    size = λ has. polls.most ∙ is.size (slices_before s b.file b.most (Rose s.faults t.faults) (left_of b) answer (left_of c) polls.takes has);
+    told = λ w h told file. touched_seen s t b.file c.file w polls.disk told is.told h file;
+  }
+
+  polled_parts : IsOpen most s b → Polls handle_of seen_by s b answer t c → PollsParts s.told s.whole most s.faults t.faults (parts_in s (Some b)) answer (parts_in t (Some c))
+  polled_parts is polls =
+      polls_most s.told s.whole b.most most s.faults t.faults (number_in s b.file) (left_of b) answer (parts_in t (Some c)) is.size
+      (subst (λ z. PollsParts s.told s.whole b.most s.faults t.faults (parts_of (number_in s b.file) (left_of b)) answer z)
+      (sym (touched_parts s t b.file c.file (left_of c) polls.disk polls.held.needs))
+      (takes_right handle_of seen_by s t b (left_of b) answer (left_of c) s.told (number_in s b.file) is.held.needs (stands_in most s b is) (has_number s b.file) polls.takes))
+
+pub stay_counts : (s t : DiskState) (file : Option (OpenAt PlainFile)) → OthersStay s file t → s.faults ≤ t.faults
+stay_counts s t None e = rw e (omega arith)
+stay_counts s t (Some h) keeps = keeps.counts
+
+pub stay_world : (s t : DiskState) (file : Option (OpenAt PlainFile)) → OthersStay s file t → Both s.told t.told SameBesidesOpens
+stay_world s t None e = subst (λ x. Both s.told x.told SameBesidesOpens) (sym e) (keeps_same s).world
+stay_world s t (Some h) keeps = keeps.world
+
+put_twice : (k : ℕ) (v w : Option Body) (at : ℕ → Option Body) → put k v (put k w at) ≡ put k v at
+put_twice k v w at = fun_ext (λ n. twice (n == k) v w (at n))
+  where
+    twice : (b : Bool) (v w x : Option Body) → cond b v (cond b w x) ≡ cond b v x
+    twice true v w x = refl
+    twice false v w x = refl
+
+inside : (b c : Body) → Some b ≡ Some c → b ≡ c
+inside b c e = cc
+
+not_there : (x : Option Body) (b : Body) → x ≡ Some b → x ≡ None → ⊥
+not_there x b e f = cc
+
+none_some : (c : Body) → None ≡ Some c → ⊥
+none_some c e = cc
+
+module _ (settings : Settings) (s t : DiskState) (at : ℕ → Option Body) (replies k : ℕ) (answer : Answer) (b c : Body) (p : IsPlaying (read_size_of settings.read_buf_size) s at replies)
+    (there : at k ≡ Some b) (polls : Polls handle_of seen_by s b answer t c) where
+  others : Others s t at k
+  others = others_leave (read_size_of settings.read_buf_size) s t at replies k b b.file refl p there (touches_others s t b.file c.file polls.disk)
+
+  playing_on : IsPlaying (read_size_of settings.read_buf_size) t (put k (Some c) at) replies
+  playing_on = playing_put (read_size_of settings.read_buf_size) s t at k replies replies (Some c) p others
+      (λ d e. subst (λ z. IsOpen (read_size_of settings.read_buf_size) t z) (inside c d e) (polled_open (read_size_of settings.read_buf_size) s t b c answer (p.held k b there) polls))
+      (λ n d x h g ne other e file own same.
+      let (f, is, handle) = touched_handle s t b.file c.file g polls.disk (ap (λ (z : Body). z.file) (inside c x e) ∙ own) in
+      ne (p.apart n k d b h f other there file is (same ∙ handle)))
+      (λ n le. put_other k n (Some c) at (λ e. not_there (at n) b (ap at e ∙ there) (p.earlier n le)) ∙ p.earlier n le)
+
+  swept_playing : (left : List BodyPart) (new : ℕ → Option Body) → left_of c ≡ left → Sweeps (put k (Some c) at) k new → IsPlaying (read_size_of settings.read_buf_size) t new replies
+  swept_playing [] new e sweeps =
+      subst (λ z. IsPlaying (read_size_of settings.read_buf_size) t z replies) (sym (sweeps.gone c (put_same k (Some c) at) e ∙ put_twice k None (Some c) at))
+      (playing_out (read_size_of settings.read_buf_size) s t at k replies p others)
+  swept_playing (part ∷ parts) new e sweeps =
+      subst (λ z. IsPlaying (read_size_of settings.read_buf_size) t z replies) (sym (sweeps.stays c (put_same k (Some c) at) (λ none. some_none part parts (sym e ∙ none)))) playing_on
+    where
+      some_none : (part : BodyPart) (parts : List BodyPart) → part ∷ parts ≡ [] → ⊥
+      some_none part parts e = cc
+
+  swept_left : (left : List BodyPart) (new : ℕ → Option Body) → left_of c ≡ left → Sweeps (put k (Some c) at) k new → left_in t new ≡ put k (parts_in t (Some c)) (left_in s at)
+  swept_left [] new e sweeps =
+      ap (left_in t) (sweeps.gone c (put_same k (Some c) at) e ∙ put_twice k None (Some c) at) ∙ left_put s t at k None others
+      ∙ ap (λ x. put k x (left_in s at)) (sym (ap (parts_of (number_in t c.file)) e))
+  swept_left (part ∷ parts) new e sweeps =
+      ap (left_in t) (sweeps.stays c (put_same k (Some c) at) (λ none. some_none part parts (sym e ∙ none))) ∙ left_put s t at k (Some c) others
+    where
+      some_none : (part : BodyPart) (parts : List BodyPart) → part ∷ parts ≡ [] → ⊥
+      some_none part parts e = cc
+
+  -- a body was polled, and taken out where nothing is left
+  poll_steps : (u : DiskState) (new : ℕ → Option Body) → u ≡ t → Sweeps (put k (Some c) at) k new
+      → Stepped (point_of s) (record { settings = settings; replies = replies; left = left_in s at }) (Poll k) (Ok answer) (point_of u) (record { settings = settings; replies = replies; left = left_in u new })
+  poll_steps u new same sweeps =
+      subst (λ x. Stepped (point_of s) (record { settings = settings; replies = replies; left = left_in s at }) (Poll k) (Ok answer) (point_of x) (record { settings = settings; replies = replies; left = left_in x new })) (sym same) (
+        record { counts = stay_counts s t b.file (touches_others s t b.file c.file polls.disk); world = stay_world s t b.file (touches_others s t b.file c.file polls.disk) },
+        (
+          parts_in t (Some c),
+          ap (λ left. record { settings = settings; replies = replies; left = left }) (swept_left (left_of c) new refl sweeps),
+          subst (λ x. PollsParts s.told s.whole (read_size_of settings.read_buf_size) s.faults t.faults (parts_in s x) answer (parts_in t (Some c))) (sym there)
+              (polled_parts (read_size_of settings.read_buf_size) s t b c answer (p.held k b there) polls),
+        ),
+      )
+
+-- the player after a poll
+pub playing_polled : (settings : Settings) (s t u : DiskState) (at mid new : ℕ → Option Body) (replies k : ℕ) (answer : Answer) → IsPlaying (read_size_of settings.read_buf_size) s at replies
+    → PollsBody at k s answer t mid → Sweeps mid k new → u ≡ t → IsPlaying (read_size_of settings.read_buf_size) u new replies
+playing_polled settings s t u at mid new replies k answer p polls sweeps same =
+    subst (λ x. IsPlaying (read_size_of settings.read_buf_size) x new replies) (sym same)
+    (swept_playing settings s t at replies k answer polls.before polls.now p polls.there polls.polled.does (left_of polls.now) new refl (subst (λ z. Sweeps z k new) polls.are sweeps))
+
+-- the answer to a poll
+pub polled : (settings : Settings) (s t u : DiskState) (at mid new : ℕ → Option Body) (replies k : ℕ) (answer : Answer) → IsPlaying (read_size_of settings.read_buf_size) s at replies
+    → PollsBody at k s answer t mid → Sweeps mid k new → u ≡ t
+    → Stepped (point_of s) (record { settings = settings; replies = replies; left = left_in s at }) (Poll k) (Ok answer) (point_of u) (record { settings = settings; replies = replies; left = left_in u new })
+polled settings s t u at mid new replies k answer p polls sweeps same =
+    poll_steps settings s t at replies k answer polls.before polls.now p polls.there polls.polled.does u new same (subst (λ z. Sweeps z k new) polls.are sweeps)
+
+held_at : (s : DiskState) (x : Option Body) (c : Body) → x ≡ Some c → IsHeld handle_of seen_by s c → IsHeldBody x s
+held_at s x c e held = subst (λ z. IsHeldBody z s) (sym e) held
+
+-- a body that was polled is held still
+pub polled_held : (s t : DiskState) (at mid : ℕ → Option Body) (k : ℕ) (answer : Answer) → PollsBody at k s answer t mid → IsHeldBody (mid k) t
+polled_held s t at mid k answer polls = held_at t (mid k) polls.now (ap (λ f. f k) polls.are ∙ put_same k (Some polls.now) at) polls.polled.does.held
+
+-- a body of the table is held
+pub playing_held : (most : ℕ) (s : DiskState) (at : ℕ → Option Body) (replies k : ℕ) → IsPlaying most s at replies → IsHeldBody (at k) s
+playing_held most s at replies k p = each (at k) (p.held k)
+  where
+    each : (x : Option Body) → ((b : Body) → x ≡ Some b → IsOpen most s b) → IsHeldBody x s
+    each None h = tt
+    each (Some b) h = (h b refl).held

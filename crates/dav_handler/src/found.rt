@@ -1,0 +1,152 @@
+// What a request finds over the store.
+ghost use Rattle.std.specs.Prelude.{◌≡◌, ◌++◌, ◌∷◌, [], IfOk, OnOk, None};
+ghost use Rattle.dav_core.specs.Statuses.{lacks_memory as the_lacks_memory};
+ghost use Rattle.dav_get.specs.Bodies.{IsHeld};
+ghost use Rattle.dav_model.specs.Head.{field, refusal as the_refusal};
+ghost use Rattle.dav_model.specs.Requests.{fields_of, gates};
+ghost use Rattle.dav_model.specs.declared.target.Target.TheVariants.{At};
+ghost use Rattle.dav_plain.specs.Calls.{seen_by};
+ghost use Rattle.dav_handler.specs.Found.{Finds, Gives, IsRefused, IsRefusedBy, NoFailure};
+ghost use Rattle.dav_handler.specs.Held.{handle_of};
+
+use crate::gates::target;
+use dav_core::{DavError, DavMethod, DavPath, Disk, FsError, ParseError};
+use dav_get::{GetBody, handle_get};
+use dav_io::{Field, Fields, NoMemory, Octets, Text};
+use dav_model::{Outcome, Settings, Target};
+use dav_plain::{PlainFile, PlainFs};
+use dav_store::DavFileSystem;
+use http::{HeaderMap, Request};
+use std::alloc::Global;
+
+/// What a request finds: a status, header fields, and a body with something left.
+#[derive(Drop)]
+pub struct Found {
+    pub outcome: Outcome,
+    pub body: Option<GetBody<PlainFile>>,
+}
+
+// Adds a field.
+fn add(alloc: Global, fields: &mut Vec<Field>, name: &str, value: &[u8]) -> Result<(), NoMemory>
+    ensures { OnOk result (fields.new.items ≡ fields.old.items ++ field name.now value.now ∷ []) }
+{
+    let name = Text::copy(alloc, name)?;
+    let value = Octets::new(Vec::from_slice(alloc, value)?);
+    fields.push(Field { name, value })?;
+    Ok(())
+}
+
+// A refusal: a status, no body, and the connection closes where `close` is set.
+fn refusal(alloc: Global, status: u16, close: bool) -> Result<Found, NoMemory>
+    ensures { IfOk result (IsRefused (the_refusal status close)) }
+{
+    let mut fields = Vec::new(alloc);
+    if close {
+        add(alloc, &mut fields, "connection", b"close")?;
+    }
+    add(alloc, &mut fields, "content-length", b"0")?;
+    Ok(Found {
+        outcome: Outcome {
+            status,
+            fields: Fields::new(fields),
+        },
+        body: None,
+    })
+}
+
+// Whether an error is or holds want of memory.
+fn lacks_memory(error: DavError) -> bool
+    ensures { result ≡ the_lacks_memory error }
+{
+    match error {
+        DavError::NoMemory
+        | DavError::Path(ParseError::NoMemory)
+        | DavError::Fs(FsError::NoMemory) => true,
+        _ => false,
+    }
+}
+
+// What an error is answered with.
+fn refuse(alloc: Global, error: DavError) -> Result<Found, NoMemory>
+    ensures { IfOk result (IsRefusedBy error) }
+{
+    if lacks_memory(error) {
+        return Err(NoMemory);
+    }
+    refusal(alloc, error.statuscode().as_u16(), error.must_close())
+}
+
+// Gives a body of which something is left; another is ended.
+fn give<D: Disk>(store: &mut PlainFs<D>, outcome: Outcome, body: GetBody<PlainFile>) -> Found
+    requires { IsHeld handle_of seen_by (D.state store.old.disk) body }
+    ensures outcome { result.outcome ≡ outcome }
+    ensures gives { Gives (D.state store.old.disk) body result.body (D.state store.new.disk) }
+    ensures loan { D.loan store.new.disk ≡ D.loan store.old.disk }
+{
+    if body.next_most() == 0 {
+        body.close(DavFileSystem::disk(store));
+        return Found {
+            outcome,
+            body: None,
+        };
+    }
+    Found {
+        outcome,
+        body: Some(body),
+    }
+}
+
+// What stands at a path, by GET or HEAD.
+fn find_at<D: Disk>(
+    alloc: Global,
+    settings: &Settings,
+    store: &mut PlainFs<D>,
+    method: DavMethod,
+    path: &DavPath,
+    fields: &HeaderMap,
+) -> Result<Found, NoMemory>
+    ensures done { Finds settings.now (D.state store.old.disk) fields.now (At method path.now) result (D.state store.new.disk) }
+    ensures loan { D.loan store.new.disk ≡ D.loan store.old.disk }
+{
+    match handle_get(alloc, settings, store, &(), method, path, fields) {
+        Ok(given) => {
+            let (outcome, body) = given;
+            Ok(give(store, outcome, body))
+        }
+        Err(error) => refuse(alloc, error),
+    }
+}
+
+// What is answered to what is asked for.
+fn find<D: Disk>(
+    alloc: Global,
+    settings: &Settings,
+    store: &mut PlainFs<D>,
+    target: &Target,
+    fields: &HeaderMap,
+) -> Result<Found, NoMemory>
+    requires { NoFailure target.now }
+    ensures done { Finds settings.now (D.state store.old.disk) fields.now target.now result (D.state store.new.disk) }
+    ensures loan { D.loan store.new.disk ≡ D.loan store.old.disk }
+{
+    match target {
+        Target::At { method, path } => find_at(alloc, settings, store, *method, path, fields),
+        Target::Refused { status, close } => refusal(alloc, *status, *close),
+    }
+}
+
+/// What a request finds.
+pub fn find_for<D: Disk>(
+    alloc: Global,
+    settings: &Settings,
+    store: &mut PlainFs<D>,
+    request: &Request<Octets>,
+) -> Result<Found, NoMemory>
+    ensures done { Finds settings.now (D.state store.old.disk) (fields_of request.now) (gates request.now) result (D.state store.new.disk) }
+    ensures loan { D.loan store.new.disk ≡ D.loan store.old.disk }
+{
+    match target(alloc, request) {
+        Ok(asked) => find(alloc, settings, store, &asked, request.headers()),
+        Err(error) => Err(error),
+    }
+}
