@@ -106,7 +106,7 @@ module _ {S C F : Type 0} (view : View S C F) (settings : Settings) (method : Da
         → IsHeadOr (is_well_known settings method path) settings method fields path (found_as (Ok there)) reply
     as_head reply head =
         let at : IsKindHead there.kind settings method fields path (stood_of there) reply =
-            subst (λ k. IsKindHead k settings method fields path (stood_of there) reply) (sym (kind_is there.kind regular)) head in
+        subst (λ k. IsKindHead k settings method fields path (stood_of there) reply) (sym (kind_is there.kind regular)) head in
         subst (λ b. IsHeadOr b settings method fields path (found_as (Ok there)) reply) (sym plain) at
 
     sends_file_right : (info : Info) (file : F) (s : S) (result : Given F) (t : S) (f : Seen) → Agrees info there → address_of settings (stood_of there) ≡ None → f.stands.number ≡ there.number
@@ -116,12 +116,12 @@ module _ {S C F : Type 0} (view : View S C F) (settings : Settings) (method : Da
     sends_file_right info file s (Ok r) t f agrees none number told live row =
         let alike = sent_alike method fields info (stood_of there) (says_of info there agrees) in
         elim (placed_right view (first_place (sent_of method fields (stood_by info None))) method path fields info (stood_of there) (sent_of method fields (stood_by info None)) file s r.0 r.1 t f
-            (says_of info there agrees) alike refl number told live row) [
+        (says_of info there agrees) alike refl number told live row) [
           | inl right ↦ inr (inl (record {
-              head = as_head _ (subst (λ a. IsFileHead a method fields path (stood_of there) (reply_at {F = F} there.number (Ok r))) (sym none)
-                  (subst (λ sent. IsSent method path (stood_of there) sent (reply_at {F = F} there.number (Ok r))) alike right.0));
-              file = right.1;
-            }))
+            head = as_head _ (subst (λ a. IsFileHead a method fields path (stood_of there) (reply_at {F = F} there.number (Ok r))) (sym none)
+                (subst (λ sent. IsSent method path (stood_of there) sent (reply_at {F = F} there.number (Ok r))) alike right.0));
+            file = right.1;
+          }))
           | inr unplaced ↦ inr (inr (record { spoiled = inr unplaced.0; rose = unplaced.1 }))
         ]
 
@@ -137,11 +137,11 @@ module _ {S C F : Type 0} (view : View S C F) (settings : Settings) (method : Da
         let to : Some address ≡ there.redirect = rw told at asked.done.told in
         let where' : address_of settings (stood_of there) ≡ Some address = ap (λ b. cond b there.redirect None) set ∙ sym to in
         let reply : reply_at {F = F} there.number (Ok r) ≡ redirected address there.tag date =
-            λ i. record {
-              status = ap (λ (o : Outcome). o.status) is i;
-              fields = (ap (λ (o : Outcome). o.fields) is ∙ (λ j. redirected_fields address (agrees.tag j) date)) i;
-              parts = ap (parts_of there.number) left i;
-            } in
+        λ i. record {
+          status = ap (λ (o : Outcome). o.status) is i;
+          fields = (ap (λ (o : Outcome). o.fields) is ∙ (λ j. redirected_fields address (agrees.tag j) date)) i;
+          parts = ap (parts_of there.number) left i;
+        } in
         inr (inl (record {
           head = as_head _ (subst (λ a. IsFileHead a method fields path (stood_of there) (reply_at {F = F} there.number (Ok r))) (sym where')
               (date, subst (λ time. IsDate time date) agrees.modified dated, reply));
@@ -178,7 +178,7 @@ module _ {S C F : Type 0} (view : View S C F) (settings : Settings) (method : Da
         let live2 : can_read ((view.state m).live (view.handle g)) ≡ true = ap (λ h. can_read ((view.state m).live h)) says.handle ∙ ap can_read (says.done.keeps.live (view.handle file)) ∙ live in
         let row2 = subst (λ b. ByFile view b settings method path fields info g m result t) file_kind row in
         right_before (Ok there) s m result t says.done.keeps.counts
-            (by_redirect_right (is_set settings.redirect) info g m result t refl (agrees.file regular) (says.done.same ∙ told) live2 row2)
+        (by_redirect_right (is_set settings.redirect) info g m result t refl (agrees.file regular) (says.done.same ∙ told) live2 row2)
 
   -- what is neither a directory nor a regular file
   other_right : (there : Standing) → is_file there.kind ≡ false → is_dir there.kind ≡ false → is_well_known settings method path ≡ false → (said : Result Info FsError) (file g : F) (s m : S) (result : Given F) (t : S) (f : Seen) → seen_in view s file ≡ Some f → f.stands.kind ≡ there.kind
@@ -190,7 +190,7 @@ module _ {S C F : Type 0} (view : View S C F) (settings : Settings) (method : Da
       let row2 = subst (λ b. ByFile view b settings method path fields info g m result t) (ap is_file (agrees.kind ∙ kind) ∙ no_file) row in
       let linked : there.kind ≡ Link = link_is there.kind no_file no_dir in
       let at : IsKindHead there.kind settings method fields path (stood_of there) (reply_at {F = F} there.number result) =
-          subst (λ k. IsKindHead k settings method fields path (stood_of there) (reply_at {F = F} there.number result)) (sym linked) (ap (reply_at {F = F} there.number) row2.1) in
+      subst (λ k. IsKindHead k settings method fields path (stood_of there) (reply_at {F = F} there.number result)) (sym linked) (ap (reply_at {F = F} there.number) row2.1) in
       inr (inl (record {
         head = subst (λ b. IsHeadOr b settings method fields path (found_as (Ok there)) (reply_at {F = F} there.number result)) (sym plain) at;
         file = subst (λ r. IsOfNumber view there.number t r) (sym row2.1) tt;
@@ -228,7 +228,7 @@ module _ {S C F : Type 0} (view : View S C F) (settings : Settings) (method : Da
       → ByKind view b settings c method path fields s result t → RightHead view settings method fields path (Ok there) s result t
   kind_right true there dir plain c s result t shows (same, err) =
       let at : IsKindHead there.kind settings method fields path (stood_of there) (reply_at {F = F} there.number result) =
-          subst (λ k. IsKindHead k settings method fields path (stood_of there) (reply_at {F = F} there.number result)) (sym (dir_is there.kind dir)) (ap (reply_at {F = F} there.number) err) in
+      subst (λ k. IsKindHead k settings method fields path (stood_of there) (reply_at {F = F} there.number result)) (sym (dir_is there.kind dir)) (ap (reply_at {F = F} there.number) err) in
       inr (inl (record {
         head = subst (λ b. IsHeadOr b settings method fields path (found_as (Ok there)) (reply_at {F = F} there.number result)) (sym plain) at;
         file = subst (λ r. IsOfNumber view there.number t r) (sym err) tt;
@@ -248,7 +248,7 @@ module _ {S C F : Type 0} (view : View S C F) (settings : Settings) (method : Da
       → AfterLook view r settings c method path fields m result t → RightHead view settings method fields path found s result t
   looked_right (Ok there) (Ok info) plain c s m result t (inl agrees) counts shows row =
       right_before (Ok there) s m result t counts
-          (kind_right (is_dir there.kind) there refl plain c m result t (shows there refl) (subst (λ b. ByKind view b settings c method path fields m result t) (ap is_dir agrees.kind) row))
+      (kind_right (is_dir there.kind) there refl plain c m result t (shows there refl) (subst (λ b. ByKind view b settings c method path fields m result t) (ap is_dir agrees.kind) row))
   looked_right (Err e) (Ok info) plain c s m result t (inl shown) counts shows row = absurd shown
   looked_right found (Ok info) plain c s m result t (inr (inl (e, rose))) counts shows row = absurd (not_both info (Ok info) fs.GeneralFailure refl e)
   looked_right found (Ok info) plain c s m result t (inr (inr e)) counts shows row = absurd (not_both info (Ok info) fs.NoMemory refl e)
@@ -258,10 +258,10 @@ module _ {S C F : Type 0} (view : View S C F) (settings : Settings) (method : Da
       elim (refused_status e) [
         | inl none ↦ inl (err2 ∙ ap Err none)
         | inr (status, open') ↦ inr (inl (record {
-            head = subst (λ b. IsHeadOr b settings method fields path (found_as (Err e)) (reply_at {F = F} 0 result)) (sym plain)
-                (ap (reply_at {F = F} 0) err2 ∙ (λ i. refusal (status i) (open' i)));
-            file = subst (λ r. IsOfNumber view 0 t r) (sym err2) tt;
-          }))
+          head = subst (λ b. IsHeadOr b settings method fields path (found_as (Err e)) (reply_at {F = F} 0 result)) (sym plain)
+              (ap (reply_at {F = F} 0) err2 ∙ (λ i. refusal (status i) (open' i)));
+          file = subst (λ r. IsOfNumber view 0 t r) (sym err2) tt;
+        }))
       ]
   looked_right found (Err f) plain c s m result t (inr spoiled) counts shows (same, err) =
       spoiled_right {T = Info} found s m t (Err f) f result refl spoiled (rw same (omega arith)) err
@@ -280,10 +280,10 @@ module _ {S C F : Type 0} (view : View S C F) (settings : Settings) (method : Da
       none_some o h a b = let x : None ≡ Some h = sym a ∙ b in cc
   well_known_right false found c opened s result t known shows looked (r, m, look, row) =
       looked_right found r known c s m result t (shows.looks_there s m r here look) (shows.looks_counts s m r here look)
-          (λ there is o n opens dir.
-            let same : opened ≡ Ok there = subst (λ x. OpensLooked x opened) is looked dir in
-            subst (λ x. OpensThere view.seen x o (view.state n) ⊎ Spoiled (view.state m) o (view.state n)) same (shows.opens_there m n o (looks s m path r here look) opens))
-          row
+      (λ there is o n opens dir.
+      let same : opened ≡ Ok there = subst (λ x. OpensLooked x opened) is looked dir in
+      subst (λ x. OpensThere view.seen x o (view.state n) ⊎ Spoiled (view.state m) o (view.state n)) same (shows.opens_there m n o (looks s m path r here look) opens))
+      row
 
   -- The table over what the store shows is the head of that.
   pub gets_right : (found opened : Result Standing FsError) (c : C) (s : S) (result : Given F) (t : S) → Shows view s c path found opened → OpensLooked found opened

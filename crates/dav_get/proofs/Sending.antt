@@ -47,9 +47,9 @@ reply_alike : {F : Type 0} (method : DavMethod) (path : WebPath) (info : Info) (
 reply_alike method path info stood sent outcome body parts date says is left are =
     let status : outcome.status ≡ sent_status sent = ap (λ (o : Outcome). o.status) is in
     let fields : outcome.fields ≡ sent_fields (is_get method) (type_of path) stood.len stood.tag date sent =
-        ap (λ (o : Outcome). o.fields) is ∙ (λ j. sent_fields (is_get method) (type_of path) (says.len j) (says.tag j) date sent) in
+    ap (λ (o : Outcome). o.fields) is ∙ (λ j. sent_fields (is_get method) (type_of path) (says.len j) (says.tag j) date sent) in
     let all : parts_of stood.number (left_of body) ≡ sent_parts (is_get method) (type_of path) stood.number stood.len sent =
-        ap (parts_of stood.number) left ∙ are ∙ (λ j. sent_parts (is_get method) (type_of path) stood.number (says.len j) sent) in
+    ap (parts_of stood.number) left ∙ are ∙ (λ j. sent_parts (is_get method) (type_of path) stood.number (says.len j) sent) in
     λ i. record { status = status i; fields = fields i; parts = all i }
 
 module _ {S C F : Type 0} (view : View S C F) where
@@ -73,9 +73,11 @@ module _ {S C F : Type 0} (view : View S C F) where
   pub sends_right : (method : DavMethod) (path : WebPath) (info : Info) (stood : Stood) (sent : Sent) (file : F) (place : ℕ) (s : S) (outcome : Outcome) (body : GetBody F) (t : S) → Says info stood
       → Sends view method path info sent file place s outcome body t → IsSent method path stood sent (reply_at {F = F} stood.number (Ok (outcome, body)))
   sends_right method path info stood sent file place s outcome body t says row =
-      let (date, dated, is) = row.outcome_is in
-      (date, subst (λ time. IsDate time date) says.modified dated,
-        reply_alike method path info stood sent outcome body row.parts date says is (held_left row.parts file place s body t row.holds) (row.are stood.number))
+      let (date, dated, is) = row.outcome_is in (
+        date,
+        subst (λ time. IsDate time date) says.modified dated,
+        reply_alike method path info stood sent outcome body row.parts date says is (held_left row.parts file place s body t row.holds) (row.are stood.number),
+      )
 
   pub sends_number : (method : DavMethod) (path : WebPath) (info : Info) (sent : Sent) (file : F) (place : ℕ) (s : S) (outcome : Outcome) (body : GetBody F) (t : S) (f : Seen) → seen_in view s file ≡ Some f
       → Sends view method path info sent file place s outcome body t → IsOfNumber view f.stands.number t (Ok (outcome, body))
@@ -104,12 +106,16 @@ module _ {S C F : Type 0} (view : View S C F) where
   sought_right (Ok n) method path fields info stood sent file g start s m outcome body t f says is first number told live seeks row =
       let (h, at, moved) = told_after (seen_in view s file) (seen_in view m g) (SeeksIn start (Ok n)) f seeks.done.told told in
       let same : h.stands.number ≡ stood.number = ap (λ (x : Seen). x.stands.number) moved ∙ number in
-      inl (sends_right method path info stood sent g start m outcome body t says row,
-        subst (λ k. IsOfNumber view k t (Ok (outcome, body))) same (sends_number method path info sent g start m outcome body t h at row))
+      inl (
+        sends_right method path info stood sent g start m outcome body t says row,
+        subst (λ k. IsOfNumber view k t (Ok (outcome, body))) same (sends_number method path info sent g start m outcome body t h at row),
+      )
   sought_right (Err e) method path fields info stood sent file g start s m outcome body t f says is first number told live seeks row =
       let refused = seeks.done.refused live in
-      inr (record { partial = ap sent_status (sym is) ∙ some_start sent start first; sent = sends_right method path info stood Unsatisfied g start m outcome body t says row },
-        rose_on _ _ _ refused.1 (sends_counts method path info Unsatisfied g start m outcome body t row))
+      inr (
+        record { partial = ap sent_status (sym is) ∙ some_start sent start first; sent = sends_right method path info stood Unsatisfied g start m outcome body t says row },
+        rose_on _ _ _ refused.1 (sends_counts method path info Unsatisfied g start m outcome body t row),
+      )
 
   -- A row that sends of the file what is called for is right, or the file couldn't be placed.
   pub placed_right : (place : Option ℕ) (method : DavMethod) (path : WebPath) (fields : Fields) (info : Info) (stood : Stood) (sent : Sent) (file : F) (s : S) (outcome : Outcome) (body : GetBody F) (t : S) (f : Seen)
@@ -118,7 +124,9 @@ module _ {S C F : Type 0} (view : View S C F) where
       → (IsSent method path stood sent (reply_at {F = F} stood.number (Ok (outcome, body))) × IsOfNumber view stood.number t (Ok (outcome, body)))
       ⊎ (IsUnplaced method fields path stood (reply_at {F = F} stood.number (Ok (outcome, body))) × Rose (view.state s).faults (view.state t).faults)
   placed_right None method path fields info stood sent file s outcome body t f says is first number told live row =
-      inl (sends_right method path info stood sent file 0 s outcome body t says row,
-        subst (λ k. IsOfNumber view k t (Ok (outcome, body))) number (sends_number method path info sent file 0 s outcome body t f told row))
+      inl (
+        sends_right method path info stood sent file 0 s outcome body t says row,
+        subst (λ k. IsOfNumber view k t (Ok (outcome, body))) number (sends_number method path info sent file 0 s outcome body t f told row),
+      )
   placed_right (Some start) method path fields info stood sent file s outcome body t f says is first number told live (sought, g, m, seeks, row) =
       sought_right sought method path fields info stood sent file g start s m outcome body t f says is first number told live seeks row

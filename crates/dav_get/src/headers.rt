@@ -134,12 +134,7 @@ pub(crate) fn span(alloc: Global, len: u64, part: &Slice) -> Result<String, NoMe
 }
 
 // Adds `content-range`, where it stands.
-fn add_range(
-    alloc: Global,
-    fields: &mut Vec<Field>,
-    len: u64,
-    sent: &Sent,
-) -> Result<(), NoMemory>
+fn add_range(alloc: Global, fields: &mut Vec<Field>, len: u64, sent: &Sent) -> Result<(), NoMemory>
     requires { IsSentOf len sent.now }
     ensures { OnOk result (fields.new.items ≡ fields.old.items ++ field_where (codes "content-range") (the_sent_range len sent.now)) }
 {

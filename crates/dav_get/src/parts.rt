@@ -20,7 +20,9 @@ fn part_head(alloc: Global, kind: &str, len: u64, part: &Slice) -> Result<Octets
     ensures some { IfOk result (λ text. 0 < length text) }
 {
     let span = span(alloc, len, part)?;
-    let text = format!(in alloc; "\n--BOUNDARY\nContent-Range: bytes {span}\nContent-Type: {kind}\n\n")?;
+    let text = format!(in alloc;
+        "\n--BOUNDARY\nContent-Range: bytes {span}\nContent-Type: {kind}\n\n"
+    )?;
     Ok(Octets::new(text.into_bytes()))
 }
 
@@ -43,12 +45,7 @@ fn add_part(
 }
 
 // Several slices, each with the text before it, and the last boundary.
-fn several(
-    alloc: Global,
-    kind: &str,
-    len: u64,
-    slices: &[Slice],
-) -> Result<Vec<BodyPart>, NoMemory>
+fn several(alloc: Global, kind: &str, len: u64, slices: &[Slice]) -> Result<Vec<BodyPart>, NoMemory>
     requires { AllByRecursion (IsWithin len) slices.now }
     ensures parts { IfOk result (λ parts. (number : ℕ) → parts_of number parts.items ≡ several_parts kind.now number len slices.now) }
     ensures sound { IfOk result (λ parts. list_all is_part parts.items ≡ true) }

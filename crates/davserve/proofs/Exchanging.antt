@@ -13,6 +13,7 @@ use Rattle.dav_model.specs.declared.answer.Answer.{Answer}
 use Rattle.dav_model.specs.declared.answer.Answer.TheVariants.{Reply as Replied, Piece, End, Broken, Done}
 use Rattle.dav_model.specs.Requests.{Asked}
 use Rattle.dav_model.specs.Bodies.{Part, Playing, Polls, size, polls_shrink}
+use Rattle.dav_model.specs.Sizes.{read_size_of}
 use Rattle.dav_model.specs.Trail.{Point}
 use Rattle.dav_model.specs.Play.{Played}
 use Rattle.dav_model.specs.Joining.{played_join, played_counts, poll_says}
@@ -31,11 +32,11 @@ poll_shrinks s p body a b t q piece r e =
     let says = poll_says s p body a b t q r in
     polls_shrink says.mid.told says.mid.whole (read_size_of p.settings.read_buf_size) says.mid.faults t.faults (p.left body) b (q.left body) says.polls piece e
 
-broke_at : (told : Option _) (whole : Bool) (before after : ℕ) (left : List Part) (answer : Answer) (rest : List Part)
+broke_at : (told : Option _) (whole : Bool) (most before after : ℕ) (left : List Part) (answer : Answer) (rest : List Part)
     → Polls told whole most before after left answer rest → ((x : List ℕ) → answer ≡ Piece x → ⊥) → (answer ≡ End → ⊥) → (answer ≡ Broken) × Rose before after
-broke_at told whole before after [] answer rest (e, none) piece end = absurd (end e)
-broke_at told whole before after (part ∷ parts) answer rest (inl (x, e, gives)) piece end = absurd (piece x e)
-broke_at told whole before after (part ∷ parts) answer rest (inr (e, none, rose)) piece end = (e, rose)
+broke_at told whole most before after [] answer rest (e, none) piece end = absurd (end e)
+broke_at told whole most before after (part ∷ parts) answer rest (inl (x, e, gives)) piece end = absurd (piece x e)
+broke_at told whole most before after (part ∷ parts) answer rest (inr (e, none, rose)) piece end = (e, rose)
 
 pub rose_between : (a b c d : ℕ) → a ≤ b → b ≤ c → Rose c d → Rose a d
 rose_between a b c d x y (inl lt) = inl (omega arith)
@@ -47,7 +48,7 @@ pub poll_broke : (s m t : Point) (p q r : Playing) (body : ℕ) (a b : Answer) (
     → ((x : List ℕ) → b ≡ Piece x → ⊥) → (b ≡ End → ⊥) → (b ≡ Broken) × Rose s.faults t.faults
 poll_broke s m t p q r body a b xs old new first second piece end =
     let says = poll_says m q body a b t r second in
-    let both = broke_at says.mid.told says.mid.whole says.mid.faults t.faults (q.left body) b (r.left body) says.polls piece end in
+    let both = broke_at says.mid.told says.mid.whole (read_size_of q.settings.read_buf_size) says.mid.faults t.faults (q.left body) b (r.left body) says.polls piece end in
     (both.0, rose_between s.faults m.faults says.mid.faults t.faults (played_counts s p xs old new m q first) says.counts both.1)
 
 more_steps : (body : ℕ) (pieces : List (List ℕ)) (piece : List ℕ) → piece_steps body pieces ++ Turn ∷ Poll body ∷ [] ≡ piece_steps body (pieces ++ piece ∷ [])
