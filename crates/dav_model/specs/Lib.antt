@@ -6,6 +6,7 @@ pub mod Requests
 pub mod Slices
 pub mod Conditions
 pub mod Head
+pub mod Announced
 pub mod Trail
 pub mod Play
 pub mod Joining

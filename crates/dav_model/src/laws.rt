@@ -1,8 +1,14 @@
 //! Laws over the definitions, each the contract of a function that does nothing.
-ghost use Rattle.std.specs.Prelude.{◌++◌, List, [], Result, Ok};
+ghost use Rattle.std.specs.Prelude.{◌≡◌, ◌++◌, ℕ, List, [], true, Some, Result, Ok};
 ghost use Rattle.dav_io.specs.declared.failure.NoMemory.{NoMemory};
 ghost use Rattle.dav_model.specs.declared.step.Step.{Step};
 ghost use Rattle.dav_model.specs.declared.answer.Answer.{Answer};
+ghost use Rattle.dav_core.specs.DavPath.{WebPath};
+ghost use Rattle.dav_core.specs.declared.method.DavMethod.TheVariants.{Get, Head};
+ghost use Rattle.dav_model.specs.declared.sent.Sent.{Sent};
+ghost use Rattle.dav_model.specs.Announced.{PolledToEnd, bytes_in, IsShared, bare};
+ghost use Rattle.dav_model.specs.Conditions.{Fields};
+ghost use Rattle.dav_model.specs.Head.{Reply, Stood, IsSent, sent_length, sent_of};
 ghost use Rattle.dav_model.specs.Trail.{Point};
 ghost use Rattle.dav_model.specs.Bodies.{Playing};
 ghost use Rattle.dav_model.specs.Play.{Played};
@@ -12,4 +18,21 @@ ghost use Rattle.dav_model.specs.Play.{Played};
 pub fn runs_join()
     ensures { (s m t : Point) (p q r : Playing) (xs ys : List Step) (old a b : List Answer) (result : Result Unit NoMemory)
         → Played s p xs old a (Ok tt) m q → Played m q ys [] b result t r → Played s p (xs ++ ys) old (a ++ b) result t r }
+{}
+
+/// A body that is polled to its end without a break has exactly the number of bytes that `content-length` announced,
+/// whatever happens to the file between the polls. An answer 304 announces the length of a body that isn't sent
+/// (RFC 9110, section 8.6).
+pub fn bodies_have_the_announced_length()
+    ensures { (path : WebPath) (stood : Stood) (sent : Sent) (reply : Reply) (n : ℕ) (pieces : List (List ℕ))
+        → IsSent Get path stood sent reply → (reply.status ≡ 304 → ⊥) → sent_length true stood.len sent ≡ Some n
+        → PolledToEnd reply.parts pieces → bytes_in pieces ≡ n }
+{}
+
+/// Where a GET of a file is rightly answered with 200, 206 or 304, a HEAD with the same fields is rightly answered with
+/// the same status and the same fields, and without a body (RFC 9110, section 9.3.2).
+pub fn heads_are_gets_without_bodies()
+    ensures { (fields : Fields) (path : WebPath) (stood : Stood) (reply : Reply)
+        → IsSent Get path stood (sent_of Get fields stood) reply → IsShared reply.status
+        → IsSent Head path stood (sent_of Head fields stood) (bare reply) }
 {}
