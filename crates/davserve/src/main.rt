@@ -90,6 +90,15 @@ fn ends(rt: &HostRuntime, status: u8) -> ExitCode {
     ExitCode::from(status)
 }
 
+// Names the words that aren't understood, and those that are.
+fn refuses(rt: &HostRuntime, words: &[String]) -> ExitCode {
+    let _ = match words.join(rt.alloc(), " ") {
+        Ok(text) => eprintln!(rt; "davserve: not understood: '{text}'; {USAGE}"),
+        Err(_) => eprintln!(rt; "{}", line_of(2)),
+    };
+    ExitCode::from(2)
+}
+
 fn say(rt: &HostRuntime, text: &str) -> ExitCode {
     match println!(rt; "{text}") {
         Ok(()) => ExitCode::from(0),
@@ -113,6 +122,7 @@ fn main(rt: HostRuntime) -> ExitCode {
         return say(&rt, "davserve 0.1.0");
     }
     match serve(&rt, &words) {
+        Ok(2) => refuses(&rt, &words),
         Ok(status) => ends(&rt, status),
         Err(_) => {
             let _ = eprintln!(rt; "davserve: out of memory");
