@@ -132,8 +132,11 @@ fn requests_are_answered(rt: HostRuntime) -> Result<(), Fail> {
         b"GET /f.txt HTTP/1.1\r\nHost: h\r\nUser-Agent: Mozilla/5.0 (X11; Linux)\r\nAccept: text/html,*/*;q=0.8\r\nAccept-Language: en\r\nAccept-Encoding: gzip, br\r\nConnection: keep-alive\r\nUpgrade-Insecure-Requests: 1\r\nSec-Fetch-Dest: document\r\nSec-Fetch-Mode: navigate\r\nSec-Fetch-Site: none\r\nDNT: 1\r\n\r\n";
     assert_eq!(rt; always(alloc, browser, &[HEAD, DIGITS])?, done);
     // A method that isn't built closes, and the request behind it isn't read.
+    let delete = b"DELETE /f.txt HTTP/1.1\r\n\r\nGET /f.txt HTTP/1.1\r\n\r\n";
+    assert_eq!(rt; always(alloc, delete, &[NOT_BUILT])?, done);
+    // A HEAD has the fields of the GET and no body.
     let head = b"HEAD /f.txt HTTP/1.1\r\n\r\nGET /f.txt HTTP/1.1\r\n\r\n";
-    assert_eq!(rt; always(alloc, head, &[NOT_BUILT])?, done);
+    assert_eq!(rt; always(alloc, head, &[HEAD, HEAD, DIGITS])?, done);
     let missing = b"GET /n.txt HTTP/1.1\r\n\r\n";
     assert_eq!(rt; always(alloc, missing, &[MISSING])?, done);
     let three =
