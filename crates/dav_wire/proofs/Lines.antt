@@ -1,18 +1,46 @@
--- Lines of fields, joined.
-use Rattle.std.proofs.Common.{◌≡◌, ℕ, List, ◌∷◌, ◌++◌, take, drop, sym, ap, ◌∙◌, append_assoc}
+-- Lines of fields, joined, and fields that are put where their names belong.
+use Rattle.std.proofs.Common.{◌≡◌, ℕ, ◌+◌, true, false, List, [], ◌∷◌, ◌++◌, take, drop, refl, sym, ap, ◌∙◌, append_assoc, add-one, inl, inr}
+use Rattle.std.specs.Ordering.{nat_cmp, is_gt}
+use Rattle.std.specs.Cmp.Lexicographic.{slice_cmp}
+use Rattle.std.proofs.lemmas.Bool.{cases_Bool}
+use Rattle.std.proofs.lemmas.Cmp.{upto, nat_list_cmp_total}
 use Rattle.std.proofs.lemmas.Grind.{flat_map-append}
 use Rattle.dav_io.specs.declared.fields.Field.{Field}
-use Rattle.dav_wire.specs.Answers.{field_line, field_lines, close_field, close_place, with_close}
+use Rattle.dav_wire.specs.declared.chunks.Framing.{Framing}
+use Rattle.dav_wire.specs.declared.chunks.Framing.TheVariants.{Raw, Chunked}
+use Rattle.dav_wire.specs.Answers.{field_line, field_lines, close_field, chunked_field, place, with_field, with_framing}
 
--- text, the lines before the place, the line that closes, and the lines after it
-pub closing_lines : (fields front back : List Field) (n : ℕ) (old a b d : List ℕ) → n ≡ close_place fields → front ≡ take n fields → back ≡ drop n fields
-    → a ≡ old ++ field_lines front → b ≡ a ++ field_line close_field → d ≡ b ++ field_lines back
-    → d ≡ old ++ field_lines (with_close fields)
-closing_lines fields front back n old a b d same e f p q r =
-    let place = close_place fields in
-    r ∙ ap (λ x. x ++ field_lines back) q ∙ ap (λ x. (x ++ field_line close_field) ++ field_lines back) p
-    ∙ append_assoc (old ++ field_lines front) (field_line close_field) (field_lines back)
-    ∙ append_assoc old (field_lines front) (field_line close_field ++ field_lines back)
-    ∙ ap (λ x. old ++ (field_lines x ++ (field_line close_field ++ field_lines back))) (e ∙ ap (λ k. take k fields) same)
-    ∙ ap (λ x. old ++ (field_lines (take place fields) ++ (field_line close_field ++ field_lines x))) (f ∙ ap (λ k. drop k fields) same)
-    ∙ ap (λ x. old ++ x) (sym (flat_map-append field_line (take place fields) (close_field ∷ drop place fields)))
+-- text, some lines, one more, and the lines behind it
+pub lines_around : (added : Field) (front behind : List Field) (old a b d : List ℕ)
+    → a ≡ old ++ field_lines front → b ≡ a ++ field_line added → d ≡ b ++ field_lines behind
+    → d ≡ old ++ field_lines (front ++ added ∷ behind)
+lines_around added front behind old a b d p q r =
+    r ∙ ap (λ x. x ++ field_lines behind) q ∙ ap (λ x. (x ++ field_line added) ++ field_lines behind) p
+    ∙ append_assoc (old ++ field_lines front) (field_line added) (field_lines behind)
+    ∙ append_assoc old (field_lines front) (field_line added ++ field_lines behind)
+    ∙ ap (λ x. old ++ x) (sym (flat_map-append field_line front (added ∷ behind)))
+
+-- a field whose name comes no later stays in front
+passes : (added field : Field) (fields : List Field) → is_gt (slice_cmp nat_cmp field.name added.name) ≡ false
+    → with_field added (field ∷ fields) ≡ field ∷ with_field added fields
+passes added field fields before = rw (before, add-one) refl
+
+-- what comes no later than `connection` comes no later than `transfer-encoding`
+before_framing : (field : Field) → is_gt (slice_cmp nat_cmp field.name close_field.name) ≡ false → is_gt (slice_cmp nat_cmp field.name chunked_field.name) ≡ false
+before_framing field before = upto nat_list_cmp_total field.name close_field.name chunked_field.name before refl
+
+-- of two fields that are put where their names belong, the second stands behind the first
+pub framed_behind_close : (framing : Framing) (fields : List Field)
+    → with_framing framing (with_field close_field fields)
+    ≡ take (place close_field.name fields) fields ++ close_field ∷ with_framing framing (drop (place close_field.name fields) fields)
+framed_behind_close Raw fields = refl
+framed_behind_close Chunked [] = refl
+framed_behind_close Chunked (field ∷ fields) =
+    elim (cases_Bool (is_gt (slice_cmp nat_cmp field.name close_field.name))) [
+      | inl after ↦ rw after (passes chunked_field close_field (field ∷ fields) refl)
+      | inr before ↦
+        ap (with_field chunked_field) (passes close_field field fields before)
+        ∙ passes chunked_field field (with_field close_field fields) (before_framing field before)
+        ∙ ap (λ x. field ∷ x) (framed_behind_close Chunked fields)
+        ∙ rw (before, add-one) refl
+    ]

@@ -4,6 +4,8 @@ use Rattle.std.specs.List.{flat_map, list_any}
 use Rattle.std.specs.Ordering.{nat_cmp, is_gt}
 use Rattle.std.specs.Cmp.Lexicographic.{slice_cmp}
 use Rattle.dav_io.specs.declared.fields.Field.{Field}
+use Rattle.dav_wire.specs.declared.chunks.Framing.{Framing}
+use Rattle.dav_wire.specs.declared.chunks.Framing.TheVariants.{Raw, Chunked}
 
 -- the phrase of a status; another number has none
 unfoldable pub phrase : ℕ → List ℕ
@@ -57,22 +59,35 @@ is_close_field field = bytes_eq field.name (codes "connection") && bytes_eq fiel
 abbrev pub has_close_field : List Field → Bool
 has_close_field fields = list_any is_close_field fields
 
--- How many fields stand before the first whose name comes after `connection`. Names are in the order of their bytes.
-abbrev pub close_place : List Field → ℕ
-close_place [] = 0
-close_place (field ∷ fields) = if is_gt (slice_cmp nat_cmp field.name (codes "connection")) then 0 else close_place fields + 1
+-- the field `transfer-encoding: chunked`
+abbrev pub chunked_field : Field
+chunked_field = record { name = codes "transfer-encoding"; value = codes "chunked" }
 
--- the fields with `connection: close` in its place
-abbrev pub with_close : List Field → List Field
-with_close fields = take (close_place fields) fields ++ close_field ∷ drop (close_place fields) fields
+-- How many fields stand before the first whose name comes after this one. Names are in the order of their bytes.
+abbrev pub place : List ℕ → List Field → ℕ
+place name [] = 0
+place name (field ∷ fields) = if is_gt (slice_cmp nat_cmp field.name name) then 0 else place name fields + 1
 
--- The fields of an answer as they are written. Where it closes and doesn't say so, that is added.
-abbrev pub written_fields : Bool → List Field → List Field
-written_fields close fields = if close && not (has_close_field fields) then with_close fields else fields
+-- the fields and one more, where its name belongs
+abbrev pub with_field : Field → List Field → List Field
+with_field added fields = take (place added.name fields) fields ++ added ∷ drop (place added.name fields) fields
+
+-- Where the answer closes and doesn't say so, that is added.
+abbrev pub with_close : Bool → List Field → List Field
+with_close closing fields = if closing && not (has_close_field fields) then with_field close_field fields else fields
+
+-- Where the body is written in chunks, that is said.
+abbrev pub with_framing : Framing → List Field → List Field
+with_framing Raw fields = fields
+with_framing Chunked fields = with_field chunked_field fields
+
+-- the fields of an answer as they are written
+abbrev pub written_fields : Bool → Framing → List Field → List Field
+written_fields closing framing fields = with_framing framing (with_close closing fields)
 
 -- the head of an answer
-abbrev pub head_text : ℕ → List Field → Bool → List ℕ
-head_text status fields close = status_line status ++ (field_lines (written_fields close fields) ++ codes "\r\n")
+abbrev pub head_text : ℕ → List Field → Bool → Framing → List ℕ
+head_text status fields closing framing = status_line status ++ (field_lines (written_fields closing framing fields) ++ codes "\r\n")
 
 -- what answers a request that can't be read
 abbrev pub bad_request_text : List ℕ

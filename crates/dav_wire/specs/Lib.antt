@@ -1,4 +1,6 @@
 pub mod Writing
+pub mod Framing
+pub mod Chunks
 pub mod Answers
 pub mod Heads
 pub mod Requests

@@ -1,7 +1,9 @@
 //! The bytes of answers.
 ghost use Rattle.std.specs.Prelude.{◌≡◌, ◌+◌, ◌%◌, ◌++◌, ◌≤◌, length, IfOk, OnOk};
-ghost use Rattle.dav_wire.specs.Answers.{phrase, three_digits, status_line, field_line, field_lines, has_close_field, is_close_field, close_place, with_close, written_fields, head_text, bad_request_text as refusal};
+ghost use Rattle.dav_wire.specs.Answers.{phrase, three_digits, status_line, field_line, field_lines, has_close_field, is_close_field, place as the_place, with_framing, written_fields, head_text, bad_request_text as refusal};
+ghost use Rattle.dav_wire.specs.Framing.{framing as the_framing, has_length as length_given, is_bodiless as bodiless};
 
+use crate::chunks::Framing;
 use dav_io::{Field, NoMemory, Octets};
 use std::alloc::Global;
 use std::cmp::Ordering;
@@ -13,37 +15,77 @@ pub fn bad_request_text() -> &'static [u8]
     b"HTTP/1.1 400 Bad Request\r\nconnection: close\r\ncontent-length: 0\r\n\r\n"
 }
 
-/// The head of an answer, with `connection: close` in its place where the answer closes and the fields don't say so.
+/// How the body of an answer is written. `chunks`: whether the request takes chunks.
+pub fn framing(chunks: bool, status: u16, fields: &[Field]) -> Framing
+    ensures { result ≡ the_framing chunks status fields.now }
+{
+    if chunks && !is_bodiless(status) && !has_length(fields) {
+        return Framing::Chunked;
+    }
+    Framing::Raw
+}
+
+// Has an answer of this status no body?
+fn is_bodiless(status: u16) -> bool
+    ensures { result ≡ bodiless status }
+{
+    status == 204 || status == 304
+}
+
+fn has_length(fields: &[Field]) -> bool
+    ensures { result ≡ length_given fields.now }
+{
+    fields
+        .iter()
+        .any(|field| field.name.as_str() == "content-length")
+}
+
+/// The head of an answer. `connection: close` is put in its place where the answer closes and the fields don't say so, and
+/// so is `transfer-encoding: chunked` where its body is written in chunks.
 pub fn answer_head(
     alloc: Global,
     status: u16,
     fields: &[Field],
-    close: bool,
+    closing: bool,
+    framing: Framing,
 ) -> Result<Octets, NoMemory>
-    ensures { IfOk result (λ text. text ≡ head_text status fields.now close) }
+    ensures { IfOk result (λ text. text ≡ head_text status fields.now closing framing) }
 {
     let mut text = Vec::with_capacity(alloc, 256)?;
     write_status(&mut text, status)?;
-    write_all(&mut text, fields, close)?;
+    write_all(&mut text, fields, closing, framing)?;
     text.extend_from_slice(b"\r\n")?;
     Ok(Octets::new(text))
 }
 
-fn write_all(text: &mut Vec<u8>, fields: &[Field], close: bool) -> Result<(), NoMemory>
-    ensures { OnOk result (text.new.items ≡ text.old.items ++ field_lines (written_fields close fields.now)) }
+fn write_all(
+    text: &mut Vec<u8>,
+    fields: &[Field],
+    closing: bool,
+    framing: Framing,
+) -> Result<(), NoMemory>
+    ensures { OnOk result (text.new.items ≡ text.old.items ++ field_lines (written_fields closing framing fields.now)) }
 {
-    if close && !says_close(fields) {
-        return write_closing(text, fields);
+    if !closing || says_close(fields) {
+        return write_framed(text, fields, framing);
     }
-    write_fields(text, fields)
-}
-
-fn write_closing(text: &mut Vec<u8>, fields: &[Field]) -> Result<(), NoMemory>
-    ensures { OnOk result (text.new.items ≡ text.old.items ++ field_lines (with_close fields.now)) }
-{
-    let (front, back) = fields.split_at(place(fields));
+    let (front, back) = fields.split_at(place(fields, b"connection"));
     write_fields(text, front)?;
     text.extend_from_slice(b"connection: close\r\n")?;
+    write_framed(text, back, framing)?;
+    Ok(())
+}
+
+// Writes fields, and how the body is written where their names say that it belongs.
+fn write_framed(text: &mut Vec<u8>, fields: &[Field], framing: Framing) -> Result<(), NoMemory>
+    ensures { OnOk result (text.new.items ≡ text.old.items ++ field_lines (with_framing framing fields.now)) }
+{
+    let Framing::Chunked = framing else {
+        return write_fields(text, fields);
+    };
+    let (front, back) = fields.split_at(place(fields, b"transfer-encoding"));
+    write_fields(text, front)?;
+    text.extend_from_slice(b"transfer-encoding: chunked\r\n")?;
     write_fields(text, back)?;
     Ok(())
 }
@@ -61,14 +103,14 @@ fn is_close(field: &Field) -> bool
     field.name.as_str() == "connection" && field.value.as_slice() == b"close".as_slice()
 }
 
-// Where `connection` has its place among the names.
-fn place(fields: &[Field]) -> usize
-    ensures value { result ≡ close_place fields.now }
+// Where a name has its place among the names.
+fn place(fields: &[Field], name: &[u8]) -> usize
+    ensures value { result ≡ the_place name.now fields.now }
     ensures within { result ≤ length fields.now }
 {
     let mut count = 0;
     for field in fields {
-        if field.name.as_slice().cmp(b"connection".as_slice()) == Ordering::Greater {
+        if field.name.as_slice().cmp(name) == Ordering::Greater {
             return count;
         }
         count += 1;

@@ -3,6 +3,7 @@
 
 mod answers;
 mod buffer;
+mod chunks;
 mod fields;
 mod head;
 mod input;
@@ -13,13 +14,14 @@ mod reading;
 mod request;
 mod writing;
 
-pub use answers::{answer_head, bad_request_text, says_close};
+pub use answers::{answer_head, bad_request_text, framing, says_close};
+pub use chunks::Framing;
 pub use fields::{asks_close, first_value, has_body_fields, has_field};
 pub use input::Input;
 pub use next::{Found, Next, ReadError};
 pub use output::Output;
 pub use reading::{fill_flushing, read_request};
-pub use request::{into_request, is_old};
+pub use request::{into_request, is_old, takes_chunks};
 pub use writing::put_all;
 
 #[cfg(test)]

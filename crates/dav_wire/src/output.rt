@@ -1,7 +1,9 @@
 //! A buffer of fixed size in front of a sink.
 ghost use Rattle.std.specs.Prelude.{◌≡◌, ◌≤◌, ◌+◌, ◌++◌, [], length, IfOk};
+ghost use Rattle.dav_wire.specs.Chunks.{chunk, written, ending as the_ending};
 ghost use Rattle.dav_wire.specs.Writing.{Pushes};
 
+use crate::chunks::{Framing, LINE, ending, write_size};
 use crate::writing::put_all;
 use dav_io::{Failed, NoMemory, Sink};
 use std::alloc::Global;
@@ -67,6 +69,45 @@ impl Output {
         }
         self.hold(bytes);
         Ok(())
+    }
+
+    /// Gives a piece of a body, as it is written. It takes no memory. In chunks an empty piece would be the end.
+    pub fn push_piece<K: Sink>(
+        &mut self,
+        sink: &mut K,
+        framing: Framing,
+        piece: &[u8],
+    ) -> Result<(), Failed>
+        ensures { Pushes (K.stream sink.old) self.old (written framing piece.now) result self.new (K.stream sink.new) }
+    {
+        match framing {
+            Framing::Raw => self.push(sink, piece),
+            Framing::Chunked => self.push_chunk(sink, piece),
+        }
+    }
+
+    /// Gives what ends a body, behind its last piece.
+    pub fn push_end<K: Sink>(&mut self, sink: &mut K, framing: Framing) -> Result<(), Failed>
+        ensures { Pushes (K.stream sink.old) self.old (the_ending framing) result self.new (K.stream sink.new) }
+    {
+        self.push(sink, ending(framing))
+    }
+
+    // Gives a piece as a chunk.
+    fn push_chunk<K: Sink>(&mut self, sink: &mut K, piece: &[u8]) -> Result<(), Failed>
+        ensures { Pushes (K.stream sink.old) self.old (chunk piece.now) result self.new (K.stream sink.new) }
+    {
+        let mut line = [0; LINE];
+        let start = write_size(&mut line, piece.len());
+        match self.push(sink, &line[start..]) {
+            Ok(()) => {}
+            Err(e) => return Err(e),
+        }
+        match self.push(sink, piece) {
+            Ok(()) => {}
+            Err(e) => return Err(e),
+        }
+        self.push(sink, b"\r\n")
     }
 
     // Holds bytes for which there is room.
