@@ -1,5 +1,7 @@
 pub mod Wrote
 pub mod Lines
+pub mod Sizes
+pub mod Chunking
 pub mod FieldLemmas
 pub mod HeadLemmas
 pub mod Refusals

@@ -1,5 +1,5 @@
 -- Lines of fields, joined, and fields that are put where their names belong.
-use Rattle.std.proofs.Common.{◌≡◌, ℕ, ◌+◌, true, false, List, [], ◌∷◌, ◌++◌, take, drop, refl, sym, ap, ◌∙◌, append_assoc, add-one, inl, inr}
+use Rattle.std.proofs.Common.{◌≡◌, ℕ, ◌+◌, Bool, true, false, List, [], ◌∷◌, ◌++◌, take, drop, refl, sym, ap, ◌∙◌, append_assoc, add-one, inl, inr}
 use Rattle.std.specs.Ordering.{nat_cmp, is_gt}
 use Rattle.std.specs.Cmp.Lexicographic.{slice_cmp}
 use Rattle.std.proofs.lemmas.Bool.{cases_Bool}
@@ -8,7 +8,7 @@ use Rattle.std.proofs.lemmas.Grind.{flat_map-append}
 use Rattle.dav_io.specs.declared.fields.Field.{Field}
 use Rattle.dav_wire.specs.declared.chunks.Framing.{Framing}
 use Rattle.dav_wire.specs.declared.chunks.Framing.TheVariants.{Raw, Chunked}
-use Rattle.dav_wire.specs.Answers.{field_line, field_lines, close_field, chunked_field, place, with_field, with_framing}
+use Rattle.dav_wire.specs.Answers.{field_line, field_lines, close_field, chunked_field, place, with_field, with_framing, has_close_field, written_fields}
 
 -- text, some lines, one more, and the lines behind it
 pub lines_around : (added : Field) (front behind : List Field) (old a b d : List ℕ)
@@ -44,3 +44,28 @@ framed_behind_close Chunked (field ∷ fields) =
         ∙ ap (λ x. field ∷ x) (framed_behind_close Chunked fields)
         ∙ rw (before, add-one) refl
     ]
+
+-- text, the lines before a field's place, its line, and the lines behind it
+pub lines_framed : (framing : Framing) (fields front back : List Field) (n : ℕ) (old a b d : List ℕ) → framing ≡ Chunked
+    → n ≡ place chunked_field.name fields → front ≡ take n fields → back ≡ drop n fields
+    → a ≡ old ++ field_lines front → b ≡ a ++ field_line chunked_field → d ≡ b ++ field_lines back
+    → d ≡ old ++ field_lines (with_framing framing fields)
+lines_framed framing fields front back n old a b d chunked same e f p q r =
+    let place_is = place chunked_field.name fields in
+    lines_around chunked_field front back old a b d p q r
+    ∙ ap (λ x. old ++ field_lines (x ++ chunked_field ∷ back)) (e ∙ ap (λ k. take k fields) same)
+    ∙ ap (λ x. old ++ field_lines (take place_is fields ++ chunked_field ∷ x)) (f ∙ ap (λ k. drop k fields) same)
+    ∙ ap (λ x. old ++ field_lines (with_framing x fields)) (sym chunked)
+
+pub lines_closing : (closing : Bool) (framing : Framing) (fields front back : List Field) (n : ℕ) (old a b d : List ℕ)
+    → closing ≡ true → has_close_field fields ≡ false
+    → n ≡ place close_field.name fields → front ≡ take n fields → back ≡ drop n fields
+    → a ≡ old ++ field_lines front → b ≡ a ++ field_line close_field → d ≡ b ++ field_lines (with_framing framing back)
+    → d ≡ old ++ field_lines (written_fields closing framing fields)
+lines_closing closing framing fields front back n old a b d closes unsaid same e f p q r =
+    let place_is = place close_field.name fields in
+    lines_around close_field front (with_framing framing back) old a b d p q r
+    ∙ ap (λ x. old ++ field_lines (x ++ close_field ∷ with_framing framing back)) (e ∙ ap (λ k. take k fields) same)
+    ∙ ap (λ x. old ++ field_lines (take place_is fields ++ close_field ∷ with_framing framing x)) (f ∙ ap (λ k. drop k fields) same)
+    ∙ ap (λ x. old ++ field_lines x) (sym (framed_behind_close framing fields))
+    ∙ rw (closes, unsaid) refl

@@ -195,3 +195,33 @@ sent_flush_front old new held later e p = record {
   counts = p.counts;
   told = both_map old.bytes new.bytes (AddsFront (held ++ [])) (AddsFront held) (λ a b x. (x.0, (x.1.0, x.1.1, x.1.2 ∙ append-nil held))) p.told;
 }
+
+then_pushed : (held first between second later : List ℕ) (result : Result Unit Failed) (a b d : List ℕ)
+    → Adds (held ++ first) between a b → Pushed between second result later b d → Pushed held (first ++ second) result later a d
+then_pushed held first between second later (Ok x) a b d p q =
+    subst (λ (w : List ℕ). Adds w later a d) (append_assoc held first second) (joined a b d p.0 q.0 between second later (held ++ first) p.1 p.2 q.1 q.2)
+then_pushed held first between second later (Err e) a b d p q =
+    subst (λ (w : List ℕ). AddsFront w a d) (append_assoc held first second)
+    (q.0, joined a b d p.0 q.1.0 between second q.0 (held ++ first) p.1 p.2 q.1.1 q.1.2)
+
+-- two pushes in a row are one of the joined bytes
+pub pushes_then : (old mid new : Stream) (held first between second later : List ℕ) (result : Result Unit Failed)
+    → Pushes old held first (Ok tt) between mid → Pushes mid between second result later new → Pushes old held (first ++ second) result later new
+pushes_then old mid new held first between second later result p q = record {
+  counts = let a = p.counts in let b = q.counts in omega arith;
+  failed = λ e. rose_later old.faults mid.faults new.faults p.counts (q.failed e);
+  dropped = q.dropped;
+  told = both_then old.bytes mid.bytes new.bytes (Pushed held first (Ok tt) between) (Pushed between second result later) (Pushed held (first ++ second) result later)
+      (λ a b d x y. then_pushed held first between second later result a b d x y) p.told q.told;
+}
+
+-- a push that fails gives a front of more bytes too
+pub pushes_fails : (old new : Stream) (held first second later : List ℕ) (e : Failed)
+    → Pushes old held first (Err e) later new → Pushes old held (first ++ second) (Err e) later new
+pushes_fails old new held first second later e p = record {
+  counts = p.counts;
+  failed = p.failed;
+  dropped = p.dropped;
+  told = both_map old.bytes new.bytes (Pushed held first (Err e) later) (Pushed held (first ++ second) (Err e) later)
+      (λ a b x. (x.0 ++ second, (x.1.0, x.1.1, sym (append_assoc x.1.0 x.0 second) ∙ ap (λ y. y ++ second) x.1.2 ∙ append_assoc held first second))) p.told;
+}
