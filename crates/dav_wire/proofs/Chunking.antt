@@ -7,7 +7,8 @@ use Rattle.std.specs.Str.Parse.{AllDigits, digits_value}
 use Rattle.std.proofs.lemmas.List.{append_cancel_left}
 use Rattle.std.proofs.lemmas.List.Elements.{All-head, All-tail}
 use Rattle.std.proofs.Math.Seq.{take-append_seam, drop-append_seam}
-use Rattle.dav_wire.specs.Chunks.{line_end, chunk, last_chunk, IsSize, IsWithinLine, IsExtension, HasSize, HasChunks, HasBody}
+use Rattle.dav_wire.specs.declared.chunks.Framing.TheVariants.{Raw, Chunked}
+use Rattle.dav_wire.specs.Chunks.{line_end, chunk, last_chunk, written, ending, IsPiece, IsWithinLine, IsExtension, HasSize, HasChunks, HasBody}
 use Rattle.dav_wire.proofs.Sizes.{digits_are_size}
 
 -- What of a text is in front of the first byte without a property is determined, and so is what stands behind it.
@@ -97,9 +98,6 @@ body_once text body other rest behind a b =
     let same = chunks_once text a.pieces b.pieces rest behind a.chunks b.chunks in
     (sym a.joined ∙ ap concat same.0 ∙ b.joined, same.1)
 
-abbrev pub IsPiece : List ℕ → Type 0
-IsPiece piece = (0 < length piece) × (length piece < 16 ^ 16)
-
 -- a chunk stands in front of what follows it
 chunk_whole : (piece text : List ℕ) → chunk piece ++ text ≡ digits 16 false (length piece) ++ (line_end ++ (piece ++ (line_end ++ text)))
 chunk_whole piece text =
@@ -131,5 +129,9 @@ chunks_back (piece ∷ pieces) behind all =
       chunks_back pieces behind (All-tail IsPiece piece pieces all),
     )
 
-pub body_back : (pieces : List (List ℕ)) (behind : List ℕ) → All IsPiece pieces → HasBody (flat_map chunk pieces ++ (last_chunk ++ behind)) (concat pieces) behind
+pub body_back : (pieces : List (List ℕ)) (behind : List ℕ) → All IsPiece pieces → HasBody (flat_map (written Chunked) pieces ++ (ending Chunked ++ behind)) (concat pieces) behind
 body_back pieces behind all = record { pieces = pieces; chunks = chunks_back pieces behind all; joined = refl }
+
+pub raw_back : (pieces : List (List ℕ)) → flat_map (written Raw) pieces ++ ending Raw ≡ concat pieces
+raw_back [] = refl
+raw_back (piece ∷ pieces) = append_assoc piece (flat_map (written Raw) pieces) [] ∙ ap (λ x. piece ++ x) (raw_back pieces)

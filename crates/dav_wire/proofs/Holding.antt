@@ -40,6 +40,7 @@ fills_ok old new held kept b m f start end n most front took held_is kept_is tak
       failed = λ e. cc;
       too_much = λ e. cc;
       sent = λ e. cc;
+      memory = λ e. cc;
       grows =
           let long_now = ap (length {A = ℕ}) whole ∙ length-take-le (l + n) f within in
           let long_before = ap (length {A = ℕ}) same ∙ length-take-le l f (omega arith) in

@@ -1,7 +1,7 @@
 -- Bodies in chunks (RFC 9112, section 7.1): how they are written, and which bytes are one.
-use Rattle.std.specs.Prelude.{◌≡◌, ◌≢◌, ℕ, ◌<◌, ◌≤◌, false, List, [], ◌∷◌, ◌++◌, length, All, codes}
+use Rattle.std.specs.Prelude.{◌≡◌, ◌≢◌, ℕ, ◌^◌, ◌<◌, ◌≤◌, false, List, [], ◌∷◌, ◌++◌, length, All, codes}
 use Rattle.std.specs.Fmt.{digits}
-use Rattle.std.specs.List.{flat_map, concat}
+use Rattle.std.specs.List.{concat}
 use Rattle.std.specs.Str.Parse.{AllDigits, digits_value}
 use Rattle.dav_wire.specs.declared.chunks.Framing.{Framing}
 use Rattle.dav_wire.specs.declared.chunks.Framing.TheVariants.{Raw, Chunked}
@@ -25,6 +25,10 @@ last_chunk = codes "0\r\n\r\n"
 abbrev pub written : Framing → List ℕ → List ℕ
 written Raw piece = piece
 written Chunked piece = chunk piece
+
+-- A piece that is one chunk: not empty, since that is the end, and with a size of at most 16 digits.
+abbrev pub IsPiece : List ℕ → Type 0
+IsPiece piece = (0 < length piece) × (length piece < 16 ^ 16)
 
 -- what is written behind the last piece
 abbrev pub ending : Framing → List ℕ

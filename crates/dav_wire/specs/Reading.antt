@@ -47,6 +47,7 @@ pub record Fills (old : Stream) (held : Pending) (result : Result ℕ ReadError)
   pub failed : result ≡ Err Failed → Rose old.faults new.faults
   pub too_much : result ≡ Err TooMuch → held.taken ≡ 2 ^ 60
   pub sent : result ≡ Err Unsent → ⊥
+  pub memory : result ≡ Err WithoutMemory → ⊥
   pub grows : Grows held result kept
   pub told : Both old.bytes new.bytes (Moves held result kept)
 

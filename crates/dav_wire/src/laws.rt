@@ -1,6 +1,9 @@
 //! What the definitions promise of themselves. Each function does nothing; its contract is the law.
-ghost use Rattle.std.specs.Prelude.{◌≡◌, ℕ, List, [], ◌++◌};
+ghost use Rattle.std.specs.Prelude.{◌≡◌, ℕ, List, [], ◌++◌, All};
+ghost use Rattle.std.specs.List.{concat, flat_map};
 ghost use Rattle.httparse.specs.Grammar.{RequestHead};
+ghost use Rattle.dav_wire.specs.Chunks.{written, ending, IsPiece, HasBody};
+ghost use Rattle.dav_wire.specs.declared.chunks.Framing.TheVariants.{Raw, Chunked};
 ghost use Rattle.dav_wire.specs.Requests.{IsRequest, Refusal, IsUnfinished, Requests, HasNone, EitherWay};
 
 /// A request that is whole stays the request, whatever follows.
@@ -42,4 +45,15 @@ pub fn requests_are_one()
 /// Nothing stands where the bytes are over.
 pub fn end_has_none()
     ensures { HasNone [] }
+{}
+
+/// A body in chunks is read in one way: its bytes are determined, and so is what stands behind it.
+pub fn chunked_bodies_are_one()
+    ensures { (text body other rest behind : List ℕ) → HasBody text body rest → HasBody text other behind → (body ≡ other) × (rest ≡ behind) }
+{}
+
+/// The pieces of a body, as they are written, are read back as the bytes of the pieces, whatever follows.
+pub fn written_pieces_are_read_back()
+    ensures chunked { (pieces : List (List ℕ)) (behind : List ℕ) → All IsPiece pieces → HasBody (flat_map (written Chunked) pieces ++ (ending Chunked ++ behind)) (concat pieces) behind }
+    ensures raw { (pieces : List (List ℕ)) → flat_map (written Raw) pieces ++ ending Raw ≡ concat pieces }
 {}
