@@ -7,6 +7,5 @@ pub mod HeadLemmas
 pub mod Refusals
 pub mod RequestLemmas
 pub mod Holding
-pub mod Members
 pub mod Pushing
 pub mod Waiting

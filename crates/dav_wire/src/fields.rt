@@ -1,38 +1,11 @@
 //! What a server asks of the fields of a request.
-ghost use Rattle.std.specs.Prelude.{◌≡◌, ◌≤◌, length, option_copied, bytes_eq, codes};
+ghost use Rattle.std.specs.Prelude.{◌≡◌, bytes_eq, codes};
 ghost use Rattle.std.specs.List.{list_all};
 ghost use Rattle.http_header.specs.Token.{lowercase};
 ghost use Rattle.httparse.specs.Grammar.{is_ows, skip_ows};
-ghost use Rattle.dav_wire.specs.Fields.{first_bytes, announces_body, has_field as field_there, comma_place, is_close_word, is_close_member, names_close as close_named, asks_close as close_asked};
+ghost use Rattle.dav_wire.specs.Fields.{is_close_word, is_close_member, names_close as close_named, asks_close as close_asked};
 
 use http::HeaderMap;
-
-/// The bytes of the first value under the name, which is read in any case.
-pub fn first_value<'a>(fields: &'a HeaderMap, name: &str) -> Option<&'a [u8]>
-    ensures { option_copied result ≡ first_bytes fields.now name.now }
-{
-    match fields.get(name) {
-        Some(value) => Some(value.as_bytes()),
-        None => None,
-    }
-}
-
-/// Does a field announce a body: `content-length` or `transfer-encoding`?
-pub fn has_body_fields(fields: &HeaderMap) -> bool
-    ensures { result ≡ announces_body fields.now }
-{
-    has_field(fields, "content-length") || has_field(fields, "transfer-encoding")
-}
-
-/// Is there a field of this name, which is read in any case?
-pub fn has_field(fields: &HeaderMap, name: &str) -> bool
-    ensures { result ≡ field_there fields.now name.now }
-{
-    match fields.get(name) {
-        Some(_) => true,
-        None => false,
-    }
-}
 
 /// Is `close` a member of a field `connection`, in any case?
 pub fn asks_close(fields: &HeaderMap) -> bool
@@ -51,32 +24,8 @@ pub fn asks_close(fields: &HeaderMap) -> bool
 fn names_close(text: &[u8]) -> bool
     ensures { result ≡ close_named text.now }
 {
-    let mut rest = text;
-    'members: loop {
-        let (member, behind) = rest.split_at(comma(rest));
-        if is_close(member) {
-            return true;
-        }
-        match behind.split_first() {
-            Some((_, others)) => rest = others,
-            None => return false,
-        }
-    }
-}
-
-// How many bytes stand before the first comma.
-fn comma(text: &[u8]) -> usize
-    ensures value { result ≡ comma_place text.now }
-    ensures within { result ≤ length text.now }
-{
-    let mut count = 0;
-    for byte in text {
-        if *byte == b',' {
-            return count;
-        }
-        count += 1;
-    }
-    count
+    text.split(|byte| *byte == b',')
+        .any(|member| is_close(member))
 }
 
 fn is_close(member: &[u8]) -> bool

@@ -16,7 +16,7 @@ mod writing;
 
 pub use answers::{answer_head, bad_request_text, framing, says_close};
 pub use chunks::Framing;
-pub use fields::{asks_close, first_value, has_body_fields, has_field};
+pub use fields::asks_close;
 pub use input::Input;
 pub use next::{Found, Next, ReadError};
 pub use output::Output;

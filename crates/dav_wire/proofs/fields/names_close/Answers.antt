@@ -1,20 +1,11 @@
-use Rattle.std.proofs.Common.{◌∙◌, sym}
-use Rattle.std.proofs.lemmas.List.{nil_from_length}
-use Rattle.dav_wire.proofs.Members.{named_first, named_never, named_later}
+use Rattle.std.proofs.Common.{rules, tests}
+use Rattle.std.proofs.lemmas.Iterator.Search.{any_from_yields_List}
+use Rattle.std.proofs.lemmas.Iterator.Splits.{YieldsList-from_slice_split}
+use Rattle.dav_wire.specs.Fields.{is_close_member}
 use Rattle.dav_wire.proofs.fields.names_close.Goals as goal
 
-pub returns-then-is_close : goal.returns-then-is_close
-returns-then-is_close c =
-    let close = sym c.is_close.ensures ∙ c.if-is_close.true in
-    named_first _ _ _ c.comma.ensures.value c.split_at.ensures.front close ∙ c.members.invariant
-
-pub members-preserved : goal.members-preserved
-members-preserved c =
-    let close = sym c.is_close.ensures ∙ c.if-is_close.false in
-    named_later _ _ _ _ _ _ c.comma.ensures.value c.split_at.ensures.front c.split_at.ensures.back close c.in-Some.ensures.cases.0 ∙ c.members.invariant
-
-pub returns-in-None : goal.returns-in-None
-returns-in-None c =
-    let close = sym c.is_close.ensures ∙ c.if-is_close.false in
-    named_never _ _ _ _ c.comma.ensures.value c.split_at.ensures.front c.split_at.ensures.back close (nil_from_length _ c.in-None.ensures.cases)
-    ∙ c.members.invariant
+pub returns : goal.returns
+returns c =
+    any_from_yields_List is_close_member _ _ c.any.result c.any.ensures.ran
+    (YieldsList-from_slice_split _ _ c.args.text.now c.split.ensures.rest c.split.ensures.done c.split.ensures.closure (λ x r q k. search (rules, tests)))
+    (λ x b q k. search (rules, tests))
