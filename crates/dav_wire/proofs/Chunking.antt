@@ -1,5 +1,5 @@
 -- A body in chunks is read in one way, and written chunks are read back.
-use Rattle.std.proofs.Common.{◌≡◌, ◌≢◌, ℕ, zero, suc, ◌+◌, ◌^◌, ◌<◌, ◌≤◌, false, List, [], ◌∷◌, ◌++◌, length, take, drop, All, refl, sym, ap, ap₂, ◌∙◌, subst, arith, append_assoc, codes}
+use Rattle.std.proofs.Common.{◌≡◌, ◌≢◌, ℕ, ◌<◌, false, List, [], ◌∷◌, ◌++◌, length, take, drop, All, refl, sym, ap, ap₂, ◌∙◌, subst, arith, append_assoc}
 use Rattle.std.specs.Char.{digit_value}
 use Rattle.std.specs.Fmt.{digits}
 use Rattle.std.specs.List.{flat_map, concat, AllByRecursion}
@@ -65,8 +65,7 @@ size_once text size other rest behind a b =
     let second = behind_size b.extension behind b.extension_is in
     let e : a.number ++ first.0 ∷ first.1 ≡ b.number ++ second.0 ∷ second.1 =
     ap (λ x. a.number ++ x) (sym first.2) ∙ sym a.whole ∙ b.whole ∙ ap (λ x. b.number ++ x) second.2 in
-    let split = split_once IsDigit a.number b.number first.0 second.0 first.1 second.1 (digits_each a.number a.number_is.hexadecimal) (digits_each b.number b.number_is.hexadecimal) first.3 second.3 e in
-    (
+    let split = split_once IsDigit a.number b.number first.0 second.0 first.1 second.1 (digits_each a.number a.number_is.hexadecimal) (digits_each b.number b.number_is.hexadecimal) first.3 second.3 e in (
       sym a.number_is.value ∙ ap (digits_value 16) split.0 ∙ b.number_is.value,
       line_once a.extension b.extension rest behind a.extension_is b.extension_is (first.2 ∙ split.1 ∙ sym second.2),
     )
@@ -115,8 +114,7 @@ chunks_back [] behind all = record {
 }
 chunks_back (piece ∷ pieces) behind all =
     let is = All-head IsPiece piece pieces all in
-    let after = flat_map chunk pieces ++ (last_chunk ++ behind) in
-    (
+    let after = flat_map chunk pieces ++ (last_chunk ++ behind) in (
       is.0,
       after,
       record {

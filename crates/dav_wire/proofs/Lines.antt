@@ -1,5 +1,5 @@
 -- Lines of fields, joined, and fields that are put where their names belong.
-use Rattle.std.proofs.Common.{◌≡◌, ℕ, ◌+◌, Bool, true, false, List, [], ◌∷◌, ◌++◌, take, drop, refl, sym, ap, ◌∙◌, append_assoc, add-one, inl, inr}
+use Rattle.std.proofs.Common.{◌≡◌, ℕ, Bool, true, false, List, [], ◌∷◌, ◌++◌, take, drop, refl, sym, ap, ◌∙◌, append_assoc, add-one, inl, inr}
 use Rattle.std.specs.Ordering.{nat_cmp, is_gt}
 use Rattle.std.specs.Cmp.Lexicographic.{slice_cmp}
 use Rattle.std.proofs.lemmas.Bool.{cases_Bool}
@@ -39,10 +39,10 @@ framed_behind_close Chunked (field ∷ fields) =
     elim (cases_Bool (is_gt (slice_cmp nat_cmp field.name close_field.name))) [
       | inl after ↦ rw after (passes chunked_field close_field (field ∷ fields) refl)
       | inr before ↦
-        ap (with_field chunked_field) (passes close_field field fields before)
-        ∙ passes chunked_field field (with_field close_field fields) (before_framing field before)
-        ∙ ap (λ x. field ∷ x) (framed_behind_close Chunked fields)
-        ∙ rw (before, add-one) refl
+          ap (with_field chunked_field) (passes close_field field fields before)
+          ∙ passes chunked_field field (with_field close_field fields) (before_framing field before)
+          ∙ ap (λ x. field ∷ x) (framed_behind_close Chunked fields)
+          ∙ rw (before, add-one) refl
     ]
 
 -- text, the lines before a field's place, its line, and the lines behind it

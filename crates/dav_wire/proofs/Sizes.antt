@@ -59,9 +59,9 @@ onto_few (suc k) (suc m) n behind fits some =
     elim (cases_Bool (n / 16 == 0)) [
       | inl none ↦ rw none (omega arith)
       | inr more ↦
-        let left = fewer n m fits in
-        let later = onto_few k m (n / 16) (digit_glyph false (n % 16) ∷ behind) left (some_left m (n / 16) left (eqb-false _ _ more)) in
-        rw more (omega arith)
+          let left = fewer n m fits in
+          let later = onto_few k m (n / 16) (digit_glyph false (n % 16) ∷ behind) left (some_left m (n / 16) left (eqb-false _ _ more)) in
+          rw more (omega arith)
     ]
 
 -- the digits of a size below 16 ^ 16 are one

@@ -16,7 +16,6 @@ use Rattle.dav_wire.specs.declared.next.ReadError.{ReadError}
 use Rattle.dav_wire.specs.declared.next.ReadError.TheVariants.{Failed, TooMuch, NoMemory as WithoutMemory, Unsent}
 use Rattle.dav_io.specs.declared.failure.Failed.{Failed as SinkFailed}
 use Rattle.dav_wire.specs.Writing.{Pushes}
-use Rattle.dav_wire.proofs.Pushing.{holds}
 use Rattle.dav_wire.proofs.RequestLemmas.{request_stays, refusal_stays}
 
 -- no byte was lost, and those taken were counted

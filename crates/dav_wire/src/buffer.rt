@@ -4,19 +4,13 @@ ghost use Rattle.dav_wire.specs.Taking.{TakesAt};
 
 use dav_io::{Failed, Source};
 
-// Moves bytes to the front. Where they don't overlap that place it is one copy of them.
+// Moves bytes to the front.
 pub fn move_front(buffer: &mut [u8], start: usize, len: usize)
     requires { start + len ≤ length buffer.old }
     ensures front { take len buffer.new ≡ take len (drop start buffer.old) }
     ensures len { length buffer.new ≡ length buffer.old }
 {
-    if len <= start {
-        let (front, back) = buffer.split_at_mut(start);
-        front[..len].copy_from_slice(&back[..len]);
-    } else {
-        let (used, _) = buffer.split_at_mut(start + len);
-        used.rotate_left(start);
-    }
+    buffer.copy_within(start..start + len, 0);
 }
 
 // Takes bytes from a source, once, and at most so many, and puts them from the place on.

@@ -1,8 +1,8 @@
 ghost use Rattle.std.specs.Prelude.{◌<◌, ◌≤◌, length};
 
 use crate::{
-    Found, Input, Next, Output, ReadError, answer_head, asks_close, bad_request_text,
-    fill_flushing, first_value, has_body_fields, into_request, is_old, put_all, read_request,
+    Found, Framing, Input, Next, Output, ReadError, answer_head, asks_close, bad_request_text,
+    fill_flushing, framing, into_request, is_old, put_all, read_request, says_close, takes_chunks,
 };
 use dav_io::{Field, MemSink, MemSource, NoMemory, Octets, Sink, Text};
 use http::request::Parts;
@@ -206,9 +206,10 @@ fn first(alloc: Global, text: &[u8]) -> Result<Parts, NoMemory> {
     }
 }
 
-fn is_text(value: Option<&[u8]>, text: &[u8]) -> bool {
-    match value {
-        Some(value) => value == text,
+/// Is this the first value under the name?
+fn has_value(parts: &Parts, name: &str, text: &[u8]) -> bool {
+    match parts.headers.get(name) {
+        Some(value) => value.as_bytes() == text,
         None => false,
     }
 }
@@ -223,59 +224,63 @@ fn a_request_has_its_parts(rt: HostRuntime) -> Result<(), Fail> {
     assert_eq!(rt; parts.method.as_str(), "GET");
     assert_eq!(rt; parts.uri.path(), "/f.txt");
     assert!(rt; is_old(parts.version));
-    assert!(rt; is_text(first_value(&parts.headers, "X-a"), b"1"));
-    assert!(rt; !has_body_fields(&parts.headers));
+    assert!(rt; has_value(&parts, "X-a", b"1"));
     let request = into_request(alloc, parts);
     assert_eq!(rt; request.uri().path(), "/f.txt");
     assert_eq!(rt; request.body().as_slice().len(), 0);
     Ok(())
 }
 
-/// What a request with this field line says.
-#[derive(Clone, Copy, PartialEq, Eq, Debug)]
-enum Says {
-    Close,
-    Body,
-    Neither,
-    Other,
-}
-
-fn asked(alloc: Global, line: &[u8]) -> Says {
+/// Does a request with this field line ask for a close?
+fn asked(alloc: Global, line: &[u8]) -> Option<bool> {
     let Ok(mut text) = octets(alloc, b"GET / HTTP/1.1\r\nHost: h\r\n") else {
-        return Says::Other;
+        return None;
     };
     if text.extend(line).is_err() || text.extend(b"\r\n\r\n").is_err() {
-        return Says::Other;
+        return None;
     }
-    let Ok(parts) = first(alloc, text.as_slice()) else {
-        return Says::Other;
-    };
-    if asks_close(&parts.headers) {
-        return Says::Close;
+    match first(alloc, text.as_slice()) {
+        Ok(parts) => Some(asks_close(&parts.headers)),
+        Err(_) => None,
     }
-    if has_body_fields(&parts.headers) {
-        return Says::Body;
-    }
-    Says::Neither
 }
 
 #[test]
-fn fields_are_asked(rt: HostRuntime) {
+fn a_close_is_asked(rt: HostRuntime) {
     let alloc = rt.alloc();
-    assert_eq!(rt; asked(alloc, b"Connection: close"), Says::Close);
-    assert_eq!(rt; asked(alloc, b"Connection: foo, CLOSE"), Says::Close);
-    assert_eq!(rt; asked(alloc, b"connection:,\t cLose \t,x"), Says::Close);
+    assert_eq!(rt; asked(alloc, b"Connection: close"), Some(true));
+    assert_eq!(rt; asked(alloc, b"Connection: foo, CLOSE"), Some(true));
+    assert_eq!(rt; asked(alloc, b"connection:,\t cLose \t,x"), Some(true));
     assert_eq!(rt;
         asked(alloc, b"Connection: x\r\nConnection: close"),
-        Says::Close
+        Some(true)
     );
     assert_eq!(rt;
         asked(alloc, b"Connection: closed, clos, c lose"),
-        Says::Neither
+        Some(false)
     );
-    assert_eq!(rt; asked(alloc, b"Connection:"), Says::Neither);
-    assert_eq!(rt; asked(alloc, b"Content-Length: 0"), Says::Body);
-    assert_eq!(rt; asked(alloc, b"Transfer-Encoding: chunked"), Says::Body);
+    assert_eq!(rt; asked(alloc, b"Connection:"), Some(false));
+    assert_eq!(rt; asked(alloc, b"Content-Length: 0"), Some(false));
+}
+
+/// May the answer to a request be written in chunks?
+fn chunks_for(alloc: Global, text: &[u8]) -> Option<bool> {
+    match first(alloc, text) {
+        Ok(parts) => Some(takes_chunks(&parts)),
+        Err(_) => None,
+    }
+}
+
+#[test]
+fn requests_take_chunks(rt: HostRuntime) {
+    let alloc = rt.alloc();
+    assert_eq!(rt; chunks_for(alloc, b"GET / HTTP/1.1\r\n\r\n"), Some(true));
+    assert_eq!(rt; chunks_for(alloc, b"PUT / HTTP/1.1\r\n\r\n"), Some(true));
+    assert_eq!(rt; chunks_for(alloc, b"HEAD / HTTP/1.1\r\n\r\n"), Some(false));
+    assert_eq!(rt; chunks_for(alloc, b"GET / HTTP/1.0\r\n\r\n"), Some(false));
+    assert_eq!(rt; chunks_for(alloc, b"HEAD / HTTP/1.0\r\n\r\n"), Some(false));
+    // a method has its case
+    assert_eq!(rt; chunks_for(alloc, b"head / HTTP/1.1\r\n\r\n"), Some(true));
 }
 
 fn field(alloc: Global, name: &str, value: &[u8]) -> Result<Field, NoMemory> {
@@ -284,18 +289,28 @@ fn field(alloc: Global, name: &str, value: &[u8]) -> Result<Field, NoMemory> {
     Ok(Field { name, value })
 }
 
-/// The head of an answer with fields of these names and the value 1.
-fn head(alloc: Global, status: u16, names: &[&str], close: bool) -> Result<Octets, NoMemory> {
+/// Fields of these names and the value 1.
+fn named(alloc: Global, names: &[&str]) -> Result<Vec<Field>, NoMemory> {
     let mut fields = Vec::new(alloc);
     for name in names {
         fields.push(field(alloc, name, b"1")?)?;
     }
-    answer_head(alloc, status, &fields, close)
+    Ok(fields)
 }
 
 /// Is this the head of an answer with fields of these names and the value 1?
-fn heads(alloc: Global, status: u16, names: &[&str], close: bool, wanted: &[u8]) -> bool {
-    match head(alloc, status, names, close) {
+fn heads(
+    alloc: Global,
+    status: u16,
+    names: &[&str],
+    closing: bool,
+    framing: Framing,
+    wanted: &[u8],
+) -> bool {
+    let Ok(fields) = named(alloc, names) else {
+        return false;
+    };
+    match answer_head(alloc, status, &fields, closing, framing) {
         Ok(text) => text.as_slice() == wanted,
         Err(_) => false,
     }
@@ -316,40 +331,188 @@ const REFUSAL: &[u8] =
 #[test]
 fn answers_have_their_bytes(rt: HostRuntime) {
     let alloc = rt.alloc();
+    let names = ["accept-ranges", "content-length"];
+    assert!(rt; heads(alloc, 200, &names, false, Framing::Raw, RANGES));
+    assert!(rt; heads(alloc, 501, &names, true, Framing::Raw, BETWEEN));
+    assert!(rt; heads(alloc, 404, &[], true, Framing::Raw, ALONE));
+    assert!(rt; heads(alloc, 204, &["allow"], true, Framing::Raw, LAST));
+    assert!(rt; bad_request_text() == REFUSAL);
+}
+
+const CHUNKED_LAST: &[u8] =
+    b"HTTP/1.1 206 Partial Content\r\naccept-ranges: 1\r\ncontent-type: 1\r\ntransfer-encoding: chunked\r\n\r\n";
+
+const CHUNKED_BETWEEN: &[u8] =
+    b"HTTP/1.1 200 OK\r\ndate: 1\r\ntransfer-encoding: chunked\r\nvary: 1\r\n\r\n";
+
+const CHUNKED_CLOSING: &[u8] =
+    b"HTTP/1.1 200 OK\r\nallow: 1\r\nconnection: close\r\ndate: 1\r\ntransfer-encoding: chunked\r\nvary: 1\r\n\r\n";
+
+const CHUNKED_ALONE: &[u8] =
+    b"HTTP/1.1 200 OK\r\nconnection: close\r\ntransfer-encoding: chunked\r\n\r\n";
+
+#[test]
+fn answers_say_that_they_are_in_chunks(rt: HostRuntime) {
+    let alloc = rt.alloc();
+    let chunked = Framing::Chunked;
+    let ranges = ["accept-ranges", "content-type"];
+    assert!(rt; heads(alloc, 206, &ranges, false, chunked, CHUNKED_LAST));
     assert!(rt;
         heads(
             alloc,
             200,
-            &["accept-ranges", "content-length"],
+            &["date", "vary"],
             false,
-            RANGES
+            chunked,
+            CHUNKED_BETWEEN
         )
     );
-    assert!(rt;
-        heads(
-            alloc,
-            501,
-            &["accept-ranges", "content-length"],
-            true,
-            BETWEEN
-        )
-    );
-    assert!(rt; heads(alloc, 404, &[], true, ALONE));
-    assert!(rt; heads(alloc, 204, &["allow"], true, LAST));
-    assert!(rt; bad_request_text() == REFUSAL);
+    let all = ["allow", "date", "vary"];
+    assert!(rt; heads(alloc, 200, &all, true, chunked, CHUNKED_CLOSING));
+    assert!(rt; heads(alloc, 200, &[], true, chunked, CHUNKED_ALONE));
+}
+
+/// The framing of an answer with fields of these names.
+fn framed(alloc: Global, chunks: bool, status: u16, names: &[&str]) -> Option<Framing> {
+    match named(alloc, names) {
+        Ok(fields) => Some(framing(chunks, status, &fields)),
+        Err(_) => None,
+    }
+}
+
+#[test]
+fn answers_without_a_length_are_framed(rt: HostRuntime) {
+    let alloc = rt.alloc();
+    let open = ["accept-ranges", "content-type"];
+    let whole = ["accept-ranges", "content-length"];
+    assert_eq!(rt; framed(alloc, true, 206, &open), Some(Framing::Chunked));
+    assert_eq!(rt; framed(alloc, true, 200, &[]), Some(Framing::Chunked));
+    assert_eq!(rt; framed(alloc, true, 404, &open), Some(Framing::Chunked));
+    assert_eq!(rt; framed(alloc, true, 206, &whole), Some(Framing::Raw));
+    assert_eq!(rt; framed(alloc, true, 204, &open), Some(Framing::Raw));
+    assert_eq!(rt; framed(alloc, true, 304, &open), Some(Framing::Raw));
+    assert_eq!(rt; framed(alloc, false, 206, &open), Some(Framing::Raw));
+    assert_eq!(rt; framed(alloc, false, 206, &whole), Some(Framing::Raw));
 }
 
 /// An answer that says that it closes.
 fn closing(alloc: Global) -> Result<Octets, NoMemory> {
     let mut said = Vec::new(alloc);
     said.push(field(alloc, "connection", b"close")?)?;
-    answer_head(alloc, 404, &said, true)
+    if !says_close(&said) {
+        return Err(NoMemory);
+    }
+    answer_head(alloc, 404, &said, true, Framing::Raw)
 }
 
 #[test]
 fn an_answer_closes_once(rt: HostRuntime) -> Result<(), Fail> {
     let alloc = rt.alloc();
     assert!(rt; closing(alloc)?.as_slice() == ALONE);
+    Ok(())
+}
+
+/// The bytes of a body with these pieces, in a sink that has so much room and takes so many bytes a call, and whether all
+/// was taken.
+fn body(
+    alloc: Global,
+    framing: Framing,
+    pieces: &[&[u8]],
+    room: usize,
+    most: usize,
+) -> Result<(bool, Octets), NoMemory>
+    requires { 0 < most }
+{
+    let mut output = Output::new(alloc)?;
+    let mut sink = MemSink::new(alloc, room, most, Vec::new(alloc))?;
+    let mut all = true;
+    for piece in pieces {
+        if output.push_piece(&mut sink, framing, piece).is_err() {
+            all = false;
+        }
+    }
+    if output.push_end(&mut sink, framing).is_err() {
+        all = false;
+    }
+    if output.flush(&mut sink).is_err() {
+        all = false;
+    }
+    let written = octets(alloc, sink.written())?;
+    Ok((all, written))
+}
+
+fn gives(alloc: Global, framing: Framing, pieces: &[&[u8]], wanted: &[u8]) -> bool {
+    match body(alloc, framing, pieces, 100_000, 7) {
+        Ok((all, text)) => all && text.as_slice() == wanted,
+        Err(_) => false,
+    }
+}
+
+const FIRST: &[u8] = b"\n--BOUNDARY\nContent-Range: bytes 0-1/10\nContent-Type: text/plain\n\n";
+
+const SECOND: &[u8] = b"\n--BOUNDARY\nContent-Range: bytes 4-5/10\nContent-Type: text/plain\n\n";
+
+const PARTS: &[u8] =
+    b"42\r\n\n--BOUNDARY\nContent-Range: bytes 0-1/10\nContent-Type: text/plain\n\n\r\n2\r\n01\r\n42\r\n\n--BOUNDARY\nContent-Range: bytes 4-5/10\nContent-Type: text/plain\n\n\r\n2\r\n45\r\ne\r\n\n--BOUNDARY--\n\r\n0\r\n\r\n";
+
+#[test]
+fn parts_are_chunks(rt: HostRuntime) {
+    let alloc = rt.alloc();
+    let pieces = [FIRST, b"01", SECOND, b"45", b"\n--BOUNDARY--\n"];
+    assert!(rt; gives(alloc, Framing::Chunked, &pieces, PARTS));
+    assert!(rt; gives(alloc, Framing::Chunked, &[], b"0\r\n\r\n"));
+    assert!(rt; gives(alloc, Framing::Raw, &[b"01", b"45"], b"0145"));
+    assert!(rt; gives(alloc, Framing::Raw, &[], b""));
+}
+
+/// Is a piece of so many bytes a chunk with this line before it?
+fn sized(alloc: Global, count: usize, line: &[u8]) -> Result<bool, NoMemory> {
+    let mut piece = Octets::empty(alloc);
+    fill(&mut piece, b'x', count)?;
+    let mut wanted = octets(alloc, line)?;
+    wanted.extend(piece.as_slice())?;
+    wanted.extend(b"\r\n0\r\n\r\n")?;
+    Ok(gives(
+        alloc,
+        Framing::Chunked,
+        &[piece.as_slice()],
+        wanted.as_slice(),
+    ))
+}
+
+#[test]
+fn chunks_have_their_sizes(rt: HostRuntime) -> Result<(), Fail> {
+    let alloc = rt.alloc();
+    assert!(rt; sized(alloc, 1, b"1\r\n")?);
+    assert!(rt; sized(alloc, 9, b"9\r\n")?);
+    assert!(rt; sized(alloc, 10, b"a\r\n")?);
+    assert!(rt; sized(alloc, 15, b"f\r\n")?);
+    assert!(rt; sized(alloc, 16, b"10\r\n")?);
+    assert!(rt; sized(alloc, 17, b"11\r\n")?);
+    assert!(rt; sized(alloc, 171, b"ab\r\n")?);
+    assert!(rt; sized(alloc, 4096, b"1000\r\n")?);
+    assert!(rt; sized(alloc, 65_536, b"10000\r\n")?);
+    Ok(())
+}
+
+/// Does a sink whose room ends at any byte of a body get the bytes before it?
+fn ends_anywhere(alloc: Global, pieces: &[&[u8]], wanted: &[u8]) -> Result<bool, NoMemory> {
+    for room in 0..wanted.len() {
+        let (front, _) = wanted.split_at(room);
+        let (all, text) = body(alloc, Framing::Chunked, pieces, room, 3)?;
+        if all || text.as_slice() != front {
+            return Ok(false);
+        }
+    }
+    let (all, text) = body(alloc, Framing::Chunked, pieces, wanted.len(), 3)?;
+    Ok(all && text.as_slice() == wanted)
+}
+
+#[test]
+fn a_front_of_a_chunk_is_written(rt: HostRuntime) -> Result<(), Fail> {
+    let alloc = rt.alloc();
+    let wanted = b"b\r\nhello world\r\n1\r\n!\r\n0\r\n\r\n".as_slice();
+    assert!(rt; ends_anywhere(alloc, &[b"hello world", b"!"], wanted)?);
     Ok(())
 }
 

@@ -1,4 +1,3 @@
-use Rattle.dav_wire.specs.Answers.{chunked_field}
 use Rattle.dav_wire.proofs.Lines.{lines_framed}
 use Rattle.dav_wire.proofs.answers.write_framed.Goals as goal
 

@@ -1,6 +1,5 @@
-use Rattle.std.proofs.Common.{◌++◌, subst, sym}
+use Rattle.std.proofs.Common.{◌++◌, sym}
 use Rattle.dav_wire.specs.Chunks.{line_end}
-use Rattle.dav_wire.specs.Writing.{Pushes}
 use Rattle.dav_wire.proofs.Pushing.{pushes_then, pushes_fails}
 use Rattle.dav_wire.proofs.Sizes.{line_is}
 use Rattle.dav_wire.proofs.output.Output.push_chunk.Goals as goal
