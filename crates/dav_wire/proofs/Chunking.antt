@@ -97,6 +97,29 @@ body_once text body other rest behind a b =
     let same = chunks_once text a.pieces b.pieces rest behind a.chunks b.chunks in
     (sym a.joined ∙ ap concat same.0 ∙ b.joined, same.1)
 
+size_stays : (text : List ℕ) (size : ℕ) (rest more : List ℕ) → HasSize text size rest → HasSize (text ++ more) size (rest ++ more)
+size_stays text size rest more has = record {
+  number = has.number;
+  extension = has.extension;
+  whole = ap (λ x. x ++ more) has.whole ∙ append_assoc has.number (has.extension ++ (line_end ++ rest)) more
+      ∙ ap (λ x. has.number ++ x) (append_assoc has.extension (line_end ++ rest) more);
+  number_is = has.number_is;
+  extension_is = has.extension_is;
+}
+
+chunks_stay : (text : List ℕ) (pieces : List (List ℕ)) (rest more : List ℕ) → HasChunks text pieces rest → HasChunks (text ++ more) pieces (rest ++ more)
+chunks_stay text [] rest more has = size_stays text 0 (line_end ++ rest) more has
+chunks_stay text (piece ∷ pieces) rest more (some, after, size, later) = (
+  some,
+  after ++ more,
+  subst (λ (x : List ℕ). HasSize (text ++ more) (length piece) x) (append_assoc piece (line_end ++ after) more)
+      (size_stays text (length piece) (piece ++ (line_end ++ after)) more size),
+  chunks_stay after pieces rest more later,
+)
+
+pub body_stays : (text body rest more : List ℕ) → HasBody text body rest → HasBody (text ++ more) body (rest ++ more)
+body_stays text body rest more has = record { pieces = has.pieces; chunks = chunks_stay text has.pieces rest more has.chunks; joined = has.joined }
+
 -- a chunk stands in front of what follows it
 chunk_whole : (piece text : List ℕ) → chunk piece ++ text ≡ digits 16 false (length piece) ++ (line_end ++ (piece ++ (line_end ++ text)))
 chunk_whole piece text =

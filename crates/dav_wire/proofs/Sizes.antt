@@ -34,6 +34,7 @@ onto-append (suc k) n front behind =
       | inr some ↦ rw some (onto-append k (n / 16) (digit_glyph false (n % 16) ∷ front) behind)
     ]
 
+-- the kit's word for the digits, by these steps
 spelled : (size : ℕ) → digits 16 false size ≡ onto 64 size []
 unfolding onto digits
 spelled size = refl

@@ -4,7 +4,7 @@ ghost use Rattle.std.specs.Fmt.{digit_glyph};
 ghost use Rattle.dav_wire.specs.Chunks.{ending as the_ending, size_line};
 
 /// How the bytes of a body are written (RFC 9112, section 6).
-#[derive(Clone, Copy, Debug, PartialEq, Eq, Drop)]
+#[derive(Clone, Copy, Debug, PartialEq, Eq)]
 pub enum Framing {
     /// As they are.
     Raw,

@@ -52,6 +52,11 @@ pub fn chunked_bodies_are_one()
     ensures { (text body other rest behind : List ℕ) → HasBody text body rest → HasBody text other behind → (body ≡ other) × (rest ≡ behind) }
 {}
 
+/// A body in chunks stays the body, whatever follows.
+pub fn chunked_bodies_stay()
+    ensures { (text body rest more : List ℕ) → HasBody text body rest → HasBody (text ++ more) body (rest ++ more) }
+{}
+
 /// The pieces of a body, as they are written, are read back as the bytes of the pieces, whatever follows.
 pub fn written_pieces_are_read_back()
     ensures chunked { (pieces : List (List ℕ)) (behind : List ℕ) → All IsPiece pieces → HasBody (flat_map (written Chunked) pieces ++ (ending Chunked ++ behind)) (concat pieces) behind }
