@@ -1,12 +1,13 @@
 // The gates: what a request asks for, before the disk is asked.
-ghost use Rattle.std.specs.Prelude.{◌≡◌, ◌||◌, IfOk, [], codes, true, false};
+ghost use Rattle.std.specs.Prelude.{◌≡◌, IfOk, [], false};
 ghost use Rattle.dav_model.specs.declared.target.Target.TheVariants.{Refused};
 ghost use Rattle.http_header.specs.Token.{lowercase};
 ghost use Rattle.http_uri.specs.Uri.{uri_path};
 ghost use Rattle.dav_core.specs.Grammar.{parsed};
 ghost use Rattle.dav_core.specs.Statuses.{path_status};
 ghost use Rattle.dav_handler.specs.Found.{NoFailure};
-ghost use Rattle.dav_model.specs.Requests.{gates, target_read, asks_several as the_asks_several, has_field as the_has_field, is_bare as the_is_bare, is_reading as the_is_reading};
+ghost use Rattle.dav_model.specs.Conditions.{reads as the_reads};
+ghost use Rattle.dav_model.specs.Requests.{gates, target_read, has_field as the_has_field, is_bare as the_is_bare, unbuilt as the_unbuilt};
 
 use dav_core::{DavMethod, DavPath, ParseError, dav_method};
 use dav_io::{NoMemory, Octets};
@@ -34,9 +35,9 @@ fn is_bare(request: &Request<Octets>) -> bool
     !has_field(request, "transfer-encoding")
 }
 
-// Whether the form of a method is built.
-fn is_reading(method: DavMethod) -> bool
-    ensures { result ≡ the_is_reading method }
+// Whether a method reads. No other is built.
+fn reads(method: DavMethod) -> bool
+    ensures { result ≡ the_reads method }
 {
     match method {
         DavMethod::Get | DavMethod::Head => true,
@@ -44,28 +45,9 @@ fn is_reading(method: DavMethod) -> bool
     }
 }
 
-// Whether the first value of the field `range` has a comma, by which it may ask for several parts.
-fn asks_several(request: &Request<Octets>) -> bool
-    ensures { result ≡ the_asks_several request.now }
-{
-    match request.headers().get("range") {
-        Some(value) => value.as_bytes().iter().any(|b| *b == b','),
-        None => false,
-    }
-}
-
-// Whether the request has a field whose form is not built.
-fn has_unbuilt_field(request: &Request<Octets>) -> bool
-    ensures { result ≡ (the_has_field request.now (codes "if") || the_asks_several request.now) }
-{
-    if has_field(request, "if") {
-        return true;
-    }
-    asks_several(request)
-}
-
-fn refused() -> Target
-    ensures { result ≡ Refused 501 true }
+// What a form that isn't built is refused with.
+fn unbuilt() -> Target
+    ensures { result ≡ the_unbuilt }
 {
     Target::Refused {
         status: 501,
@@ -90,7 +72,7 @@ fn refused_path(fault: ParseError) -> Result<Target, NoMemory>
     })
 }
 
-// What the path of a target asks for. It is read before fields whose form is not built count.
+// What the path of a target asks for. It is read before a field whose form is not built counts.
 fn target_of(
     alloc: Global,
     method: DavMethod,
@@ -103,7 +85,7 @@ fn target_of(
     match DavPath::from_uri_and_prefix(alloc, uri, "") {
         Ok(path) => {
             if is_unbuilt {
-                return Ok(refused());
+                return Ok(unbuilt());
             }
             Ok(Target::At { method, path })
         }
@@ -117,13 +99,13 @@ pub fn target(alloc: Global, request: &Request<Octets>) -> Result<Target, NoMemo
     ensures status { IfOk result NoFailure }
 {
     let Ok(method) = dav_method(request.method()) else {
-        return Ok(refused());
+        return Ok(unbuilt());
     };
-    if !is_reading(method) {
-        return Ok(refused());
+    if !reads(method) {
+        return Ok(unbuilt());
     }
     if !is_bare(request) {
-        return Ok(refused());
+        return Ok(unbuilt());
     }
-    target_of(alloc, method, has_unbuilt_field(request), request.uri())
+    target_of(alloc, method, has_field(request, "if"), request.uri())
 }

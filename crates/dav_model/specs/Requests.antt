@@ -1,6 +1,5 @@
 -- Requests by their method, their fields and their target, and whether their form is answered.
-use Rattle.std.specs.Prelude.{◌==◌, ◌&&◌, ◌||◌, ℕ, List, [], Bool, true, false, cond, not, length, codes, is_some, unwrap_or, Result, Ok, Err}
-use Rattle.std.specs.List.{list_any}
+use Rattle.std.specs.Prelude.{◌==◌, ◌&&◌, ℕ, List, [], Bool, true, false, cond, not, length, codes, is_some, Result, Ok, Err}
 use Rattle.http.specs.declared.request.Request.{Request}
 use Rattle.http.specs.Request.{head_of, body_of}
 use Rattle.http_uri.specs.Uri.{uri_path}
@@ -8,13 +7,12 @@ use Rattle.http_header.specs.HeaderMap.{Entries, get}
 use Rattle.http_header.specs.FieldValue.{FieldValue}
 use Rattle.dav_core.specs.declared.dav_error.DavError.{DavError}
 use Rattle.dav_core.specs.declared.method.DavMethod.{DavMethod}
-use Rattle.dav_core.specs.declared.method.DavMethod.TheVariants.{Get, Head}
 use Rattle.dav_core.specs.declared.parse_error.ParseError.{ParseError}
-use Rattle.dav_core.specs.Methods.{method_of, same_method}
+use Rattle.dav_core.specs.Methods.{method_of}
 use Rattle.dav_core.specs.Statuses.{path_status}
 use Rattle.dav_core.specs.DavPath.{WebPath}
 use Rattle.dav_core.specs.Grammar.{parsed}
-use Rattle.dav_model.specs.Conditions.{first_bytes}
+use Rattle.dav_model.specs.Conditions.{reads}
 use Rattle.dav_model.specs.declared.target.Target.{Target}
 use Rattle.dav_model.specs.declared.target.Target.TheVariants.{At, Refused}
 
@@ -33,27 +31,19 @@ has_field r name = is_some (get (fields_of r) name)
 abbrev pub is_bare : Asked → Bool
 is_bare r = length (body_of r) == 0 && (not (has_field r (codes "content-length")) && not (has_field r (codes "transfer-encoding")))
 
--- the methods whose form is built
-abbrev pub is_reading : DavMethod → Bool
-is_reading method = same_method method Get || same_method method Head
-
--- A form that isn't built is refused with 501, and the connection closes.
+-- Methods that read are built. A form that isn't built is refused with 501, and the connection closes.
 abbrev pub unbuilt : Target
 unbuilt = Refused 501 true
 
--- The first value of `range` has a comma, so it may ask for several parts. Such an answer has no length, and isn't framed yet.
-abbrev pub asks_several : Asked → Bool
-asks_several r = list_any (λ b. b == 44) (unwrap_or (first_bytes (fields_of r) (codes "range")) [])
-
--- The path is read before these fields are looked at.
+-- The path is read before the field `if` is looked at.
 abbrev pub target_read : DavMethod → Bool → Result WebPath ParseError → Target
 target_read method is_unbuilt (Ok path) = cond is_unbuilt unbuilt (At method path)
 target_read method is_unbuilt (Err fault) = Refused (path_status fault) false
 
 abbrev pub target_by : Asked → Result DavMethod DavError → Target
 target_by r (Err e) = unbuilt
-target_by r (Ok method) = cond (is_reading method && is_bare r)
-    (target_read method (has_field r (codes "if") || asks_several r) (parsed (uri_path (head_of r).uri) [])) unbuilt
+target_by r (Ok method) = cond (reads method && is_bare r)
+    (target_read method (has_field r (codes "if")) (parsed (uri_path (head_of r).uri) [])) unbuilt
 
 -- The gates: what a request asks for, or what it is refused with whatever stands on the disk.
 abbrev pub gates : Asked → Target
