@@ -3,6 +3,7 @@ use Rattle.std.proofs.Common.{◌≡◌, ◌≤◌, ◌<◌, ℕ, List, [], leng
 use Rattle.std.specs.Prelude.{is_some}
 use Rattle.std.specs.List.{list_all, list_any}
 use Rattle.dav_core.specs.Disk.{DiskState}
+use Rattle.dav_model.specs.Sizes.{zeros_size}
 use Rattle.dav_store.specs.Standing.{Seen}
 use Rattle.dav_get.specs.declared.part.BodyPart.{BodyPart}
 use Rattle.dav_get.specs.declared.open_at.OpenAt.{OpenAt}
@@ -14,7 +15,7 @@ use Rattle.dav_get.specs.Parts.{parts_of}
 module _ {F : Type 0} (handle : F → ℕ) (seen : F → DiskState → Option Seen) where
   -- a body of parts, one at least, of an open file
   pub made_held : (s : DiskState) (b : GetBody F) (parts : List BodyPart) (h : OpenAt F) → left_of b ≡ parts → list_all is_part parts ≡ true → (parts ≡ [] → ⊥)
-      → b.file ≡ Some h → IsAt handle seen s h → 0 < b.most → max b.most 4096 ≤ length b.buffer.items → IsHeld handle seen s b
+      → b.file ≡ Some h → IsAt handle seen s h → 0 < b.most → max b.most zeros_size ≤ length b.buffer.items → IsHeld handle seen s b
   made_held s b parts h left all some file at most room = record {
     parts = rw left all;
     needs = λ has. rw file refl;

@@ -12,3 +12,4 @@ pub mod Living
 pub mod Sending
 pub mod BodyEnds
 pub mod Righting
+pub mod Framing

@@ -29,7 +29,7 @@ module _ {S C F : Type 0} (view : View S C F) where
   pub held_kept : (n k : ℕ) (s m t : S) (result : Given F) → Keeps (view.state s) (view.state m) → k ≡ n → HeldOrClosed view k m result t → HeldOrClosed view n s result t
   held_kept n k s m t result keeps same life = held_after n k s m t result (keeps_but n (view.state s) (view.state m) keeps) same life
 
-  only_new : (n : ℕ) (s m t : S) (held : Option (OpenAt F)) → KeepsBut n (view.state s) (view.state m) → (view.state s).live n ≡ None → KeptOrClosed view n m held t → OpensOnly view s held t
+  only_new : (n : ℕ) (s m t : S) (held : Option (OpenAt F)) → KeepsBut n (view.state s) (view.state m) → (view.state s).live n ≡ None → KeptOrClosed view n m held t → OpensOnly view.handle (view.state s) held (view.state t)
   only_new n s m t None keeps fresh kept = closed_again n (view.state s) (view.state t) (but_then n (view.state s) (view.state m) (view.state t) keeps kept.0) fresh kept.1
   only_new n s m t (Some h) keeps fresh kept =
       (subst (λ j. KeepsBut j (view.state s) (view.state t)) (sym kept.1) (but_then n (view.state s) (view.state m) (view.state t) keeps kept.0), ap (view.state s).live kept.1 ∙ fresh)
@@ -41,7 +41,7 @@ module _ {S C F : Type 0} (view : View S C F) where
   opened_before how s m t file (Err e) is opened life =
       closed_again (view.handle file) (view.state s) (view.state t) (but_then (view.handle file) (view.state s) (view.state m) (view.state t) (opened.kept is) life.0) opened.fresh life.1
 
-  only_before : (s m t : S) (held : Option (OpenAt F)) → Keeps (view.state s) (view.state m) → OpensOnly view m held t → OpensOnly view s held t
+  only_before : (s m t : S) (held : Option (OpenAt F)) → Keeps (view.state s) (view.state m) → OpensOnly view.handle (view.state m) held (view.state t) → OpensOnly view.handle (view.state s) held (view.state t)
   only_before s m t None keeps only = keeps_then (view.state s) (view.state m) (view.state t) keeps only
   only_before s m t (Some h) keeps only =
       (but_then (view.handle h.file) (view.state s) (view.state m) (view.state t) (keeps_but (view.handle h.file) (view.state s) (view.state m) keeps) only.0, sym (keeps.live (view.handle h.file)) ∙ only.1)

@@ -24,7 +24,7 @@ use Rattle.dav_store.specs.View.{View, seen_in, Says as SaysOf, Closes}
 use Rattle.dav_model.specs.declared.outcome.Outcome.{Outcome}
 use Rattle.dav_model.specs.declared.settings.Settings.{Settings}
 use Rattle.dav_model.specs.Conditions.{Fields}
-use Rattle.dav_model.specs.Head.{Reply, Stood, IsFileHead, IsHeadAt, IsHeadOr, IsKindHead, IsSent, IsSpoiledAt, IsUnplaced, address_of, failure, is_set, is_well_known, redirected, redirected_fields, refusal, sent_of, well_known}
+use Rattle.dav_model.specs.Head.{Reply, Stood, IsFileHead, IsHeadAt, IsHeadOr, IsKindHead, IsSent, IsSpoiledAt, IsSpoiledOr, address_of, failure, is_set, is_well_known, redirected, redirected_fields, refusal, sent_of, well_known}
 use Rattle.dav_model.specs.Times.{IsDate}
 use Rattle.dav_get.specs.declared.body.GetBody.{GetBody}
 use Rattle.dav_get.specs.declared.open_at.OpenAt.{OpenAt}
@@ -78,18 +78,23 @@ module _ {S C F : Type 0} (view : View S C F) (settings : Settings) (method : Da
   right_before found s m result t le (inr (inl answer)) = inr (inl answer)
   right_before found s m result t le (inr (inr faulty)) = inr (inr (record { spoiled = faulty.spoiled; rose = rose_before _ _ _ le faulty.rose }))
 
-  failed_at : (found : Result Standing FsError) (reply : Reply) → reply ≡ failure → IsSpoiledAt method fields path (found_as found) reply
+  -- where the tree is looked at
+  spoils : (found : Result Stood FsError) (reply : Reply) → is_well_known settings method path ≡ false → IsSpoiledAt settings method fields path found reply
+      → IsSpoiledOr (is_well_known settings method path) settings method fields path found reply
+  spoils found reply plain is = subst (λ b. IsSpoiledOr b settings method fields path found reply) (sym plain) is
+
+  failed_at : (found : Result Standing FsError) (reply : Reply) → reply ≡ failure → IsSpoiledAt settings method fields path (found_as found) reply
   failed_at (Ok there) reply is = inl is
   failed_at (Err e) reply is = is
 
   -- a call was spoiled by a fault or by want of memory
-  spoiled_right : {T : Type 0} (found : Result Standing FsError) (s m t : S) (r : Result T FsError) (e : FsError) (result : Given F) → r ≡ Err e → Spoiled (view.state s) r (view.state m) → (view.state m).faults ≤ (view.state t).faults
+  spoiled_right : {T : Type 0} (found : Result Standing FsError) (s m t : S) (r : Result T FsError) (e : FsError) (result : Given F) → is_well_known settings method path ≡ false → r ≡ Err e → Spoiled (view.state s) r (view.state m) → (view.state m).faults ≤ (view.state t).faults
       → result ≡ Err (of_fs e) → RightHead view settings method fields path found s result t
-  spoiled_right found s m t r e result is (inl (fault, rose)) le err =
+  spoiled_right found s m t r e result plain is (inl (fault, rose)) le err =
       let same : e ≡ fs.GeneralFailure = cc in
       let at : result ≡ Err (Fs fs.GeneralFailure) = err ∙ ap (λ x. Err (of_fs x)) same in
-      inr (inr (record { spoiled = failed_at found _ (ap (reply_at (number_in found)) at); rose = rose_after _ _ _ rose le }))
-  spoiled_right found s m t r e result is (inr none) le err =
+      inr (inr (record { spoiled = spoils (found_as found) _ plain (failed_at found _ (ap (reply_at (number_in found)) at)); rose = rose_after _ _ _ rose le }))
+  spoiled_right found s m t r e result plain is (inr none) le err =
       let same : e ≡ fs.NoMemory = cc in inl (err ∙ ap (λ x. Err (of_fs x)) same)
 
   closed_counts : (s : S) (file : F) (t : S) → Closes view s file t → (view.state s).faults ≤ (view.state t).faults
@@ -115,14 +120,14 @@ module _ {S C F : Type 0} (view : View S C F) (settings : Settings) (method : Da
     sends_file_right info file s (Err e) t f agrees none number told live row = absurd row
     sends_file_right info file s (Ok r) t f agrees none number told live row =
         let alike = sent_alike method fields info (stood_of there) (says_of info there agrees) in
-        elim (placed_right view (first_place (sent_of method fields (stood_by info None))) method path fields info (stood_of there) (sent_of method fields (stood_by info None)) file s r.0 r.1 t f
-        (says_of info there agrees) alike refl number told live row) [
+        elim (placed_right view (first_place (sent_of method fields (stood_by info None))) settings method path fields info (stood_of there) (sent_of method fields (stood_by info None)) file s r.0 r.1 t f
+        (says_of info there agrees) (kind_is there.kind regular) none alike refl number told live row) [
           | inl right ↦ inr (inl (record {
             head = as_head _ (subst (λ a. IsFileHead a method fields path (stood_of there) (reply_at {F = F} there.number (Ok r))) (sym none)
                 (subst (λ sent. IsSent method path (stood_of there) sent (reply_at {F = F} there.number (Ok r))) alike right.0));
             file = right.1;
           }))
-          | inr unplaced ↦ inr (inr (record { spoiled = inr unplaced.0; rose = unplaced.1 }))
+          | inr unplaced ↦ inr (inr (record { spoiled = spoils (found_as (Ok there)) _ plain (inr unplaced.0); rose = unplaced.1 }))
         ]
 
     -- a file that may send the client to another address
@@ -131,7 +136,7 @@ module _ {S C F : Type 0} (view : View S C F) (settings : Settings) (method : Da
         → Redirects view s file said m g → AfterRedirect view said method path fields info g m result t → RightHead view settings method fields path (Ok there) s result t
     redirect_right (Err e) info file g s m result t agrees set told live asked (closed, err) =
         let spoiled : Spoiled {T = Option (List ℕ)} (view.state s) (Err e) (view.state m) = rw told at asked.done.told in
-        spoiled_right (Ok there) s m t (Err e) e result refl spoiled (closed_counts m g t closed) err
+        spoiled_right (Ok there) s m t (Err e) e result plain refl spoiled (closed_counts m g t closed) err
     redirect_right (Ok (Some address)) info file g s m (Err e) t agrees set told live asked row = absurd row
     redirect_right (Ok (Some address)) info file g s m (Ok r) t agrees set told live asked ((date, dated, is), closed, (left, none)) =
         let to : Some address ≡ there.redirect = rw told at asked.done.told in
@@ -170,7 +175,7 @@ module _ {S C F : Type 0} (view : View S C F) (settings : Settings) (method : Da
         → IsSome ((view.state s).live (view.handle file)) → ((l : Live) → (view.state s).live (view.handle file) ≡ Some l → l.how ≡ reading)
         → SaysOf view s file said m g → AfterMeta view said settings method path fields g m result t → RightHead view settings method fields path (Ok there) s result t
     regular_right (Err e) file g s m result t told some how says (closed, err) =
-        spoiled_right {T = Info} (Ok there) s m t (Err e) e result refl (inl says.done.refused) (closed_counts m g t closed) err
+        spoiled_right {T = Info} (Ok there) s m t (Err e) e result plain refl (inl says.done.refused) (closed_counts m g t closed) err
     regular_right (Ok info) file g s m result t told some how says row =
         let agrees : AgreesOpen info there = rw told at says.done.told in
         let file_kind : is_file info.kind ≡ true = ap is_file agrees.kind ∙ regular in
@@ -184,7 +189,7 @@ module _ {S C F : Type 0} (view : View S C F) (settings : Settings) (method : Da
   other_right : (there : Standing) → is_file there.kind ≡ false → is_dir there.kind ≡ false → is_well_known settings method path ≡ false → (said : Result Info FsError) (file g : F) (s m : S) (result : Given F) (t : S) (f : Seen) → seen_in view s file ≡ Some f → f.stands.kind ≡ there.kind
       → SaysOf view s file said m g → AfterMeta view said settings method path fields g m result t → RightHead view settings method fields path (Ok there) s result t
   other_right there no_file no_dir plain (Err e) file g s m result t f told kind says (closed, err) =
-      spoiled_right {T = Info} (Ok there) s m t (Err e) e result refl (inl says.done.refused) (closed_counts m g t closed) err
+      spoiled_right {T = Info} (Ok there) s m t (Err e) e result plain refl (inl says.done.refused) (closed_counts m g t closed) err
   other_right there no_file no_dir plain (Ok info) file g s m result t f told kind says row =
       let agrees : AgreesOpen info f.stands = rw told at says.done.told in
       let row2 = subst (λ b. ByFile view b settings method path fields info g m result t) (ap is_file (agrees.kind ∙ kind) ∙ no_file) row in
@@ -220,7 +225,7 @@ module _ {S C F : Type 0} (view : View S C F) (settings : Settings) (method : Da
   opened_right there no_dir plain (Ok file) s m result t (inr (inr e)) one (inl row) = absurd (not_both file (Ok file) fs.NoMemory refl e)
   opened_right there no_dir plain (Err e) s m result t (inl shown) one row = absurd shown
   opened_right there no_dir plain (Err e) s m result t (inr spoiled) one (same, err) =
-      spoiled_right {T = F} (Ok there) s m t (Err e) e result refl spoiled (rw same (omega arith)) err
+      spoiled_right {T = F} (Ok there) s m t (Err e) e result plain refl spoiled (rw same (omega arith)) err
 
   -- an opening, where a look found what is no directory
   kind_right : (b : Bool) (there : Standing) → is_dir there.kind ≡ b → is_well_known settings method path ≡ false → (c : C) (s : S) (result : Given F) (t : S)
@@ -264,7 +269,7 @@ module _ {S C F : Type 0} (view : View S C F) (settings : Settings) (method : Da
         }))
       ]
   looked_right found (Err f) plain c s m result t (inr spoiled) counts shows (same, err) =
-      spoiled_right {T = Info} found s m t (Err f) f result refl spoiled (rw same (omega arith)) err
+      spoiled_right {T = Info} found s m t (Err f) f result plain refl spoiled (rw same (omega arith)) err
 
   well_known_right : (b : Bool) (found : Result Standing FsError) (c : C) (opened : Result Standing FsError) (s : S) (result : Given F) (t : S) → is_well_known settings method path ≡ b
       → Shows view s c path found opened → OpensLooked found opened → ByWellKnown view b settings c method path fields s result t → RightHead view settings method fields path found s result t

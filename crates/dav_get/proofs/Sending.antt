@@ -7,6 +7,7 @@ use Rattle.dav_io.specs.declared.fields.Field.{Field}
 use Rattle.dav_core.specs.declared.error.FsError.{FsError}
 use Rattle.dav_core.specs.declared.method.DavMethod.{DavMethod}
 use Rattle.dav_core.specs.declared.time.FileTime.{FileTime}
+use Rattle.dav_core.specs.declared.tree.Kind.TheVariants.{File}
 use Rattle.dav_core.specs.DavPath.{WebPath}
 use Rattle.dav_core.specs.Disk.{DiskState, can_read}
 use Rattle.dav_core.specs.Info.{Info}
@@ -17,9 +18,10 @@ use Rattle.dav_model.specs.declared.outcome.Outcome.{Outcome}
 use Rattle.dav_model.specs.declared.ranges.Slice.{Slice}
 use Rattle.dav_model.specs.declared.sent.Sent.{Sent}
 use Rattle.dav_model.specs.declared.sent.Sent.TheVariants.{All, Alone, Unsatisfied, One, Several}
+use Rattle.dav_model.specs.declared.settings.Settings.{Settings}
 use Rattle.dav_model.specs.Bodies.{Part}
 use Rattle.dav_model.specs.Conditions.{Fields, condition, first_bytes, ranges_are_heard, strong}
-use Rattle.dav_model.specs.Head.{Reply, Stood, IsSent, IsUnplaced, is_get, sent_by, sent_fields, sent_of, sent_parts, sent_reply, sent_status}
+use Rattle.dav_model.specs.Head.{Reply, Stood, IsSent, IsUnplaced, address_of, is_get, sent_by, sent_fields, sent_of, sent_parts, sent_reply, sent_status}
 use Rattle.dav_model.specs.Times.{IsDate}
 use Rattle.dav_get.specs.declared.body.GetBody.{GetBody}
 use Rattle.dav_get.specs.declared.open_at.OpenAt.{OpenAt}
@@ -98,35 +100,35 @@ module _ {S C F : Type 0} (view : View S C F) where
   some_start (Several parts) start e = refl
 
   -- where the file is moved to the first part
-  sought_right : (sought : Result ℕ FsError) (method : DavMethod) (path : WebPath) (fields : Fields) (info : Info) (stood : Stood) (sent : Sent) (file g : F) (start : ℕ) (s m : S) (outcome : Outcome) (body : GetBody F) (t : S) (f : Seen)
-      → Says info stood → sent ≡ sent_of method fields stood → first_place sent ≡ Some start → f.stands.number ≡ stood.number → seen_in view s file ≡ Some f → can_read ((view.state s).live (view.handle file)) ≡ true
+  sought_right : (sought : Result ℕ FsError) (settings : Settings) (method : DavMethod) (path : WebPath) (fields : Fields) (info : Info) (stood : Stood) (sent : Sent) (file g : F) (start : ℕ) (s m : S) (outcome : Outcome) (body : GetBody F) (t : S) (f : Seen)
+      → Says info stood → stood.kind ≡ File → address_of settings stood ≡ None → sent ≡ sent_of method fields stood → first_place sent ≡ Some start → f.stands.number ≡ stood.number → seen_in view s file ≡ Some f → can_read ((view.state s).live (view.handle file)) ≡ true
       → Seeks view s file start sought m g → AfterSeek view sought method path info sent g start m outcome body t
       → (IsSent method path stood sent (reply_at {F = F} stood.number (Ok (outcome, body))) × IsOfNumber view stood.number t (Ok (outcome, body)))
-      ⊎ (IsUnplaced method fields path stood (reply_at {F = F} stood.number (Ok (outcome, body))) × Rose (view.state s).faults (view.state t).faults)
-  sought_right (Ok n) method path fields info stood sent file g start s m outcome body t f says is first number told live seeks row =
+      ⊎ (IsUnplaced settings method fields path stood (reply_at {F = F} stood.number (Ok (outcome, body))) × Rose (view.state s).faults (view.state t).faults)
+  sought_right (Ok n) settings method path fields info stood sent file g start s m outcome body t f says regular here is first number told live seeks row =
       let (h, at, moved) = told_after (seen_in view s file) (seen_in view m g) (SeeksIn start (Ok n)) f seeks.done.told told in
       let same : h.stands.number ≡ stood.number = ap (λ (x : Seen). x.stands.number) moved ∙ number in
       inl (
         sends_right method path info stood sent g start m outcome body t says row,
         subst (λ k. IsOfNumber view k t (Ok (outcome, body))) same (sends_number method path info sent g start m outcome body t h at row),
       )
-  sought_right (Err e) method path fields info stood sent file g start s m outcome body t f says is first number told live seeks row =
+  sought_right (Err e) settings method path fields info stood sent file g start s m outcome body t f says regular here is first number told live seeks row =
       let refused = seeks.done.refused live in
       inr (
-        record { partial = ap sent_status (sym is) ∙ some_start sent start first; sent = sends_right method path info stood Unsatisfied g start m outcome body t says row },
+        record { regular = regular; here = here; partial = ap sent_status (sym is) ∙ some_start sent start first; sent = sends_right method path info stood Unsatisfied g start m outcome body t says row },
         rose_on _ _ _ refused.1 (sends_counts method path info Unsatisfied g start m outcome body t row),
       )
 
   -- A row that sends of the file what is called for is right, or the file couldn't be placed.
-  pub placed_right : (place : Option ℕ) (method : DavMethod) (path : WebPath) (fields : Fields) (info : Info) (stood : Stood) (sent : Sent) (file : F) (s : S) (outcome : Outcome) (body : GetBody F) (t : S) (f : Seen)
-      → Says info stood → sent ≡ sent_of method fields stood → first_place sent ≡ place → f.stands.number ≡ stood.number → seen_in view s file ≡ Some f → can_read ((view.state s).live (view.handle file)) ≡ true
+  pub placed_right : (place : Option ℕ) (settings : Settings) (method : DavMethod) (path : WebPath) (fields : Fields) (info : Info) (stood : Stood) (sent : Sent) (file : F) (s : S) (outcome : Outcome) (body : GetBody F) (t : S) (f : Seen)
+      → Says info stood → stood.kind ≡ File → address_of settings stood ≡ None → sent ≡ sent_of method fields stood → first_place sent ≡ place → f.stands.number ≡ stood.number → seen_in view s file ≡ Some f → can_read ((view.state s).live (view.handle file)) ≡ true
       → ByPlace view place method path info sent file s outcome body t
       → (IsSent method path stood sent (reply_at {F = F} stood.number (Ok (outcome, body))) × IsOfNumber view stood.number t (Ok (outcome, body)))
-      ⊎ (IsUnplaced method fields path stood (reply_at {F = F} stood.number (Ok (outcome, body))) × Rose (view.state s).faults (view.state t).faults)
-  placed_right None method path fields info stood sent file s outcome body t f says is first number told live row =
+      ⊎ (IsUnplaced settings method fields path stood (reply_at {F = F} stood.number (Ok (outcome, body))) × Rose (view.state s).faults (view.state t).faults)
+  placed_right None settings method path fields info stood sent file s outcome body t f says regular here is first number told live row =
       inl (
         sends_right method path info stood sent file 0 s outcome body t says row,
         subst (λ k. IsOfNumber view k t (Ok (outcome, body))) number (sends_number method path info sent file 0 s outcome body t f told row),
       )
-  placed_right (Some start) method path fields info stood sent file s outcome body t f says is first number told live (sought, g, m, seeks, row) =
-      sought_right sought method path fields info stood sent file g start s m outcome body t f says is first number told live seeks row
+  placed_right (Some start) settings method path fields info stood sent file s outcome body t f says regular here is first number told live (sought, g, m, seeks, row) =
+      sought_right sought settings method path fields info stood sent file g start s m outcome body t f says regular here is first number told live seeks row

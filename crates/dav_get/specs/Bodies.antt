@@ -10,6 +10,7 @@ use Rattle.dav_model.specs.declared.ranges.Slice.{Slice}
 use Rattle.dav_model.specs.declared.answer.Answer.{Answer}
 use Rattle.dav_model.specs.declared.answer.Answer.TheVariants.{Piece, End, Broken}
 use Rattle.dav_model.specs.Bodies.{Part, Polls as PollsParts}
+use Rattle.dav_model.specs.Sizes.{zeros_size}
 use Rattle.dav_store.specs.Standing.{Seen}
 use Rattle.dav_store.specs.Files.{FileCloses}
 use Rattle.dav_get.specs.declared.part.BodyPart.{BodyPart}
@@ -47,7 +48,7 @@ pub record IsHeld {F : Type 0} (handle : F → ℕ) (seen : F → DiskState → 
   pub needs : list_any is_slice (left_of b) ≡ true → is_some b.file ≡ true
   pub over : left_of b ≡ [] → is_some b.file ≡ false
   pub some : list_any is_slice (left_of b) ≡ true → 0 < b.most
-  pub room : list_any is_slice (left_of b) ≡ true → max b.most 4096 ≤ length b.buffer.items
+  pub room : list_any is_slice (left_of b) ≡ true → max b.most zeros_size ≤ length b.buffer.items
   pub file : (h : OpenAt F) → b.file ≡ Some h → IsAt handle seen s h
 
 -- The file is closed, where there is one.

@@ -1,12 +1,18 @@
 -- What a GET leaves open: nothing but the file of its body.
 use Rattle.std.specs.Prelude.{◌≡◌, ℕ, true, Option, None, Some, Result, Ok, Err}
 use Rattle.std.specs.List.{list_any}
+use Rattle.dav_core.specs.Disk.{DiskState}
 use Rattle.dav_core.specs.Keeps.{Keeps, KeepsBut}
 use Rattle.dav_store.specs.View.{View}
 use Rattle.dav_get.specs.declared.body.GetBody.{GetBody}
 use Rattle.dav_get.specs.declared.open_at.OpenAt.{OpenAt}
 use Rattle.dav_get.specs.Bodies.{IsHeld, is_slice, left_of}
 use Rattle.dav_get.specs.Table.{Given}
+
+-- Nothing is open that wasn't, but this file.
+abbrev pub OpensOnly : {F : Type 0} → (F → ℕ) → DiskState → Option (OpenAt F) → DiskState → Type 0
+OpensOnly handle s None t = Keeps s t
+OpensOnly handle s (Some h) t = KeepsBut (handle h.file) s t × (s.live (handle h.file) ≡ None)
 
 module _ {S C F : Type 0} (view : View S C F) where
   -- the file in hand is the body's, or is closed
@@ -19,12 +25,8 @@ module _ {S C F : Type 0} (view : View S C F) where
   HeldOrClosed n s (Err e) t = KeepsBut n (view.state s) (view.state t) × ((view.state t).live n ≡ None)
 
   -- Nothing is open that wasn't, but the body's file.
-  abbrev pub OpensOnly : S → Option (OpenAt F) → S → Type 0
-  OpensOnly s None t = Keeps (view.state s) (view.state t)
-  OpensOnly s (Some h) t = KeepsBut (view.handle h.file) (view.state s) (view.state t) × ((view.state s).live (view.handle h.file) ≡ None)
-
   abbrev pub OpenOnlyHeld : S → Given F → S → Type 0
-  OpenOnlyHeld s (Ok r) t = IsHeld view.handle view.seen (view.state t) r.1 × OpensOnly s r.1.file t
+  OpenOnlyHeld s (Ok r) t = IsHeld view.handle view.seen (view.state t) r.1 × OpensOnly view.handle (view.state s) r.1.file (view.state t)
   OpenOnlyHeld s (Err e) t = Keeps (view.state s) (view.state t)
 
 -- where slices of a file are left, a piece has at most so many bytes

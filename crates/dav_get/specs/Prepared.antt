@@ -5,6 +5,7 @@ use Rattle.dav_core.specs.declared.method.DavMethod.{DavMethod}
 use Rattle.dav_core.specs.DavPath.{WebPath}
 use Rattle.dav_core.specs.Info.{Info}
 use Rattle.dav_model.specs.declared.sent.Sent.{Sent}
+use Rattle.dav_model.specs.Sizes.{zeros_size}
 use Rattle.dav_get.specs.declared.buffer.ReadBuffer.{ReadBuffer}
 use Rattle.dav_get.specs.declared.part.BodyPart.{BodyPart}
 use Rattle.dav_get.specs.declared.prepared.Prepared.{Prepared}
@@ -14,7 +15,7 @@ use Rattle.dav_get.specs.Table.{IsOutcome, ArePartsOf}
 -- Each part is sound, and there is room for their pieces.
 pub record AreReady (size : ℕ) (parts : List BodyPart) (buffer : ReadBuffer) : Type 0 where
   pub sound : list_all is_part parts ≡ true
-  pub room : (parts ≡ []) ⊎ ((buffer.most ≡ size) × (max buffer.most 4096 ≤ vec_len buffer.bytes))
+  pub room : (parts ≡ []) ⊎ ((buffer.most ≡ size) × (max buffer.most zeros_size ≤ vec_len buffer.bytes))
 
 pub record IsPrepared (size : ℕ) (method : DavMethod) (path : WebPath) (info : Info) (sent : Sent) (p : Prepared) : Type 0 where
   pub outcome_is : IsOutcome method path info sent p.outcome

@@ -11,7 +11,7 @@ use Rattle.dav_store.specs.Standing.{Standing, Seen}
 use Rattle.dav_store.specs.View.{View, seen_in}
 use Rattle.dav_model.specs.declared.settings.Settings.{Settings}
 use Rattle.dav_model.specs.Conditions.{Fields}
-use Rattle.dav_model.specs.Head.{Reply, Stood, IsHeadOr, IsSpoiledAt, is_well_known, refusal}
+use Rattle.dav_model.specs.Head.{Reply, Stood, IsHeadOr, IsSpoiledOr, is_well_known, refusal}
 use Rattle.dav_get.specs.declared.open_at.OpenAt.{OpenAt}
 use Rattle.dav_get.specs.Bodies.{left_of}
 use Rattle.dav_get.specs.Parts.{parts_of}
@@ -52,10 +52,10 @@ module _ {S C F : Type 0} (view : View S C F) where
     pub file : IsOfNumber (number_in found) t result
 
   -- What may be answered in its place was answered, as a fault was met.
-  pub record IsFaulty (method : DavMethod) (fields : Fields) (path : WebPath) (found : Result Standing FsError) (s : S) (result : Given F) (t : S) : Type 0 where
-    pub spoiled : IsSpoiledAt method fields path (found_as found) (reply_at (number_in found) result)
+  pub record IsFaulty (settings : Settings) (method : DavMethod) (fields : Fields) (path : WebPath) (found : Result Standing FsError) (s : S) (result : Given F) (t : S) : Type 0 where
+    pub spoiled : IsSpoiledOr (is_well_known settings method path) settings method fields path (found_as found) (reply_at (number_in found) result)
     pub rose : Rose (view.state s).faults (view.state t).faults
 
   abbrev pub RightHead : Settings → DavMethod → Fields → WebPath → Result Standing FsError → S → Given F → S → Type 0
   RightHead settings method fields path found s result t =
-      (result ≡ Err NoMemory) ⊎ (IsAnswer settings method fields path found result t ⊎ IsFaulty method fields path found s result t)
+      (result ≡ Err NoMemory) ⊎ (IsAnswer settings method fields path found result t ⊎ IsFaulty settings method fields path found s result t)

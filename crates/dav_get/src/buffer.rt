@@ -1,10 +1,13 @@
 ghost use Rattle.std.specs.Prelude.{◌≡◌, ◌<◌, IfOk, max, vec_len};
+ghost use Rattle.dav_model.specs.Sizes.{zeros_size};
 
 use dav_io::NoMemory;
 use std::alloc::Global;
 
-/// Room for the pieces of a file. It is made before the file is opened, so that a file in hand is never lost to want of
-/// memory.
+// The most zeros in a piece.
+pub(crate) const ZEROS_SIZE: usize = 4_096;
+
+/// Room for the pieces of a file. It is made before the body, so that no poll takes memory for it.
 #[derive(Drop)]
 pub struct ReadBuffer {
     pub(crate) most: usize,
@@ -15,9 +18,9 @@ impl ReadBuffer {
     /// Room for pieces of at most `read_size` bytes of a file, and of at most 4,096 zeros.
     pub fn new(alloc: Global, read_size: usize) -> Result<Self, NoMemory>
         requires { 0 < read_size }
-        ensures { IfOk result (λ buffer. (buffer.most ≡ read_size) × (vec_len buffer.bytes ≡ max read_size 4096)) }
+        ensures { IfOk result (λ buffer. (buffer.most ≡ read_size) × (vec_len buffer.bytes ≡ max read_size zeros_size)) }
     {
-        let bytes = vec![in alloc; 0; read_size.max(4096)]?;
+        let bytes = vec![in alloc; 0; read_size.max(ZEROS_SIZE)]?;
         Ok(ReadBuffer {
             most: read_size,
             bytes,

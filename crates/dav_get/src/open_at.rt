@@ -1,7 +1,9 @@
 ghost use Rattle.std.specs.Prelude.{◌≡◌, ◌≤◌, ◌<◌, ◌+◌, ◌^◌, length};
 ghost use Rattle.dav_core.specs.Disk.{can_read};
+ghost use Rattle.dav_model.specs.Sizes.{zeros_size};
 ghost use Rattle.dav_get.specs.OpenFiles.{IsAt, Moves, Fills};
 
+use crate::buffer::ZEROS_SIZE;
 use dav_core::Disk;
 use dav_model::Slice;
 use dav_store::DavFile;
@@ -48,7 +50,7 @@ impl<F> OpenAt<F> {
         requires fits { slice.start + slice.count < 2 ^ 64 }
         requires some { 0 < most }
         requires room { most ≤ length into.old }
-        requires zeros { 4096 ≤ length into.old }
+        requires zeros { zeros_size ≤ length into.old }
         ensures done { Fills F.handle F.seen (D.state disk.old) self.old slice most into.new result (D.state disk.new) self.new }
         ensures loan { D.loan disk.new ≡ D.loan disk.old }
     {
@@ -56,7 +58,7 @@ impl<F> OpenAt<F> {
         match self.file.read_into(disk, &mut into[..wanted]) {
             Err(_) => None,
             Ok(0) => {
-                let zeros = slice.count.min(4096) as usize;
+                let zeros = slice.count.min(ZEROS_SIZE as u64) as usize;
                 into[..zeros].fill(0);
                 Some(zeros)
             }
@@ -82,7 +84,7 @@ impl<F> OpenAt<F> {
         requires fits { slice.start + slice.count < 2 ^ 64 }
         requires some { 0 < most }
         requires room { most ≤ length into.old }
-        requires zeros { 4096 ≤ length into.old }
+        requires zeros { zeros_size ≤ length into.old }
         ensures done { Fills F.handle F.seen (D.state disk.old) self.old slice most into.new result (D.state disk.new) self.new }
         ensures loan { D.loan disk.new ≡ D.loan disk.old }
     {

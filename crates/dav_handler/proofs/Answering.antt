@@ -24,12 +24,14 @@ use Rattle.dav_model.specs.declared.sent.Sent.TheVariants.{Unsatisfied}
 use Rattle.dav_model.specs.declared.outcome.Outcome.{Outcome}
 use Rattle.dav_model.specs.declared.settings.Settings.{Settings}
 use Rattle.dav_model.specs.declared.target.Target.TheVariants.{At, Refused}
+use Rattle.dav_model.specs.Announced.{IsFramed}
 use Rattle.dav_model.specs.Bodies.{Part}
 use Rattle.dav_model.specs.Conditions.{Fields}
-use Rattle.dav_model.specs.Head.{IsHeadOr, IsReplyTo, IsSpoiledAt, IsSpoiledTo, Reply, Stood, found_in, found_with, is_get, is_well_known, refusal, stood_in}
+use Rattle.dav_model.specs.Head.{IsHeadOr, IsReplyTo, IsSpoiledOr, IsSpoiledTo, Reply, Stood, found_in, found_with, is_get, is_well_known, refusal, stood_in}
 use Rattle.dav_model.specs.Sizes.{read_size_of}
 use Rattle.dav_model.specs.Trail.{point_of}
 use Rattle.dav_model.specs.Play.{NoLinks}
+use Rattle.dav_model.proofs.Framing.{refused_framed}
 use Rattle.dav_store.specs.Shows.{Shows}
 use Rattle.dav_store.specs.Standing.{Seen, Standing}
 use Rattle.dav_store.specs.View.{View}
@@ -41,14 +43,13 @@ use Rattle.dav_get.specs.declared.body.GetBody.{GetBody}
 use Rattle.dav_get.specs.declared.open_at.OpenAt.{OpenAt}
 use Rattle.dav_get.specs.declared.part.BodyPart.{BodyPart}
 use Rattle.dav_get.specs.Bodies.{left_of, is_slice, IsHeld}
-use Rattle.dav_get.specs.Lives as lives
-use Rattle.dav_get.specs.Lives.{HasMost, OpenOnlyHeld}
+use Rattle.dav_get.specs.Lives.{HasMost, OpenOnlyHeld, OpensOnly}
 use Rattle.dav_get.specs.Parts.{parts_of}
 use Rattle.dav_get.specs.Right.{OpensLooked, RightHead, found_as, reply_at, stood_of}
 use Rattle.dav_get.specs.Right as getright
 use Rattle.dav_get.specs.Table.{Gets, Given}
 use Rattle.dav_handler.specs.declared.found.Found.{Found}
-use Rattle.dav_handler.specs.Found.{Answers, Finds, Gives, HoldsOnly, IsRefused, IsRefusedBy, OpensOnly, reply_of}
+use Rattle.dav_handler.specs.Found.{Answers, Finds, Gives, HoldsOnly, IsRefused, IsRefusedBy, reply_of}
 use Rattle.dav_handler.specs.Held.{Body, IsOpen, handle_of, number_in, number_seen, parts_in}
 use Rattle.dav_handler.proofs.Frames.{no_slices, texts_any}
 use Rattle.dav_handler.proofs.Tracing.{BodyTold, Traced, plain_view, traced}
@@ -92,10 +93,11 @@ no_parts number [] e = refl
 no_parts number (part ∷ parts) e = cc
 
 -- What is answered in place of a head has no parts.
-spoiled_none : (method : DavMethod) (fields : Fields) (path : WebPath) (stands : Result Stood FsError) (reply : Reply) → IsSpoiledAt method fields path stands reply → reply.parts ≡ []
-spoiled_none method fields path (Err e) reply is = ap (λ (r : Reply). r.parts) is
-spoiled_none method fields path (Ok stood) reply (inl is) = ap (λ (r : Reply). r.parts) is
-spoiled_none method fields path (Ok stood) reply (inr is) = ap (λ (r : Reply). r.parts) is.sent.2 ∙ nothing (is_get method) [] [] refl refl
+spoiled_none : (known : Bool) (settings : Settings) (method : DavMethod) (fields : Fields) (path : WebPath) (stands : Result Stood FsError) (reply : Reply) → IsSpoiledOr known settings method fields path stands reply → reply.parts ≡ []
+spoiled_none true settings method fields path stands reply is = absurd is
+spoiled_none false settings method fields path (Err e) reply is = ap (λ (r : Reply). r.parts) is
+spoiled_none false settings method fields path (Ok stood) reply (inl is) = ap (λ (r : Reply). r.parts) is
+spoiled_none false settings method fields path (Ok stood) reply (inr is) = ap (λ (r : Reply). r.parts) is.sent.2 ∙ nothing (is_get method) [] [] refl refl
   where
     nothing : (b : Bool) (x y : List Part) → x ≡ [] → y ≡ [] → cond b x y ≡ []
     nothing true x y e f = e
@@ -118,16 +120,12 @@ lacks_none : (e : DavError) → lacks_memory e ≡ false → e ≡ OutOfMemory �
 lacks_none e memory is = let f : true ≡ false = sym (ap lacks_memory is) ∙ memory in cc
 
 module _ {S C : Type 0} (base : View S C PlainFile) (s m : S) where
-  opens_only : (file : Option (OpenAt PlainFile)) → lives.OpensOnly (plain_view base) s file m → OpensOnly (base.state s) file (base.state m)
-  opens_only None keeps = keeps
-  opens_only (Some h) opens = opens
-
   holds_given : (most : ℕ) (r : Outcome × Body) (t : DiskState) (given : Option Body) → Gives (base.state m) r.1 given t → OpenOnlyHeld (plain_view base) s (Ok r) m → HasMost most (Ok r)
       → Traced (base.state s) (Ok r) (base.state m) → HoldsOnly most (base.state s) given (base.state m)
-  holds_given most r t None (same, none, file) life size tr = subst (λ f. OpensOnly (base.state s) f (base.state m)) file (opens_only r.1.file life.1)
+  holds_given most r t None (same, none, file) life size tr = subst (λ f. OpensOnly handle_of (base.state s) f (base.state m)) file life.1
   holds_given most r t (Some b) (same, is) life size tr =
-      subst (λ (x : Body). OpensOnly (base.state s) x.file (base.state m) × IsOpen most (base.state m) x) (sym is)
-      (opens_only r.1.file life.1, record { held = life.0; size = size; told = λ w h told file. tr.told h file w told })
+      subst (λ (x : Body). OpensOnly handle_of (base.state s) x.file (base.state m) × IsOpen most (base.state m) x) (sym is)
+      (life.1, record { held = life.0; size = size; told = λ w h told file. tr.told h file w told })
 
 module _ {S C : Type 0} (base : View S C PlainFile) (plain : IsPlain (plain_view base)) (settings : Settings) (s m : S) (c : C) (method : DavMethod) (path : WebPath) (fields : Fields)
     (worlds : (w : World) → (base.state s).told ≡ Some w → IsWorld w) (result : Given PlainFile)
@@ -143,33 +141,38 @@ module _ {S C : Type 0} (base : View S C PlainFile) (plain : IsPlain (plain_view
   -- the answer, where its reply is the one that the definition speaks of
   in_world : (w : World) (reply : Reply) → found_as (looked w path) ≡ found_in w path → (result ≡ Err OutOfMemory → ⊥)
       → (getright.IsAnswer (plain_view base) settings method fields path (looked w path) result m → reply_at (getright.number_in (looked w path)) result ≡ reply)
-      → (getright.IsFaulty (plain_view base) method fields path (looked w path) s result m → reply_at (getright.number_in (looked w path)) result ≡ reply)
+      → (getright.IsFaulty (plain_view base) settings method fields path (looked w path) s result m → reply_at (getright.number_in (looked w path)) result ≡ reply)
       → RightHead (plain_view base) settings method fields path (looked w path) s result m
-      → IsReplyTo settings w fields (At method path) reply ⊎ (IsSpoiledTo w fields (At method path) reply × Rose (base.state s).faults (base.state m).faults)
+      → IsReplyTo settings w fields (At method path) reply ⊎ (IsSpoiledTo settings w fields (At method path) reply × Rose (base.state s).faults (base.state m).faults)
   in_world w reply e some answer faulty (inl is) = absurd (some is)
   in_world w reply e some answer faulty (inr (inl is)) =
       inl (subst (λ x. IsHeadOr (is_well_known settings method path) settings method fields path x reply) e
       (subst (λ x. IsHeadOr (is_well_known settings method path) settings method fields path (found_as (looked w path)) x) (answer is) is.head))
   in_world w reply e some answer faulty (inr (inr is)) =
-      inr (subst (λ x. IsSpoiledAt method fields path x reply) e (subst (λ x. IsSpoiledAt method fields path (found_as (looked w path)) x) (faulty is) is.spoiled), is.rose)
+      inr (
+        subst (λ x. IsSpoiledOr (is_well_known settings method path) settings method fields path x reply) e
+            (subst (λ x. IsSpoiledOr (is_well_known settings method path) settings method fields path (found_as (looked w path)) x) (faulty is) is.spoiled),
+        is.rose,
+      )
 
 -- An answer with a status and fields, and a body or none.
 given_at : {S C : Type 0} (base : View S C PlainFile) (plain : IsPlain (plain_view base)) (settings : Settings) (s m : S) (c : C) (method : DavMethod) (path : WebPath) (fields : Fields)
     → ((w : World) → (base.state s).told ≡ Some w → IsWorld w) → (r : Outcome × Body) (t : DiskState) (found : Found)
     → Gets (plain_view base) settings c method path fields s (Ok r) m ⊎ (Ok r ≡ Err OutOfMemory) → OpenOnlyHeld (plain_view base) s (Ok r) m → HasMost (read_size_of settings.read_buf_size) (Ok r)
     → ((looked opened : Result Standing FsError) → Shows (plain_view base) s c path looked opened → OpensLooked looked opened → RightHead (plain_view base) settings method fields path looked s (Ok r) m)
-    → found.outcome ≡ r.0 → Gives (base.state m) r.1 found.body t → Answers settings (base.state s) fields (At method path) found t
-given_at base plain settings s m c method path fields worlds r t found gets life most right outcome gives =
+    → ((number : ℕ) → IsFramed (At method path) (reply_at {F = PlainFile} number (Ok r))) → found.outcome ≡ r.0 → Gives (base.state m) r.1 found.body t → Answers settings (base.state s) fields (At method path) found t
+given_at base plain settings s m c method path fields worlds r t found gets life most right framed outcome gives =
     let tr : Traced (base.state s) (Ok r) (base.state m) = traced base plain settings c method path fields s m (Ok r) gets in
     subst (λ x. Answers settings (base.state s) fields (At method path) found x) (sym (given_state (base.state m) t r.1 found.body gives)) (record {
       holds = holds_given base s m (read_size_of settings.read_buf_size) r t found.body gives life most tr;
       gated = tt;
       failed = λ e. tr.failed (sym (ap (λ (o : Outcome). o.status) outcome) ∙ e);
+      framed = subst (λ x. IsFramed (At method path) x) (same_reply (number_in (base.state m) r.1.file) refl) (framed (number_in (base.state m) r.1.file));
       right = λ none w told.
           in_world base plain settings s m c method path fields worlds (Ok r) right tr w (reply_of (base.state m) found) (found_there base plain settings s m c method path fields worlds (Ok r) right tr none w told)
           (λ e. (let z : Ok r ≡ Err OutOfMemory = e in cc))
           (λ is. same_reply (getright.number_in (looked w path)) (parts_here (base.state m) r.1.file (left_of r.1) (getright.number_in (looked w path)) life.0.needs is.file))
-          (λ is. same_reply (getright.number_in (looked w path)) (no_number (number_in (base.state m) r.1.file) (getright.number_in (looked w path)) (left_of r.1) (spoiled_none method fields path (found_as (looked w path)) _ is.spoiled)))
+          (λ is. same_reply (getright.number_in (looked w path)) (no_number (number_in (base.state m) r.1.file) (getright.number_in (looked w path)) (left_of r.1) (spoiled_none (is_well_known settings method path) settings method fields path (found_as (looked w path)) _ is.spoiled)))
           (head_in base plain settings s m c method path fields worlds (Ok r) right tr none w told);
     })
   where
@@ -189,15 +192,16 @@ refused_at : {S C : Type 0} (base : View S C PlainFile) (plain : IsPlain (plain_
     → ((w : World) → (base.state s).told ≡ Some w → IsWorld w) → (e : DavError) (result : Result Found NoMemory)
     → Gets (plain_view base) settings c method path fields s (Err e) m ⊎ (◌≡◌ {A = Given PlainFile} (Err e) (Err OutOfMemory)) → Keeps (base.state s) (base.state m)
     → ((looked opened : Result Standing FsError) → Shows (plain_view base) s c path looked opened → OpensLooked looked opened → RightHead (plain_view base) settings method fields path looked s (Err e) m)
-    → IfOk result (IsRefusedBy e) → Finds settings (base.state s) fields (At method path) result (base.state m)
-refused_at base plain settings s m c method path fields worlds e (Err x) gets keeps right is = keeps
-refused_at base plain settings s m c method path fields worlds e (Ok found) gets keeps right is =
+    → ((number : ℕ) → IsFramed (At method path) (reply_at {F = PlainFile} number (Err e))) → IfOk result (IsRefusedBy e) → Finds settings (base.state s) fields (At method path) result (base.state m)
+refused_at base plain settings s m c method path fields worlds e (Err x) gets keeps right framed is = keeps
+refused_at base plain settings s m c method path fields worlds e (Ok found) gets keeps right framed is =
     let tr : Traced (base.state s) (Err e) (base.state m) = traced base plain settings c method path fields s m (Err e) gets in
     let same : refusal (status_of e) (closes e) ≡ reply_of (base.state m) found = sym (reply_refused (base.state m) (status_of e) (closes e) found is.refused) in
     record {
       holds = subst (λ b. HoldsOnly (read_size_of settings.read_buf_size) (base.state s) b (base.state m)) (sym is.refused.body) keeps;
       gated = tt;
       failed = λ f. tr.failed (sym is.refused.status ∙ f, is.memory);
+      framed = subst (λ x. IsFramed (At method path) x) same (framed 0);
       right = λ none w told.
           in_world base plain settings s m c method path fields worlds (Err e) right tr w (reply_of (base.state m) found) (found_there base plain settings s m c method path fields worlds (Err e) right tr none w told)
           (λ f. lacks_none e is.memory (let z : e ≡ OutOfMemory = cc in z)) (λ x. same) (λ x. same)
@@ -216,17 +220,17 @@ module _ {S C : Type 0} (view : View S C PlainFile) (e : plain_view view ≡ vie
   pub given_answers : (r : Outcome × Body) (t : DiskState) (found : Found) → Gets view settings c method path fields s (Ok r) m ⊎ (Ok r ≡ Err OutOfMemory) → OpenOnlyHeld view s (Ok r) m
       → HasMost (read_size_of settings.read_buf_size) (Ok r)
       → ((looked opened : Result Standing FsError) → Shows view s c path looked opened → OpensLooked looked opened → RightHead view settings method fields path looked s (Ok r) m)
-      → found.outcome ≡ r.0 → Gives (view.state m) r.1 found.body t → Answers settings (view.state s) fields (At method path) found t
-  given_answers r t found gets life most right outcome gives =
+      → ((number : ℕ) → IsFramed (At method path) (reply_at {F = PlainFile} number (Ok r))) → found.outcome ≡ r.0 → Gives (view.state m) r.1 found.body t → Answers settings (view.state s) fields (At method path) found t
+  given_answers r t found gets life most right framed outcome gives =
       given_at view (subst IsPlain (sym e) plain) settings s m c method path fields worlds r t found
-      (subst (λ v. Gets v settings c method path fields s (Ok r) m ⊎ (Ok r ≡ Err OutOfMemory)) (sym e) gets) (subst (λ v. OpenOnlyHeld v s (Ok r) m) (sym e) life) most (right_as (Ok r) right) outcome gives
+      (subst (λ v. Gets v settings c method path fields s (Ok r) m ⊎ (Ok r ≡ Err OutOfMemory)) (sym e) gets) (subst (λ v. OpenOnlyHeld v s (Ok r) m) (sym e) life) most (right_as (Ok r) right) framed outcome gives
 
   pub refused_answers : (error : DavError) (result : Result Found NoMemory) → Gets view settings c method path fields s (Err error) m ⊎ (◌≡◌ {A = Given PlainFile} (Err error) (Err OutOfMemory)) → Keeps (view.state s) (view.state m)
       → ((looked opened : Result Standing FsError) → Shows view s c path looked opened → OpensLooked looked opened → RightHead view settings method fields path looked s (Err error) m)
-      → IfOk result (IsRefusedBy error) → Finds settings (view.state s) fields (At method path) result (view.state m)
-  refused_answers error result gets keeps right is =
+      → ((number : ℕ) → IsFramed (At method path) (reply_at {F = PlainFile} number (Err error))) → IfOk result (IsRefusedBy error) → Finds settings (view.state s) fields (At method path) result (view.state m)
+  refused_answers error result gets keeps right framed is =
       refused_at view (subst IsPlain (sym e) plain) settings s m c method path fields worlds error result
-      (subst (λ v. Gets v settings c method path fields s (Err error) m ⊎ (◌≡◌ {A = Given PlainFile} (Err error) (Err OutOfMemory))) (sym e) gets) keeps (right_as (Err error) right) is
+      (subst (λ v. Gets v settings c method path fields s (Err error) m ⊎ (◌≡◌ {A = Given PlainFile} (Err error) (Err OutOfMemory))) (sym e) gets) keeps (right_as (Err error) right) framed is
 
 -- What the gates refuse.
 pub gate_answers : (settings : Settings) (s : DiskState) (fields : Fields) (status : ℕ) (close : Bool) (result : Result Found NoMemory) → status ≢ 500 → IfOk result (IsRefused (refusal status close))
@@ -238,5 +242,6 @@ gate_answers settings s fields status close (Ok found) ne is =
       holds = subst (λ b. HoldsOnly (read_size_of settings.read_buf_size) s b s) (sym is.body) (keeps_same s);
       gated = same;
       failed = λ f. absurd (ne (sym is.status ∙ f));
+      framed = refused_framed (Refused status close) (reply_of s found) status close same;
       right = λ none w told. inl same;
     }

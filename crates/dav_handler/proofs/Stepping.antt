@@ -21,8 +21,9 @@ use Rattle.dav_model.specs.Play.{Valid, Gated, Replies, Stepped}
 use Rattle.dav_plain.specs.declared.file.PlainFile.{PlainFile}
 use Rattle.dav_get.specs.declared.open_at.OpenAt.{OpenAt}
 use Rattle.dav_get.specs.Bodies.{Closes}
+use Rattle.dav_get.specs.Lives.{OpensOnly}
 use Rattle.dav_handler.specs.declared.found.Found.{Found}
-use Rattle.dav_handler.specs.Found.{Answers, HoldsOnly, OpensOnly, reply_of}
+use Rattle.dav_handler.specs.Found.{Answers, HoldsOnly, reply_of}
 use Rattle.dav_handler.specs.Held.{Body, ClosesBody, IsPlaying, handle_of, left_in, parts_in}
 use Rattle.dav_handler.proofs.Upkeep.{OthersStay, closes_others, gone_leave, held_undone, holds_every, left_all, left_none, left_put, turn_every}
 use Rattle.dav_handler.proofs.Polling.{stay_counts, stay_world}
@@ -30,11 +31,11 @@ use Rattle.dav_handler.proofs.Polling.{stay_counts, stay_world}
 abbrev playing : Settings → ℕ → (ℕ → List Part) → Playing
 playing settings replies left = record { settings = settings; replies = replies; left = left }
 
-opens_counts : (s t : DiskState) (file : Option (OpenAt PlainFile)) → OpensOnly s file t → s.faults ≤ t.faults
+opens_counts : (s t : DiskState) (file : Option (OpenAt PlainFile)) → OpensOnly handle_of s file t → s.faults ≤ t.faults
 opens_counts s t None keeps = keeps.counts
 opens_counts s t (Some h) opens = opens.0.counts
 
-opens_world : (s t : DiskState) (file : Option (OpenAt PlainFile)) → OpensOnly s file t → Both s.told t.told SameBesidesOpens
+opens_world : (s t : DiskState) (file : Option (OpenAt PlainFile)) → OpensOnly handle_of s file t → Both s.told t.told SameBesidesOpens
 opens_world s t None keeps = keeps.world
 opens_world s t (Some h) opens = opens.0.world
 
@@ -49,7 +50,7 @@ world_only most s t (Some b) holds = opens_world s t b.file holds.0
 -- what was found is what the request asks for
 replies_as : (settings : Settings) (s t : DiskState) (request : Asked) (found : Found) → Answers settings s (fields_of request) (gates request) found t
     → Replies (Valid (point_of s) (point_of t ∷ [])) settings (point_of s) (point_of t) request (reply_of t found)
-replies_as settings s t request found answers = record { gated = answers.gated; failed = answers.failed; right = λ valid w told. answers.right valid.first w told }
+replies_as settings s t request found answers = record { gated = answers.gated; failed = answers.failed; framed = answers.framed; right = λ valid w told. answers.right valid.first w told }
 
 -- a reply
 pub replied : (settings : Settings) (s t : DiskState) (request : Asked) (now : Moment) (found : Found) (replies : ℕ) (left after : ℕ → List Part)

@@ -15,7 +15,8 @@ use Rattle.dav_plain.specs.declared.file.PlainFile.{PlainFile}
 use Rattle.dav_plain.specs.Calls.{seen_by}
 use Rattle.dav_get.specs.declared.open_at.OpenAt.{OpenAt}
 use Rattle.dav_get.specs.Bodies.{Closes, TouchesOwn}
-use Rattle.dav_handler.specs.Found.{HoldsOnly, OpensOnly}
+use Rattle.dav_get.specs.Lives.{OpensOnly}
+use Rattle.dav_handler.specs.Found.{HoldsOnly}
 use Rattle.dav_handler.specs.Held.{Body, ClosesBody, IsOpen, IsPlaying, handle_of, left_in, parts_in}
 use Rattle.dav_handler.proofs.Frames.{Leaves, body_open, but_leaves, keeps_leaves, open_stays, parts_stay, same_leaves, turn_leaves}
 
@@ -145,7 +146,7 @@ fresh_file s own h none live e = let f : s.live h ≡ None = ap s.live e ∙ non
     not_read None e f = cc
     not_read (Some l) e f = cc
 
-opens_every : (most : ℕ) (s t : DiskState) (file : Option (OpenAt PlainFile)) (at : ℕ → Option Body) (replies : ℕ) → OpensOnly s file t → IsPlaying most s at replies → Every s t at
+opens_every : (most : ℕ) (s t : DiskState) (file : Option (OpenAt PlainFile)) (at : ℕ → Option Body) (replies : ℕ) → OpensOnly handle_of s file t → IsPlaying most s at replies → Every s t at
 opens_every most s t None at replies keeps p n b e h file = keeps_every most s t at replies keeps p n b e h file
 opens_every most s t (Some g) at replies (keeps, none) p n b e h file =
     let live = ((p.held n b e).held.file h file).live in
@@ -159,7 +160,7 @@ holds_every most s t (Some b) at replies holds p = opens_every most s t b.file a
 pub playing_more : (most : ℕ) (s : DiskState) (at : ℕ → Option Body) (replies : ℕ) → IsPlaying most s at replies → IsPlaying most s at (replies + 1)
 playing_more most s at replies p = record { held = p.held; apart = p.apart; earlier = λ n le. p.earlier n (omega arith) }
 
-fresh_apart : (s t : DiskState) (file : Option (OpenAt PlainFile)) (g : OpenAt PlainFile) (h : ℕ) → OpensOnly s file t → file ≡ Some g → can_read (s.live h) ≡ true → h ≢ handle_of g.file
+fresh_apart : (s t : DiskState) (file : Option (OpenAt PlainFile)) (g : OpenAt PlainFile) (h : ℕ) → OpensOnly handle_of s file t → file ≡ Some g → can_read (s.live h) ≡ true → h ≢ handle_of g.file
 fresh_apart s t None g h opens e live = cc
 fresh_apart s t (Some f) g h opens e live = let same : f ≡ g = cc in rw (← same) (fresh_file s (handle_of f.file) h opens.1 live)
 
@@ -175,7 +176,7 @@ playing_joined most s t at new k body o p holds e is =
     (λ n le. put_other k n (Some o) at (λ same. absurd (omega arith)) ∙ p.earlier n (omega arith))
     )
 
-undone : (s m t : DiskState) (file : Option (OpenAt PlainFile)) → OpensOnly s file m → Closes handle_of m file t → Keeps s t
+undone : (s m t : DiskState) (file : Option (OpenAt PlainFile)) → OpensOnly handle_of s file m → Closes handle_of m file t → Keeps s t
 undone s m t None opens closes = subst (λ x. Keeps s x) (sym closes) opens
 undone s m t (Some f) opens closes = closed_again (handle_of f.file) s t (but_then (handle_of f.file) s m t opens.0 closes.keeps) opens.1 closes.live
 

@@ -4,20 +4,20 @@ use Rattle.dav_io.specs.Counts.{Rose}
 use Rattle.dav_io.specs.declared.failure.NoMemory.{NoMemory}
 use Rattle.dav_core.specs.declared.dav_error.DavError.{DavError}
 use Rattle.dav_core.specs.Disk.{DiskState}
-use Rattle.dav_core.specs.Keeps.{Keeps, KeepsBut}
+use Rattle.dav_core.specs.Keeps.{Keeps}
 use Rattle.dav_core.specs.Statuses.{closes, lacks_memory, status_of}
 use Rattle.dav_core.specs.World.{World}
 use Rattle.dav_model.specs.declared.settings.Settings.{Settings}
 use Rattle.dav_model.specs.declared.target.Target.{Target}
 use Rattle.dav_model.specs.declared.target.Target.TheVariants.{At, Refused}
 use Rattle.dav_model.specs.Conditions.{Fields}
+use Rattle.dav_model.specs.Announced.{IsFramed}
 use Rattle.dav_model.specs.Head.{Reply, refusal, IsReplyTo, IsSpoiledTo}
 use Rattle.dav_model.specs.Sizes.{read_size_of}
 use Rattle.dav_model.specs.Trail.{point_of}
 use Rattle.dav_model.specs.Play.{NoLinks, Gated}
-use Rattle.dav_plain.specs.declared.file.PlainFile.{PlainFile}
-use Rattle.dav_get.specs.declared.open_at.OpenAt.{OpenAt}
 use Rattle.dav_get.specs.Bodies.{left_of}
+use Rattle.dav_get.specs.Lives.{OpensOnly}
 use Rattle.dav_handler.specs.declared.found.Found.{Found}
 use Rattle.dav_handler.specs.Held.{Body, IsOpen, handle_of, parts_in}
 
@@ -26,21 +26,18 @@ abbrev pub reply_of : DiskState → Found → Reply
 reply_of t found = record { status = found.outcome.status; fields = found.outcome.fields; parts = parts_in t found.body }
 
 -- Nothing stays open but the file of a body, which is new.
-abbrev pub OpensOnly : DiskState → Option (OpenAt PlainFile) → DiskState → Type 0
-OpensOnly s None t = Keeps s t
-OpensOnly s (Some h) t = KeepsBut (handle_of h.file) s t × (s.live (handle_of h.file) ≡ None)
-
 abbrev pub HoldsOnly : ℕ → DiskState → Option Body → DiskState → Type 0
 HoldsOnly most s None t = Keeps s t
-HoldsOnly most s (Some b) t = OpensOnly s b.file t × IsOpen most t b
+HoldsOnly most s (Some b) t = OpensOnly handle_of s b.file t × IsOpen most t b
 
 -- The answer to what is asked for.
 pub record Answers (settings : Settings) (s : DiskState) (fields : Fields) (target : Target) (found : Found) (t : DiskState) : Type 0 where
   pub holds : HoldsOnly (read_size_of settings.read_buf_size) s found.body t
   pub gated : Gated target (reply_of t found)
   pub failed : found.outcome.status ≡ 500 → Rose s.faults t.faults
+  pub framed : IsFramed target (reply_of t found)
   pub right : NoLinks (point_of s) → (w : World) → s.told ≡ Some w
-      → IsReplyTo settings w fields target (reply_of t found) ⊎ (IsSpoiledTo w fields target (reply_of t found) × Rose s.faults t.faults)
+      → IsReplyTo settings w fields target (reply_of t found) ⊎ (IsSpoiledTo settings w fields target (reply_of t found) × Rose s.faults t.faults)
 
 abbrev pub Finds : Settings → DiskState → Fields → Target → Result Found NoMemory → DiskState → Type 0
 Finds settings s fields target (Ok found) t = Answers settings s fields target found t

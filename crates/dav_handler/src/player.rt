@@ -1,6 +1,7 @@
 ghost use Rattle.std.specs.Prelude.{◌≡◌, ◌<◌, ◌≤◌, ◌+◌, ◌^◌, [], Ok};
 ghost use Rattle.dav_model.specs.Sizes.{read_size_of};
 ghost use Rattle.dav_core.specs.Disk.{Turns};
+ghost use Rattle.dav_model.specs.declared.answer.Answer.TheVariants.{Reply as Replied};
 ghost use Rattle.dav_model.specs.Trail.{point_of};
 ghost use Rattle.dav_handler.specs.Held.{IsPlaying, body_at};
 
@@ -104,25 +105,16 @@ impl<D: Disk> Player<D> {
             Err(error) => return Err(error),
         };
         let Found { outcome, body } = found;
-        let Outcome { status, fields } = outcome;
         let number = self.replies;
         match body {
             None => {
                 self.replies = number + 1;
-                Ok(Answer::Reply {
-                    status,
-                    headers: fields,
-                    body: number,
-                })
+                Ok(reply(outcome, number))
             }
             Some(open) => match self.bodies.insert(number, open) {
                 Ok(_) => {
                     self.replies = number + 1;
-                    Ok(Answer::Reply {
-                        status,
-                        headers: fields,
-                        body: number,
-                    })
+                    Ok(reply(outcome, number))
                 }
                 Err(failed) => {
                     let AllocFailed { value: (_, open) } = failed;
@@ -160,6 +152,18 @@ impl<D: Disk> Player<D> {
             Step::Purge(_) => Ok(Answer::Done),
             Step::Turn => self.turn(),
         }
+    }
+}
+
+// A reply with a body of this number.
+fn reply(outcome: Outcome, body: u32) -> Answer
+    ensures { result ≡ Replied outcome.status outcome.fields body }
+{
+    let Outcome { status, fields } = outcome;
+    Answer::Reply {
+        status,
+        headers: fields,
+        body,
     }
 }
 

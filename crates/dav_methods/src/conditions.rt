@@ -75,7 +75,8 @@ pub fn if_match<M: DavMetaData>(
 }
 
 /// Whether a value of `if-range` matches a tag and the time of the last change (RFC 9110 section 13.1.5): a tag by strong
-/// comparison, a date where it is the time in whole seconds.
+/// comparison, a date where it is the time in whole seconds. That section wants of a date that it is a strong validator, too;
+/// this isn't asked, since no clock is, so a file that changes twice in one second is one file to a date.
 pub fn ifrange_match(r: &IfRange, tag: Option<&ETag>, modified: Option<FileTime>) -> bool
     ensures { result ≡ conditions.range_matches r.now (option_copied tag.entry) modified }
 {

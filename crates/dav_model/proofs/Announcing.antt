@@ -14,8 +14,8 @@ use Rattle.dav_model.specs.declared.ranges.Ranges.{Ranges}
 use Rattle.dav_model.specs.declared.ranges.Ranges.TheVariants.{Whole, Unsatisfiable, Parts}
 use Rattle.dav_model.specs.declared.sent.Sent.{Sent}
 use Rattle.dav_model.specs.declared.sent.Sent.TheVariants.{All, Alone, Unsatisfied, One, Several}
-use Rattle.dav_model.specs.Announced.{bytes_left, PolledToEnd, bytes_in, IsShared, bare}
-use Rattle.dav_model.specs.Bodies.{Part, text, slice, Polls}
+use Rattle.dav_model.specs.Announced.{PolledToEnd, bytes_in, IsShared, bare}
+use Rattle.dav_model.specs.Bodies.{Part, bytes_left, text, slice, Polls}
 use Rattle.dav_model.specs.Conditions.{Fields, condition, repeated, is_refused, list_in, date_in, first_bytes, ranges_are_heard, strong}
 use Rattle.dav_model.specs.Head.{Reply, Stood, IsSent, field, field_where, given_parts, quoted_where, sent_by, sent_length, sent_of, sent_range, sent_ranges, sent_reply, sent_status, sent_type}
 use Rattle.dav_model.specs.Slices.{ranges}
@@ -52,35 +52,6 @@ polled_bytes [] (piece ∷ pieces) (rest, poll, more) = let e : Piece piece ≡ 
 polled_bytes (part ∷ parts) [] (rest, poll) = absurd (unended part parts rest poll.told poll.whole poll.most poll.before poll.after poll.polls)
 polled_bytes (part ∷ parts) (piece ∷ pieces) (rest, poll, more) =
     ap (λ n. length piece + n) (polled_bytes rest pieces more) ∙ poll_bytes part parts piece rest poll.told poll.whole poll.most poll.before poll.after poll.polls
-
--- bytes of a file, if there are some
-where_bytes : (b : Bool) (number start count : ℕ) → ((count == 0) ≡ b) → bytes_left (cond b [] (slice number start count ∷ [])) ≡ count
-where_bytes true number start count e = sym (eqb-true count 0 e)
-where_bytes false number start count e = let all : count + 0 ≡ count = omega arith in all
-
-none_of : (b : Bool) (len n : ℕ) → (b ≡ true → ⊥) → Some (cond (true && not b) 0 len) ≡ Some n → 0 ≡ n
-none_of true len n other e = absurd (other refl)
-none_of false len n other e = cc
-
-is_304 : (status : ℕ) → (status == 304) ≡ true → status ≡ 304
-is_304 status e = eqb-true status 304 e
-
--- the length that is announced is that of the parts
-parts_bytes : (type : List ℕ) (number len n : ℕ) (sent : Sent) → (sent_status sent ≡ 304 → ⊥) → sent_length true len sent ≡ Some n
-    → bytes_left (given_parts type number len sent) ≡ n
-parts_bytes type number len n All other e = let f : Some len ≡ Some n = e in let g : len ≡ n = cc in where_bytes _ number 0 len refl ∙ g
-parts_bytes type number len n (Alone status) other e = none_of (status == 304) len n (λ is. other (is_304 status is)) e
-parts_bytes type number len n Unsatisfied other e = let f : Some 0 ≡ Some n = e in cc
-parts_bytes type number len n (One part) other e =
-    let f : Some part.count ≡ Some n = e in let g : part.count ≡ n = cc in where_bytes _ number part.start part.count refl ∙ g
-parts_bytes type number len n (Several parts) other e = let f : None ≡ Some n = e in cc
-
-pub announced : (path : WebPath) (stood : Stood) (sent : Sent) (reply : Reply) (n : ℕ) (pieces : List (List ℕ))
-    → IsSent Get path stood sent reply → (reply.status ≡ 304 → ⊥) → sent_length true stood.len sent ≡ Some n → PolledToEnd reply.parts pieces → bytes_in pieces ≡ n
-announced path stood sent reply n pieces (date, shown, is) other says polled =
-    let parts : reply.parts ≡ given_parts (type_of_last (last_name path.names)) stood.number stood.len sent = ap (λ (r : Reply). r.parts) is in
-    let status : reply.status ≡ sent_status sent = ap (λ (r : Reply). r.status) is in
-    polled_bytes reply.parts pieces polled ∙ (ap bytes_left parts ∙ parts_bytes _ stood.number stood.len n sent (λ e. other (status ∙ e)) says)
 
 -- the statuses that a precondition gives
 abbrev Given : Option ℕ → Type 0

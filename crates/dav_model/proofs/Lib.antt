@@ -1,3 +1,4 @@
 pub mod Announcing
 pub mod RangeRows
 pub mod Within
+pub mod Framing

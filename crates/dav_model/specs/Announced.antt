@@ -1,16 +1,32 @@
 -- What a head announces: of a body its length, and of a HEAD the fields of the GET.
-use Rattle.std.specs.Prelude.{◌≡◌, ◌⊎◌, ◌+◌, ℕ, Bool, List, [], ◌∷◌, length, Option}
+use Rattle.std.specs.Prelude.{◌≡◌, ◌==◌, ◌&&◌, ◌⊎◌, ◌+◌, ℕ, Bool, true, false, not, cond, List, [], ◌∷◌, length, bytes_eq, codes, decimal, Option, None, Some}
+use Rattle.dav_io.specs.declared.fields.Field.{Field}
 use Rattle.dav_core.specs.World.{World}
 use Rattle.dav_model.specs.declared.answer.Answer.{Answer}
 use Rattle.dav_model.specs.declared.answer.Answer.TheVariants.{Piece, End}
-use Rattle.dav_model.specs.Bodies.{Part, text, slice, Polls}
-use Rattle.dav_model.specs.Head.{Reply}
+use Rattle.dav_model.specs.declared.target.Target.{Target}
+use Rattle.dav_model.specs.declared.target.Target.TheVariants.{At, Refused}
+use Rattle.dav_model.specs.Bodies.{Part, bytes_left, Polls}
+use Rattle.dav_model.specs.Head.{Reply, is_get}
 
--- how many bytes a body has left
-abbrev pub bytes_left : List Part → ℕ
-bytes_left [] = 0
-bytes_left (text bytes ∷ parts) = length bytes + bytes_left parts
-bytes_left (slice number start count ∷ parts) = count + bytes_left parts
+-- the value of the first field of a name
+abbrev pub value_of : List ℕ → List Field → Option (List ℕ)
+value_of name [] = None
+value_of name (field ∷ fields) = cond (bytes_eq field.name name) (Some field.value) (value_of name fields)
+
+-- Whether `content-length` speaks of the body that is sent. To a HEAD, and with 304, no body is sent, and it speaks of the one
+-- that a GET would have (RFC 9110, section 8.6).
+abbrev pub length_is_own : Target → ℕ → Bool
+length_is_own (At method path) status = is_get method && not (status == 304)
+length_is_own (Refused status close) answered = true
+
+abbrev pub IsFramedBy : Bool → Reply → Type 0
+IsFramedBy true reply = (value : List ℕ) → value_of (codes "content-length") reply.fields ≡ Some value → value ≡ decimal (bytes_left reply.parts)
+IsFramedBy false reply = reply.parts ≡ []
+
+-- Where a reply has `content-length`, that is the number of bytes of its body. A HEAD and 304 have no body.
+abbrev pub IsFramed : Target → Reply → Type 0
+IsFramed target reply = IsFramedBy (length_is_own target reply.status) reply
 
 -- a poll, over any world, with any read buffer and any count of faults
 pub record IsPoll (left : List Part) (answer : Answer) (rest : List Part) : Type 0 where

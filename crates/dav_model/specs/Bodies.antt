@@ -49,14 +49,18 @@ Polls told whole most before after [] answer rest = (answer ≡ End) × (rest �
 Polls told whole most before after (part ∷ parts) answer rest = ((piece : List ℕ) × (answer ≡ Piece piece) × Gives told whole most part parts piece rest)
     ⊎ ((answer ≡ Broken) × (rest ≡ []) × Rose before after)
 
--- how many bytes a body has left, and one for each text
+-- how many bytes a body has left
+abbrev pub bytes_left : List Part → ℕ
+bytes_left [] = 0
+bytes_left (text bytes ∷ parts) = length bytes + bytes_left parts
+bytes_left (slice number start count ∷ parts) = count + bytes_left parts
+
+-- the same, and one for each part
 abbrev pub size : List Part → ℕ
-size [] = 0
-size (text bytes ∷ parts) = suc (length bytes + size parts)
-size (slice number start count ∷ parts) = count + size parts
+size parts = bytes_left parts + length parts
 
 moved_size : (b : Bool) (number start count n : ℕ) (parts : List Part) → ((count - n == 0) ≡ b) → 0 < n → n ≤ count
-    → size (cond b parts (slice number (start + n) (count - n) ∷ parts)) < count + size parts
+    → size (cond b parts (slice number (start + n) (count - n) ∷ parts)) < count + bytes_left parts + suc (length parts)
 moved_size true number start count n parts e some within = omega arith
 moved_size false number start count n parts e some within = omega arith
 

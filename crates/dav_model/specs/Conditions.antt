@@ -103,7 +103,8 @@ abbrev pub condition_of : DavMethod → Fields → Option Info → Option ℕ
 condition_of method fields None = condition method fields false None None
 condition_of method fields (Some info) = condition method fields true (strong info.tag) info.modified
 
--- Section 13.1.5: a tag is to be equal strongly, a date is to be that of the last change in whole seconds.
+-- Section 13.1.5: a tag is to be equal strongly, a date is to be that of the last change in whole seconds. Whether that date is a
+-- strong validator (section 8.8.2.2) isn't asked.
 abbrev pub range_matches : IfRange → Option ETag → Option FileTime → Bool
 range_matches (Tag wanted) None time = false
 range_matches (Tag wanted) (Some tag) time = equal_strongly wanted tag

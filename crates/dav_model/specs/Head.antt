@@ -256,19 +256,26 @@ IsReplyTo settings w fields (At method path) reply = IsHeadOr (is_well_known set
 abbrev pub IsHead : Settings → World → Asked → Reply → Type 0
 IsHead settings w request reply = IsReplyTo settings w (fields_of request) (gates request) reply
 
--- Where a part or several are sent, and the file couldn't be placed at the first: no range could be met.
-pub record IsUnplaced (method : DavMethod) (fields : Fields) (path : WebPath) (stood : Stood) (reply : Reply) : Type 0 where
+-- Where a part or several of a regular file are sent, and the file couldn't be placed at the first: no range could be met.
+pub record IsUnplaced (settings : Settings) (method : DavMethod) (fields : Fields) (path : WebPath) (stood : Stood) (reply : Reply) : Type 0 where
+  pub regular : stood.kind ≡ File
+  pub here : address_of settings stood ≡ None
   pub partial : sent_status (sent_of method fields stood) ≡ 206
   pub sent : IsSent method path stood Unsatisfied reply
 
 -- What may be answered in place of the head where the disk failed: a failure, or that no range could be met.
-abbrev pub IsSpoiledAt : DavMethod → Fields → WebPath → Result Stood FsError → Reply → Type 0
-IsSpoiledAt method fields path (Err e) reply = reply ≡ failure
-IsSpoiledAt method fields path (Ok stood) reply = (reply ≡ failure) ⊎ IsUnplaced method fields path stood reply
+abbrev pub IsSpoiledAt : Settings → DavMethod → Fields → WebPath → Result Stood FsError → Reply → Type 0
+IsSpoiledAt settings method fields path (Err e) reply = reply ≡ failure
+IsSpoiledAt settings method fields path (Ok stood) reply = (reply ≡ failure) ⊎ IsUnplaced settings method fields path stood reply
 
-abbrev pub IsSpoiledTo : World → Fields → Target → Reply → Type 0
-IsSpoiledTo w fields (Refused status close) reply = ⊥
-IsSpoiledTo w fields (At method path) reply = IsSpoiledAt method fields path (found_in w path) reply
+-- The page that is there whatever stands in the tree asks no disk.
+abbrev pub IsSpoiledOr : Bool → Settings → DavMethod → Fields → WebPath → Result Stood FsError → Reply → Type 0
+IsSpoiledOr true settings method fields path found reply = ⊥
+IsSpoiledOr false settings method fields path found reply = IsSpoiledAt settings method fields path found reply
 
-abbrev pub IsSpoiled : World → Asked → Reply → Type 0
-IsSpoiled w request reply = IsSpoiledTo w (fields_of request) (gates request) reply
+abbrev pub IsSpoiledTo : Settings → World → Fields → Target → Reply → Type 0
+IsSpoiledTo settings w fields (Refused status close) reply = ⊥
+IsSpoiledTo settings w fields (At method path) reply = IsSpoiledOr (is_well_known settings method path) settings method fields path (found_in w path) reply
+
+abbrev pub IsSpoiled : Settings → World → Asked → Reply → Type 0
+IsSpoiled settings w request reply = IsSpoiledTo settings w (fields_of request) (gates request) reply

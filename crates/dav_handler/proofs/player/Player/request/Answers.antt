@@ -15,8 +15,9 @@ pub invariant_of-self-in-None : goal.invariant_of-self-in-None
 invariant_of-self-in-None g c = record { ok = playing_kept_more _ _ _ _ _ _ c.in-Ok.ensures.done.holds c.args.self.now.ok }
 
 pub returns-in-None-clause-done : goal.returns-in-None-clause-done
-returns-in-None-clause-done g c = replied _ _ _ _ c.args.now c.in-Ok.found _ _ _ c.in-Ok.ensures.done
-    (left_replied _ _ _ (body_at c.args.self.now.bodies) c.args.self.now.replies _ _ c.in-Ok.ensures.done.holds c.args.self.now.ok c.in-None.is (c.args.self.now.ok.earlier _ (omega arith)))
+returns-in-None-clause-done g c = rw c.reply.ensures (
+    replied _ _ _ _ c.args.now c.in-Ok.found _ _ _ c.in-Ok.ensures.done
+    (left_replied _ _ _ (body_at c.args.self.now.bodies) c.args.self.now.replies _ _ c.in-Ok.ensures.done.holds c.args.self.now.ok c.in-None.is (c.args.self.now.ok.earlier _ (omega arith))))
 
 pub invariant_of-self-in-Ok-insert : goal.invariant_of-self-in-Ok-insert
 invariant_of-self-in-Ok-insert g c = record {
@@ -25,9 +26,10 @@ invariant_of-self-in-Ok-insert g c = record {
 }
 
 pub returns-in-Ok-insert-clause-done : goal.returns-in-Ok-insert-clause-done
-returns-in-Ok-insert-clause-done g c = replied _ _ _ _ c.args.now c.in-Ok.found _ _ _ c.in-Ok.ensures.done
+returns-in-Ok-insert-clause-done g c = rw c.reply-in-Ok-insert.ensures (
+    replied _ _ _ _ c.args.now c.in-Ok.found _ _ _ c.in-Ok.ensures.done
     (left_joined _ _ _ (body_at c.args.self.now.bodies) _ c.args.self.now.replies _ _ c.in-Some.open c.in-Ok.ensures.done.holds c.args.self.now.ok c.in-Some.is
-    (updates_put c.args.self.now.replies c.args.self.now.bodies c.insert.new.self _ c.in-Ok-insert.ensures.updates))
+    (updates_put c.args.self.now.replies c.args.self.now.bodies c.insert.new.self _ c.in-Ok-insert.ensures.updates)))
 
 pub invariant_of-self-in-Err-insert : goal.invariant_of-self-in-Err-insert
 invariant_of-self-in-Err-insert g c = record {
