@@ -13,4 +13,12 @@ pub use player::Player;
 pub use playing::play;
 
 #[cfg(test)]
+mod asking;
+#[cfg(test)]
 mod tests;
+#[cfg(test)]
+mod tests_bodies;
+#[cfg(test)]
+mod tests_ranges;
+#[cfg(test)]
+mod tests_several;

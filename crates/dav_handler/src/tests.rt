@@ -1,9 +1,9 @@
+use crate::asking::{is_field, path_of, request, set_file};
 use crate::*;
-use dav_core::{Change, FileTime, FsPath};
+use dav_core::Change;
 use dav_disk::MemDisk;
-use dav_io::{Field, Moment, NoMemory, Octets, Text};
-use http::header::{HeaderName, HeaderValue};
-use http::{Method, Request, Uri};
+use dav_io::{Moment, NoMemory, Octets};
+use http::Method;
 use std::alloc::Global;
 use std::test::Fail;
 
@@ -32,32 +32,7 @@ enum Seen {
     Done,
 }
 
-const SECOND: FileTime = FileTime { secs: 1, nanos: 0 };
-
 const DIGITS: &[u8] = b"0123456789";
-
-fn path_of(alloc: Global, name: &str) -> Result<FsPath, NoMemory> {
-    let mut names = Vec::new(alloc);
-    names.push(Text::copy(alloc, name)?)?;
-    if !FsPath::fits(&names) {
-        return Err(NoMemory);
-    }
-    Ok(FsPath::new(names))
-}
-
-fn set_file(
-    alloc: Global,
-    disk: &mut MemDisk,
-    name: &str,
-    number: u64,
-    bytes: &[u8],
-) -> Result<(), NoMemory> {
-    let path = path_of(alloc, name)?;
-    if !disk.can_add(&path, number, SECOND) {
-        return Err(NoMemory);
-    }
-    disk.add_file(&path, number, SECOND, bytes)
-}
 
 // A folder with three files, the last of them empty.
 fn folder(alloc: Global) -> Result<MemDisk, NoMemory> {
@@ -68,45 +43,23 @@ fn folder(alloc: Global) -> Result<MemDisk, NoMemory> {
     Ok(disk)
 }
 
-fn get(alloc: Global, target: &str, range: &str) -> Result<Request<Octets>, NoMemory> {
-    let Ok(uri) = Uri::from_str(alloc, target) else {
-        return Err(NoMemory);
+fn asked(alloc: Global, method: Method, target: &str, range: &str) -> Result<Step, NoMemory> {
+    let request = if range.is_empty() {
+        request(alloc, method, target, &[])?
+    } else {
+        request(alloc, method, target, &[("range", range.as_bytes())])?
     };
-    let mut request = Request::new(alloc, Octets::empty(alloc));
-    *request.uri_mut() = uri;
-    if range.is_empty() {
-        return Ok(request);
-    }
-    let Ok(name) = HeaderName::from_bytes(alloc, b"range") else {
-        return Err(NoMemory);
-    };
-    let Ok(value) = HeaderValue::from_bytes(alloc, range.as_bytes()) else {
-        return Err(NoMemory);
-    };
-    if request.headers_mut().append(name, value).is_err() {
-        return Err(NoMemory);
-    }
-    Ok(request)
-}
-
-fn head(alloc: Global, target: &str, range: &str) -> Result<Request<Octets>, NoMemory> {
-    let mut request = get(alloc, target, range)?;
-    *request.method_mut() = Method::HEAD;
-    Ok(request)
-}
-
-fn request_step(request: Request<Octets>) -> Step {
-    Step::Request {
+    Ok(Step::Request {
         request,
         now: Moment(0),
-    }
+    })
 }
 
 fn step_of(alloc: Global, ask: Ask) -> Result<Step, NoMemory> {
     match ask {
-        Ask::Get(target) => Ok(request_step(get(alloc, target, "")?)),
-        Ask::Part(target, range) => Ok(request_step(get(alloc, target, range)?)),
-        Ask::Head(target, range) => Ok(request_step(head(alloc, target, range)?)),
+        Ask::Get(target) => asked(alloc, Method::GET, target, ""),
+        Ask::Part(target, range) => asked(alloc, Method::GET, target, range),
+        Ask::Head(target, range) => asked(alloc, Method::HEAD, target, range),
         Ask::Poll(body) => Ok(Step::Poll(body)),
         Ask::Abandon(body) => Ok(Step::Abandon(body)),
         Ask::Purge => Ok(Step::Purge(Moment(0))),
@@ -184,12 +137,6 @@ fn played_with(
     Ok((wrong?, disk.asked(), disk.faults()))
 }
 
-// Whether fields have this one.
-fn has_field(fields: &[Field], name: &str, value: &str) -> bool {
-    fields.iter().any(|field| field.name.as_str() == name
-        && field.value.as_slice() == value.as_bytes())
-}
-
 // The status of the answer to one request, and whether it has these fields.
 fn answers_with(alloc: Global, ask: Ask, wanted: &[(&str, &str)]) -> Result<(u16, bool), NoMemory> {
     let steps = [step_of(alloc, ask)?];
@@ -207,9 +154,10 @@ fn answers_with(alloc: Global, ask: Ask, wanted: &[(&str, &str)]) -> Result<(u16
             },
         ) => Ok((
             *status,
-            wanted
+            wanted.iter().all(|want| headers
+                .as_slice()
                 .iter()
-                .all(|field| has_field(headers.as_slice(), field.0, field.1)),
+                .any(|field| is_field(field, want.0, want.1))),
         )),
         _ => Ok((0, false)),
     }
