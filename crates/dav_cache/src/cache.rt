@@ -6,6 +6,7 @@ ghost use Rattle.dav_cache.specs.Trees.{same_path, fold_path};
 ghost use Rattle.dav_cache.specs.Entries as entries;
 ghost use Rattle.dav_cache.specs.Calls.{Looks};
 
+use crate::valid::no_key_stands_twice;
 use crate::{FoldedPath, fold};
 use dav_core::{Disk, FsPath, Meta};
 use dav_io::{Moment, NoMemory};
@@ -135,7 +136,7 @@ impl Cache {
     pub(crate) fn promote(&mut self, key: &FoldedPath)
         ensures { self.new ≡ record self.old { entries = entries.promoted key.now (lookup (same_path key.now) self.old.entries) self.old.entries } }
     {
-        let _len = self.entries.len();
+        no_key_stands_twice(&self.entries);
         self.entries.promote(key);
     }
 
@@ -143,7 +144,7 @@ impl Cache {
     pub(crate) fn remove(&mut self, key: &FoldedPath)
         ensures { self.new ≡ record self.old { entries = entries.without (same_path key.now) self.old.entries } }
     {
-        let _len = self.entries.len();
+        no_key_stands_twice(&self.entries);
         let _entry = self.entries.pop(key);
     }
 
@@ -153,7 +154,7 @@ impl Cache {
         ensures ok { OnOk result (self.new ≡ record self.old { entries = entries.put self.old.size (same_path key) key entry self.old.entries }) }
         ensures err { OnErr result (self.new ≡ self.old) }
     {
-        let _len = self.entries.len();
+        no_key_stands_twice(&self.entries);
         self.entries.put(key, entry)?;
         Ok(())
     }

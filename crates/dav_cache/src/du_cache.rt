@@ -8,6 +8,7 @@ ghost use Rattle.dav_cache.specs.Entries as dots;
 ghost use Rattle.dav_cache.specs.Calls as calls;
 
 use crate::trees::is_dot;
+use crate::valid::no_key_stands_twice;
 use crate::{DuEntry, DuKey};
 use dav_core::{Disk, DiskError, FileTime, FsPath, Kind, Meta};
 use dav_io::{Moment, NoMemory, Text};
@@ -194,6 +195,13 @@ impl DuCache {
         }
     }
 
+    /// Tells a proof what each cache keeps of its entries. It is known where a field is read.
+    pub(crate) fn are_counted(&self)
+        ensures { dots.AreCounted self.now.next self.now.entries }
+    {
+        let _next = self.next;
+    }
+
     /// Whether the greatest number was given.
     pub(crate) fn is_last(&self) -> bool
         ensures { result ≡ not (nat_lt self.now.next (2 ^ 64 - 1)) }
@@ -204,7 +212,7 @@ impl DuCache {
     pub(crate) fn try_clone(&self) -> Result<Self, NoMemory>
         ensures { IfOk result (λ copy. copy ≡ self.now) }
     {
-        let _len = self.entries.len();
+        no_key_stands_twice(&self.entries);
         let alloc: Global = *self.entries.allocator();
         let mut entries = LruCache::sparse(alloc, self.entries.cap())?;
         put_back(&mut entries, copy_pairs(alloc, &self.entries)?)?;
@@ -284,7 +292,7 @@ fn has_time(time: FileTime, found: Result<Meta, DiskError>) -> bool
 fn drop_key(entries: &mut LruCache<DuKey, DuEntry>, key: &DuKey)
     ensures { entries.new ≡ lru_cache (dots.without (dots.same_key key.now) entries.old.entries) entries.old.cap }
 {
-    let _len = entries.len();
+    no_key_stands_twice(entries);
     let _entry = entries.pop(key);
 }
 
@@ -293,7 +301,7 @@ fn put_entry(entries: &mut LruCache<DuKey, DuEntry>, key: DuKey, entry: DuEntry)
     ensures ok { IsTrue result → entries.new ≡ lru_cache (dots.put entries.old.cap (dots.same_key key) key entry entries.old.entries) entries.old.cap }
     ensures err { result ≡ false → entries.new ≡ entries.old }
 {
-    let _len = entries.len();
+    no_key_stands_twice(entries);
     entries.put(key, entry).is_ok()
 }
 

@@ -14,6 +14,7 @@ mod owned;
 mod place;
 mod remember;
 mod trees;
+mod valid;
 mod world;
 
 pub use builder::DUCacheBuilder;

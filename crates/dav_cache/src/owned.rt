@@ -82,12 +82,12 @@ impl Remember for Owned {
         names: &[Text],
         now: Moment,
     ) -> Sealed {
-        let _len = self.dots.len();
+        self.dots.are_counted();
         self.dots.seal(dir, time, names, now)
     }
 
     fn purge(&mut self, now: Moment) {
-        let _len = self.dots.len();
+        self.dots.are_counted();
         self.paths.purge(now);
         self.dots.purge(now);
     }
