@@ -155,7 +155,7 @@ impl DuCache {
 
     /// Whether the name is known to be absent: the directory has the time of its entry, and the name doesn't stand
     /// with that entry's number. Where the disk refuses, or finds no directory or another time, the entry goes. Memory
-    /// is taken before the disk is asked.
+    /// is taken before the disk is asked. To be asked of names that begin with `._`, since no others are sealed.
     pub fn negative<D: Disk>(
         &mut self,
         dir: &FsPath,

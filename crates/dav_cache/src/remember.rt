@@ -37,7 +37,8 @@ pub trait Remember {
         ensures done { OnOk result (memory.Inserts (state self.old) path.now now (state self.new)) }
         ensures err { OnErr result (self.new ≡ self.old) };
 
-    /// Whether the name is known to be absent from the directory, as the disk has it now.
+    /// Whether the name is known to be absent from the directory, as the disk has it now. To be asked of names that begin
+    /// with `._`, since no others are sealed.
     fn negative<D: Disk>(
         &mut self,
         alloc: Global,

@@ -2,7 +2,8 @@ ghost use Rattle.std.specs.Prelude.{◌≡◌, None, IfOk};
 
 use super::*;
 use crate::tests::dice::{Dice, mix};
-use crate::tests::{at, path};
+use crate::tests::{add_dir, at, path};
+use dav_disk::MemDisk;
 use std::test::*;
 
 /// An entry as a plain simulator keeps it, by the last bytes of its names. A directory's own has the name 0.
@@ -25,6 +26,11 @@ struct Simulator {
 const DIRS: [u8; 3] = [b'0', b'1', b'2'];
 
 const NAMES: [u8; 3] = [b'a', b'b', b'c'];
+
+/// Which of the directories stand on the disk, each with the time that it is sealed with.
+fn is_there(dir: u8) -> bool {
+    dir != b'2'
+}
 
 impl Simulator {
     fn number(&self, dir: u8, name: u8) -> Option<u64> {
@@ -52,6 +58,17 @@ impl Simulator {
     fn drop_dir(&mut self, dir: u8) {
         self.entries
             .retain(|kept| kept.dir != dir || kept.name != 0);
+    }
+
+    fn negative(&mut self, dir: u8, name: u8) -> bool {
+        let Some(number) = self.number(dir, 0) else {
+            return false;
+        };
+        if !is_there(dir) {
+            self.drop_dir(dir);
+            return false;
+        }
+        self.number(dir, name) != Some(number)
     }
 
     fn seal(&mut self, dir: u8, names: &[Text], moment: u64) -> Result<(), NoMemory> {
@@ -147,8 +164,47 @@ fn some_names(alloc: Global, dice: &mut Dice) -> Result<Vec<Text>, NoMemory> {
     Ok(names)
 }
 
-/// The same call of both, and whether they answer alike.
-fn call(
+fn disk(alloc: Global) -> Result<MemDisk, NoMemory> {
+    let mut disk = MemDisk::new(alloc)?;
+    let mut number: u64 = 2;
+    for dir in DIRS {
+        if is_there(dir) {
+            add_dir(&mut disk, &path(alloc, &[text_of(dir)])?, number)?;
+        }
+        number = number.wrapping_add(1);
+    }
+    Ok(disk)
+}
+
+/// The same question of a name to both, and whether they answer alike.
+fn ask(
+    alloc: Global,
+    cache: &mut DuCache,
+    simulator: &mut Simulator,
+    disk: &mut MemDisk,
+    dice: &mut Dice,
+) -> Result<bool, NoMemory> {
+    let dir = dice.of(&DIRS, 0);
+    let name = dice.of(&NAMES, 0);
+    let place = path(alloc, &[text_of(dir)])?;
+    let text = Text::copy(alloc, text_of(name))?;
+    if dice.throw(2) == 0 {
+        let absent = cache.negative(&place, &text, disk)?;
+        return Ok(absent == simulator.negative(dir, name));
+    }
+    let number = dice.throw(simulator.next.wrapping_add(1));
+    let own = DuKey {
+        dir: place,
+        name: Some(text),
+    };
+    let stands = simulator.number(dir, 0) == Some(number);
+    let named = simulator.number(dir, name) == Some(number);
+    let concluded = cache.conclude(&dir_of(alloc, dir)?, &own, number);
+    Ok(concluded == (stands && !named))
+}
+
+/// The same change of both, and whether they answer alike.
+fn change(
     alloc: Global,
     cache: &mut DuCache,
     simulator: &mut Simulator,
@@ -157,7 +213,7 @@ fn call(
     let dir = dice.of(&DIRS, 0);
     let key = dir_of(alloc, dir)?;
     let now = Moment(dice.throw(200_000).wrapping_mul(1_000_000));
-    match dice.throw(6) {
+    match dice.throw(4) {
         0 => {
             cache.drop_dir(&key);
             simulator.drop_dir(dir);
@@ -167,17 +223,6 @@ fn call(
             cache.purge(now);
             simulator.purge(now.0);
             Ok(true)
-        }
-        2 | 3 => {
-            let name = dice.of(&NAMES, 0);
-            let number = dice.throw(simulator.next.wrapping_add(1));
-            let own = DuKey {
-                dir: path(alloc, &[text_of(dir)])?,
-                name: Some(Text::copy(alloc, text_of(name))?),
-            };
-            let stands = simulator.number(dir, 0) == Some(number);
-            let named = simulator.number(dir, name) == Some(number);
-            Ok(cache.conclude(&key, &own, number) == (stands && !named))
         }
         _ => {
             let names = some_names(alloc, dice)?;
@@ -194,6 +239,7 @@ fn call(
 fn the_cache_does_as_plain_lists(rt: HostRuntime) -> Result<(), Fail> {
     let alloc = rt.alloc();
     let mut dice = Dice(1);
+    let mut disk = disk(alloc)?;
     for size in [1, 2, 3, 4] {
         let mut cache = DuCache::new(alloc, size)?;
         let mut simulator = Simulator {
@@ -202,7 +248,11 @@ fn the_cache_does_as_plain_lists(rt: HostRuntime) -> Result<(), Fail> {
             next: 1,
         };
         for turn in 0..1000u32 {
-            let alike = call(alloc, &mut cache, &mut simulator, &mut dice)?;
+            let alike = if dice.throw(3) == 0 {
+                ask(alloc, &mut cache, &mut simulator, &mut disk, &mut dice)?
+            } else {
+                change(alloc, &mut cache, &mut simulator, &mut dice)?
+            };
             assert!(rt; alike, "of {turn} with {size}");
             assert_eq!(rt;
                 digest(&cache),
