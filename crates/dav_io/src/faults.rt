@@ -38,6 +38,7 @@ impl Faults {
         ensures counts { self.old.met ≤ self.new.met }
         ensures rose { IsTrue result → Rose self.old.met self.new.met }
         ensures same { result ≡ false → self.new.met ≡ self.old.met }
+        ensures met { IsTrue result → self.new.met ≡ one_more self.old.met }
     {
         self.calls = self.calls.saturating_add(1);
         let fails = self.fail.contains(&self.calls);
