@@ -2,13 +2,14 @@
 use Rattle.std.proofs.Common.{◌≡◌, ℕ, ◌==◌, Bool, true, false, cond, List, [], ◌∷◌, Option, Some, None, refl, sym, ◌∙◌, ap}
 use Rattle.std.proofs.Common.{◌<◌, ◌/◌, ◌%◌, ◌++◌, ◌&&◌, not, ltb, arith, IsUtf8, chars, subst}
 use lib.Utf8.{encodes, encode, scalar, scalars, low_scalar}
+use Rattle.std.specs.Fmt.{digit_glyph}
 use Rattle.std.specs.Char.{is_ascii_alphanumeric}
 use Rattle.std.proofs.lemmas.Bool.{and_parts}
 use Rattle.std.proofs.lemmas.Bool.Decides.{nat_tests}
 use Rattle.std.proofs.lemmas.Str.{scalars-chars}
 use Rattle.htmlescape.specs.declared.alphabet.Alphabet.{Alphabet}
 use Rattle.htmlescape.specs.declared.alphabet.Alphabet.TheVariants.{Minimal, Attribute}
-use Rattle.htmlescape.specs.Escapes.{minimal_entity, escaped, other, or_else, encoded, hex_digit, hex_escape, is_numbered}
+use Rattle.htmlescape.specs.Escapes.{minimal_entity, escaped, other, or_else, encoded, hex_escape, is_numbered}
 
 -- an entity of the minimal table is its own UTF-8
 
@@ -57,12 +58,12 @@ or_characters (Some t) text p q = p
 one : (c : ℕ) → scalar c ≡ true → scalars (c ∷ []) ≡ true
 one c s = ap (λ b. b && true) s
 
-digit_scalar : (d : ℕ) → d < 16 → scalar (hex_digit d) ≡ true
-digit_scalar d h = low_scalar (hex_digit d) (grind (arith, nat_tests))
+digit_scalar : (d : ℕ) → d < 16 → scalar (digit_glyph true d) ≡ true
+digit_scalar d h = low_scalar (digit_glyph true d) (grind (arith, nat_tests))
 
 hex_characters : (c : ℕ) → c < 256 → scalars (hex_escape c) ≡ true
 hex_characters c h =
-    ap (λ b. b && (scalar (hex_digit (c % 16)) && true)) (digit_scalar (c / 16) (omega arith)) ∙ ap (λ b. b && true) (digit_scalar (c % 16) (omega arith))
+    ap (λ b. b && (scalar (digit_glyph true (c % 16)) && true)) (digit_scalar (c / 16) (omega arith)) ∙ ap (λ b. b && true) (digit_scalar (c % 16) (omega arith))
 
 pub numbered_below : (c : ℕ) → is_numbered c ≡ true → c < 256
 numbered_below c h = let p : ltb c 256 ≡ true = (and_parts (ltb c 256) (not (is_ascii_alphanumeric c)) h).0 in grind (arith, nat_tests)

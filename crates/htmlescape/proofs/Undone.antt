@@ -2,6 +2,7 @@
 use Rattle.std.proofs.Common.{◌≡◌, ◌<◌, ◌≤◌, ◌+◌, ◌*◌, ◌/◌, ◌%◌, ℕ, Bool, true, false, cond, not, ◌&&◌, ◌||◌, ◌==◌, List, [], ◌∷◌, ◌++◌, map, Option, Some, None, refl, sym, ◌∙◌, ap, inl, inr, arith, codes}
 use lib.Utf8.{encodes, encode, scalars, scalar}
 use Rattle.std.specs.List.{flat_map, list_all}
+use Rattle.std.specs.Fmt.{digit_glyph}
 use Rattle.std.specs.Char.{is_digit, digit_value}
 use Rattle.std.specs.Str.Parse.{digits_value}
 use Rattle.std.proofs.lemmas.Bool.{and_parts, cases_lt}
@@ -10,7 +11,7 @@ use Rattle.std.proofs.lemmas.List.Folds.{list_all-append}
 use Rattle.htmlescape.specs.declared.alphabet.Alphabet.{Alphabet}
 use Rattle.htmlescape.specs.declared.alphabet.Alphabet.TheVariants.{Minimal, Attribute}
 use Rattle.htmlescape.specs.Names.{entities, latin, symbols, special, named}
-use Rattle.htmlescape.specs.Escapes.{minimal_entity, escaped, other, or_else, encoded, hex_digit, hex_escape, is_numbered}
+use Rattle.htmlescape.specs.Escapes.{minimal_entity, escaped, other, or_else, encoded, hex_escape, is_numbered}
 use Rattle.htmlescape.specs.Grammar.{Item, Plain, Name, Hexadecimal, spelled, meaning, IsText}
 use Rattle.htmlescape.specs.Safety.{is_markup, is_harmless}
 use Rattle.htmlescape.proofs.Escaping.{numbered_below}
@@ -84,12 +85,12 @@ pub minimal_bytes : (text : List ℕ) → list_all (λ d. not (is_markup d)) (en
 minimal_bytes text = all_bytes (λ d. not (is_markup d)) unmarked_wide (encoded Minimal text) (minimal_characters text)
 
 -- The encoding for attributes.
-digit_harmless : (d : ℕ) → d < 16 → is_harmless (hex_digit d) ≡ true
+digit_harmless : (d : ℕ) → d < 16 → is_harmless (digit_glyph true d) ≡ true
 digit_harmless d h = grind (arith, nat_tests)
 
 hex_harmless : (c : ℕ) → c < 256 → list_all is_harmless (hex_escape c) ≡ true
 hex_harmless c h =
-    ap (λ b. b && (is_harmless (hex_digit (c % 16)) && true)) (digit_harmless (c / 16) (omega arith)) ∙ ap (λ b. b && true) (digit_harmless (c % 16) (omega arith))
+    ap (λ b. b && (is_harmless (digit_glyph true (c % 16)) && true)) (digit_harmless (c / 16) (omega arith)) ∙ ap (λ b. b && true) (digit_harmless (c % 16) (omega arith))
 
 left_harmless : (c : ℕ) → is_numbered c ≡ false → is_harmless c ≡ true
 left_harmless c e = grind (arith, nat_tests)
@@ -141,10 +142,10 @@ gt_is = refl
 plain_is : (c : ℕ) → (c == 38) ≡ false → Undoes c (c ∷ [])
 plain_is c e = (Plain c, refl, ap (λ b. cond b None (Some c)) e)
 
-digit_is : (d : ℕ) → d < 16 → is_digit (hex_digit d) 16 ≡ true
+digit_is : (d : ℕ) → d < 16 → is_digit (digit_glyph true d) 16 ≡ true
 digit_is d h = grind (arith, nat_tests)
 
-value_is : (d : ℕ) → d < 16 → digit_value (hex_digit d) ≡ d
+value_is : (d : ℕ) → d < 16 → digit_value (digit_glyph true d) ≡ d
 value_is d h = grind (arith, nat_tests)
 
 two_digits : (c : ℕ) → (0 * 16 + c / 16) * 16 + c % 16 ≡ c
@@ -152,8 +153,8 @@ two_digits c = omega arith
 
 hex_is : (c : ℕ) → c < 256 → scalar c ≡ true → Undoes c (hex_escape c)
 hex_is c h s =
-    let x = hex_digit (c / 16) in
-    let y = hex_digit (c % 16) in
+    let x = digit_glyph true (c / 16) in
+    let y = digit_glyph true (c % 16) in
     let high : c / 16 < 16 = omega arith in
     let low : c % 16 < 16 = omega arith in
     let value : digits_value 16 (x ∷ y ∷ []) ≡ c =

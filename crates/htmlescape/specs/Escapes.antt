@@ -1,7 +1,8 @@
 -- What the encoders write, character by character.
-use Rattle.std.specs.Prelude.{ℕ, ◌+◌, ◌/◌, ◌%◌, Bool, not, ◌&&◌, if◌then◌else◌, ◌==◌, nat_lt, List, [], ◌∷◌, Option, Some, None, codes}
+use Rattle.std.specs.Prelude.{ℕ, ◌/◌, ◌%◌, Bool, true, not, ◌&&◌, if◌then◌else◌, ◌==◌, nat_lt, List, [], ◌∷◌, Option, Some, None, codes}
 use Rattle.std.specs.List.{flat_map}
 use Rattle.std.specs.Char.{is_ascii_alphanumeric}
+use Rattle.std.specs.Fmt.{digit_glyph}
 use Rattle.htmlescape.specs.declared.alphabet.Alphabet.{Alphabet}
 use Rattle.htmlescape.specs.declared.alphabet.Alphabet.TheVariants.{Minimal, Attribute}
 
@@ -14,13 +15,9 @@ minimal_entity c =
     if c == 60 then Some (codes "&lt;") else (
     if c == 62 then Some (codes "&gt;") else None))))
 
--- an upper-case hexadecimal digit
-abbrev pub hex_digit : ℕ → ℕ
-hex_digit d = if nat_lt d 10 then 48 + d else 55 + d
-
--- two digits of a number below 256
+-- a number below 256 by two upper-case hexadecimal digits
 abbrev pub hex_escape : ℕ → List ℕ
-hex_escape c = 38 ∷ 35 ∷ 120 ∷ hex_digit (c / 16) ∷ hex_digit (c % 16) ∷ 59 ∷ []
+hex_escape c = 38 ∷ 35 ∷ 120 ∷ digit_glyph true (c / 16) ∷ digit_glyph true (c % 16) ∷ 59 ∷ []
 
 -- whether an attribute's encoding writes the character by its number
 abbrev pub is_numbered : ℕ → Bool

@@ -1,5 +1,6 @@
-ghost use Rattle.std.specs.Prelude.{◌≡◌, ◌<◌, ◌∷◌, [], encode_utf8_all, option_copied, MatchOption};
-ghost use Rattle.htmlescape.specs.Escapes.{minimal_entity, hex_digit, other, escaped};
+ghost use Rattle.std.specs.Prelude.{◌≡◌, ◌<◌, ◌∷◌, [], true, encode_utf8_all, option_copied, MatchOption};
+ghost use Rattle.std.specs.Fmt.{digit_glyph};
+ghost use Rattle.htmlescape.specs.Escapes.{minimal_entity, other, escaped};
 ghost use Rattle.htmlescape.specs.Pieces.{escape_text};
 ghost use Rattle.htmlescape.specs.Writing.{Appends};
 
@@ -71,7 +72,7 @@ impl Alphabet {
 // An upper-case hexadecimal digit.
 fn digit(value: u8) -> u8
     requires { value < 16 }
-    ensures { result ≡ hex_digit value }
+    ensures { result ≡ digit_glyph true value }
 {
     if value < 10 {
         b'0' + value
