@@ -20,7 +20,7 @@ use Rattle.htmlescape.specs.Readings.{bytes_of}
 use Rattle.htmlescape.specs.Writing.{Appends, Appended}
 use Rattle.htmlescape.specs.Grammar.{HasFault, number_end, digits_fault, number_fault, name_fault, entity_fault, fault_at}
 use Rattle.htmlescape.specs.Progress.{Running, Took, Ended}
-use Rattle.htmlescape.specs.Decoding.{Unfinished, MeetsFault, Stops, Decodes, WroteAt, Decoding}
+use Rattle.htmlescape.specs.Decoding.{Unfinished, MeetsFault, Stops, Decodes, LeavesFault, LeavesAt, WroteAt, Decoding}
 use Rattle.htmlescape.proofs.Written.{rose_before, appends_then}
 use Rattle.htmlescape.proofs.Escaping.{scalars_append}
 use Rattle.htmlescape.proofs.Fronts.{longest_front}
@@ -117,6 +117,8 @@ writer_fails limit r m t w n u d e count c (Some found) f i q k a s l = record {
     value_is = refl;
     completes = k.3;
   }) (told_more r m t i.text c i.told q);
+  left = both_map r.bytes t.bytes (SoFar (i.text ++ c ∷ [])) (LeavesAt (IoError Write) d.place (i.value ++ found ∷ [])) (λ a b p.
+      (i.text ++ c ∷ [], i.value, found, record { spells = p; characters = characters_more i.text c i.characters q.scalar }, refl, k.3)) (told_more r m t i.text c i.told q);
   written = both_then w.bytes n.bytes u.bytes (Appended (encodes i.value) (Ok tt)) (Appended (encode found) (Err f)) (WroteAt (IoError Write) (i.value ++ found ∷ []))
       (front_written i.value found f) i.wrote.told a.told;
 }
@@ -173,6 +175,17 @@ wrote_all fault value old new o e = absurd o
 pub not_of : (kind other : DecodeErrKind) → OfGrammar kind → kind ≡ other → OfGrammar other
 not_of kind other o e = let P : DecodeErrKind → Type 0 = OfGrammar in subst P e o
 
+leaves_met : (kind : DecodeErrKind) (position : ℕ) (value old new : List ℕ) → OfGrammar kind → kind ≢ PrematureEnd → LeavesFault kind position value old new → LeavesAt kind position value old new
+leaves_met UnknownEntity position value old new o n m = m
+leaves_met MalformedNumEscape position value old new o n m = m
+leaves_met InvalidCharacter position value old new o n m = m
+leaves_met PrematureEnd position value old new o n m = absurd (n refl)
+leaves_met fault position value old new o n m = absurd o
+
+unfinished : (d : Decoder) (text value : List ℕ) → Running d text value → Unfinished text value
+unfinished d text value k =
+    let opened = is_open d.state k.pending k.keeps in record { rest = k.pending; front = longest_front text value k.pending k.front opened.0; unmet = opened.1 }
+
 -- A fault is met.
 pub fault_met : (limit : ℕ) (r m t w n : Stream) (d e : Decoder) (count c : ℕ) (f : DecodeErr) → (i : Going r m w n d count) → ReadsChar m (Some (Ok c)) t
     → Took d.place i.text i.value c (Err f) e → count < limit → Decoding limit r w (Err f) t n
@@ -194,12 +207,15 @@ fault_met limit r m t w n d e count c f i q k l =
         within = omega (arith, size_more i.text c count i.size);
         met = λ more. (let P : List ℕ → Type 0 = λ x. HasFault x f.kind f.position i.value in subst P (sym (append_assoc i.text (c ∷ []) more)) (k.1 more));
       })) (told_more r m t i.text c i.told q);
+      left = both_map r.bytes t.bytes (SoFar (i.text ++ c ∷ [])) (LeavesAt f.kind f.position i.value) (λ a b p. leaves_met f.kind f.position i.value a b o k.0 (record {
+        before = i.text;
+        last = c;
+        read = record { spells = p; characters = characters_more i.text c i.characters q.scalar };
+        unmet = unfinished d i.text i.value i.running;
+        met = k.1;
+      })) (told_more r m t i.text c i.told q);
       written = both_map w.bytes n.bytes (Appended (encodes i.value) (Ok tt)) (WroteAt f.kind i.value) (λ a b p. wrote_all f.kind i.value a b o p) i.wrote.told;
     }
-
-unfinished : (d : Decoder) (text value : List ℕ) → Running d text value → Unfinished text value
-unfinished d text value k =
-    let opened = is_open d.state k.pending k.keeps in record { rest = k.pending; front = longest_front text value k.pending k.front opened.0; unmet = opened.1 }
 
 -- The bytes are no character.
 pub bytes_met : (limit : ℕ) (r m t w n : Stream) (d : Decoder) (count : ℕ) → Going r m w n d count → ReadsChar m (Some (Err NotUtf8)) t → count < limit
@@ -224,6 +240,8 @@ bytes_met limit r m t w n d count i q l = record {
         place = sym i.size;
         unfinished = unfinished d i.text i.value i.running;
       }) i.told q.told);
+  left = both_then r.bytes m.bytes t.bytes (SoFar i.text) (CharRead (Some (Err NotUtf8))) (LeavesAt EncodingError count i.value) (λ a b z p k.
+      (i.text, b, record { spells = p; characters = i.characters }, sym i.size, k.2)) i.told q.told;
   written = i.wrote.told;
 }
 
@@ -246,6 +264,8 @@ reader_fails limit r m t w n d count f i q l = record {
     place = sym i.size;
     unfinished = unfinished d i.text i.value i.running;
   }) i.told;
+  left = both_then r.bytes m.bytes t.bytes (SoFar i.text) (CharRead (Some (Err (Other f)))) (LeavesAt (IoError Read) count i.value) (λ a b z p k.
+      (i.text, k.0, record { spells = p ∙ ap (λ x. encodes i.text ++ x) k.1; characters = i.characters }, sym i.size, k.2)) i.told q.told;
   written = i.wrote.told;
 }
 
@@ -267,6 +287,7 @@ limit_met limit r m w n d count i l = record {
     place = sym (i.size ∙ l);
     unfinished = unfinished d i.text i.value i.running;
   }) i.told;
+  left = both_map r.bytes m.bytes (SoFar i.text) (LeavesAt TooLong limit i.value) (λ a b p. (i.text, record { spells = p; characters = i.characters }, sym (i.size ∙ l))) i.told;
   written = i.wrote.told;
 }
 
@@ -276,6 +297,9 @@ kinds_apart kind e = not_of PrematureEnd kind tt (sym e)
 
 stops_early : (limit : ℕ) (bytes : List ℕ) (f : DecodeErr) (value : List ℕ) → f.kind ≡ PrematureEnd → Stops limit bytes PrematureEnd f.position value → Stops limit bytes f.kind f.position value
 stops_early limit bytes f value e s = let P : DecodeErrKind → Type 0 = λ k. Stops limit bytes k f.position value in subst P (sym e) s
+
+leaves_none : (f : DecodeErr) (value old new : List ℕ) → f.kind ≡ PrematureEnd → new ≡ [] → LeavesAt f.kind f.position value old new
+leaves_none f value old new e n = let P : DecodeErrKind → Type 0 = λ k. LeavesAt k f.position value old new in subst P (sym e) n
 
 pub input_ends : (limit : ℕ) (r m t w n : Stream) (d : Decoder) (count : ℕ) (result : Result (Unit {0}) DecodeErr) → (i : Going r m w n d count) → ReadsChar m None t
     → Ended i.text i.value result → count < limit → Decoding limit r w result t n
@@ -295,6 +319,7 @@ input_ends limit r m t w n d count (Ok u) i q k l = record {
         within = (let size = i.size in omega arith);
         whole = k;
       }) i.told q.told);
+  left = both_then r.bytes m.bytes t.bytes (SoFar i.text) (CharRead None) (λ a b. b ≡ []) (λ a b z p s. s.1) i.told q.told;
   written = i.wrote.told;
 }
 input_ends limit r m t w n d count (Err f) i q k l = record {
@@ -313,5 +338,6 @@ input_ends limit r m t w n d count (Err f) i q k l = record {
         within = (let size = i.size in omega arith);
         fault = k.1;
       })) i.told q.told);
+  left = both_then r.bytes m.bytes t.bytes (SoFar i.text) (CharRead None) (LeavesAt f.kind f.position i.value) (λ a b z p s. leaves_none f i.value a z k.0 s.1) i.told q.told;
   written = both_map w.bytes n.bytes (Appended (encodes i.value) (Ok tt)) (WroteAt f.kind i.value) (λ a b p. wrote_all f.kind i.value a b (kinds_apart f.kind k.0) p) i.wrote.told;
 }

@@ -1,9 +1,10 @@
 -- What decoding the bytes of a reader answers and writes.
-use Rattle.std.specs.Prelude.{◌≡◌, ◌<◌, ◌≤◌, ◌⊎◌, ℕ, true, List, [], ◌∷◌, ◌++◌, length, take, Result, Ok, Err, IfSome, encode_utf8}
+use Rattle.std.specs.Prelude.{◌≡◌, ◌<◌, ◌≤◌, ◌⊎◌, ℕ, true, List, [], ◌∷◌, ◌++◌, length, take, drop, Result, Ok, Err, IfSome, encode_utf8}
 use Rattle.std.specs.Str.{encode_utf8_all, all_scalars, StartsWithNoChar}
 use Rattle.dav_io.specs.Counts.{Rose}
 use Rattle.dav_io.specs.Told.{Both}
 use Rattle.dav_io.specs.Outside.{Stream}
+use Rattle.htmlescape.specs.Characters.{chunk_len}
 use Rattle.htmlescape.specs.Grammar.{IsText, LongestFront, HasFault, fault_at}
 use Rattle.htmlescape.specs.Progress.{Completes}
 use Rattle.htmlescape.specs.declared.faults.DecodeErr.{DecodeErr}
@@ -114,6 +115,31 @@ abbrev pub Wrote : Result (Unit {0}) DecodeErr → List ℕ → List ℕ → Lis
 Wrote (Ok u) value old new = new ≡ old ++ encode_utf8_all value
 Wrote (Err e) value old new = WroteAt e.kind value old new
 
+-- What a reader has left where a fault of the grammar is met: what is behind the character at fault. Before it none was met.
+pub record LeavesFault (fault : DecodeErrKind) (position : ℕ) (value old new : List ℕ) : Type 0 where
+  pub before : List ℕ
+  pub last : ℕ
+  pub read : ReadSo old (before ++ last ∷ []) new
+  pub unmet : Unfinished before value
+  pub met : (more : List ℕ) → HasFault (before ++ last ∷ more) fault position value
+
+-- What it has left at each fault. The bytes that are no character are taken, and a reader that fails has given fewer than four.
+abbrev pub LeavesAt : DecodeErrKind → ℕ → List ℕ → List ℕ → List ℕ → Type 0
+LeavesAt UnknownEntity position value old new = LeavesFault UnknownEntity position value old new
+LeavesAt MalformedNumEscape position value old new = LeavesFault MalformedNumEscape position value old new
+LeavesAt InvalidCharacter position value old new = LeavesFault InvalidCharacter position value old new
+LeavesAt PrematureEnd position value old new = new ≡ []
+LeavesAt EncodingError position value old new = (text : List ℕ) × (rest : List ℕ) × ReadSo old text rest × (position ≡ length text) × (new ≡ drop (chunk_len rest) rest)
+LeavesAt TooLong position value old new = (text : List ℕ) × ReadSo old text new × (position ≡ length text)
+LeavesAt (IoError Read) position value old new = (text : List ℕ) × (taken : List ℕ) × ReadSo old text (taken ++ new) × (position ≡ length text) × (length taken < 4)
+LeavesAt (IoError Write) position value old new =
+    (text : List ℕ) × (before : List ℕ) × (last : ℕ) × ReadSo old text new × (value ≡ before ++ last ∷ []) × Completes text before last position
+LeavesAt NoMemory position value old new = ⊥
+
+abbrev pub Leaves : Result (Unit {0}) DecodeErr → List ℕ → List ℕ → List ℕ → Type 0
+Leaves (Ok u) value old new = new ≡ []
+Leaves (Err e) value old new = LeavesAt e.kind e.position value old new
+
 abbrev pub IsAt : DecodeErrKind → Result (Unit {0}) DecodeErr → Type 0
 IsAt kind (Ok u) = ⊥
 IsAt kind (Err e) = e.kind ≡ kind
@@ -128,6 +154,7 @@ pub record Decoding (limit : ℕ) (reader writer : Stream) (result : Result (Uni
   pub value : List ℕ
   pub characters : all_scalars value ≡ true
   pub decodes : IfSome reader.bytes (λ bytes. Decodes limit bytes result value)
+  pub left : Both reader.bytes reader_after.bytes (Leaves result value)
   pub written : Both writer.bytes writer_after.bytes (Wrote result value)
 
 -- The reader or the writer failed.

@@ -77,7 +77,7 @@ pub fn decode<C: Characters, W: Sink>(
 }
 
 /// Decodes the characters that a reader of characters has left. It answers and writes what `decode_html_rw` does, and the
-/// reader is at hand afterwards.
+/// reader is at hand afterwards: at its end, or right behind the character at which a fault was met.
 pub fn decode_chars<R: Source, W: Sink>(
     characters: &mut Chars<R>,
     writer: &mut W,
