@@ -16,8 +16,7 @@ use Rattle.htmlescape.specs.declared.faults.DecodeErrKind.{DecodeErrKind}
 use Rattle.htmlescape.specs.declared.faults.DecodeErrKind.TheVariants.{UnknownEntity, MalformedNumEscape, InvalidCharacter, PrematureEnd, IoError, EncodingError, TooLong, NoMemory}
 use Rattle.htmlescape.specs.declared.faults.IoFault.TheVariants.{Read, Write}
 use Rattle.htmlescape.specs.Characters.{CharRead, ReadsChar}
-use Rattle.htmlescape.specs.Readings.{bytes_of}
-use Rattle.htmlescape.specs.Writing.{Appends, Appended}
+use Rattle.htmlescape.specs.Writing.{Appends, Appended, bytes_of}
 use Rattle.htmlescape.specs.Grammar.{HasFault, number_end, digits_fault, number_fault, name_fault, entity_fault, fault_at}
 use Rattle.htmlescape.specs.Progress.{Running, Took, Ended}
 use Rattle.htmlescape.specs.Decoding.{Unfinished, MeetsFault, Stops, Decodes, LeavesFault, LeavesAt, WroteAt, Decoding}

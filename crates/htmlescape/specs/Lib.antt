@@ -10,5 +10,4 @@ pub mod Grammar
 pub mod Running
 pub mod Progress
 pub mod Decoding
-pub mod Readings
 pub mod Safety

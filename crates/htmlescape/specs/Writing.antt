@@ -1,5 +1,5 @@
 -- What a call that writes some bytes does to a sink.
-use Rattle.std.specs.Prelude.{◌≡◌, ◌<◌, ℕ, ◌≤◌, List, ◌++◌, length, take, Result, Ok, Err, IsErr}
+use Rattle.std.specs.Prelude.{◌≡◌, ◌<◌, ℕ, ◌≤◌, List, [], ◌++◌, length, take, Option, Some, None, Result, Ok, Err, IsErr, encode_utf8}
 use Rattle.dav_io.specs.declared.failure.Failed.{Failed}
 use Rattle.dav_io.specs.Counts.{Rose}
 use Rattle.dav_io.specs.Told.{Both}
@@ -15,3 +15,8 @@ pub record Appends (old : Stream) (bytes : List ℕ) (result : Result (Unit {0})
   pub counts : old.faults ≤ new.faults
   pub failed : IsErr result → Rose old.faults new.faults
   pub told : Both old.bytes new.bytes (Appended bytes result)
+
+-- the bytes of a character that an item stands for, where one is at its end
+abbrev pub bytes_of : Option ℕ → List ℕ
+bytes_of None = []
+bytes_of (Some c) = encode_utf8 c

@@ -1,15 +1,14 @@
-ghost use Rattle.std.specs.Prelude.{◌≡◌, ◌⊎◌, ℕ, List, IsErr, IsSome, IfOk, IfErr, MatchResult, string_bytes, encode_utf8_all};
+ghost use Rattle.std.specs.Prelude.{◌≡◌, ◌⊎◌, ◌^◌, ℕ, List, IsErr, IsSome, IfOk, IfErr, MatchResult, string_bytes, encode_utf8_all};
 ghost use Rattle.std.specs.Str.{chars};
 ghost use Rattle.htmlescape.specs.Grammar.{IsText, HasFault};
 ghost use Rattle.htmlescape.specs.Decoding.{Decoding, IsDecoded, IsFault, IsOfText, IsOnly, in_memory};
 ghost use Rattle.htmlescape.specs.declared.faults.DecodeErrKind.{DecodeErrKind};
-ghost use Rattle.htmlescape.specs.Readings.{bytes_of};
-ghost use Rattle.htmlescape.specs.Writing.{Appends};
+ghost use Rattle.htmlescape.specs.Writing.{Appends, bytes_of};
 
-use crate::characters::Chars;
+use crate::characters::{Chars, CharsError};
 use crate::decoder::Decoder;
 use crate::memory::Growing;
-use crate::readings::{Characters, Reading, TextChars};
+use crate::readings::{Characters, TextChars};
 use crate::writing::write_char;
 use crate::{DecodeErr, DecodeErrKind, IoFault};
 use dav_io::{Failed, Sink, Source};
@@ -39,35 +38,35 @@ pub fn decode<C: Characters, W: Sink>(
 {
     let mut decoder = Decoder::new();
     for count in 0..limit {
-        match characters.read() {
-            Reading::Character(c) => {
-                let place = decoder.place;
-                match decoder.take(c) {
-                    Ok(found) => match put_found(writer, found) {
-                        Ok(()) => {}
-                        Err(_) => {
-                            return Err(DecodeErr {
-                                position: place,
-                                kind: DecodeErrKind::IoError(IoFault::Write),
-                            });
-                        }
-                    },
-                    Err(fault) => return Err(fault),
-                }
-            }
-            Reading::Broken => {
+        let c = match characters.read() {
+            Some(Ok(c)) => c,
+            Some(Err(CharsError::NotUtf8)) => {
                 return Err(DecodeErr {
                     position: count,
                     kind: DecodeErrKind::EncodingError,
                 });
             }
-            Reading::Refused(_) => {
+            Some(Err(CharsError::Other(_))) => {
                 return Err(DecodeErr {
                     position: count,
                     kind: DecodeErrKind::IoError(IoFault::Read),
                 });
             }
-            Reading::End => return decoder.end(),
+            None => return decoder.end(),
+        };
+        let place = decoder.place;
+        let found = match decoder.take(c) {
+            Ok(found) => found,
+            Err(fault) => return Err(fault),
+        };
+        match put_found(writer, found) {
+            Ok(()) => {}
+            Err(_) => {
+                return Err(DecodeErr {
+                    position: place,
+                    kind: DecodeErrKind::IoError(IoFault::Write),
+                });
+            }
         }
     }
     Err(DecodeErr {
@@ -82,8 +81,8 @@ pub fn decode_chars<R: Source, W: Sink>(
     characters: &mut Chars<R>,
     writer: &mut W,
 ) -> Result<(), DecodeErr>
-    ensures done { Decoding MOST_CHARACTERS (R.stream characters.old.inner) (W.stream writer.old) result (R.stream characters.new.inner) (W.stream writer.new) }
-    ensures exact { IsOnly MOST_CHARACTERS (R.stream characters.old.inner) (W.stream writer.old) result (W.stream writer.new) }
+    ensures done { Decoding (2 ^ 60) (R.stream characters.old.inner) (W.stream writer.old) result (R.stream characters.new.inner) (W.stream writer.new) }
+    ensures exact { IsOnly (2 ^ 60) (R.stream characters.old.inner) (W.stream writer.old) result (W.stream writer.new) }
 {
     decode(MOST_CHARACTERS, characters, writer)
 }
@@ -91,8 +90,8 @@ pub fn decode_chars<R: Source, W: Sink>(
 /// Decodes the entities in what a reader gives, and writes the text. It keeps at most eight bytes of a name, and takes no
 /// memory.
 pub fn decode_html_rw<R: Source + Drop, W: Sink>(reader: R, writer: &mut W) -> Result<(), DecodeErr>
-    ensures done { (after : R) × Decoding MOST_CHARACTERS (R.stream reader) (W.stream writer.old) result (R.stream after) (W.stream writer.new) }
-    ensures exact { IsOnly MOST_CHARACTERS (R.stream reader) (W.stream writer.old) result (W.stream writer.new) }
+    ensures done { (after : R) × Decoding (2 ^ 60) (R.stream reader) (W.stream writer.old) result (R.stream after) (W.stream writer.new) }
+    ensures exact { IsOnly (2 ^ 60) (R.stream reader) (W.stream writer.old) result (W.stream writer.new) }
 {
     let mut characters = Chars { inner: reader };
     decode_chars(&mut characters, writer)

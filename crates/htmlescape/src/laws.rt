@@ -1,5 +1,5 @@
 //! Laws of encoding and decoding. Each is the contract of a function that does nothing.
-ghost use Rattle.std.specs.Prelude.{◌≡◌, ◌<◌, ℕ, List, Result, true, not, length, encode_utf8_all, IsUtf8};
+ghost use Rattle.std.specs.Prelude.{◌≡◌, ◌<◌, ◌^◌, ℕ, List, Result, true, not, length, encode_utf8_all, IsUtf8};
 ghost use Rattle.std.specs.List.{list_all};
 ghost use Rattle.std.specs.Str.{all_scalars, chars};
 ghost use Rattle.htmlescape.specs.declared.alphabet.Alphabet.TheVariants.{Minimal, Attribute};
@@ -38,6 +38,6 @@ pub fn one_reading()
 /// On a text of fewer than 2^60 characters `decode_html_rw` answers and writes what `decode_html` does, where neither
 /// reader nor writer fails.
 pub fn decoders_agree()
-    ensures { (bytes : List ℕ) (one other : Result (Unit {0}) DecodeErr) (v w : List ℕ) → IsUtf8 bytes → length (chars bytes) < 1152921504606846976
-        → Answers (chars bytes) one v → Decodes 1152921504606846976 bytes other w → ¬ (IsIo other) → (one ≡ other) × (v ≡ w) }
+    ensures { (bytes : List ℕ) (one other : Result (Unit {0}) DecodeErr) (v w : List ℕ) → IsUtf8 bytes → length (chars bytes) < 2 ^ 60
+        → Answers (chars bytes) one v → Decodes (2 ^ 60) bytes other w → ¬ (IsIo other) → (one ≡ other) × (v ≡ w) }
 {}
