@@ -3,6 +3,7 @@ use Rattle.std.proofs.Common.{refl, ◌∙◌}
 use Rattle.std.specs.Prelude.{◌≡◌, ◌==◌, ◌+◌, ◌-◌, ◌&&◌, ◌||◌, ℕ, pos, ◌+ℤ◌, List, [], ◌∷◌, ◌++◌, Bool, true, false, cond, not, length, take, drop, map, replicate, Option, None, Some, Result, Ok, Err, nat_lt, int_lt}
 use Rattle.std.specs.List.{filter, list_all}
 use Rattle.std.specs.Option.{is_none}
+use Rattle.dav_io.specs.Counts.{greatest}
 use Rattle.dav_core.specs.declared.tree.Row.{Row}
 use Rattle.dav_core.specs.declared.tree.Kind.{Kind}
 use Rattle.dav_core.specs.declared.tree.Kind.TheVariants.{Dir, File, Link}
@@ -54,7 +55,7 @@ added_at path kind (Some t) w = Some (record w {
 })
 
 abbrev pub added : Names → Kind → World → Option World
-added path kind w = cond (nat_lt w.greatest 18446744073709551615) (added_at path kind (tick w.latest) w) None
+added path kind w = cond (nat_lt w.greatest greatest) (added_at path kind (tick w.latest) w) None
 
 -- the newest number's bytes, with the time of the world
 abbrev pub stored_in : List ℕ → Option World → Option World
@@ -218,9 +219,9 @@ renamed_opens (Ok row) to w = either_opens (renames_to w row to) w _
 
 changed_opens : (w : World) (change : Change) → (changed w change).opens ≡ w.opens
 changed_opens w (AddDir path) = either_opens (is_free_in w.tree path) w _
-    (made_opens w _ (then_opens (parent_of path) w (added path Dir w) (added_or_opens (nat_lt w.greatest 18446744073709551615) path Dir w)))
+    (made_opens w _ (then_opens (parent_of path) w (added path Dir w) (added_or_opens (nat_lt w.greatest greatest) path Dir w)))
 changed_opens w (AddFile path bytes) = either_opens (is_free_in w.tree path) w _
-    (made_opens w _ (then_opens (parent_of path) w (stored_in bytes (added path File w)) (stored_opens bytes w (added path File w) (added_or_opens (nat_lt w.greatest 18446744073709551615) path File w))))
+    (made_opens w _ (then_opens (parent_of path) w (stored_in bytes (added path File w)) (stored_opens bytes w (added path File w) (added_or_opens (nat_lt w.greatest greatest) path File w))))
 changed_opens w (Cut path len) = cut_found_opens (look w.tree path) len w
 changed_opens w (Remove path) = removed_opens (look w.tree path) w
 changed_opens w (Rename from to) = renamed_opens (look w.tree from) to w

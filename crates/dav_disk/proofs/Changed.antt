@@ -4,6 +4,7 @@ use Rattle.std.specs.List.{list_any}
 use Rattle.std.specs.Option.{is_none, option_map}
 use Rattle.std.proofs.lemmas.Bool.{and_parts}
 use Rattle.std.proofs.lemmas.Bool.Decides.{nat_tests}
+use Rattle.dav_io.specs.Counts.{greatest}
 use Rattle.dav_core.specs.declared.tree.Row.{Row}
 use Rattle.dav_core.specs.declared.tree.Kind.{Kind}
 use Rattle.dav_core.specs.declared.tree.Kind.TheVariants.{Dir, File, Link}
@@ -172,7 +173,7 @@ dir_then w path false o g free = tt
 
 pub dir_added_good : (w : World) (path : Names) → Good w → Good (dir_added w path)
 dir_added_good w path g = cond_good (is_free_in w.tree path) (made_or w (then_touched (parent_of path) (added path Dir w))) w
-    (λ free. made_good w (then_touched (parent_of path) (added path Dir w)) g (dir_then w path (nat_lt w.greatest 18446744073709551615) (tick w.latest) g free))
+    (λ free. made_good w (then_touched (parent_of path) (added path Dir w)) g (dir_then w path (nat_lt w.greatest greatest) (tick w.latest) g free))
     (λ no_place. g)
 
 file_then : (w : World) (path : Names) (bytes : List ℕ) (b : Bool) (o : Option FileTime) → Good w → is_free_in w.tree path ≡ true
@@ -185,7 +186,7 @@ file_then w path bytes false o g free = tt
 
 pub file_added_good : (w : World) (path : Names) (bytes : List ℕ) → Good w → Good (file_added w path bytes)
 file_added_good w path bytes g = cond_good (is_free_in w.tree path) (made_or w (then_touched (parent_of path) (stored_in bytes (added path File w)))) w
-    (λ free. made_good w (then_touched (parent_of path) (stored_in bytes (added path File w))) g (file_then w path bytes (nat_lt w.greatest 18446744073709551615) (tick w.latest) g free))
+    (λ free. made_good w (then_touched (parent_of path) (stored_in bytes (added path File w))) g (file_then w path bytes (nat_lt w.greatest greatest) (tick w.latest) g free))
     (λ no_place. g)
 
 -- ---- lengths
