@@ -19,9 +19,9 @@ use Rattle.percent_encoding.proofs.PercentLemmas.{IsEscapeByte, All-percent_enco
 use lib.Utf8.{scalar, scalars, scalar_cases, encode, encodes}
 use Rattle.dav_core.specs.declared.url.TheConstants.{LINK}
 use Rattle.dav_core.specs.declared.parse_error.ParseError.TheVariants.{InvalidPath, NotText, PrefixMismatch}
-use Rattle.dav_core.specs.DavPath.{WebPath, IsPath, are_texts, ends_well, stays, link_byte, link_of, slashed, final_slash, shown}
+use Rattle.dav_core.specs.DavPath.{WebPath, IsPath, are_texts, ends_well, last_name, stays, link_byte, link_of, slashed, final_slash, shown}
 use Rattle.dav_core.specs.Path.{Names, is_plain, is_front, parts_names, same_names}
-use Rattle.dav_core.specs.Grammar.{and_then, readable, begins_with_slash, Left, kept_if, names_in, prefix_names, below, placed, parsed, is_path_byte, segments, is_skipped, is_up, is_empty, with_segment, left_of, before_query, name_of, decoded, all_decoded, last_of, ends, has_slash}
+use Rattle.dav_core.specs.Grammar.{and_then, readable, begins_with_slash, Left, kept_if, names_in, prefix_names, below, placed, parsed, is_path_byte, segments, is_skipped, is_up, is_empty, with_segment, left_of, before_query, name_of, decoded, all_decoded, ends, has_slash}
 use Rattle.dav_core.proofs.Links.{escapes, link_is, link_decodes}
 
 -- ---- a text has bytes
@@ -201,7 +201,7 @@ say_all (name ∷ names) t =
 -- ---- the final slash
 
 -- the last of a list that ends with an element
-last_pushed : (names : Names) (last : List ℕ) → last_of (names ++ last ∷ []) ≡ Some last
+last_pushed : (names : Names) (last : List ℕ) → last_name (names ++ last ∷ []) ≡ Some last
 last_pushed [] last = refl
 last_pushed (name ∷ []) last = refl
 last_pushed (name ∷ next ∷ names) last =
@@ -209,7 +209,7 @@ last_pushed (name ∷ next ∷ names) last =
     ap (slice_get (name ∷ next ∷ names ++ last ∷ [])) more ∙ last_pushed (next ∷ names) last
 
 -- the last of names is the last name's
-ends_never : (name : List ℕ) (names : Names) → are_texts (name ∷ names) ≡ true → ends (last_of (links (name ∷ names))) ≡ false
+ends_never : (name : List ℕ) (names : Names) → are_texts (name ∷ names) ≡ true → ends (last_name (links (name ∷ names))) ≡ false
 ends_never name [] t =
     let text = (first_text name [] t).0 in
     or_from _ _ (not_none name text) (or_from _ _ (not_dot name text) (not_dots name text))
@@ -217,7 +217,7 @@ ends_never name (next ∷ names) t =
     let more : length (links (name ∷ next ∷ names)) - 1 ≡ suc (length (links (next ∷ names)) - 1) = omega arith in
     ap (λ n. ends (slice_get (links (name ∷ next ∷ names)) n)) more ∙ ends_never next names (first_text name (next ∷ names) t).1
 
-last_behind : (segment first : List ℕ) (names : Names) → last_of (segment ∷ first ∷ names) ≡ last_of (first ∷ names)
+last_behind : (segment first : List ℕ) (names : Names) → last_name (segment ∷ first ∷ names) ≡ last_name (first ∷ names)
 last_behind segment first names =
     let more : length (segment ∷ first ∷ names) - 1 ≡ suc (length (first ∷ names) - 1) = omega arith in
     ap (slice_get (segment ∷ first ∷ names)) more
@@ -234,7 +234,7 @@ slash_by [] (name ∷ names) false t some e = let none : 0 < 0 = some (omega ari
 slash_by (first ∷ all) [] false t some e = absurd (true≢false (sym e))
 slash_by (first ∷ all) (name ∷ names) false t some e =
     or_from _ _
-    (ap (λ l. ends (last_of ([] ∷ l))) (append-nil (links (first ∷ all))) ∙ ap ends (last_behind [] (link_of first) (links all)) ∙ ends_never first all t)
+    (ap (λ l. ends (last_name ([] ∷ l))) (append-nil (links (first ∷ all))) ∙ ap ends (last_behind [] (link_of first) (links all)) ∙ ends_never first all t)
     (named_some name names)
   where
     named_some : (name : List ℕ) (names : Names) → (length (name ∷ names) == 0) ≡ false

@@ -9,9 +9,9 @@ use Rattle.std.specs.Str.{is_utf8}
 use Rattle.percent_encoding.specs.Percent.{percent_decode}
 use Rattle.dav_core.specs.declared.parse_error.ParseError.{ParseError}
 use Rattle.dav_core.specs.declared.parse_error.ParseError.TheVariants.{InvalidPath, NotText, PrefixMismatch}
-use Rattle.dav_core.specs.DavPath.{WebPath, IsPath, are_texts, ends_well}
+use Rattle.dav_core.specs.DavPath.{WebPath, IsPath, are_texts, ends_well, last_name}
 use Rattle.dav_core.specs.Path.{Names, is_plain, is_front, parent_of}
-use Rattle.dav_core.specs.Grammar.{and_then, readable, segments, before_query, kept_of, decoded, all_decoded, names_in, prefix_names, ends, last_of, has_slash, placed, parsed}
+use Rattle.dav_core.specs.Grammar.{and_then, readable, segments, before_query, kept_of, decoded, all_decoded, names_in, prefix_names, ends, has_slash, placed, parsed}
 use Rattle.dav_core.proofs.Plain.{names_same}
 
 texts_append : (front names : Names) → are_texts (front ++ names) ≡ (are_texts front && are_texts names)
@@ -69,7 +69,7 @@ placed_path segs prefix all path true b t e =
     let whole : prefix ++ names ≡ all = ap (λ (front : Names). front ++ names) (names_same prefix (take (length prefix) all) b) ∙ take-append-drop (length prefix) all in (
       record {
         texts = ap (λ (p : WebPath). are_texts (p.prefix ++ p.names)) (sym same) ∙ ap are_texts whole ∙ t;
-        ends = ap ends_well (sym same) ∙ well names (ends (last_of segs));
+        ends = ap ends_well (sym same) ∙ well names (ends (last_name segs));
       },
       ap (λ (p : WebPath). p.prefix) same,
     )

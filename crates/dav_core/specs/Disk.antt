@@ -117,7 +117,7 @@ MayRefuseOpen Failed = Unit {0}
 MayRefuseOpen NoMemory = Unit {0}
 MayRefuseOpen e = ⊥
 
--- A file or directory is opened for reading. (Opening for writing adds its cases here.)
+-- A file or directory is opened for reading.
 pub record Opens (old : DiskState) (path : Names) (how : OpenOptions) (result : Result Handle DiskError) (new : DiskState) : Type 0 where
   pub asks : Asks result old new
   pub only : IfErr result MayRefuseOpen

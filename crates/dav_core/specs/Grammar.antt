@@ -1,12 +1,12 @@
 -- The grammar of a request's path, step by step. The first fault decides, and within a step segments are taken from the
 -- left.
-use Rattle.std.specs.Prelude.{◌==◌, ◌||◌, ◌&&◌, ◌++◌, ℕ, zero, suc, nat_le, Bool, false, not, List, [], ◌∷◌, length, drop, ◌-◌, slice_get, codes, Option, None, Some, Result, Ok, Err, if◌then◌else◌}
+use Rattle.std.specs.Prelude.{◌==◌, ◌||◌, ◌&&◌, ◌++◌, ℕ, zero, suc, nat_le, Bool, false, not, List, [], ◌∷◌, length, drop, codes, Option, None, Some, Result, Ok, Err, if◌then◌else◌}
 use Rattle.std.specs.List.{before_first, filter, list_all, slice_split}
 use Rattle.std.specs.Str.{bytes_eq, is_utf8}
 use Rattle.percent_encoding.specs.Percent.{percent_decode}
 use Rattle.dav_core.specs.declared.parse_error.ParseError.{ParseError}
 use Rattle.dav_core.specs.declared.parse_error.ParseError.TheVariants.{InvalidPath, PrefixMismatch, ForbiddenPath, NotText}
-use Rattle.dav_core.specs.DavPath.{WebPath}
+use Rattle.dav_core.specs.DavPath.{WebPath, last_name}
 use Rattle.dav_core.specs.Path.{Names, is_dots, is_plain, all_plain, is_front, parent_of}
 
 -- one step after another, as far as no fault is met
@@ -71,7 +71,7 @@ abbrev pub kept_of : Names → Result Names ParseError
 kept_of segments = kept_if (left_of segments).ups (left_of segments).kept
 
 -- The same, told from the left: an empty segment and `.` are dropped; `..` drops the last segment kept, and where none is
--- left it is ForbiddenPath. (`kept_behind` of the laws.)
+-- left it is ForbiddenPath (the law `segments_are_kept`).
 abbrev pub without_last : Names → Result Names ParseError
 without_last [] = Err ForbiddenPath
 without_last (segment ∷ kept) = Ok (parent_of (segment ∷ kept))
@@ -104,15 +104,12 @@ abbrev pub below : Names → Names → Result Names ParseError
 below prefix names = if is_front prefix names then Ok (drop (length prefix) names) else Err PrefixMismatch
 
 -- Step 5. A text ends with a slash where its last segment is empty.
-abbrev pub last_of : Names → Option (List ℕ)
-last_of names = slice_get names (length names - 1)
-
 abbrev pub ends : Option (List ℕ) → Bool
 ends None = false
 ends (Some segment) = is_empty segment || is_dots segment
 
 abbrev pub has_slash : Names → Names → Bool
-has_slash segments names = ends (last_of segments) || length names == 0
+has_slash segments names = ends (last_name segments) || length names == 0
 
 abbrev pub placed : Names → Names → Names → Result WebPath ParseError
 placed segments prefix all =

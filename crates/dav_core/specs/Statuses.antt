@@ -1,4 +1,5 @@
--- The statuses of refusals.
+-- The statuses of refusals. Want of memory is an error value and no answer: what asks for a status asks first that
+-- `lacks_memory` is false, so the 500 on the lines of want of memory is never answered.
 use Rattle.std.specs.Prelude.{ℕ, Bool, true, false}
 use Rattle.dav_core.specs.declared.dav_error.DavError.{DavError}
 use Rattle.dav_core.specs.declared.dav_error.DavError.TheVariants as dav

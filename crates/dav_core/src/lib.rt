@@ -1,4 +1,5 @@
-//! Paths, trees, times and the disk on which the server stands, call by call.
+//! Paths and their grammar, methods, statuses, content types, metadata, entity tags, and the disk on which the server
+//! stands, call by call.
 #![tactic(auto)]
 
 mod blanks;
