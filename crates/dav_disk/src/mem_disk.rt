@@ -1,5 +1,5 @@
 ghost use Rattle.std.specs.Prelude.{◌≡◌, ◌<◌, ◌≤◌, ◌++◌, ◌∷◌, [], ℕ, All, None, Some, IfOk, IsSome, OnOk, OnErr, true, length, drop};
-ghost use Rattle.dav_disk.specs.Lengths.{first_of, UsesLength};
+ghost use Rattle.dav_disk.specs.Lengths.{first_of, GivesMost, UsesLength};
 
 use crate::faults::Faults;
 use crate::memory::Memory;
@@ -146,9 +146,9 @@ impl MemDisk {
 }
 
 impl Disk for MemDisk {
-    ghost use Rattle.dav_core.specs.Disk.{Metas, FileMetas, Opens, Seeks, Reads};
+    ghost use Rattle.dav_core.specs.Disk.{Metas, FileMetas, Opens, Seeks, Reads, Closes, Turns};
     ghost use Rattle.dav_core.specs.Options.{reading};
-    ghost use Rattle.dav_disk.specs.Failing.{mem_state, mem_world, Follows, lens_left};
+    ghost use Rattle.dav_disk.specs.Failing.{mem_state, mem_world, Follows, fails_at, lens_left};
     ghost use Rattle.dav_disk.specs.Files.{SaysNoMore};
     ghost use Rattle.dav_disk.specs.Worlds.{told_world};
 
@@ -215,6 +215,7 @@ impl Disk for MemDisk {
         ensures loan { ⟦<MemDisk as Disk>⟧.loan self.new ≡ ⟦<MemDisk as Disk>⟧.loan self.old }
         ensures schedule { Follows self.old result self.new }
         ensures lens { UsesLength (lens_left self.old) result (lens_left self.new) }
+        ensures most { GivesMost (first_of (lens_left self.old)) (mem_world self.old) file.0 into.new result }
     {
         if self.faults.next() {
             return Err(DiskError::Failed);
@@ -229,11 +230,22 @@ impl Disk for MemDisk {
         }
     }
 
-    fn close(&mut self, file: Handle) {
+    fn close(&mut self, file: Handle)
+        requires { IsSome ((mem_state self.old).live file.0) }
+        ensures done { Closes (mem_state self.old) file.0 (mem_state self.new) }
+        ensures loan { ⟦<MemDisk as Disk>⟧.loan self.new ≡ ⟦<MemDisk as Disk>⟧.loan self.old }
+        ensures fails { fails_at self.new ≡ fails_at self.old }
+        ensures lens { lens_left self.new ≡ lens_left self.old }
+    {
         self.memory.close(file);
     }
 
-    fn turn(&mut self) -> Result<(), NoMemory> {
+    fn turn(&mut self) -> Result<(), NoMemory>
+        ensures done { Turns (mem_state self.old) result (mem_state self.new) }
+        ensures loan { ⟦<MemDisk as Disk>⟧.loan self.new ≡ ⟦<MemDisk as Disk>⟧.loan self.old }
+        ensures fails { fails_at self.new ≡ fails_at self.old }
+        ensures lens { lens_left self.new ≡ lens_left self.old }
+    {
         self.memory.turn()
     }
 
