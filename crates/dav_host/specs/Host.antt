@@ -2,6 +2,8 @@
 use Rattle.std.specs.Prelude.{◌≡◌, ◌⊎◌, ℕ, List, [], ◌∷◌, ◌++◌, false, Option, None, Some}
 use Rattle.std.specs.Option.{option_map}
 use Rattle.std.specs.BTreeMap.{BTreeMap}
+use Rattle.std.specs.declared.io.ErrorKind.{ErrorKind}
+use Rattle.std.specs.declared.io.ErrorKind.TheVariants as kind
 use Rattle.dav_core.specs.declared.handle.DiskError.{DiskError}
 use Rattle.dav_core.specs.declared.handle.DiskError.TheVariants.{NotFound, NotDir}
 use Rattle.dav_core.specs.Path.{Names}
@@ -33,6 +35,12 @@ live_at opens h = option_map live_of (at_key opens h)
 -- A disk that tells nothing keeps its counts and its live handles.
 abbrev pub untold : ℕ → ℕ → (ℕ → Option Live) → DiskState
 untold faults asked live = record { told = None; faults = faults; asked = asked; whole = false; live = live; listers = λ _. None }
+
+-- what the machine's error is where a path is looked at or opened: one of two refusals of the walk, and else a fault
+abbrev pub refusal_of : ErrorKind → Option DiskError
+refusal_of kind.NotFound = Some NotFound
+refusal_of kind.NotADirectory = Some NotDir
+refusal_of _ = None
 
 -- the refusals of a walk
 abbrev pub IsWalkRefusal : DiskError → Type 0

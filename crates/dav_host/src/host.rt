@@ -1,6 +1,7 @@
-ghost use Rattle.std.specs.Prelude.{◌≡◌, ◌≢◌, ◌≤◌, None, Some, IfOk, IfSome, IfErr, string_capacity};
+ghost use Rattle.std.specs.Prelude.{◌≡◌, ◌≢◌, ◌≤◌, None, Some, IfOk, IfSome, IfErr, string_bytes, string_capacity};
 ghost use Rattle.dav_io.specs.Counts.{Rose, one_more};
-ghost use Rattle.dav_host.specs.Host.{room, live_at, untold, IsWalkRefusal, never_told};
+ghost use Rattle.dav_host.specs.Host.{room, live_at, untold, IsWalkRefusal, never_told, refusal_of};
+ghost use Rattle.std.specs.IoError.{error_kind};
 
 use crate::meta::meta_of;
 use crate::opens::{HostFile, can_read, free_handle, read_at, seek_at};
@@ -31,7 +32,8 @@ pub struct HostDisk<R: Files + Drop> {
 
 // The refusal of a look or an opening for the machine's error, or None where it is a fault.
 fn refusal(error: &io::Error) -> Option<DiskError>
-    ensures { IfSome result IsWalkRefusal }
+    ensures value { result ≡ refusal_of (error_kind error.now) }
+    ensures walk { IfSome result IsWalkRefusal }
 {
     match error.kind() {
         ErrorKind::NotFound => Some(DiskError::NotFound),
@@ -70,7 +72,8 @@ fn same_kind(kind: Kind, found: Option<Meta>) -> Option<Meta>
 impl<R: Files + Drop> HostDisk<R> {
     /// The folder `root`, with room for the text of a path.
     pub fn new(alloc: Global, rt: R, root: &str) -> Result<HostDisk<R>, NoMemory>
-        ensures { IfOk result (λ d. ⟦<HostDisk<R> as Disk>⟧.state d ≡ untold 0 0 (λ _. None)) }
+        ensures state { IfOk result (λ d. ⟦<HostDisk<R> as Disk>⟧.state d ≡ untold 0 0 (λ _. None)) }
+        ensures root { IfOk result (λ d. string_bytes d.root ≡ root.now) }
     {
         Ok(HostDisk {
             rt,
