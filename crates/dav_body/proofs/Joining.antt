@@ -6,7 +6,7 @@ use Rattle.dav_body.specs.Steps.{Left, IsNext}
 use Rattle.std.specs.Result.{IsErrAnd}
 use Rattle.dav_body.specs.declared.fault.BodyFault.{BodyFault}
 use Rattle.dav_body.specs.declared.fault.BodyFault.TheVariants.{Broken, NoMemory}
-use Rattle.dav_body.specs.Collecting.{joined, Gave, Collects, IsAllOf}
+use Rattle.dav_body.specs.Collecting.{joined, Gave, Collects}
 
 module _ {B X E : Type 0} (gives : B → X → Option (Result (List ℕ) E) → B → X → Type 0) where
   -- the same from an equal place
@@ -56,12 +56,3 @@ module _ {E : Type 0} (ends : E → Bool) where
       → IsStill told text now → IsNext ends now (Some (Ok piece)) after → IsStill told (text ++ piece) after
   still_more None text piece now after still next = tt
   still_more (Some left) text piece now after (rest, is, so_far) next = moves_on left text piece rest after (rw is at next) so_far
-
-  at_end : (left : Left (List ℕ) E) (text : List ℕ) (rest : List (List ℕ)) (after : Option (Left (List ℕ) E))
-      → IsNext ends (Some (record { items = rest; fault = left.fault })) None after → text ++ joined rest ≡ joined left.items → (left.fault ≡ None) × (text ≡ joined left.items)
-  at_end left text rest after (empty, none) so_far = (none, sym (append-nil text) ∙ ap (λ (r : List (List ℕ)). text ++ joined r) (sym empty) ∙ so_far)
-
-  pub all_at_end : (F : Type 0) (told : Option (Left (List ℕ) E)) (text : List ℕ) (now after : Option (Left (List ℕ) E))
-      → IsStill told text now → IsNext ends now None after → IsAllOf {F = F} told (Ok text)
-  all_at_end F None text now after still next = tt
-  all_at_end F (Some left) text now after (rest, is, so_far) next = at_end left text rest after (rw is at next) so_far

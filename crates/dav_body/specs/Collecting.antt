@@ -1,5 +1,5 @@
 -- What a run of polls gives, joined.
-use Rattle.std.specs.Prelude.{◌≡◌, ◌⊎◌, ℕ, List, [], ◌∷◌, Option, None, Some, Result, Ok, Err, flat_map}
+use Rattle.std.specs.Prelude.{◌≡◌, ◌⊎◌, ℕ, List, [], ◌∷◌, Bool, true, Option, None, Some, Result, Ok, Err, flat_map}
 use Rattle.dav_body.specs.declared.fault.BodyFault.{BodyFault}
 use Rattle.dav_body.specs.declared.fault.BodyFault.TheVariants.{Broken, NoMemory}
 use Rattle.dav_body.specs.Steps.{Left}
@@ -28,7 +28,10 @@ module _ {B X : Type 0} (gives : B → X → Option (Result (List ℕ) BodyFault
   Collects b x (Err Broken) c y = (pieces : List (List ℕ)) × GaveThen gives b x pieces (Some (Err Broken)) c y
   Collects b x (Err NoMemory) c y = (pieces : List (List ℕ)) × (Gave gives b x pieces c y ⊎ GaveThen gives b x pieces (Some (Err NoMemory)) c y)
 
--- all that was told beforehand, joined, where there is no error in its end's place
-abbrev pub IsAllOf : {E F : Type 0} → Option (Left (List ℕ) E) → Result (List ℕ) F → Type 0
-IsAllOf (Some left) (Ok octets) = (left.fault ≡ None) × (octets ≡ joined left.items)
-IsAllOf told result = Unit {0}
+-- By what was told beforehand: all of it, joined, where there is no error in its end's place; a break that is the end only where
+-- it stands in the end's place. Want of memory may be that of joining.
+abbrev pub IsAllOf : (BodyFault → Bool) → Option (Left (List ℕ) BodyFault) → Result (List ℕ) BodyFault → Type 0
+IsAllOf ends None result = Unit {0}
+IsAllOf ends (Some left) (Ok octets) = (left.fault ≡ None) × (octets ≡ joined left.items)
+IsAllOf ends (Some left) (Err Broken) = ends Broken ≡ true → left.fault ≡ Some Broken
+IsAllOf ends (Some left) (Err NoMemory) = Unit {0}

@@ -15,7 +15,7 @@ where
     S: Steps<X, Item = Bytes, Error = BodyFault>,
     requires { MayPoll S.may_resume body.old.inner with.old }
     ensures joins { Collects (BodyGives S.gives S.ends_at) body.old.inner with.old result body.new.inner with.new }
-    ensures tells { IsAllOf (body_tells S.tells body.old.inner with.old) result }
+    ensures tells { IsAllOf S.ends_at (body_tells S.tells body.old.inner with.old) result }
     ensures may { MayPoll S.may_resume body.new.inner with.new }
 {
     let mut joined = Octets::empty(alloc);

@@ -7,8 +7,8 @@ use dav_io::Failed;
 use dav_store::BodyReader;
 use futures::executor::block_on;
 use futures::future::poll_fn;
-use futures::task::Poll;
-use http_body::Body as _;
+use futures::task::{Context, Poll};
+use http_body::{Body as _, Frame};
 use std::alloc::Global;
 use std::test::Fail;
 
@@ -146,6 +146,25 @@ impl BodyReader for OneLetter {
     }
 }
 
+/// Gives a letter, fails, and would give letters again. It tells nothing.
+#[derive(Drop)]
+struct Failing {
+    calls: u64,
+    ended: bool,
+}
+
+impl BodyReader for Failing {
+    ghost state = { λ r. record { left = None; ended = r.ended; faults = r.calls } };
+
+    fn next_piece(&mut self) -> Result<Option<Bytes>, Failed> {
+        self.calls = self.calls.saturating_add(1);
+        if self.calls == 2 {
+            return Err(Failed);
+        }
+        Ok(Some(Bytes::from_static(b"x")))
+    }
+}
+
 fn one_letter() -> OneLetter {
     OneLetter {
         left: true,
@@ -232,14 +251,23 @@ fn bytes_are_given_once_also_where_there_are_none(rt: HostRuntime) -> Result<(),
 }
 
 #[test]
-fn all_pieces_are_joined(rt: HostRuntime) {
+fn all_pieces_are_joined(rt: HostRuntime) -> Result<(), Fail> {
     let alloc = rt.alloc();
     assert!(rt; collected(alloc, counting_down(3, false), b"210"));
     assert!(rt; collected(alloc, Body::from_bytes(Bytes::from_static(b"abc")), b"abc"));
+    assert!(rt; collected(alloc, Body::from_str(alloc, "de")?, b"de"));
+    assert!(rt;
+        collected(
+            alloc,
+            Body::from_string(String::from_str(alloc, "f")?)?,
+            b"f"
+        )
+    );
     assert!(rt; collected(alloc, Body::empty(), b""));
     let mut count = 0;
     let broken = collect(alloc, &mut counting_down(1, true), &mut count);
     assert!(rt; matches!(&broken, Err(BodyFault::Broken)));
+    Ok(())
 }
 
 #[test]
@@ -266,36 +294,111 @@ fn a_body_gives_its_steps_back(rt: HostRuntime) {
     assert!(rt; count == 1);
 }
 
+fn what_frame_came(answer: Poll<Option<Result<Frame<Bytes>, BodyFault>>>) -> Seen {
+    match answer {
+        Poll::Ready(Some(Ok(frame))) => match frame.into_data() {
+            Ok(piece) => what_came(Poll::Ready(Some(Ok(piece)))),
+            Err(_) => Seen::Pending,
+        },
+        Poll::Ready(Some(Err(fault))) => what_came(Poll::Ready(Some(Err(fault)))),
+        Poll::Ready(None) => Seen::End,
+        Poll::Pending => Seen::Pending,
+    }
+}
+
+/// What five polls of an attached body give.
+fn frames(attached: &mut Attached<'_, Digits, u32>, cx: &mut Context<'_>) -> [Seen; 5] {
+    let mut all = [Seen::Pending; 5];
+    for one in all.iter_mut() {
+        *one = what_frame_came(attached.poll_frame(cx));
+    }
+    all
+}
+
 #[test]
-fn a_piece_is_one_frame(rt: HostRuntime) -> Result<(), Fail> {
-    let mut body = counting_down(2, false);
-    let mut count = 0;
-    let mut attached = Attached::new(rt.alloc(), &mut body, &mut count);
-    let got = block_on(&rt, poll_fn(move |cx| attached.poll_frame(cx)))?;
-    let Some(Ok(frame)) = got else {
-        panic!(rt; "no frame");
-    };
-    assert!(rt;
-        frame
-            .data_ref()
-            .is_some_and(|data| is_text(data.as_slice(), b"1"))
-    );
+fn each_form_of_body_gives_frames(rt: HostRuntime) -> Result<(), Fail> {
+    let alloc = rt.alloc();
+    let bodies = [
+        (Body::empty(), after_one(Seen::End)),
+        (
+            Body::from_bytes(Bytes::from_static(b"")),
+            after_one(Seen::Piece(0, 0)),
+        ),
+        (
+            Body::from_str(alloc, "ab")?,
+            after_one(Seen::Piece(2, b'a')),
+        ),
+        (
+            counting_down(1, true),
+            [
+                Seen::Piece(1, b'0'),
+                Seen::Broken,
+                Seen::End,
+                Seen::End,
+                Seen::End,
+            ],
+        ),
+    ];
+    for (body, wanted) in bodies {
+        let mut body = body;
+        let mut count = 0;
+        let mut attached = Attached::new(alloc, &mut body, &mut count);
+        let got = block_on(
+            &rt,
+            poll_fn(move |cx| Poll::Ready(frames(&mut attached, cx))),
+        )?;
+        assert!(rt; got == wanted);
+    }
     Ok(())
+}
+
+/// What was read: a letter, the end, or a fault.
+#[derive(Clone, Copy, PartialEq, Eq, Debug)]
+enum Read {
+    Letter,
+    End,
+    Fault,
+    Other,
+}
+
+fn what_was_read(answer: Poll<Option<Result<Frame<Bytes>, Failed>>>) -> Read {
+    match answer {
+        Poll::Ready(Some(Ok(frame))) => match frame.into_data() {
+            Ok(piece) if is_text(piece.as_slice(), b"x") => Read::Letter,
+            _ => Read::Other,
+        },
+        Poll::Ready(Some(Err(Failed))) => Read::Fault,
+        Poll::Ready(None) => Read::End,
+        Poll::Pending => Read::Other,
+    }
+}
+
+/// What four polls of a reader give.
+fn reads<B: BodyReader + Drop>(body: &mut StreamBody<B>, cx: &mut Context<'_>) -> [Read; 4] {
+    let mut all = [Read::Other; 4];
+    for one in all.iter_mut() {
+        *one = what_was_read(body.poll_frame(cx));
+    }
+    all
 }
 
 #[test]
 fn a_reader_is_a_body(rt: HostRuntime) -> Result<(), Fail> {
     let mut body = StreamBody::new(one_letter());
-    let got = block_on(&rt, poll_fn(move |cx| body.poll_frame(cx)))?;
-    let Some(Ok(frame)) = got else {
-        panic!(rt; "no frame");
-    };
-    assert!(rt;
-        frame
-            .data_ref()
-            .is_some_and(|data| is_text(data.as_slice(), b"x"))
-    );
+    let got = block_on(&rt, poll_fn(move |cx| Poll::Ready(reads(&mut body, cx))))?;
+    assert!(rt; got == [Read::Letter, Read::End, Read::End, Read::End]);
     let body = StreamBody::new(one_letter());
     assert!(rt; body.into_inner().left);
+    Ok(())
+}
+
+#[test]
+fn a_reader_that_failed_is_not_read_again(rt: HostRuntime) -> Result<(), Fail> {
+    let mut body = StreamBody::new(Failing {
+        calls: 0,
+        ended: false,
+    });
+    let got = block_on(&rt, poll_fn(move |cx| Poll::Ready(reads(&mut body, cx))))?;
+    assert!(rt; got == [Read::Letter, Read::Fault, Read::End, Read::End]);
     Ok(())
 }
