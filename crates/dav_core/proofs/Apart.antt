@@ -1,6 +1,5 @@
 -- Rows, one after the other, are apart from those behind them.
 use Rattle.std.proofs.Common.{◌≡◌, ◌<◌, ◌+◌, ◌&&◌, ℕ, Bool, true, false, List, length, drop, get_or, sym, ap, ◌∙◌, add-one, drop-cons}
-use Rattle.std.proofs.Math.Seq.{drop-length}
 use Rattle.dav_core.specs.declared.tree.Row.{Row}
 use Rattle.dav_core.specs.Tree.{is_free, is_apart}
 
@@ -17,6 +16,3 @@ apart_not all a b e f = e ∙ ap (λ x. x && b) f
 
 pub apart_goes : (all : Bool) (a b : Bool) → all ≡ (a && b) → a ≡ true → all ≡ b
 apart_goes all a b e f = e ∙ ap (λ x. x && b) f
-
-pub apart_end : (rows : List Row) → is_apart (drop (length rows) rows) ≡ true
-apart_end rows = ap is_apart (drop-length rows)

@@ -21,10 +21,6 @@ tick t = cond (nat_lt (t.nanos + 1000) 1000000000)
     (Some (record { secs = t.secs; nanos = t.nanos + 1000 }))
     (cond (int_lt t.secs (pos 9223372036854775807)) (Some (record { secs = t.secs +ℤ pos 1; nanos = (t.nanos + 1000) - 1000000000 })) None)
 
--- the world after a tick that was used at this time
-abbrev pub at_time : FileTime → World → World
-at_time t w = record w { latest = t }
-
 -- the row of a path with another time
 abbrev pub timed_row : Names → FileTime → Row → Row
 timed_row path t row = cond (same_names path row.path) (record row { time = t }) row

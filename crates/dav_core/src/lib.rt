@@ -46,7 +46,7 @@ pub use method::{DavMethod, DavMethodSet, dav_method};
 pub use parse_error::ParseError;
 pub use path::FsPath;
 pub use time::FileTime;
-pub use tree::{Kind, Row, Tree};
+pub use tree::{Kind, Row, Tree, has_dir, row_at};
 
 #[cfg(test)]
 mod tag_tests;

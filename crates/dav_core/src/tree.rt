@@ -37,15 +37,15 @@ impl Row {
     }
 }
 
-// The row at a path.
+/// The row at a path.
 pub fn row_at<'a>(rows: &'a [Row], path: &[Text]) -> Option<&'a Row>
     ensures { option_map (λ r. r.now) result ≡ the_row_at rows.now path.now }
 {
     rows.iter().find(|row| path == row.path.as_slice())
 }
 
-// Whether a directory stands at a path.
-fn has_dir(rows: &[Row], path: &[Text]) -> bool
+/// Whether a directory stands at a path.
+pub fn has_dir(rows: &[Row], path: &[Text]) -> bool
     ensures { result ≡ the_has_dir rows.now path.now }
 {
     match row_at(rows, path) {

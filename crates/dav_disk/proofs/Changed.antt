@@ -36,10 +36,6 @@ pub cond_good : (b : Bool) (x y : World) → (b ≡ true → Good x) → (b ≡ 
 cond_good true x y h g = h refl
 cond_good false x y h g = g refl
 
-cond_good_if : (b : Bool) (x : Option World) → GoodIf x → GoodIf (cond b x None)
-cond_good_if true x h = h
-cond_good_if false x h = tt
-
 -- where a directory stands, no file does
 pub dirs_only : (rows : List Row) (path : Names) (r : Row) → is_apart rows ≡ true → has_dir rows path ≡ true → In r rows → path ≡ r.path → is_dir r.kind ≡ true
 dirs_only rows path r apart dir i e = sym (ap is_dir_row (ap (row_at rows) e ∙ in_find rows r apart i)) ∙ dir

@@ -6,10 +6,10 @@ ghost use Rattle.dav_disk.specs.Files.{stored_at};
 ghost use Rattle.dav_disk.specs.Moves.{may_move, placed_at, touched_above};
 
 use crate::paths::{is_front, move_rows, parent_of, set_time, take_away, tick, yields};
-use crate::rows::{has_dir, is_free};
+use crate::rows::is_free;
 use crate::tables::{StoredFile, bytes_at, put_file};
 use crate::tree::look;
-use dav_core::{Change, FileTime, FsPath, Kind, Row};
+use dav_core::{Change, FileTime, FsPath, Kind, Row, has_dir};
 use dav_io::{NoMemory, Text};
 use std::alloc::Global;
 use std::collections::BTreeMap;

@@ -1,12 +1,11 @@
 // Rows that are set in a tree, and their times.
 ghost use Rattle.std.specs.Prelude.{◌≡◌, ◌==◌, ◌<◌, [], ◌∷◌, ◌++◌, true, vec_len, vec_capacity};
 ghost use Rattle.std.specs.List.{list_any};
-ghost use Rattle.dav_core.specs.Tree.{has_dir as the_has_dir};
 ghost use Rattle.dav_core.specs.Changes.{is_free_in};
 ghost use Rattle.dav_disk.specs.Rows.{later_of as the_later, second_past as the_second_past, can_be_set as is_settable};
 
 use crate::tree::row_at;
-use dav_core::{FileTime, Kind, Row};
+use dav_core::{FileTime, Row, has_dir};
 use dav_io::Text;
 
 // The later of two times.
@@ -37,16 +36,6 @@ pub fn second_past(time: FileTime) -> FileTime
     FileTime {
         secs: time.secs + 1,
         nanos: time.nanos,
-    }
-}
-
-// Whether a directory stands at a path.
-pub fn has_dir(rows: &[Row], path: &[Text]) -> bool
-    ensures { result ≡ the_has_dir rows.now path.now }
-{
-    match row_at(rows, path) {
-        Some(row) => row.kind == Kind::Dir,
-        None => false,
     }
 }
 

@@ -6,19 +6,12 @@ ghost use Rattle.dav_core.specs.Tree.{row_at as the_row_at, look as found};
 use dav_core::{DiskError, Kind, Row};
 use dav_io::Text;
 
-// The first row of a path.
-fn first_at<'a>(rows: &'a [Row], path: &[Text]) -> Option<&'a Row>
-    ensures { option_map (λ r. r.now) result ≡ the_row_at rows.now path.now }
-{
-    rows.iter().find(|row| path == row.path.as_slice())
-}
-
 // The row at a path.
 pub fn row_at<'a>(rows: &'a [Row], path: &[Text]) -> Option<&'a Row>
     ensures found { option_map (λ r. r.now) result ≡ the_row_at rows.now path.now }
     ensures path { IfSome result (λ r. r.now.path ≡ path.now) }
 {
-    first_at(rows, path)
+    dav_core::row_at(rows, path)
 }
 
 // The row at a path, or what a call on it is refused with.
