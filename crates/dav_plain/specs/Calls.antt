@@ -8,7 +8,7 @@ use Rattle.dav_core.specs.declared.handle.Handle.{Handle}
 use Rattle.dav_core.specs.declared.handle.Meta.{Meta}
 use Rattle.dav_core.specs.declared.handle.OpenOptions.{OpenOptions}
 use Rattle.dav_core.specs.DavPath.{WebPath}
-use Rattle.dav_core.specs.Disk.{DiskState, Live, Metas, Opens}
+use Rattle.dav_core.specs.Disk.{DiskState, Live, FileMetas, Metas, Opens, Reads, Seeks}
 use Rattle.dav_core.specs.Errors.{fs_error_of}
 use Rattle.dav_core.specs.Info.{Info, info_of}
 use Rattle.dav_core.specs.Keeps.{SameOpen}
@@ -17,6 +17,7 @@ use Rattle.dav_core.specs.World.{World, OpenFile}
 use Rattle.dav_store.specs.Files.{LeavesOpen, SameSeen}
 use Rattle.dav_store.specs.Standing.{Seen}
 use Rattle.dav_plain.specs.declared.file.PlainFile.{PlainFile}
+use Rattle.dav_plain.specs.declared.meta.PlainMeta.{PlainMeta}
 use Rattle.dav_plain.specs.Standing.{under_slash, seen_at, seen_with}
 
 -- refused, with nothing asked
@@ -40,6 +41,29 @@ pub record IsOpening (s : DiskState) (path : WebPath) (how : OpenOptions) (resul
   pub slash : path.slash ≡ true → Refuses Forbidden s result t
   pub unbuilt : path.slash ≡ false → how ≢ reading → Refuses NotImplemented s result t
   pub asked : path.slash ≡ false → how ≡ reading → (answer : Result Handle DiskError) × Opens s path.names reading answer t × (result ≡ filed answer)
+
+-- The metadata of an open file is what the disk says of its handle.
+abbrev pub said_by : Result Meta DiskError → Result PlainMeta FsError
+said_by (Ok m) = Ok (record { 0 = m })
+said_by (Err e) = Err (fs_error_of e)
+
+abbrev pub AsksMeta : DiskState → ℕ → Result PlainMeta FsError → DiskState → Type 0
+AsksMeta s h result t = (answer : Result Meta DiskError) × FileMetas s h answer t × (result ≡ said_by answer)
+
+-- A seek and a read are those of the disk, each one call.
+abbrev pub sought : ℕ → Result Unit DiskError → Result ℕ FsError
+sought place (Ok x) = Ok place
+sought place (Err e) = Err (fs_error_of e)
+
+abbrev pub AsksSeek : DiskState → ℕ → ℕ → Result ℕ FsError → DiskState → Type 0
+AsksSeek s h place result t = (answer : Result Unit DiskError) × Seeks s h place answer t × (result ≡ sought place answer)
+
+abbrev pub counted : Result ℕ DiskError → Result ℕ FsError
+counted (Ok n) = Ok n
+counted (Err e) = Err (fs_error_of e)
+
+abbrev pub AsksRead : DiskState → ℕ → List ℕ → Result ℕ FsError → DiskState → Type 0
+AsksRead s h buffer result t = (answer : Result ℕ DiskError) × Reads s h buffer answer t × (result ≡ counted answer)
 
 -- Nothing is written, and that alone is not refused.
 abbrev pub Writes : {F : Type 0} → F → DiskState → List ℕ → Result Unit FsError → F → DiskState → Type 0

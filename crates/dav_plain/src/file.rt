@@ -1,6 +1,8 @@
-ghost use Rattle.std.specs.Prelude.{◌≡◌, ◌⊎◌, ◌<◌, ℕ, Err, IsSome, OnErr, false, length};
+ghost use Rattle.std.specs.Prelude.{◌≡◌, ◌⊎◌, ◌<◌, ℕ, Err, IsSome, None, Ok, OnErr, false, length};
 ghost use Rattle.dav_core.specs.Disk.{can_read};
-ghost use Rattle.dav_store.specs.Files.{FileReads, FileSeeks, IsFault};
+ghost use Rattle.dav_core.specs.Info.{info_of};
+ghost use Rattle.dav_store.specs.Files.{FileReads, FileRedirects, FileSays, FileSeeks, IsFault};
+ghost use Rattle.dav_store.specs.Standing.{info_in};
 
 use crate::PlainMeta;
 use bytes::Buf;
@@ -25,7 +27,7 @@ impl PlainFile {
 }
 
 impl<D: Disk> DavFile<D> for PlainFile {
-    ghost use Rattle.dav_plain.specs.Calls.{Writes, seen_by, plain_stays};
+    ghost use Rattle.dav_plain.specs.Calls.{AsksMeta, AsksRead, AsksSeek, Writes, seen_by, plain_stays};
 
     type Meta = PlainMeta;
 
@@ -35,20 +37,28 @@ impl<D: Disk> DavFile<D> for PlainFile {
 
     ghost writes = { λ f s from result g t. Writes f s from result g t };
 
-    fn metadata(&mut self, disk: &mut D) -> Result<PlainMeta, FsError> {
+    /// Its metadata as it is now, by one call of the disk.
+    fn metadata(&mut self, disk: &mut D) -> Result<PlainMeta, FsError>
+        requires { IsSome ((D.state disk.old).live self.old.handle.0) }
+        ensures done { FileSays (D.state disk.old) self.old.handle.0 (seen_by self.old (D.state disk.old)) (info_in (λ m. info_of m.0) result) (D.state disk.new) (seen_by self.new (D.state disk.new)) }
+        ensures handle { self.new.handle.0 ≡ self.old.handle.0 }
+        ensures loan { D.loan disk.new ≡ D.loan disk.old }
+        ensures asks { AsksMeta (D.state disk.old) self.old.handle.0 result (D.state disk.new) }
+    {
         match disk.file_meta(self.handle) {
             Ok(meta) => Ok(PlainMeta(meta)),
             Err(e) => Err(e.into()),
         }
     }
 
-    /// Sets its place. It is refused only by a fault, whatever it is.
+    /// Sets its place, by one call of the disk. It is refused only by a fault, whatever it is.
     fn seek(&mut self, disk: &mut D, place: u64) -> Result<u64, FsError>
         requires { IsSome ((D.state disk.old).live self.old.handle.0) }
         ensures done { FileSeeks (D.state disk.old) self.old.handle.0 (seen_by self.old (D.state disk.old)) place result (D.state disk.new) (seen_by self.new (D.state disk.new)) }
         ensures handle { self.new.handle.0 ≡ self.old.handle.0 }
         ensures loan { D.loan disk.new ≡ D.loan disk.old }
         ensures only { OnErr result (IsFault (D.state disk.old) result (D.state disk.new)) }
+        ensures asks { AsksSeek (D.state disk.old) self.old.handle.0 place result (D.state disk.new) }
     {
         match disk.seek(self.handle, place) {
             Ok(()) => Ok(place),
@@ -56,7 +66,7 @@ impl<D: Disk> DavFile<D> for PlainFile {
         }
     }
 
-    /// Reads bytes from its place on. What is no regular file opened for reading may be forbidden.
+    /// Reads bytes from its place on, by one call of the disk. What is no regular file opened for reading may be forbidden.
     fn read_into(&mut self, disk: &mut D, into: &mut [u8]) -> Result<usize, FsError>
         requires live { IsSome ((D.state disk.old).live self.old.handle.0) }
         requires room { 0 < length into.old }
@@ -64,6 +74,7 @@ impl<D: Disk> DavFile<D> for PlainFile {
         ensures handle { self.new.handle.0 ≡ self.old.handle.0 }
         ensures loan { D.loan disk.new ≡ D.loan disk.old }
         ensures only { OnErr result (IsFault (D.state disk.old) result (D.state disk.new) ⊎ ((result ≡ Err FsError.Forbidden) × (can_read ((D.state disk.old).live self.old.handle.0) ≡ false))) }
+        ensures asks { AsksRead (D.state disk.old) self.old.handle.0 into.new result (D.state disk.new) }
     {
         match disk.read(self.handle, into) {
             Ok(count) => Ok(count),
@@ -89,7 +100,15 @@ impl<D: Disk> DavFile<D> for PlainFile {
         Ok(())
     }
 
-    fn redirect_url(&mut self, _alloc: Global, _disk: &mut D) -> Result<Option<Text>, FsError> {
+    /// None: it sends nobody elsewhere. It asks the disk nothing.
+    fn redirect_url(&mut self, _alloc: Global, _disk: &mut D) -> Result<Option<Text>, FsError>
+        requires { IsSome ((D.state _disk.old).live self.old.handle.0) }
+        ensures done { FileRedirects (D.state _disk.old) (seen_by self.old (D.state _disk.old)) result (D.state _disk.new) (seen_by self.new (D.state _disk.new)) }
+        ensures handle { self.new.handle.0 ≡ self.old.handle.0 }
+        ensures loan { D.loan _disk.new ≡ D.loan _disk.old }
+        ensures none { result ≡ Ok None }
+        ensures asks { D.state _disk.new ≡ D.state _disk.old }
+    {
         Ok(None)
     }
 

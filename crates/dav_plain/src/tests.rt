@@ -2,7 +2,7 @@ ghost use Rattle.std.specs.Prelude.{◌<◌};
 
 use crate::*;
 use bytes::Bytes;
-use dav_core::{DavMetaData, DavPath, FileTime, FsError, OpenOptions};
+use dav_core::{DavMetaData, DavPath, Disk, FileTime, FsError, OpenOptions};
 use dav_disk::MemDisk;
 use dav_io::{Moment, NoMemory, Text};
 use dav_store::{
@@ -80,6 +80,79 @@ fn files_are_read_through_the_store(rt: HostRuntime) {
     assert_eq!(rt; read_through(rt.alloc(), 4), Ok((4, 4, b'4', 10)));
     assert_eq!(rt; read_through(rt.alloc(), 8), Ok((8, 2, b'8', 10)));
     assert_eq!(rt; read_through(rt.alloc(), 10), Ok((10, 0, 0, 10)));
+}
+
+// The four times of a file.
+fn times(alloc: Global) -> Result<[Result<FileTime, FsError>; 4], FsError> {
+    let mut fs = store(alloc)?;
+    let meta = DavFileSystem::metadata(&mut fs, &path(alloc, "/d/f")?)?;
+    Ok([
+        meta.modified(),
+        meta.created(),
+        meta.accessed(),
+        meta.status_changed(),
+    ])
+}
+
+// Whether a file has this tag, whether that is the text of its tag, and whether its owner may run it.
+fn tagged(alloc: Global, tag: &str) -> Result<(bool, bool, bool), FsError> {
+    let mut fs = store(alloc)?;
+    let meta = DavFileSystem::metadata(&mut fs, &path(alloc, "/d/f")?)?;
+    let Ok(Some(text)) = meta.etag(alloc) else {
+        return Err(FsError::NoMemory);
+    };
+    Ok((
+        meta.has_tag(tag.as_bytes()),
+        text.as_str() == tag,
+        meta.executable()?,
+    ))
+}
+
+// Whether a directory lies in a calendar or in an address book, where it is found at a path.
+fn homes(alloc: Global, text: &str) -> Result<(bool, bool, bool, bool), FsError> {
+    let mut fs = store(alloc)?;
+    let meta = DavFileSystem::metadata(&mut fs, &path(alloc, "/d")?)?;
+    let at = path(alloc, text)?;
+    Ok((
+        meta.is_dir(),
+        meta.is_symlink(),
+        meta.is_calendar(&at),
+        meta.is_addressbook(&at),
+    ))
+}
+
+#[test]
+fn metadata_is_the_disks(rt: HostRuntime) {
+    let alloc = rt.alloc();
+    let unknown = Err(FsError::NotImplemented);
+    assert_eq!(rt; times(alloc), Ok([Ok(NOON), unknown, unknown, unknown]));
+    // number 9, 10 bytes, 43,200,000,000 microseconds
+    assert_eq!(rt; tagged(alloc, "9-a-a0eebb000"), Ok((true, true, false)));
+    assert_eq!(rt; tagged(alloc, "9-a-a0eebb001"), Ok((false, false, false)));
+    assert_eq!(rt;
+        homes(alloc, "/calendars/a"),
+        Ok((true, false, true, false))
+    );
+    assert_eq!(rt;
+        homes(alloc, "/addressbooks/a"),
+        Ok((true, false, false, true))
+    );
+    assert_eq!(rt; homes(alloc, "/calendars"), Ok((true, false, false, false)));
+}
+
+// The number that the disk says of the handle that a file holds.
+fn number_held(alloc: Global) -> Result<u64, FsError> {
+    let mut fs = store(alloc)?;
+    let file = DavFileSystem::open(&mut fs, &path(alloc, "/d/f")?, OpenOptions::read())?;
+    let disk = DavFileSystem::disk(&mut fs);
+    let meta = disk.file_meta(file.handle());
+    file.close(disk);
+    Ok(meta?.number)
+}
+
+#[test]
+fn a_file_holds_a_handle_of_the_disk(rt: HostRuntime) {
+    assert_eq!(rt; number_held(rt.alloc()), Ok(9));
 }
 
 // The length of what is read at once, whether it sends elsewhere, and whether writing nothing is Ok.
@@ -168,7 +241,7 @@ fn unbuilt(alloc: Global) -> Result<u32, FsError> {
     Ok(count)
 }
 
-// Whether a store is void, whether it folds, and how often its disk was asked.
+// Whether a store is void or folds, and whether a listing has no entry.
 fn kept(alloc: Global) -> Result<(bool, bool), FsError> {
     let mut fs = store(alloc)?;
     GuardedFileSystem::<()>::set_now(&mut fs, Moment(5));
