@@ -176,7 +176,8 @@ impl Element {
     }
 }
 
-fn copy_text(text: &Option<Text>) -> Result<Option<Text>, NoMemory>
+/// A copy of a text, where there is one.
+pub(crate) fn copy_text(text: &Option<Text>) -> Result<Option<Text>, NoMemory>
     ensures { IfOk result (λ copy. copy ≡ text.now) }
 {
     match text {
@@ -185,6 +186,7 @@ fn copy_text(text: &Option<Text>) -> Result<Option<Text>, NoMemory>
     }
 }
 
+/// A copy of pairs, where there are any.
 fn copy_pairs(pairs: &Option<Pairs>) -> Result<Option<Pairs>, NoMemory>
     ensures { IfOk result (λ copy. copy ≡ pairs.now) }
 {

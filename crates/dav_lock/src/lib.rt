@@ -7,8 +7,6 @@ mod lease;
 mod lock;
 mod locks;
 mod pairs;
-#[cfg(test)]
-mod tests;
 mod token;
 
 pub use element::{Element, Nodes, XmlNode};
@@ -17,3 +15,6 @@ pub use lease::{Lease, end_of, grant};
 pub use lock::{DavLock, LockError};
 pub use locks::Locks;
 pub use pairs::Pairs;
+
+#[cfg(test)]
+mod tests;

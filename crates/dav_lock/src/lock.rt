@@ -1,5 +1,6 @@
 ghost use Rattle.std.specs.Prelude.{◌≡◌, IfOk};
 
+use crate::element::copy_text;
 use crate::{Element, Lease};
 use dav_core::DavPath;
 use dav_io::{Moment, NoMemory, Text};
@@ -38,7 +39,7 @@ impl DavLock {
     {
         let token = self.token.try_clone()?;
         let path = self.path.try_clone()?;
-        let principal = copy_principal(&self.principal)?;
+        let principal = copy_text(&self.principal)?;
         let owner = copy_owner(&self.owner)?;
         Ok(DavLock {
             token,
@@ -50,15 +51,6 @@ impl DavLock {
             shared: self.shared,
             deep: self.deep,
         })
-    }
-}
-
-fn copy_principal(principal: &Option<Text>) -> Result<Option<Text>, NoMemory>
-    ensures { IfOk result (λ copy. copy ≡ principal.now) }
-{
-    match principal {
-        None => Ok(None),
-        Some(principal) => Ok(Some(principal.try_clone()?)),
     }
 }
 

@@ -32,7 +32,7 @@ fn copied_node(node: &XmlNode) -> bool {
     node.try_clone().is_ok()
 }
 
-/// How many nodes of each kind are copied, in an element with a namespace.
+/// How many nodes are copied, one of each kind, each alone and then all together.
 fn copied_kinds(alloc: Global) -> Result<usize, NoMemory> {
     let mut pairs = Pairs::new(BTreeMap::new(alloc));
     pairs.put(Text::copy(alloc, "D")?, Text::copy(alloc, "DAV:")?)?;
@@ -45,13 +45,13 @@ fn copied_kinds(alloc: Global) -> Result<usize, NoMemory> {
     nodes.push(XmlNode::CData(Text::copy(alloc, "d")?))?;
     nodes.push(XmlNode::ProcessingInstruction(Text::copy(alloc, "p")?, None))?;
     let nodes = Nodes::new(nodes);
-    let mut count = 0;
+    let mut count: usize = 0;
     for node in nodes.as_slice() {
         if copied_node(node) {
-            count = count.max(1);
+            count = count.saturating_add(1);
         }
     }
-    Ok(nodes.try_clone()?.into_vec().len().max(count))
+    Ok(nodes.try_clone()?.into_vec().len().min(count))
 }
 
 fn text_at(alloc: Global, name: &str) -> Result<bool, NoMemory> {
