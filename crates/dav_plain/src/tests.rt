@@ -2,7 +2,7 @@ ghost use Rattle.std.specs.Prelude.{◌<◌};
 
 use crate::*;
 use bytes::Bytes;
-use dav_core::{DavMetaData, DavPath, Disk, FileTime, FsError, OpenOptions};
+use dav_core::{DavMetaData, DavPath, FileTime, FsError, OpenOptions};
 use dav_disk::MemDisk;
 use dav_io::{Moment, NoMemory, Text};
 use dav_store::{
@@ -138,21 +138,6 @@ fn metadata_is_the_disks(rt: HostRuntime) {
         Ok((true, false, false, true))
     );
     assert_eq!(rt; homes(alloc, "/calendars"), Ok((true, false, false, false)));
-}
-
-// The number that the disk says of the handle that a file holds.
-fn number_held(alloc: Global) -> Result<u64, FsError> {
-    let mut fs = store(alloc)?;
-    let file = DavFileSystem::open(&mut fs, &path(alloc, "/d/f")?, OpenOptions::read())?;
-    let disk = DavFileSystem::disk(&mut fs);
-    let meta = disk.file_meta(file.handle());
-    file.close(disk);
-    Ok(meta?.number)
-}
-
-#[test]
-fn a_file_holds_a_handle_of_the_disk(rt: HostRuntime) {
-    assert_eq!(rt; number_held(rt.alloc()), Ok(9));
 }
 
 // The length of what is read at once, whether it sends elsewhere, and whether writing nothing is Ok.
