@@ -1,12 +1,11 @@
 -- With which status a run ends where no fault ends it.
-use Rattle.std.proofs.Common.{◌≡◌, ◌<◌, ◌≤◌, ◌+◌, ◌^◌, ◌++◌, ◌||◌, ◌⊎◌, ℕ, zero, suc, List, [], ◌∷◌, Bool, true, false, IsTrue, Option, Some, None, length, get_or, sym, ap, subst, ◌∙◌, refl, inl, inr, arith, append-nil, length-append, true≢false, Result, Ok, Err, IfOk}
+use Rattle.std.proofs.Common.{◌≡◌, ◌<◌, ◌+◌, ◌^◌, ◌++◌, ◌||◌, ◌⊎◌, ℕ, zero, suc, List, [], ◌∷◌, Bool, true, false, IsTrue, Option, Some, None, length, get_or, sym, ap, subst, ◌∙◌, refl, inl, inr, arith, append-nil, length-append, true≢false, Result, Ok, Err, IfOk}
 use Rattle.std.specs.List.{AllByRecursion}
 use Rattle.std.proofs.lemmas.Str.{IsUtf8-from_ascii}
 use Rattle.httparse.specs.Grammar.{is_token_byte, is_uri_byte, lf, RequestHead, IsRequestHead, print_request, ReadsRequest}
 use Rattle.dav_io.specs.Counts.{Rose, RefusedNothing}
 use Rattle.dav_io.specs.Told.{Both, told_after}
 use Rattle.dav_io.specs.Outside.{Stream}
-use Rattle.dav_io.specs.declared.clock.Moment.{Moment}
 use Rattle.dav_io.specs.declared.failure.NoMemory.{NoMemory}
 use Rattle.dav_model.specs.Trail.{Point}
 use Rattle.http.specs.Request.{head_of}
@@ -14,8 +13,8 @@ use Rattle.dav_wire.specs.Answers.{has_close_field}
 use Rattle.dav_wire.specs.Requests.{IsRequest, Requests, Refusal, never, long, many, target, HasNone}
 use Rattle.dav_wire.proofs.RequestLemmas.{request_is_one, refusal_has_none, unfinished_none, requests_are_one, end_has_none}
 use Rattle.davserve.specs.Exchange.{Exchange, is_closed}
-use Rattle.davserve.specs.Serving.{Chain, Alike, IsOpen, Follow, TookBytes, ServedAll, ServedClosing, ServedRefusing, ServedUnfinished, ServeEnds}
-use Rattle.davserve.specs.Completing.{Faultless, Closes, StayOpen, AsksClosing, IsLeft, IsValid, IsInvalid, IsStopped, StatusIs}
+use Rattle.davserve.specs.Serving.{Setup, Chain, Alike, IsOpen, ServedAll, ServedClosing, ServedRefusing, ServedUnfinished, ServeEnds}
+use Rattle.davserve.specs.Completing.{Faultless, Closes, AsksClosing, IsLeft, IsValid, IsInvalid, IsStopped, StatusIs}
 use Rattle.davserve.proofs.Served.{head_some}
 
 -- the shortest head of the grammar
@@ -77,19 +76,19 @@ compare a rest left (head ∷ heads) (other ∷ others) (after, is, later) (behi
     (found.0, ap (λ z. z ∷ others) (sym same.0) ∙ ap (λ z. head ∷ z) found.1, found.2)
 
 -- the exchanges of the first requests
-record Front (shown : Option Moment) (s : Point) (heads : List RequestHead) : Type 0 where
+record Front (setup : Setup) (s : Point) (heads : List RequestHead) : Type 0 where
   exchanges : List Exchange
   last : Point
-  played : Chain s exchanges last
-  alike : Alike shown heads exchanges
+  played : Chain setup.settings s exchanges last
+  alike : Alike setup heads exchanges
   are_open : AllByRecursion IsOpen exchanges
 
-front_of : (shown : Option Moment) (s t : Point) (heads more : List RequestHead) (xs : List Exchange) → Chain s xs t → Alike shown (heads ++ more) xs → AllByRecursion IsOpen xs
-    → Front shown s heads
-front_of shown s t [] more xs chain alike o = record { exchanges = []; last = s; played = refl; alike = tt; are_open = tt }
-front_of shown s t (head ∷ heads) more [] chain alike o = absurd alike
-front_of shown s t (head ∷ heads) more (x ∷ xs) (m, q, played, chain) (is, alike) (first, others) =
-    let f = front_of shown m t heads more xs chain alike others in
+front_of : (setup : Setup) (s t : Point) (heads more : List RequestHead) (xs : List Exchange) → Chain setup.settings s xs t → Alike setup (heads ++ more) xs → AllByRecursion IsOpen xs
+    → Front setup s heads
+front_of setup s t [] more xs chain alike o = record { exchanges = []; last = s; played = refl; alike = tt; are_open = tt }
+front_of setup s t (head ∷ heads) more [] chain alike o = absurd alike
+front_of setup s t (head ∷ heads) more (x ∷ xs) (m, q, played, chain) (is, alike) (first, others) =
+    let f = front_of setup m t heads more xs chain alike others in
     record { exchanges = x ∷ f.exchanges; last = f.last; played = (m, q, played, f.played); alike = (is, f.alike); are_open = (first, f.are_open) }
 
 nothing_more : (rest left : List ℕ) (more : List RequestHead) → rest ≡ [] → Requests rest more left → left ≡ []
@@ -97,14 +96,14 @@ nothing_more rest left [] e r = r ∙ e
 nothing_more rest left (head ∷ more) e (after, is, later) = absurd (end_has_none head after (subst (λ z. IsRequest z head after) e is))
 
 -- a valid input has no place where no request stands
-no_place : (shown : Option Moment) (s t : Point) (a rest left : List ℕ) (heads others : List RequestHead) (xs : List Exchange) → Requests a heads rest → (rest ≡ []) ⊎ Closes shown s heads
-    → Requests a others left → HasNone left → (left ≡ [] → ⊥) → Chain s xs t → Alike shown others xs → AllByRecursion IsOpen xs → ⊥
-no_place shown s t a rest left heads others xs first (inl over) second none some chain alike o =
+no_place : (setup : Setup) (s t : Point) (a rest left : List ℕ) (heads others : List RequestHead) (xs : List Exchange) → Requests a heads rest → (rest ≡ []) ⊎ Closes setup s heads
+    → Requests a others left → HasNone left → (left ≡ [] → ⊥) → Chain setup.settings s xs t → Alike setup others xs → AllByRecursion IsOpen xs → ⊥
+no_place setup s t a rest left heads others xs first (inl over) second none some chain alike o =
     let c = compare a rest left heads others first second none in
     some (nothing_more rest left c.0 over c.2)
-no_place shown s t a rest left heads others xs first (inr closes) second none some chain alike o =
+no_place setup s t a rest left heads others xs first (inr closes) second none some chain alike o =
     let c = compare a rest left heads others first second none in
-    let f = front_of shown s t heads c.0 xs chain (subst (λ z. Alike shown z xs) c.1 alike) o in
+    let f = front_of setup s t heads c.0 xs chain (subst (λ z. Alike setup z xs) c.1 alike) o in
     closes f.exchanges f.last f.played f.alike f.are_open
 
 both_and : {A : Type 0} (old new : Option A) (P Q : A → A → Type 0) → Both old new P → Both old new Q → Both old new (λ a b. P a b × Q a b)
@@ -123,32 +122,32 @@ closed_by true other t e = absurd (true≢false e)
 closed_by false other t e = absurd (true≢false (sym t))
 
 -- a request that asks for it closes
-asked_closes : (shown : Option Moment) (s : Point) (heads : List RequestHead) (last : RequestHead) → AsksClosing last → Closes shown s (heads ++ last ∷ [])
-asked_closes shown s [] last asks [] m chain alike o = absurd alike
-asked_closes shown s [] last asks (x ∷ xs) m chain (is, alike) o = closed_by x.closing (has_close_field x.fields) (is.closing.1 (asks (head_of x.request) is.parts)) o.0
-asked_closes shown s (head ∷ heads) last asks [] m chain alike o = absurd alike
-asked_closes shown s (head ∷ heads) last asks (x ∷ xs) m (n, q, played, chain) (is, alike) o = asked_closes shown n heads last asks xs m chain alike o.1
+asked_closes : (setup : Setup) (s : Point) (heads : List RequestHead) (last : RequestHead) → AsksClosing last → Closes setup s (heads ++ last ∷ [])
+asked_closes setup s [] last asks [] m chain alike o = absurd alike
+asked_closes setup s [] last asks (x ∷ xs) m chain (is, alike) o = closed_by x.closing (has_close_field x.fields) (is.closing.1 (asks (head_of x.request) is.parts)) o.0
+asked_closes setup s (head ∷ heads) last asks [] m chain alike o = absurd alike
+asked_closes setup s (head ∷ heads) last asks (x ∷ xs) m (n, q, played, chain) (is, alike) o = asked_closes setup n heads last asks xs m chain alike o.1
 
-left_valid : (shown : Option Moment) (s : Point) (a : List ℕ) → IsLeft a → IsValid shown s a
-left_valid shown s a left = record { heads = left.heads ++ left.last ∷ []; rest = left.rest; requests = left.requests; ends = inr (asked_closes shown s left.heads left.last left.asks) }
+left_valid : (setup : Setup) (s : Point) (a : List ℕ) → IsLeft a → IsValid setup s a
+left_valid setup s a left = record { heads = left.heads ++ left.last ∷ []; rest = left.rest; requests = left.requests; ends = inr (asked_closes setup s left.heads left.last left.asks) }
 
-module _ (shown : Option Moment) (input source : Stream) (s : Point) (old new : Stream) (t : Point) (a : List ℕ) (told : input.bytes ≡ Some a) where
-  valid_not_refused : IsValid shown s a → ServedRefusing shown input source s old new t → ⊥
+module _ (setup : Setup) (input source : Stream) (s : Point) (old new : Stream) (t : Point) (a : List ℕ) (told : input.bytes ≡ Some a) where
+  valid_not_refused : IsValid setup s a → ServedRefusing setup input source s old new t → ⊥
   valid_not_refused valid v =
       let both = told_after input.bytes source.bytes _ a (both_and input.bytes source.bytes _ _ v.serving.requests v.refused) told in
       let left = v.held ++ both.0 in
-      no_place shown s t a valid.rest left valid.heads v.serving.heads v.exchanges valid.requests valid.ends both.2.0
+      no_place setup s t a valid.rest left valid.heads v.serving.heads v.exchanges valid.requests valid.ends both.2.0
       (subst HasNone (append-nil left) (refusal_has_none left [] both.2.1)) (λ e. nothing_refused left e both.2.1) v.serving.played v.serving.alike v.serving.follow
 
-  valid_not_unfinished : IsValid shown s a → ServedUnfinished shown input source s old new t → ⊥
+  valid_not_unfinished : IsValid setup s a → ServedUnfinished setup input source s old new t → ⊥
   valid_not_unfinished valid v =
       let both = told_after input.bytes source.bytes _ a (both_and input.bytes source.bytes _ _ v.serving.requests v.over) told in
       let left = v.held ++ both.0 in
       let same : left ≡ v.held = ap (λ z. v.held ++ z) both.2.1 ∙ append-nil v.held in
-      no_place shown s t a valid.rest left valid.heads v.serving.heads v.exchanges valid.requests valid.ends both.2.0
+      no_place setup s t a valid.rest left valid.heads v.serving.heads v.exchanges valid.requests valid.ends both.2.0
       (subst HasNone (sym same) (unfinished_none v.held v.unfinished)) (some_left v.held both.0 v.unfinished.some) v.serving.played v.serving.alike v.serving.follow
 
-  invalid_not_all : IsInvalid shown s a → ServedAll shown input source s old new t → ⊥
+  invalid_not_all : IsInvalid setup s a → ServedAll setup input source s old new t → ⊥
   invalid_not_all invalid v =
       let both = told_after input.bytes source.bytes _ a (both_and input.bytes source.bytes _ _ v.serving.requests v.over) told in
       let ends : Requests a v.serving.heads [] = subst (λ z. Requests a v.serving.heads z) both.2.1 both.2.0 in
@@ -161,7 +160,7 @@ module _ (shown : Option Moment) (input source : Stream) (s : Point) (old new : 
   last_open [] y o = o.0
   last_open (x ∷ ys) y o = last_open ys y o.1
 
-  invalid_not_closing : IsInvalid shown s a → ServedClosing shown input source s old new t → ⊥
+  invalid_not_closing : IsInvalid setup s a → ServedClosing setup input source s old new t → ⊥
   invalid_not_closing invalid v =
       let both = told_after input.bytes source.bytes _ a v.serving.requests told in
       let c = compare a (v.held ++ both.0) invalid.rest v.serving.heads invalid.heads both.2 invalid.requests invalid.none in
@@ -173,8 +172,8 @@ well_not_rose : (n m : ℕ) → RefusedNothing n m → Rose n m → ⊥
 well_not_rose n m w (inl less) = let e = w.same in absurd (omega arith)
 well_not_rose n m w (inr most) = let e = w.room in absurd (omega arith)
 
-module _ (shown : Option Moment) (input source : Stream) (s : Point) (old new : Stream) (status : ℕ) (t : Point) (ends : ServeEnds shown input source s old new status t) where
-  valid_is : (a : List ℕ) → input.bytes ≡ Some a → IsValid shown s a
+module _ (setup : Setup) (input source : Stream) (s : Point) (old new : Stream) (status : ℕ) (t : Point) (ends : ServeEnds setup input source s old new status t) where
+  valid_is : (a : List ℕ) → input.bytes ≡ Some a → IsValid setup s a
       → (status ≡ 0) ⊎ ((status ≡ 3) ⊎ ((status ≡ 4) ⊎ ((status ≡ 5) ⊎ ((status ≡ 6) ⊎ (status ≡ 7))))) → (status ≡ 0) ⊎ IsStopped status
   valid_is a told valid (inl zero') = inl zero'
   valid_is a told valid (inr (inl three)) = inr (inl three)
@@ -182,11 +181,11 @@ module _ (shown : Option Moment) (input source : Stream) (s : Point) (old new : 
   valid_is a told valid (inr (inr (inr (inl five)))) = inr (inr (inr (inl five)))
   valid_is a told valid (inr (inr (inr (inr (inr seven))))) = inr (inr (inr (inr seven)))
   valid_is a told valid (inr (inr (inr (inr (inl six))))) = elim (ends.invalid six) [
-    | inl v ↦ absurd (valid_not_refused shown input source s old new t a told valid v)
-    | inr v ↦ absurd (valid_not_unfinished shown input source s old new t a told valid v)
+    | inl v ↦ absurd (valid_not_refused setup input source s old new t a told valid v)
+    | inr v ↦ absurd (valid_not_unfinished setup input source s old new t a told valid v)
   ]
 
-  invalid_is : (a : List ℕ) → input.bytes ≡ Some a → IsInvalid shown s a
+  invalid_is : (a : List ℕ) → input.bytes ≡ Some a → IsInvalid setup s a
       → (status ≡ 0) ⊎ ((status ≡ 3) ⊎ ((status ≡ 4) ⊎ ((status ≡ 5) ⊎ ((status ≡ 6) ⊎ (status ≡ 7))))) → (status ≡ 6) ⊎ IsStopped status
   invalid_is a told invalid (inr (inl three)) = inr (inl three)
   invalid_is a told invalid (inr (inr (inl four))) = inr (inr (inl four))
@@ -194,8 +193,8 @@ module _ (shown : Option Moment) (input source : Stream) (s : Point) (old new : 
   invalid_is a told invalid (inr (inr (inr (inr (inl six))))) = inl six
   invalid_is a told invalid (inr (inr (inr (inr (inr seven))))) = inr (inr (inr (inr seven)))
   invalid_is a told invalid (inl none) = elim (ends.done none) [
-    | inl v ↦ absurd (invalid_not_all shown input source s old new t a told invalid v)
-    | inr v ↦ absurd (invalid_not_closing shown input source s old new t a told invalid v)
+    | inl v ↦ absurd (invalid_not_all setup input source s old new t a told invalid v)
+    | inr v ↦ absurd (invalid_not_closing setup input source s old new t a told invalid v)
   ]
 
   goes_on : (a : List ℕ) → input.bytes ≡ Some a → length a < 2 ^ 60 → Faultless input source s old new t → IsStopped status → ⊥
@@ -207,10 +206,10 @@ module _ (shown : Option Moment) (input source : Stream) (s : Point) (old new : 
       let n = took.2 in
       absurd (omega arith)
 
-  pub status_is : StatusIs shown input source s old new status t
-  status_is = record { valid = λ a told v. valid_is a told v ends.only; left = λ a told v. valid_is a told (left_valid shown s a v) ends.only; invalid = λ a told v. invalid_is a told v ends.only; goes_on = goes_on }
+  pub status_is : StatusIs setup input source s old new status t
+  status_is = record { valid = λ a told v. valid_is a told v ends.only; left = λ a told v. valid_is a told (left_valid setup s a v) ends.only; invalid = λ a told v. invalid_is a told v ends.only; goes_on = goes_on }
 
-pub completes : (shown : Option Moment) (input source : Stream) (s : Point) (old new : Stream) (t : Point) (result : Result ℕ NoMemory)
-    → IfOk result (λ status. ServeEnds shown input source s old new status t) → IfOk result (λ status. StatusIs shown input source s old new status t)
-completes shown input source s old new t (Err e) ends = tt
-completes shown input source s old new t (Ok status) ends = status_is shown input source s old new status t ends
+pub completes : (setup : Setup) (input source : Stream) (s : Point) (old new : Stream) (t : Point) (result : Result ℕ NoMemory)
+    → IfOk result (λ status. ServeEnds setup input source s old new status t) → IfOk result (λ status. StatusIs setup input source s old new status t)
+completes setup input source s old new t (Err e) ends = tt
+completes setup input source s old new t (Ok status) ends = status_is setup input source s old new status t ends

@@ -22,8 +22,8 @@ use Rattle.dav_wire.specs.Writing.{Pushes, Sent, SentFront}
 use Rattle.dav_wire.proofs.Pushing.{none_sent, sent_more, sent_front, sent_push, sent_push_front}
 use Rattle.davserve.specs.declared.exchange.Ended.{Ended}
 use Rattle.davserve.specs.declared.exchange.Ended.TheVariants.{Open, Closed}
-use Rattle.davserve.specs.Exchange.{Exchange, is_closed, piece_steps, piece_answers, begun_steps, begun_answers, steps_of, answers_of, wire_of, with_pieces}
-use Rattle.davserve.specs.Ends.{IsAt, Begun, Whole, BrokenOff, Unheard, Underway, Reached, SinkStopped, MemoryStopped, RefusedAt, Exchanges, ended_by}
+use Rattle.davserve.specs.Exchange.{Exchange, piece_steps, piece_answers, begun_steps, begun_answers, wire_of, with_pieces}
+use Rattle.davserve.specs.Ends.{IsAt, Begun, Whole, BrokenOff, SinkStopped, MemoryStopped, RefusedAt, Exchanges, ended_by}
 
 -- a poll that gives a piece leaves less of the body
 pub poll_shrinks : (s : Point) (p : Playing) (body : ℕ) (a b : Answer) (t : Point) (q : Playing) (piece : List ℕ)

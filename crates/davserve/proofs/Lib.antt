@@ -1,3 +1,5 @@
+pub mod Sizes
+pub mod WordRows
 pub mod Exchanging
 pub mod Served
 pub mod Finding

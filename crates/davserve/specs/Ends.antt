@@ -10,10 +10,11 @@ use Rattle.dav_io.specs.declared.fields.Field.{Field}
 use Rattle.dav_wire.specs.Answers.{has_close_field}
 use Rattle.dav_wire.specs.Writing.{Sent, SentFront}
 use Rattle.dav_model.specs.declared.step.Step.{Step}
-use Rattle.dav_model.specs.declared.step.Step.TheVariants.{Request, Poll, Purge, Turn}
+use Rattle.dav_model.specs.declared.step.Step.TheVariants.{Poll, Turn}
 use Rattle.dav_model.specs.declared.answer.Answer.{Answer}
 use Rattle.dav_model.specs.declared.answer.Answer.TheVariants.{Broken, Done}
 use Rattle.dav_model.specs.Requests.{Asked}
+use Rattle.dav_model.specs.declared.settings.Settings.{Settings}
 use Rattle.dav_model.specs.Bodies.{Playing}
 use Rattle.dav_model.specs.Trail.{Point}
 use Rattle.dav_model.specs.Play.{Played}
@@ -111,8 +112,8 @@ Exchanges Is s p old new before SinkFailed held t q = SinkStopped Is s p old new
 Exchanges Is s p old new before BrokeOff held t q = BrokenOff Is s p old new before held t q
 
 -- One request was answered by a player of its own.
-abbrev pub Answers : Point → Parts → Moment → Stream → Stream → List ℕ → Ended → List ℕ → Point → Type 0
-Answers s parts now old new before ended held t = (q : Playing) × Exchanges (IsAnswerTo parts now) s fresh old new before ended held t q
+abbrev pub Answers : Settings → Point → Parts → Moment → Stream → Stream → List ℕ → Ended → List ℕ → Point → Type 0
+Answers settings s parts now old new before ended held t = (q : Playing) × Exchanges (IsAnswerTo parts now) s (fresh settings) old new before ended held t q
 
 -- All that was held was given to the sink, and the status stands; or the sink failed, and the status is 4.
 abbrev pub Finishes : ℕ → Stream → Stream → List ℕ → ℕ → Type 0

@@ -13,7 +13,6 @@ use Rattle.dav_model.specs.declared.answer.Answer.{Answer}
 use Rattle.dav_model.specs.declared.answer.Answer.TheVariants.{Reply as Replied, Piece, End, Done}
 use Rattle.dav_model.specs.Requests.{Asked}
 use Rattle.dav_model.specs.Bodies.{Playing}
-use Rattle.dav_model.specs.Unset.{nothing_set}
 use Rattle.dav_model.specs.declared.settings.Settings.{Settings}
 use Rattle.dav_wire.specs.Answers.{head_text, has_close_field}
 use Rattle.dav_wire.specs.Fields.{asks_close}
@@ -63,13 +62,9 @@ answers_of x = begun_answers x ++ Done ∷ End ∷ []
 abbrev pub wire_of : Exchange → List ℕ
 wire_of x = head_text x.status x.fields x.closing ++ flat_map (λ piece. piece) x.pieces
 
--- a player with no replies and no bodies
-abbrev pub fresh_with : Settings → Playing
-fresh_with settings = record { settings = settings; replies = 0; left = λ _. [] }
-
--- one for which nothing is set
-abbrev pub fresh : Playing
-fresh = fresh_with nothing_set
+-- a player of these settings, with no replies and no bodies
+abbrev pub fresh : Settings → Playing
+fresh settings = record { settings = settings; replies = 0; left = λ _. [] }
 
 -- The moment is what the clock shows, where it tells.
 abbrev pub IsShown : Option Moment → Moment → Type 0

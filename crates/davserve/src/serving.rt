@@ -4,11 +4,13 @@ ghost use Rattle.dav_model.specs.Trail.{point_of};
 ghost use Rattle.dav_wire.specs.Answers.{bad_request_text as the_bad_request_text};
 ghost use Rattle.davserve.specs.Ends.{Answers, IsAnswerTo, MemoryStopped, Finishes};
 ghost use Rattle.davserve.specs.Exchange.{fresh};
-ghost use Rattle.davserve.specs.Serving.{ServeEnds, ServedPartly, Starved, EndsAt};
+ghost use Rattle.davserve.specs.Serving.{ServeEnds, ServedPartly, Starved, EndsAt, setup_with};
+ghost use Rattle.davserve.specs.Words.{with_buffer};
 
 use crate::exchange::{Ended, closes_after, exchange};
+use crate::words::Options;
 use dav_core::Disk;
-use dav_handler::{Player, Settings};
+use dav_handler::Player;
 use dav_io::{Clock, Moment, NoMemory, Sink, Source};
 use dav_wire::{Found, Input, Output, ReadError, bad_request_text, fill_flushing, into_request};
 use http::request::Parts;
@@ -17,18 +19,19 @@ use std::alloc::Global;
 // Answers a request by a player of its own, so that no count of replies ever runs out.
 fn answer<K: Sink, D: Disk>(
     alloc: Global,
+    options: Options,
     disk: &mut D,
     output: &mut Output,
     sink: &mut K,
     now: Moment,
     parts: Parts,
 ) -> Result<Ended, NoMemory>
-    ensures ends { IfOk result (λ ended. Answers (point_of (D.state disk.old)) parts now (K.stream sink.old) (K.stream sink.new) output.old ended output.new (point_of (D.state disk.new))) }
-    ensures memory { OnErr result (MemoryStopped (IsAnswerTo parts now) (point_of (D.state disk.old)) fresh (K.stream sink.old) (K.stream sink.new) output.old output.new (point_of (D.state disk.new))) }
+    ensures ends { IfOk result (λ ended. Answers (with_buffer options.bufsize) (point_of (D.state disk.old)) parts now (K.stream sink.old) (K.stream sink.new) output.old ended output.new (point_of (D.state disk.new))) }
+    ensures memory { OnErr result (MemoryStopped (IsAnswerTo parts now) (point_of (D.state disk.old)) (fresh (with_buffer options.bufsize)) (K.stream sink.old) (K.stream sink.new) output.old output.new (point_of (D.state disk.new))) }
 {
     let closing = closes_after(&parts);
     let request = into_request(alloc, parts);
-    let mut player = Player::plain(alloc, &mut *disk, Settings::defaults(alloc));
+    let mut player = Player::plain(alloc, &mut *disk, options.settings(alloc));
     let ended = exchange(alloc, &mut player, output, sink, now, closing, request);
     let _ = player.into_disk();
     ended
@@ -69,6 +72,7 @@ fn at_end(input: &Input) -> u8
 // is refused, it waits still.
 fn answer_all<S: Source, K: Sink, D: Disk, C: Clock>(
     alloc: Global,
+    options: Options,
     input: &mut Input,
     output: &mut Output,
     source: &mut S,
@@ -79,14 +83,14 @@ fn answer_all<S: Source, K: Sink, D: Disk, C: Clock>(
     requires unread { input.old ≡ record { bytes = []; taken = 0 } }
     requires empty { output.old ≡ [] }
     ensures clock { C.shows clock.new ≡ C.shows clock.old }
-    ensures ends { IfOk result (λ status. ServeEnds (C.shows clock.old) (S.stream source.old) (S.stream source.new) (point_of (D.state disk.old)) (K.stream sink.old) (K.stream sink.new) status (point_of (D.state disk.new))) }
-    ensures memory { OnErr result (Starved (C.shows clock.old) (S.stream source.old) (S.stream source.new) (point_of (D.state disk.old)) (K.stream sink.old) (K.stream sink.new) output.new (point_of (D.state disk.new))) }
+    ensures ends { IfOk result (λ status. ServeEnds (setup_with (C.shows clock.old) (with_buffer options.bufsize)) (S.stream source.old) (S.stream source.new) (point_of (D.state disk.old)) (K.stream sink.old) (K.stream sink.new) status (point_of (D.state disk.new))) }
+    ensures memory { OnErr result (Starved (setup_with (C.shows clock.old) (with_buffer options.bufsize)) (S.stream source.old) (S.stream source.new) (point_of (D.state disk.old)) (K.stream sink.old) (K.stream sink.new) output.new (point_of (D.state disk.new))) }
 {
     'requests: loop {
         match input.next_head(alloc) {
             Ok(Found::Whole(parts)) => {
                 let now = clock.now();
-                match answer(alloc, disk, output, sink, now, parts) {
+                match answer(alloc, options, disk, output, sink, now, parts) {
                     Ok(Ended::Open) => {}
                     Ok(Ended::Closed) => return Ok(finish(output, sink, 0)),
                     Ok(Ended::SinkFailed) => return Ok(4),
@@ -115,14 +119,15 @@ fn answer_all<S: Source, K: Sink, D: Disk, C: Clock>(
 /// fails. It answers the program's status.
 pub fn serve<S: Source, K: Sink, D: Disk, C: Clock>(
     alloc: Global,
+    options: Options,
     source: &mut S,
     sink: &mut K,
     disk: &mut D,
     clock: &mut C,
 ) -> Result<u8, NoMemory>
     ensures clock { C.shows clock.new ≡ C.shows clock.old }
-    ensures ends { IfOk result (λ status. ServeEnds (C.shows clock.old) (S.stream source.old) (S.stream source.new) (point_of (D.state disk.old)) (K.stream sink.old) (K.stream sink.new) status (point_of (D.state disk.new))) }
-    ensures memory { OnErr result (ServedPartly (C.shows clock.old) (S.stream source.old) (S.stream source.new) (point_of (D.state disk.old)) (K.stream sink.old) (K.stream sink.new) (point_of (D.state disk.new))) }
+    ensures ends { IfOk result (λ status. ServeEnds (setup_with (C.shows clock.old) (with_buffer options.bufsize)) (S.stream source.old) (S.stream source.new) (point_of (D.state disk.old)) (K.stream sink.old) (K.stream sink.new) status (point_of (D.state disk.new))) }
+    ensures memory { OnErr result (ServedPartly (setup_with (C.shows clock.old) (with_buffer options.bufsize)) (S.stream source.old) (S.stream source.new) (point_of (D.state disk.old)) (K.stream sink.old) (K.stream sink.new) (point_of (D.state disk.new))) }
 {
     let mut input = match Input::new(alloc) {
         Ok(input) => input,
@@ -132,7 +137,16 @@ pub fn serve<S: Source, K: Sink, D: Disk, C: Clock>(
         Ok(output) => output,
         Err(error) => return Err(error),
     };
-    match answer_all(alloc, &mut input, &mut output, source, sink, disk, clock) {
+    match answer_all(
+        alloc,
+        options,
+        &mut input,
+        &mut output,
+        source,
+        sink,
+        disk,
+        clock,
+    ) {
         Ok(status) => Ok(status),
         Err(error) => {
             // What was answered before is written also where memory is refused.

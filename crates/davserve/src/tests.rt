@@ -1,7 +1,7 @@
 ghost use Rattle.std.specs.Prelude.{◌<◌};
 
 use crate::run::run;
-use dav_core::{FileTime, FsPath};
+use dav_core::{Change, FileTime, FsPath};
 use dav_disk::MemDisk;
 use dav_io::{MemSink, MemSource, Moment, NoMemory, Octets, SetClock, Text};
 use std::alloc::Global;
@@ -73,6 +73,14 @@ fn folder(alloc: Global) -> Result<MemDisk, NoMemory> {
     Ok(disk)
 }
 
+fn words_of(alloc: Global, given: &[&str]) -> Result<Vec<String>, NoMemory> {
+    let mut words = Vec::new(alloc);
+    for word in given {
+        words.push(String::from_str(alloc, word)?)?;
+    }
+    Ok(words)
+}
+
 // Serves a disk to an input, over streams that move at most so many bytes a call.
 fn serves(
     alloc: Global,
@@ -85,9 +93,7 @@ fn serves(
 ) -> Result<Came, NoMemory>
     requires { 0 < most }
 {
-    let mut words = Vec::new(alloc);
-    words.push(String::from_str(alloc, "folder")?)?;
-    words.push(String::from_str(alloc, "serve")?)?;
+    let words = words_of(alloc, &["folder", "serve"])?;
     let mut source = MemSource::new(octets(alloc, &[input])?, most, fail_source);
     let mut sink = MemSink::new(alloc, 100_000, most, fail_sink)?;
     let mut clock = SetClock::new(Moment(0));
@@ -220,12 +226,9 @@ fn a_long_file_comes_whole(rt: HostRuntime) -> Result<(), Fail> {
     Ok(())
 }
 
-// The status of a run over these words, and whether nothing was written.
+// The status of a run over these words, and whether the disk wasn't asked and nothing was written.
 fn status_of(alloc: Global, given: &[&str]) -> Result<(u8, bool), NoMemory> {
-    let mut words = Vec::new(alloc);
-    for word in given {
-        words.push(String::from_str(alloc, word)?)?;
-    }
+    let words = words_of(alloc, given)?;
     let mut disk = folder(alloc)?;
     let mut source = MemSource::new(
         octets(alloc, &[b"GET /f.txt HTTP/1.1\r\n\r\n"])?,
@@ -235,7 +238,7 @@ fn status_of(alloc: Global, given: &[&str]) -> Result<(u8, bool), NoMemory> {
     let mut sink = MemSink::new(alloc, 1_000, 9, Vec::new(alloc))?;
     let mut clock = SetClock::new(Moment(0));
     let status = run(alloc, &words, &mut source, &mut sink, &mut disk, &mut clock)?;
-    Ok((status, sink.written().is_empty()))
+    Ok((status, disk.asked() == 0 && sink.written().is_empty()))
 }
 
 #[test]
@@ -247,6 +250,112 @@ fn words_are_understood_or_not(rt: HostRuntime) -> Result<(), Fail> {
     assert_eq!(rt; status_of(alloc, &["folder", "serves"])?, (2, true));
     assert_eq!(rt; status_of(alloc, &["folder", "serve", "x"])?, (2, true));
     assert_eq!(rt; status_of(alloc, &["folder", "serve"])?, (0, false));
+    Ok(())
+}
+
+// The same for `--bufsize` and this value.
+fn status_at(alloc: Global, size: &str) -> Result<(u8, bool), NoMemory> {
+    status_of(alloc, &["folder", "serve", "--bufsize", size])
+}
+
+#[test]
+fn sizes_are_understood_or_not(rt: HostRuntime) -> Result<(), Fail> {
+    let alloc = rt.alloc();
+    for size in ["0", "1", "4", "16384", "1048576"] {
+        assert_eq!(rt; status_at(alloc, size)?, (0, false), "{size}");
+    }
+    for size in [
+        "",
+        "+1",
+        "-1",
+        "00",
+        "01",
+        " 1",
+        "1 ",
+        "1k",
+        "0x1",
+        "--bufsize",
+        "1048577",
+        "18446744073709551616",
+    ] {
+        assert_eq!(rt; status_at(alloc, size)?, (2, true), "{size}");
+    }
+    Ok(())
+}
+
+#[test]
+fn options_are_understood_or_not(rt: HostRuntime) -> Result<(), Fail> {
+    let alloc = rt.alloc();
+    let none = (2, true);
+    assert_eq!(rt; status_of(alloc, &["folder", "serve", "--bufsize"])?, none);
+    assert_eq!(rt;
+        status_of(alloc, &["folder", "serve", "--bufsize=4"])?,
+        none
+    );
+    assert_eq!(rt;
+        status_of(alloc, &["folder", "serve", "--BUFSIZE", "4"])?,
+        none
+    );
+    assert_eq!(rt;
+        status_of(alloc, &["folder", "--bufsize", "4", "serve"])?,
+        none
+    );
+    assert_eq!(rt;
+        status_of(alloc, &["folder", "serve", "4", "--bufsize"])?,
+        none
+    );
+    assert_eq!(rt;
+        status_of(alloc, &["folder", "serve", "--bufsize", "4", "x"])?,
+        none
+    );
+    let twice = ["folder", "serve", "--bufsize", "4", "--bufsize", "4"];
+    assert_eq!(rt; status_of(alloc, &twice)?, none);
+    // An option that isn't built.
+    assert_eq!(rt; status_of(alloc, &["folder", "serve", "--fold"])?, none);
+    assert_eq!(rt; status_of(alloc, &["--bufsize", "serve"])?, (0, false));
+    Ok(())
+}
+
+// A folder whose file of ten bytes is cut to so many after the first piece of a body: the third turn of a run.
+fn cut_folder(alloc: Global, count: u64) -> Result<MemDisk, NoMemory> {
+    let mut disk = folder(alloc)?;
+    disk.script(Vec::new(alloc))?;
+    disk.script(Vec::new(alloc))?;
+    let mut batch = Vec::new(alloc);
+    batch.push(Change::Cut(path_of(alloc, "f.txt")?, count))?;
+    disk.script(batch)?;
+    Ok(disk)
+}
+
+// What a run with this read buffer comes to, over a file that is cut to so many bytes after the first piece.
+fn cut_at(alloc: Global, size: &str, count: u64, wanted: &[&[u8]]) -> Result<Came, NoMemory> {
+    let words = words_of(alloc, &["folder", "serve", "--bufsize", size])?;
+    let mut disk = cut_folder(alloc, count)?;
+    let mut source = MemSource::new(octets(alloc, &[GET])?, 100, Vec::new(alloc));
+    let mut sink = MemSink::new(alloc, 1_000, 100, Vec::new(alloc))?;
+    let mut clock = SetClock::new(Moment(0));
+    let status = run(alloc, &words, &mut source, &mut sink, &mut disk, &mut clock)?;
+    if sink.written() == octets(alloc, wanted)?.as_slice() {
+        return Ok(Came::Wanted(status));
+    }
+    Ok(Came::Other(status))
+}
+
+// Where bytes were cut away, zeros stand.
+#[test]
+fn buffers_bound_the_pieces(rt: HostRuntime) -> Result<(), Fail> {
+    let alloc = rt.alloc();
+    let done = Came::Wanted(0);
+    let six: &[&[u8]] = &[HEAD, b"012345\0\0\0\0"];
+    assert_eq!(rt; cut_at(alloc, "4", 6, six)?, done);
+    assert_eq!(rt; cut_at(alloc, "1", 6, six)?, done);
+    assert_eq!(rt; cut_at(alloc, "4", 2, &[HEAD, b"0123\0\0\0\0\0\0"])?, done);
+    assert_eq!(rt;
+        cut_at(alloc, "1", 2, &[HEAD, b"01\0\0\0\0\0\0\0\0"])?,
+        done
+    );
+    assert_eq!(rt; cut_at(alloc, "0", 2, &[HEAD, DIGITS])?, done);
+    assert_eq!(rt; cut_at(alloc, "1048576", 2, &[HEAD, DIGITS])?, done);
     Ok(())
 }
 
@@ -262,9 +371,7 @@ struct Streams {
 
 // What a run over these streams came to.
 fn over(alloc: Global, streams: Streams, input: &[u8], wanted: &[u8]) -> Result<Came, NoMemory> {
-    let mut words = Vec::new(alloc);
-    words.push(String::from_str(alloc, "folder")?)?;
-    words.push(String::from_str(alloc, "serve")?)?;
+    let words = words_of(alloc, &["folder", "serve"])?;
     let mut fail = Vec::new(alloc);
     fail.push(streams.fails)?;
     let mut disk = folder(alloc)?;

@@ -1,4 +1,4 @@
-use Rattle.std.proofs.Common.{◌≡◌, ◌∙◌, ap, sym, arith}
+use Rattle.std.proofs.Common.{◌∙◌, ap, sym, arith}
 use Rattle.dav_wire.specs.Answers.{head_text}
 use Rattle.dav_handler.specs.Player.{playing_of}
 use Rattle.davserve.specs.Ends.{ended_by}

@@ -1,6 +1,4 @@
-use Rattle.std.proofs.Common.{◌++◌, refl, subst}
-use Rattle.dav_io.specs.Outside.{Stream}
-use Rattle.davserve.specs.Ends.{Finishes}
+use Rattle.std.proofs.Common.{refl}
 use Rattle.davserve.proofs.Finding.{refuses, refuses_not}
 use Rattle.davserve.proofs.serving.refuse.Goals as goal
 
