@@ -18,12 +18,14 @@ use Rattle.dav_model.specs.Trail.{Point}
 use Rattle.dav_model.specs.Play.{Played}
 use Rattle.dav_model.specs.Joining.{played_join, played_counts, poll_says}
 use Rattle.dav_wire.specs.Answers.{head_text, has_close_field}
+use Rattle.dav_wire.specs.Chunks.{written, ending}
+use Rattle.dav_wire.specs.declared.chunks.Framing.{Framing}
 use Rattle.dav_wire.specs.Writing.{Pushes, Sent, SentFront}
 use Rattle.dav_wire.proofs.Pushing.{none_sent, sent_more, sent_front, sent_push, sent_push_front}
 use Rattle.davserve.specs.declared.exchange.Ended.{Ended}
 use Rattle.davserve.specs.declared.exchange.Ended.TheVariants.{Open, Closed}
-use Rattle.davserve.specs.Exchange.{Exchange, piece_steps, piece_answers, begun_steps, begun_answers, wire_of, with_pieces}
-use Rattle.davserve.specs.Ends.{IsAt, Begun, Whole, BrokenOff, SinkStopped, MemoryStopped, RefusedAt, Exchanges, ended_by}
+use Rattle.davserve.specs.Exchange.{Exchange, piece_steps, piece_answers, begun_steps, begun_answers, steps_of, answers_of, framing_of, begun_wire_of, wire_of, with_pieces}
+use Rattle.davserve.specs.Ends.{IsAt, Begun, Whole, BrokenOff, EndsBody, SinkStopped, MemoryStopped, RefusedAt, Exchanges}
 
 -- a poll that gives a piece leaves less of the body
 pub poll_shrinks : (s : Point) (p : Playing) (body : ℕ) (a b : Answer) (t : Point) (q : Playing) (piece : List ℕ)
@@ -59,24 +61,30 @@ more_answers : (pieces : List (List ℕ)) (piece : List ℕ) → piece_answers p
 more_answers [] piece = refl
 more_answers (x ∷ pieces) piece = ap (λ z. Done ∷ Piece x ∷ z) (more_answers pieces piece)
 
-more_bytes : (pieces : List (List ℕ)) (piece : List ℕ) → flat_map (λ x. x) pieces ++ piece ≡ flat_map (λ x. x) (pieces ++ piece ∷ [])
-more_bytes [] piece = sym (append-nil piece)
-more_bytes (x ∷ pieces) piece = append_assoc x (flat_map (λ x. x) pieces) piece ∙ ap (λ z. x ++ z) (more_bytes pieces piece)
+more_bytes : (way : Framing) (pieces : List (List ℕ)) (piece : List ℕ) → flat_map (written way) pieces ++ written way piece ≡ flat_map (written way) (pieces ++ piece ∷ [])
+more_bytes way [] piece = sym (append-nil (written way piece))
+more_bytes way (x ∷ pieces) piece = append_assoc (written way x) (flat_map (written way) pieces) (written way piece) ∙ ap (λ z. written way x ++ z) (more_bytes way pieces piece)
 
 -- the bytes of the head alone
 first_bytes : (before head : List ℕ) → before ++ head ≡ before ++ (head ++ [])
 first_bytes before head = ap (λ z. before ++ z) (sym (append-nil head))
 
 module _ (request : Asked) (now : Moment) (closing : Bool) (status : ℕ) (fields : List Field) (body : ℕ) where
+  -- how the body is written, whatever its pieces are
+  abbrev pub way : Framing
+  way = framing_of (with_pieces request now closing status fields body [])
+
   is_at : (pieces : List (List ℕ)) → IsAt request now closing (with_pieces request now closing status fields body pieces)
   is_at pieces = record { request_is = refl; now_is = refl; closing_is = refl }
 
   -- a piece more
   piece_bytes : (before piece : List ℕ) (pieces : List (List ℕ))
-      → (before ++ wire_of (with_pieces request now closing status fields body pieces)) ++ piece ≡ before ++ wire_of (with_pieces request now closing status fields body (pieces ++ piece ∷ []))
+      → (before ++ begun_wire_of (with_pieces request now closing status fields body pieces)) ++ written way piece
+      ≡ before ++ begun_wire_of (with_pieces request now closing status fields body (pieces ++ piece ∷ []))
   piece_bytes before piece pieces =
-      append_assoc before (head_text status fields closing ++ flat_map (λ x. x) pieces) piece
-      ∙ ap (λ z. before ++ z) (append_assoc (head_text status fields closing) (flat_map (λ x. x) pieces) piece ∙ ap (λ z. head_text status fields closing ++ z) (more_bytes pieces piece))
+      append_assoc before (head_text status fields closing way ++ flat_map (written way) pieces) (written way piece)
+      ∙ ap (λ z. before ++ z)
+      (append_assoc (head_text status fields closing way) (flat_map (written way) pieces) (written way piece) ∙ ap (λ z. head_text status fields closing way ++ z) (more_bytes way pieces piece))
 
   piece_played : (s m t : Point) (p q r : Playing) (piece : List ℕ) (pieces : List (List ℕ))
       → Played s p (begun_steps (with_pieces request now closing status fields body pieces)) [] (begun_answers (with_pieces request now closing status fields body pieces)) (Ok tt) m q
@@ -90,48 +98,48 @@ module _ (request : Asked) (now : Moment) (closing : Bool) (status : ℕ) (field
       (played_join s m t p q r (begun_steps x) (Turn ∷ Poll body ∷ []) [] (begun_answers x) (Done ∷ Piece piece ∷ []) (Ok tt) first second))
 
   -- the head was sent or is held
-  pub begun_first : (s t : Point) (p q : Playing) (old new : Stream) (before later head : List ℕ) → head ≡ head_text status fields closing
+  pub begun_first : (s t : Point) (p q : Playing) (old new : Stream) (before later head : List ℕ) → head ≡ head_text status fields closing way
       → Played s p (Turn ∷ Purge now ∷ Request request now ∷ []) [] (Done ∷ Done ∷ Replied status fields body ∷ []) (Ok tt) t q
       → Pushes old before head (Ok tt) later new → Begun s p request now closing status fields body old new before later t q
   begun_first s t p q old new before later head is played pushes = record {
     pieces = [];
     played = played;
-    sent = subst (λ z. Sent old new z later) (ap (λ z. before ++ z) is ∙ first_bytes before (head_text status fields closing)) (sent_push old new before head later pushes);
+    sent = subst (λ z. Sent old new z later) (ap (λ z. before ++ z) is ∙ first_bytes before (head_text status fields closing way)) (sent_push old new before head later pushes);
   }
 
   -- the sink failed at the head
-  pub first_unsent : (s t : Point) (p q : Playing) (old new : Stream) (before later head : List ℕ) (e : Failed) → head ≡ head_text status fields closing
+  pub first_unsent : (s t : Point) (p q : Playing) (old new : Stream) (before later head : List ℕ) (e : Failed) → head ≡ head_text status fields closing way
       → Played s p (Turn ∷ Purge now ∷ Request request now ∷ []) [] (Done ∷ Done ∷ Replied status fields body ∷ []) (Ok tt) t q
       → Pushes old before head (Err e) later new → SinkStopped (IsAt request now closing) s p old new before t
   first_unsent s t p q old new before later head e is played pushes =
       let x = with_pieces request now closing status fields body [] in
       record {
-        bytes = wire_of x;
-        reached = inr (record { exchange = x; is = is_at []; more = []; next = inl refl; answers = []; result = Ok tt; after = q; played = played; are = refl });
-        sent = subst (λ z. SentFront old new z) (ap (λ z. before ++ z) is ∙ first_bytes before (head_text status fields closing)) (sent_push_front old new before head later e pushes);
+        bytes = begun_wire_of x;
+        reached = inr (inl (record { exchange = x; is = is_at []; more = []; next = inl refl; answers = []; result = Ok tt; after = q; played = played; are = refl }));
+        sent = subst (λ z. SentFront old new z) (ap (λ z. before ++ z) is ∙ first_bytes before (head_text status fields closing way)) (sent_push_front old new before head later e pushes);
         rose = pushes.failed refl;
       }
 
   -- a piece was given, and was sent or is held
   pub begun_more : (s m t : Point) (p q r : Playing) (old mid new : Stream) (before held later piece bytes : List ℕ) → Begun s p request now closing status fields body old mid before held m q
-      → Played m q (Turn ∷ Poll body ∷ []) [] (Done ∷ Piece piece ∷ []) (Ok tt) t r → bytes ≡ piece → Pushes mid held bytes (Ok tt) later new
+      → Played m q (Turn ∷ Poll body ∷ []) [] (Done ∷ Piece piece ∷ []) (Ok tt) t r → bytes ≡ written way piece → Pushes mid held bytes (Ok tt) later new
       → Begun s p request now closing status fields body old new before later t r
   begun_more s m t p q r old mid new before held later piece bytes b played is pushes = record {
     pieces = b.pieces ++ piece ∷ [];
     played = piece_played s m t p q r piece b.pieces b.played played;
-    sent = subst (λ z. Sent old new z later) (ap (λ z. (before ++ wire_of (with_pieces request now closing status fields body b.pieces)) ++ z) is ∙ piece_bytes before piece b.pieces)
-        (sent_more old mid new (before ++ wire_of (with_pieces request now closing status fields body b.pieces)) held bytes later b.sent pushes);
+    sent = subst (λ z. Sent old new z later) (ap (λ z. (before ++ begun_wire_of (with_pieces request now closing status fields body b.pieces)) ++ z) is ∙ piece_bytes before piece b.pieces)
+        (sent_more old mid new (before ++ begun_wire_of (with_pieces request now closing status fields body b.pieces)) held bytes later b.sent pushes);
   }
 
   -- the sink failed at a piece
   pub more_unsent : (s m t : Point) (p q r : Playing) (old mid new : Stream) (before held later piece bytes : List ℕ) (e : Failed) → Begun s p request now closing status fields body old mid before held m q
-      → Played m q (Turn ∷ Poll body ∷ []) [] (Done ∷ Piece piece ∷ []) (Ok tt) t r → bytes ≡ piece → Pushes mid held bytes (Err e) later new
+      → Played m q (Turn ∷ Poll body ∷ []) [] (Done ∷ Piece piece ∷ []) (Ok tt) t r → bytes ≡ written way piece → Pushes mid held bytes (Err e) later new
       → SinkStopped (IsAt request now closing) s p old new before t
   more_unsent s m t p q r old mid new before held later piece bytes e b played is pushes =
       let y = with_pieces request now closing status fields body (b.pieces ++ piece ∷ []) in
       record {
-        bytes = wire_of y;
-        reached = inr (record {
+        bytes = begun_wire_of y;
+        reached = inr (inl (record {
           exchange = y;
           is = is_at (b.pieces ++ piece ∷ []);
           more = [];
@@ -142,24 +150,52 @@ module _ (request : Asked) (now : Moment) (closing : Bool) (status : ℕ) (field
           played = subst (λ z. Played s p z [] (begun_answers y ++ []) (Ok tt) t r) (sym (append-nil (begun_steps y)))
               (subst (λ z. Played s p (begun_steps y) [] z (Ok tt) t r) (sym (append-nil (begun_answers y))) (piece_played s m t p q r piece b.pieces b.played played));
           are = refl;
-        });
-        sent = subst (λ z. SentFront old new z) (ap (λ z. (before ++ wire_of (with_pieces request now closing status fields body b.pieces)) ++ z) is ∙ piece_bytes before piece b.pieces)
-            (sent_front old mid new (before ++ wire_of (with_pieces request now closing status fields body b.pieces)) held bytes later e b.sent pushes);
+        }));
+        sent = subst (λ z. SentFront old new z) (ap (λ z. (before ++ begun_wire_of (with_pieces request now closing status fields body b.pieces)) ++ z) is ∙ piece_bytes before piece b.pieces)
+            (sent_front old mid new (before ++ begun_wire_of (with_pieces request now closing status fields body b.pieces)) held bytes later e b.sent pushes);
         rose = rose_between old.faults mid.faults mid.faults new.faults b.sent.counts (omega arith) (pushes.failed refl);
       }
 
-  -- the end was given
-  pub begun_ends : (s m t : Point) (p q r : Playing) (old new : Stream) (before held : List ℕ) → Begun s p request now closing status fields body old new before held m q
+  -- what ends a body behind all of its pieces
+  end_bytes : (before : List ℕ) (pieces : List (List ℕ))
+      → (before ++ begun_wire_of (with_pieces request now closing status fields body pieces)) ++ ending way ≡ before ++ wire_of (with_pieces request now closing status fields body pieces)
+  end_bytes before pieces = append_assoc before (begun_wire_of (with_pieces request now closing status fields body pieces)) (ending way)
+
+  ended_played : (s m t : Point) (p q r : Playing) (pieces : List (List ℕ))
+      → Played s p (begun_steps (with_pieces request now closing status fields body pieces)) [] (begun_answers (with_pieces request now closing status fields body pieces)) (Ok tt) m q
       → Played m q (Turn ∷ Poll body ∷ []) [] (Done ∷ End ∷ []) (Ok tt) t r
-      → Whole (IsAt request now closing) s p (closing || has_close_field fields) old new before held t r
-  begun_ends s m t p q r old new before held b played =
+      → Played s p (steps_of (with_pieces request now closing status fields body pieces)) [] (answers_of (with_pieces request now closing status fields body pieces)) (Ok tt) t r
+  ended_played s m t p q r pieces first second =
+      let x = with_pieces request now closing status fields body pieces in
+      played_join s m t p q r (begun_steps x) (Turn ∷ Poll body ∷ []) [] (begun_answers x) (Done ∷ End ∷ []) (Ok tt) first second
+
+  -- the end was given
+  whole : (s m t : Point) (p q r : Playing) (old mid new : Stream) (before held later : List ℕ) → Begun s p request now closing status fields body old mid before held m q
+      → Played m q (Turn ∷ Poll body ∷ []) [] (Done ∷ End ∷ []) (Ok tt) t r → Pushes mid held (ending way) (Ok tt) later new
+      → Whole (IsAt request now closing) s p (closing || has_close_field fields) old new before later t r
+  whole s m t p q r old mid new before held later b played pushes =
       let x = with_pieces request now closing status fields body b.pieces in
       record {
         exchange = x;
         is = is_at b.pieces;
         closed_is = refl;
-        played = played_join s m t p q r (begun_steps x) (Turn ∷ Poll body ∷ []) [] (begun_answers x) (Done ∷ End ∷ []) (Ok tt) b.played played;
-        sent = b.sent;
+        played = ended_played s m t p q r b.pieces b.played played;
+        sent = subst (λ z. Sent old new z later) (end_bytes before b.pieces)
+            (sent_more old mid new (before ++ begun_wire_of x) held (ending way) later b.sent pushes);
+      }
+
+  -- the sink failed at the end
+  end_unsent : (s m t : Point) (p q r : Playing) (old mid new : Stream) (before held later : List ℕ) (e : Failed) → Begun s p request now closing status fields body old mid before held m q
+      → Played m q (Turn ∷ Poll body ∷ []) [] (Done ∷ End ∷ []) (Ok tt) t r → Pushes mid held (ending way) (Err e) later new
+      → SinkStopped (IsAt request now closing) s p old new before t
+  end_unsent s m t p q r old mid new before held later e b played pushes =
+      let x = with_pieces request now closing status fields body b.pieces in
+      record {
+        bytes = wire_of x;
+        reached = inr (inr (record { exchange = x; is = is_at b.pieces; after = r; played = ended_played s m t p q r b.pieces b.played played; are = refl }));
+        sent = subst (λ z. SentFront old new z) (end_bytes before b.pieces)
+            (sent_front old mid new (before ++ begun_wire_of x) held (ending way) later e b.sent pushes);
+        rose = rose_between old.faults mid.faults mid.faults new.faults b.sent.counts (omega arith) (pushes.failed refl);
       }
 
   -- a body broke
@@ -184,8 +220,8 @@ module _ (request : Asked) (now : Moment) (closing : Bool) (status : ℕ) (field
   poll_starved s m t p q r old new before held b (answers, played) =
       let x = with_pieces request now closing status fields body b.pieces in
       record {
-        bytes = wire_of x;
-        reached = inr (record {
+        bytes = begun_wire_of x;
+        reached = inr (inl (record {
           exchange = x;
           is = is_at b.pieces;
           more = Turn ∷ Poll body ∷ [];
@@ -195,7 +231,7 @@ module _ (request : Asked) (now : Moment) (closing : Bool) (status : ℕ) (field
           after = r;
           played = played_join s m t p q r (begun_steps x) (Turn ∷ Poll body ∷ []) [] (begun_answers x) answers (Err (record {})) b.played played;
           are = refl;
-        });
+        }));
         sent = b.sent;
       }
 
@@ -227,7 +263,15 @@ by_closed : (Is : Exchange → Type 0) (b : Bool) (s t : Point) (p q : Playing) 
 by_closed Is true s t p q old new before held e = e
 by_closed Is false s t p q old new before held e = e
 
-pub ended_as : (Is : Exchange → Type 0) (ended : Ended) (s t : Point) (p q : Playing) (closing : Bool) (fields : List Field) (old new : Stream) (before held : List ℕ) → ended ≡ ended_by closing fields
-    → Whole Is s p (closing || has_close_field fields) old new before held t q → Exchanges Is s p old new before ended held t q
-ended_as Is ended s t p q closing fields old new before held is e =
-    subst (λ z. Exchanges Is s p old new before z held t q) (sym is) (by_closed Is (closing || has_close_field fields) s t p q old new before held e)
+-- how an exchange ends behind the last piece of its body
+pub body_ended : (request : Asked) (now : Moment) (closing : Bool) (status : ℕ) (fields : List Field) (body : ℕ) (s m t : Point) (p q r : Playing) (old mid new : Stream) (before held later : List ℕ)
+    (ended : Ended) → Begun s p request now closing status fields body old mid before held m q
+    → Played m q (Turn ∷ Poll body ∷ []) [] (Done ∷ End ∷ []) (Ok tt) t r → EndsBody (way request now closing status fields body) closing fields mid new held ended later
+    → Exchanges (IsAt request now closing) s p old new before ended later t r
+body_ended request now closing status fields body s m t p q r old mid new before held later ended b played (inl (is, pushes)) =
+    subst (λ z. Exchanges (IsAt request now closing) s p old new before z later t r) (sym is)
+    (by_closed (IsAt request now closing) (closing || has_close_field fields) s t p r old new before later
+    (whole request now closing status fields body s m t p q r old mid new before held later b played pushes))
+body_ended request now closing status fields body s m t p q r old mid new before held later ended b played (inr (is, pushes)) =
+    subst (λ z. Exchanges (IsAt request now closing) s p old new before z later t r) (sym is)
+    (end_unsent request now closing status fields body s m t p q r old mid new before held later (record {}) b played pushes)

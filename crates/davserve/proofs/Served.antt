@@ -27,7 +27,7 @@ use Rattle.dav_wire.specs.Answers.{bad_request_text}
 use Rattle.dav_wire.proofs.RequestLemmas.{request_stays, refusal_stays, requests_join}
 use Rattle.dav_wire.proofs.Pushing.{none_sent, sent_on, sent_on_front, sent_flush, sent_flush_front, sent_then, sent_then_front, sent_all_of, sent_some}
 use Rattle.davserve.specs.declared.exchange.Ended.TheVariants.{Open, Closed, SinkFailed, Broke as BrokeOff}
-use Rattle.davserve.specs.Exchange.{Exchange, AsksClose, IsShown, IsOf, fresh, steps_of, answers_of, wire_of}
+use Rattle.davserve.specs.Exchange.{Exchange, AsksClose, IsShown, IsOf, fresh, steps_of, answers_of, begun_wire_of, wire_of}
 use Rattle.davserve.specs.Ends.{IsAnswerTo, Answers, Whole, Reached, MemoryStopped, Finishes}
 use Rattle.davserve.specs.Serving.{Setup, Chain, Alike, IsOpen, wires, Serving, IsEmptied, TookBytes, Faces, ServedAll, ServedClosing, ServedRefusing, ServedUnfinished, ServedSoFar, ServedBroken, nothing, refusal, exchange, ServedPartly, Starved, ServeEnds, EndsAt}
 use Rattle.davserve.proofs.Exchanging.{rose_between}
@@ -141,7 +141,7 @@ reached_as Is As s p bytes t f (inl u) = inl (record {
   played = u.played;
   none = u.none;
 })
-reached_as Is As s p bytes t f (inr u) = inr (record {
+reached_as Is As s p bytes t f (inr (inl u)) = inr (inl (record {
   exchange = u.exchange;
   is = f u.exchange u.is;
   more = u.more;
@@ -151,7 +151,8 @@ reached_as Is As s p bytes t f (inr u) = inr (record {
   after = u.after;
   played = u.played;
   are = u.are;
-})
+}))
+reached_as Is As s p bytes t f (inr (inr u)) = inr (inr (record { exchange = u.exchange; is = f u.exchange u.is; after = u.after; played = u.played; are = u.are }))
 
 -- what each status says
 module _ (setup : Setup) (input source : Stream) (s : Point) (old new : Stream) (t : Point) where
@@ -336,7 +337,7 @@ module _ (setup : Setup) (input source : Stream) (held : Pending) (s : Point) (o
       → ServeEnds setup input source s old last status t
   served_broken parts now head rest later last status v is read when (q, made) (inl (e, given)) =
       let x = made.exchange in
-      let sent = sent_then old mid new (wires v.exchanges) waiting (wire_of x) later v.sent made.sent in
+      let sent = sent_then old mid new (wires v.exchanges) waiting (begun_wire_of x) later v.sent made.sent in
       ends_disk setup input source s old last t (rose_between s.faults m.faults m.faults t.faults (chain_counts setup.settings s m v.exchanges v.serving.played) (omega arith) made.rose) (record {
         held = held.bytes;
         before = m;
@@ -346,19 +347,19 @@ module _ (setup : Setup) (input source : Stream) (held : Pending) (s : Point) (o
         faces = faces setup held.bytes rest head parts now is read when x made.is;
         after = q;
         played = made.played;
-        sent = sent_all_of old last (wires v.exchanges ++ wire_of x) [] refl (sent_on old new last (wires v.exchanges ++ wire_of x) later [] sent given);
+        sent = sent_all_of old last (wires v.exchanges ++ begun_wire_of x) [] refl (sent_on old new last (wires v.exchanges ++ begun_wire_of x) later [] sent given);
       }) status e
   served_broken parts now head rest later last status v is read when (q, made) (inr (e, given, rose)) =
       let x = made.exchange in
-      let sent = sent_then old mid new (wires v.exchanges) waiting (wire_of x) later v.sent made.sent in
+      let sent = sent_then old mid new (wires v.exchanges) waiting (begun_wire_of x) later v.sent made.sent in
       ends_sink setup input source s old last t (rose_between old.faults new.faults new.faults last.faults sent.counts (omega arith) rose) (record {
         closed = false;
         held = held.bytes;
         before = m;
         exchanges = v.exchanges;
         serving = v.serving;
-        bytes = wire_of x;
-        partway = exchange (inr (record {
+        bytes = begun_wire_of x;
+        partway = exchange (inr (inl (record {
           exchange = x;
           is = faces setup held.bytes rest head parts now is read when x made.is;
           more = Turn ∷ Poll x.body ∷ [];
@@ -368,8 +369,8 @@ module _ (setup : Setup) (input source : Stream) (held : Pending) (s : Point) (o
           after = q;
           played = made.played;
           are = refl;
-        }));
-        sent = sent_on_front old new last (wires v.exchanges ++ wire_of x) later sent given;
+        })));
+        sent = sent_on_front old new last (wires v.exchanges ++ begun_wire_of x) later sent given;
       }) status e
 
 -- what no request can be was refused, and all is given to the sink

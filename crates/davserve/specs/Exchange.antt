@@ -15,6 +15,9 @@ use Rattle.dav_model.specs.Requests.{Asked}
 use Rattle.dav_model.specs.Bodies.{Playing}
 use Rattle.dav_model.specs.declared.settings.Settings.{Settings}
 use Rattle.dav_wire.specs.Answers.{head_text, has_close_field}
+use Rattle.dav_wire.specs.Chunks.{written, ending}
+use Rattle.dav_wire.specs.Framing.{framing, takes_chunks}
+use Rattle.dav_wire.specs.declared.chunks.Framing.{Framing}
 use Rattle.dav_wire.specs.Fields.{asks_close}
 use Rattle.dav_wire.specs.Heads.{IsRead}
 
@@ -58,9 +61,17 @@ steps_of x = begun_steps x ++ Turn ∷ Poll x.body ∷ []
 abbrev pub answers_of : Exchange → List Answer
 answers_of x = begun_answers x ++ Done ∷ End ∷ []
 
--- the wire form of the reply and its pieces
+-- How the body is written: by the head of the request, the status and the fields.
+abbrev pub framing_of : Exchange → Framing
+framing_of x = framing (takes_chunks (head_of x.request)) x.status x.fields
+
+-- the bytes of the head and of the pieces, each as it is written
+abbrev pub begun_wire_of : Exchange → List ℕ
+begun_wire_of x = head_text x.status x.fields x.closing (framing_of x) ++ flat_map (written (framing_of x)) x.pieces
+
+-- the bytes of the whole answer, with what ends its body
 abbrev pub wire_of : Exchange → List ℕ
-wire_of x = head_text x.status x.fields x.closing ++ flat_map (λ piece. piece) x.pieces
+wire_of x = begun_wire_of x ++ ending (framing_of x)
 
 -- a player of these settings, with no replies and no bodies
 abbrev pub fresh : Settings → Playing

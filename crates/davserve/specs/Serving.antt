@@ -14,7 +14,7 @@ use Rattle.dav_model.specs.Play.{Played}
 use Rattle.dav_wire.specs.Requests.{IsRequest, Requests, Refusal, IsUnfinished, HasNone}
 use Rattle.dav_wire.specs.Answers.{bad_request_text}
 use Rattle.dav_wire.specs.Writing.{Sent, SentAll, SentFront}
-use Rattle.davserve.specs.Exchange.{Exchange, IsOf, fresh, is_closed, steps_of, answers_of, begun_answers, wire_of}
+use Rattle.davserve.specs.Exchange.{Exchange, IsOf, fresh, is_closed, steps_of, answers_of, begun_answers, begun_wire_of, wire_of}
 use Rattle.davserve.specs.Ends.{Reached}
 
 -- What is the same for all exchanges of a run: what the clock shows, and what is set.
@@ -117,7 +117,8 @@ pub record ServedSoFar (setup : Setup) (input source : Stream) (s : Point) (old 
   pub sent : SentAll old new (wires exchanges)
   pub none : HasNone held
 
--- A body broke in the answer to the request behind those that were answered: the bytes end with its last piece.
+-- A body broke in the answer to the request behind those that were answered: the bytes end with its last
+-- piece, and what ends a body isn't written.
 pub record ServedBroken (setup : Setup) (input source : Stream) (s : Point) (old new : Stream) (t : Point) : Type 0 where
   pub held : List ℕ
   pub before : Point
@@ -127,7 +128,7 @@ pub record ServedBroken (setup : Setup) (input source : Stream) (s : Point) (old
   pub faces : Faces setup held broken
   pub after : Playing
   pub played : Played before (fresh setup.settings) (steps_of broken) [] (begun_answers broken ++ Done ∷ Broken ∷ []) (Ok tt) t after
-  pub sent : SentAll old new (wires exchanges ++ wire_of broken)
+  pub sent : SentAll old new (wires exchanges ++ begun_wire_of broken)
 
 -- What the run came to behind the exchanges that were played, and the bytes of it.
 pub data Partway (setup : Setup) (input source : Stream) (held : List ℕ) (s : Point) (bytes : List ℕ) (t : Point) : Type 0 where

@@ -1,14 +1,18 @@
 // One request, and all that is answered to it.
 ghost use Rattle.std.specs.Prelude.{◌≡◌, ◌+◌, ◌<◌, ◌^◌, IfOk, OnErr};
+ghost use Rattle.http.specs.Request.{head_of};
 ghost use Rattle.dav_handler.specs.Player.{playing_of, point_at};
+ghost use Rattle.dav_wire.specs.Framing.{takes_chunks as the_takes_chunks};
 ghost use Rattle.davserve.specs.Exchange.{AsksClose};
-ghost use Rattle.davserve.specs.Ends.{Exchanges, IsAt, MemoryStopped, ended_by};
+ghost use Rattle.davserve.specs.Ends.{EndsBody, Exchanges, IsAt, MemoryStopped, ended_by};
 
 use crate::turns::{poll_turn, request_turn};
 use dav_core::Disk;
 use dav_handler::{Answer, Player};
 use dav_io::{Field, Moment, NoMemory, Octets, Sink};
-use dav_wire::{Output, answer_head, asks_close, is_old, says_close};
+use dav_wire::{
+    Framing, Output, answer_head, asks_close, framing, is_old, says_close, takes_chunks,
+};
 use http::Request;
 use http::request::Parts;
 use std::alloc::Global;
@@ -26,8 +30,28 @@ pub enum Ended {
     Broke,
 }
 
-/// Whether a request asks that the connection closes.
-pub fn closes_after(parts: &Parts) -> bool
+/// How a request is answered, by its head.
+#[derive(Clone, Copy, Debug, PartialEq, Eq)]
+pub struct Manner {
+    /// Whether the connection closes behind the answer.
+    pub closing: bool,
+    /// Whether a body without a length is written in chunks.
+    pub chunks: bool,
+}
+
+/// How a request with this head is answered.
+pub fn manner_of(parts: &Parts) -> Manner
+    ensures closing { AsksClose parts.now result.closing }
+    ensures chunks { result.chunks ≡ the_takes_chunks parts.now }
+{
+    Manner {
+        closing: closes_after(parts),
+        chunks: takes_chunks(parts),
+    }
+}
+
+// Whether the request asks that the connection closes.
+fn closes_after(parts: &Parts) -> bool
     ensures { AsksClose parts.now result }
 {
     if is_old(parts.version) {
@@ -44,19 +68,27 @@ pub fn exchange<K: Sink, D: Disk>(
     output: &mut Output,
     sink: &mut K,
     now: Moment,
-    closing: bool,
+    manner: Manner,
     request: Request<Octets>,
 ) -> Result<Ended, NoMemory>
-    requires { player.old.replies + 4 < 2 ^ 32 }
+    requires replies { player.old.replies + 4 < 2 ^ 32 }
+    requires chunks { manner.chunks ≡ the_takes_chunks (head_of request) }
     ensures loan { D.loan player.new.store.disk ≡ D.loan player.old.store.disk }
-    ensures ends { IfOk result (λ ended. Exchanges (IsAt request now closing) (point_at player.old) (playing_of player.old) (K.stream sink.old) (K.stream sink.new) output.old ended output.new (point_at player.new) (playing_of player.new)) }
-    ensures memory { OnErr result (MemoryStopped (IsAt request now closing) (point_at player.old) (playing_of player.old) (K.stream sink.old) (K.stream sink.new) output.old output.new (point_at player.new)) }
+    ensures ends { IfOk result (λ ended. Exchanges (IsAt request now manner.closing) (point_at player.old) (playing_of player.old) (K.stream sink.old) (K.stream sink.new) output.old ended output.new (point_at player.new) (playing_of player.new)) }
+    ensures memory { OnErr result (MemoryStopped (IsAt request now manner.closing) (point_at player.old) (playing_of player.old) (K.stream sink.old) (K.stream sink.new) output.old output.new (point_at player.new)) }
 {
     let reply = match request_turn(alloc, player, now, request) {
         Ok(reply) => reply,
         Err(error) => return Err(error),
     };
-    let head = match answer_head(alloc, reply.status, reply.headers.as_slice(), closing) {
+    let way = framing(manner.chunks, reply.status, reply.headers.as_slice());
+    let head = match answer_head(
+        alloc,
+        reply.status,
+        reply.headers.as_slice(),
+        manner.closing,
+        way,
+    ) {
         Ok(head) => head,
         Err(error) => return Err(error),
     };
@@ -70,13 +102,31 @@ pub fn exchange<K: Sink, D: Disk>(
             Err(error) => return Err(error),
         };
         match answer {
-            Answer::Piece(piece) => match output.push(sink, piece.as_slice()) {
+            Answer::Piece(piece) => match output.push_piece(sink, way, piece.as_slice()) {
                 Ok(()) => {}
                 Err(_) => return Ok(Ended::SinkFailed),
             },
-            Answer::End => return Ok(what_follows(closing, reply.headers.as_slice())),
+            Answer::End => {
+                return Ok(ends_body(output, sink, way, manner.closing, reply.headers.as_slice()));
+            }
             _ => return Ok(Ended::Broke),
         }
+    }
+}
+
+// Writes what ends a body, and tells whether another request may follow.
+fn ends_body<K: Sink>(
+    output: &mut Output,
+    sink: &mut K,
+    way: Framing,
+    closing: bool,
+    fields: &[Field],
+) -> Ended
+    ensures { EndsBody way closing fields.now (K.stream sink.old) (K.stream sink.new) output.old result output.new }
+{
+    match output.push_end(sink, way) {
+        Ok(()) => what_follows(closing, fields),
+        Err(_) => Ended::SinkFailed,
     }
 }
 

@@ -7,7 +7,7 @@ ghost use Rattle.davserve.specs.Exchange.{fresh};
 ghost use Rattle.davserve.specs.Serving.{ServeEnds, ServedPartly, Starved, EndsAt, setup_with};
 ghost use Rattle.davserve.specs.Words.{with_buffer};
 
-use crate::exchange::{Ended, closes_after, exchange};
+use crate::exchange::{Ended, exchange, manner_of};
 use crate::words::Options;
 use dav_core::Disk;
 use dav_handler::Player;
@@ -29,10 +29,10 @@ fn answer<K: Sink, D: Disk>(
     ensures ends { IfOk result (λ ended. Answers (with_buffer options.bufsize) (point_of (D.state disk.old)) parts now (K.stream sink.old) (K.stream sink.new) output.old ended output.new (point_of (D.state disk.new))) }
     ensures memory { OnErr result (MemoryStopped (IsAnswerTo parts now) (point_of (D.state disk.old)) (fresh (with_buffer options.bufsize)) (K.stream sink.old) (K.stream sink.new) output.old output.new (point_of (D.state disk.new))) }
 {
-    let closing = closes_after(&parts);
+    let manner = manner_of(&parts);
     let request = into_request(alloc, parts);
     let mut player = Player::plain(alloc, &mut *disk, options.settings(alloc));
-    let ended = exchange(alloc, &mut player, output, sink, now, closing, request);
+    let ended = exchange(alloc, &mut player, output, sink, now, manner, request);
     let _ = player.into_disk();
     ended
 }

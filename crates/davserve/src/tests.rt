@@ -327,15 +327,26 @@ fn cut_folder(alloc: Global, count: u64) -> Result<MemDisk, NoMemory> {
     Ok(disk)
 }
 
-// What a run with this read buffer comes to, over a file that is cut to so many bytes after the first piece.
-fn cut_at(alloc: Global, size: &str, count: u64, wanted: &[&[u8]]) -> Result<Came, NoMemory> {
+// The bytes that a run over a disk writes with a read buffer of this size, and its status.
+fn written_with(
+    alloc: Global,
+    disk: &mut MemDisk,
+    size: &str,
+    input: &[u8],
+) -> Result<(u8, Octets), NoMemory> {
     let words = words_of(alloc, &["folder", "serve", "--bufsize", size])?;
-    let mut disk = cut_folder(alloc, count)?;
-    let mut source = MemSource::new(octets(alloc, &[GET])?, 100, Vec::new(alloc));
+    let mut source = MemSource::new(octets(alloc, &[input])?, 100, Vec::new(alloc));
     let mut sink = MemSink::new(alloc, 1_000, 100, Vec::new(alloc))?;
     let mut clock = SetClock::new(Moment(0));
-    let status = run(alloc, &words, &mut source, &mut sink, &mut disk, &mut clock)?;
-    if sink.written() == octets(alloc, wanted)?.as_slice() {
+    let status = run(alloc, &words, &mut source, &mut sink, disk, &mut clock)?;
+    Ok((status, octets(alloc, &[sink.written()])?))
+}
+
+// What a run with this read buffer comes to, over a file that is cut to so many bytes after the first piece.
+fn cut_at(alloc: Global, size: &str, count: u64, wanted: &[&[u8]]) -> Result<Came, NoMemory> {
+    let mut disk = cut_folder(alloc, count)?;
+    let (status, written) = written_with(alloc, &mut disk, size, GET)?;
+    if written.as_slice() == octets(alloc, wanted)?.as_slice() {
         return Ok(Came::Wanted(status));
     }
     Ok(Came::Other(status))
@@ -490,7 +501,7 @@ fn cuts_are_unfinished(alloc: Global) -> Result<bool, NoMemory> {
 }
 
 // Whether the front of an answer is written for which the sink has room, for each room.
-fn rooms_are_filled(alloc: Global, whole: &[u8]) -> Result<bool, NoMemory> {
+fn rooms_are_filled(alloc: Global, input: &[u8], whole: &[u8]) -> Result<bool, NoMemory> {
     for room in 0..whole.len() {
         let streams = Streams {
             source: 100,
@@ -499,7 +510,7 @@ fn rooms_are_filled(alloc: Global, whole: &[u8]) -> Result<bool, NoMemory> {
             fails: 0,
         };
         let (front, _) = whole.split_at(room);
-        if over(alloc, streams, GET, front)? != Came::Wanted(4) {
+        if over(alloc, streams, input, front)? != Came::Wanted(4) {
             return Ok(false);
         }
     }
@@ -530,7 +541,124 @@ fn cuts_and_faults_at_each_place(rt: HostRuntime) -> Result<(), Fail> {
     let alloc = rt.alloc();
     let whole = octets(alloc, &[HEAD, DIGITS])?;
     assert!(rt; cuts_are_unfinished(alloc)?);
-    assert!(rt; rooms_are_filled(alloc, whole.as_slice())?);
+    assert!(rt; rooms_are_filled(alloc, GET, whole.as_slice())?);
     assert!(rt; source_fails(alloc, whole.as_slice())?);
+    Ok(())
+}
+
+const PARTS_HEAD: &[u8] =
+    b"HTTP/1.1 206 Partial Content\r\naccept-ranges: bytes\r\ncontent-type: multipart/byteranges; boundary=BOUNDARY\r\netag: \"1a-a-f4240\"\r\nlast-modified: Thu, 01 Jan 1970 00:00:01 GMT\r\n\r\n";
+
+const PARTS_CLOSING: &[u8] =
+    b"HTTP/1.1 206 Partial Content\r\naccept-ranges: bytes\r\nconnection: close\r\ncontent-type: multipart/byteranges; boundary=BOUNDARY\r\netag: \"1a-a-f4240\"\r\nlast-modified: Thu, 01 Jan 1970 00:00:01 GMT\r\n\r\n";
+
+const PARTS_CHUNKED: &[u8] =
+    b"HTTP/1.1 206 Partial Content\r\naccept-ranges: bytes\r\ncontent-type: multipart/byteranges; boundary=BOUNDARY\r\netag: \"1a-a-f4240\"\r\nlast-modified: Thu, 01 Jan 1970 00:00:01 GMT\r\ntransfer-encoding: chunked\r\n\r\n";
+
+const FIRST_PART: &[u8] =
+    b"\n--BOUNDARY\nContent-Range: bytes 0-1/10\nContent-Type: text/plain\n\n";
+
+const SECOND_PART: &[u8] =
+    b"\n--BOUNDARY\nContent-Range: bytes 4-5/10\nContent-Type: text/plain\n\n";
+
+const LAST_BOUNDARY: &[u8] = b"\n--BOUNDARY--\n";
+
+const TWO_RANGES: &[u8] = b"GET /f.txt HTTP/1.1\r\nRange: bytes=0-1,4-5\r\n\r\n";
+
+// The answer to the request for two ranges, in chunks.
+fn in_chunks(alloc: Global) -> Result<Octets, NoMemory> {
+    octets(
+        alloc,
+        &[
+            PARTS_CHUNKED,
+            b"42\r\n",
+            FIRST_PART,
+            b"\r\n2\r\n01\r\n42\r\n",
+            SECOND_PART,
+            b"\r\n2\r\n45\r\ne\r\n",
+            LAST_BOUNDARY,
+            b"\r\n0\r\n\r\n",
+        ],
+    )
+}
+
+#[test]
+fn several_ranges_come_in_chunks(rt: HostRuntime) -> Result<(), Fail> {
+    let alloc = rt.alloc();
+    let done = [Came::Wanted(0); 2];
+    let chunks = in_chunks(alloc)?;
+    assert_eq!(rt; always(alloc, TWO_RANGES, &[chunks.as_slice()])?, done);
+    let followed =
+        b"GET /f.txt HTTP/1.1\r\nRange: bytes=0-1,4-5\r\n\r\nGET /e.txt HTTP/1.1\r\n\r\n";
+    assert_eq!(rt; always(alloc, followed, &[chunks.as_slice(), EMPTY])?, done);
+    let old = b"GET /f.txt HTTP/1.0\r\nRange: bytes=0-1,4-5\r\n\r\nGET /e.txt HTTP/1.0\r\n\r\n";
+    let raw: &[&[u8]] = &[
+        PARTS_CLOSING,
+        FIRST_PART,
+        b"01",
+        SECOND_PART,
+        b"45",
+        LAST_BOUNDARY,
+    ];
+    assert_eq!(rt; always(alloc, old, raw)?, done);
+    let head = b"HEAD /f.txt HTTP/1.1\r\nRange: bytes=0-1,4-5\r\n\r\nGET /e.txt HTTP/1.1\r\n\r\n";
+    assert_eq!(rt; always(alloc, head, &[PARTS_HEAD, EMPTY])?, done);
+    let old_head =
+        b"HEAD /f.txt HTTP/1.0\r\nRange: bytes=0-1,4-5\r\n\r\nGET /e.txt HTTP/1.0\r\n\r\n";
+    assert_eq!(rt; always(alloc, old_head, &[PARTS_CLOSING])?, done);
+    Ok(())
+}
+
+// A chunk is a piece, so a small buffer makes small chunks.
+#[test]
+fn buffers_bound_the_chunks(rt: HostRuntime) -> Result<(), Fail> {
+    let alloc = rt.alloc();
+    let mut disk = folder(alloc)?;
+    let (status, written) = written_with(alloc, &mut disk, "1", TWO_RANGES)?;
+    let wanted = octets(
+        alloc,
+        &[
+            PARTS_CHUNKED,
+            b"42\r\n",
+            FIRST_PART,
+            b"\r\n1\r\n0\r\n1\r\n1\r\n42\r\n",
+            SECOND_PART,
+            b"\r\n1\r\n4\r\n1\r\n5\r\ne\r\n",
+            LAST_BOUNDARY,
+            b"\r\n0\r\n\r\n",
+        ],
+    )?;
+    assert_eq!(rt; status, 0);
+    assert!(rt; written.as_slice() == wanted.as_slice());
+    Ok(())
+}
+
+// Where a body breaks, the last chunk isn't written.
+#[test]
+fn broken_bodies_have_no_last_chunk(rt: HostRuntime) -> Result<(), Fail> {
+    let alloc = rt.alloc();
+    let whole = in_chunks(alloc)?;
+    let mut has_broken = false;
+    for call in 1..10 {
+        let mut disk = folder(alloc)?;
+        disk.fail(call)?;
+        let (status, written) = written_with(alloc, &mut disk, "0", TWO_RANGES)?;
+        if status == 5 {
+            has_broken = true;
+            assert!(rt; whole.as_slice().starts_with(written.as_slice()), "{call}");
+            assert!(rt; !written.as_slice().ends_with(b"0\r\n\r\n"), "{call}");
+        } else {
+            assert_eq!(rt; status, 0, "{call}");
+        }
+    }
+    assert!(rt; has_broken);
+    Ok(())
+}
+
+#[test]
+fn chunks_are_cut_at_each_place(rt: HostRuntime) -> Result<(), Fail> {
+    let alloc = rt.alloc();
+    let whole = in_chunks(alloc)?;
+    assert!(rt; rooms_are_filled(alloc, TWO_RANGES, whole.as_slice())?);
     Ok(())
 }

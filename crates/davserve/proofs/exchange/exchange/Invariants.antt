@@ -11,5 +11,5 @@ abbrev pub invariant-pieces : goal.invariant-pieces
 invariant-pieces g l = record {
   replies : l.player.replies + 2 < 2 ^ 32;
   loan : g.D.Disk.loan l.player.store.disk ≡ g.D.Disk.loan l.fn.player.store.disk;
-  begun : Begun (point_at l.fn.player) (playing_of l.fn.player) l.fn.request l.fn.now l.fn.closing l.reply.status l.reply.headers l.reply.body (g.K.Sink.stream l.fn.sink) (g.K.Sink.stream l.sink) l.fn.output l.output (point_at l.player) (playing_of l.player);
+  begun : Begun (point_at l.fn.player) (playing_of l.fn.player) l.fn.request l.fn.now l.fn.manner.closing l.reply.status l.reply.headers l.reply.body (g.K.Sink.stream l.fn.sink) (g.K.Sink.stream l.sink) l.fn.output l.output (point_at l.player) (playing_of l.player);
 }
