@@ -1,7 +1,8 @@
 /* Gives a program the same request many times over pipes, so many in flight, and reads the answers. It prints the
  * program's processor time in seconds and its peak memory in KiB.
- *   drive COUNT FLIGHT TARGET http|echo|all PROGRAM WORDS..
- * http: an answer is a head and as many bytes as its content-length says, and all are alike. echo: it is the request.
+ *   drive COUNT FLIGHT TARGET http|part|echo|all PROGRAM WORDS..
+ * http: an answer is a head and as many bytes as its content-length says, and all are alike. part: so with 4 KiB from
+ * the middle of 256 MiB. echo: it is the request.
  * all: nothing is asked, and what the program writes is read to its end. */
 #define _GNU_SOURCE
 #include <stdio.h>
@@ -11,6 +12,7 @@
 #include <sys/wait.h>
 #include <unistd.h>
 
+static const char part[] = "Range: bytes=134217728-134221823\r\n";
 static char request[4096], in[1 << 16];
 static size_t length;
 static int to, from;
@@ -79,7 +81,8 @@ int main(int count, char **words) {
   struct rusage used;
   if (count < 6) return 2;
   long all = atol(words[1]), flight = atol(words[2]);
-  length = (size_t)snprintf(request, sizeof request, "GET %s HTTP/1.1\r\nHost: localhost\r\n\r\n", words[3]);
+  length = (size_t)snprintf(request, sizeof request, "GET %s HTTP/1.1\r\nHost: localhost\r\n%s\r\n", words[3],
+      strcmp(words[4], "part") == 0 ? part : "");
   if (pipe(there) != 0 || pipe(back) != 0) fail("pipe");
   pid_t child = fork();
   if (child < 0) fail("fork");

@@ -1,5 +1,5 @@
 #define _GNU_SOURCE
-/* What serving a file over standard input and output costs by itself: GET of a regular file, nothing checked.
+/* What serving a file over standard input and output costs by itself: GET of a regular file or of one range, nothing checked.
  * One buffer of 16 KiB; the head and the first bytes leave in one write. It is a yardstick and no server.
  *   floor ROOT */
 #include <fcntl.h>
@@ -21,26 +21,37 @@ static void write_all(const char *bytes, size_t count) {
   }
 }
 
-static size_t head_of(char *into, const struct stat *meta) {
+/* The head of the bytes from `first` on, `count` of them. */
+static size_t head_of(char *into, const struct stat *meta, long long first, long long count) {
   struct tm time;
-  char date[64];
+  char date[64], span[96] = "";
   gmtime_r(&meta->st_mtime, &time);
   strftime(date, sizeof date, "%a, %d %b %Y %H:%M:%S GMT", &time);
+  if (count < meta->st_size) {
+    snprintf(span, sizeof span, "content-range: bytes %lld-%lld/%lld\r\n", first, first + count - 1, (long long)meta->st_size);
+  }
   return (size_t)snprintf(into, HEAD,
-      "HTTP/1.1 200 OK\r\naccept-ranges: bytes\r\ncontent-length: %lld\r\ncontent-type: application/octet-stream\r\n"
+      "HTTP/1.1 %s\r\naccept-ranges: bytes\r\ncontent-length: %lld\r\n%scontent-type: application/octet-stream\r\n"
       "etag: \"%lx-%lx-%lx\"\r\nlast-modified: %s\r\n\r\n",
-      (long long)meta->st_size, (long)meta->st_ino, (long)meta->st_size,
+      *span ? "206 Partial Content" : "200 OK", count, span, (long)meta->st_ino, (long)meta->st_size,
       (long)(meta->st_mtim.tv_sec * 1000000 + meta->st_mtim.tv_nsec / 1000), date);
 }
 
-static void answer(const char *root, const char *target, int length) {
+static void answer(const char *root, const char *target, int length, const char *range) {
   static char path[4096], out[HEAD + PIECE];
   struct stat meta;
   snprintf(path, sizeof path, "%s%.*s", root, length, target);
   int file = open(path, O_RDONLY);
   if (file < 0 || fstat(file, &meta) != 0) exit(5);
-  size_t held = head_of(out, &meta);
-  long long left = meta.st_size;
+  long long first = 0, last = meta.st_size - 1;
+  if (range != NULL) {
+    char *dash;
+    first = strtoll(range, &dash, 10);
+    last = strtoll(dash + 1, NULL, 10);
+    if (lseek(file, first, SEEK_SET) < 0) exit(5);
+  }
+  long long left = last + 1 - first;
+  size_t held = head_of(out, &meta, first, left);
   while (left > 0) {
     ssize_t count = read(file, out + held, left < PIECE ? (size_t)left : PIECE);
     if (count <= 0) exit(5);
@@ -70,7 +81,8 @@ int main(int count, char **words) {
     char *first = memchr(in + start, ' ', (size_t)(last - in) - start);
     char *behind = first == NULL ? NULL : memchr(first + 1, ' ', (size_t)(last - first - 1));
     if (behind == NULL) return 6;
-    answer(words[1], first + 1, (int)(behind - first - 1));
+    char *range = memmem(behind, (size_t)(last - behind), "Range: bytes=", 13);
+    answer(words[1], first + 1, (int)(behind - first - 1), range == NULL ? NULL : range + 13);
     start = (size_t)(last - in) + 4;
   }
 }
