@@ -4,3 +4,5 @@ pub mod Exchanging
 pub mod Served
 pub mod Finding
 pub mod Completing
+pub mod Giving
+pub mod Delimiting

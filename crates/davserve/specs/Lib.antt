@@ -3,3 +3,4 @@ pub mod Exchange
 pub mod Ends
 pub mod Serving
 pub mod Completing
+pub mod Bodies

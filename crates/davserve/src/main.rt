@@ -2,6 +2,7 @@
 #![tactic(auto)]
 
 mod exchange;
+mod laws;
 mod run;
 mod serving;
 #[cfg(test)]

@@ -1,0 +1,101 @@
+-- What a played exchange gives of its body.
+use Rattle.std.proofs.Common.{◌≡◌, ◌++◌, ℕ, List, [], ◌∷◌, true, false, Ok, Some, Result, refl, sym, ap, subst, ◌∙◌, append-nil, codes, decimal}
+use Rattle.dav_core.specs.Keeps.{put_same}
+use Rattle.dav_model.specs.declared.step.Step.{Step}
+use Rattle.dav_model.specs.declared.step.Step.TheVariants.{Poll, Turn}
+use Rattle.dav_model.specs.declared.answer.Answer.{Answer}
+use Rattle.dav_model.specs.declared.answer.Answer.TheVariants.{Reply as Replied, Piece, End, Done}
+use Rattle.dav_model.specs.Announced.{IsPoll, PolledToEnd, bytes_in, length_is_own, value_of}
+use Rattle.dav_model.specs.Bodies.{Part, Playing, Polls}
+use Rattle.dav_model.specs.Head.{Reply}
+use Rattle.dav_model.specs.Play.{Ends, Played, Plays, Replies, Stands, Valid}
+use Rattle.dav_model.specs.Requests.{gates}
+use Rattle.dav_model.specs.Sizes.{read_size_of}
+use Rattle.dav_model.specs.Trail.{Point}
+use Rattle.dav_model.proofs.Framing.{given_length, gives_none}
+use Rattle.davserve.specs.Exchange.{Exchange, piece_steps, piece_answers, steps_of, answers_of}
+
+all_answered : (V : Type 0) (s m t : Point) (p q : Playing) (steps done rest : List Step) (answers added : List Answer) (trail : List Point)
+    → steps ≡ done ++ rest → answers ≡ [] ++ added → Plays V p s done trail added q → Ends (Ok tt) rest m t → Plays V p s steps trail answers q
+all_answered V s m t p q steps done (x ∷ rest) answers added trail e f plays ends = elim ends [ ]
+all_answered V s m t p q steps done [] answers added trail e f plays ends =
+    subst (λ z. Plays V p s steps trail z q) (sym f) (subst (λ z. Plays V p s z trail added q) (sym (e ∙ append-nil done)) plays)
+
+-- A run that wasn't refused memory answered all its steps.
+pub answered : (s t : Point) (p q : Playing) (steps : List Step) (answers : List Answer) (r : Played s p steps [] answers (Ok tt) t q)
+    → Plays (Valid s r.trail) p s steps r.trail answers q
+answered s t p q steps answers r = all_answered (Valid s r.trail) s _ t p q steps r.done r.rest answers r.added r.trail r.steps_are r.answers_are r.answered r.ends
+
+-- a poll of a player that is the same as before
+poll_of : (s t : Point) (p m : Playing) (body : ℕ) (answer : Answer) (rest : List Part) → m ≡ p
+    → Polls s.told s.whole (read_size_of m.settings.read_buf_size) s.faults t.faults (m.left body) answer rest → IsPoll (p.left body) answer rest
+poll_of s t p m body answer rest same polls = record {
+  told = s.told;
+  whole = s.whole;
+  most = read_size_of m.settings.read_buf_size;
+  before = s.faults;
+  after = t.faults;
+  polls = subst (λ (z : Playing). Polls s.told s.whole (read_size_of m.settings.read_buf_size) s.faults t.faults (z.left body) answer rest) same polls;
+}
+
+-- turns and polls to the end of a body
+pub polled_to_end : (V : Type 0) (s : Point) (p q : Playing) (body : ℕ) (pieces : List (List ℕ)) (ts : List Point)
+    → Plays V p s (piece_steps body pieces ++ Turn ∷ Poll body ∷ []) ts (piece_answers pieces ++ Done ∷ End ∷ []) q → PolledToEnd (p.left body) pieces
+polled_to_end V s p q body [] [] plays = elim plays [ ]
+polled_to_end V s p q body [] (t ∷ []) (m, turned, kept, never) = elim never [ ]
+polled_to_end V s p q body [] (t ∷ u ∷ us) (m, turned, kept, (n, (rest, are, polls), held, over)) =
+    (rest, poll_of t u p m body End rest turned.1 polls)
+polled_to_end V s p q body (piece ∷ pieces) [] plays = elim plays [ ]
+polled_to_end V s p q body (piece ∷ pieces) (t ∷ []) (m, turned, kept, never) = elim never [ ]
+polled_to_end V s p q body (piece ∷ pieces) (t ∷ u ∷ us) (m, turned, kept, (n, (rest, are, polls), held, more)) =
+    let left : n.left body ≡ rest = ap (λ (z : Playing). z.left body) are ∙ put_same body rest m.left in (
+      rest,
+      poll_of t u p m body (Piece piece) rest turned.1 polls,
+      subst (λ z. PolledToEnd z pieces) left (polled_to_end V u n q body pieces us more),
+    )
+
+-- The reply of an exchange between two points, and that its body was polled to its end.
+pub record Given (V : Type 0) (p : Playing) (x : Exchange) : Type 0 where
+  pub reply : Reply
+  pub before : Point
+  pub after : Point
+  pub status_is : x.status ≡ reply.status
+  pub fields_are : x.fields ≡ reply.fields
+  pub replies : Replies V p.settings before after x.request reply
+  pub polled : PolledToEnd reply.parts x.pieces
+
+given_by : (V : Type 0) (s : Point) (p q : Playing) (x : Exchange) (ts : List Point) → Plays V p s (steps_of x) ts (answers_of x) q → Given V p x
+given_by V s p q x [] plays = elim plays [ ]
+given_by V s p q x (t ∷ []) (m, turned, kept, never) = elim never [ ]
+given_by V s p q x (t ∷ u ∷ []) (m, turned, kept, (n, purged, held, never)) = elim never [ ]
+given_by V s p q x (t ∷ u ∷ v ∷ ts) (m, turned, kept, (n, purged, held, (o, (reply, is, are, right), stays, more))) =
+    let body : x.body ≡ n.replies = cc in
+    let left : o.left x.body ≡ reply.parts = ap (λ (z : Playing). z.left x.body) are ∙ (rw body (put_same n.replies reply.parts n.left)) in
+    record {
+      reply = reply;
+      before = u;
+      after = v;
+      status_is = cc;
+      fields_are = cc;
+      replies = subst (λ (z : Playing). Replies V z.settings u v x.request reply) (purged.1 ∙ turned.1) right;
+      polled = subst (λ z. PolledToEnd z x.pieces) left (polled_to_end V v o q x.body x.pieces ts more);
+    }
+
+-- what a played exchange was given
+pub given_of : (s t : Point) (p q : Playing) (x : Exchange) (r : Played s p (steps_of x) [] (answers_of x) (Ok tt) t q) → Given (Valid s r.trail) p x
+given_of s t p q x r = given_by (Valid s r.trail) s p q x r.trail (answered s t p q (steps_of x) (answers_of x) r)
+
+-- an exchange has the announced length
+pub announced_length : (s t : Point) (p q : Playing) (x : Exchange) (value : List ℕ) → Played s p (steps_of x) [] (answers_of x) (Ok tt) t q
+    → length_is_own (gates x.request) x.status ≡ true → value_of (codes "content-length") x.fields ≡ Some value → value ≡ decimal (bytes_in x.pieces)
+announced_length s t p q x value r own says =
+    let g = given_of s t p q x r in
+    given_length (gates x.request) g.reply value x.pieces g.replies.framed (ap (length_is_own (gates x.request)) (sym g.status_is) ∙ own)
+    (ap (value_of (codes "content-length")) (sym g.fields_are) ∙ says) g.polled
+
+-- and none where it has no body
+pub announced_none : (s t : Point) (p q : Playing) (x : Exchange) → Played s p (steps_of x) [] (answers_of x) (Ok tt) t q
+    → length_is_own (gates x.request) x.status ≡ false → x.pieces ≡ []
+announced_none s t p q x r other =
+    let g = given_of s t p q x r in
+    gives_none (gates x.request) g.reply x.pieces g.replies.framed (ap (length_is_own (gates x.request)) (sym g.status_is) ∙ other) g.polled

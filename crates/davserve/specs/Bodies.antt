@@ -1,0 +1,34 @@
+-- How a client knows where the body of an answer ends (RFC 9112, section 6.3).
+use Rattle.std.specs.Prelude.{◌≡◌, ◌⊎◌, ◌<◌, ◌^◌, ℕ, List, length, true, codes, Some}
+use Rattle.http.specs.declared.version.TheConstants.Version.{HTTP_10}
+use Rattle.http.specs.Request.{head_of}
+use Rattle.dav_model.specs.Announced.{value_of}
+use Rattle.dav_wire.specs.declared.chunks.Framing.TheVariants.{Chunked}
+use Rattle.davserve.specs.Exchange.{Exchange, framing_of, is_closed}
+
+-- the answer to a HEAD
+abbrev pub IsToHead : Exchange → Type 0
+IsToHead x = (head_of x.request).method ≡ codes "HEAD"
+
+-- An answer to which a client expects no body, whatever its fields say.
+abbrev pub IsBodiless : Exchange → Type 0
+IsBodiless x = IsToHead x ⊎ ((x.status ≡ 204) ⊎ (x.status ≡ 304))
+
+-- The answer says this value of `content-length`.
+abbrev pub Announces : Exchange → List ℕ → Type 0
+Announces x value = value_of (codes "content-length") x.fields ≡ Some value
+
+abbrev pub HasLength : Exchange → Type 0
+HasLength x = (value : List ℕ) × Announces x value
+
+-- A client of version 1.0 reads to the end of the connection.
+abbrev pub EndsWithConnection : Exchange → Type 0
+EndsWithConnection x = ((head_of x.request).version ≡ HTTP_10) × (is_closed x ≡ true)
+
+-- What tells a client where the body ends: that there is none, its chunks, its length, or the end of the connection.
+abbrev pub TellsEnd : Exchange → Type 0
+TellsEnd x = IsBodiless x ⊎ ((framing_of x ≡ Chunked) ⊎ (HasLength x ⊎ EndsWithConnection x))
+
+-- A piece whose size has at most 16 hexadecimal digits, as that of all that stands in memory.
+abbrev pub IsShort : List ℕ → Type 0
+IsShort piece = length piece < 16 ^ 16
