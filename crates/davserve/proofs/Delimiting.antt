@@ -1,5 +1,5 @@
 -- How the bytes of an answer's body are written, and where a client finds their end.
-use Rattle.std.proofs.Common.{◌≡◌, ◌+◌, ◌==◌, ◌&&◌, ◌||◌, ◌++◌, ◌⊎◌, ℕ, List, [], ◌∷◌, Bool, true, false, cond, not, Some, Option, length, bytes_eq, codes, refl, sym, ap, subst, ◌∙◌, inl, inr, true≢false, append_assoc, length-append, if◌then◌else◌}
+use Rattle.std.proofs.Common.{◌≡◌, ◌+◌, ◌==◌, ◌&&◌, ◌||◌, ◌++◌, ◌⊎◌, ℕ, List, [], ◌∷◌, Bool, true, false, cond, not, Some, Option, All, length, bytes_eq, codes, refl, sym, ap, subst, ◌∙◌, inl, inr, true≢false, append_assoc, length-append, if◌then◌else◌}
 use Rattle.std.specs.List.{concat, flat_map}
 use Rattle.std.proofs.lemmas.Bool.{eqb-true}
 use Rattle.std.proofs.lemmas.Slice.Eq.{bytes_eq-Decides}
@@ -12,12 +12,12 @@ use Rattle.dav_io.specs.declared.clock.Moment.{Moment}
 use Rattle.dav_io.specs.declared.fields.Field.{Field}
 use Rattle.dav_model.specs.Announced.{bytes_in, value_of}
 use Rattle.dav_wire.specs.Answers.{head_text, has_close_field}
-use Rattle.dav_wire.specs.Chunks.{written, ending}
+use Rattle.dav_wire.specs.Chunks.{written, ending, IsPiece, HasBody}
 use Rattle.dav_wire.specs.Framing.{framing, has_length, is_bodiless, is_eleven, takes_chunks}
 use Rattle.dav_wire.specs.Heads.{version_of}
 use Rattle.dav_wire.specs.declared.chunks.Framing.{Framing}
 use Rattle.dav_wire.specs.declared.chunks.Framing.TheVariants.{Raw, Chunked}
-use Rattle.dav_wire.proofs.Chunking.{raw_back}
+use Rattle.dav_wire.proofs.Chunking.{body_back, raw_back}
 use Rattle.davserve.specs.Bodies.{Announces, EndsWithConnection, IsBodiless, TellsEnd}
 use Rattle.davserve.specs.Exchange.{Exchange, IsOf, framing_of, wire_of}
 
@@ -74,6 +74,12 @@ raw_body x behind e =
     ap (λ w. flat_map (written w) x.pieces ++ (ending w ++ behind)) e
     ∙ sym (append_assoc (flat_map (written Raw) x.pieces) (ending Raw) behind)
     ∙ ap (λ z. z ++ behind) (raw_back x.pieces)
+
+-- a body in chunks, and what ends it
+pub back_in_chunks : (x : Exchange) (behind : List ℕ) → framing_of x ≡ Chunked → All IsPiece x.pieces
+    → HasBody (flat_map (written (framing_of x)) x.pieces ++ (ending (framing_of x) ++ behind)) (concat x.pieces) behind
+back_in_chunks x behind e all =
+    subst (λ w. HasBody (flat_map (written w) x.pieces ++ (ending w ++ behind)) (concat x.pieces) behind) (sym e) (body_back x.pieces behind all)
 
 -- a request of version 1.0, or of 1.1
 old_or_new : (old : Bool) (version : Version) → version ≡ (if old then HTTP_10 else HTTP_11) → (version ≡ HTTP_10) ⊎ (is_eleven version ≡ true)

@@ -1,8 +1,10 @@
 -- What a played exchange gives of its body.
 use Rattle.std.proofs.Common.{◌≡◌, ◌++◌, ℕ, List, [], ◌∷◌, true, false, Ok, Some, Result, refl, sym, ap, subst, ◌∙◌, append-nil, codes, decimal}
+use Rattle.dav_io.specs.Told.{told_after}
 use Rattle.dav_core.specs.Keeps.{put_same}
+use Rattle.dav_core.specs.World.{World}
 use Rattle.dav_model.specs.declared.step.Step.{Step}
-use Rattle.dav_model.specs.declared.step.Step.TheVariants.{Poll, Turn}
+use Rattle.dav_model.specs.declared.step.Step.TheVariants.{Poll, Purge, Turn}
 use Rattle.dav_model.specs.declared.answer.Answer.{Answer}
 use Rattle.dav_model.specs.declared.answer.Answer.TheVariants.{Reply as Replied, Piece, End, Done}
 use Rattle.dav_model.specs.Announced.{IsPoll, PolledToEnd, bytes_in, length_is_own, value_of}
@@ -11,20 +13,21 @@ use Rattle.dav_model.specs.Head.{Reply}
 use Rattle.dav_model.specs.Play.{Ends, Played, Plays, Replies, Stands, Valid}
 use Rattle.dav_model.specs.Requests.{gates}
 use Rattle.dav_model.specs.Sizes.{read_size_of}
-use Rattle.dav_model.specs.Trail.{Point}
+use Rattle.dav_model.specs.Trail.{Point, Goes, Trail}
 use Rattle.dav_model.proofs.Framing.{given_length, gives_none}
 use Rattle.davserve.specs.Exchange.{Exchange, piece_steps, piece_answers, steps_of, answers_of}
 
 all_answered : (V : Type 0) (s m t : Point) (p q : Playing) (steps done rest : List Step) (answers added : List Answer) (trail : List Point)
-    → steps ≡ done ++ rest → answers ≡ [] ++ added → Plays V p s done trail added q → Ends (Ok tt) rest m t → Plays V p s steps trail answers q
-all_answered V s m t p q steps done (x ∷ rest) answers added trail e f plays ends = elim ends [ ]
-all_answered V s m t p q steps done [] answers added trail e f plays ends =
-    subst (λ z. Plays V p s steps trail z q) (sym f) (subst (λ z. Plays V p s z trail added q) (sym (e ∙ append-nil done)) plays)
+    → steps ≡ done ++ rest → answers ≡ [] ++ added → Trail s done trail × Plays V p s done trail added q → Ends (Ok tt) rest m t
+    → Trail s steps trail × Plays V p s steps trail answers q
+all_answered V s m t p q steps done (x ∷ rest) answers added trail e f both ends = elim ends [ ]
+all_answered V s m t p q steps done [] answers added trail e f both ends =
+    subst (λ z. Trail s steps trail × Plays V p s steps trail z q) (sym f) (subst (λ z. Trail s z trail × Plays V p s z trail added q) (sym (e ∙ append-nil done)) both)
 
 -- A run that wasn't refused memory answered all its steps.
 pub answered : (s t : Point) (p q : Playing) (steps : List Step) (answers : List Answer) (r : Played s p steps [] answers (Ok tt) t q)
-    → Plays (Valid s r.trail) p s steps r.trail answers q
-answered s t p q steps answers r = all_answered (Valid s r.trail) s _ t p q steps r.done r.rest answers r.added r.trail r.steps_are r.answers_are r.answered r.ends
+    → Trail s steps r.trail × Plays (Valid s r.trail) p s steps r.trail answers q
+answered s t p q steps answers r = all_answered (Valid s r.trail) s _ t p q steps r.done r.rest answers r.added r.trail r.steps_are r.answers_are (r.allowed, r.answered) r.ends
 
 -- a poll of a player that is the same as before
 poll_of : (s t : Point) (p m : Playing) (body : ℕ) (answer : Answer) (rest : List Part) → m ≡ p
@@ -54,27 +57,36 @@ polled_to_end V s p q body (piece ∷ pieces) (t ∷ u ∷ us) (m, turned, kept,
       subst (λ z. PolledToEnd z pieces) left (polled_to_end V u n q body pieces us more),
     )
 
+-- the disk tells at both, if at the first
+abbrev Tells : Point → Point → Type 0
+Tells s t = (w : World) → s.told ≡ Some w → (v : World) × (t.told ≡ Some v)
+
 -- The reply of an exchange between two points, and that its body was polled to its end.
-pub record Given (V : Type 0) (p : Playing) (x : Exchange) : Type 0 where
+pub record Given (V : Type 0) (s : Point) (p : Playing) (x : Exchange) : Type 0 where
   pub reply : Reply
   pub before : Point
   pub after : Point
+  pub tells : Tells s before
   pub status_is : x.status ≡ reply.status
   pub fields_are : x.fields ≡ reply.fields
   pub replies : Replies V p.settings before after x.request reply
   pub polled : PolledToEnd reply.parts x.pieces
 
-given_by : (V : Type 0) (s : Point) (p q : Playing) (x : Exchange) (ts : List Point) → Plays V p s (steps_of x) ts (answers_of x) q → Given V p x
-given_by V s p q x [] plays = elim plays [ ]
-given_by V s p q x (t ∷ []) (m, turned, kept, never) = elim never [ ]
-given_by V s p q x (t ∷ u ∷ []) (m, turned, kept, (n, purged, held, never)) = elim never [ ]
-given_by V s p q x (t ∷ u ∷ v ∷ ts) (m, turned, kept, (n, purged, held, (o, (reply, is, are, right), stays, more))) =
+tells_on : (s t : Point) (step : Step) → Goes step s t → Tells s t
+tells_on s t step goes w e = let after = told_after s.told t.told _ w goes.world e in (after.0, after.1)
+
+given_by : (V : Type 0) (s : Point) (p q : Playing) (x : Exchange) (ts : List Point) → Trail s (steps_of x) ts → Plays V p s (steps_of x) ts (answers_of x) q → Given V s p x
+given_by V s p q x [] trail plays = elim plays [ ]
+given_by V s p q x (t ∷ []) trail (m, turned, kept, never) = elim never [ ]
+given_by V s p q x (t ∷ u ∷ []) trail (m, turned, kept, (n, purged, held, never)) = elim never [ ]
+given_by V s p q x (t ∷ u ∷ v ∷ ts) trail (m, turned, kept, (n, purged, held, (o, (reply, is, are, right), stays, more))) =
     let body : x.body ≡ n.replies = cc in
     let left : o.left x.body ≡ reply.parts = ap (λ (z : Playing). z.left x.body) are ∙ (rw body (put_same n.replies reply.parts n.left)) in
     record {
       reply = reply;
       before = u;
       after = v;
+      tells = λ w e. let then = tells_on s t Turn trail.0 w e in tells_on t u (Purge x.now) trail.1.0 then.0 then.1;
       status_is = cc;
       fields_are = cc;
       replies = subst (λ (z : Playing). Replies V z.settings u v x.request reply) (purged.1 ∙ turned.1) right;
@@ -82,8 +94,8 @@ given_by V s p q x (t ∷ u ∷ v ∷ ts) (m, turned, kept, (n, purged, held, (o
     }
 
 -- what a played exchange was given
-pub given_of : (s t : Point) (p q : Playing) (x : Exchange) (r : Played s p (steps_of x) [] (answers_of x) (Ok tt) t q) → Given (Valid s r.trail) p x
-given_of s t p q x r = given_by (Valid s r.trail) s p q x r.trail (answered s t p q (steps_of x) (answers_of x) r)
+pub given_of : (s t : Point) (p q : Playing) (x : Exchange) (r : Played s p (steps_of x) [] (answers_of x) (Ok tt) t q) → Given (Valid s r.trail) s p x
+given_of s t p q x r = let both = answered s t p q (steps_of x) (answers_of x) r in given_by (Valid s r.trail) s p q x r.trail both.0 both.1
 
 -- an exchange has the announced length
 pub announced_length : (s t : Point) (p q : Playing) (x : Exchange) (value : List ℕ) → Played s p (steps_of x) [] (answers_of x) (Ok tt) t q

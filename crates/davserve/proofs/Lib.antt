@@ -6,3 +6,6 @@ pub mod Finding
 pub mod Completing
 pub mod Giving
 pub mod Delimiting
+pub mod Bodiless
+pub mod Nonempty
+pub mod Announced

@@ -1,10 +1,13 @@
 -- How a client knows where the body of an answer ends (RFC 9112, section 6.3).
-use Rattle.std.specs.Prelude.{◌≡◌, ◌⊎◌, ◌<◌, ◌^◌, ℕ, List, length, true, codes, Some}
+use Rattle.std.specs.Prelude.{◌≡◌, ◌⊎◌, ◌<◌, ◌^◌, ◌++◌, ℕ, List, [], length, true, false, codes, decimal, Some}
+use Rattle.std.specs.List.{concat}
 use Rattle.http.specs.declared.version.TheConstants.Version.{HTTP_10}
 use Rattle.http.specs.Request.{head_of}
-use Rattle.dav_model.specs.Announced.{value_of}
-use Rattle.dav_wire.specs.declared.chunks.Framing.TheVariants.{Chunked}
-use Rattle.davserve.specs.Exchange.{Exchange, framing_of, is_closed}
+use Rattle.dav_model.specs.Announced.{length_is_own, value_of}
+use Rattle.dav_model.specs.Requests.{gates}
+use Rattle.dav_wire.specs.Answers.{head_text}
+use Rattle.dav_wire.specs.declared.chunks.Framing.TheVariants.{Raw, Chunked}
+use Rattle.davserve.specs.Exchange.{Exchange, framing_of, is_closed, wire_of}
 
 -- the answer to a HEAD
 abbrev pub IsToHead : Exchange → Type 0
@@ -32,3 +35,11 @@ TellsEnd x = IsBodiless x ⊎ ((framing_of x ≡ Chunked) ⊎ (HasLength x ⊎ E
 -- A piece whose size has at most 16 hexadecimal digits, as that of all that stands in memory.
 abbrev pub IsShort : List ℕ → Type 0
 IsShort piece = length piece < 16 ^ 16
+
+-- The bytes of the body are as many as the answer announces, and all that stands behind the head. There are none where the
+-- field speaks of a body that isn't sent.
+pub record GivesAnnounced (x : Exchange) : Type 0 where
+  pub counted : length_is_own (gates x.request) x.status ≡ true → (value : List ℕ) → Announces x value → value ≡ decimal (length (concat x.pieces))
+  pub none : length_is_own (gates x.request) x.status ≡ false → x.pieces ≡ []
+  pub written : (value : List ℕ) → Announces x value → wire_of x ≡ head_text x.status x.fields x.closing Raw ++ concat x.pieces
+  pub tells : TellsEnd x

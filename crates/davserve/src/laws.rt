@@ -1,25 +1,63 @@
 //! Laws over exchanges that were played to their end, as each that `run` answers was. Each function does nothing; its
 //! contract is the law.
-ghost use Rattle.std.specs.Prelude.{◌≡◌, ◌++◌, ℕ, List, [], true, false, codes, decimal, Some, Ok, length};
-ghost use Rattle.std.specs.List.{concat};
-ghost use Rattle.dav_model.specs.Announced.{bytes_in, length_is_own, value_of};
+ghost use Rattle.std.specs.Prelude.{◌≡◌, ◌⊎◌, ◌++◌, ℕ, Bool, List, [], All, true, false, decimal, Option, Some, Ok, length};
+ghost use Rattle.std.specs.List.{AllByRecursion, concat, flat_map};
+ghost use Rattle.httparse.specs.Grammar.{RequestHead};
+ghost use Rattle.dav_io.specs.Outside.{Stream};
+ghost use Rattle.dav_io.specs.declared.clock.Moment.{Moment};
+ghost use Rattle.dav_core.specs.World.{World};
+ghost use Rattle.dav_model.specs.Announced.{bytes_in, length_is_own};
 ghost use Rattle.dav_model.specs.Bodies.{Playing};
-ghost use Rattle.dav_model.specs.Play.{Played};
+ghost use Rattle.dav_model.specs.Play.{Played, Valid};
 ghost use Rattle.dav_model.specs.Requests.{gates};
 ghost use Rattle.dav_model.specs.Trail.{Point};
 ghost use Rattle.dav_wire.specs.Answers.{head_text};
-ghost use Rattle.dav_wire.specs.declared.chunks.Framing.TheVariants.{Raw};
-ghost use Rattle.davserve.specs.Exchange.{Exchange, steps_of, answers_of, wire_of};
+ghost use Rattle.dav_wire.specs.Chunks.{written, ending, IsPiece, HasBody};
+ghost use Rattle.dav_wire.specs.declared.chunks.Framing.TheVariants.{Raw, Chunked};
+ghost use Rattle.davserve.specs.Bodies.{Announces, GivesAnnounced, IsBodiless, IsShort, IsToHead, TellsEnd};
+ghost use Rattle.davserve.specs.Exchange.{Exchange, IsOf, framing_of, steps_of, answers_of, wire_of};
+ghost use Rattle.davserve.specs.Serving.{Setup, Serving};
 
 /// Where the field `content-length` of an answer speaks of the body that is sent, its value is the number of the bytes
 /// behind the head, whatever happens to the files meanwhile, and whether the disk tells of them or not. To a HEAD, and
 /// with 304, no byte follows the head (RFC 9110, section 8.6).
 pub fn answers_have_the_announced_length()
     ensures length { (s t : Point) (p q : Playing) (x : Exchange) (value : List ℕ) → Played s p (steps_of x) [] (answers_of x) (Ok tt) t q
-        → length_is_own (gates x.request) x.status ≡ true → value_of (codes "content-length") x.fields ≡ Some value → value ≡ decimal (bytes_in x.pieces) }
+        → length_is_own (gates x.request) x.status ≡ true → Announces x value → value ≡ decimal (bytes_in x.pieces) }
     ensures none { (s t : Point) (p q : Playing) (x : Exchange) → Played s p (steps_of x) [] (answers_of x) (Ok tt) t q
         → length_is_own (gates x.request) x.status ≡ false → x.pieces ≡ [] }
-    ensures written { (x : Exchange) (value : List ℕ) → value_of (codes "content-length") x.fields ≡ Some value
+    ensures written { (x : Exchange) (value : List ℕ) → Announces x value
         → wire_of x ≡ head_text x.status x.fields x.closing Raw ++ concat x.pieces }
     ensures counted { (x : Exchange) → bytes_in x.pieces ≡ length (concat x.pieces) }
+{}
+
+/// The body of an answer in chunks, as it is written, is read back as the bytes of its pieces, whatever follows, and one
+/// that isn't in chunks is these bytes.
+///
+/// What was played says of each piece of a file that it isn't empty, and of each text only where the disk tells (`told`).
+/// That a piece is short holds of all that stands in memory.
+pub fn answers_in_chunks_are_read_back()
+    ensures chunked { (x : Exchange) (behind : List ℕ) → framing_of x ≡ Chunked → All IsPiece x.pieces
+        → HasBody (flat_map (written (framing_of x)) x.pieces ++ (ending (framing_of x) ++ behind)) (concat x.pieces) behind }
+    ensures told { (s t : Point) (p q : Playing) (x : Exchange) (w : World) (behind : List ℕ) → (r : Played s p (steps_of x) [] (answers_of x) (Ok tt) t q)
+        → s.told ≡ Some w → Valid s r.trail → framing_of x ≡ Chunked → All IsShort x.pieces
+        → HasBody (flat_map (written (framing_of x)) x.pieces ++ (ending (framing_of x) ++ behind)) (concat x.pieces) behind }
+    ensures raw { (x : Exchange) (behind : List ℕ) → framing_of x ≡ Raw
+        → flat_map (written (framing_of x)) x.pieces ++ (ending (framing_of x) ++ behind) ≡ concat x.pieces ++ behind }
+{}
+
+/// Each answer tells its end: it has no body, or it is in chunks, or it says its length, or the version is 1.0 and the
+/// connection closes behind it (RFC 9112, section 6.3). To a HEAD, and with 304, no byte follows the head.
+pub fn framed_answers_end()
+    ensures tells { (shown : Option Moment) (head : RequestHead) (x : Exchange) → IsOf shown head x → TellsEnd x }
+    ensures none { (s t : Point) (p q : Playing) (x : Exchange) → Played s p (steps_of x) [] (answers_of x) (Ok tt) t q
+        → IsToHead x ⊎ (x.status ≡ 304) → x.pieces ≡ [] }
+    ensures told { (s t : Point) (p q : Playing) (x : Exchange) (w : World) → (r : Played s p (steps_of x) [] (answers_of x) (Ok tt) t q)
+        → s.told ≡ Some w → Valid s r.trail → IsBodiless x → x.pieces ≡ [] }
+{}
+
+/// All exchanges that a run answered give what they announce, and tell their end.
+pub fn served_answers_give_what_they_announce()
+    ensures { (setup : Setup) (closed : Bool) (input source : Stream) (held : List ℕ) (s t : Point) (xs : List Exchange)
+        → Serving setup closed input source held s xs t → AllByRecursion GivesAnnounced xs }
 {}
