@@ -1,15 +1,15 @@
 -- Each exchange of a run gives what it announces.
-use Rattle.std.proofs.Common.{◌≡◌, ℕ, List, [], ◌∷◌, Bool, Ok, ap, ◌∙◌, decimal}
+use Rattle.std.proofs.Common.{ℕ, List, [], ◌∷◌, Bool, Ok, ap, ◌∙◌, decimal}
 use Rattle.std.specs.List.{AllByRecursion}
 use Rattle.httparse.specs.Grammar.{RequestHead}
 use Rattle.dav_io.specs.Outside.{Stream}
-use Rattle.dav_io.specs.declared.clock.Moment.{Moment}
 use Rattle.dav_model.specs.Bodies.{Playing}
 use Rattle.dav_model.specs.Play.{Played}
 use Rattle.dav_model.specs.Trail.{Point}
 use Rattle.davserve.specs.Bodies.{GivesAnnounced}
 use Rattle.davserve.specs.Exchange.{Exchange, IsOf, steps_of, answers_of}
 use Rattle.davserve.specs.Serving.{Setup, Chain, Alike, Serving}
+use Rattle.davserve.proofs.Bodiless.{is_alone}
 use Rattle.davserve.proofs.Delimiting.{announced_wire, counted_bytes, tells_end}
 use Rattle.davserve.proofs.Giving.{announced_length, announced_none}
 
@@ -18,6 +18,7 @@ gives_announced shown head s t p q x is r = record {
   counted = λ own value says. announced_length s t p q x value r own says ∙ ap decimal (counted_bytes x.pieces);
   none = announced_none s t p q x r;
   written = announced_wire x;
+  bodiless = is_alone s t p q x r;
   tells = tells_end shown head x is;
 }
 

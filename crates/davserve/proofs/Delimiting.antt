@@ -1,9 +1,8 @@
 -- How the bytes of an answer's body are written, and where a client finds their end.
-use Rattle.std.proofs.Common.{◌≡◌, ◌+◌, ◌==◌, ◌&&◌, ◌||◌, ◌++◌, ◌⊎◌, ℕ, List, [], ◌∷◌, Bool, true, false, cond, not, Some, Option, All, length, bytes_eq, codes, refl, sym, ap, subst, ◌∙◌, inl, inr, true≢false, append_assoc, length-append, if◌then◌else◌}
+use Rattle.std.proofs.Common.{◌≡◌, ◌+◌, ◌==◌, ◌&&◌, ◌||◌, ◌++◌, ◌⊎◌, ℕ, List, [], ◌∷◌, Bool, true, false, cond, not, Some, Option, All, length, bytes_eq, codes, refl, sym, ap, subst, ◌∙◌, inl, inr, true≢false, append_assoc, append-nil, length-append, if◌then◌else◌}
 use Rattle.std.specs.List.{concat, flat_map}
 use Rattle.std.proofs.lemmas.Bool.{eqb-true}
 use Rattle.std.proofs.lemmas.Slice.Eq.{bytes_eq-Decides}
-use Rattle.http.specs.declared.request.Parts.{Parts}
 use Rattle.http.specs.declared.version.Version.{Version}
 use Rattle.http.specs.declared.version.TheConstants.Version.{HTTP_10, HTTP_11}
 use Rattle.http.specs.Request.{head_of}
@@ -13,12 +12,11 @@ use Rattle.dav_io.specs.declared.fields.Field.{Field}
 use Rattle.dav_model.specs.Announced.{bytes_in, value_of}
 use Rattle.dav_wire.specs.Answers.{head_text, has_close_field}
 use Rattle.dav_wire.specs.Chunks.{written, ending, IsPiece, HasBody}
-use Rattle.dav_wire.specs.Framing.{framing, has_length, is_bodiless, is_eleven, takes_chunks}
-use Rattle.dav_wire.specs.Heads.{version_of}
+use Rattle.dav_wire.specs.Framing.{has_length, is_bodiless, is_eleven, takes_chunks}
 use Rattle.dav_wire.specs.declared.chunks.Framing.{Framing}
 use Rattle.dav_wire.specs.declared.chunks.Framing.TheVariants.{Raw, Chunked}
 use Rattle.dav_wire.proofs.Chunking.{body_back, raw_back}
-use Rattle.davserve.specs.Bodies.{Announces, EndsWithConnection, IsBodiless, TellsEnd}
+use Rattle.davserve.specs.Bodies.{Announces, IsBodiless, IsHeadAlone, TellsEnd}
 use Rattle.davserve.specs.Exchange.{Exchange, IsOf, framing_of, wire_of}
 
 -- a field has a value where it stands
@@ -74,6 +72,26 @@ raw_body x behind e =
     ap (λ w. flat_map (written w) x.pieces ++ (ending w ++ behind)) e
     ∙ sym (append_assoc (flat_map (written Raw) x.pieces) (ending Raw) behind)
     ∙ ap (λ z. z ++ behind) (raw_back x.pieces)
+
+raw_head : (eleven head body : Bool) → head ≡ true → (if (eleven && not head) && body then Chunked else Raw) ≡ Raw
+raw_head true head body e = rw e refl
+raw_head false head body e = refl
+
+raw_bodiless : (chunks bodiless short : Bool) → bodiless ≡ true → (if chunks && (not bodiless && short) then Chunked else Raw) ≡ Raw
+raw_bodiless true bodiless short e = rw e refl
+raw_bodiless false bodiless short e = refl
+
+-- What has no body isn't written in chunks.
+bodiless_raw : (x : Exchange) → IsBodiless x → framing_of x ≡ Raw
+bodiless_raw x (inl head) =
+    raw_head (is_eleven (head_of x.request).version) (bytes_eq (head_of x.request).method (codes "HEAD")) (not (is_bodiless x.status) && not (has_length x.fields))
+    ((bytes_eq-Decides (head_of x.request).method (codes "HEAD")).1 head)
+bodiless_raw x (inr (inl e)) = raw_bodiless (takes_chunks (head_of x.request)) (is_bodiless x.status) (not (has_length x.fields)) (ap is_bodiless e)
+bodiless_raw x (inr (inr e)) = raw_bodiless (takes_chunks (head_of x.request)) (is_bodiless x.status) (not (has_length x.fields)) (ap is_bodiless e)
+
+pub head_alone : (x : Exchange) → IsBodiless x → x.pieces ≡ [] → IsHeadAlone x
+head_alone x is none =
+    raw_wire x (bodiless_raw x is) ∙ ap (λ (z : List (List ℕ)). head_text x.status x.fields x.closing Raw ++ concat z) none ∙ append-nil (head_text x.status x.fields x.closing Raw)
 
 -- a body in chunks, and what ends it
 pub back_in_chunks : (x : Exchange) (behind : List ℕ) → framing_of x ≡ Chunked → All IsPiece x.pieces

@@ -1,16 +1,16 @@
 -- What a played exchange gives of its body.
-use Rattle.std.proofs.Common.{◌≡◌, ◌++◌, ℕ, List, [], ◌∷◌, true, false, Ok, Some, Result, refl, sym, ap, subst, ◌∙◌, append-nil, codes, decimal}
+use Rattle.std.proofs.Common.{◌≡◌, ◌++◌, ℕ, List, [], ◌∷◌, true, false, Ok, Some, sym, ap, subst, ◌∙◌, append-nil, codes, decimal}
 use Rattle.dav_io.specs.Told.{told_after}
 use Rattle.dav_core.specs.Keeps.{put_same}
 use Rattle.dav_core.specs.World.{World}
 use Rattle.dav_model.specs.declared.step.Step.{Step}
 use Rattle.dav_model.specs.declared.step.Step.TheVariants.{Poll, Purge, Turn}
 use Rattle.dav_model.specs.declared.answer.Answer.{Answer}
-use Rattle.dav_model.specs.declared.answer.Answer.TheVariants.{Reply as Replied, Piece, End, Done}
+use Rattle.dav_model.specs.declared.answer.Answer.TheVariants.{Piece, End, Done}
 use Rattle.dav_model.specs.Announced.{IsPoll, PolledToEnd, bytes_in, length_is_own, value_of}
 use Rattle.dav_model.specs.Bodies.{Part, Playing, Polls}
 use Rattle.dav_model.specs.Head.{Reply}
-use Rattle.dav_model.specs.Play.{Ends, Played, Plays, Replies, Stands, Valid}
+use Rattle.dav_model.specs.Play.{Ends, Played, Plays, Replies, Valid}
 use Rattle.dav_model.specs.Requests.{gates}
 use Rattle.dav_model.specs.Sizes.{read_size_of}
 use Rattle.dav_model.specs.Trail.{Point, Goes, Trail}

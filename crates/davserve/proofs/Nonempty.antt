@@ -24,10 +24,10 @@ use Rattle.dav_model.specs.Requests.{Asked, fields_of, gates}
 use Rattle.dav_model.specs.Trail.{Point}
 use Rattle.dav_wire.specs.Chunks.{IsPiece, HasBody, written, ending}
 use Rattle.dav_wire.specs.declared.chunks.Framing.TheVariants.{Chunked}
-use Rattle.davserve.specs.Bodies.{IsBodiless, IsShort}
+use Rattle.davserve.specs.Bodies.{IsBodiless, IsHeadAlone, IsShort}
 use Rattle.davserve.specs.Exchange.{Exchange, framing_of, steps_of, answers_of}
 use Rattle.davserve.proofs.Bodiless.{none_polled, gives_nothing}
-use Rattle.davserve.proofs.Delimiting.{back_in_chunks}
+use Rattle.davserve.proofs.Delimiting.{back_in_chunks, head_alone}
 use Rattle.davserve.proofs.Giving.{Given, given_of}
 
 -- a slice, or a text that isn't empty
@@ -178,10 +178,14 @@ module _ (s t : Point) (p q : Playing) (x : Exchange) (w : World) (r : Played s 
       none_polled g.reply.parts x.pieces ((made_of g).bodiless (sym g.status_is ∙ e)) g.polled
 
 module _ (s t : Point) (p q : Playing) (x : Exchange) (w : World) where
-  pub told_nothing : (r : Played s p (steps_of x) [] (answers_of x) (Ok tt) t q) → s.told ≡ Some w → Valid s r.trail → IsBodiless x → x.pieces ≡ []
+  told_nothing : (r : Played s p (steps_of x) [] (answers_of x) (Ok tt) t q) → s.told ≡ Some w → Valid s r.trail → IsBodiless x → x.pieces ≡ []
   told_nothing r told valid (inl head) = gives_nothing s t p q x r (inl head)
   told_nothing r told valid (inr (inl e)) = told_204 s t p q x w r told valid e
   told_nothing r told valid (inr (inr e)) = gives_nothing s t p q x r (inr e)
+
+  -- Nothing stands behind its head.
+  pub told_alone : (r : Played s p (steps_of x) [] (answers_of x) (Ok tt) t q) → s.told ≡ Some w → Valid s r.trail → IsBodiless x → IsHeadAlone x
+  told_alone r told valid is = head_alone x is (told_nothing r told valid is)
 
   -- A body in chunks is read back.
   pub told_back : (behind : List ℕ) (r : Played s p (steps_of x) [] (answers_of x) (Ok tt) t q) → s.told ≡ Some w → Valid s r.trail → framing_of x ≡ Chunked → All IsShort x.pieces

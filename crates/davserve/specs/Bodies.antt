@@ -17,6 +17,10 @@ IsToHead x = (head_of x.request).method ≡ codes "HEAD"
 abbrev pub IsBodiless : Exchange → Type 0
 IsBodiless x = IsToHead x ⊎ ((x.status ≡ 204) ⊎ (x.status ≡ 304))
 
+-- Its head is the whole answer.
+abbrev pub IsHeadAlone : Exchange → Type 0
+IsHeadAlone x = wire_of x ≡ head_text x.status x.fields x.closing Raw
+
 -- The answer says this value of `content-length`.
 abbrev pub Announces : Exchange → List ℕ → Type 0
 Announces x value = value_of (codes "content-length") x.fields ≡ Some value
@@ -37,9 +41,10 @@ abbrev pub IsShort : List ℕ → Type 0
 IsShort piece = length piece < 16 ^ 16
 
 -- The bytes of the body are as many as the answer announces, and all that stands behind the head. There are none where the
--- field speaks of a body that isn't sent.
+-- field speaks of a body that isn't sent, and nothing stands behind the head of an answer to a HEAD and of one with 304.
 pub record GivesAnnounced (x : Exchange) : Type 0 where
   pub counted : length_is_own (gates x.request) x.status ≡ true → (value : List ℕ) → Announces x value → value ≡ decimal (length (concat x.pieces))
   pub none : length_is_own (gates x.request) x.status ≡ false → x.pieces ≡ []
   pub written : (value : List ℕ) → Announces x value → wire_of x ≡ head_text x.status x.fields x.closing Raw ++ concat x.pieces
+  pub bodiless : IsToHead x ⊎ (x.status ≡ 304) → IsHeadAlone x
   pub tells : TellsEnd x

@@ -14,13 +14,13 @@ ghost use Rattle.dav_model.specs.Trail.{Point};
 ghost use Rattle.dav_wire.specs.Answers.{head_text};
 ghost use Rattle.dav_wire.specs.Chunks.{written, ending, IsPiece, HasBody};
 ghost use Rattle.dav_wire.specs.declared.chunks.Framing.TheVariants.{Raw, Chunked};
-ghost use Rattle.davserve.specs.Bodies.{Announces, GivesAnnounced, IsBodiless, IsShort, IsToHead, TellsEnd};
+ghost use Rattle.davserve.specs.Bodies.{Announces, GivesAnnounced, IsBodiless, IsHeadAlone, IsShort, IsToHead, TellsEnd};
 ghost use Rattle.davserve.specs.Exchange.{Exchange, IsOf, framing_of, steps_of, answers_of, wire_of};
 ghost use Rattle.davserve.specs.Serving.{Setup, Serving};
 
 /// Where the field `content-length` of an answer speaks of the body that is sent, its value is the number of the bytes
 /// behind the head, whatever happens to the files meanwhile, and whether the disk tells of them or not. To a HEAD, and
-/// with 304, no byte follows the head (RFC 9110, section 8.6).
+/// with 304, it speaks of a body that isn't sent, and there are no pieces (RFC 9110, section 8.6).
 pub fn answers_have_the_announced_length()
     ensures length { (s t : Point) (p q : Playing) (x : Exchange) (value : List ℕ) → Played s p (steps_of x) [] (answers_of x) (Ok tt) t q
         → length_is_own (gates x.request) x.status ≡ true → Announces x value → value ≡ decimal (bytes_in x.pieces) }
@@ -34,8 +34,8 @@ pub fn answers_have_the_announced_length()
 /// The body of an answer in chunks, as it is written, is read back as the bytes of its pieces, whatever follows, and one
 /// that isn't in chunks is these bytes.
 ///
-/// What was played says of each piece of a file that it isn't empty, and of each text only where the disk tells (`told`).
-/// That a piece is short holds of all that stands in memory.
+/// That no piece is empty follows from what was played where the disk tells and no row is a symbolic link (`told`). That a
+/// piece is short holds of all that stands in memory.
 pub fn answers_in_chunks_are_read_back()
     ensures chunked { (x : Exchange) (behind : List ℕ) → framing_of x ≡ Chunked → All IsPiece x.pieces
         → HasBody (flat_map (written (framing_of x)) x.pieces ++ (ending (framing_of x) ++ behind)) (concat x.pieces) behind }
@@ -46,14 +46,15 @@ pub fn answers_in_chunks_are_read_back()
         → flat_map (written (framing_of x)) x.pieces ++ (ending (framing_of x) ++ behind) ≡ concat x.pieces ++ behind }
 {}
 
-/// Each answer tells its end: it has no body, or it is in chunks, or it says its length, or the version is 1.0 and the
-/// connection closes behind it (RFC 9112, section 6.3). To a HEAD, and with 304, no byte follows the head.
+/// Each answer tells its end: a client expects no body, or it is in chunks, or it says its length, or the version is 1.0
+/// and the connection closes behind it (RFC 9112, section 6.3). The answer to a HEAD, and one with 304, is its head alone.
+/// So is one with 204 where the disk tells and no row is a symbolic link (`told`).
 pub fn framed_answers_end()
     ensures tells { (shown : Option Moment) (head : RequestHead) (x : Exchange) → IsOf shown head x → TellsEnd x }
-    ensures none { (s t : Point) (p q : Playing) (x : Exchange) → Played s p (steps_of x) [] (answers_of x) (Ok tt) t q
-        → IsToHead x ⊎ (x.status ≡ 304) → x.pieces ≡ [] }
+    ensures alone { (s t : Point) (p q : Playing) (x : Exchange) → Played s p (steps_of x) [] (answers_of x) (Ok tt) t q
+        → IsToHead x ⊎ (x.status ≡ 304) → IsHeadAlone x }
     ensures told { (s t : Point) (p q : Playing) (x : Exchange) (w : World) → (r : Played s p (steps_of x) [] (answers_of x) (Ok tt) t q)
-        → s.told ≡ Some w → Valid s r.trail → IsBodiless x → x.pieces ≡ [] }
+        → s.told ≡ Some w → Valid s r.trail → IsBodiless x → IsHeadAlone x }
 {}
 
 /// All exchanges that a run answered give what they announce, and tell their end.
