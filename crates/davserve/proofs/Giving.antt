@@ -4,9 +4,9 @@ use Rattle.dav_io.specs.Told.{told_after}
 use Rattle.dav_core.specs.Keeps.{put_same}
 use Rattle.dav_core.specs.World.{World}
 use Rattle.dav_model.specs.declared.step.Step.{Step}
-use Rattle.dav_model.specs.declared.step.Step.TheVariants.{Poll, Purge, Turn}
+use Rattle.dav_model.specs.declared.step.Step.TheVariants.{Request, Poll, Purge, Turn}
 use Rattle.dav_model.specs.declared.answer.Answer.{Answer}
-use Rattle.dav_model.specs.declared.answer.Answer.TheVariants.{Piece, End, Done}
+use Rattle.dav_model.specs.declared.answer.Answer.TheVariants.{Reply as Replied, Piece, End, Done}
 use Rattle.dav_model.specs.Announced.{IsPoll, PolledToEnd, bytes_in, length_is_own, value_of}
 use Rattle.dav_model.specs.Bodies.{Part, Playing, Polls}
 use Rattle.dav_model.specs.Head.{Reply}
@@ -61,6 +61,54 @@ polled_to_end V s p q body (piece ∷ pieces) (t ∷ u ∷ us) (m, turned, kept,
 abbrev Tells : Point → Point → Type 0
 Tells s t = (w : World) → s.told ≡ Some w → (v : World) × (t.told ≡ Some v)
 
+-- The reply of an exchange between two points. Behind it stand the answers to what is asked of its body.
+pub record Heard (V : Type 0) (s : Point) (p : Playing) (x : Exchange) (asked : List Step) (answers : List Answer) : Type 0 where
+  pub reply : Reply
+  pub before : Point
+  pub after : Point
+  pub tells : Tells s before
+  pub status_is : x.status ≡ reply.status
+  pub fields_are : x.fields ≡ reply.fields
+  pub replies : Replies V p.settings before after x.request reply
+  pub mid : Playing
+  pub left : mid.left x.body ≡ reply.parts
+  pub last : Playing
+  pub trail : List Point
+  pub plays : Plays V mid after asked trail answers last
+
+tells_on : (s t : Point) (step : Step) → Goes step s t → Tells s t
+tells_on s t step goes w e = let after = told_after s.told t.told _ w goes.world e in (after.0, after.1)
+
+heard_by : (V : Type 0) (s : Point) (p q : Playing) (x : Exchange) (asked : List Step) (answers : List Answer) (ts : List Point)
+    → Trail s (Turn ∷ Purge x.now ∷ Request x.request x.now ∷ asked) ts
+    → Plays V p s (Turn ∷ Purge x.now ∷ Request x.request x.now ∷ asked) ts (Done ∷ Done ∷ Replied x.status x.fields x.body ∷ answers) q → Heard V s p x asked answers
+heard_by V s p q x asked answers [] trail plays = elim plays [ ]
+heard_by V s p q x asked answers (t ∷ []) trail (m, turned, kept, never) = elim never [ ]
+heard_by V s p q x asked answers (t ∷ u ∷ []) trail (m, turned, kept, (n, purged, held, never)) = elim never [ ]
+heard_by V s p q x asked answers (t ∷ u ∷ v ∷ ts) trail (m, turned, kept, (n, purged, held, (o, (reply, is, are, right), stays, more))) =
+    let body : x.body ≡ n.replies = cc in
+    record {
+      reply = reply;
+      before = u;
+      after = v;
+      tells = λ w e. let then = tells_on s t Turn trail.0 w e in tells_on t u (Purge x.now) trail.1.0 then.0 then.1;
+      status_is = cc;
+      fields_are = cc;
+      replies = subst (λ (z : Playing). Replies V z.settings u v x.request reply) (purged.1 ∙ turned.1) right;
+      mid = o;
+      left = ap (λ (z : Playing). z.left x.body) are ∙ (rw body (put_same n.replies reply.parts n.left));
+      last = q;
+      trail = ts;
+      plays = more;
+    }
+
+-- what was heard of an exchange whose steps were all played
+pub heard_of : (s t : Point) (p q : Playing) (x : Exchange) (answers : List Answer) (r : Played s p (steps_of x) [] (Done ∷ Done ∷ Replied x.status x.fields x.body ∷ answers) (Ok tt) t q)
+    → Heard (Valid s r.trail) s p x (piece_steps x.body x.pieces ++ Turn ∷ Poll x.body ∷ []) answers
+heard_of s t p q x answers r =
+    let both = answered s t p q (steps_of x) (Done ∷ Done ∷ Replied x.status x.fields x.body ∷ answers) r in
+    heard_by (Valid s r.trail) s p q x (piece_steps x.body x.pieces ++ Turn ∷ Poll x.body ∷ []) answers r.trail both.0 both.1
+
 -- The reply of an exchange between two points, and that its body was polled to its end.
 pub record Given (V : Type 0) (s : Point) (p : Playing) (x : Exchange) : Type 0 where
   pub reply : Reply
@@ -72,30 +120,20 @@ pub record Given (V : Type 0) (s : Point) (p : Playing) (x : Exchange) : Type 0 
   pub replies : Replies V p.settings before after x.request reply
   pub polled : PolledToEnd reply.parts x.pieces
 
-tells_on : (s t : Point) (step : Step) → Goes step s t → Tells s t
-tells_on s t step goes w e = let after = told_after s.told t.told _ w goes.world e in (after.0, after.1)
-
-given_by : (V : Type 0) (s : Point) (p q : Playing) (x : Exchange) (ts : List Point) → Trail s (steps_of x) ts → Plays V p s (steps_of x) ts (answers_of x) q → Given V s p x
-given_by V s p q x [] trail plays = elim plays [ ]
-given_by V s p q x (t ∷ []) trail (m, turned, kept, never) = elim never [ ]
-given_by V s p q x (t ∷ u ∷ []) trail (m, turned, kept, (n, purged, held, never)) = elim never [ ]
-given_by V s p q x (t ∷ u ∷ v ∷ ts) trail (m, turned, kept, (n, purged, held, (o, (reply, is, are, right), stays, more))) =
-    let body : x.body ≡ n.replies = cc in
-    let left : o.left x.body ≡ reply.parts = ap (λ (z : Playing). z.left x.body) are ∙ (rw body (put_same n.replies reply.parts n.left)) in
-    record {
-      reply = reply;
-      before = u;
-      after = v;
-      tells = λ w e. let then = tells_on s t Turn trail.0 w e in tells_on t u (Purge x.now) trail.1.0 then.0 then.1;
-      status_is = cc;
-      fields_are = cc;
-      replies = subst (λ (z : Playing). Replies V z.settings u v x.request reply) (purged.1 ∙ turned.1) right;
-      polled = subst (λ z. PolledToEnd z x.pieces) left (polled_to_end V v o q x.body x.pieces ts more);
-    }
-
 -- what a played exchange was given
 pub given_of : (s t : Point) (p q : Playing) (x : Exchange) (r : Played s p (steps_of x) [] (answers_of x) (Ok tt) t q) → Given (Valid s r.trail) s p x
-given_of s t p q x r = let both = answered s t p q (steps_of x) (answers_of x) r in given_by (Valid s r.trail) s p q x r.trail both.0 both.1
+given_of s t p q x r =
+    let h = heard_of s t p q x (piece_answers x.pieces ++ Done ∷ End ∷ []) r in
+    record {
+      reply = h.reply;
+      before = h.before;
+      after = h.after;
+      tells = h.tells;
+      status_is = h.status_is;
+      fields_are = h.fields_are;
+      replies = h.replies;
+      polled = subst (λ z. PolledToEnd z x.pieces) h.left (polled_to_end (Valid s r.trail) h.after h.mid h.last x.body x.pieces h.trail h.plays);
+    }
 
 -- an exchange has the announced length
 pub announced_length : (s t : Point) (p q : Playing) (x : Exchange) (value : List ℕ) → Played s p (steps_of x) [] (answers_of x) (Ok tt) t q

@@ -9,3 +9,4 @@ pub mod Delimiting
 pub mod Bodiless
 pub mod Nonempty
 pub mod Announced
+pub mod Breaking

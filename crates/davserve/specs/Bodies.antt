@@ -1,5 +1,5 @@
 -- How a client knows where the body of an answer ends (RFC 9112, section 6.3).
-use Rattle.std.specs.Prelude.{◌≡◌, ◌⊎◌, ◌<◌, ◌^◌, ◌++◌, ℕ, List, [], length, true, false, codes, decimal, Some}
+use Rattle.std.specs.Prelude.{◌≡◌, ◌⊎◌, ◌<◌, ◌≤◌, ◌^◌, ◌++◌, ℕ, List, [], length, true, false, codes, decimal, Some}
 use Rattle.std.specs.List.{concat}
 use Rattle.http.specs.declared.version.TheConstants.Version.{HTTP_10}
 use Rattle.http.specs.Request.{head_of}
@@ -24,6 +24,10 @@ IsHeadAlone x = wire_of x ≡ head_text x.status x.fields x.closing Raw
 -- The answer says this value of `content-length`.
 abbrev pub Announces : Exchange → List ℕ → Type 0
 Announces x value = value_of (codes "content-length") x.fields ≡ Some value
+
+-- the value is that of a number, and no less than this one
+abbrev pub AnnouncesAtLeast : List ℕ → ℕ → Type 0
+AnnouncesAtLeast value count = (n : ℕ) × (value ≡ decimal n) × (count ≤ n)
 
 abbrev pub HasLength : Exchange → Type 0
 HasLength x = (value : List ℕ) × Announces x value

@@ -1,11 +1,12 @@
-//! Laws over exchanges that were played to their end, as each that `run` answers was. Each function does nothing; its
+//! Laws over the exchanges that `run` answers: of their bodies, and where these end. Each function does nothing; its
 //! contract is the law.
-ghost use Rattle.std.specs.Prelude.{◌≡◌, ◌⊎◌, ◌++◌, ℕ, Bool, List, [], All, true, false, decimal, Option, Some, Ok, length};
+ghost use Rattle.std.specs.Prelude.{◌≡◌, ◌⊎◌, ◌++◌, ℕ, Bool, List, [], ◌∷◌, All, true, false, decimal, Option, Some, Ok, length};
 ghost use Rattle.std.specs.List.{AllByRecursion, concat, flat_map};
 ghost use Rattle.httparse.specs.Grammar.{RequestHead};
 ghost use Rattle.dav_io.specs.Outside.{Stream};
 ghost use Rattle.dav_io.specs.declared.clock.Moment.{Moment};
 ghost use Rattle.dav_core.specs.World.{World};
+ghost use Rattle.dav_model.specs.declared.answer.Answer.TheVariants.{Broken, Done};
 ghost use Rattle.dav_model.specs.Announced.{bytes_in, length_is_own};
 ghost use Rattle.dav_model.specs.Bodies.{Playing};
 ghost use Rattle.dav_model.specs.Play.{Played, Valid};
@@ -14,8 +15,8 @@ ghost use Rattle.dav_model.specs.Trail.{Point};
 ghost use Rattle.dav_wire.specs.Answers.{head_text};
 ghost use Rattle.dav_wire.specs.Chunks.{written, ending, IsPiece, HasBody};
 ghost use Rattle.dav_wire.specs.declared.chunks.Framing.TheVariants.{Raw, Chunked};
-ghost use Rattle.davserve.specs.Bodies.{Announces, GivesAnnounced, IsBodiless, IsHeadAlone, IsShort, IsToHead, TellsEnd};
-ghost use Rattle.davserve.specs.Exchange.{Exchange, IsOf, framing_of, steps_of, answers_of, wire_of};
+ghost use Rattle.davserve.specs.Bodies.{Announces, AnnouncesAtLeast, GivesAnnounced, IsBodiless, IsHeadAlone, IsShort, IsToHead, TellsEnd};
+ghost use Rattle.davserve.specs.Exchange.{Exchange, IsOf, begun_answers, framing_of, steps_of, answers_of, wire_of};
 ghost use Rattle.davserve.specs.Serving.{Setup, Serving};
 
 /// Where the field `content-length` of an answer speaks of the body that is sent, its value is the number of the bytes
@@ -29,6 +30,15 @@ pub fn answers_have_the_announced_length()
     ensures written { (x : Exchange) (value : List ℕ) → Announces x value
         → wire_of x ≡ head_text x.status x.fields x.closing Raw ++ concat x.pieces }
     ensures counted { (x : Exchange) → bytes_in x.pieces ≡ length (concat x.pieces) }
+{}
+
+/// A body that broke has at most as many bytes as are announced, so that nothing of it is taken for another answer. None
+/// breaks where the field speaks of a body that isn't sent.
+pub fn broken_answers_are_no_longer()
+    ensures within { (s t : Point) (p q : Playing) (x : Exchange) (value : List ℕ) → Played s p (steps_of x) [] (begun_answers x ++ Done ∷ Broken ∷ []) (Ok tt) t q
+        → length_is_own (gates x.request) x.status ≡ true → Announces x value → AnnouncesAtLeast value (bytes_in x.pieces) }
+    ensures never { (s t : Point) (p q : Playing) (x : Exchange) → Played s p (steps_of x) [] (begun_answers x ++ Done ∷ Broken ∷ []) (Ok tt) t q
+        → length_is_own (gates x.request) x.status ≡ false → ⊥ }
 {}
 
 /// The body of an answer in chunks, as it is written, is read back as the bytes of its pieces, whatever follows, and one
