@@ -1,4 +1,5 @@
--- What the table of a GET answers is framed, whatever the store tells: its `content-length` is that of its body.
+-- What the table of a GET answers is framed, whatever the store tells: its `content-length` is that of its body. And no part of
+-- its body is empty.
 use Rattle.std.proofs.Common.{◌≡◌, ℕ, Bool, true, false, List, Option, None, Some, Result, Ok, Err, refl, sym, ap, subst, ◌⊎◌, inl, inr}
 use Rattle.dav_core.specs.declared.dav_error.DavError.{DavError}
 use Rattle.dav_core.specs.declared.dav_error.DavError.TheVariants.{Status, StatusClose, NoMemory}
@@ -14,88 +15,119 @@ use Rattle.dav_model.specs.declared.sent.Sent.{Sent}
 use Rattle.dav_model.specs.declared.sent.Sent.TheVariants.{Unsatisfied}
 use Rattle.dav_model.specs.declared.settings.Settings.{Settings}
 use Rattle.dav_model.specs.declared.target.Target.TheVariants.{At}
-use Rattle.dav_model.specs.Announced.{IsFramed, length_is_own}
+use Rattle.dav_model.specs.Announced.{HasSoundBody, IsFramed, length_is_own}
 use Rattle.dav_model.specs.Conditions.{Fields}
-use Rattle.dav_model.specs.Head.{Reply, Stood, is_set, is_well_known, redirected, sent_of, well_known}
+use Rattle.dav_model.specs.Head.{IsSent, Reply, Stood, is_set, is_well_known, redirected, refusal, sent_of, well_known}
 use Rattle.dav_model.proofs.Framing.{framed_redirect, framed_well_known, refused_framed, sent_framed}
+use Rattle.dav_model.proofs.Nonempty.{HasSlices, sent_has, sent_sound, sound_empty}
 use Rattle.dav_get.specs.declared.body.GetBody.{GetBody}
-use Rattle.dav_get.specs.Bodies.{left_of}
 use Rattle.dav_get.specs.Parts.{parts_of}
 use Rattle.dav_get.specs.Right.{reply_at}
-use Rattle.dav_get.specs.Table.{AfterLook, AfterMeta, AfterOpen, AfterRedirect, AfterSeek, ByFile, ByKind, ByPlace, ByRedirect, ByWellKnown, Gets, GetsFile, Given, Sends, SendsFile, first_place, stood_by}
+use Rattle.dav_get.specs.Table.{AfterLook, AfterMeta, AfterOpen, AfterRedirect, AfterSeek, ByFile, ByKind, ByPlace, ByRedirect, ByWellKnown, Gets, Given, Sends, SendsFile, first_place, stood_by}
 use Rattle.dav_get.proofs.Sending.{Says, sends_right}
 
-module _ {S C F : Type 0} (view : View S C F) (settings : Settings) (c : C) (method : DavMethod) (path : WebPath) (fields : Fields) (number : ℕ) where
+-- what holds of all that the table may answer: of a refusal, a redirect, the page of a well-known server, and of what is sent
+record HoldsOfAll (P : Reply → Type 0) (method : DavMethod) (path : WebPath) : Type 0 where
+  refusals : (status : ℕ) (close : Bool) → P (refusal status close)
+  redirects : (address : List ℕ) (tag date : Option (List ℕ)) → P (redirected address tag date)
+  page : P well_known
+  files : (stood : Stood) (sent : Sent) (reply : Reply) → HasSlices sent → IsSent method path stood sent reply → P reply
+
+module _ {S C F : Type 0} (view : View S C F) (settings : Settings) (c : C) (method : DavMethod) (path : WebPath) (fields : Fields) (number : ℕ) (P : Reply → Type 0) (all : HoldsOfAll P method path) where
   -- the reply, with slices of the file of any number
-  abbrev Framed : Given F → Type 0
-  Framed result = IsFramed (At method path) (reply_at {F = F} number result)
+  abbrev Holding : Given F → Type 0
+  Holding result = P (reply_at {F = F} number result)
 
-  refused : (e : DavError) (result : Given F) → result ≡ Err e → Framed result
-  refused e result is = refused_framed (At method path) (reply_at {F = F} number result) (status_of e) (closes e) (ap (reply_at {F = F} number) is)
+  refused : (e : DavError) (result : Given F) → result ≡ Err e → Holding result
+  refused e result is = subst P (sym (ap (reply_at {F = F} number) is)) (all.refusals (status_of e) (closes e))
 
-  sends : (info : Info) (sent : Sent) (file : F) (place : ℕ) (s : S) (outcome : Outcome) (body : GetBody F) (t : S) → Sends view method path info sent file place s outcome body t → Framed (Ok (outcome, body))
-  sends info sent file place s outcome body t row =
+  sends : (info : Info) (sent : Sent) (file : F) (place : ℕ) (s : S) (outcome : Outcome) (body : GetBody F) (t : S) → HasSlices sent
+      → Sends view method path info sent file place s outcome body t → Holding (Ok (outcome, body))
+  sends info sent file place s outcome body t some row =
       let stood : Stood = record (stood_by info None) { number = number } in
       let says : Says info stood = record { len = refl; modified = refl; tag = refl } in
-      sent_framed method path stood sent _ (sends_right view method path info stood sent file place s outcome body t says row)
+      all.files stood sent _ some (sends_right view method path info stood sent file place s outcome body t says row)
 
   after_seek : (sought : Result ℕ FsError) (info : Info) (sent : Sent) (file : F) (place : ℕ) (s : S) (outcome : Outcome) (body : GetBody F) (t : S)
-      → AfterSeek view sought method path info sent file place s outcome body t → Framed (Ok (outcome, body))
-  after_seek (Ok n) info sent file place s outcome body t row = sends info sent file place s outcome body t row
-  after_seek (Err e) info sent file place s outcome body t row = sends info Unsatisfied file place s outcome body t row
+      → HasSlices sent → AfterSeek view sought method path info sent file place s outcome body t → Holding (Ok (outcome, body))
+  after_seek (Ok n) info sent file place s outcome body t some row = sends info sent file place s outcome body t some row
+  after_seek (Err e) info sent file place s outcome body t some row = sends info Unsatisfied file place s outcome body t tt row
 
   by_place : (first : Option ℕ) (info : Info) (sent : Sent) (file : F) (s : S) (outcome : Outcome) (body : GetBody F) (t : S)
-      → ByPlace view first method path info sent file s outcome body t → Framed (Ok (outcome, body))
-  by_place None info sent file s outcome body t row = sends info sent file 0 s outcome body t row
-  by_place (Some start) info sent file s outcome body t (sought, g, m, seeks, row) = after_seek sought info sent g start m outcome body t row
+      → HasSlices sent → ByPlace view first method path info sent file s outcome body t → Holding (Ok (outcome, body))
+  by_place None info sent file s outcome body t some row = sends info sent file 0 s outcome body t some row
+  by_place (Some start) info sent file s outcome body t some (sought, g, m, seeks, row) = after_seek sought info sent g start m outcome body t some row
 
-  sends_file : (info : Info) (file : F) (s : S) (result : Given F) (t : S) → SendsFile view method path fields info file s result t → Framed result
-  sends_file info file s (Ok r) t row = by_place (first_place (sent_of method fields (stood_by info None))) info (sent_of method fields (stood_by info None)) file s r.0 r.1 t row
+  sends_file : (info : Info) (file : F) (s : S) (result : Given F) (t : S) → SendsFile view method path fields info file s result t → Holding result
+  sends_file info file s (Ok r) t row = by_place (first_place (sent_of method fields (stood_by info None))) info (sent_of method fields (stood_by info None)) file s r.0 r.1 t (sent_has method fields (stood_by info None)) row
   sends_file info file s (Err e) t row = absurd row
 
-  after_redirect : (said : Result (Option (List ℕ)) FsError) (info : Info) (file : F) (s : S) (result : Given F) (t : S) → AfterRedirect view said method path fields info file s result t → Framed result
+  after_redirect : (said : Result (Option (List ℕ)) FsError) (info : Info) (file : F) (s : S) (result : Given F) (t : S) → AfterRedirect view said method path fields info file s result t → Holding result
   after_redirect (Err e) info file s result t (closed, is) = refused (of_fs e) result is
   after_redirect (Ok None) info file s result t row = sends_file info file s result t row
   after_redirect (Ok (Some address)) info file s (Err e) t row = absurd row
   after_redirect (Ok (Some address)) info file s (Ok r) t ((date, dated, is), closed, (left, none)) =
       let reply : reply_at {F = F} number (Ok r) ≡ redirected address info.tag date =
       λ i. record { status = ap (λ (o : Outcome). o.status) is i; fields = ap (λ (o : Outcome). o.fields) is i; parts = ap (parts_of number) left i } in
-      subst (λ (x : Reply). IsFramed (At method path) x) (sym reply) (framed_redirect (length_is_own (At method path) 302) address info.tag date)
+      subst P (sym reply) (all.redirects address info.tag date)
 
-  by_redirect : (on : Bool) (info : Info) (file : F) (s : S) (result : Given F) (t : S) → ByRedirect view on method path fields info file s result t → Framed result
+  by_redirect : (on : Bool) (info : Info) (file : F) (s : S) (result : Given F) (t : S) → ByRedirect view on method path fields info file s result t → Holding result
   by_redirect false info file s result t row = sends_file info file s result t row
   by_redirect true info file s result t (said, g, m, asked, row) = after_redirect said info g m result t row
 
-  by_file : (regular : Bool) (info : Info) (file : F) (s : S) (result : Given F) (t : S) → ByFile view regular settings method path fields info file s result t → Framed result
+  by_file : (regular : Bool) (info : Info) (file : F) (s : S) (result : Given F) (t : S) → ByFile view regular settings method path fields info file s result t → Holding result
   by_file true info file s result t row = by_redirect (is_set settings.redirect) info file s result t row
   by_file false info file s result t (closed, is) = refused (Status 405) result is
 
-  after_meta : (said : Result Info FsError) (file : F) (s : S) (result : Given F) (t : S) → AfterMeta view said settings method path fields file s result t → Framed result
+  after_meta : (said : Result Info FsError) (file : F) (s : S) (result : Given F) (t : S) → AfterMeta view said settings method path fields file s result t → Holding result
   after_meta (Err e) file s result t (closed, is) = refused (of_fs e) result is
   after_meta (Ok info) file s result t row = by_file (is_file info.kind) info file s result t row
 
-  after_open : (opened : Result F FsError) (s : S) (result : Given F) (t : S) → AfterOpen view opened settings method path fields s result t → Framed result
+  after_open : (opened : Result F FsError) (s : S) (result : Given F) (t : S) → AfterOpen view opened settings method path fields s result t → Holding result
   after_open (Err e) s result t (same, is) = refused (of_fs e) result is
   after_open (Ok file) s result t (inl (said, g, m, says, row)) = after_meta said g m result t row
   after_open (Ok file) s result t (inr is) = refused NoMemory result is
 
-  by_kind : (dir : Bool) (s : S) (result : Given F) (t : S) → ByKind view dir settings c method path fields s result t → Framed result
+  by_kind : (dir : Bool) (s : S) (result : Given F) (t : S) → ByKind view dir settings c method path fields s result t → Holding result
   by_kind true s result t (same, is) = refused (StatusClose 501) result is
   by_kind false s result t (opened, m, opens, one, row) = after_open opened m result t row
 
-  after_look : (looked : Result Info FsError) (s : S) (result : Given F) (t : S) → AfterLook view looked settings c method path fields s result t → Framed result
+  after_look : (looked : Result Info FsError) (s : S) (result : Given F) (t : S) → AfterLook view looked settings c method path fields s result t → Holding result
   after_look (Err e) s result t (same, is) = refused (of_fs e) result is
   after_look (Ok info) s result t row = by_kind (is_dir info.kind) s result t row
 
-  by_well_known : (known : Bool) (s : S) (result : Given F) (t : S) → ByWellKnown view known settings c method path fields s result t → Framed result
+  by_well_known : (known : Bool) (s : S) (result : Given F) (t : S) → ByWellKnown view known settings c method path fields s result t → Holding result
   by_well_known true s (Err e) t (same, row) = absurd row
   by_well_known true s (Ok r) t (same, (is, (left, none))) =
       let reply : reply_at {F = F} number (Ok r) ≡ well_known =
       λ i. record { status = ap (λ (o : Outcome). o.status) is i; fields = ap (λ (o : Outcome). o.fields) is i; parts = ap (parts_of number) left i } in
-      subst (λ (x : Reply). IsFramed (At method path) x) (sym reply) (framed_well_known (length_is_own (At method path) 200))
+      subst P (sym reply) all.page
   by_well_known false s result t (looked, m, looks, row) = after_look looked m result t row
 
   -- what the table answers, or want of memory
-  pub gets_framed : (s : S) (result : Given F) (t : S) → Gets view settings c method path fields s result t ⊎ (result ≡ Err NoMemory) → Framed result
-  gets_framed s result t (inl row) = by_well_known (is_well_known settings method path) s result t row
-  gets_framed s result t (inr is) = refused NoMemory result is
+  gets_hold : (s : S) (result : Given F) (t : S) → Gets view settings c method path fields s result t ⊎ (result ≡ Err NoMemory) → Holding result
+  gets_hold s result t (inl row) = by_well_known (is_well_known settings method path) s result t row
+  gets_hold s result t (inr is) = refused NoMemory result is
+
+framed_all : (method : DavMethod) (path : WebPath) → HoldsOfAll (λ (x : Reply). IsFramed (At method path) x) method path
+framed_all method path = record {
+  refusals = λ status close. refused_framed (At method path) (refusal status close) status close refl;
+  redirects = framed_redirect (length_is_own (At method path) 302);
+  page = framed_well_known (length_is_own (At method path) 200);
+  files = λ stood sent reply some is. sent_framed method path stood sent reply is;
+}
+
+sound_all : (method : DavMethod) (path : WebPath) → HoldsOfAll HasSoundBody method path
+sound_all method path = record {
+  refusals = λ status close. sound_empty (refusal status close) refl;
+  redirects = λ address tag date. sound_empty (redirected address tag date) refl;
+  page = sound_empty well_known refl;
+  files = sent_sound method path;
+}
+
+module _ {S C F : Type 0} (view : View S C F) (settings : Settings) (c : C) (method : DavMethod) (path : WebPath) (fields : Fields) (number : ℕ) where
+  pub gets_framed : (s : S) (result : Given F) (t : S) → Gets view settings c method path fields s result t ⊎ (result ≡ Err NoMemory) → IsFramed (At method path) (reply_at {F = F} number result)
+  gets_framed = gets_hold view settings c method path fields number (λ (x : Reply). IsFramed (At method path) x) (framed_all method path)
+
+  pub gets_sound : (s : S) (result : Given F) (t : S) → Gets view settings c method path fields s result t ⊎ (result ≡ Err NoMemory) → HasSoundBody (reply_at {F = F} number result)
+  gets_sound = gets_hold view settings c method path fields number HasSoundBody (sound_all method path)

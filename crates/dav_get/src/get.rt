@@ -11,7 +11,7 @@ ghost use Rattle.dav_core.specs.declared.error.FsError.{FsError};
 ghost use Rattle.dav_store.specs.Shows.{Shows};
 ghost use Rattle.dav_store.specs.Standing.{Seen, Standing};
 ghost use Rattle.dav_get.specs.Right.{OpensLooked, RightHead, reply_at};
-ghost use Rattle.dav_model.specs.Announced.{IsFramed};
+ghost use Rattle.dav_model.specs.Announced.{HasSoundBody, IsFramed};
 ghost use Rattle.dav_model.specs.declared.target.Target.TheVariants.{At};
 ghost use Rattle.dav_store.specs.View.{the_view, Closes};
 ghost use Rattle.dav_get.specs.Lives.{HeldOrClosed, HasMost, OpenOnlyHeld};
@@ -377,8 +377,8 @@ fn is_well_known(settings: &Settings, method: DavMethod, path: &DavPath) -> bool
 /// with a close for a directory, whose form isn't built. A file that was opened is closed again, or held by the body.
 ///
 /// `table` tells which call of the store gave the answer. `framed` says that its field `content-length` is the length of the
-/// body, and that a HEAD and 304 have none. `right` says that the answer is the head of what the store shows
-/// at the path, unless a fault was met or memory was refused.
+/// body, and that a HEAD and 304 have none. `sound` says that no part of the body is empty, and that 204 has none. `right` says
+/// that the answer is the head of what the store shows at the path, unless a fault was met or memory was refused.
 pub fn handle_get<S: GuardedFileSystem<C>, C>(
     alloc: Global,
     settings: &Settings,
@@ -390,6 +390,7 @@ pub fn handle_get<S: GuardedFileSystem<C>, C>(
 ) -> Given<S::File>
     ensures table { Gets (the_view S.GuardedFileSystem S.Disk.Disk S.File.DavFile) settings.now credentials.now method path.now fields.now fs.old result fs.new ⊎ (result ≡ Err DavError.NoMemory) }
     ensures framed { (number : ℕ) → IsFramed (At method path.now) (reply_at number result) }
+    ensures sound { (number : ℕ) → HasSoundBody (reply_at number result) }
     ensures right { (looked opened : Result Standing FsError) → Shows (the_view S.GuardedFileSystem S.Disk.Disk S.File.DavFile) fs.old credentials.now path.now looked opened
         → OpensLooked looked opened → RightHead (the_view S.GuardedFileSystem S.Disk.Disk S.File.DavFile) settings.now method fields.now path.now looked fs.old result fs.new }
     ensures life { OpenOnlyHeld (the_view S.GuardedFileSystem S.Disk.Disk S.File.DavFile) fs.old result fs.new }

@@ -24,7 +24,7 @@ use Rattle.dav_model.specs.declared.sent.Sent.TheVariants.{Unsatisfied}
 use Rattle.dav_model.specs.declared.outcome.Outcome.{Outcome}
 use Rattle.dav_model.specs.declared.settings.Settings.{Settings}
 use Rattle.dav_model.specs.declared.target.Target.TheVariants.{At, Refused}
-use Rattle.dav_model.specs.Announced.{IsFramed}
+use Rattle.dav_model.specs.Announced.{HasSoundBody, IsFramed}
 use Rattle.dav_model.specs.Bodies.{Part}
 use Rattle.dav_model.specs.Conditions.{Fields}
 use Rattle.dav_model.specs.Head.{IsHeadOr, IsReplyTo, IsSpoiledOr, IsSpoiledTo, Reply, Stood, found_in, found_with, is_get, is_well_known, refusal, stood_in}
@@ -32,6 +32,7 @@ use Rattle.dav_model.specs.Sizes.{read_size_of}
 use Rattle.dav_model.specs.Trail.{point_of}
 use Rattle.dav_model.specs.Play.{NoLinks}
 use Rattle.dav_model.proofs.Framing.{refused_framed}
+use Rattle.dav_model.proofs.Nonempty.{sound_refused}
 use Rattle.dav_store.specs.Shows.{Shows}
 use Rattle.dav_store.specs.Standing.{Seen, Standing}
 use Rattle.dav_store.specs.View.{View}
@@ -160,14 +161,15 @@ given_at : {S C : Type 0} (base : View S C PlainFile) (plain : IsPlain (plain_vi
     → ((w : World) → (base.state s).told ≡ Some w → IsWorld w) → (r : Outcome × Body) (t : DiskState) (found : Found)
     → Gets (plain_view base) settings c method path fields s (Ok r) m ⊎ (Ok r ≡ Err OutOfMemory) → OpenOnlyHeld (plain_view base) s (Ok r) m → HasMost (read_size_of settings.read_buf_size) (Ok r)
     → ((looked opened : Result Standing FsError) → Shows (plain_view base) s c path looked opened → OpensLooked looked opened → RightHead (plain_view base) settings method fields path looked s (Ok r) m)
-    → ((number : ℕ) → IsFramed (At method path) (reply_at {F = PlainFile} number (Ok r))) → found.outcome ≡ r.0 → Gives (base.state m) r.1 found.body t → Answers settings (base.state s) fields (At method path) found t
-given_at base plain settings s m c method path fields worlds r t found gets life most right framed outcome gives =
+    → ((number : ℕ) → IsFramed (At method path) (reply_at {F = PlainFile} number (Ok r))) → ((number : ℕ) → HasSoundBody (reply_at {F = PlainFile} number (Ok r))) → found.outcome ≡ r.0 → Gives (base.state m) r.1 found.body t → Answers settings (base.state s) fields (At method path) found t
+given_at base plain settings s m c method path fields worlds r t found gets life most right framed sound outcome gives =
     let tr : Traced (base.state s) (Ok r) (base.state m) = traced base plain settings c method path fields s m (Ok r) gets in
     subst (λ x. Answers settings (base.state s) fields (At method path) found x) (sym (given_state (base.state m) t r.1 found.body gives)) (record {
       holds = holds_given base s m (read_size_of settings.read_buf_size) r t found.body gives life most tr;
       gated = tt;
       failed = λ e. tr.failed (sym (ap (λ (o : Outcome). o.status) outcome) ∙ e);
       framed = subst (λ x. IsFramed (At method path) x) (same_reply (number_in (base.state m) r.1.file) refl) (framed (number_in (base.state m) r.1.file));
+      sound = subst HasSoundBody (same_reply (number_in (base.state m) r.1.file) refl) (sound (number_in (base.state m) r.1.file));
       right = λ none w told.
           in_world base plain settings s m c method path fields worlds (Ok r) right tr w (reply_of (base.state m) found) (found_there base plain settings s m c method path fields worlds (Ok r) right tr none w told)
           (λ e. (let z : Ok r ≡ Err OutOfMemory = e in cc))
@@ -192,9 +194,9 @@ refused_at : {S C : Type 0} (base : View S C PlainFile) (plain : IsPlain (plain_
     → ((w : World) → (base.state s).told ≡ Some w → IsWorld w) → (e : DavError) (result : Result Found NoMemory)
     → Gets (plain_view base) settings c method path fields s (Err e) m ⊎ (◌≡◌ {A = Given PlainFile} (Err e) (Err OutOfMemory)) → Keeps (base.state s) (base.state m)
     → ((looked opened : Result Standing FsError) → Shows (plain_view base) s c path looked opened → OpensLooked looked opened → RightHead (plain_view base) settings method fields path looked s (Err e) m)
-    → ((number : ℕ) → IsFramed (At method path) (reply_at {F = PlainFile} number (Err e))) → IfOk result (IsRefusedBy e) → Finds settings (base.state s) fields (At method path) result (base.state m)
-refused_at base plain settings s m c method path fields worlds e (Err x) gets keeps right framed is = keeps
-refused_at base plain settings s m c method path fields worlds e (Ok found) gets keeps right framed is =
+    → ((number : ℕ) → IsFramed (At method path) (reply_at {F = PlainFile} number (Err e))) → ((number : ℕ) → HasSoundBody (reply_at {F = PlainFile} number (Err e))) → IfOk result (IsRefusedBy e) → Finds settings (base.state s) fields (At method path) result (base.state m)
+refused_at base plain settings s m c method path fields worlds e (Err x) gets keeps right framed sound is = keeps
+refused_at base plain settings s m c method path fields worlds e (Ok found) gets keeps right framed sound is =
     let tr : Traced (base.state s) (Err e) (base.state m) = traced base plain settings c method path fields s m (Err e) gets in
     let same : refusal (status_of e) (closes e) ≡ reply_of (base.state m) found = sym (reply_refused (base.state m) (status_of e) (closes e) found is.refused) in
     record {
@@ -202,6 +204,7 @@ refused_at base plain settings s m c method path fields worlds e (Ok found) gets
       gated = tt;
       failed = λ f. tr.failed (sym is.refused.status ∙ f, is.memory);
       framed = subst (λ x. IsFramed (At method path) x) same (framed 0);
+      sound = subst HasSoundBody same (sound 0);
       right = λ none w told.
           in_world base plain settings s m c method path fields worlds (Err e) right tr w (reply_of (base.state m) found) (found_there base plain settings s m c method path fields worlds (Err e) right tr none w told)
           (λ f. lacks_none e is.memory (let z : e ≡ OutOfMemory = cc in z)) (λ x. same) (λ x. same)
@@ -220,17 +223,17 @@ module _ {S C : Type 0} (view : View S C PlainFile) (e : plain_view view ≡ vie
   pub given_answers : (r : Outcome × Body) (t : DiskState) (found : Found) → Gets view settings c method path fields s (Ok r) m ⊎ (Ok r ≡ Err OutOfMemory) → OpenOnlyHeld view s (Ok r) m
       → HasMost (read_size_of settings.read_buf_size) (Ok r)
       → ((looked opened : Result Standing FsError) → Shows view s c path looked opened → OpensLooked looked opened → RightHead view settings method fields path looked s (Ok r) m)
-      → ((number : ℕ) → IsFramed (At method path) (reply_at {F = PlainFile} number (Ok r))) → found.outcome ≡ r.0 → Gives (view.state m) r.1 found.body t → Answers settings (view.state s) fields (At method path) found t
-  given_answers r t found gets life most right framed outcome gives =
+      → ((number : ℕ) → IsFramed (At method path) (reply_at {F = PlainFile} number (Ok r))) → ((number : ℕ) → HasSoundBody (reply_at {F = PlainFile} number (Ok r))) → found.outcome ≡ r.0 → Gives (view.state m) r.1 found.body t → Answers settings (view.state s) fields (At method path) found t
+  given_answers r t found gets life most right framed sound outcome gives =
       given_at view (subst IsPlain (sym e) plain) settings s m c method path fields worlds r t found
-      (subst (λ v. Gets v settings c method path fields s (Ok r) m ⊎ (Ok r ≡ Err OutOfMemory)) (sym e) gets) (subst (λ v. OpenOnlyHeld v s (Ok r) m) (sym e) life) most (right_as (Ok r) right) framed outcome gives
+      (subst (λ v. Gets v settings c method path fields s (Ok r) m ⊎ (Ok r ≡ Err OutOfMemory)) (sym e) gets) (subst (λ v. OpenOnlyHeld v s (Ok r) m) (sym e) life) most (right_as (Ok r) right) framed sound outcome gives
 
   pub refused_answers : (error : DavError) (result : Result Found NoMemory) → Gets view settings c method path fields s (Err error) m ⊎ (◌≡◌ {A = Given PlainFile} (Err error) (Err OutOfMemory)) → Keeps (view.state s) (view.state m)
       → ((looked opened : Result Standing FsError) → Shows view s c path looked opened → OpensLooked looked opened → RightHead view settings method fields path looked s (Err error) m)
-      → ((number : ℕ) → IsFramed (At method path) (reply_at {F = PlainFile} number (Err error))) → IfOk result (IsRefusedBy error) → Finds settings (view.state s) fields (At method path) result (view.state m)
-  refused_answers error result gets keeps right framed is =
+      → ((number : ℕ) → IsFramed (At method path) (reply_at {F = PlainFile} number (Err error))) → ((number : ℕ) → HasSoundBody (reply_at {F = PlainFile} number (Err error))) → IfOk result (IsRefusedBy error) → Finds settings (view.state s) fields (At method path) result (view.state m)
+  refused_answers error result gets keeps right framed sound is =
       refused_at view (subst IsPlain (sym e) plain) settings s m c method path fields worlds error result
-      (subst (λ v. Gets v settings c method path fields s (Err error) m ⊎ (◌≡◌ {A = Given PlainFile} (Err error) (Err OutOfMemory))) (sym e) gets) keeps (right_as (Err error) right) framed is
+      (subst (λ v. Gets v settings c method path fields s (Err error) m ⊎ (◌≡◌ {A = Given PlainFile} (Err error) (Err OutOfMemory))) (sym e) gets) keeps (right_as (Err error) right) framed sound is
 
 -- What the gates refuse.
 pub gate_answers : (settings : Settings) (s : DiskState) (fields : Fields) (status : ℕ) (close : Bool) (result : Result Found NoMemory) → status ≢ 500 → IfOk result (IsRefused (refusal status close))
@@ -243,5 +246,6 @@ gate_answers settings s fields status close (Ok found) ne is =
       gated = same;
       failed = λ f. absurd (ne (sym is.status ∙ f));
       framed = refused_framed (Refused status close) (reply_of s found) status close same;
+      sound = sound_refused (reply_of s found) status close same;
       right = λ none w told. inl same;
     }

@@ -50,7 +50,7 @@ world_only most s t (Some b) holds = opens_world s t b.file holds.0
 -- what was found is what the request asks for
 replies_as : (settings : Settings) (s t : DiskState) (request : Asked) (found : Found) → Answers settings s (fields_of request) (gates request) found t
     → Replies (Valid (point_of s) (point_of t ∷ [])) settings (point_of s) (point_of t) request (reply_of t found)
-replies_as settings s t request found answers = record { gated = answers.gated; failed = answers.failed; framed = answers.framed; right = λ valid w told. answers.right valid.first w told }
+replies_as settings s t request found answers = record { gated = answers.gated; failed = answers.failed; framed = answers.framed; sound = answers.sound; right = λ valid w told. answers.right valid.first w told }
 
 -- a reply
 pub replied : (settings : Settings) (s t : DiskState) (request : Asked) (now : Moment) (found : Found) (replies : ℕ) (left after : ℕ → List Part)

@@ -11,7 +11,7 @@ use Rattle.dav_model.specs.declared.settings.Settings.{Settings}
 use Rattle.dav_model.specs.declared.target.Target.{Target}
 use Rattle.dav_model.specs.declared.target.Target.TheVariants.{At, Refused}
 use Rattle.dav_model.specs.Conditions.{Fields}
-use Rattle.dav_model.specs.Announced.{IsFramed}
+use Rattle.dav_model.specs.Announced.{HasSoundBody, IsFramed}
 use Rattle.dav_model.specs.Head.{Reply, refusal, IsReplyTo, IsSpoiledTo}
 use Rattle.dav_model.specs.Sizes.{read_size_of}
 use Rattle.dav_model.specs.Trail.{point_of}
@@ -36,6 +36,7 @@ pub record Answers (settings : Settings) (s : DiskState) (fields : Fields) (targ
   pub gated : Gated target (reply_of t found)
   pub failed : found.outcome.status ≡ 500 → Rose s.faults t.faults
   pub framed : IsFramed target (reply_of t found)
+  pub sound : HasSoundBody (reply_of t found)
   pub right : NoLinks (point_of s) → (w : World) → s.told ≡ Some w
       → IsReplyTo settings w fields target (reply_of t found) ⊎ (IsSpoiledTo settings w fields target (reply_of t found) × Rose s.faults t.faults)
 

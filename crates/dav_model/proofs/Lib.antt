@@ -2,3 +2,4 @@ pub mod Announcing
 pub mod RangeRows
 pub mod Within
 pub mod Framing
+pub mod Nonempty

@@ -6,7 +6,7 @@ use Rattle.dav_model.specs.declared.answer.Answer.{Answer}
 use Rattle.dav_model.specs.declared.answer.Answer.TheVariants.{Piece, End}
 use Rattle.dav_model.specs.declared.target.Target.{Target}
 use Rattle.dav_model.specs.declared.target.Target.TheVariants.{At, Refused}
-use Rattle.dav_model.specs.Bodies.{Part, bytes_left, Polls}
+use Rattle.dav_model.specs.Bodies.{NoneEmpty, Part, bytes_left, Polls}
 use Rattle.dav_model.specs.Head.{Reply, is_get}
 
 -- the value of the first field of a name
@@ -27,6 +27,11 @@ IsFramedBy false reply = reply.parts ≡ []
 -- Where a reply has `content-length`, that is the number of bytes of its body. A HEAD and 304 have no body.
 abbrev pub IsFramed : Target → Reply → Type 0
 IsFramed target reply = IsFramedBy (length_is_own target reply.status) reply
+
+-- What holds of the body of every reply: no part is empty, and with 204 there is none (RFC 9110, section 15.3.5).
+pub record HasSoundBody (reply : Reply) : Type 0 where
+  pub full : NoneEmpty reply.parts
+  pub bodiless : reply.status ≡ 204 → reply.parts ≡ []
 
 -- a poll, over any world, with any read buffer and any count of faults
 pub record IsPoll (left : List Part) (answer : Answer) (rest : List Part) : Type 0 where

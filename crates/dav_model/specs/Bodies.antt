@@ -1,6 +1,7 @@
 -- What a body has left, and what a poll of it gives (the remaining body).
 use Rattle.std.proofs.Common.{suc, Bool, true, false, refl, sym, ◌∙◌, inl, inr, arith}
 use Rattle.std.specs.Prelude.{Option, Some, ◌⊎◌, ◌≡◌, ◌≤◌, ◌<◌, ◌+◌, ◌-◌, ◌==◌, ℕ, List, [], ◌∷◌, length, take, drop, min, replicate, cond, IsTrue}
+use Rattle.std.specs.List.{AllByRecursion}
 use Rattle.dav_core.specs.World.{World, bytes_of}
 use Rattle.dav_io.specs.Counts.{Rose}
 use Rattle.dav_model.specs.declared.settings.Settings.{Settings}
@@ -8,11 +9,20 @@ use Rattle.dav_model.specs.Sizes.{zeros_size}
 use Rattle.dav_model.specs.declared.answer.Answer.{Answer}
 use Rattle.dav_model.specs.declared.answer.Answer.TheVariants.{Piece, End, Broken}
 
--- A part of a body. A text or a slice of length 0 is never in a list of parts.
+-- A part of a body. In no list of parts that is answered is a text or a slice of length 0.
 pub data Part : Type 0 where
   text : List ℕ → Part
   -- bytes of a file number, from a place on
   slice : (number start count : ℕ) → Part
+
+-- a part that isn't empty
+abbrev pub HasBytes : Part → Type 0
+HasBytes (text bytes) = 0 < length bytes
+HasBytes (slice number start count) = 0 < count
+
+-- no part is empty
+abbrev pub NoneEmpty : List Part → Type 0
+NoneEmpty parts = AllByRecursion HasBytes parts
 
 -- a player as its answers show it: what is set, how many replies it gave, and what each body has left
 pub record Playing : Type 0 where

@@ -52,7 +52,7 @@ valid_back s ts us v = let r = all_split NoLinks ts us v.others in record { firs
 
 -- what stands where V holds stands where W does
 pub stands_weaken : (V W : Type 0) (p q : Playing) (s t : Point) (x : Step) (a : Answer) → (W → V) → Stands V p s t x a q → Stands W p s t x a q
-stands_weaken V W p q s t (Request request now) a h (reply, is, are, r) = (reply, is, are, record { gated = r.gated; failed = r.failed; framed = r.framed; right = λ w. r.right (h w) })
+stands_weaken V W p q s t (Request request now) a h (reply, is, are, r) = (reply, is, are, record { gated = r.gated; failed = r.failed; framed = r.framed; sound = r.sound; right = λ w. r.right (h w) })
 stands_weaken V W p q s t (Poll body) a h st = st
 stands_weaken V W p q s t (Abandon body) a h st = st
 stands_weaken V W p q s t (Purge now) a h st = st

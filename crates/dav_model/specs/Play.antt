@@ -17,7 +17,7 @@ use Rattle.dav_model.specs.declared.settings.Settings.{Settings}
 use Rattle.dav_model.specs.Sizes.{read_size_of}
 use Rattle.dav_model.specs.Requests.{Asked, gates}
 use Rattle.dav_model.specs.Head.{Reply, refusal, IsHead, IsSpoiled}
-use Rattle.dav_model.specs.Announced.{IsFramed}
+use Rattle.dav_model.specs.Announced.{HasSoundBody, IsFramed}
 
 -- no row is a symbolic link
 abbrev pub NoLinks : Point → Type 0
@@ -33,12 +33,13 @@ abbrev pub Gated : Target → Reply → Type 0
 Gated (Refused status close) reply = reply ≡ refusal status close
 Gated (At method path) reply = Unit {0}
 
--- The answer to a request between two points. In every run what the gates refuse is refused, and
--- `content-length` is that of the body; where `valid` holds, the reply is the head of the world before the step, or what may stand in its place where the count rose.
+-- The answer to a request between two points. In every run what the gates refuse is refused, `content-length` is that of the
+-- body, and no part of the body is empty; where `valid` holds, the reply is the head of the world before the step, or what may stand in its place where the count rose.
 pub record Replies (valid : Type 0) (settings : Settings) (s t : Point) (request : Asked) (reply : Reply) : Type 0 where
   pub gated : Gated (gates request) reply
   pub failed : reply.status ≡ 500 → Rose s.faults t.faults
   pub framed : IsFramed (gates request) reply
+  pub sound : HasSoundBody reply
   pub right : valid → (w : World) → s.told ≡ Some w → IsHead settings w request reply ⊎ (IsSpoiled settings w request reply × Rose s.faults t.faults)
 
 -- The answer to a step, and what it leaves of the player.

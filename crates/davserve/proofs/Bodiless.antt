@@ -15,9 +15,8 @@ use Rattle.dav_model.specs.Play.{Gated, Played}
 use Rattle.dav_model.specs.Requests.{Asked, gates, has_field, is_bare, target_by, target_read, unbuilt}
 use Rattle.dav_model.specs.Trail.{Point}
 use Rattle.dav_model.proofs.Framing.{gives_none}
-use Rattle.davserve.specs.Bodies.{IsBodiless, IsHeadAlone, IsToHead}
+use Rattle.davserve.specs.Bodies.{IsToHead}
 use Rattle.davserve.specs.Exchange.{Exchange, steps_of, answers_of}
-use Rattle.davserve.proofs.Delimiting.{head_alone}
 use Rattle.davserve.proofs.Giving.{given_of}
 
 -- what a HEAD asks for
@@ -64,11 +63,3 @@ pub gives_nothing : (s t : Point) (p q : Playing) (x : Exchange) → Played s p 
 gives_nothing s t p q x r why =
     let g = given_of s t p q x r in
     none_by (gates x.request) g.reply x.pieces g.replies.gated g.replies.framed (why_none x g.reply.status g.status_is why) g.polled
-
-is_bodiless : (x : Exchange) → IsToHead x ⊎ (x.status ≡ 304) → IsBodiless x
-is_bodiless x (inl head) = inl head
-is_bodiless x (inr e) = inr (inr e)
-
--- Nothing stands behind its head.
-pub is_alone : (s t : Point) (p q : Playing) (x : Exchange) → Played s p (steps_of x) [] (answers_of x) (Ok tt) t q → IsToHead x ⊎ (x.status ≡ 304) → IsHeadAlone x
-is_alone s t p q x r why = head_alone x (is_bodiless x why) (gives_nothing s t p q x r why)

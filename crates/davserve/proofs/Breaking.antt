@@ -1,18 +1,18 @@
--- A body that broke gave no more than was announced.
-use Rattle.std.proofs.Common.{◌≡◌, ◌≤◌, ◌+◌, ◌-◌, ◌==◌, ◌++◌, ℕ, List, [], ◌∷◌, Bool, true, false, cond, Ok, Option, length, codes, refl, sym, ap, subst, ◌∙◌, inl, inr, arith}
+-- A body that broke gave less than was announced.
+use Rattle.std.proofs.Common.{◌≡◌, ◌≤◌, ◌<◌, ◌+◌, ◌-◌, ◌==◌, ◌++◌, ℕ, List, [], ◌∷◌, Bool, true, false, cond, Ok, Option, length, codes, refl, sym, ap, subst, ◌∙◌, inl, inr, arith}
 use Rattle.dav_core.specs.Keeps.{put_same}
 use Rattle.dav_core.specs.World.{World}
-use Rattle.dav_model.specs.declared.step.Step.{Step}
 use Rattle.dav_model.specs.declared.step.Step.TheVariants.{Poll, Turn}
 use Rattle.dav_model.specs.declared.answer.Answer.{Answer}
 use Rattle.dav_model.specs.declared.answer.Answer.TheVariants.{Piece, End, Broken, Done}
 use Rattle.dav_model.specs.Announced.{IsFramedBy, bytes_in, length_is_own, value_of}
-use Rattle.dav_model.specs.Bodies.{Part, Playing, Polls, bytes_left, slice, text}
+use Rattle.dav_model.specs.Bodies.{NoneEmpty, Part, Playing, Polls, bytes_left, slice, text}
 use Rattle.dav_model.specs.Play.{Played, Plays, Valid}
 use Rattle.dav_model.specs.Requests.{gates}
 use Rattle.dav_model.specs.Sizes.{read_size_of}
 use Rattle.dav_model.specs.Trail.{Point}
-use Rattle.davserve.specs.Bodies.{Announces, AnnouncesAtLeast}
+use Rattle.dav_model.proofs.Nonempty.{rest_full}
+use Rattle.davserve.specs.Bodies.{Announces, AnnouncesMore}
 use Rattle.davserve.specs.Exchange.{Exchange, begun_answers, piece_steps, piece_answers, steps_of}
 use Rattle.davserve.proofs.Giving.{heard_of}
 
@@ -31,15 +31,28 @@ poll_takes (text bytes ∷ parts) piece rest told whole most before after (inl (
 poll_takes (slice number start count ∷ parts) piece rest told whole most before after (inl (p, e, (some, within, are, right))) =
     let same : piece ≡ p = cc in rw (are, same) (moved_takes _ number (start + length p) count (length p) parts refl within)
 
--- Pieces are at most what is left, whatever is asked behind them.
-pieces_within : (V : Type 0) (s : Point) (p q : Playing) (body : ℕ) (pieces : List (List ℕ)) (more : List Step) (answers : List Answer) (ts : List Point)
-    → Plays V p s (piece_steps body pieces ++ more) ts (piece_answers pieces ++ answers) q → bytes_in pieces ≤ bytes_left (p.left body)
-pieces_within V s p q body [] more answers ts plays = omega arith
-pieces_within V s p q body (piece ∷ pieces) more answers [] plays = elim plays [ ]
-pieces_within V s p q body (piece ∷ pieces) more answers (t ∷ []) (m, turned, kept, never) = elim never [ ]
-pieces_within V s p q body (piece ∷ pieces) more answers (t ∷ u ∷ us) (m, turned, kept, (n, (rest, are, polls), held, later)) =
+-- What breaks has something left.
+breaks_some : (left rest : List Part) (told : Option World) (whole : Bool) (most before after : ℕ) → NoneEmpty left → Polls told whole most before after left Broken rest → 0 < bytes_left left
+breaks_some [] rest told whole most before after full (e, none) = let f : Broken ≡ End = e in cc
+breaks_some (text bytes ∷ parts) rest told whole most before after full polls = omega (arith, full.0)
+breaks_some (slice number start count ∷ parts) rest told whole most before after full polls = omega (arith, full.0)
+
+-- Pieces before a break are less than what was left.
+pieces_below : (V : Type 0) (s : Point) (p q : Playing) (body : ℕ) (pieces : List (List ℕ)) (ts : List Point) → NoneEmpty (p.left body)
+    → Plays V p s (piece_steps body pieces ++ Turn ∷ Poll body ∷ []) ts (piece_answers pieces ++ Done ∷ Broken ∷ []) q → bytes_in pieces < bytes_left (p.left body)
+pieces_below V s p q body [] [] full plays = elim plays [ ]
+pieces_below V s p q body [] (t ∷ []) full (m, turned, kept, never) = elim never [ ]
+pieces_below V s p q body [] (t ∷ u ∷ us) full (m, turned, kept, (n, (rest, are, polls), held, over)) =
+    subst (λ (z : Playing). 0 < bytes_left (z.left body)) turned.1
+    (breaks_some (m.left body) rest t.told t.whole (read_size_of m.settings.read_buf_size) t.faults u.faults (subst (λ (z : Playing). NoneEmpty (z.left body)) (sym turned.1) full) polls)
+pieces_below V s p q body (piece ∷ pieces) [] full plays = elim plays [ ]
+pieces_below V s p q body (piece ∷ pieces) (t ∷ []) full (m, turned, kept, never) = elim never [ ]
+pieces_below V s p q body (piece ∷ pieces) (t ∷ u ∷ us) full (m, turned, kept, (n, (rest, are, polls), held, later)) =
     let left : n.left body ≡ rest = ap (λ (z : Playing). z.left body) are ∙ put_same body rest m.left in
-    let others : bytes_in pieces ≤ bytes_left rest = subst (λ z. bytes_in pieces ≤ bytes_left z) left (pieces_within V u n q body pieces more answers us later) in
+    let before : NoneEmpty (m.left body) = subst (λ (z : Playing). NoneEmpty (z.left body)) (sym turned.1) full in
+    let after : NoneEmpty rest = rest_full (m.left body) piece rest t.told t.whole (read_size_of m.settings.read_buf_size) t.faults u.faults before polls in
+    let others : bytes_in pieces < bytes_left rest =
+    subst (λ z. bytes_in pieces < bytes_left z) left (pieces_below V u n q body pieces us (subst NoneEmpty (sym left) after) later) in
     let takes : length piece + bytes_left rest ≤ bytes_left (p.left body) =
     subst (λ (z : Playing). length piece + bytes_left rest ≤ bytes_left (z.left body)) turned.1
     (poll_takes (m.left body) piece rest t.told t.whole (read_size_of m.settings.read_buf_size) t.faults u.faults polls) in
@@ -65,16 +78,16 @@ never_breaks V s p q body (piece ∷ pieces) (t ∷ u ∷ us) none (m, turned, k
     (ap (λ (z : Playing). z.left body) turned.1 ∙ none) polls in cc
 
 module _ (s t : Point) (p q : Playing) (x : Exchange) where
-  -- what is announced is no less
-  pub broken_within : (value : List ℕ) → Played s p (steps_of x) [] (begun_answers x ++ Done ∷ Broken ∷ []) (Ok tt) t q
-      → length_is_own (gates x.request) x.status ≡ true → Announces x value → AnnouncesAtLeast value (bytes_in x.pieces)
-  broken_within value r own says =
+  -- what is announced is more
+  pub broken_below : (value : List ℕ) → Played s p (steps_of x) [] (begun_answers x ++ Done ∷ Broken ∷ []) (Ok tt) t q
+      → length_is_own (gates x.request) x.status ≡ true → Announces x value → AnnouncesMore value (bytes_in x.pieces)
+  broken_below value r own says =
       let h = heard_of s t p q x (piece_answers x.pieces ++ Done ∷ Broken ∷ []) r in
       let framed : IsFramedBy true h.reply = subst (λ b. IsFramedBy b h.reply) (ap (length_is_own (gates x.request)) (sym h.status_is) ∙ own) h.replies.framed in (
         bytes_left h.reply.parts,
         framed value (ap (value_of (codes "content-length")) (sym h.fields_are) ∙ says),
-        subst (λ z. bytes_in x.pieces ≤ bytes_left z) h.left
-            (pieces_within (Valid s r.trail) h.after h.mid h.last x.body x.pieces (Turn ∷ Poll x.body ∷ []) (Done ∷ Broken ∷ []) h.trail h.plays),
+        subst (λ z. bytes_in x.pieces < bytes_left z) h.left
+            (pieces_below (Valid s r.trail) h.after h.mid h.last x.body x.pieces h.trail (subst NoneEmpty (sym h.left) h.replies.sound.full) h.plays),
       )
 
   pub bodiless_never : Played s p (steps_of x) [] (begun_answers x ++ Done ∷ Broken ∷ []) (Ok tt) t q → length_is_own (gates x.request) x.status ≡ false → ⊥

@@ -1,8 +1,6 @@
 -- What a played exchange gives of its body.
 use Rattle.std.proofs.Common.{◌≡◌, ◌++◌, ℕ, List, [], ◌∷◌, true, false, Ok, Some, sym, ap, subst, ◌∙◌, append-nil, codes, decimal}
-use Rattle.dav_io.specs.Told.{told_after}
 use Rattle.dav_core.specs.Keeps.{put_same}
-use Rattle.dav_core.specs.World.{World}
 use Rattle.dav_model.specs.declared.step.Step.{Step}
 use Rattle.dav_model.specs.declared.step.Step.TheVariants.{Request, Poll, Purge, Turn}
 use Rattle.dav_model.specs.declared.answer.Answer.{Answer}
@@ -13,7 +11,7 @@ use Rattle.dav_model.specs.Head.{Reply}
 use Rattle.dav_model.specs.Play.{Ends, Played, Plays, Replies, Valid}
 use Rattle.dav_model.specs.Requests.{gates}
 use Rattle.dav_model.specs.Sizes.{read_size_of}
-use Rattle.dav_model.specs.Trail.{Point, Goes, Trail}
+use Rattle.dav_model.specs.Trail.{Point, Trail}
 use Rattle.dav_model.proofs.Framing.{given_length, gives_none}
 use Rattle.davserve.specs.Exchange.{Exchange, piece_steps, piece_answers, steps_of, answers_of}
 
@@ -57,16 +55,11 @@ polled_to_end V s p q body (piece ∷ pieces) (t ∷ u ∷ us) (m, turned, kept,
       subst (λ z. PolledToEnd z pieces) left (polled_to_end V u n q body pieces us more),
     )
 
--- the disk tells at both, if at the first
-abbrev Tells : Point → Point → Type 0
-Tells s t = (w : World) → s.told ≡ Some w → (v : World) × (t.told ≡ Some v)
-
 -- The reply of an exchange between two points. Behind it stand the answers to what is asked of its body.
 pub record Heard (V : Type 0) (s : Point) (p : Playing) (x : Exchange) (asked : List Step) (answers : List Answer) : Type 0 where
   pub reply : Reply
   pub before : Point
   pub after : Point
-  pub tells : Tells s before
   pub status_is : x.status ≡ reply.status
   pub fields_are : x.fields ≡ reply.fields
   pub replies : Replies V p.settings before after x.request reply
@@ -75,9 +68,6 @@ pub record Heard (V : Type 0) (s : Point) (p : Playing) (x : Exchange) (asked : 
   pub last : Playing
   pub trail : List Point
   pub plays : Plays V mid after asked trail answers last
-
-tells_on : (s t : Point) (step : Step) → Goes step s t → Tells s t
-tells_on s t step goes w e = let after = told_after s.told t.told _ w goes.world e in (after.0, after.1)
 
 heard_by : (V : Type 0) (s : Point) (p q : Playing) (x : Exchange) (asked : List Step) (answers : List Answer) (ts : List Point)
     → Trail s (Turn ∷ Purge x.now ∷ Request x.request x.now ∷ asked) ts
@@ -91,7 +81,6 @@ heard_by V s p q x asked answers (t ∷ u ∷ v ∷ ts) trail (m, turned, kept, 
       reply = reply;
       before = u;
       after = v;
-      tells = λ w e. let then = tells_on s t Turn trail.0 w e in tells_on t u (Purge x.now) trail.1.0 then.0 then.1;
       status_is = cc;
       fields_are = cc;
       replies = subst (λ (z : Playing). Replies V z.settings u v x.request reply) (purged.1 ∙ turned.1) right;
@@ -114,7 +103,6 @@ pub record Given (V : Type 0) (s : Point) (p : Playing) (x : Exchange) : Type 0 
   pub reply : Reply
   pub before : Point
   pub after : Point
-  pub tells : Tells s before
   pub status_is : x.status ≡ reply.status
   pub fields_are : x.fields ≡ reply.fields
   pub replies : Replies V p.settings before after x.request reply
@@ -128,7 +116,6 @@ given_of s t p q x r =
       reply = h.reply;
       before = h.before;
       after = h.after;
-      tells = h.tells;
       status_is = h.status_is;
       fields_are = h.fields_are;
       replies = h.replies;

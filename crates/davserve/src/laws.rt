@@ -1,21 +1,21 @@
 //! Laws over the exchanges that `run` answers: of their bodies, and where these end. Each function does nothing; its
 //! contract is the law.
-ghost use Rattle.std.specs.Prelude.{◌≡◌, ◌⊎◌, ◌++◌, ℕ, Bool, List, [], ◌∷◌, All, true, false, decimal, Option, Some, Ok, length};
+ghost use Rattle.std.specs.Prelude.{◌≡◌, ◌++◌, ℕ, Bool, List, [], ◌∷◌, All, true, false, decimal, Option, Ok, length};
 ghost use Rattle.std.specs.List.{AllByRecursion, concat, flat_map};
 ghost use Rattle.httparse.specs.Grammar.{RequestHead};
 ghost use Rattle.dav_io.specs.Outside.{Stream};
 ghost use Rattle.dav_io.specs.declared.clock.Moment.{Moment};
-ghost use Rattle.dav_core.specs.World.{World};
+ghost use Rattle.dav_model.specs.declared.answer.Answer.{Answer};
 ghost use Rattle.dav_model.specs.declared.answer.Answer.TheVariants.{Broken, Done};
 ghost use Rattle.dav_model.specs.Announced.{bytes_in, length_is_own};
 ghost use Rattle.dav_model.specs.Bodies.{Playing};
-ghost use Rattle.dav_model.specs.Play.{Played, Valid};
+ghost use Rattle.dav_model.specs.Play.{Played};
 ghost use Rattle.dav_model.specs.Requests.{gates};
 ghost use Rattle.dav_model.specs.Trail.{Point};
 ghost use Rattle.dav_wire.specs.Answers.{head_text};
-ghost use Rattle.dav_wire.specs.Chunks.{written, ending, IsPiece, HasBody};
+ghost use Rattle.dav_wire.specs.Chunks.{written, ending, HasBody};
 ghost use Rattle.dav_wire.specs.declared.chunks.Framing.TheVariants.{Raw, Chunked};
-ghost use Rattle.davserve.specs.Bodies.{Announces, AnnouncesAtLeast, GivesAnnounced, IsBodiless, IsHeadAlone, IsShort, IsToHead, TellsEnd};
+ghost use Rattle.davserve.specs.Bodies.{Announces, AnnouncesMore, GivesAnnounced, IsBodiless, IsHeadAlone, IsNonempty, IsShort, TellsEnd};
 ghost use Rattle.davserve.specs.Exchange.{Exchange, IsOf, begun_answers, framing_of, steps_of, answers_of, wire_of};
 ghost use Rattle.davserve.specs.Serving.{Setup, Serving};
 
@@ -32,42 +32,41 @@ pub fn answers_have_the_announced_length()
     ensures counted { (x : Exchange) → bytes_in x.pieces ≡ length (concat x.pieces) }
 {}
 
-/// A body that broke has at most as many bytes as are announced, so that nothing of it is taken for another answer. None
-/// breaks where the field speaks of a body that isn't sent.
+/// A body that broke has fewer bytes than are announced, so that a client sees that it isn't whole, and takes nothing of it
+/// for another answer. None breaks where the field speaks of a body that isn't sent.
 pub fn broken_answers_are_no_longer()
-    ensures within { (s t : Point) (p q : Playing) (x : Exchange) (value : List ℕ) → Played s p (steps_of x) [] (begun_answers x ++ Done ∷ Broken ∷ []) (Ok tt) t q
-        → length_is_own (gates x.request) x.status ≡ true → Announces x value → AnnouncesAtLeast value (bytes_in x.pieces) }
+    ensures shorter { (s t : Point) (p q : Playing) (x : Exchange) (value : List ℕ) → Played s p (steps_of x) [] (begun_answers x ++ Done ∷ Broken ∷ []) (Ok tt) t q
+        → length_is_own (gates x.request) x.status ≡ true → Announces x value → AnnouncesMore value (bytes_in x.pieces) }
     ensures never { (s t : Point) (p q : Playing) (x : Exchange) → Played s p (steps_of x) [] (begun_answers x ++ Done ∷ Broken ∷ []) (Ok tt) t q
         → length_is_own (gates x.request) x.status ≡ false → ⊥ }
 {}
 
 /// The body of an answer in chunks, as it is written, is read back as the bytes of its pieces, whatever follows, and one
-/// that isn't in chunks is these bytes.
+/// that isn't in chunks is these bytes. No piece is empty, whether the disk tells or not, and whatever comes behind the
+/// pieces (`full`): an empty chunk would end the body.
 ///
-/// That no piece is empty follows from what was played where the disk tells and no row is a symbolic link (`told`). That a
-/// piece is short holds of all that stands in memory.
+/// That a piece is short holds of all that stands in memory.
 pub fn answers_in_chunks_are_read_back()
-    ensures chunked { (x : Exchange) (behind : List ℕ) → framing_of x ≡ Chunked → All IsPiece x.pieces
+    ensures chunked { (s t : Point) (p q : Playing) (x : Exchange) (behind : List ℕ) → Played s p (steps_of x) [] (answers_of x) (Ok tt) t q
+        → framing_of x ≡ Chunked → All IsShort x.pieces
         → HasBody (flat_map (written (framing_of x)) x.pieces ++ (ending (framing_of x) ++ behind)) (concat x.pieces) behind }
-    ensures told { (s t : Point) (p q : Playing) (x : Exchange) (w : World) (behind : List ℕ) → (r : Played s p (steps_of x) [] (answers_of x) (Ok tt) t q)
-        → s.told ≡ Some w → Valid s r.trail → framing_of x ≡ Chunked → All IsShort x.pieces
-        → HasBody (flat_map (written (framing_of x)) x.pieces ++ (ending (framing_of x) ++ behind)) (concat x.pieces) behind }
+    ensures full { (s t : Point) (p q : Playing) (x : Exchange) (last : Answer) → Played s p (steps_of x) [] (begun_answers x ++ Done ∷ last ∷ []) (Ok tt) t q
+        → All IsNonempty x.pieces }
     ensures raw { (x : Exchange) (behind : List ℕ) → framing_of x ≡ Raw
         → flat_map (written (framing_of x)) x.pieces ++ (ending (framing_of x) ++ behind) ≡ concat x.pieces ++ behind }
 {}
 
 /// Each answer tells its end: a client expects no body, or it is in chunks, or it says its length, or the version is 1.0
-/// and the connection closes behind it (RFC 9112, section 6.3). The answer to a HEAD, and one with 304, is its head alone.
-/// So is one with 204 where the disk tells and no row is a symbolic link (`told`).
+/// and the connection closes behind it (RFC 9112, section 6.3). The answer to a HEAD, and one with 204 or 304, is its head
+/// alone.
 pub fn framed_answers_end()
     ensures tells { (shown : Option Moment) (head : RequestHead) (x : Exchange) → IsOf shown head x → TellsEnd x }
     ensures alone { (s t : Point) (p q : Playing) (x : Exchange) → Played s p (steps_of x) [] (answers_of x) (Ok tt) t q
-        → IsToHead x ⊎ (x.status ≡ 304) → IsHeadAlone x }
-    ensures told { (s t : Point) (p q : Playing) (x : Exchange) (w : World) → (r : Played s p (steps_of x) [] (answers_of x) (Ok tt) t q)
-        → s.told ≡ Some w → Valid s r.trail → IsBodiless x → IsHeadAlone x }
+        → IsBodiless x → IsHeadAlone x }
 {}
 
-/// All exchanges that a run answered give what they announce, and tell their end.
+/// All exchanges that a run answered give what they announce, and tell their end. None has an empty piece, and bodies in
+/// chunks are read back.
 pub fn served_answers_give_what_they_announce()
     ensures { (setup : Setup) (closed : Bool) (input source : Stream) (held : List ℕ) (s t : Point) (xs : List Exchange)
         → Serving setup closed input source held s xs t → AllByRecursion GivesAnnounced xs }

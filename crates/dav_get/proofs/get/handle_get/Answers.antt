@@ -1,6 +1,6 @@
 use Rattle.std.proofs.Common.{◌≡◌}
 use Rattle.dav_store.specs.View.{the_view}
-use Rattle.dav_get.proofs.Framing.{gets_framed}
+use Rattle.dav_get.proofs.Framing.{gets_framed, gets_sound}
 use Rattle.dav_get.proofs.Righting.{gets_right}
 use Rattle.dav_get.proofs.get.handle_get.Goals as goal
 
@@ -11,3 +11,7 @@ returns-clause-right g c = λ looked opened shows same.
 pub returns-clause-framed : goal.returns-clause-framed
 returns-clause-framed g c = λ number.
     gets_framed (the_view g.S.GuardedFileSystem g.S.Disk.Disk g.S.File.DavFile) c.args.settings.now c.args.credentials.now c.args.method c.args.path.now c.args.fields.now number c.args.fs.now c.get_once.result c.get_once.new.fs c.get_once.ensures.table
+
+pub returns-clause-sound : goal.returns-clause-sound
+returns-clause-sound g c = λ number.
+    gets_sound (the_view g.S.GuardedFileSystem g.S.Disk.Disk g.S.File.DavFile) c.args.settings.now c.args.credentials.now c.args.method c.args.path.now c.args.fields.now number c.args.fs.now c.get_once.result c.get_once.new.fs c.get_once.ensures.table
