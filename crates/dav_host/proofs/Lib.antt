@@ -1,2 +1,2 @@
-pub mod Live
-pub mod Texts
+pub mod LiveHandles
+pub mod PathTexts

@@ -34,7 +34,8 @@ live_at opens h = option_map live_of (at_key opens h)
 
 -- A disk that tells nothing keeps its counts and its live handles.
 abbrev pub untold : ℕ → ℕ → (ℕ → Option Live) → DiskState
-untold faults asked live = record { told = None; faults = faults; asked = asked; whole = false; live = live; listers = λ _. None }
+untold faults asked live =
+    record { told = None; faults = faults; asked = asked; whole = false; live = live; listers = λ _. None }
 
 -- what the machine's error is where a path is looked at or opened: one of two refusals of the walk, and else a fault
 abbrev pub refusal_of : ErrorKind → Option DiskError

@@ -12,6 +12,7 @@ pub struct SystemClock<'a, C: HostClock> {
 }
 
 impl<'a, C: HostClock> SystemClock<'a, C> {
+    /// No moment was told yet.
     pub fn new(rt: &'a C) -> SystemClock<'a, C>
         ensures { result.last.0 ≡ 0 }
     {
@@ -44,8 +45,10 @@ impl<'a, C: HostClock> Clock for SystemClock<'a, C> {
     ghost shows = { λ _. None };
 
     fn now(&mut self) -> Moment
-        ensures shown { (⟦<SystemClock<'a, C> as Clock>⟧.shows self.old ≡ Some result) ⊎ (⟦<SystemClock<'a, C> as Clock>⟧.shows self.old ≡ None) }
-        ensures stays { ⟦<SystemClock<'a, C> as Clock>⟧.shows self.new ≡ ⟦<SystemClock<'a, C> as Clock>⟧.shows self.old }
+        ensures shown { (⟦<SystemClock<'a, C> as Clock>⟧.shows self.old ≡ Some result)
+            ⊎ (⟦<SystemClock<'a, C> as Clock>⟧.shows self.old ≡ None) }
+        ensures stays { ⟦<SystemClock<'a, C> as Clock>⟧.shows self.new
+            ≡ ⟦<SystemClock<'a, C> as Clock>⟧.shows self.old }
         ensures kept { self.new.last ≡ result }
     {
         let told = moment_of(self.rt);

@@ -1,6 +1,7 @@
-ghost use Rattle.std.specs.Prelude.{◌≡◌, ◌≢◌, ◌≤◌, None, Some, IfOk, IfSome, IfErr, string_bytes, string_capacity};
+ghost use Rattle.std.specs.Prelude.{◌≡◌, ◌≢◌, ◌≤◌, None, Some, IfOk, IfSome, IfErr, refl, string_bytes, string_capacity};
 ghost use Rattle.dav_io.specs.Counts.{Rose, one_more};
 ghost use Rattle.dav_host.specs.Host.{room, live_at, untold, IsWalkRefusal, never_told, refusal_of};
+ghost use Rattle.dav_core.specs.Untold.{untold_live};
 ghost use Rattle.std.specs.IoError.{error_kind};
 
 use crate::meta::meta_of;
@@ -195,4 +196,6 @@ impl<R: Files + Drop> Disk for HostDisk<R> {
     }
 
     ghost world = { λ d w e. never_told w e };
+
+    ghost tells_live = { λ d. untold_live (untold d.faults d.asked (live_at d.opens)) refl };
 }

@@ -49,7 +49,7 @@ pub fn read_at<F: Read>(
     ensures within { IfSome result (λ n. n ≤ length into.new) }
 {
     match opens.get_mut(&handle) {
-        Some(opened) => read_again(&mut opened.file, into),
+        Some(opened) => read_again(&mut opened.file, into).ok(),
         None => None,
     }
 }

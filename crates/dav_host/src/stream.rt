@@ -1,5 +1,10 @@
-ghost use Rattle.std.specs.Prelude.{◌≡◌, ◌<◌, ◌≤◌, None, IfSome, length};
-ghost use Rattle.dav_io.specs.Outside.{Stream};
+//! Streams of the machine. What they hold isn't told; where the machine's reader or writer tells it, each call hands on
+//! what that one says of the bytes.
+ghost use Rattle.std.specs.Prelude.{◌≡◌, ◌<◌, ◌≤◌, IfOk, length};
+ghost use Rattle.std.specs.Io.KnownBytes.{ReadConsumes, WriteAppends};
+ghost use Rattle.dav_io.specs.Counts.{CountsFault};
+ghost use Rattle.dav_io.specs.Outside.{Stream, Takes, Puts};
+ghost use Rattle.dav_host.specs.Streams.{untold_stream};
 
 use dav_io::{Failed, Sink, Source};
 use std::io::{ErrorKind, Read, Write};
@@ -7,39 +12,46 @@ use std::io::{ErrorKind, Read, Write};
 // How often a call is tried again where a signal came between.
 const TRIES: u32 = 1000;
 
-// Reads once, and again where a signal came between. None is a fault.
-pub fn read_again<R: Read>(input: &mut R, into: &mut [u8]) -> Option<usize>
-    ensures { IfSome result (λ n. n ≤ length into.new) }
+// Reads once, and again where a signal came between. Any other error of the machine is a fault.
+pub fn read_again<R: Read>(input: &mut R, into: &mut [u8]) -> Result<usize, Failed>
+    ensures within { IfOk result (λ n. n ≤ length into.new) }
+    ensures bytes { ReadConsumes (R.remaining input.old) (R.remaining input.new) result into.new }
 {
-    for _ in 0..TRIES {
+    'tries: for _ in 0..TRIES {
         match input.read(into) {
-            Ok(count) => return Some(count),
+            Ok(count) => return Ok(count),
             Err(error) => {
                 if error.kind() != ErrorKind::Interrupted {
-                    return None;
+                    return Err(Failed);
                 }
             }
         }
     }
-    None
+    Err(Failed)
 }
 
-// Writes once, and again where a signal came between. None is a fault, as a write of no byte is.
-fn write_again<W: Write>(output: &mut W, from: &[u8]) -> Option<usize>
-    ensures within { IfSome result (λ n. n ≤ length from.now) }
-    ensures some { IfSome result (λ n. 0 < n) }
+// Writes once, and again where a signal came between. Any other error is a fault, and so is a write of no byte.
+fn write_again<W: Write>(output: &mut W, from: &[u8]) -> Result<usize, Failed>
+    ensures within { IfOk result (λ n. n ≤ length from.now) }
+    ensures some { IfOk result (λ n. 0 < n) }
+    ensures bytes { WriteAppends (W.contents output.old) (W.contents output.new) result from.now }
 {
-    for _ in 0..TRIES {
+    'tries: for _ in 0..TRIES {
         match output.write(from) {
-            Ok(count) => return (count > 0).then_some(count),
+            Ok(count) => {
+                if count == 0 {
+                    return Err(Failed);
+                }
+                return Ok(count);
+            }
             Err(error) => {
                 if error.kind() != ErrorKind::Interrupted {
-                    return None;
+                    return Err(Failed);
                 }
             }
         }
     }
-    None
+    Err(Failed)
 }
 
 /// A stream of the machine that is read. It doesn't tell what it holds.
@@ -47,27 +59,41 @@ fn write_again<W: Write>(output: &mut W, from: &[u8]) -> Option<usize>
 pub struct StdSource<R: Read + Drop> {
     input: R,
     faults: u64,
+    asked: u64,
 }
 
 impl<R: Read + Drop> StdSource<R> {
+    /// Nothing read yet.
     pub fn new(input: R) -> StdSource<R>
-        ensures { ⟦<StdSource<R> as Source>⟧.stream result ≡ record { bytes = None; faults = 0 } }
+        ensures stream { ⟦<StdSource<R> as Source>⟧.stream result ≡ untold_stream 0 0 }
+        ensures input { result.input ≡ input }
     {
-        StdSource { input, faults: 0 }
+        StdSource {
+            input,
+            faults: 0,
+            asked: 0,
+        }
     }
 }
 
 impl<R: Read + Drop> Source for StdSource<R> {
-    ghost stream = { λ s. record { bytes = None; faults = s.faults } };
+    ghost stream = { λ s. untold_stream s.faults s.asked };
 
-    fn take(&mut self, into: &mut [u8]) -> Result<usize, Failed> {
-        match read_again(&mut self.input, into) {
-            Some(count) => Ok(count),
-            None => {
-                self.faults = self.faults.saturating_add(1);
-                Err(Failed)
-            }
+    /// It gives what the machine's reader gives, and 0 only where that one is at its end. Each error but an
+    /// interruption counts one fault.
+    fn take(&mut self, into: &mut [u8]) -> Result<usize, Failed>
+        requires { 0 < length into.old }
+        ensures done { Takes (untold_stream self.old.faults self.old.asked) into.new result
+            (untold_stream self.new.faults self.new.asked) }
+        ensures bytes { ReadConsumes (R.remaining self.old.input) (R.remaining self.new.input) result into.new }
+        ensures faults { CountsFault result self.old.faults self.new.faults }
+    {
+        self.asked = self.asked.saturating_add(1);
+        let result = read_again(&mut self.input, into);
+        if result.is_err() {
+            self.faults = self.faults.saturating_add(1);
         }
+        result
     }
 }
 
@@ -76,26 +102,40 @@ impl<R: Read + Drop> Source for StdSource<R> {
 pub struct StdSink<W: Write + Drop> {
     output: W,
     faults: u64,
+    asked: u64,
 }
 
 impl<W: Write + Drop> StdSink<W> {
+    /// Nothing written yet.
     pub fn new(output: W) -> StdSink<W>
-        ensures { ⟦<StdSink<W> as Sink>⟧.stream result ≡ record { bytes = None; faults = 0 } }
+        ensures stream { ⟦<StdSink<W> as Sink>⟧.stream result ≡ untold_stream 0 0 }
+        ensures output { result.output ≡ output }
     {
-        StdSink { output, faults: 0 }
+        StdSink {
+            output,
+            faults: 0,
+            asked: 0,
+        }
     }
 }
 
 impl<W: Write + Drop> Sink for StdSink<W> {
-    ghost stream = { λ s. record { bytes = None; faults = s.faults } };
+    ghost stream = { λ s. untold_stream s.faults s.asked };
 
-    fn put(&mut self, from: &[u8]) -> Result<usize, Failed> {
-        match write_again(&mut self.output, from) {
-            Some(count) => Ok(count),
-            None => {
-                self.faults = self.faults.saturating_add(1);
-                Err(Failed)
-            }
+    /// As many bytes are taken as the machine's writer took, and these went to it. Each error but an interruption
+    /// counts one fault.
+    fn put(&mut self, from: &[u8]) -> Result<usize, Failed>
+        requires { 0 < length from.now }
+        ensures done { Puts (untold_stream self.old.faults self.old.asked) from.now result
+            (untold_stream self.new.faults self.new.asked) }
+        ensures bytes { WriteAppends (W.contents self.old.output) (W.contents self.new.output) result from.now }
+        ensures faults { CountsFault result self.old.faults self.new.faults }
+    {
+        self.asked = self.asked.saturating_add(1);
+        let result = write_again(&mut self.output, from);
+        if result.is_err() {
+            self.faults = self.faults.saturating_add(1);
         }
+        result
     }
 }

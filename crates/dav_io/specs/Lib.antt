@@ -1,5 +1,6 @@
 pub mod Counts
 pub mod Told
 pub mod Outside
-pub mod Rooms
+pub mod Sure
+pub mod Appending
 pub mod Schedules

@@ -1,8 +1,7 @@
 -- Which calls of a source or a sink in memory fail, and how many bytes the others move.
-use Rattle.std.specs.Prelude.{◌≡◌, ◌-◌, ℕ, List, Some, drop, min, vec_len, Contains, Result, Ok, Err}
+use Rattle.std.specs.Prelude.{◌-◌, ℕ, List, Some, drop, min, vec_len, Contains}
 use Rattle.dav_io.specs.Counts.{one_more}
 use Rattle.dav_io.specs.Outside.{Stream}
-use Rattle.dav_io.specs.declared.failure.Failed.{Failed}
 use Rattle.dav_io.specs.declared.memory.MemSource.{MemSource}
 use Rattle.dav_io.specs.declared.memory.MemSink.{MemSink}
 
@@ -24,26 +23,21 @@ one_later s = record { fail = s.fail; calls = one_more s.calls; most = s.most }
 abbrev pub moved : Schedule → ℕ → ℕ → ℕ
 moved s count room = min (min count room) s.most
 
--- A call that fails counts one fault, and any other none.
-abbrev pub CountsFault : Result ℕ Failed → ℕ → ℕ → Type 0
-CountsFault (Ok n) before after = after ≡ before
-CountsFault (Err e) before after = after ≡ one_more before
-
 -- what a source in memory has left
 abbrev pub left_in : MemSource → List ℕ
 left_in s = drop s.at s.bytes
 
 abbrev pub source_stream : MemSource → Stream
-source_stream s = record { bytes = Some (left_in s); faults = s.faults.met }
+source_stream s = record { bytes = Some (left_in s); faults = s.faults.met; asked = s.faults.asked }
 
 abbrev pub source_schedule : MemSource → Schedule
-source_schedule s = record { fail = s.faults.fail.items; calls = s.faults.calls; most = s.most }
+source_schedule s = record { fail = s.faults.fail.items; calls = s.faults.asked; most = s.most }
 
 abbrev pub sink_stream : MemSink → Stream
-sink_stream s = record { bytes = Some s.bytes.items; faults = s.faults.met }
+sink_stream s = record { bytes = Some s.bytes.items; faults = s.faults.met; asked = s.faults.asked }
 
 abbrev pub sink_schedule : MemSink → Schedule
-sink_schedule s = record { fail = s.faults.fail.items; calls = s.faults.calls; most = s.most }
+sink_schedule s = record { fail = s.faults.fail.items; calls = s.faults.asked; most = s.most }
 
 -- how many bytes a sink in memory was made for
 abbrev pub room_of : MemSink → ℕ

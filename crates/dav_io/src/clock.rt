@@ -22,12 +22,14 @@ pub struct SetClock {
 }
 
 impl SetClock {
+    /// A clock that stands at this moment.
     pub fn new(at: Moment) -> Self
         ensures { ⟦<SetClock as Clock>⟧.shows result ≡ Some at }
     {
         SetClock { at }
     }
 
+    /// Sets the moment.
     pub fn set(&mut self, at: Moment)
         ensures { ⟦<SetClock as Clock>⟧.shows self.new ≡ Some at }
     {

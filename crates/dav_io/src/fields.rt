@@ -12,6 +12,7 @@ pub struct Field {
 }
 
 impl Field {
+    /// A copy of its own.
     pub fn try_clone(&self) -> Result<Self, NoMemory>
         ensures { IfOk result (λ copy. copy ≡ self.now) }
     {
@@ -37,18 +38,21 @@ impl Model for Fields {
 }
 
 impl Fields {
+    /// These fields, in their order.
     pub fn new(fields: Vec<Field>) -> Self
         ensures { result ≡ fields.items }
     {
         Fields { fields }
     }
 
+    /// The fields, in their order.
     pub fn as_slice(&self) -> &[Field]
         ensures { result.now ≡ self.now }
     {
         self.fields.as_slice()
     }
 
+    /// A copy of its own.
     pub fn try_clone(&self) -> Result<Self, NoMemory>
         ensures { IfOk result (λ copy. copy ≡ self.now) }
     {

@@ -11,15 +11,18 @@ mod octets;
 mod outside;
 mod sure;
 mod text;
+mod writing;
 
 pub use clock::{Clock, Moment, SetClock};
 pub use failure::{Failed, NoMemory};
+pub use faults::Faults;
 pub use fields::{Field, Fields};
 pub use memory::{MemSink, MemSource};
 pub use octets::Octets;
-pub use outside::{Sink, Source};
+pub use outside::{Client, Sink, Source};
 pub use sure::{SureSink, SureSource};
 pub use text::Text;
+pub use writing::put_all;
 
 #[cfg(test)]
 mod tests;

@@ -19,8 +19,8 @@ pub fn copy_front(rest: &[u8], most: usize, into: &mut [u8]) -> usize
     count
 }
 
-/// A source in memory, which gives at most `most` bytes a call, and fails at the calls of the numbers given. Each call is
-/// counted, whether it fails or not; from the greatest u64 on all calls have that number.
+/// A source in memory, which gives at most `most` bytes a call, and fails at the calls of the numbers given. Each call
+/// is counted, whether it fails or not; from the greatest u64 on all calls have that number.
 #[derive(Drop)]
 pub struct MemSource {
     bytes: Octets,
@@ -37,7 +37,7 @@ impl MemSource {
     /// A source of these bytes, which gives at most `most` a call and fails at the calls of these numbers, from 1.
     pub fn new(bytes: Octets, most: usize, fail: Vec<u64>) -> Self
         requires { 0 < most }
-        ensures stream { ⟦<MemSource as Source>⟧.stream result ≡ record { bytes = Some bytes; faults = 0 } }
+        ensures stream { ⟦<MemSource as Source>⟧.stream result ≡ record { bytes = Some bytes; faults = 0; asked = 0 } }
         ensures schedule { source_schedule result ≡ record { fail = fail.items; calls = 0; most = most } }
     {
         MemSource {
@@ -50,17 +50,19 @@ impl MemSource {
 }
 
 impl Source for MemSource {
-    ghost use Rattle.dav_io.specs.Schedules.{FailsNext, one_later, moved, CountsFault, left_in, source_stream, source_schedule};
+    ghost use Rattle.dav_io.specs.Counts.{CountsFault};
+    ghost use Rattle.dav_io.specs.Schedules.{FailsNext, one_later, moved, left_in, source_stream, source_schedule};
 
     ghost stream = { source_stream };
 
-    /// It fails exactly where the schedule has its number. Any other call gives what is left, as far as there is room, and
-    /// at most `most` bytes.
+    /// It fails exactly where the schedule has its number. Any other call gives what is left, as far as there is room,
+    /// and at most `most` bytes.
     fn take(&mut self, into: &mut [u8]) -> Result<usize, Failed>
         requires { 0 < length into.old }
         ensures done { Takes (source_stream self.old) into.new result (source_stream self.new) }
         ensures fails { IsErr result ↔ FailsNext (source_schedule self.old) }
-        ensures count { IfOk result (λ n. n ≡ moved (source_schedule self.old) (length (left_in self.old)) (length into.old)) }
+        ensures count { IfOk result
+            (λ n. n ≡ moved (source_schedule self.old) (length (left_in self.old)) (length into.old)) }
         ensures faults { CountsFault result self.old.faults.met self.new.faults.met }
         ensures schedule { source_schedule self.new ≡ one_later (source_schedule self.old) }
     {
@@ -94,7 +96,8 @@ impl MemSink {
     /// from 1.
     pub fn new(alloc: Global, room: usize, most: usize, fail: Vec<u64>) -> Result<Self, NoMemory>
         requires { 0 < most }
-        ensures stream { IfOk result (λ s. ⟦<MemSink as Sink>⟧.stream s ≡ record { bytes = Some []; faults = 0 }) }
+        ensures stream { IfOk result
+            (λ s. ⟦<MemSink as Sink>⟧.stream s ≡ record { bytes = Some []; faults = 0; asked = 0 }) }
         ensures room { IfOk result (λ s. room_of s ≡ room) }
         ensures schedule { IfOk result (λ s. sink_schedule s ≡ record { fail = fail.items; calls = 0; most = most }) }
     {
@@ -109,19 +112,21 @@ impl MemSink {
 
     /// The bytes written.
     pub fn written(&self) -> &[u8]
-        ensures { ⟦<MemSink as Sink>⟧.stream self.now ≡ record { bytes = Some result.now; faults = self.now.faults.met } }
+        ensures { ⟦<MemSink as Sink>⟧.stream self.now
+            ≡ record { bytes = Some result.now; faults = self.now.faults.met; asked = self.now.faults.asked } }
     {
         &self.bytes
     }
 }
 
 impl Sink for MemSink {
-    ghost use Rattle.dav_io.specs.Schedules.{FailsNext, one_later, moved, CountsFault, sink_stream, sink_schedule, room_of, room_left};
+    ghost use Rattle.dav_io.specs.Counts.{CountsFault};
+    ghost use Rattle.dav_io.specs.Schedules.{FailsNext, one_later, moved, sink_stream, sink_schedule, room_of, room_left};
 
     ghost stream = { sink_stream };
 
-    /// It fails exactly where the schedule has its number, or no room is left. Any other call takes what is offered, as far
-    /// as there is room, and at most `most` bytes.
+    /// It fails exactly where the schedule has its number, or no room is left. Any other call takes what is offered, as
+    /// far as there is room, and at most `most` bytes.
     fn put(&mut self, from: &[u8]) -> Result<usize, Failed>
         requires { 0 < length from.now }
         ensures done { Puts (sink_stream self.old) from.now result (sink_stream self.new) }

@@ -21,6 +21,7 @@ impl Model for Octets {
 }
 
 impl Octets {
+    /// These bytes. It takes no memory.
     pub fn new(bytes: Vec<u8>) -> Self
         ensures { result ≡ bytes.items }
     {
@@ -36,6 +37,7 @@ impl Octets {
         }
     }
 
+    /// The bytes.
     pub fn as_slice(&self) -> &[u8]
         ensures { result.now ≡ self.now }
     {
@@ -49,6 +51,7 @@ impl Octets {
         self.bytes
     }
 
+    /// A copy of its own.
     pub fn try_clone(&self) -> Result<Self, NoMemory>
         ensures { IfOk result (λ copy. copy ≡ self.now) }
     {

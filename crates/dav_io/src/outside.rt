@@ -5,7 +5,7 @@ use crate::Failed;
 
 /// Gives bytes, in their order.
 pub trait Source {
-    /// The bytes left, where the source tells them, and the count of faults.
+    /// The bytes left, where the source tells them, the count of faults, and how often it was asked.
     ghost stream: { Self → Stream };
 
     /// Puts bytes at the front of `into`, and answers how many. 0 is the end of the input.
@@ -16,7 +16,7 @@ pub trait Source {
 
 /// Takes bytes, in their order.
 pub trait Sink {
-    /// The bytes written, where the sink tells them, and the count of faults.
+    /// The bytes written, where the sink tells them, the count of faults, and how often it was asked.
     ghost stream: { Self → Stream };
 
     /// Takes bytes from the front of `from`, and answers how many, at least one.
@@ -38,5 +38,33 @@ impl<S: Sink> Sink for &mut S {
 
     fn put(&mut self, from: &[u8]) -> Result<usize, Failed> {
         Sink::put(&mut **self, from)
+    }
+}
+
+/// Gives bytes, in their order, to one who shows what was written before. It may be asked only where that suffices: a client
+/// that waits for an answer isn't asked for more.
+pub trait Client<K: Sink> {
+    /// The bytes left, where the client tells them, and the count of faults.
+    ghost stream: { Self → Stream };
+
+    /// Whether it may be asked, where this is left and this was written.
+    ghost may: { Self → Stream → Stream → Type 0 };
+
+    /// Puts bytes at the front of `into`, and answers how many. 0 is the end of the input.
+    fn ask(&mut self, sink: &K, into: &mut [u8]) -> Result<usize, Failed>
+        requires room { 0 < length into.old }
+        requires ready { may self.old (stream self.old) (K.stream sink.now) }
+        ensures takes { Takes (stream self.old) into.new result (stream self.new) }
+        ensures stays { (source written : Stream) → may self.old source written → may self.new source written };
+}
+
+/// A source waits for nothing.
+impl<S: Source, K: Sink> Client<K> for S {
+    ghost stream = { λ s. S.stream s };
+
+    ghost may = { λ s source written. Unit {0} };
+
+    fn ask(&mut self, _sink: &K, into: &mut [u8]) -> Result<usize, Failed> {
+        self.take(into)
     }
 }

@@ -27,6 +27,7 @@ impl Model for Text {
 }
 
 impl Text {
+    /// These characters. It takes no memory.
     pub fn new(text: String) -> Self
         ensures { result ≡ string_bytes text }
     {
@@ -42,6 +43,7 @@ impl Text {
         })
     }
 
+    /// Its characters.
     pub fn as_str(&self) -> &str
         ensures value { result.now ≡ self.now }
         ensures utf8 { IsUtf8 self.now }
@@ -49,6 +51,7 @@ impl Text {
         self.text.as_str()
     }
 
+    /// Its bytes in UTF-8.
     pub fn as_slice(&self) -> &[u8]
         ensures value { result.now ≡ self.now }
         ensures utf8 { IsUtf8 self.now }
@@ -56,6 +59,7 @@ impl Text {
         self.as_str().as_bytes()
     }
 
+    /// A copy of its own.
     pub fn try_clone(&self) -> Result<Self, NoMemory>
         ensures { IfOk result (λ copy. copy ≡ self.now) }
     {

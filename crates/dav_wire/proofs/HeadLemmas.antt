@@ -15,7 +15,7 @@ use Rattle.httparse.proofs.GrammarLemmas.{print_request-append}
 use Rattle.dav_wire.specs.Heads.{kept, kept_field, kept_span, IsField}
 
 -- the two crates have one class of token bytes
-token_byte_same : (b : ℕ) → grammar.is_token_byte b ≡ token.is_token_byte b
+pub token_byte_same : (b : ℕ) → grammar.is_token_byte b ≡ token.is_token_byte b
 unfolding grammar.is_token_byte token.is_token_byte
 token_byte_same b = refl
 

@@ -5,7 +5,7 @@ use Rattle.std.specs.List.{slice_range}
 use Rattle.std.proofs.lemmas.List.{length-take, length-take-le, length-drop, take-append-drop, take_all, take-take, drop-take, drop-drop, drop_at, length-append}
 use Rattle.std.proofs.Math.Seq.{take-add}
 use Rattle.dav_io.specs.Outside.{Stream}
-use Rattle.dav_io.specs.Told.{both_map}
+use Rattle.dav_io.proofs.ToldLemmas.{both_map}
 use Rattle.http.specs.declared.request.Parts.{Parts}
 use Rattle.httparse.specs.Grammar.{RequestHead, print_request, ReadsRequest, HasNoRequest, MayBecomeRequest}
 use Rattle.httparse.proofs.GrammarLemmas.{ReadsRequest-append}
@@ -36,6 +36,7 @@ fills_ok old new held kept b m f start end n most front took held_is kept_is tak
     let whole : kept.bytes ≡ take (l + n) f = kept_is ∙ front_is (l + n) f in
     let within : l + n ≤ length f = omega (arith, took.within, took.len) in
     record {
+      asked = took.asked;
       counts = took.counts;
       failed = λ e. cc;
       too_much = λ e. cc;

@@ -1,9 +1,9 @@
-pub mod Wrote
 pub mod Lines
 pub mod Sizes
 pub mod Chunking
 pub mod FieldLemmas
 pub mod HeadLemmas
+pub mod HeadsReadBack
 pub mod Refusals
 pub mod RequestLemmas
 pub mod Holding

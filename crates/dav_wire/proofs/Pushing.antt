@@ -3,22 +3,23 @@ use Rattle.std.proofs.Common.{◌≡◌, ℕ, ◌≤◌, List, [], ◌++◌, tak
 use Rattle.std.proofs.lemmas.List.{take-append-drop}
 use Rattle.dav_io.specs.Counts.{Rose}
 use Rattle.dav_io.specs.Outside.{Stream}
-use Rattle.dav_io.specs.Told.{both_same, both_map, both_then}
+use Rattle.dav_io.proofs.ToldLemmas.{both_same, both_map, both_then}
 use Rattle.dav_io.specs.declared.failure.Failed.{Failed}
-use Rattle.dav_wire.specs.Writing.{WrittenAll, PutsAll, Adds, AddsFront, Pushed, Pushes, Sent, SentAll, SentFront}
+use Rattle.dav_io.specs.Appending.{Appended, Appends}
+use Rattle.dav_wire.specs.Writing.{Adds, AddsFront, Pushed, Pushes, Sent, SentAll, SentFront}
 
-sent : (held : List ℕ) (result : Result Unit Failed) (a b : List ℕ) → WrittenAll held result a b → Pushed held [] result [] a b
+sent : (held : List ℕ) (result : Result Unit Failed) (a b : List ℕ) → Appended held result a b → Pushed held [] result [] a b
 sent held (Ok x) a b p = (held, p, refl)
-sent held (Err e) a b (n, p) = (drop n held, (take n held, p, take-append-drop n held ∙ sym (append-nil held)))
+sent held (Err e) a b (n, few, p) = (drop n held, (take n held, p, take-append-drop n held ∙ sym (append-nil held)))
 
 -- all that was held was given to the sink
-pub flushes : (old new : Stream) (held later : List ℕ) (result : Result Unit Failed) → PutsAll old held result new → later ≡ []
+pub flushes : (old new : Stream) (held later : List ℕ) (result : Result Unit Failed) → Appends old held result new → later ≡ []
     → Pushes old held [] result later new
 flushes old new held later result p none = subst (λ (x : List ℕ). Pushes old held [] result x new) (sym none) (record {
   counts = p.counts;
   failed = p.failed;
   dropped = λ e. refl;
-  told = both_map old.bytes new.bytes (WrittenAll held result) (Pushed held [] result []) (sent held result) p.told;
+  told = both_map old.bytes new.bytes (Appended held result) (Pushed held [] result []) (sent held result) p.told;
 })
 
 -- bytes are held behind those that are held
@@ -44,17 +45,6 @@ fails old new held bytes later e p = record {
       (λ a b q. (q.0 ++ bytes, (q.1.0, q.1.1, left_more q.1.0 q.0 held bytes q.1.2))) p.told;
 }
 
--- what was held is sent, and these bytes are held
-pub flushes_holds : (old mid : Stream) (held bytes none later : List ℕ) → Pushes old held [] (Ok tt) none mid → none ≡ [] → later ≡ none ++ bytes
-    → Pushes old held bytes (Ok tt) later mid
-flushes_holds old mid held bytes none later p empty e = record {
-  counts = p.counts;
-  failed = λ f. cc;
-  dropped = λ f. cc;
-  told = both_map old.bytes mid.bytes (Pushed held [] (Ok tt) none) (Pushed held bytes (Ok tt) later)
-      (λ a b q. (q.0, q.1, ap (λ x. q.0 ++ x) e ∙ left_more q.0 none held bytes q.2)) p.told;
-}
-
 rose_later : (a b c : ℕ) → a ≤ b → Rose b c → Rose a c
 rose_later a b c le (inl lt) = inl (omega arith)
 rose_later a b c le (inr top) = inr top
@@ -67,14 +57,14 @@ added : (a b d sent more : List ℕ) → b ≡ a ++ sent → d ≡ b ++ more →
 added a b d sent more p q = q ∙ ap (λ x. x ++ more) p ∙ append_assoc a sent more
 
 -- what was held is sent, and then these bytes, or a front of them
-sent_all : (held bytes none : List ℕ) (result : Result Unit Failed) (a b d : List ℕ) → none ≡ [] → Adds (held ++ []) none a b → WrittenAll bytes result b d
+sent_all : (held bytes none : List ℕ) (result : Result Unit Failed) (a b d : List ℕ) → none ≡ [] → Adds (held ++ []) none a b → Appended bytes result b d
     → Pushed held bytes result none a d
 sent_all held bytes none (Ok x) a b d empty (sent, p, e) q = (
   sent ++ bytes,
   added a b d sent bytes p q,
   ap (λ x. (sent ++ bytes) ++ x) empty ∙ append-nil (sent ++ bytes) ∙ ap (λ x. x ++ bytes) (nothing_left sent none held empty e),
 )
-sent_all held bytes none (Err f) a b d empty (sent, p, e) (n, q) = (
+sent_all held bytes none (Err f) a b d empty (sent, p, e) (n, few, q) = (
   drop n bytes,
   (
     sent ++ take n bytes,
@@ -84,12 +74,12 @@ sent_all held bytes none (Err f) a b d empty (sent, p, e) (n, q) = (
 )
 
 pub flushes_puts : (old mid new : Stream) (held bytes none : List ℕ) (result : Result Unit Failed) → Pushes old held [] (Ok tt) none mid → none ≡ []
-    → PutsAll mid bytes result new → Pushes old held bytes result none new
+    → Appends mid bytes result new → Pushes old held bytes result none new
 flushes_puts old mid new held bytes none result p empty q = record {
   counts = let a = p.counts in let b = q.counts in omega arith;
   failed = λ e. rose_later old.faults mid.faults new.faults p.counts (q.failed e);
   dropped = λ e. empty;
-  told = both_then old.bytes mid.bytes new.bytes (Pushed held [] (Ok tt) none) (WrittenAll bytes result) (Pushed held bytes result none)
+  told = both_then old.bytes mid.bytes new.bytes (Pushed held [] (Ok tt) none) (Appended bytes result) (Pushed held bytes result none)
       (λ a b d x y. sent_all held bytes none result a b d empty x y) p.told q.told;
 }
 
@@ -131,14 +121,6 @@ sent_all_of old new bytes left none s = record {
 -- whatever is left, a front was sent
 pub sent_some : (old new : Stream) (bytes left : List ℕ) → Sent old new bytes left → SentFront old new bytes
 sent_some old new bytes left s = record { counts = s.counts; told = both_map old.bytes new.bytes (Adds bytes left) (AddsFront bytes) (λ a b x. (left, x)) s.told }
-
--- a front of some bytes is one of more
-pub sent_further : (old new : Stream) (bytes more : List ℕ) → SentFront old new bytes → SentFront old new (bytes ++ more)
-sent_further old new bytes more s = record {
-  counts = s.counts;
-  told = both_map old.bytes new.bytes (AddsFront bytes) (AddsFront (bytes ++ more))
-      (λ a b x. (x.0 ++ more, (x.1.0, x.1.1, sym (append_assoc x.1.0 x.0 more) ∙ ap (λ y. y ++ more) x.1.2))) s.told;
-}
 
 -- two givings, one behind the other
 pub sent_then : (old mid new : Stream) (bytes held more later : List ℕ) → Sent old mid bytes held → Sent mid new (held ++ more) later → Sent old new (bytes ++ more) later

@@ -61,7 +61,9 @@ pub record HasSize (text : List ℕ) (size : ℕ) (rest : List ℕ) : Type 0 whe
 -- Chunks with these pieces stand at the front, none of them empty, and then one of size 0. Behind it stands the rest.
 abbrev pub HasChunks : List ℕ → List (List ℕ) → List ℕ → Type 0
 HasChunks text [] rest = HasSize text 0 (line_end ++ rest)
-HasChunks text (piece ∷ pieces) rest = (0 < length piece) × (after : List ℕ) × HasSize text (length piece) (piece ++ (line_end ++ after)) × HasChunks after pieces rest
+HasChunks text (piece ∷ pieces) rest =
+    (0 < length piece) × (after : List ℕ) × HasSize text (length piece) (piece ++ (line_end ++ after))
+    × HasChunks after pieces rest
 
 -- A body in chunks stands at the front: the bytes of its chunks, joined. Behind it stands the rest.
 pub record HasBody (text body rest : List ℕ) : Type 0 where

@@ -12,8 +12,8 @@ use Rattle.dav_wire.specs.declared.chunks.Framing.TheVariants.{Raw, Chunked}
 abbrev pub is_eleven : Version → Bool
 is_eleven version = elim version.0 [ Http11 ↦ true | _ ↦ false ]
 
--- Whether the answer to a request may be written in chunks: a client of version 1.0 knows none, and the answer to a HEAD
--- has no body.
+-- Whether the answer to a request may be written in chunks: a client of version 1.0 knows none, and the answer to a
+-- HEAD has no body.
 abbrev pub takes_chunks : Parts → Bool
 takes_chunks parts = is_eleven parts.version && not (bytes_eq parts.method (codes "HEAD"))
 

@@ -2,6 +2,7 @@ pub mod Writing
 pub mod Framing
 pub mod Chunks
 pub mod Answers
+pub mod AnswerHeads
 pub mod Heads
 pub mod Requests
 pub mod Pending

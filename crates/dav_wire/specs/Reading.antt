@@ -1,6 +1,6 @@
--- What a reader of requests gives, by the bytes that were left before it and are left after it.
-use Rattle.std.specs.Prelude.{◌≡◌, ℕ, ◌+◌, ◌<◌, ◌≤◌, ◌^◌, List, [], ◌∷◌, ◌++◌, length, take, Result, Ok, Err}
-use Rattle.dav_io.specs.Counts.{Rose}
+-- What stands at the front of the bytes that are held, and what a call for more does.
+use Rattle.std.specs.Prelude.{◌≡◌, ℕ, ◌+◌, ◌<◌, ◌≤◌, ◌^◌, List, [], ◌++◌, length, take, Result, Ok, Err}
+use Rattle.dav_io.specs.Counts.{Rose, one_more}
 use Rattle.dav_io.specs.Told.{Both}
 use Rattle.dav_io.specs.Outside.{Stream}
 use Rattle.httparse.specs.Grammar.{RequestHead, HasNoRequest, MayBecomeRequest}
@@ -8,11 +8,9 @@ use Rattle.dav_io.specs.declared.failure.NoMemory.{NoMemory}
 use Rattle.dav_io.specs.declared.failure.Failed.{Failed as SinkFailed}
 use Rattle.dav_wire.specs.Heads.{IsRead}
 use Rattle.dav_wire.specs.Pending.{Pending}
-use Rattle.dav_wire.specs.Requests.{IsRequest, Refusal, IsUnfinished}
+use Rattle.dav_wire.specs.Requests.{IsRequest, Refusal}
 use Rattle.dav_wire.specs.declared.next.Found.{Found}
 use Rattle.dav_wire.specs.declared.next.Found.TheVariants.{Whole, Refused as FoundRefused, More}
-use Rattle.dav_wire.specs.declared.next.Next.{Next}
-use Rattle.dav_wire.specs.declared.next.Next.TheVariants.{Request, End, Refused, Unfinished}
 use Rattle.dav_wire.specs.declared.next.ReadError.{ReadError}
 use Rattle.dav_wire.specs.declared.next.ReadError.TheVariants.{Failed, TooMuch, NoMemory as WithoutMemory, Unsent}
 
@@ -41,8 +39,15 @@ Grows held (Err e) kept = kept ≡ held
 abbrev pub Moves : Pending → Result ℕ ReadError → Pending → List ℕ → List ℕ → Type 0
 Moves held result kept before after = (held.bytes ++ before ≡ kept.bytes ++ after) × (result ≡ Ok 0 → before ≡ [])
 
--- One call of the source.
-pub record Fills (old : Stream) (held : Pending) (result : Result ℕ ReadError) (kept : Pending) (new : Stream) : Type 0 where
+-- how often a source was asked after a look for more bytes: once more, but not where as many were taken as ever are
+abbrev pub asked_after : Result ℕ ReadError → ℕ → ℕ
+asked_after (Err TooMuch) asked = asked
+asked_after result asked = one_more asked
+
+-- At most one call of the source.
+pub record Fills (old : Stream) (held : Pending) (result : Result ℕ ReadError) (kept : Pending)
+    (new : Stream) : Type 0 where
+  pub asked : new.asked ≡ asked_after result old.asked
   pub counts : old.faults ≤ new.faults
   pub failed : result ≡ Err Failed → Rose old.faults new.faults
   pub too_much : result ≡ Err TooMuch → held.taken ≡ 2 ^ 60
@@ -50,44 +55,6 @@ pub record Fills (old : Stream) (held : Pending) (result : Result ℕ ReadError)
   pub memory : result ≡ Err WithoutMemory → ⊥
   pub grows : Grows held result kept
   pub told : Both old.bytes new.bytes (Moves held result kept)
-
--- What stands at the front of the bytes that are left, and what is left behind it. Only a request is passed.
-abbrev pub Gives : Result Next ReadError → List ℕ → List ℕ → Type 0
-Gives (Ok (Request parts)) left rest = (head : RequestHead) × IsRequest left head rest × IsRead head parts
-Gives (Ok End) left rest = (left ≡ []) × (rest ≡ [])
-Gives (Ok Refused) left rest = Refusal left × (rest ≡ left)
-Gives (Ok Unfinished) left rest = IsUnfinished left × (rest ≡ left)
-Gives (Err e) left rest = rest ≡ left
-
--- what an input is at its end, by the bytes that are held there
-abbrev pub end_at : List ℕ → Next
-end_at [] = End
-end_at (byte ∷ bytes) = Unfinished
-
--- what is left before and after, and that it was counted
-abbrev pub Left : Pending → Result Next ReadError → Pending → List ℕ → List ℕ → Type 0
-Left held result kept before after = Gives result (held.bytes ++ before) (kept.bytes ++ after) × (kept.taken + length after ≡ held.taken + length before)
-
--- the input was read to its end
-abbrev pub IsOver : Result Next ReadError → Type 0
-IsOver (Ok (Request parts)) = ⊥
-IsOver (Ok End) = Unit {0}
-IsOver (Ok Refused) = ⊥
-IsOver (Ok Unfinished) = Unit {0}
-IsOver (Err e) = ⊥
-
--- One call of the reader, over any source. What is said of the source's bytes holds where the source tells them.
---
--- Where it ended for want of bytes, no head was whole in those that came. Where a request was held already, the source
--- wasn't asked. What was counted as taken is what the source has no more.
-pub record ReadsNext (old : Stream) (held : Pending) (result : Result Next ReadError) (kept : Pending) (new : Stream) : Type 0 where
-  pub counts : old.faults ≤ new.faults
-  pub failed : result ≡ Err Failed → (Rose old.faults new.faults) × HasNoRequest kept.bytes
-  pub too_much : result ≡ Err TooMuch → (kept.taken ≡ 2 ^ 60) × HasNoRequest kept.bytes
-  pub over : IsOver result → kept.taken < 2 ^ 60
-  pub taken : held.taken ≤ kept.taken
-  pub ready : (head : RequestHead) (rest : List ℕ) → IsRequest held.bytes head rest → (new ≡ old) × (kept.taken ≡ held.taken)
-  pub told : Both old.bytes new.bytes (Left held result kept)
 
 -- did the sink take what was given to it, by what the reader gives
 abbrev pub sending : {A : Type 0} → Result A ReadError → Result Unit SinkFailed

@@ -40,8 +40,8 @@ fn has_length(fields: &[Field]) -> bool
         .any(|field| field.name.as_str() == "content-length")
 }
 
-/// The head of an answer. `connection: close` is put in its place where the answer closes and the fields don't say so, and
-/// so is `transfer-encoding: chunked` where its body is written in chunks.
+/// The head of an answer. `connection: close` is put in its place where the answer closes and the fields don't say so,
+/// and so is `transfer-encoding: chunked` where its body is written in chunks.
 pub fn answer_head(
     alloc: Global,
     status: u16,

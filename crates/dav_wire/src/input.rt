@@ -3,10 +3,10 @@ ghost use Rattle.std.specs.Prelude.{◌≡◌, ◌≤◌, [], drop, length, IfOk
 ghost use Rattle.dav_io.specs.Outside.{Stream};
 ghost use Rattle.dav_wire.specs.Reading.{Finds, Fills};
 
-use crate::buffer::{move_front, take_at};
+use crate::buffer::{ask_at, move_front, take_at};
 use crate::head::{PartError, read_head};
 use crate::next::{Found, ReadError};
-use dav_io::{NoMemory, Source};
+use dav_io::{Client, NoMemory, Sink, Source};
 use httparse::spans::{EMPTY_HEADER_SPAN, HeaderSpan};
 use std::alloc::Global;
 use std::marker::Model;
@@ -22,8 +22,8 @@ const MOST_FIELDS: usize = 256;
 /// Once so many bytes were taken, no more are.
 const MOST_TAKEN: u64 = 1_152_921_504_606_846_976;
 
-/// The bytes that were taken from a source and not yet passed, and the number of all that were taken. The buffer is made
-/// once. A contract sees the two.
+/// The bytes that were taken from a source and not yet passed, and the number of all that were taken. The buffer is
+/// made once. A contract sees the two.
 #[derive(Drop)]
 pub struct Input {
     buffer: Vec<u8>,
@@ -41,7 +41,8 @@ impl Model for Input {
 
     ghost view = { λ i. record { bytes = slice_range i.buffer.items i.start i.end; taken = i.taken } };
 
-    ghost invariant = { λ i. (i.start ≤ i.end) × (i.end ≤ 65537) × (length i.buffer.items ≡ 65537) × (length i.spans.items ≡ 256) × (i.taken ≤ 2 ^ 60) };
+    ghost invariant = { λ i. (i.start ≤ i.end) × (i.end ≤ 65537) × (length i.buffer.items ≡ 65537)
+        × (length i.spans.items ≡ 256) × (i.taken ≤ 2 ^ 60) };
 }
 
 impl Input {
@@ -88,7 +89,37 @@ impl Input {
         }
     }
 
-    /// What stands at the front of the bytes held. It asks no source. A whole head is passed; otherwise nothing changes.
+    /// Takes more bytes, in one call of a client that may be asked now, and answers how many. 0 is the end of the input.
+    pub fn fill_after<S: Client<K>, K: Sink>(
+        &mut self,
+        source: &mut S,
+        sink: &K,
+    ) -> Result<usize, ReadError>
+        requires short { length self.old.bytes ≤ 65536 }
+        requires ready { S.may source.old (S.stream source.old) (K.stream sink.now) }
+        ensures stays { (left written : Stream) → S.may source.old left written → S.may source.new left written }
+        ensures fills { Fills (S.stream source.old) self.old result self.new (S.stream source.new) }
+    {
+        let left = MOST_TAKEN - self.taken;
+        if left == 0 {
+            return Err(ReadError::TooMuch);
+        }
+        move_front(&mut self.buffer, self.start, self.end - self.start);
+        self.end -= self.start;
+        self.start = 0;
+        let most = left.min(ROOM as u64) as usize;
+        match ask_at(source, sink, &mut self.buffer, self.end, most) {
+            Ok(count) => {
+                self.end += count;
+                self.taken += count as u64;
+                Ok(count)
+            }
+            Err(_) => Err(ReadError::Failed),
+        }
+    }
+
+    /// What stands at the front of the bytes held. It asks no source. A whole head is passed; otherwise nothing
+    /// changes.
     pub fn next_head(&mut self, alloc: Global) -> Result<Found, NoMemory>
         ensures finds { Finds self.old.bytes result self.new.bytes }
         ensures taken { self.new.taken ≡ self.old.taken }

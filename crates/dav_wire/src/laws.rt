@@ -1,19 +1,25 @@
 //! What the definitions promise of themselves. Each function does nothing; its contract is the law.
-ghost use Rattle.std.specs.Prelude.{◌≡◌, ℕ, List, [], ◌++◌, All};
+ghost use Rattle.std.specs.Prelude.{◌≡◌, ◌<◌, ℕ, Bool, List, [], ◌++◌, All, map};
 ghost use Rattle.std.specs.List.{concat, flat_map};
 ghost use Rattle.httparse.specs.Grammar.{RequestHead};
+ghost use Rattle.dav_io.specs.declared.fields.Field.{Field};
+ghost use Rattle.dav_wire.specs.AnswerHeads.{IsAnswerField, ReadsAnswer, as_read};
+ghost use Rattle.dav_wire.specs.Answers.{head_text, written_fields};
 ghost use Rattle.dav_wire.specs.Chunks.{written, ending, IsPiece, HasBody};
+ghost use Rattle.dav_wire.specs.declared.chunks.Framing.{Framing};
 ghost use Rattle.dav_wire.specs.declared.chunks.Framing.TheVariants.{Raw, Chunked};
 ghost use Rattle.dav_wire.specs.Requests.{IsRequest, Refusal, IsUnfinished, Requests, HasNone, EitherWay};
 
 /// A request that is whole stays the request, whatever follows.
 pub fn request_stays()
-    ensures { (left more : List ℕ) (head : RequestHead) (rest : List ℕ) → IsRequest left head rest → IsRequest (left ++ more) head (rest ++ more) }
+    ensures { (left more : List ℕ) (head : RequestHead) (rest : List ℕ) → IsRequest left head rest
+        → IsRequest (left ++ more) head (rest ++ more) }
 {}
 
 /// At most one request stands at the front.
 pub fn request_is_one()
-    ensures { (left : List ℕ) (head other : RequestHead) (rest behind : List ℕ) → IsRequest left head rest → IsRequest left other behind → (head ≡ other) × (rest ≡ behind) }
+    ensures { (left : List ℕ) (head other : RequestHead) (rest behind : List ℕ) → IsRequest left head rest
+        → IsRequest left other behind → (head ≡ other) × (rest ≡ behind) }
 {}
 
 /// What is refused stays refused, whatever follows.
@@ -34,12 +40,14 @@ pub fn unfinished_has_none()
 
 /// Requests behind requests are requests.
 pub fn requests_join()
-    ensures { (left mid rest : List ℕ) (heads more : List RequestHead) → Requests left heads mid → Requests mid more rest → Requests left (heads ++ more) rest }
+    ensures { (left mid rest : List ℕ) (heads more : List RequestHead) → Requests left heads mid
+        → Requests mid more rest → Requests left (heads ++ more) rest }
 {}
 
 /// The requests of an input up to a place where none stands are determined, and so is the place.
 pub fn requests_are_one()
-    ensures { (left rest behind : List ℕ) (heads others : List RequestHead) → Requests left heads rest → HasNone rest → Requests left others behind → HasNone behind → (heads ≡ others) × (rest ≡ behind) }
+    ensures { (left rest behind : List ℕ) (heads others : List RequestHead) → Requests left heads rest → HasNone rest
+        → Requests left others behind → HasNone behind → (heads ≡ others) × (rest ≡ behind) }
 {}
 
 /// Nothing stands where the bytes are over.
@@ -49,7 +57,8 @@ pub fn end_has_none()
 
 /// A body in chunks is read in one way: its bytes are determined, and so is what stands behind it.
 pub fn chunked_bodies_are_one()
-    ensures { (text body other rest behind : List ℕ) → HasBody text body rest → HasBody text other behind → (body ≡ other) × (rest ≡ behind) }
+    ensures { (text body other rest behind : List ℕ) → HasBody text body rest → HasBody text other behind
+        → (body ≡ other) × (rest ≡ behind) }
 {}
 
 /// A body in chunks stays the body, whatever follows.
@@ -59,6 +68,24 @@ pub fn chunked_bodies_stay()
 
 /// The pieces of a body, as they are written, are read back as the bytes of the pieces, whatever follows.
 pub fn written_pieces_are_read_back()
-    ensures chunked { (pieces : List (List ℕ)) (behind : List ℕ) → All IsPiece pieces → HasBody (flat_map (written Chunked) pieces ++ (ending Chunked ++ behind)) (concat pieces) behind }
+    ensures chunked { (pieces : List (List ℕ)) (behind : List ℕ) → All IsPiece pieces
+        → HasBody (flat_map (written Chunked) pieces ++ (ending Chunked ++ behind)) (concat pieces) behind }
     ensures raw { (pieces : List (List ℕ)) → flat_map (written Raw) pieces ++ ending Raw ≡ concat pieces }
+{}
+
+/// Where names are tokens and values are field values, the head of an answer is read back: one response head stands
+/// there, whatever follows, with this status and these fields. So no value splits an answer.
+pub fn answer_heads_are_read_back()
+    ensures { (status : ℕ) (fields : List Field) (closing : Bool) (framing : Framing) (behind : List ℕ)
+        → status < 1000 → All IsAnswerField fields
+        → ReadsAnswer (head_text status fields closing framing ++ behind) status
+        (written_fields closing framing fields) behind }
+{}
+
+/// At most one answer's head stands at the front: its status is determined, and so are its fields as they are read and
+/// what stands behind it.
+pub fn answer_heads_are_one()
+    ensures { (text : List ℕ) (status other : ℕ) (fields others : List Field) (rest behind : List ℕ)
+        → ReadsAnswer text status fields rest → ReadsAnswer text other others behind
+        → (status ≡ other) × (map as_read fields ≡ map as_read others) × (rest ≡ behind) }
 {}

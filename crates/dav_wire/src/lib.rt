@@ -12,17 +12,15 @@ mod next;
 mod output;
 mod reading;
 mod request;
-mod writing;
 
 pub use answers::{answer_head, bad_request_text, framing, says_close};
 pub use chunks::Framing;
 pub use fields::asks_close;
 pub use input::Input;
-pub use next::{Found, Next, ReadError};
+pub use next::{Found, ReadError};
 pub use output::Output;
-pub use reading::{fill_flushing, read_request};
+pub use reading::fill_flushing;
 pub use request::{into_request, is_old, takes_chunks};
-pub use writing::put_all;
 
 #[cfg(test)]
 mod tests;

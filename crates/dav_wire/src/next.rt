@@ -18,19 +18,6 @@ pub enum Found {
     More,
 }
 
-/// What stands at the front of an input.
-#[derive(Drop)]
-pub enum Next {
-    /// A request, which was passed.
-    Request(Parts),
-    /// Nothing more.
-    End,
-    /// No request can stand there: 400 is owed.
-    Refused,
-    /// The input ended inside a head: nothing is owed.
-    Unfinished,
-}
-
 /// Why nothing was read.
 #[derive(Clone, Copy, Debug, PartialEq, Eq, Error)]
 pub enum ReadError {

@@ -4,8 +4,7 @@ ghost use Rattle.dav_wire.specs.Chunks.{chunk, written, ending as the_ending};
 ghost use Rattle.dav_wire.specs.Writing.{Pushes};
 
 use crate::chunks::{Framing, LINE, ending, write_size};
-use crate::writing::put_all;
-use dav_io::{Failed, NoMemory, Sink};
+use dav_io::{Failed, NoMemory, Sink, put_all};
 use std::alloc::Global;
 use std::marker::Model;
 

@@ -1,23 +1,12 @@
 ghost use Rattle.std.specs.Prelude.{◌<◌, ◌≤◌, length};
 
 use crate::{
-    Found, Framing, Input, Next, Output, ReadError, answer_head, asks_close, bad_request_text,
-    fill_flushing, framing, into_request, is_old, put_all, read_request, says_close, takes_chunks,
+    Found, Framing, Input, Output, ReadError, answer_head, fill_flushing, into_request, laws,
+    says_close,
 };
 use dav_io::{Field, MemSink, MemSource, NoMemory, Octets, Sink, Text};
-use http::request::Parts;
 use std::alloc::Global;
 use std::test::Fail;
-
-/// How an input ends, and how many requests it has before.
-#[derive(Clone, Copy, PartialEq, Eq, Debug)]
-enum Seen {
-    End(u8),
-    Refused(u8),
-    Cut(u8),
-    Failed(u8),
-    Other,
-}
 
 fn octets(alloc: Global, bytes: &[u8]) -> Result<Octets, NoMemory> {
     let mut copy = Octets::empty(alloc);
@@ -25,380 +14,57 @@ fn octets(alloc: Global, bytes: &[u8]) -> Result<Octets, NoMemory> {
     Ok(copy)
 }
 
-/// What an input comes to, of which each call of the source gives at most so many bytes, and whose calls of the numbers
-/// given fail.
-fn comes_to(alloc: Global, text: &[u8], most: usize, fail: Vec<u64>) -> Seen
-    requires { 0 < most }
-{
-    let Ok(mut input) = Input::new(alloc) else {
-        return Seen::Other;
-    };
-    let Ok(bytes) = octets(alloc, text) else {
-        return Seen::Other;
-    };
-    let mut source = MemSource::new(bytes, most, fail);
-    for count in 0..9u8 {
-        match read_request(alloc, &mut input, &mut source) {
-            Ok(Next::Request(_)) => {}
-            Ok(Next::End) => return Seen::End(count),
-            Ok(Next::Refused) => return Seen::Refused(count),
-            Ok(Next::Unfinished) => return Seen::Cut(count),
-            Err(ReadError::Failed) => return Seen::Failed(count),
-            Err(_) => return Seen::Other,
-        }
-    }
-    Seen::Other
-}
-
-/// The same over sources that give 1, 2, 7 and all bytes a call.
-fn always(alloc: Global, text: &[u8], wanted: Seen) -> bool {
-    comes_to(alloc, text, 1, Vec::new(alloc)) == wanted
-        && comes_to(alloc, text, 2, Vec::new(alloc)) == wanted
-        && comes_to(alloc, text, 7, Vec::new(alloc)) == wanted
-        && comes_to(alloc, text, 100_000, Vec::new(alloc)) == wanted
-}
-
 const TWO: &[u8] = b"GET /a HTTP/1.1\r\nHost: h\r\n\r\n\r\nGET /b HTTP/1.0\n\n";
 
-#[test]
-fn inputs_end(rt: HostRuntime) {
-    let alloc = rt.alloc();
-    assert!(rt; always(alloc, b"", Seen::End(0)));
-    assert!(rt; always(alloc, b"\r\n", Seen::Cut(0)));
-    assert!(rt; always(alloc, b"GET /f.txt HTTP/1.1\r\n\r\n", Seen::End(1)));
-    assert!(rt; always(alloc, b"\r\n\nGET /f.txt HTTP/1.1\r\n\r\n", Seen::End(1)));
-    assert!(rt; always(alloc, TWO, Seen::End(2)));
-    assert!(rt; always(alloc, b"GET / HTTP/1.1\n\nGET /b HT", Seen::Cut(1)));
-    assert!(rt;
-        always(
-            alloc,
-            b"GET / HTTP/1.1\n\nGET /b HTTP/2.0\r\n",
-            Seen::Refused(1)
-        )
-    );
-}
-
-#[test]
-fn heads_are_refused(rt: HostRuntime) {
-    let alloc = rt.alloc();
-    assert!(rt; always(alloc, b"GET /a<b HTTP/1.1\r\n\r\n", Seen::Refused(0)));
-    assert!(rt; always(alloc, b"GET /a<b HTTP/1.1\r\nHo", Seen::Cut(0)));
-    assert!(rt;
-        always(
-            alloc,
-            b"GET / HTTP/1.1\r\nA: \x01\r\n\r\n",
-            Seen::Refused(0)
-        )
-    );
-    assert!(rt; always(alloc, b"GET / HTTP/1.1\r\nA : b\r\n\r\n", Seen::Refused(0)));
-    assert!(rt; always(alloc, b"GE\x00T / HTTP/1.1\r\n\r\n", Seen::Refused(0)));
-    assert!(rt; always(alloc, b"GET * HTTP/1.1\r\n\r\n", Seen::End(1)));
-}
-
-/// Is each front of the text an input that ends inside its head?
-fn cut_everywhere(alloc: Global, text: &[u8]) -> bool {
-    for n in 1..text.len() {
-        let (front, _) = text.split_at(n);
-        if !always(alloc, front, Seen::Cut(0)) {
-            return false;
+/// How many requests an input has before its end or the fault of its source, and whether it was the fault. Each call of
+/// the source gives 2 bytes, and the call of this number fails.
+fn before_fault(alloc: Global, text: &[u8], call: u64) -> Result<(u8, bool), NoMemory> {
+    let mut fail = Vec::new(alloc);
+    fail.push(call)?;
+    let mut source = MemSource::new(octets(alloc, text)?, 2, fail);
+    let mut input = Input::new(alloc)?;
+    let mut count = 0;
+    for _ in 0..99u8 {
+        match input.next_head(alloc)? {
+            Found::Whole(parts) => {
+                let request = into_request(alloc, parts);
+                if request.body().as_slice().is_empty() && count < 9 {
+                    count += 1;
+                }
+            }
+            Found::Refused => return Ok((count, false)),
+            Found::More => match input.fill(&mut source) {
+                Ok(0) => return Ok((count, false)),
+                Ok(_) => {}
+                Err(error) => return Ok((count, error == ReadError::Failed)),
+            },
         }
     }
-    true
+    Ok((count, false))
 }
 
 #[test]
-fn a_cut_head_is_unfinished(rt: HostRuntime) {
-    let alloc = rt.alloc();
-    assert!(rt;
-        cut_everywhere(
-            alloc,
-            b"\r\nGET /f.txt?q HTTP/1.1\r\nHost: h\r\nX-A:  1 \r\n\r\n"
-        )
-    );
-}
-
-/// Appends so many bytes.
-fn fill(text: &mut Octets, byte: u8, count: usize) -> Result<(), NoMemory> {
-    for _ in 0..count {
-        text.extend(&[byte])?;
-    }
-    Ok(())
-}
-
-/// A head of so many bytes more than 35, and what follows.
-fn long_head(alloc: Global, count: usize, behind: &[u8]) -> Result<Octets, NoMemory> {
-    let mut text = octets(alloc, b"GET /f.txt HTTP/1.1\r\nLong: ")?;
-    fill(&mut text, b'x', count)?;
-    text.extend(behind)?;
-    Ok(text)
-}
-
-/// A head of so many fields, and what follows.
-fn many_fields(alloc: Global, count: usize, behind: &[u8]) -> Result<Octets, NoMemory> {
-    let mut text = octets(alloc, b"GET /f.txt HTTP/1.1\r\n")?;
-    for _ in 0..count {
-        text.extend(b"A: b\r\n")?;
-    }
-    text.extend(behind)?;
-    Ok(text)
-}
-
-fn largely(alloc: Global, text: &[u8], wanted: Seen) -> bool {
-    comes_to(alloc, text, 4099, Vec::new(alloc)) == wanted
-        && comes_to(alloc, text, 65_535, Vec::new(alloc)) == wanted
-        && comes_to(alloc, text, 100_000, Vec::new(alloc)) == wanted
-}
-
-#[test]
-fn heads_have_limits(rt: HostRuntime) -> Result<(), Fail> {
-    let alloc = rt.alloc();
-    // 27 bytes stand before the value and 4 behind it
-    let longest = long_head(alloc, 65_536 - 31, b"\r\n\r\n")?;
-    assert!(rt; largely(alloc, longest.as_slice(), Seen::End(1)));
-    let two = long_head(alloc, 65_536 - 31, b"\r\n\r\nGET / HTTP/1.1\r\n\r\n")?;
-    assert!(rt; largely(alloc, two.as_slice(), Seen::End(2)));
-    let longer = long_head(alloc, 65_536 - 30, b"\r\n\r\n")?;
-    assert!(rt; largely(alloc, longer.as_slice(), Seen::Refused(0)));
-    let open = long_head(alloc, 65_536 - 27, b"")?;
-    assert!(rt; largely(alloc, open.as_slice(), Seen::Cut(0)));
-    let past = long_head(alloc, 65_536 - 26, b"")?;
-    assert!(rt; largely(alloc, past.as_slice(), Seen::Refused(0)));
-    Ok(())
-}
-
-#[test]
-fn fields_have_limits(rt: HostRuntime) -> Result<(), Fail> {
-    let alloc = rt.alloc();
-    let most = many_fields(alloc, 256, b"\r\nGET / HTTP/1.1\r\n\r\n")?;
-    assert!(rt; always(alloc, most.as_slice(), Seen::End(2)));
-    let more = many_fields(alloc, 257, b"\r\n")?;
-    assert!(rt; always(alloc, more.as_slice(), Seen::Refused(0)));
-    Ok(())
-}
-
-/// A source of 2 bytes a call, whose call of this number fails.
-fn failing(alloc: Global, text: &[u8], call: u64) -> Seen {
-    let mut fail = Vec::new(alloc);
-    if fail.push(call).is_err() {
-        return Seen::Other;
-    }
-    comes_to(alloc, text, 2, fail)
-}
-
-#[test]
-fn a_source_fails(rt: HostRuntime) {
+fn a_source_fails(rt: HostRuntime) -> Result<(), Fail> {
     let alloc = rt.alloc();
     // 20 bytes in 10 calls, and the end in the eleventh
     let text = b"GET /abcd HTTP/1.1\n\n".as_slice();
-    assert_eq!(rt; failing(alloc, text, 1), Seen::Failed(0));
-    assert_eq!(rt; failing(alloc, text, 10), Seen::Failed(0));
-    assert_eq!(rt; failing(alloc, text, 11), Seen::Failed(1));
-    assert_eq!(rt; failing(alloc, text, 12), Seen::End(1));
-}
-
-/// The parts of the first request of an input.
-fn first(alloc: Global, text: &[u8]) -> Result<Parts, NoMemory> {
-    let mut input = Input::new(alloc)?;
-    let mut source = MemSource::new(octets(alloc, text)?, 7, Vec::new(alloc));
-    match read_request(alloc, &mut input, &mut source) {
-        Ok(Next::Request(parts)) => Ok(parts),
-        _ => Err(NoMemory),
+    for (call, want) in [
+        (1, (0, true)),
+        (10, (0, true)),
+        (11, (1, true)),
+        (12, (1, false)),
+    ] {
+        assert_eq!(rt; before_fault(alloc, text, call)?, want, "at {call}");
     }
-}
-
-/// Is this the first value under the name?
-fn has_value(parts: &Parts, name: &str, text: &[u8]) -> bool {
-    match parts.headers.get(name) {
-        Some(value) => value.as_bytes() == text,
-        None => false,
-    }
-}
-
-#[test]
-fn a_request_has_its_parts(rt: HostRuntime) -> Result<(), Fail> {
-    let alloc = rt.alloc();
-    let parts = first(
-        alloc,
-        b"GET /f.txt?q#x HTTP/1.0\r\nHost: h\r\nX-A:  1 \r\nx-a: 2\r\n\r\nrest",
-    )?;
-    assert_eq!(rt; parts.method.as_str(), "GET");
-    assert_eq!(rt; parts.uri.path(), "/f.txt");
-    assert!(rt; is_old(parts.version));
-    assert!(rt; has_value(&parts, "X-a", b"1"));
-    let request = into_request(alloc, parts);
-    assert_eq!(rt; request.uri().path(), "/f.txt");
-    assert_eq!(rt; request.body().as_slice().len(), 0);
     Ok(())
 }
 
-/// Does a request with this field line ask for a close?
-fn asked(alloc: Global, line: &[u8]) -> Option<bool> {
-    let Ok(mut text) = octets(alloc, b"GET / HTTP/1.1\r\nHost: h\r\n") else {
-        return None;
-    };
-    if text.extend(line).is_err() || text.extend(b"\r\n\r\n").is_err() {
-        return None;
-    }
-    match first(alloc, text.as_slice()) {
-        Ok(parts) => Some(asks_close(&parts.headers)),
-        Err(_) => None,
-    }
-}
-
-#[test]
-fn a_close_is_asked(rt: HostRuntime) {
-    let alloc = rt.alloc();
-    assert_eq!(rt; asked(alloc, b"Connection: close"), Some(true));
-    assert_eq!(rt; asked(alloc, b"Connection: foo, CLOSE"), Some(true));
-    assert_eq!(rt; asked(alloc, b"connection:,\t cLose \t,x"), Some(true));
-    assert_eq!(rt;
-        asked(alloc, b"Connection: x\r\nConnection: close"),
-        Some(true)
-    );
-    assert_eq!(rt;
-        asked(alloc, b"Connection: closed, clos, c lose"),
-        Some(false)
-    );
-    assert_eq!(rt; asked(alloc, b"Connection:"), Some(false));
-    assert_eq!(rt; asked(alloc, b"Content-Length: 0"), Some(false));
-}
-
-/// May the answer to a request be written in chunks?
-fn chunks_for(alloc: Global, text: &[u8]) -> Option<bool> {
-    match first(alloc, text) {
-        Ok(parts) => Some(takes_chunks(&parts)),
-        Err(_) => None,
-    }
-}
-
-#[test]
-fn requests_take_chunks(rt: HostRuntime) {
-    let alloc = rt.alloc();
-    assert_eq!(rt; chunks_for(alloc, b"GET / HTTP/1.1\r\n\r\n"), Some(true));
-    assert_eq!(rt; chunks_for(alloc, b"PUT / HTTP/1.1\r\n\r\n"), Some(true));
-    assert_eq!(rt; chunks_for(alloc, b"HEAD / HTTP/1.1\r\n\r\n"), Some(false));
-    assert_eq!(rt; chunks_for(alloc, b"GET / HTTP/1.0\r\n\r\n"), Some(false));
-    assert_eq!(rt; chunks_for(alloc, b"HEAD / HTTP/1.0\r\n\r\n"), Some(false));
-    // a method has its case
-    assert_eq!(rt; chunks_for(alloc, b"head / HTTP/1.1\r\n\r\n"), Some(true));
-}
-
-fn field(alloc: Global, name: &str, value: &[u8]) -> Result<Field, NoMemory> {
-    let name = Text::copy(alloc, name)?;
-    let value = octets(alloc, value)?;
-    Ok(Field { name, value })
-}
-
-/// Fields of these names and the value 1.
-fn named(alloc: Global, names: &[&str]) -> Result<Vec<Field>, NoMemory> {
-    let mut fields = Vec::new(alloc);
-    for name in names {
-        fields.push(field(alloc, name, b"1")?)?;
-    }
-    Ok(fields)
-}
-
-/// Is this the head of an answer with fields of these names and the value 1?
-fn heads(
-    alloc: Global,
-    status: u16,
-    names: &[&str],
-    closing: bool,
-    framing: Framing,
-    wanted: &[u8],
-) -> bool {
-    let Ok(fields) = named(alloc, names) else {
-        return false;
-    };
-    match answer_head(alloc, status, &fields, closing, framing) {
-        Ok(text) => text.as_slice() == wanted,
-        Err(_) => false,
-    }
-}
-
-const RANGES: &[u8] = b"HTTP/1.1 200 OK\r\naccept-ranges: 1\r\ncontent-length: 1\r\n\r\n";
-
-const BETWEEN: &[u8] =
-    b"HTTP/1.1 501 Not Implemented\r\naccept-ranges: 1\r\nconnection: close\r\ncontent-length: 1\r\n\r\n";
-
-const ALONE: &[u8] = b"HTTP/1.1 404 Not Found\r\nconnection: close\r\n\r\n";
-
-const LAST: &[u8] = b"HTTP/1.1 204 No Content\r\nallow: 1\r\nconnection: close\r\n\r\n";
-
-const REFUSAL: &[u8] =
-    b"HTTP/1.1 400 Bad Request\r\nconnection: close\r\ncontent-length: 0\r\n\r\n";
-
-#[test]
-fn answers_have_their_bytes(rt: HostRuntime) {
-    let alloc = rt.alloc();
-    let names = ["accept-ranges", "content-length"];
-    assert!(rt; heads(alloc, 200, &names, false, Framing::Raw, RANGES));
-    assert!(rt; heads(alloc, 501, &names, true, Framing::Raw, BETWEEN));
-    assert!(rt; heads(alloc, 404, &[], true, Framing::Raw, ALONE));
-    assert!(rt; heads(alloc, 204, &["allow"], true, Framing::Raw, LAST));
-    assert!(rt; bad_request_text() == REFUSAL);
-}
-
-const CHUNKED_LAST: &[u8] =
-    b"HTTP/1.1 206 Partial Content\r\naccept-ranges: 1\r\ncontent-type: 1\r\ntransfer-encoding: chunked\r\n\r\n";
-
-const CHUNKED_BETWEEN: &[u8] =
-    b"HTTP/1.1 200 OK\r\ndate: 1\r\ntransfer-encoding: chunked\r\nvary: 1\r\n\r\n";
-
-const CHUNKED_CLOSING: &[u8] =
-    b"HTTP/1.1 200 OK\r\nallow: 1\r\nconnection: close\r\ndate: 1\r\ntransfer-encoding: chunked\r\nvary: 1\r\n\r\n";
-
-const CHUNKED_ALONE: &[u8] =
-    b"HTTP/1.1 200 OK\r\nconnection: close\r\ntransfer-encoding: chunked\r\n\r\n";
-
-#[test]
-fn answers_say_that_they_are_in_chunks(rt: HostRuntime) {
-    let alloc = rt.alloc();
-    let chunked = Framing::Chunked;
-    let ranges = ["accept-ranges", "content-type"];
-    assert!(rt; heads(alloc, 206, &ranges, false, chunked, CHUNKED_LAST));
-    assert!(rt;
-        heads(
-            alloc,
-            200,
-            &["date", "vary"],
-            false,
-            chunked,
-            CHUNKED_BETWEEN
-        )
-    );
-    let all = ["allow", "date", "vary"];
-    assert!(rt; heads(alloc, 200, &all, true, chunked, CHUNKED_CLOSING));
-    assert!(rt; heads(alloc, 200, &[], true, chunked, CHUNKED_ALONE));
-}
-
-/// The framing of an answer with fields of these names.
-fn framed(alloc: Global, chunks: bool, status: u16, names: &[&str]) -> Option<Framing> {
-    match named(alloc, names) {
-        Ok(fields) => Some(framing(chunks, status, &fields)),
-        Err(_) => None,
-    }
-}
-
-#[test]
-fn answers_without_a_length_are_framed(rt: HostRuntime) {
-    let alloc = rt.alloc();
-    let open = ["accept-ranges", "content-type"];
-    let whole = ["accept-ranges", "content-length"];
-    assert_eq!(rt; framed(alloc, true, 206, &open), Some(Framing::Chunked));
-    assert_eq!(rt; framed(alloc, true, 200, &[]), Some(Framing::Chunked));
-    assert_eq!(rt; framed(alloc, true, 404, &open), Some(Framing::Chunked));
-    assert_eq!(rt; framed(alloc, true, 206, &whole), Some(Framing::Raw));
-    assert_eq!(rt; framed(alloc, true, 204, &open), Some(Framing::Raw));
-    assert_eq!(rt; framed(alloc, true, 304, &open), Some(Framing::Raw));
-    assert_eq!(rt; framed(alloc, false, 206, &open), Some(Framing::Raw));
-    assert_eq!(rt; framed(alloc, false, 206, &whole), Some(Framing::Raw));
-}
-
-/// An answer that says that it closes.
+/// An answer that says itself that it closes.
 fn closing(alloc: Global) -> Result<Octets, NoMemory> {
     let mut said = Vec::new(alloc);
-    said.push(field(alloc, "connection", b"close")?)?;
+    let name = Text::copy(alloc, "connection")?;
+    let value = octets(alloc, b"close")?;
+    said.push(Field { name, value })?;
     if !says_close(&said) {
         return Err(NoMemory);
     }
@@ -408,7 +74,12 @@ fn closing(alloc: Global) -> Result<Octets, NoMemory> {
 #[test]
 fn an_answer_closes_once(rt: HostRuntime) -> Result<(), Fail> {
     let alloc = rt.alloc();
-    assert!(rt; closing(alloc)?.as_slice() == ALONE);
+    assert_eq!(rt;
+        closing(alloc)?.as_slice(),
+        b"HTTP/1.1 404 Not Found\r\nconnection: close\r\n\r\n".as_slice()
+    );
+    laws::answer_heads_are_read_back();
+    laws::answer_heads_are_one();
     Ok(())
 }
 
@@ -441,60 +112,6 @@ fn body(
     Ok((all, written))
 }
 
-fn gives(alloc: Global, framing: Framing, pieces: &[&[u8]], wanted: &[u8]) -> bool {
-    match body(alloc, framing, pieces, 100_000, 7) {
-        Ok((all, text)) => all && text.as_slice() == wanted,
-        Err(_) => false,
-    }
-}
-
-const FIRST: &[u8] = b"\n--BOUNDARY\nContent-Range: bytes 0-1/10\nContent-Type: text/plain\n\n";
-
-const SECOND: &[u8] = b"\n--BOUNDARY\nContent-Range: bytes 4-5/10\nContent-Type: text/plain\n\n";
-
-const PARTS: &[u8] =
-    b"42\r\n\n--BOUNDARY\nContent-Range: bytes 0-1/10\nContent-Type: text/plain\n\n\r\n2\r\n01\r\n42\r\n\n--BOUNDARY\nContent-Range: bytes 4-5/10\nContent-Type: text/plain\n\n\r\n2\r\n45\r\ne\r\n\n--BOUNDARY--\n\r\n0\r\n\r\n";
-
-#[test]
-fn parts_are_chunks(rt: HostRuntime) {
-    let alloc = rt.alloc();
-    let pieces = [FIRST, b"01", SECOND, b"45", b"\n--BOUNDARY--\n"];
-    assert!(rt; gives(alloc, Framing::Chunked, &pieces, PARTS));
-    assert!(rt; gives(alloc, Framing::Chunked, &[], b"0\r\n\r\n"));
-    assert!(rt; gives(alloc, Framing::Raw, &[b"01", b"45"], b"0145"));
-    assert!(rt; gives(alloc, Framing::Raw, &[], b""));
-}
-
-/// Is a piece of so many bytes a chunk with this line before it?
-fn sized(alloc: Global, count: usize, line: &[u8]) -> Result<bool, NoMemory> {
-    let mut piece = Octets::empty(alloc);
-    fill(&mut piece, b'x', count)?;
-    let mut wanted = octets(alloc, line)?;
-    wanted.extend(piece.as_slice())?;
-    wanted.extend(b"\r\n0\r\n\r\n")?;
-    Ok(gives(
-        alloc,
-        Framing::Chunked,
-        &[piece.as_slice()],
-        wanted.as_slice(),
-    ))
-}
-
-#[test]
-fn chunks_have_their_sizes(rt: HostRuntime) -> Result<(), Fail> {
-    let alloc = rt.alloc();
-    assert!(rt; sized(alloc, 1, b"1\r\n")?);
-    assert!(rt; sized(alloc, 9, b"9\r\n")?);
-    assert!(rt; sized(alloc, 10, b"a\r\n")?);
-    assert!(rt; sized(alloc, 15, b"f\r\n")?);
-    assert!(rt; sized(alloc, 16, b"10\r\n")?);
-    assert!(rt; sized(alloc, 17, b"11\r\n")?);
-    assert!(rt; sized(alloc, 171, b"ab\r\n")?);
-    assert!(rt; sized(alloc, 4096, b"1000\r\n")?);
-    assert!(rt; sized(alloc, 65_536, b"10000\r\n")?);
-    Ok(())
-}
-
 /// Does a sink whose room ends at any byte of a body get the bytes before it?
 fn ends_anywhere(alloc: Global, pieces: &[&[u8]], wanted: &[u8]) -> Result<bool, NoMemory> {
     for room in 0..wanted.len() {
@@ -513,6 +130,14 @@ fn a_front_of_a_chunk_is_written(rt: HostRuntime) -> Result<(), Fail> {
     let alloc = rt.alloc();
     let wanted = b"b\r\nhello world\r\n1\r\n!\r\n0\r\n\r\n".as_slice();
     assert!(rt; ends_anywhere(alloc, &[b"hello world", b"!"], wanted)?);
+    Ok(())
+}
+
+/// Appends so many bytes.
+fn fill(text: &mut Octets, byte: u8, count: usize) -> Result<(), NoMemory> {
+    for _ in 0..count {
+        text.extend(&[byte])?;
+    }
     Ok(())
 }
 
@@ -577,15 +202,5 @@ fn nothing_waits_while_the_source_is_asked(rt: HostRuntime) -> Result<(), Fail> 
         flushed(alloc, b"GET / HTTP/1.1\n\nGET")?.as_slice(),
         b"waitwaitwait".as_slice()
     );
-    Ok(())
-}
-
-#[test]
-fn all_is_put(rt: HostRuntime) -> Result<(), Fail> {
-    let alloc = rt.alloc();
-    let mut sink = MemSink::new(alloc, 5, 2, Vec::new(alloc))?;
-    assert!(rt; put_all(&mut sink, b"abc").is_ok());
-    assert!(rt; put_all(&mut sink, b"def").is_err());
-    assert_eq!(rt; sink.written(), b"abcde".as_slice());
     Ok(())
 }

@@ -10,7 +10,8 @@ use Rattle.htmlescape.specs.declared.faults.DecodeErrKind.{DecodeErrKind}
 use Rattle.htmlescape.specs.declared.faults.DecodeErrKind.TheVariants.{UnknownEntity, MalformedNumEscape, InvalidCharacter, PrematureEnd, IoError, EncodingError, TooLong, NoMemory}
 use Rattle.htmlescape.specs.declared.faults.IoFault.{IoFault}
 use Rattle.htmlescape.specs.Grammar.{IsText, HasFault, fault_at}
-use Rattle.dav_io.specs.Told.{Both, both_map}
+use Rattle.dav_io.specs.Told.{Both}
+use Rattle.dav_io.proofs.ToldLemmas.{both_map}
 use Rattle.dav_io.specs.Outside.{Stream}
 use Rattle.htmlescape.specs.Decoding.{ReadSo, Unfinished, MeetsFault, Stops, Decodes, WroteAt, Wrote, Decoding, IsIo, IsOnly, Answers}
 use Rattle.htmlescape.proofs.Fronts.{front_unique, text_unique, text_faultless, fault_unique}

@@ -8,8 +8,8 @@ use Rattle.dav_io.specs.declared.failure.Failed.{Failed}
 use Rattle.dav_io.specs.Outside.{Stream}
 use Rattle.htmlescape.specs.declared.alphabet.Alphabet.{Alphabet}
 use Rattle.htmlescape.specs.Escapes.{escaped, encoded}
-use Rattle.htmlescape.specs.Writing.{Appends}
-use Rattle.htmlescape.proofs.Written.{appends_refused, appends_last}
+use Rattle.dav_io.specs.Appending.{Appends}
+use Rattle.dav_io.proofs.AppendingLemmas.{appends_refused, appends_last}
 
 -- the bytes of the encoding of the text that these bytes spell
 abbrev pub bytes_for : Alphabet → List ℕ → List ℕ

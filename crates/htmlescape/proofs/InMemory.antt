@@ -10,7 +10,7 @@ use Rattle.htmlescape.specs.Decoding.{Decodes, IsDecoded, IsFault, IsOfText, in_
 use Rattle.htmlescape.proofs.Fronts.{text_unique, text_faultless, fault_unique}
 use Rattle.htmlescape.specs.Grammar.{fault_at}
 use Rattle.htmlescape.proofs.Agreement.{text_answers, short_text}
-use Rattle.htmlescape.proofs.Going.{OfGrammar, kind_at, not_of}
+use Rattle.htmlescape.proofs.DecodeLoop.{OfGrammar, kind_at, not_of}
 
 pub decoded_utf8 : (front written value : List ℕ) → front ≡ [] → written ≡ front ++ encodes value → scalars value ≡ true → IsUtf8 written
 decoded_utf8 front written value none e s = (value, (s, sym (e ∙ ap (λ t. t ++ encodes value) none)))

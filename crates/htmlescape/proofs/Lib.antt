@@ -1,5 +1,4 @@
 pub mod Tables
-pub mod Written
 pub mod Utf8
 pub mod Escaping
 pub mod Encoding
@@ -8,7 +7,7 @@ pub mod Items
 pub mod Steps
 pub mod Fronts
 pub mod Moves
-pub mod Going
+pub mod DecodeLoop
 pub mod Agreement
 pub mod InMemory
 pub mod Undone

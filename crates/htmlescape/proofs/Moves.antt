@@ -5,7 +5,7 @@ use Rattle.std.specs.Char.{is_digit}
 use Rattle.std.proofs.lemmas.Bool.{and_parts}
 use Rattle.std.proofs.lemmas.List.Concat.{flat_map-append}
 use Rattle.std.proofs.lemmas.List.{map-append}
-use Rattle.htmlescape.specs.Grammar.{Item, Plain, Name, Decimal, Hexadecimal, spelled, meaning, are_digits, IsText, Begins, HasFault, fault_at, entity_fault, name_fault, number_fault, digits_fault}
+use Rattle.htmlescape.specs.Grammar.{Item, Plain, Name, Decimal, Hexadecimal, spelled, meaning, are_digits, Begins, HasFault, fault_at, entity_fault, name_fault, number_fault, digits_fault, IsText}
 use Rattle.htmlescape.specs.Running.{Pending, Stepped, NoItem, begins_name}
 use Rattle.htmlescape.specs.Progress.{Running, Took}
 use Rattle.htmlescape.specs.declared.decoder.Decoder.{Decoder}

@@ -12,7 +12,8 @@ use Rattle.std.specs.Char.{IsScalar}
 use Rattle.std.proofs.lemmas.Bool.{cases_lt}
 use Rattle.std.proofs.lemmas.Bool.Decides.{nat_tests}
 use Rattle.htmlescape.specs.Characters.{width, CharRead, ByteRead, ReadsByte, ReadsAfter}
-use Rattle.dav_io.specs.Told.{Both, both_same, both_then, both_map}
+use Rattle.dav_io.specs.Told.{Both}
+use Rattle.dav_io.proofs.ToldLemmas.{both_same, both_then, both_map}
 use Rattle.dav_io.specs.Outside.{Stream}
 
 pub encode_one : (c : ℕ) → c < 128 → encode c ≡ c ∷ []

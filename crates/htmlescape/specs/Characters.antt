@@ -11,7 +11,9 @@ use Rattle.htmlescape.specs.declared.characters.CharsError.TheVariants.{NotUtf8,
 
 -- how many bytes a character has that begins with this one; 0 where none begins so
 abbrev pub width : ℕ → ℕ
-width b = if nat_lt b 128 then 1 else (if nat_lt b 192 then 0 else (if nat_lt b 224 then 2 else (if nat_lt b 240 then 3 else (if nat_lt b 248 then 4 else 0))))
+width b =
+    if nat_lt b 128 then 1 else (if nat_lt b 192 then 0 else (
+    if nat_lt b 224 then 2 else (if nat_lt b 240 then 3 else (if nat_lt b 248 then 4 else 0))))
 
 -- how many bytes a reader takes from the front of these
 abbrev pub chunk_len : List ℕ → ℕ
@@ -31,6 +33,11 @@ CharRead None old new = (old ≡ []) × (new ≡ [])
 CharRead (Some (Ok c)) old new = old ≡ encode_utf8 c ++ new
 CharRead (Some (Err NotUtf8)) old new = (0 < length old) × StartsWithNoChar old × (new ≡ drop (chunk_len old) old)
 CharRead (Some (Err (Other e))) old new = (taken : List ℕ) × (old ≡ taken ++ new) × (length taken < 4)
+
+-- the bytes of a character that an item stands for, where one is at its end
+abbrev pub bytes_of : Option ℕ → List ℕ
+bytes_of None = []
+bytes_of (Some c) = encode_utf8 c
 
 abbrev pub IsRefused : Option (Result ℕ CharsError) → Type 0
 IsRefused (Some (Err (Other e))) = Unit {0}

@@ -32,7 +32,8 @@ pub record DecodesWhole (limit : ℕ) (bytes value : List ℕ) : Type 0 where
   pub whole : IsText text value
 
 -- A fault is met in the characters that were read: it is this one however the text goes on.
-pub record MeetsFault (limit : ℕ) (bytes : List ℕ) (fault : DecodeErrKind) (position : ℕ) (value : List ℕ) : Type 0 where
+pub record MeetsFault (limit : ℕ) (bytes : List ℕ) (fault : DecodeErrKind) (position : ℕ)
+    (value : List ℕ) : Type 0 where
   pub text : List ℕ
   pub rest : List ℕ
   pub read : ReadSo bytes text rest
@@ -86,7 +87,8 @@ pub record WriteFault (limit : ℕ) (bytes : List ℕ) (position : ℕ) (value :
   pub value_is : value ≡ before ++ last ∷ []
   pub completes : Completes text before last position
 
--- Where each fault comes. The value is what the items before it stand for, for a write fault with the character at fault.
+-- Where each fault comes. The value is what the items before it stand for, for a write fault with the character at
+-- fault.
 abbrev pub Stops : ℕ → List ℕ → DecodeErrKind → ℕ → List ℕ → Type 0
 Stops limit bytes UnknownEntity position value = MeetsFault limit bytes UnknownEntity position value
 Stops limit bytes MalformedNumEscape position value = MeetsFault limit bytes MalformedNumEscape position value
@@ -102,9 +104,11 @@ abbrev pub Decodes : ℕ → List ℕ → Result (Unit {0}) DecodeErr → List �
 Decodes limit bytes (Ok u) value = DecodesWhole limit bytes value
 Decodes limit bytes (Err e) value = Stops limit bytes e.kind e.position value
 
--- At a write fault a front of the value's bytes was appended, which lacks some of the last character's; else all of them were.
+-- At a write fault a front of the value's bytes was appended, which lacks some of the last character's; else all of
+-- them were.
 abbrev pub WroteFront : List ℕ → List ℕ → List ℕ → Type 0
-WroteFront value old new = (before : List ℕ) × (last : ℕ) × (n : ℕ) × (value ≡ before ++ last ∷ []) × (n < length (encode_utf8 last))
+WroteFront value old new =
+    (before : List ℕ) × (last : ℕ) × (n : ℕ) × (value ≡ before ++ last ∷ []) × (n < length (encode_utf8 last))
     × (new ≡ old ++ (encode_utf8_all before ++ take n (encode_utf8 last)))
 
 abbrev pub WroteAt : DecodeErrKind → List ℕ → List ℕ → List ℕ → Type 0
@@ -115,7 +119,8 @@ abbrev pub Wrote : Result (Unit {0}) DecodeErr → List ℕ → List ℕ → Lis
 Wrote (Ok u) value old new = new ≡ old ++ encode_utf8_all value
 Wrote (Err e) value old new = WroteAt e.kind value old new
 
--- What a reader has left where a fault of the grammar is met: what is behind the character at fault. Before it none was met.
+-- What a reader has left where a fault of the grammar is met: what is behind the character at fault. Before it none was
+-- met.
 pub record LeavesFault (fault : DecodeErrKind) (position : ℕ) (value old new : List ℕ) : Type 0 where
   pub before : List ℕ
   pub last : ℕ
@@ -123,17 +128,22 @@ pub record LeavesFault (fault : DecodeErrKind) (position : ℕ) (value old new :
   pub unmet : Unfinished before value
   pub met : (more : List ℕ) → HasFault (before ++ last ∷ more) fault position value
 
--- What it has left at each fault. The bytes that are no character are taken, and a reader that fails has given fewer than four.
+-- What it has left at each fault. The bytes that are no character are taken, and a reader that fails has given fewer
+-- than four.
 abbrev pub LeavesAt : DecodeErrKind → ℕ → List ℕ → List ℕ → List ℕ → Type 0
 LeavesAt UnknownEntity position value old new = LeavesFault UnknownEntity position value old new
 LeavesAt MalformedNumEscape position value old new = LeavesFault MalformedNumEscape position value old new
 LeavesAt InvalidCharacter position value old new = LeavesFault InvalidCharacter position value old new
 LeavesAt PrematureEnd position value old new = new ≡ []
-LeavesAt EncodingError position value old new = (text : List ℕ) × (rest : List ℕ) × ReadSo old text rest × (position ≡ length text) × (new ≡ drop (chunk_len rest) rest)
+LeavesAt EncodingError position value old new =
+    (text : List ℕ) × (rest : List ℕ) × ReadSo old text rest × (position ≡ length text)
+    × (new ≡ drop (chunk_len rest) rest)
 LeavesAt TooLong position value old new = (text : List ℕ) × ReadSo old text new × (position ≡ length text)
-LeavesAt (IoError Read) position value old new = (text : List ℕ) × (taken : List ℕ) × ReadSo old text (taken ++ new) × (position ≡ length text) × (length taken < 4)
+LeavesAt (IoError Read) position value old new =
+    (text : List ℕ) × (taken : List ℕ) × ReadSo old text (taken ++ new) × (position ≡ length text) × (length taken < 4)
 LeavesAt (IoError Write) position value old new =
-    (text : List ℕ) × (before : List ℕ) × (last : ℕ) × ReadSo old text new × (value ≡ before ++ last ∷ []) × Completes text before last position
+    (text : List ℕ) × (before : List ℕ) × (last : ℕ) × ReadSo old text new × (value ≡ before ++ last ∷ [])
+    × Completes text before last position
 LeavesAt NoMemory position value old new = ⊥
 
 abbrev pub Leaves : Result (Unit {0}) DecodeErr → List ℕ → List ℕ → List ℕ → Type 0
@@ -145,7 +155,8 @@ IsAt kind (Ok u) = ⊥
 IsAt kind (Err e) = e.kind ≡ kind
 
 -- What a decoder does to its reader and its writer.
-pub record Decoding (limit : ℕ) (reader writer : Stream) (result : Result (Unit {0}) DecodeErr) (reader_after writer_after : Stream) : Type 0 where
+pub record Decoding (limit : ℕ) (reader writer : Stream) (result : Result (Unit {0}) DecodeErr)
+    (reader_after writer_after : Stream) : Type 0 where
   pub reads : reader.faults ≤ reader_after.faults
   pub read_fault : IsAt (IoError Read) result → Rose reader.faults reader_after.faults
   pub writes : writer.faults ≤ writer_after.faults
@@ -165,7 +176,8 @@ IsIo (Err e) = (side : IoFault) × (e.kind ≡ IoError side)
 -- But for failures of reader and writer no other answer fits the bytes, and no other text is written.
 abbrev pub IsOnly : ℕ → Stream → Stream → Result (Unit {0}) DecodeErr → Stream → Type 0
 IsOnly limit reader writer result writer_after =
-    (other : Result (Unit {0}) DecodeErr) (value : List ℕ) → IfSome reader.bytes (λ bytes. Decodes limit bytes other value × ¬ (IsIo other) × ¬ (IsIo result)
+    (other : Result (Unit {0}) DecodeErr) (value : List ℕ)
+    → IfSome reader.bytes (λ bytes. Decodes limit bytes other value × ¬ (IsIo other) × ¬ (IsIo result)
     → (other ≡ result) × Both writer.bytes writer_after.bytes (λ old new. new ≡ old ++ encode_utf8_all value))
 
 -- What decoding a text answers.

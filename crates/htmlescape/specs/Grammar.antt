@@ -1,5 +1,5 @@
--- The entity grammar: which texts an HTML decoder takes, what they stand for, and where the others are at fault. A text is
--- a list of characters.
+-- The entity grammar: which texts an HTML decoder takes, what they stand for, and where the others are at fault. A text
+-- is a list of characters.
 use Rattle.std.specs.Prelude.{◌≡◌, ◌<◌, ◌≤◌, ◌+◌, ℕ, Bool, ◌&&◌, if◌then◌else◌, ◌==◌, nat_lt, List, [], ◌∷◌, ◌++◌, map, length, take, drop, Option, Some, None}
 use Rattle.std.specs.List.{flat_map, list_any, list_all, prefix_len}
 use Rattle.std.specs.Char.{is_digit}
@@ -9,7 +9,8 @@ use Rattle.htmlescape.specs.Names.{named}
 use Rattle.htmlescape.specs.declared.faults.DecodeErrKind.{DecodeErrKind}
 use Rattle.htmlescape.specs.declared.faults.DecodeErrKind.TheVariants.{UnknownEntity, MalformedNumEscape, InvalidCharacter, PrematureEnd}
 
--- A character that stands for itself; `&`, a name and `;`; `&#`, decimal digits and `;`; `&#x`, hexadecimal digits and `;`.
+-- A character that stands for itself; `&`, a name and `;`; `&#`, decimal digits and `;`; `&#x`, hexadecimal digits and
+-- `;`.
 pub data Item : Type 0 where
   Plain : ℕ → Item
   Name : List ℕ → Item
@@ -28,7 +29,9 @@ are_digits base digits = nat_lt 0 (length digits) && list_all (λ c. is_digit c 
 
 -- the character whose number the digits write
 abbrev pub numbered : ℕ → List ℕ → Option ℕ
-numbered base digits = if are_digits base digits && all_scalars (digits_value base digits ∷ []) then Some (digits_value base digits) else None
+numbered base digits =
+    if are_digits base digits && all_scalars (digits_value base digits ∷ [])
+    then Some (digits_value base digits) else None
 
 -- the character that an item stands for; none where it is no item of the grammar
 abbrev pub meaning : Item → Option ℕ
@@ -58,7 +61,8 @@ pub record LongestFront (text value rest : List ℕ) : Type 0 where
 abbrev pub number_end : ℕ → List ℕ → List ℕ → DecodeErrKind
 number_end base digits [] = PrematureEnd
 number_end base digits (c ∷ more) =
-    if (c == 59 && nat_lt 0 (length digits)) && nat_lt (digits_value base digits) 4294967296 then InvalidCharacter else MalformedNumEscape
+    if (c == 59 && nat_lt 0 (length digits)) && nat_lt (digits_value base digits) 4294967296
+    then InvalidCharacter else MalformedNumEscape
 
 abbrev pub digits_fault : ℕ → List ℕ → DecodeErrKind
 digits_fault base text = let n = prefix_len (λ c. is_digit c base) text in number_end base (take n text) (drop n text)
@@ -73,14 +77,16 @@ name_fault text = if list_any (λ c. c == 59) text then UnknownEntity else Prema
 
 abbrev pub entity_fault : List ℕ → DecodeErrKind
 entity_fault [] = PrematureEnd
-entity_fault (c ∷ more) = if c == 59 then UnknownEntity else (if c == 35 then number_fault more else name_fault (c ∷ more))
+entity_fault (c ∷ more) =
+    if c == 59 then UnknownEntity else (if c == 35 then number_fault more else name_fault (c ∷ more))
 
 -- the fault of what no item begins: an ampersand, and what is behind it
 unfoldable pub fault_at : List ℕ → DecodeErrKind
 fault_at [] = PrematureEnd
 fault_at (ampersand ∷ more) = entity_fault more
 
--- The text is no list of items. Its longest front stands for `value`, and the fault is this one, behind so many characters.
+-- The text is no list of items. Its longest front stands for `value`, and the fault is this one, behind so many
+-- characters.
 pub record HasFault (text : List ℕ) (fault : DecodeErrKind) (position : ℕ) (value : List ℕ) : Type 0 where
   pub rest : List ℕ
   pub front : LongestFront text value rest

@@ -1,7 +1,6 @@
 pub mod Names
 pub mod Table
 pub mod Kinds
-pub mod Writing
 pub mod Characters
 pub mod Messages
 pub mod Escapes

@@ -28,8 +28,10 @@ pub record Completes (text value : List ℕ) (c place : ℕ) : Type 0 where
 abbrev pub Took : ℕ → List ℕ → List ℕ → ℕ → Result (Option ℕ) DecodeErr → Decoder → Type 0
 Took place text value c (Ok None) decoder = Running decoder (text ++ c ∷ []) value
 Took place text value c (Ok (Some found)) decoder =
-    IsScalar found × Running decoder (text ++ c ∷ []) (value ++ found ∷ []) × IsText (text ++ c ∷ []) (value ++ found ∷ []) × Completes (text ++ c ∷ []) value found place
-Took place text value c (Err e) decoder = (e.kind ≢ PrematureEnd) × ((more : List ℕ) → HasFault (text ++ c ∷ more) e.kind e.position value)
+    IsScalar found × Running decoder (text ++ c ∷ []) (value ++ found ∷ [])
+    × IsText (text ++ c ∷ []) (value ++ found ∷ []) × Completes (text ++ c ∷ []) value found place
+Took place text value c (Err e) decoder =
+    (e.kind ≢ PrematureEnd) × ((more : List ℕ) → HasFault (text ++ c ∷ more) e.kind e.position value)
 
 -- what the end of the text makes of it
 abbrev pub Ended : List ℕ → List ℕ → Result (Unit {0}) DecodeErr → Type 0

@@ -36,7 +36,8 @@ Pending (Named short) pending = (name : List ℕ) × (pending ≡ 38 ∷ name) �
 Pending Hash pending = pending ≡ 38 ∷ 35 ∷ []
 Pending HexMark pending = pending ≡ 38 ∷ 35 ∷ 120 ∷ []
 Pending (Decimal value) pending = (digits : List ℕ) × (pending ≡ 38 ∷ 35 ∷ digits) × KeepsNumber 10 value digits
-Pending (Hexadecimal value) pending = (digits : List ℕ) × (pending ≡ 38 ∷ 35 ∷ 120 ∷ digits) × KeepsNumber 16 value digits
+Pending (Hexadecimal value) pending =
+    (digits : List ℕ) × (pending ≡ 38 ∷ 35 ∷ 120 ∷ digits) × KeepsNumber 16 value digits
 
 -- no item of the grammar begins these characters
 abbrev pub NoItem : List ℕ → Type 0

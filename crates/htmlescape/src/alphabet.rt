@@ -2,11 +2,10 @@ ghost use Rattle.std.specs.Prelude.{◌≡◌, ◌<◌, ◌∷◌, [], true, enc
 ghost use Rattle.std.specs.Fmt.{digit_glyph};
 ghost use Rattle.htmlescape.specs.Escapes.{minimal_entity, other, escaped};
 ghost use Rattle.htmlescape.specs.Pieces.{escape_text};
-ghost use Rattle.htmlescape.specs.Writing.{Appends};
+ghost use Rattle.dav_io.specs.Appending.{Appends};
 
 use crate::entities::MINIMAL_ENTITIES;
-use crate::writing::put_all;
-use dav_io::{Failed, Sink};
+use dav_io::{Failed, Sink, put_all};
 
 /// Which characters an encoder replaces.
 #[derive(Clone, Copy)]

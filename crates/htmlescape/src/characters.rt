@@ -87,7 +87,8 @@ fn character(bytes: &[u8]) -> Option<char>
     requires some { 0 < length bytes.now }
     requires width { width (slice_index bytes.now 0) ≡ length bytes.now }
     ensures scalar { MatchOption result (Unit {0}) (λ c. IsScalar c) }
-    ensures spelled { MatchOption result ((c : ℕ) (more : List ℕ) → IsScalar c → bytes.now ≢ encode_utf8 c ++ more) (λ c. bytes.now ≡ encode_utf8 c) }
+    ensures spelled { MatchOption result ((c : ℕ) (more : List ℕ) → IsScalar c → bytes.now ≢ encode_utf8 c ++ more)
+        (λ c. bytes.now ≡ encode_utf8 c) }
 {
     match str::from_utf8(bytes) {
         Ok(text) => text.chars().next(),

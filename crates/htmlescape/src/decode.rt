@@ -3,7 +3,8 @@ ghost use Rattle.std.specs.Str.{chars};
 ghost use Rattle.htmlescape.specs.Grammar.{IsText, HasFault};
 ghost use Rattle.htmlescape.specs.Decoding.{Decoding, IsDecoded, IsFault, IsOfText, IsOnly, in_memory};
 ghost use Rattle.htmlescape.specs.declared.faults.DecodeErrKind.{DecodeErrKind};
-ghost use Rattle.htmlescape.specs.Writing.{Appends, bytes_of};
+ghost use Rattle.dav_io.specs.Appending.{Appends};
+ghost use Rattle.htmlescape.specs.Characters.{bytes_of};
 
 use crate::characters::{Chars, CharsError};
 use crate::decoder::Decoder;
@@ -34,7 +35,8 @@ pub fn decode<C: Characters, W: Sink>(
     characters: &mut C,
     writer: &mut W,
 ) -> Result<(), DecodeErr>
-    ensures { Decoding limit (C.stream characters.old) (W.stream writer.old) result (C.stream characters.new) (W.stream writer.new) }
+    ensures { Decoding limit (C.stream characters.old) (W.stream writer.old) result (C.stream characters.new)
+        (W.stream writer.new) }
 {
     let mut decoder = Decoder::new();
     for count in 0..limit {
@@ -75,22 +77,24 @@ pub fn decode<C: Characters, W: Sink>(
     })
 }
 
-/// Decodes the characters that a reader of characters has left. It answers and writes what `decode_html_rw` does, and the
-/// reader is at hand afterwards: at its end, or right behind the character at which a fault was met.
+/// Decodes the characters that a reader of characters has left. It answers and writes what `decode_html_rw` does, and
+/// the reader is at hand afterwards: at its end, or right behind the character at which a fault was met.
 pub fn decode_chars<R: Source, W: Sink>(
     characters: &mut Chars<R>,
     writer: &mut W,
 ) -> Result<(), DecodeErr>
-    ensures done { Decoding (2 ^ 60) (R.stream characters.old.inner) (W.stream writer.old) result (R.stream characters.new.inner) (W.stream writer.new) }
+    ensures done { Decoding (2 ^ 60) (R.stream characters.old.inner) (W.stream writer.old) result
+        (R.stream characters.new.inner) (W.stream writer.new) }
     ensures exact { IsOnly (2 ^ 60) (R.stream characters.old.inner) (W.stream writer.old) result (W.stream writer.new) }
 {
     decode(MOST_CHARACTERS, characters, writer)
 }
 
-/// Decodes the entities in what a reader gives, and writes the text. It keeps at most eight bytes of a name, and takes no
-/// memory.
+/// Decodes the entities in what a reader gives, and writes the text. It keeps at most eight bytes of a name, and takes
+/// no memory.
 pub fn decode_html_rw<R: Source + Drop, W: Sink>(reader: R, writer: &mut W) -> Result<(), DecodeErr>
-    ensures done { (after : R) × Decoding (2 ^ 60) (R.stream reader) (W.stream writer.old) result (R.stream after) (W.stream writer.new) }
+    ensures done { (after : R) × Decoding (2 ^ 60) (R.stream reader) (W.stream writer.old) result (R.stream after)
+        (W.stream writer.new) }
     ensures exact { IsOnly (2 ^ 60) (R.stream reader) (W.stream writer.old) result (W.stream writer.new) }
 {
     let mut characters = Chars { inner: reader };
@@ -124,7 +128,8 @@ pub fn decode_html(alloc: Global, s: &str) -> Result<String, DecodeErr>
     ensures text { (value : List ℕ) → IsText (chars s.now) value
         → MatchResult result (λ t. string_bytes t ≡ encode_utf8_all value) (λ e. e.kind ≡ DecodeErrKind.NoMemory) }
     ensures fault { (kind : DecodeErrKind) (position : ℕ) (value : List ℕ) → HasFault (chars s.now) kind position value
-        → MatchResult result (λ t. ⊥) (λ e. (e.kind ≡ DecodeErrKind.NoMemory) ⊎ ((e.kind ≡ kind) × (e.position ≡ position))) }
+        → MatchResult result (λ t. ⊥) (λ e. (e.kind ≡ DecodeErrKind.NoMemory)
+        ⊎ ((e.kind ≡ kind) × (e.position ≡ position))) }
 {
     let mut characters = TextChars { left: s.chars() };
     let mut text = Growing::new(alloc);

@@ -31,7 +31,8 @@ impl Decoder {
     pub fn take(&mut self, c: char) -> Result<Option<char>, DecodeErr>
         requires { self.old.read < usize.MAX }
         ensures read { OnOk result (self.new.read ≡ self.old.read + 1) }
-        ensures took { (text value : List ℕ) → Running self.old text value → Took self.old.place text value c result self.new }
+        ensures took { (text value : List ℕ) → Running self.old text value
+            → Took self.old.place text value c result self.new }
     {
         match self.state.step(c) {
             Step::More(state) => {

@@ -3,12 +3,11 @@ ghost use Rattle.htmlescape.specs.declared.alphabet.Alphabet.TheVariants.{Minima
 ghost use Rattle.std.specs.Str.{chars};
 ghost use Rattle.htmlescape.specs.Escapes.{encoded};
 ghost use Rattle.htmlescape.specs.Pieces.{escape_text};
-ghost use Rattle.htmlescape.specs.Writing.{Appends};
+ghost use Rattle.dav_io.specs.Appending.{Appends};
 
 use crate::alphabet::{Alphabet, Escape};
 use crate::memory::Growing;
-use crate::writing::put_all;
-use dav_io::{Failed, NoMemory, Sink};
+use dav_io::{Failed, NoMemory, Sink, put_all};
 use std::alloc::Global;
 
 // Writes a run of characters that stay, and what stands for the one behind it.
@@ -23,7 +22,8 @@ fn put_run<W: Sink>(writer: &mut W, run: &[u8], escape: Escape) -> Result<(), Fa
 
 // Writes a text with the characters of an alphabet replaced. Runs of the others are written in one piece.
 fn encode_to<W: Sink>(alphabet: Alphabet, s: &str, writer: &mut W) -> Result<(), Failed>
-    ensures { Appends (W.stream writer.old) (encode_utf8_all (encoded alphabet (chars s.now))) result (W.stream writer.new) }
+    ensures { Appends (W.stream writer.old) (encode_utf8_all (encoded alphabet (chars s.now))) result
+        (W.stream writer.new) }
 {
     let mut left = s.chars();
     // What is not written yet, and how much of its front stays as it is.
@@ -68,18 +68,19 @@ pub fn encode_minimal(alloc: Global, s: &str) -> Result<String, NoMemory>
     encode(alloc, Alphabet::Minimal, s)
 }
 
-/// Replaces what `encode_minimal` does, and each other character below U+0100 that is no ASCII letter or digit by `&#x`,
-/// two upper-case hexadecimal digits and `;`. All other characters stay.
+/// Replaces what `encode_minimal` does, and each other character below U+0100 that is no ASCII letter or digit by
+/// `&#x`, two upper-case hexadecimal digits and `;`. All other characters stay.
 pub fn encode_attribute(alloc: Global, s: &str) -> Result<String, NoMemory>
     ensures { IfOk result (λ t. string_bytes t ≡ encode_utf8_all (encoded Attribute (chars s.now))) }
 {
     encode(alloc, Alphabet::Attribute, s)
 }
 
-/// Writes what `encode_minimal` answers, and takes no memory. At `Failed` a front of it is written, and the writer's count
-/// of faults rose.
+/// Writes what `encode_minimal` answers, and takes no memory. At `Failed` a front of it is written, and the writer's
+/// count of faults rose.
 pub fn encode_minimal_w<W: Sink>(s: &str, writer: &mut W) -> Result<(), Failed>
-    ensures { Appends (W.stream writer.old) (encode_utf8_all (encoded Minimal (chars s.now))) result (W.stream writer.new) }
+    ensures { Appends (W.stream writer.old) (encode_utf8_all (encoded Minimal (chars s.now))) result
+        (W.stream writer.new) }
 {
     encode_to(Alphabet::Minimal, s, writer)
 }
@@ -87,7 +88,8 @@ pub fn encode_minimal_w<W: Sink>(s: &str, writer: &mut W) -> Result<(), Failed>
 /// Writes what `encode_attribute` answers, and takes no memory. At `Failed` a front of it is written, and the writer's
 /// count of faults rose.
 pub fn encode_attribute_w<W: Sink>(s: &str, writer: &mut W) -> Result<(), Failed>
-    ensures { Appends (W.stream writer.old) (encode_utf8_all (encoded Attribute (chars s.now))) result (W.stream writer.new) }
+    ensures { Appends (W.stream writer.old) (encode_utf8_all (encoded Attribute (chars s.now))) result
+        (W.stream writer.new) }
 {
     encode_to(Alphabet::Attribute, s, writer)
 }

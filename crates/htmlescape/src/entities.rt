@@ -274,7 +274,8 @@ pub const NAMED_ENTITIES: &'static [(&'static str, char)] = &[
     ("zwnj", '\u{200c}'),
 ];
 
-/// The names of `NAMED_ENTITIES` ascend strictly by their bytes, so that a binary search finds each, and none stands twice.
+/// The names of `NAMED_ENTITIES` ascend strictly by their bytes, so that a binary search finds each, and none stands
+/// twice.
 pub fn names_ascend()
     ensures { IsStrictlySortedBy (slice_cmp nat_cmp) names }
 {}

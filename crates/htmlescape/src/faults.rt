@@ -79,8 +79,8 @@ impl Eq for DecodeErrKind {
 /// A fault, and where it was met, in characters of the text from 0.
 ///
 /// `position` is the number of characters before the ampersand of the entity at fault. For a write fault it is the
-/// number before what was to be written; for a read fault, bytes that aren't UTF-8 and a text that is too long it is the
-/// number of characters read.
+/// number before what was to be written; for a read fault, bytes that aren't UTF-8 and a text that is too long it is
+/// the number of characters read.
 #[derive(Clone, Copy, Debug, PartialEq, Eq, Error)]
 #[error("{kind} at character {position}")]
 pub struct DecodeErr {

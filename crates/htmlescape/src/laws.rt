@@ -19,7 +19,8 @@ pub fn decoding_undoes_encoding()
 /// `encode_minimal` gives none of `<`, `>`, `"`, `'`.
 pub fn minimal_leaves_out_markup()
     ensures characters { (text : List ℕ) → list_all (λ c. not (is_markup c)) (encoded Minimal text) ≡ true }
-    ensures bytes { (text : List ℕ) → list_all (λ b. not (is_markup b)) (encode_utf8_all (encoded Minimal text)) ≡ true }
+    ensures bytes { (text : List ℕ)
+        → list_all (λ b. not (is_markup b)) (encode_utf8_all (encoded Minimal text)) ≡ true }
 {}
 
 /// `encode_attribute` gives no ASCII character but letters, digits, `&`, `#`, `;`.
@@ -31,13 +32,16 @@ pub fn attribute_is_harmless()
 /// A text stands for one text, or has one fault at one place, and not both.
 pub fn one_reading()
     ensures value { (text v w : List ℕ) → IsText text v → IsText text w → v ≡ w }
-    ensures apart { (text v w : List ℕ) (kind : DecodeErrKind) (position : ℕ) → IsText text v → HasFault text kind position w → ⊥ }
-    ensures fault { (text v w : List ℕ) (j k : DecodeErrKind) (p q : ℕ) → HasFault text j p v → HasFault text k q w → (j ≡ k) × (p ≡ q) × (v ≡ w) }
+    ensures apart { (text v w : List ℕ) (kind : DecodeErrKind) (position : ℕ) → IsText text v
+        → HasFault text kind position w → ⊥ }
+    ensures fault { (text v w : List ℕ) (j k : DecodeErrKind) (p q : ℕ) → HasFault text j p v → HasFault text k q w
+        → (j ≡ k) × (p ≡ q) × (v ≡ w) }
 {}
 
 /// On a text of fewer than 2^60 characters `decode_html_rw` answers and writes what `decode_html` does, where neither
 /// reader nor writer fails.
 pub fn decoders_agree()
-    ensures { (bytes : List ℕ) (one other : Result (Unit {0}) DecodeErr) (v w : List ℕ) → IsUtf8 bytes → length (chars bytes) < 2 ^ 60
+    ensures { (bytes : List ℕ) (one other : Result (Unit {0}) DecodeErr) (v w : List ℕ) → IsUtf8 bytes
+        → length (chars bytes) < 2 ^ 60
         → Answers (chars bytes) one v → Decodes (2 ^ 60) bytes other w → ¬ (IsIo other) → (one ≡ other) × (v ≡ w) }
 {}

@@ -9,16 +9,19 @@ use std::alloc::Global;
 pub struct Growing {
     bytes: Vec<u8>,
     faults: u64,
+    asked: u64,
 }
 
 impl Growing {
+    /// Nothing written yet.
     pub fn new(alloc: Global) -> Self
-        ensures made { ⟦<Growing as Sink>⟧.stream result ≡ record { bytes = Some []; faults = 0 } }
+        ensures made { ⟦<Growing as Sink>⟧.stream result ≡ record { bytes = Some []; faults = 0; asked = 0 } }
         ensures empty { result.bytes.items ≡ [] }
     {
         Growing {
             bytes: Vec::new(alloc),
             faults: 0,
+            asked: 0,
         }
     }
 
@@ -32,9 +35,10 @@ impl Growing {
 }
 
 impl Sink for Growing {
-    ghost stream = { λ s. record { bytes = Some s.bytes.items; faults = s.faults } };
+    ghost stream = { λ s. record { bytes = Some s.bytes.items; faults = s.faults; asked = s.asked } };
 
     fn put(&mut self, from: &[u8]) -> Result<usize, Failed> {
+        self.asked = self.asked.saturating_add(1);
         if self.bytes.extend_from_slice(from).is_err() {
             self.faults = self.faults.saturating_add(1);
             return Err(Failed);

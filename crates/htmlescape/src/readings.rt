@@ -8,7 +8,7 @@ use std::str;
 
 /// Gives the characters of some bytes, in order.
 pub trait Characters {
-    /// The bytes left, where they are told, and the count of faults.
+    /// The stream of the bytes that are left.
     ghost stream: { Self → Stream };
 
     /// The next one, or `None` at the end.
@@ -31,7 +31,7 @@ pub struct TextChars<'a> {
 }
 
 impl<'a> Characters for TextChars<'a> {
-    ghost stream = { λ s. record { bytes = Some s.left.rest.now; faults = 0 } };
+    ghost stream = { λ s. record { bytes = Some s.left.rest.now; faults = 0; asked = 0 } };
 
     fn read(&mut self) -> Option<Result<char, CharsError>> {
         match self.left.next() {

@@ -1,5 +1,5 @@
 use Rattle.std.proofs.Common.{refl}
-use Rattle.dav_host.proofs.Live.{live_kept}
+use Rattle.dav_host.proofs.LiveHandles.{live_kept}
 use Rattle.dav_host.proofs.opens.seek_at.Goals as goal
 
 pub returns-in-Some : goal.returns-in-Some

@@ -1,5 +1,5 @@
 use Rattle.std.proofs.Common.{sym, ◌∙◌, string_bytes}
-use Rattle.dav_host.proofs.Texts.{path_more, fits_more, too_long}
+use Rattle.dav_host.proofs.PathTexts.{path_more, fits_more, too_long}
 use Rattle.dav_host.proofs.paths.lay_path.Goals as goal
 
 pub returns-then-not-push_name-clause-fits : goal.returns-then-not-push_name-clause-fits

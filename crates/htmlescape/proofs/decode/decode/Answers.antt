@@ -1,5 +1,5 @@
 use Rattle.std.proofs.Common.{◌≡◌, refl, arith}
-use Rattle.htmlescape.proofs.Going.{going_on, writer_fails, fault_met, bytes_met, reader_fails, limit_met, input_ends}
+use Rattle.htmlescape.proofs.DecodeLoop.{going_on, writer_fails, fault_met, bytes_met, reader_fails, limit_met, input_ends}
 use Rattle.htmlescape.proofs.decode.decode.Goals as goal
 
 pub loop-count-preserved : goal.loop-count-preserved

@@ -1,4 +1,4 @@
-use Rattle.htmlescape.proofs.Going.{Going}
+use Rattle.htmlescape.proofs.DecodeLoop.{Going}
 use Rattle.htmlescape.proofs.decode.decode.Given as goal
 
 abbrev pub invariant-loop-count : goal.invariant-loop-count

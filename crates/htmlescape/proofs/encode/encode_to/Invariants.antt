@@ -1,5 +1,5 @@
 use Rattle.std.proofs.Common.{ℕ, ◌≤◌, List, length, Ok}
-use Rattle.htmlescape.specs.Writing.{Appends}
+use Rattle.dav_io.specs.Appending.{Appends}
 use Rattle.htmlescape.proofs.Encoding.{Left, bytes_for}
 use Rattle.htmlescape.proofs.encode.encode_to.Given as goal
 

@@ -1,4 +1,4 @@
-use Rattle.htmlescape.proofs.Written.{appends_last}
+use Rattle.dav_io.proofs.AppendingLemmas.{appends_last}
 use Rattle.htmlescape.proofs.encode.put_run.Goals as goal
 
 pub returns-in-Ok : goal.returns-in-Ok

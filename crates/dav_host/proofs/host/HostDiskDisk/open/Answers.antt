@@ -1,5 +1,5 @@
 use Rattle.std.proofs.Common.{rules}
-use Rattle.dav_host.proofs.Live.{live_put}
+use Rattle.dav_host.proofs.LiveHandles.{live_put}
 use Rattle.dav_host.proofs.host.HostDiskDisk.open.Goals as goal
 
 pub returns-in-Ok-insert-clause-done : goal.returns-in-Ok-insert-clause-done

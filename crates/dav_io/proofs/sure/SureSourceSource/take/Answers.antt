@@ -5,6 +5,7 @@ use Rattle.dav_io.proofs.sure.SureSourceSource.take.Goals as goal
 
 pub returns : goal.returns
 returns c = record {
+  asked = search rules;
   counts = search rules;
   failed = search rules;
   within = search rules;

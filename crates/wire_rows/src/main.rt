@@ -1,0 +1,88 @@
+//! Reads heads of requests, and writes heads and bodies of answers: a row a line on standard input, and an answer a line
+//! on standard output.
+//!
+//! A row is a word and cells, with a blank between them. In a cell each `%XX` is a byte, and `N*TEXT` is so many copies of
+//! a text.
+//!
+//!     input MOST CELL..                         the requests of the bytes, which come so many a call, and how they end
+//!     head STATUS ENDS FRAMING NAME:VALUE..     the head of an answer; ENDS is `closes` or `stays`
+//!     framing TAKES STATUS NAME:VALUE..         how the body of an answer is written; TAKES is `chunks` or `plain`
+//!     body FRAMING CELL..                       the bytes of a body of these pieces; FRAMING is `chunked` or `raw`
+//!     refusal                                   what answers a request that can't be read
+//!     #                                         is written as it stands
+#![tactic(auto)]
+
+mod cells;
+mod requests;
+
+use anyhow::Result;
+use cells::{bytes_of, fields_of, shown};
+use dav_io::MemSink;
+use dav_wire::{Framing, Output, answer_head, bad_request_text, framing};
+use requests::requests;
+use std::alloc::Global;
+
+// Room for what a row writes.
+const ROOM: usize = 100_000;
+
+fn framing_of(cell: &str) -> Framing {
+    if cell == "chunked" {
+        Framing::Chunked
+    } else {
+        Framing::Raw
+    }
+}
+
+fn head(alloc: Global, row: &str) -> Result<String> {
+    let mut cells = row.split(' ').skip(1);
+    let status = cells.next().unwrap_or("").parse::<u16>().unwrap_or(0);
+    let closing = cells.next().unwrap_or("") == "closes";
+    let way = framing_of(cells.next().unwrap_or(""));
+    let fields = fields_of(alloc, row, 4)?;
+    let text = answer_head(alloc, status, &fields, closing, way)?;
+    shown(alloc, text.as_slice())
+}
+
+fn way(alloc: Global, row: &str) -> Result<String> {
+    let mut cells = row.split(' ').skip(1);
+    let chunks = cells.next().unwrap_or("") == "chunks";
+    let status = cells.next().unwrap_or("").parse::<u16>().unwrap_or(0);
+    let fields = fields_of(alloc, row, 3)?;
+    let word = match framing(chunks, status, &fields) {
+        Framing::Chunked => "chunked",
+        Framing::Raw => "raw",
+    };
+    Ok(String::from_str(alloc, word)?)
+}
+
+fn body(alloc: Global, row: &str) -> Result<String> {
+    let way = framing_of(row.split(' ').nth(1).unwrap_or(""));
+    let mut output = Output::new(alloc)?;
+    let mut sink = MemSink::new(alloc, ROOM, 7, Vec::new(alloc))?;
+    for cell in row.split(' ').skip(2) {
+        let piece = bytes_of(alloc, cell)?;
+        output.push_piece(&mut sink, way, piece.as_slice())?;
+    }
+    output.push_end(&mut sink, way)?;
+    output.flush(&mut sink)?;
+    shown(alloc, sink.written())
+}
+
+fn answer(alloc: Global, row: &str) -> Result<String> {
+    match row.split(' ').next().unwrap_or("") {
+        "input" => requests(alloc, row),
+        "head" => head(alloc, row),
+        "framing" => way(alloc, row),
+        "body" => body(alloc, row),
+        "refusal" => shown(alloc, bad_request_text()),
+        _ => Ok(String::from_str(alloc, row)?),
+    }
+}
+
+fn main(rt: HostRuntime) -> Result<()> {
+    for line in rt.lines(rt.alloc()) {
+        let text = answer(rt.alloc(), line?.as_str())?;
+        println!(rt; "{text}")?;
+    }
+    Ok(())
+}
