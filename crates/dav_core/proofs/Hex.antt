@@ -100,18 +100,9 @@ found_more (Some front) text rest last n large small parts same e = more_digits 
 pub longer_otherwise : (text end : List ℕ) (b : ℕ) → EndsOtherwise text end → EndsOtherwise text (b ∷ end)
 longer_otherwise text end b never front e = never (front ++ (b ∷ [])) (e ∙ sym (append_assoc front (b ∷ []) end))
 
-pub dash_only : (text rest end : List ℕ) (b : ℕ) → text ≡ rest ++ end → length rest ≡ 0 → EndsOtherwise text (b ∷ end)
-dash_only text rest end b parts none front e =
-    let lengths = ap length (sym parts ∙ e) in
-    omega (arith, lengths, none, length-append rest end, length-append front (b ∷ end))
-
 pub other_dash : (text rest front end : List ℕ) (last b : ℕ) → text ≡ rest ++ end → rest ≡ front ++ (last ∷ []) → last ≢ b → EndsOtherwise text (b ∷ end)
 other_dash text rest front end last b parts snoc other f e =
     other (snoc_same front f last b (sym snoc ∙ append_cancel_right rest (f ++ (b ∷ [])) end (sym parts ∙ e ∙ sym (append_assoc f (b ∷ []) end)))).1
-
-pub dashed : (text rest front end : List ℕ) (last b : ℕ) → text ≡ rest ++ end → rest ≡ front ++ (last ∷ []) → last ≡ b → text ≡ front ++ (b ∷ end)
-dashed text rest front end last b parts snoc same =
-    parts ∙ ap (λ x. x ++ end) snoc ∙ append_assoc front (last ∷ []) end ∙ ap (λ d. front ++ (d ∷ end)) same
 
 -- what stands before an end decides a whole
 pub whole_by_front : (text front start end : List ℕ) → text ≡ front ++ end → ((text ≡ start ++ end) → front ≡ start) × ((front ≡ start) → text ≡ start ++ end)

@@ -11,3 +11,8 @@ pub mod Made
 pub mod TagMembers
 pub mod TagLaws
 pub mod IfRangeLaws
+pub mod TurnsLeaveOpens
+pub mod RefusedLemmas
+pub mod UnchangedLemmas
+pub mod TablesLemmas
+pub mod LookLemmas

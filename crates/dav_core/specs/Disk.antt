@@ -1,7 +1,7 @@
 -- What each call of a disk does, as a relation between the disk before and after it.
 use Rattle.std.specs.Prelude.{◌≡◌, ◌≤◌, ◌+◌, ◌&&◌, ℕ, List, [], length, take, drop, min, Bool, true, false, IsTrue, Option, None, Some, IsSome, Result, Ok, Err, IfOk, IfErr, OnErr, IsOk}
 use Rattle.std.specs.Result.{IsErrOf}
-use Rattle.std.specs.Option.{option_map}
+use Rattle.std.specs.Option.{option_map, is_some}
 use Rattle.dav_io.specs.Counts.{Rose, one_more}
 use Rattle.dav_io.specs.Told.{Both}
 use Rattle.dav_core.specs.declared.tree.Row.{Row}
@@ -34,11 +34,17 @@ pub record DiskState : Type 0 where
   -- the live listers, each with a bound on the names that it has still to give
   pub listers : ℕ → Option ℕ
 
+-- What is open in a told world is what is live.
+pub record TellsLive (s : DiskState) : Type 0 where
+  pub opens : (w : World) → s.told ≡ Some w → (h : ℕ) → is_some (w.opens h) ≡ is_some (s.live h)
+  pub listings : (w : World) → s.told ≡ Some w → (l : ℕ) → is_some (w.listings l) ≡ is_some (s.listers l)
+
 -- A call that is counted: a fault is answered only where one was met.
 pub record Asks {T : Type 0} (result : Result T DiskError) (old new : DiskState) : Type 0 where
   pub counts : old.faults ≤ new.faults
   pub rose : IsErrOf result Failed → Rose old.faults new.faults
   pub asked : new.asked ≡ one_more old.asked
+  pub more : old.asked ≤ new.asked
   pub whole : IsTrue old.whole → IsTrue new.whole
   pub listers : new.listers ≡ old.listers
 
@@ -47,16 +53,6 @@ abbrev pub Refused : {T : Type 0} → DiskError → Result T DiskError → Type 
 Refused Failed found = Unit {0}
 Refused NoMemory found = Unit {0}
 Refused e found = found ≡ Err e
-
--- a refusal that the tree calls for
-pub refused_of : {T : Type 0} (e : DiskError) (found : Result T DiskError) → found ≡ Err e → Refused e found
-refused_of NotFound found h = h
-refused_of Exists found h = h
-refused_of NotDir found h = h
-refused_of IsDir found h = h
-refused_of NotEmpty found h = h
-refused_of Failed found h = tt
-refused_of NoMemory found h = tt
 
 -- what stands at a path, as it is told
 pub record IsMetaOf (w : World) (row : Row) (meta : Meta) : Type 0 where

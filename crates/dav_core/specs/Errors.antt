@@ -1,4 +1,5 @@
 -- What a store answers where its disk refuses.
+use Rattle.std.specs.Prelude.{◌≡◌, ◌⊎◌}
 use Rattle.dav_core.specs.declared.error.FsError.{FsError}
 use Rattle.dav_core.specs.declared.error.FsError.TheVariants as fs
 use Rattle.dav_core.specs.declared.handle.DiskError.{DiskError}
@@ -12,3 +13,7 @@ fs_error_of Exists = fs.Exists
 fs_error_of NotEmpty = fs.Exists
 fs_error_of Failed = fs.GeneralFailure
 fs_error_of NoMemory = fs.NoMemory
+
+-- what a store refuses a look or an opening with, where nothing failed
+abbrev pub CouldRefuse : FsError → Type 0
+CouldRefuse e = (e ≡ fs.NotFound) ⊎ (e ≡ fs.Forbidden)

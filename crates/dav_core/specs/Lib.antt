@@ -6,7 +6,7 @@ pub mod Options
 pub mod Errors
 pub mod Disk
 pub mod Tables
-pub mod Keeps
+pub mod Unchanged
 pub mod DavPath
 pub mod Info
 pub mod Ends
@@ -18,3 +18,6 @@ pub mod Blanks
 pub mod Tags
 pub mod TagReading
 pub mod Commas
+pub mod InfoInYears
+pub mod TagBytes
+pub mod Untold

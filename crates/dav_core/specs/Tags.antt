@@ -17,12 +17,21 @@ abbrev pub weak_mark : Bool → List ℕ
 weak_mark true = codes "W/"
 weak_mark false = []
 
+-- The bytes of a text may stand between the quotes.
+abbrev pub IsTagText : List ℕ → Type 0
+IsTagText text = list_all is_tag_byte text ≡ true
+
+-- the text of a tag, where there is one, is such
+abbrev pub HasTagBytes : Option (List ℕ) → Type 0
+HasTagBytes None = Unit {0}
+HasTagBytes (Some text) = IsTagText text
+
 -- a tag as a field writes it
 abbrev pub spelled : ETag → List ℕ
 spelled tag = weak_mark tag.weak ++ (34 ∷ (tag.tag ++ 34 ∷ []))
 
 pub record IsTag (text : List ℕ) (tag : ETag) : Type 0 where
-  pub bytes : list_all is_tag_byte tag.tag ≡ true
+  pub bytes : IsTagText tag.tag
   pub same : text ≡ spelled tag
 
 -- A member of a list has spaces and tabs around it. It is a tag, or it is empty and says nothing.

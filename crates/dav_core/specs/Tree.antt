@@ -81,67 +81,10 @@ look_from tree at (name ∷ names) = below (row_at tree at) (look_from tree (at 
 abbrev pub look : List Row → Names → Result Row DiskError
 look tree path = look_from tree [] path
 
-standing_row : (o : Option Row) (row : Row) → standing o ≡ Ok row → o ≡ Some row
-standing_row None row e = cc
-standing_row (Some r) row e = cc
-
-below_kind_ok : (kind : Kind) (found : Result Row DiskError) (row : Row) → below_kind kind found ≡ Ok row → found ≡ Ok row
-below_kind_ok Dir found row e = e
-below_kind_ok File found row e = cc
-below_kind_ok Link found row e = cc
-
-below_ok : (o : Option Row) (found : Result Row DiskError) (row : Row) → below o found ≡ Ok row → found ≡ Ok row
-below_ok None found row e = cc
-below_ok (Some r) found row e = below_kind_ok r.kind found row e
-
-look_row : (tree : List Row) (at names : Names) (row : Row) → look_from tree at names ≡ Ok row → (path : Names) × (row_at tree path ≡ Some row)
-look_row tree at [] row e = (at, standing_row (row_at tree at) row e)
-look_row tree at (name ∷ names) row e = look_row tree (at ++ name ∷ []) names row (below_ok (row_at tree at) _ row e)
-
-chosen : (P : Row → Type 0) (b : Bool) (r row : Row) (o : Option Row) → P r → (o ≡ Some row → P row) → cond b (Some r) o ≡ Some row → P row
-chosen P true r row o p h e = let f : r ≡ row = cc in rw (← f) p
-chosen P false r row o p h e = h e
-
-row_all : (P : Row → Type 0) (tree : List Row) (path : Names) (row : Row) → AllByRecursion P tree → row_at tree path ≡ Some row → P row
-row_all P [] path row all e = cc
-row_all P (r ∷ tree) path row all e = chosen P (same_names path r.path) r row (row_at tree path) all.0 (row_all P tree path row all.1) e
-
--- what holds of each row holds of one that is found
-pub look_all : (P : Row → Type 0) (tree : List Row) (path : Names) (row : Row) → AllByRecursion P tree → look tree path ≡ Ok row → P row
-look_all P tree path row all e = let (at, found) = look_row tree [] path row e in row_all P tree at row all found
-
 -- a walk is refused for what stands in the tree
 abbrev pub IsTreeRefusal : DiskError → Type 0
 IsTreeRefusal e = (e ≡ NotFound) ⊎ (e ≡ NotDir)
 
-standing_err : (o : Option Row) (e : DiskError) → standing o ≡ Err e → IsTreeRefusal e
-standing_err None e h = inl (let f : NotFound ≡ e = cc in sym f)
-standing_err (Some r) e h = cc
-
-below_kind_err : (k : Kind) (found : Result Row DiskError) (e : DiskError) → (found ≡ Err e → IsTreeRefusal e) → below_kind k found ≡ Err e → IsTreeRefusal e
-below_kind_err Dir found e h f = h f
-below_kind_err File found e h f = inr (let g : NotDir ≡ e = cc in sym g)
-below_kind_err Link found e h f = inr (let g : NotDir ≡ e = cc in sym g)
-
-below_err : (o : Option Row) (found : Result Row DiskError) (e : DiskError) → (found ≡ Err e → IsTreeRefusal e) → below o found ≡ Err e → IsTreeRefusal e
-below_err None found e h f = inl (let g : NotFound ≡ e = cc in sym g)
-below_err (Some r) found e h f = below_kind_err r.kind found e h f
-
-look_from_err : (tree : List Row) (at names : Names) (e : DiskError) → look_from tree at names ≡ Err e → IsTreeRefusal e
-look_from_err tree at [] e h = standing_err (row_at tree at) e h
-look_from_err tree at (name ∷ names) e h = below_err (row_at tree at) _ e (look_from_err tree (at ++ name ∷ []) names e) h
-
-pub look_err : (tree : List Row) (path : Names) (e : DiskError) → look tree path ≡ Err e → IsTreeRefusal e
-look_err tree path e h = look_from_err tree [] path e h
-
 -- a row that is no link
 abbrev pub NoLink : Row → Type 0
 NoLink row = is_link row.kind ≡ false
-
-not_linked : (tree : List Row) (path : Names) (row : Row) → is_link row.kind ≡ false → is_linked tree path ≡ false → is_linked (row ∷ tree) path ≡ false
-not_linked tree path row e f = ap (λ b. b && is_front row.path path || is_linked tree path) e ∙ f
-
--- a tree without links has none on the way to a path
-pub never_linked : (tree : List Row) (path : Names) → AllByRecursion NoLink tree → is_linked tree path ≡ false
-never_linked [] path all = refl
-never_linked (row ∷ tree) path all = not_linked tree path row all.0 (never_linked tree path all.1)

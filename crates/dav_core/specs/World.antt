@@ -1,5 +1,5 @@
 -- All that a disk may tell of itself.
-use Rattle.std.specs.Prelude.{◌≡◌, ◌<◌, ◌==◌, ℕ, List, [], length, cond, true, Option, None, Some, slice_index_or}
+use Rattle.std.specs.Prelude.{◌≡◌, ◌<◌, ◌≤◌, ◌≤ℤ◌, ◌==◌, ℕ, List, All, [], length, cond, true, Option, None, Some, slice_index_or}
 use Rattle.std.specs.Option.{option_map}
 use Rattle.dav_core.specs.declared.tree.Row.{Row}
 use Rattle.dav_core.specs.declared.tree.Kind.TheVariants.{File}
@@ -52,8 +52,28 @@ time_of w number = option_map (λ s. s.time) (w.files number)
 abbrev pub number_of : World → ℕ → Option ℕ
 number_of w h = option_map (λ o. o.number) (w.opens h)
 
--- What holds of every world that is told: its rows are a tree, and each file of the tree is stored with its row's time.
+-- a time doesn't stand after another
+abbrev pub NotAfter : FileTime → FileTime → Type 0
+NotAfter a b = (a.secs ≤ℤ b.secs) × (a.secs ≡ b.secs → a.nanos ≤ b.nanos)
+
+-- a number and a time that a disk has given: none is above the greatest or after the latest
+pub record IsGiven (greatest : ℕ) (latest : FileTime) (number : ℕ) (time : FileTime) : Type 0 where
+  pub within : number ≤ greatest
+  pub nanos : time.nanos < 1000000000
+  pub past : NotAfter time latest
+
+-- The numbers and times of rows and of stored files are given ones, and the numbers of open files.
+pub record AreGiven (tree : List Row) (stored : ℕ → Option Stored) (open_at : ℕ → Option OpenFile) (greatest : ℕ) (latest : FileTime)
+    : Type 0 where
+  pub rows : All (λ row. IsGiven greatest latest row.number row.time) tree
+  pub files : (n : ℕ) (f : Stored) → stored n ≡ Some f → IsGiven greatest latest n f.time
+  pub opens : (h : ℕ) (o : OpenFile) → open_at h ≡ Some o → o.number ≤ greatest
+  pub nanos : latest.nanos < 1000000000
+
+-- What holds of every world that is told: its rows are a tree, each file of the tree is stored with its row's time, and
+-- the greatest number and the latest time bound all.
 pub record IsWorld (w : World) : Type 0 where
   pub tree : is_tree w.tree ≡ true
   pub stored : (k : ℕ) (d : Row) → k < length w.tree → (slice_index_or w.tree k d).kind ≡ File
       → time_of w (slice_index_or w.tree k d).number ≡ Some (slice_index_or w.tree k d).time
+  pub given : AreGiven w.tree w.files w.opens w.greatest w.latest

@@ -2,7 +2,7 @@ ghost use Rattle.std.specs.Prelude.{◌≡◌, ◌<◌, length, IsSome, Option, 
 ghost use Rattle.std.specs.Borrow.{GName};
 ghost use Rattle.dav_core.specs.World.{World, IsWorld};
 ghost use Rattle.dav_core.specs.Options.{reading};
-ghost use Rattle.dav_core.specs.Disk.{DiskState, Metas, FileMetas, Opens, Seeks, Reads, Closes, Turns};
+ghost use Rattle.dav_core.specs.Disk.{DiskState, TellsLive, Metas, FileMetas, Opens, Seeks, Reads, Closes, Turns};
 
 use crate::{DiskError, FsPath, Handle, Meta, OpenOptions};
 use dav_io::NoMemory;
@@ -61,6 +61,9 @@ pub trait Disk {
 
     /// What is told is a world.
     ghost world: { (d : Self) (w : World) → (state d).told ≡ Some w → IsWorld w };
+
+    /// What is open in it is what is live.
+    ghost tells_live: { (d : Self) → TellsLive (state d) };
 }
 
 impl<D: Disk> Disk for &mut D {
@@ -97,4 +100,6 @@ impl<D: Disk> Disk for &mut D {
     }
 
     ghost world = { λ d w e. D.world d.now w e };
+
+    ghost tells_live = { λ d. D.tells_live d.now };
 }

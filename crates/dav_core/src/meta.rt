@@ -1,7 +1,10 @@
 ghost use Rattle.std.specs.Prelude.{◌≡◌, ◌↔◌, Bool, IfOk, IsTrue, Some, codes};
 ghost use Rattle.dav_core.specs.DavPath.{is_in_home};
-ghost use Rattle.dav_core.specs.Info.{AreInYears, Info, said, info_of, info_in_years, known as the_known, whole_secs as the_whole_secs};
+ghost use Rattle.dav_core.specs.Info.{AreInYears, Info, said, info_of, known as the_known, whole_secs as the_whole_secs};
+ghost use Rattle.dav_core.specs.InfoInYears.{info_in_years};
 ghost use Rattle.dav_core.specs.Path.{Names};
+ghost use Rattle.dav_core.specs.TagBytes.{info_has_tag_bytes};
+ghost use Rattle.dav_core.specs.Tags.{HasTagBytes};
 ghost use Rattle.dav_core.specs.Tree.{is_dir as is_dir_kind, is_file as is_file_kind, is_link as is_link_kind};
 
 use crate::tag::{has_text, tag_text};
@@ -69,6 +72,9 @@ pub trait DavMetaData {
 
     /// A time before 1970 or after 9999 is unknown.
     ghost in_years: { (m : Self) → AreInYears (info m) };
+
+    /// The text of its entity tag has only bytes that may stand inside one: no control, no space, no quote.
+    ghost tag_bytes: { (m : Self) → HasTagBytes (info m).tag };
 }
 
 // A time that is known.
@@ -183,4 +189,6 @@ impl DavMetaData for Meta {
     }
 
     ghost in_years = { info_in_years };
+
+    ghost tag_bytes = { info_has_tag_bytes };
 }

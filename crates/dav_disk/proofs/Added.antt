@@ -13,10 +13,11 @@ use Rattle.dav_core.specs.Path.{Names, same_names, parent_of}
 use Rattle.dav_core.specs.Tree.{row_at, is_dir, is_dir_row, has_dir, is_placed, is_free, is_apart, is_tree}
 use Rattle.dav_core.specs.Changes.{is_free_in}
 use Rattle.dav_core.specs.World.{World, Stored, put}
-use Rattle.dav_core.specs.Keeps.{put_other, put_same}
+use Rattle.dav_core.proofs.UnchangedLemmas.{put_other, put_same}
 use Rattle.std.specs.BTreeMap.{BTreeMap, Updates}
 use Rattle.std.specs.Ordering.{nat_cmp}
-use Rattle.dav_core.specs.Tables.{at_key, updates_put, put_map}
+use Rattle.dav_core.specs.Tables.{at_key}
+use Rattle.dav_core.proofs.TablesLemmas.{updates_put, put_map}
 use Rattle.dav_disk.specs.declared.tables.StoredFile.{StoredFile}
 use Rattle.dav_disk.specs.Files.{IsStored, AreStored, stored_of, stored_at}
 use Rattle.dav_disk.specs.Rows.{is_new_number, can_add, can_be_set, with_file, later_of, second_past}

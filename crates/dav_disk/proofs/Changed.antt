@@ -11,9 +11,10 @@ use Rattle.dav_core.specs.declared.tree.Kind.TheVariants.{Dir, File, Link}
 use Rattle.dav_core.specs.declared.time.FileTime.{FileTime}
 use Rattle.dav_core.specs.declared.handle.DiskError.{DiskError}
 use Rattle.dav_core.specs.Path.{Names, same_names, parent_of, is_front}
-use Rattle.dav_core.specs.Tree.{row_at, is_dir, is_dir_row, has_dir, is_tree, is_apart, look, look_all}
+use Rattle.dav_core.specs.Tree.{row_at, is_dir, is_dir_row, has_dir, is_tree, is_apart, look}
+use Rattle.dav_core.proofs.LookLemmas.{look_all}
 use Rattle.dav_core.specs.World.{World, Stored, put}
-use Rattle.dav_core.specs.Keeps.{put_same, put_other}
+use Rattle.dav_core.proofs.UnchangedLemmas.{put_same, put_other}
 use Rattle.dav_core.specs.Changes.{tick, timed_row, touched_at, touched, then_touched, is_free_in, added_at, added, stored_in, made_or, dir_added, file_added, cut_at_time, cut_kind, cut_found, without, removed_found}
 use Rattle.dav_disk.specs.Files.{IsStored}
 use Rattle.dav_disk.proofs.Added.{tree_more, dir_more}

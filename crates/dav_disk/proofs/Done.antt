@@ -9,23 +9,26 @@ use Rattle.dav_core.specs.declared.handle.OpenOptions.{OpenOptions}
 use Rattle.dav_core.specs.declared.handle.DiskError.{DiskError}
 use Rattle.dav_core.specs.declared.handle.DiskError.TheVariants.{NotFound, Exists, NotDir, IsDir, NotEmpty, Failed, NoMemory}
 use Rattle.dav_core.specs.Path.{Names}
-use Rattle.dav_core.specs.Tree.{look, IsTreeRefusal, look_err}
+use Rattle.dav_core.specs.Tree.{look, IsTreeRefusal}
+use Rattle.dav_core.proofs.LookLemmas.{look_err}
 use Rattle.dav_core.specs.World.{World, put}
-use Rattle.dav_core.specs.Keeps.{put_same}
-use Rattle.dav_core.specs.Disk.{Live, Asks, Refused, refused_of, Metas, MayRefuseMeta, Opens, MayRefuseOpen}
+use Rattle.dav_core.proofs.UnchangedLemmas.{put_same}
+use Rattle.dav_core.specs.Disk.{Live, Asks, Refused, Metas, MayRefuseMeta, Opens, MayRefuseOpen}
+use Rattle.dav_core.proofs.RefusedLemmas.{refused_of}
 use Rattle.dav_disk.specs.Calls.{Known, state_of, FindsMeta, RefusesOpen, OpensAt}
 
 -- what a counted call makes of the counts, and of whether reads are whole
 pub record Counted (faults asked : ℕ) (whole : Bool) (met more : ℕ) (still : Bool) : Type 0 where
   pub rises : faults ≤ met
   pub counts : more ≡ one_more asked
+  pub goes : asked ≤ more
   pub keeps : IsTrue whole → IsTrue still
 
 asks_ok : {T : Type 0} (v : T) (k n : Known) (f a : ℕ) (x : Bool) (g b : ℕ) (y : Bool) → Counted f a x g b y → Asks {T = T} (Ok v) (state_of k f a x) (state_of n g b y)
-asks_ok v k n f a x g b y c = record { counts = c.rises; rose = λ h. cc; asked = c.counts; whole = c.keeps; listers = refl }
+asks_ok v k n f a x g b y c = record { counts = c.rises; rose = λ h. cc; asked = c.counts; more = c.goes; whole = c.keeps; listers = refl }
 
 asks_err : {T : Type 0} (e : DiskError) (k n : Known) (f a : ℕ) (x : Bool) (g b : ℕ) (y : Bool) → (e ≡ Failed → ⊥) → Counted f a x g b y → Asks {T = T} (Err e) (state_of k f a x) (state_of n g b y)
-asks_err e k n f a x g b y fine c = record { counts = c.rises; rose = λ h. absurd (fine (let same : e ≡ Failed = cc in same)); asked = c.counts; whole = c.keeps; listers = refl }
+asks_err e k n f a x g b y fine c = record { counts = c.rises; rose = λ h. absurd (fine (let same : e ≡ Failed = cc in same)); asked = c.counts; more = c.goes; whole = c.keeps; listers = refl }
 
 no_fault : (e : DiskError) → IsTreeRefusal e → e ≡ Failed → ⊥
 no_fault e (inl h) f = cc

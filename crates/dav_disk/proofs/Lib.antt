@@ -10,3 +10,4 @@ pub mod Copies
 pub mod Times
 pub mod Renames
 pub mod Turned
+pub mod GivenStay

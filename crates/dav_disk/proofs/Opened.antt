@@ -4,8 +4,8 @@ use Rattle.std.specs.Option.{option_map}
 use mathlib.Core.Path.{fun_ext}
 use Rattle.dav_core.specs.World.{World, OpenFile, put}
 use Rattle.dav_core.specs.Disk.{Live, with_opens}
-use Rattle.dav_core.specs.Tables.{put_map}
-use Rattle.dav_core.specs.Keeps.{equal_keys}
+use Rattle.dav_core.proofs.TablesLemmas.{put_map}
+use Rattle.dav_core.proofs.UnchangedLemmas.{equal_keys}
 use Rattle.dav_disk.specs.declared.tables.Opened.{Opened}
 use Rattle.dav_disk.specs.Files.{open_of, live_of}
 use Rattle.dav_disk.specs.Calls.{Known, with_place}
@@ -48,14 +48,6 @@ pub opened_put : (w : World) (old new : ℕ → Option Opened) (h : ℕ) (o : Op
 opened_put w old new h o e =
     ap (λ (t : ℕ → Option OpenFile). known w t (λ n. option_map live_of (new n))) (table_put open_of old new h (Some o) e)
     ∙ ap (λ (t : ℕ → Option Live). known w (put h (Some (open_of o)) (λ n. option_map open_of (old n))) t) (table_put live_of old new h (Some o) e)
-
--- a handle less
-pub closed_put : (w : World) (old new : ℕ → Option Opened) (h : ℕ) → new ≡ put h None old
-    → known w (λ n. option_map open_of (new n)) (λ n. option_map live_of (new n))
-    ≡ known w (put h None (λ n. option_map open_of (old n))) (put h None (λ n. option_map live_of (old n)))
-closed_put w old new h e =
-    ap (λ (t : ℕ → Option OpenFile). known w t (λ n. option_map live_of (new n))) (table_put open_of old new h None e)
-    ∙ ap (λ (t : ℕ → Option Live). known w (put h None (λ n. option_map open_of (old n))) t) (table_put live_of old new h None e)
 
 pub at_map : {Y : Type 0} (f : Opened → Y) (x : Option Opened) (o : Opened) → x ≡ Some o → option_map f x ≡ Some (f o)
 at_map f x o e = ap (option_map f) e

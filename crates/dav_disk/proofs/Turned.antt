@@ -6,7 +6,7 @@ use Rattle.std.proofs.lemmas.List.Elements.{All-from_recursion, recursion_from_A
 use Rattle.dav_core.specs.declared.tree.Row.{Row}
 use Rattle.dav_core.specs.declared.change.Change.{Change}
 use Rattle.dav_core.specs.Tree.{is_tree}
-use Rattle.dav_core.specs.World.{World}
+use Rattle.dav_core.specs.World.{World, AreGiven}
 use Rattle.dav_core.specs.Disk.{Live}
 use Rattle.dav_core.specs.Changes.{changed, all_changed, turned, turned_by}
 use Rattle.dav_disk.specs.Files.{IsStored, AreStored}
@@ -14,28 +14,27 @@ use Rattle.dav_disk.specs.Calls.{Known}
 use Rattle.dav_disk.proofs.Trees.{each_at, each_in}
 use Rattle.dav_disk.proofs.Changed.{Good}
 use Rattle.dav_disk.proofs.Moved.{changed_good}
+use Rattle.dav_disk.proofs.GivenStay.{bounded_of}
 
 pub good_all : (w : World) (changes : List Change) → Good w → Good (all_changed w changes)
 good_all w [] g = g
 good_all w (change ∷ changes) g = good_all (changed w change) changes (changed_good w change g)
 
-pub good_of : (w : World) → is_tree w.tree ≡ true → AreStored w.tree w.files → All (λ r. r.number ≤ w.greatest) w.tree → Good w
-good_of w tree stored numbers = record {
+pub good_of : (w : World) → is_tree w.tree ≡ true → AreStored w.tree w.files → AreGiven w.tree w.files w.opens w.greatest w.latest → Good w
+good_of w tree stored given = record {
   tree = tree;
   stored = λ r i. each_at (IsStored w.files) w.tree r (recursion_from_All (IsStored w.files) w.tree stored) i;
-  numbers = λ r i. each_at (λ r. r.number ≤ w.greatest) w.tree r (recursion_from_All (λ r. r.number ≤ w.greatest) w.tree numbers) i;
+  numbers = λ r i. ((bounded_of w given).rows r i).within;
 }
 
 pub record Kept (w : World) : Type 0 where
   pub tree : is_tree w.tree ≡ true
   pub stored : AreStored w.tree w.files
-  pub numbers : All (λ r. r.number ≤ w.greatest) w.tree
 
 pub kept_of : (v w : World) → v ≡ w → Good w → Kept v
 kept_of v w e g = rw e (record {
   tree = g.tree;
   stored = All-from_recursion (IsStored w.files) w.tree (each_in (IsStored w.files) w.tree g.stored);
-  numbers = All-from_recursion (λ r. r.number ≤ w.greatest) w.tree (each_in (λ r. r.number ≤ w.greatest) w.tree g.numbers);
 })
 
 turned_by_good : (w : World) (script : List (List Change)) → Good w → Good (turned_by w script)

@@ -28,8 +28,9 @@ fails_at d = d.faults.fail.items
 abbrev pub lens_left : MemDisk → List ℕ
 lens_left d = d.lens.items
 
--- The call fails exactly where its number is one of those that fail. Else it meets no fault.
+-- The call fails exactly where its number is one of those that fail. Then it meets one fault, and else none.
 pub record Follows {T : Type 0} (old : MemDisk) (result : Result T DiskError) (new : MemDisk) : Type 0 where
   pub fails : IsErrOf result Failed ↔ Contains (fails_at old) (one_more old.faults.asked)
+  pub once : IsErrOf result Failed → new.faults.met ≡ one_more old.faults.met
   pub quiet : (IsErrOf result Failed → ⊥) → new.faults.met ≡ old.faults.met
   pub stays : fails_at new ≡ fails_at old

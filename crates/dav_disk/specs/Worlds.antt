@@ -1,12 +1,32 @@
 -- What a disk in memory tells is a world.
-use Rattle.std.specs.Prelude.{◌≡◌, Some, true}
+use Rattle.std.specs.Prelude.{◌≡◌, ℕ, Bool, Option, None, Some, true, refl}
+use Rattle.std.proofs.Common.{ap, sym, ◌∙◌}
+use Rattle.std.specs.Option.{option_map, is_some}
 use Rattle.dav_core.specs.Tree.{is_tree}
-use Rattle.dav_core.specs.World.{World, IsWorld}
-use Rattle.dav_disk.specs.Files.{AreStored}
+use Rattle.dav_core.specs.World.{World, IsWorld, AreGiven}
+use Rattle.dav_core.specs.Disk.{TellsLive}
+use Rattle.dav_core.specs.Tables.{at_key}
+use Rattle.dav_disk.specs.Files.{AreStored, open_of, live_of, open_at, live_at}
+use Rattle.dav_disk.specs.Calls.{state_of}
+use Rattle.dav_disk.specs.Memory.{known_of}
+use Rattle.dav_disk.specs.declared.memory.Memory.{Memory}
+use Rattle.dav_disk.specs.declared.tables.Opened.{Opened}
 
-is_world : (v : World) → is_tree v.tree ≡ true → AreStored v.tree v.files → IsWorld v
-is_world v tree stored = record { tree = tree; stored = stored }
+is_world : (v : World) → is_tree v.tree ≡ true → AreStored v.tree v.files → AreGiven v.tree v.files v.opens v.greatest v.latest → IsWorld v
+is_world v tree stored given = record { tree = tree; stored = stored; given = given }
 
--- of a told world: its rows are a tree, and its files are stored
-pub told_world : (v w : World) → is_tree v.tree ≡ true → AreStored v.tree v.files → Some v ≡ Some w → IsWorld w
-told_world v w tree stored e = let same : v ≡ w = cc in rw (← same) (is_world v tree stored)
+-- of a told world: its rows are a tree, its files are stored, and its numbers and times are given ones
+pub told_world : (v w : World) → is_tree v.tree ≡ true → AreStored v.tree v.files → AreGiven v.tree v.files v.opens v.greatest v.latest → Some v ≡ Some w
+    → IsWorld w
+told_world v w tree stored given e = let same : v ≡ w = cc in rw (← same) (is_world v tree stored given)
+
+both_some : (o : Option Opened) → is_some (option_map open_of o) ≡ is_some (option_map live_of o)
+both_some None = refl
+both_some (Some o) = refl
+
+-- What is open in a told world is what is live.
+pub told_live : (m : Memory) (faults asked : ℕ) (whole : Bool) → TellsLive (state_of (known_of m) faults asked whole)
+told_live m faults asked whole = record {
+  opens = λ w e h. let same : (known_of m).world ≡ w = cc in rw (← same) (both_some (at_key m.opens h));
+  listings = λ w e l. let same : (known_of m).world ≡ w = cc in rw (← same) refl;
+}

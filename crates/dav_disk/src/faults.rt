@@ -15,9 +15,11 @@ impl Faults {
     pub fn next(&mut self) -> bool
         ensures fails { IsTrue result ↔ Contains self.old.fail.items (one_more self.old.asked) }
         ensures asked { self.new.asked ≡ one_more self.old.asked }
+        ensures more { self.old.asked ≤ self.new.asked }
         ensures fail { self.new.fail ≡ self.old.fail }
         ensures counts { self.old.met ≤ self.new.met }
         ensures rose { IsTrue result → Rose self.old.met self.new.met }
+        ensures once { IsTrue result → self.new.met ≡ one_more self.old.met }
         ensures same { result ≡ false → self.new.met ≡ self.old.met }
     {
         self.asked = self.asked.saturating_add(1);

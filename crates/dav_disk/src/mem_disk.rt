@@ -148,9 +148,9 @@ impl MemDisk {
 impl Disk for MemDisk {
     ghost use Rattle.dav_core.specs.Disk.{Metas, FileMetas, Opens, Seeks, Reads, Closes, Turns};
     ghost use Rattle.dav_core.specs.Options.{reading};
-    ghost use Rattle.dav_disk.specs.Failing.{mem_state, mem_world, Follows, fails_at, lens_left};
+    ghost use Rattle.dav_disk.specs.Failing.{mem_state, mem_world, Follows, fails_at, is_empty, lens_left};
     ghost use Rattle.dav_disk.specs.Files.{SaysNoMore};
-    ghost use Rattle.dav_disk.specs.Worlds.{told_world};
+    ghost use Rattle.dav_disk.specs.Worlds.{told_world, told_live};
 
     ghost state = { mem_state };
 
@@ -249,5 +249,7 @@ impl Disk for MemDisk {
         self.memory.turn()
     }
 
-    ghost world = { λ d w e. told_world (mem_world d) w d.memory.tree d.memory.stored e };
+    ghost world = { λ d w e. told_world (mem_world d) w d.memory.tree d.memory.stored d.memory.given e };
+
+    ghost tells_live = { λ d. told_live d.memory d.faults.met d.faults.asked (is_empty d.lens.items) };
 }

@@ -1,7 +1,7 @@
-ghost use Rattle.std.specs.Prelude.{◌≡◌, ◌≤◌, ◌<◌, ℕ, All, None, Some, Ok, Option, IfOk, OnOk, OnErr, IsSome, true, option_map};
+ghost use Rattle.std.specs.Prelude.{◌≡◌, ◌<◌, ℕ, None, Some, Ok, Option, IfOk, OnOk, OnErr, IsSome, true, option_map};
 ghost use Rattle.dav_core.specs.Tree.{is_tree, is_file};
-ghost use Rattle.dav_core.specs.World.{time_of};
-ghost use Rattle.dav_disk.specs.Files.{AreStored, SaysNoMore, stored_at};
+ghost use Rattle.dav_core.specs.World.{AreGiven, time_of};
+ghost use Rattle.dav_disk.specs.Files.{AreStored, SaysNoMore, open_at, stored_at};
 ghost use Rattle.dav_disk.specs.Rows.{root_row as the_root};
 
 use crate::drawn::Drawn;
@@ -26,7 +26,7 @@ pub struct Memory {
     script: Vec<Batch>,
     ghost tree: { is_tree rows.items ≡ true },
     ghost stored: { AreStored rows.items (stored_at files) },
-    ghost numbers: { All (λ row. row.number ≤ greatest) rows.items },
+    ghost given: { AreGiven rows.items (stored_at files) (open_at opens) greatest latest },
 }
 
 // The row of a root.

@@ -71,13 +71,20 @@ impl SureDisk {
     {
         self.asked
     }
+
+    /// How many faults were met: none.
+    pub fn faults(&self) -> u64
+        ensures { result ≡ (sure_state self.now).faults }
+    {
+        0
+    }
 }
 
 impl Disk for SureDisk {
     ghost use Rattle.dav_core.specs.Disk.{Metas, FileMetas};
     ghost use Rattle.dav_disk.specs.Files.{SaysNoMore};
     ghost use Rattle.dav_disk.specs.Sure.{sure_state, sure_world};
-    ghost use Rattle.dav_disk.specs.Worlds.{told_world};
+    ghost use Rattle.dav_disk.specs.Worlds.{told_world, told_live};
 
     ghost state = { sure_state };
 
@@ -129,5 +136,7 @@ impl Disk for SureDisk {
         self.memory.turn()
     }
 
-    ghost world = { λ d w e. told_world (sure_world d) w d.memory.tree d.memory.stored e };
+    ghost world = { λ d w e. told_world (sure_world d) w d.memory.tree d.memory.stored d.memory.given e };
+
+    ghost tells_live = { λ d. told_live d.memory 0 d.asked true };
 }

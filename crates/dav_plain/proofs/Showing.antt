@@ -2,7 +2,7 @@
 use Rattle.std.proofs.Common.{◌≡◌, ◌≤◌, ◌<◌, ℕ, suc, Bool, true, false, List, [], ◌∷◌, length, get_or, Option, None, Some, Result, Ok, Err, refl, sym, ap, subst, ◌∙◌, if◌then◌else◌, inl, inr, ◌⊎◌, arith}
 use Rattle.std.specs.List.{AllByRecursion}
 use Rattle.std.specs.Option.{option_map}
-use Rattle.dav_io.specs.Told.{told_after}
+use Rattle.dav_io.proofs.ToldLemmas.{told_after}
 use Rattle.dav_core.specs.declared.error.FsError.{FsError}
 use Rattle.dav_core.specs.declared.error.FsError.TheVariants.{Forbidden}
 use Rattle.dav_core.specs.declared.handle.DiskError.{DiskError}
@@ -17,10 +17,11 @@ use Rattle.dav_core.specs.DavPath.{WebPath}
 use Rattle.dav_core.specs.Disk.{DiskState, Live, Asks, MetaIn, IsMetaOf, Opens, OpenedIn, Refused, at_start, kind_at, kind_opened, with_opens}
 use Rattle.dav_core.specs.Errors.{fs_error_of}
 use Rattle.dav_core.specs.Info.{Info, info_of, known}
-use Rattle.dav_core.specs.Keeps.{put_same}
+use Rattle.dav_core.proofs.UnchangedLemmas.{put_same}
 use Rattle.dav_core.specs.Options.{reading}
 use Rattle.dav_core.specs.Path.{Names}
-use Rattle.dav_core.specs.Tree.{is_file, is_linked, look, look_all}
+use Rattle.dav_core.specs.Tree.{is_file, is_linked, look}
+use Rattle.dav_core.proofs.LookLemmas.{look_all}
 use Rattle.dav_core.specs.World.{World, IsWorld, OpenFile, bytes_of, time_of, put}
 use Rattle.dav_store.specs.Files.{Spoiled}
 use Rattle.dav_store.specs.Shows.{Shows, Looked, here, looks, looks_at_link, LooksThere, OpensThere, IsThere}

@@ -27,7 +27,8 @@ impl PlainFile {
 }
 
 impl<D: Disk> DavFile<D> for PlainFile {
-    ghost use Rattle.dav_plain.specs.Calls.{AsksMeta, AsksRead, AsksSeek, Writes, seen_by, plain_stays};
+    ghost use Rattle.dav_plain.specs.Calls.{AsksMeta, AsksRead, AsksSeek, Writes, seen_by};
+    ghost use Rattle.dav_plain.specs.PlainStays.{plain_stays};
 
     type Meta = PlainMeta;
 

@@ -1,6 +1,8 @@
 ghost use Rattle.std.specs.Prelude.{codes};
 ghost use Rattle.dav_core.specs.DavPath.{is_in_home};
-ghost use Rattle.dav_core.specs.Info.{info_of, info_in_years};
+ghost use Rattle.dav_core.specs.Info.{info_of};
+ghost use Rattle.dav_core.specs.InfoInYears.{info_in_years};
+ghost use Rattle.dav_core.specs.TagBytes.{info_has_tag_bytes};
 
 use dav_core::{DavMetaData, DavPath, FileTime, FsError, Meta};
 use dav_io::{NoMemory, Text};
@@ -70,4 +72,6 @@ impl DavMetaData for PlainMeta {
     }
 
     ghost in_years = { λ m. info_in_years m.0 };
+
+    ghost tag_bytes = { λ m. info_has_tag_bytes m.0 };
 }

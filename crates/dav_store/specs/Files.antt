@@ -1,13 +1,13 @@
 -- What the calls of an open file do, where it is told what it is.
 use Rattle.std.specs.Prelude.{◌≡◌, ◌≤◌, ◌<◌, ◌+◌, ◌&&◌, ◌⊎◌, ◌++◌, ◌-◌, ℕ, nat_le, List, [], length, take, drop, replicate, min, Bool, true, Option, None, Some, IfSome, Result, Ok, Err, IfOk, OnErr, if◌then◌else◌}
 use Rattle.std.specs.List.{list_all}
-use Rattle.dav_io.specs.Counts.{Rose}
+use Rattle.dav_io.specs.Counts.{Rose, one_more}
 use Rattle.dav_io.specs.Told.{Both}
 use Rattle.dav_core.specs.declared.error.FsError.{FsError}
 use Rattle.dav_core.specs.declared.error.FsError.TheVariants.{GeneralFailure, NoMemory}
 use Rattle.dav_core.specs.Disk.{DiskState, Live, can_read, kind_at}
 use Rattle.dav_core.specs.Info.{Info}
-use Rattle.dav_core.specs.Keeps.{Keeps, KeepsBut, SameOpen}
+use Rattle.dav_core.specs.Unchanged.{Keeps, KeepsBut, SameOpen}
 use Rattle.dav_store.specs.Frames.{KeepsOpenBut}
 use Rattle.dav_store.specs.Standing.{Seen, AgreesOpen}
 
@@ -28,9 +28,19 @@ IsFault s result t = (result ≡ Err GeneralFailure) × Rose s.faults t.faults
 abbrev pub Spoiled : {T : Type 0} → DiskState → Result T FsError → DiskState → Type 0
 Spoiled s result t = IsFault s result t ⊎ (result ≡ Err NoMemory)
 
+-- one call of the disk was asked
+abbrev pub AsksOnce : DiskState → DiskState → Type 0
+AsksOnce s t = t.asked ≡ one_more s.asked
+
+-- One call was asked; where memory was refused maybe none.
+abbrev pub AsksToGive : {A : Type 0} → Result A FsError → DiskState → DiskState → Type 0
+AsksToGive (Err NoMemory) s t = (t.asked ≡ s.asked) ⊎ AsksOnce s t
+AsksToGive result s t = AsksOnce s t
+
 -- The metadata of the file as it is now.
 pub record FileSays (s : DiskState) (h : ℕ) (seen : Option Seen) (result : Result Info FsError) (t : DiskState) (after : Option Seen) : Type 0 where
   pub keeps : Keeps s t
+  pub asked : AsksOnce s t
   pub same : after ≡ seen
   pub refused : OnErr result (IsFault s result t)
   pub kind : IfOk result (λ info. kind_at s h ≡ Some info.kind)
@@ -43,6 +53,7 @@ SeeksIn place (Err e) f g = g ≡ f
 
 pub record FileSeeks (s : DiskState) (h : ℕ) (seen : Option Seen) (place : ℕ) (result : Result ℕ FsError) (t : DiskState) (after : Option Seen) : Type 0 where
   pub keeps : KeepsBut h s t
+  pub asked : AsksOnce s t
   pub live : t.live h ≡ s.live h
   pub refused : can_read (s.live h) ≡ true → OnErr result (IsFault s result t)
   pub answer : IfOk result (λ n. n ≡ place)
@@ -64,6 +75,7 @@ ReadsIn whole buffer (Err e) f g = g ≡ f
 
 pub record FileReads (s : DiskState) (h : ℕ) (seen : Option Seen) (buffer : List ℕ) (result : Result ℕ FsError) (t : DiskState) (after : Option Seen) : Type 0 where
   pub keeps : KeepsBut h s t
+  pub asked : AsksOnce s t
   pub live : t.live h ≡ s.live h
   pub refused : can_read (s.live h) ≡ true → OnErr result (IsFault s result t)
   pub within : IfOk result (λ n. n ≤ length buffer)
@@ -78,6 +90,7 @@ GivesIn whole count (Err e) f g = g ≡ f
 
 pub record FileGives (s : DiskState) (h : ℕ) (seen : Option Seen) (count : ℕ) (result : Result (List ℕ) FsError) (t : DiskState) (after : Option Seen) : Type 0 where
   pub keeps : KeepsBut h s t
+  pub asked : AsksToGive result s t
   pub live : t.live h ≡ s.live h
   pub refused : can_read (s.live h) ≡ true → OnErr result (Spoiled s result t)
   pub within : IfOk result (λ bytes. length bytes ≤ count)
@@ -136,4 +149,5 @@ pub record FileWrites (s : DiskState) (h : ℕ) (seen : Option Seen) (from : Lis
 pub record FileCloses (s : DiskState) (h : ℕ) (t : DiskState) : Type 0 where
   pub keeps : KeepsBut h s t
   pub counts : t.faults ≡ s.faults
+  pub asked : t.asked ≡ s.asked
   pub live : t.live h ≡ None

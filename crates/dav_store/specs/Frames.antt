@@ -4,13 +4,14 @@ use Rattle.dav_io.specs.Told.{Both}
 use Rattle.dav_core.specs.declared.error.FsError.{FsError}
 use Rattle.dav_core.specs.declared.handle.OpenOptions.{OpenOptions}
 use Rattle.dav_core.specs.Disk.{DiskState, Live}
-use Rattle.dav_core.specs.Keeps.{Keeps, KeepsBut, SameOpen}
+use Rattle.dav_core.specs.Unchanged.{Keeps, KeepsBut, SameOpen}
 use Rattle.dav_core.specs.Options.{reading}
 use Rattle.dav_store.specs.Standing.{Seen}
 
 -- The same handles and listers are live, and every open file has its number and its place. What stands may differ.
 pub record KeepsOpen (s t : DiskState) : Type 0 where
   pub counts : s.faults ≤ t.faults
+  pub asked : s.asked ≤ t.asked
   pub whole : IsTrue s.whole → IsTrue t.whole
   pub listers : t.listers ≡ s.listers
   pub live : (h : ℕ) → t.live h ≡ s.live h
@@ -19,6 +20,7 @@ pub record KeepsOpen (s t : DiskState) : Type 0 where
 -- the same but for the handle `own`
 pub record KeepsOpenBut (own : ℕ) (s t : DiskState) : Type 0 where
   pub counts : s.faults ≤ t.faults
+  pub asked : s.asked ≤ t.asked
   pub whole : IsTrue s.whole → IsTrue t.whole
   pub listers : t.listers ≡ s.listers
   pub live : (h : ℕ) → h ≢ own → t.live h ≡ s.live h

@@ -6,7 +6,7 @@ use Rattle.dav_core.specs.declared.error.FsError.TheVariants.{NoMemory}
 use Rattle.dav_core.specs.declared.tree.Kind.{Kind}
 use Rattle.dav_core.specs.Disk.{DiskState, Live}
 use Rattle.dav_core.specs.Info.{Info}
-use Rattle.dav_core.specs.Keeps.{Keeps, SameOpen, SameBesidesOpens}
+use Rattle.dav_core.specs.Unchanged.{Keeps, SameOpen, SameBesidesOpens}
 use Rattle.dav_core.specs.World.{World}
 
 -- the names that a listing has to come stay
@@ -31,6 +31,7 @@ HasNone s (Some n) = s.listers n ≡ None
 -- Nothing changed but for the lister `own`, if there is one.
 pub record KeepsButLister (own : Option ℕ) (s t : DiskState) : Type 0 where
   pub counts : s.faults ≤ t.faults
+  pub asked : s.asked ≤ t.asked
   pub whole : IsTrue s.whole → IsTrue t.whole
   pub world : Both s.told t.told SameBesidesOpens
   pub live : (h : ℕ) → t.live h ≡ s.live h

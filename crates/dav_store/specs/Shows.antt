@@ -41,12 +41,6 @@ pub data Looked {S C F : Type 0} (view : View S C F) (s : S) (c : C) : S → Typ
   looks : (m n : S) (path : WebPath) (r : Result Info FsError) → Looked view s c m → view.looks m c path r n → Looked view s c n
   looks_at_link : (m n : S) (path : WebPath) (r : Result Info FsError) → Looked view s c m → view.looks_at_link m c path r n → Looked view s c n
 
--- Looks from here on lead further.
-pub looked_then : {S C F : Type 0} (view : View S C F) (s : S) (c : C) (m n : S) → Looked view s c m → Looked view m c n → Looked view s c n
-looked_then view s c m n first here = first
-looked_then view s c m n first (looks k l path r more look) = looks k l path r (looked_then view s c m k first more) look
-looked_then view s c m n first (looks_at_link k l path r more look) = looks_at_link k l path r (looked_then view s c m k first more) look
-
 -- The store shows this at a path, now and after looks: what a look finds there, and what is opened for reading, which may be
 -- refused where a look isn't.
 pub record Shows {S C F : Type 0} (view : View S C F) (s : S) (c : C) (path : WebPath) (looked opened : Result Standing FsError) : Type 0 where
@@ -55,13 +49,3 @@ pub record Shows {S C F : Type 0} (view : View S C F) (s : S) (c : C) (path : We
   -- no count of faults falls
   pub looks_counts : (m n : S) (r : Result Info FsError) → Looked view s c m → view.looks m c path r n → (view.state m).faults ≤ (view.state n).faults
   pub opens_counts : (m n : S) (o : Result F FsError) → Looked view s c m → view.opens m c path reading o n → (view.state m).faults ≤ (view.state n).faults
-
--- What is shown is shown after a look.
-pub shows_on : {S C F : Type 0} (view : View S C F) (s m : S) (c : C) (path : WebPath) (looked opened : Result Standing FsError)
-    → Shows view s c path looked opened → Looked view s c m → Shows view m c path looked opened
-shows_on view s m c path looked opened shows first = record {
-  looks_there = λ k n r more look. shows.looks_there k n r (looked_then view s c m k first more) look;
-  opens_there = λ k n o more opening. shows.opens_there k n o (looked_then view s c m k first more) opening;
-  looks_counts = λ k n r more look. shows.looks_counts k n r (looked_then view s c m k first more) look;
-  opens_counts = λ k n o more opening. shows.opens_counts k n o (looked_then view s c m k first more) opening;
-}

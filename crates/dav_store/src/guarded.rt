@@ -5,7 +5,7 @@ ghost use Rattle.dav_core.specs.declared.error.FsError.{FsError};
 ghost use Rattle.dav_core.specs.declared.handle.OpenOptions.{OpenOptions};
 ghost use Rattle.dav_core.specs.DavPath.{WebPath};
 ghost use Rattle.dav_core.specs.Info.{Info};
-ghost use Rattle.dav_core.specs.Keeps.{Keeps};
+ghost use Rattle.dav_core.specs.Unchanged.{Keeps};
 ghost use Rattle.dav_store.specs.Standing.{info_in};
 ghost use Rattle.dav_store.specs.Frames.{KeepsOpen, OpensOne};
 ghost use Rattle.dav_store.specs.Listings.{EndsList, GoesOn, HasLister, ListsOne, Nearer, left_of};

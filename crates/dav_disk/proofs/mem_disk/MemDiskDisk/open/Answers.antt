@@ -5,13 +5,14 @@ use Rattle.dav_disk.proofs.mem_disk.MemDiskDisk.open.Goals as goal
 
 pub returns-clause-done : goal.returns-clause-done
 returns-clause-done c = open_done (known_of c.args.self.now.memory) (known_of c.open.new.self) _ _ _ _ _ _ c.args.path.now c.args.how c.open.result
-    (record { rises = c.next.ensures.counts; counts = c.next.ensures.asked; keeps = λ whole. whole }) c.open.ensures
+    (record { rises = c.next.ensures.counts; counts = c.next.ensures.asked; goes = c.next.ensures.more; keeps = λ whole. whole }) c.open.ensures
 
 pub returns-clause-schedule : goal.returns-clause-schedule
 returns-clause-schedule c =
     let fine = opens_no_fault (known_of c.args.self.now.memory) (known_of c.open.new.self) c.args.path.now c.args.how c.open.result c.open.ensures in
     record {
       fails = (λ f. absurd (fine f), λ listed. absurd (not_scheduled c.next.result c.if-next.false c.next.ensures.fails listed));
+      once = λ f. absurd (fine f);
       quiet = λ f. c.next.ensures.same c.if-next.false;
       stays = search rules;
     }

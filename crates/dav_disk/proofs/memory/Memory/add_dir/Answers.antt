@@ -1,6 +1,8 @@
 use Rattle.std.proofs.Common.{refl}
 use Rattle.dav_disk.specs.Memory.{known_of}
-use Rattle.dav_disk.proofs.Added.{dir_set, numbers_more}
+use Rattle.dav_disk.proofs.Added.{addable, dir_set, row_of}
+use Rattle.dav_disk.proofs.GivenStay.{dir_given}
+use Rattle.dav_core.specs.declared.tree.Kind.TheVariants.{Dir}
 use Rattle.dav_disk.proofs.memory.Memory.add_dir.Goals as goal
 
 pub invariant_of-self-2 : goal.invariant_of-self-2
@@ -10,5 +12,7 @@ invariant_of-self-2 c =
     record {
       tree = t.0;
       stored = t.1;
-      numbers = numbers_more (known_of c.args.self.now).world _ (known_of c.args.self.now).world.tree c.push.new.self.items c.max-self.result c.args.self.now.numbers refl c.in_ok-push.ensures.items c.max-self.ensures;
+      given = dir_given (known_of c.args.self.now).world (row_of c.in_ok-try_clone.field-0 Dir c.args.number c.args.time) (known_of c.args.self.now).world.tree c.push.new.self.items
+          c.max-self.result c.later_of-latest.result c.second_past.result (addable (known_of c.args.self.now).world c.args.path.now c.args.number c.args.time c.requires).settable
+          c.args.self.now.given refl c.in_ok-push.ensures.items c.max-self.ensures c.later_of-latest.ensures c.second_past.ensures;
     }

@@ -1,6 +1,9 @@
+use Rattle.std.proofs.Common.{refl}
 use Rattle.dav_disk.specs.Memory.{known_of}
 use Rattle.dav_disk.specs.Files.{stored_at, live_at}
-use Rattle.dav_disk.proofs.Added.{file_set, files_put, file_known, numbers_more}
+use Rattle.dav_disk.proofs.Added.{addable, file_set, files_put, file_known, row_of}
+use Rattle.dav_disk.proofs.GivenStay.{file_given, unchanged_given, unchanged_stored}
+use Rattle.dav_core.specs.declared.tree.Kind.TheVariants.{File}
 use Rattle.dav_disk.proofs.memory.Memory.add_file.Goals as goal
 
 pub invariant_of-self-2 : goal.invariant_of-self-2
@@ -11,7 +14,10 @@ invariant_of-self-2 c =
     record {
       tree = t.0;
       stored = t.1;
-      numbers = numbers_more (known_of c.args.self.now).world _ c.reserve.new.self.items c.put_row.new.rows.items c.max-self.result c.args.self.now.numbers c.in_ok-reserve.ensures.items c.put_row.ensures c.max-self.ensures;
+      given = file_given (known_of c.args.self.now).world (row_of c.in_ok-try_clone.field-0 File c.args.number c.args.time) (record { bytes = c.args.bytes.now; time = c.args.time })
+          c.reserve.new.self.items c.put_row.new.rows.items (stored_at c.insert.new.self) c.max-self.result c.later_of-latest.result c.second_past.result
+          (addable (known_of c.args.self.now).world c.args.path.now c.args.number c.args.time c.requires).settable
+          c.args.self.now.given refl c.in_ok-reserve.ensures.items c.put_row.ensures files c.max-self.ensures c.later_of-latest.ensures c.second_past.ensures;
     }
 
 pub returns-clause-ok : goal.returns-clause-ok
@@ -20,3 +26,12 @@ returns-clause-ok c =
     file_known (known_of c.args.self.now).world (live_at c.args.self.now.opens) c.args.path.now c.in_ok-try_clone.field-0 c.args.number c.args.time c.args.bytes.now c.reserve.new.self.items c.put_row.new.rows.items
     (stored_at c.insert.new.self) c.max-self.result c.later_of-latest.result c.second_past.result c.in_ok-try_clone.ensures c.in_ok-reserve.ensures.items c.put_row.ensures files
     c.max-self.ensures c.later_of-latest.ensures c.second_past.ensures
+
+pub invariant_of-self-in-Break-branch-4 : goal.invariant_of-self-in-Break-branch-4
+invariant_of-self-in-Break-branch-4 c = record {
+  tree = rw c.in_ok-reserve.ensures.items c.args.self.now.tree;
+  stored = unchanged_stored c.args.self.now.rows.items c.args.self.now.files c.insert.new.self c.reserve.new.self.items c.args.self.now.stored
+      c.in_ok-reserve.ensures.items c.in_err-insert.ensures.err;
+  given = unchanged_given (known_of c.args.self.now).world c.args.self.now.files c.insert.new.self c.reserve.new.self.items c.args.self.now.given
+      c.in_ok-reserve.ensures.items c.in_err-insert.ensures.err;
+}

@@ -5,6 +5,7 @@ use Rattle.dav_disk.specs.Drawn.{drawn_in}
 use Rattle.dav_disk.specs.Files.{live_at}
 use Rattle.dav_disk.specs.Memory.{known_of}
 use Rattle.dav_disk.proofs.Turned.{turn_made, turned_good, good_of, kept_of, some_batch, knows}
+use Rattle.dav_disk.proofs.GivenStay.{turned_given}
 use Rattle.dav_disk.proofs.memory.Memory.turn.Goals as goal
 
 pub invariant_of-self-2 : goal.invariant_of-self-2
@@ -15,8 +16,8 @@ invariant_of-self-2 c =
     let some : 0 < length c.args.self.now.script.items = omega (arith, c.args.self.now.script.ok) in
     let made = turn_made old (drawn_in c.make.new.self w) (drawn_in c.in_ok-drawn.drawn w) c.deref.result.now c.remove.new.self.items c.as_slice.result.now c.index.result.now
     some c.index.ensures c.as_slice.ensures c.remove.ensures.items c.deref.ensures.value (c.in_ok-drawn.ensures w) (c.in_ok-make.ensures w) in
-    let kept = kept_of (drawn_in c.make.new.self w) (turned old) made (turned_good old (good_of old c.args.self.now.tree c.args.self.now.stored c.args.self.now.numbers)) in
-    record { tree = kept.tree; stored = kept.stored; numbers = kept.numbers }
+    let kept = kept_of (drawn_in c.make.new.self w) (turned old) made (turned_good old (good_of old c.args.self.now.tree c.args.self.now.stored c.args.self.now.given)) in
+    record { tree = kept.tree; stored = kept.stored; given = turned_given (drawn_in c.make.new.self w) old made c.args.self.now.given }
 
 pub returns-clause-ok : goal.returns-clause-ok
 returns-clause-ok c =

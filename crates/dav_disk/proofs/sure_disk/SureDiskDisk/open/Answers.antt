@@ -5,4 +5,4 @@ use Rattle.dav_disk.proofs.sure_disk.SureDiskDisk.open.Goals as goal
 
 pub returns-clause-done : goal.returns-clause-done
 returns-clause-done c = open_done (known_of c.args.self.now.memory) (known_of c.open.new.self) 0 c.args.self.now.asked true 0 _ true c.args.path.now c.args.how c.open.result
-    (record { rises = omega arith; counts = c.saturating_add-self.ensures; keeps = λ whole. whole }) c.open.ensures
+    (record { rises = omega arith; counts = c.saturating_add-self.ensures; goes = omega arith; keeps = λ whole. whole }) c.open.ensures

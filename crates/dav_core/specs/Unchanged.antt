@@ -1,0 +1,45 @@
+-- What the calls that write nothing keep: the worlds but for the open files, and every live handle but one's own.
+use Rattle.std.specs.Prelude.{◌≡◌, ◌≢◌, ◌≤◌, ◌+◌, ◌==◌, ℕ, List, Bool, true, false, IsTrue, Option, None, Some, Result, Ok, Err}
+use Rattle.std.proofs.Common.{refl, sym, ap, ◌∙◌, arith}
+use Rattle.std.proofs.lemmas.Bool.Decides.{nat_tests}
+use Rattle.dav_io.specs.Told.{Both}
+use Rattle.dav_io.proofs.ToldLemmas.{both_then, both_map, both_same}
+use Rattle.dav_core.specs.declared.handle.Meta.{Meta}
+use Rattle.dav_core.specs.declared.handle.Handle.{Handle}
+use Rattle.dav_core.specs.declared.handle.OpenOptions.{OpenOptions}
+use Rattle.dav_core.specs.declared.handle.DiskError.{DiskError}
+use Rattle.dav_core.specs.Path.{Names}
+use Rattle.dav_core.specs.World.{World, OpenFile, put}
+use Rattle.dav_core.specs.Disk.{Live, DiskState, Metas, FileMetas, Opens, OpenedIn, kind_opened, Seeks, SoughtIn, Reads, ReadIn, placed, Closes, ClosedIn}
+
+-- The same but for which files and listings are open.
+pub record SameBesidesOpens (v w : World) : Type 0 where
+  pub tree : w.tree ≡ v.tree
+  pub files : w.files ≡ v.files
+  pub greatest : w.greatest ≡ v.greatest
+  pub latest : w.latest ≡ v.latest
+  pub script : w.script ≡ v.script
+
+-- what a handle has open stays, number and place
+abbrev pub SameOpen : ℕ → World → World → Type 0
+SameOpen h v w = w.opens h ≡ v.opens h
+
+-- Nothing changed but for the handle `own`.
+pub record KeepsBut (own : ℕ) (s t : DiskState) : Type 0 where
+  pub counts : s.faults ≤ t.faults
+  pub asked : s.asked ≤ t.asked
+  pub whole : IsTrue s.whole → IsTrue t.whole
+  pub listers : t.listers ≡ s.listers
+  pub world : Both s.told t.told SameBesidesOpens
+  pub live : (h : ℕ) → h ≢ own → t.live h ≡ s.live h
+  pub opens : (h : ℕ) (l : Live) → h ≢ own → s.live h ≡ Some l → Both s.told t.told (SameOpen h)
+
+-- Nothing changed.
+pub record Keeps (s t : DiskState) : Type 0 where
+  pub counts : s.faults ≤ t.faults
+  pub asked : s.asked ≤ t.asked
+  pub whole : IsTrue s.whole → IsTrue t.whole
+  pub listers : t.listers ≡ s.listers
+  pub world : Both s.told t.told SameBesidesOpens
+  pub live : (h : ℕ) → t.live h ≡ s.live h
+  pub opens : (h : ℕ) (l : Live) → s.live h ≡ Some l → Both s.told t.told (SameOpen h)
