@@ -22,6 +22,7 @@ pub struct Attached<'a, S, X> {
 }
 
 impl<'a, S, X> Attached<'a, S, X> {
+    /// Both are lent for as long as it lives.
     pub fn new(alloc: Global, body: &'a mut Body<S>, with: &'a mut X) -> Self
         ensures body { result.body.now ≡ body.old }
         ensures with { result.with.now ≡ with.old }
@@ -47,16 +48,20 @@ where
     /// The next piece as a data frame. It is never pending.
     fn poll_frame(&mut self, cx: &mut Context<'_>) -> Poll<Option<Result<Frame<Bytes>, S::Error>>>
         requires { MayPoll S.may_resume self.old.body.now.inner self.old.with.now }
-        ensures value { IfReady result (Framed (MayGive (BodyGives S.gives S.ends_at) self.old.body.now.inner self.old.with.now) []) }
-        ensures rest { IfReady result (λ o. IfSome o (λ x. After (Framed (MayGive (BodyGives S.gives S.ends_at) self.old.body.now.inner self.old.with.now)) x
+        ensures value { IfReady result
+            (Framed (MayGive (BodyGives S.gives S.ends_at) self.old.body.now.inner self.old.with.now) []) }
+        ensures rest { IfReady result (λ o. IfSome o (λ x. After
+            (Framed (MayGive (BodyGives S.gives S.ends_at) self.old.body.now.inner self.old.with.now)) x
             (Framed (MayGive (BodyGives S.gives S.ends_at) self.new.body.now.inner self.new.with.now)))) }
         ensures goes { IfReady result (λ o. OnSome o (MayPoll S.may_resume self.new.body.now.inner self.new.with.now)) }
         ensures again { OnPending result (MayPoll S.may_resume self.new.body.now.inner self.new.with.now) }
-        ensures same { OnPending result (Within (Framed (MayGive (BodyGives S.gives S.ends_at) self.old.body.now.inner self.old.with.now))
+        ensures same { OnPending result (Within
+            (Framed (MayGive (BodyGives S.gives S.ends_at) self.old.body.now.inner self.old.with.now))
             (Framed (MayGive (BodyGives S.gives S.ends_at) self.new.body.now.inner self.new.with.now))) }
         ensures registered { OnPending result (Covers cx.new (λ _. ⊥)) }
         ensures kept { Keeps cx.old cx.new }
-        ensures gives { IsReady result (FrameGives (BodyGives S.gives S.ends_at) self.old.body.now.inner self.old.with.now self.new.body.now.inner self.new.with.now) }
+        ensures gives { IsReady result (FrameGives (BodyGives S.gives S.ends_at)
+            self.old.body.now.inner self.old.with.now self.new.body.now.inner self.new.with.now) }
         ensures may { MayPoll S.may_resume self.new.body.now.inner self.new.with.now }
         ensures same_body { self.new.body.ghost_name ≡ self.old.body.ghost_name }
         ensures same_with { self.new.with.ghost_name ≡ self.old.with.ghost_name }

@@ -81,12 +81,16 @@ impl<S> Body<S> {
     where
         S: Steps<X, Item = Bytes>,
         requires { MayPoll S.may_resume self.old.inner with.old }
-        ensures gives { IsReady result (λ told. BodyGives S.gives S.ends_at self.old.inner with.old told self.new.inner with.new) }
-        ensures tells { IsReady result (λ told. IsNext S.ends_at (body_tells S.tells self.old.inner with.old) told (body_tells S.tells self.new.inner with.new)) }
+        ensures gives { IsReady result (λ told. BodyGives S.gives S.ends_at
+            self.old.inner with.old told self.new.inner with.new) }
+        ensures tells { IsReady result (λ told. IsNext S.ends_at
+            (body_tells S.tells self.old.inner with.old) told (body_tells S.tells self.new.inner with.new)) }
         ensures may { MayPoll S.may_resume self.new.inner with.new }
-        ensures fewer { IsReady result (λ told. IfItem told (body_most S.most self.new.inner < body_most S.most self.old.inner)) }
+        ensures fewer { IsReady result (λ told. IfItem told
+            (body_most S.most self.new.inner < body_most S.most self.old.inner)) }
         ensures no_more { body_most S.most self.new.inner ≤ body_most S.most self.old.inner }
-        ensures same { IsReady result (λ told. IfGoesOn S.ends_at told (body_most S.most self.new.inner ≡ body_most S.most self.old.inner)) }
+        ensures same { IsReady result (λ told. IfGoesOn S.ends_at told
+            (body_most S.most self.new.inner ≡ body_most S.most self.old.inner)) }
     {
         match &mut self.inner {
             BodyType::Bytes(bytes) => match bytes.take() {

@@ -47,6 +47,7 @@ pub struct SenderFuture {
 }
 
 impl SenderFuture {
+    /// Pending at the first call, and ready at each later one.
     pub fn poll(&mut self) -> Poll<()>
         ensures ready { result ≡ if self.old.sent then Poll.Ready tt else Poll.Pending }
         ensures sent { self.new.sent ≡ true }

@@ -37,7 +37,8 @@ pub trait Steps<X> {
         requires may { may_resume self.old with.old }
         requires empty { tx.old.slot ≡ None }
         ensures gives { gives self.old with.old (told_of tx.new.slot result) self.new with.new }
-        ensures tells { IsNext ends_at (tells self.old with.old) (told_of tx.new.slot result) (tells self.new with.new) }
+        ensures tells { IsNext ends_at
+            (tells self.old with.old) (told_of tx.new.slot result) (tells self.new with.new) }
         ensures full { OnPending result (IsSome tx.new.slot) }
         ensures may { may_resume self.new with.new }
         ensures fewer { IfItem (told_of tx.new.slot result) (most self.new < most self.old) }

@@ -14,6 +14,7 @@ pub struct AsyncStream<S> {
 }
 
 impl<S> AsyncStream<S> {
+    /// A stream that hasn't ended, over steps that may have been made already.
     pub fn new(steps: S) -> Self
         ensures { result ≡ record { steps = steps; ended = false } }
     {
@@ -33,12 +34,15 @@ impl<S> AsyncStream<S> {
     where
         S: Steps<X>,
         requires { S.may_resume self.old.steps with.old }
-        ensures gives { IsReady result (λ told. StreamGives S.gives S.ends_at self.old with.old told self.new with.new) }
-        ensures tells { IsReady result (λ told. IsNext S.ends_at (stream_tells S.tells self.old with.old) told (stream_tells S.tells self.new with.new)) }
+        ensures gives { IsReady result (λ told. StreamGives S.gives S.ends_at
+            self.old with.old told self.new with.new) }
+        ensures tells { IsReady result (λ told. IsNext S.ends_at
+            (stream_tells S.tells self.old with.old) told (stream_tells S.tells self.new with.new)) }
         ensures may { S.may_resume self.new.steps with.new }
         ensures fewer { IsReady result (λ told. IfItem told (S.most self.new.steps < S.most self.old.steps)) }
         ensures no_more { S.most self.new.steps ≤ S.most self.old.steps }
-        ensures same { IsReady result (λ told. IfGoesOn S.ends_at told (S.most self.new.steps ≡ S.most self.old.steps)) }
+        ensures same { IsReady result (λ told. IfGoesOn S.ends_at told
+            (S.most self.new.steps ≡ S.most self.old.steps)) }
     {
         if self.ended {
             return Poll::Ready(None);

@@ -22,6 +22,7 @@ pub struct StreamBody<B> {
 }
 
 impl<B> StreamBody<B> {
+    /// A body of what a reader has still to give.
     pub fn new(body: B) -> Self
         ensures { result ≡ record { body = body; ended = false } }
     {
@@ -40,7 +41,8 @@ impl<B> StreamBody<B> {
     fn next(&mut self) -> Option<Result<Bytes, Failed>>
     where
         B: BodyReader,
-        ensures gives { ReadsUntil (B.state self.old.body, self.old.ended) tt result (B.state self.new.body, self.new.ended) tt }
+        ensures gives { ReadsUntil (B.state self.old.body, self.old.ended) tt result
+            (B.state self.new.body, self.new.ended) tt }
         ensures loan { B.loan self.new.body ≡ B.loan self.old.body }
     {
         if self.ended {
@@ -70,13 +72,15 @@ impl<B: BodyReader + Drop> Body for StreamBody<B> {
     /// The next piece as a data frame. It is never pending.
     fn poll_frame(&mut self, cx: &mut Context<'_>) -> Poll<Option<Result<Frame<Bytes>, Failed>>>
         ensures value { IfReady result (Framed (MayGive ReadsUntil (B.state self.old.body, self.old.ended) tt) []) }
-        ensures rest { IfReady result (λ o. IfSome o (λ x. After (Framed (MayGive ReadsUntil (B.state self.old.body, self.old.ended) tt)) x
+        ensures rest { IfReady result (λ o. IfSome o (λ x. After
+            (Framed (MayGive ReadsUntil (B.state self.old.body, self.old.ended) tt)) x
             (Framed (MayGive ReadsUntil (B.state self.new.body, self.new.ended) tt)))) }
         ensures same { OnPending result (Within (Framed (MayGive ReadsUntil (B.state self.old.body, self.old.ended) tt))
             (Framed (MayGive ReadsUntil (B.state self.new.body, self.new.ended) tt))) }
         ensures registered { OnPending result (Covers cx.new (λ _. ⊥)) }
         ensures kept { Keeps cx.old cx.new }
-        ensures gives { IsReady result (FrameGives ReadsUntil (B.state self.old.body, self.old.ended) tt (B.state self.new.body, self.new.ended) tt) }
+        ensures gives { IsReady result (FrameGives ReadsUntil
+            (B.state self.old.body, self.old.ended) tt (B.state self.new.body, self.new.ended) tt) }
         ensures loan { B.loan self.new.body ≡ B.loan self.old.body }
     {
         let _ = cx;

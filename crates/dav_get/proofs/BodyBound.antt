@@ -1,5 +1,5 @@
 -- A step leaves no more than there was, and a piece leaves less.
-use Rattle.std.proofs.Common.{◌≡◌, ◌≤◌, ◌<◌, ◌+◌, ◌-◌, ◌==◌, ℕ, List, [], ◌∷◌, length, cond, Bool, true, false, Option, None, Some, Result, Ok, Err, refl, sym, ◌∙◌, ap, inl, inr, arith}
+use Rattle.std.proofs.Common.{◌≡◌, ◌≤◌, ◌<◌, ◌+◌, ◌-◌, ◌==◌, ℕ, List, [], ◌∷◌, length, cond, Bool, true, false, Option, None, Some, Result, Ok, Err, refl, ap, inl, inr, arith}
 use Rattle.dav_io.specs.Counts.{Rose}
 use Rattle.dav_core.specs.Disk.{DiskState}
 use Rattle.dav_body.specs.declared.fault.BodyFault.{BodyFault}
@@ -11,9 +11,8 @@ use Rattle.dav_model.specs.declared.answer.Answer.TheVariants.{Piece, End, Broke
 use Rattle.dav_store.specs.Standing.{Seen}
 use Rattle.dav_get.specs.declared.part.BodyPart.{BodyPart}
 use Rattle.dav_get.specs.declared.part.BodyPart.TheVariants.{Text, Slice as SliceOf}
-use Rattle.dav_get.specs.declared.open_at.OpenAt.{OpenAt}
 use Rattle.dav_get.specs.declared.body.GetBody.{GetBody}
-use Rattle.dav_get.specs.Bodies.{left_of, IsHeld, passed, Takes, Polls, IsPolled, SameLeft}
+use Rattle.dav_get.specs.Bodies.{left_of, IsHeld, passed, Takes}
 use Rattle.dav_get.specs.BodySteps.{StepGives, Takes as StepTakes, size, most_of, ends_of}
 use Rattle.dav_get.proofs.BodyRight.{polls_right}
 
@@ -23,30 +22,30 @@ passed_size true slice n parts e some within = omega arith
 passed_size false slice n parts e some within = omega arith
 
 module _ {F : Type 0} (handle : F → ℕ) (seen : F → DiskState → Option Seen) where
-  piece_less : (s : DiskState) (file : Option (OpenAt F)) (most : ℕ) (cause : Type 0) (left : List BodyPart) (piece : List ℕ) (rest : List BodyPart)
-      → Takes seen s file most cause left (Piece piece) rest → size rest < size left
-  piece_less s file most cause [] piece rest (is, none) = cc
-  piece_less s file most cause (Text bytes ∷ parts) piece rest (is, left) = rw left (omega arith)
-  piece_less s file most cause (SliceOf slice ∷ parts) piece rest (inl (p, is, are, some, within, left)) = rw left (passed_size _ slice (length p) parts refl some within)
-  piece_less s file most cause (SliceOf slice ∷ parts) piece rest (inr (is, none, rose)) = cc
+  piece_less : (s : DiskState) (b : GetBody F) (cause : Type 0) (left : List BodyPart) (piece : List ℕ) (rest : List BodyPart)
+      → Takes seen s b cause left (Piece piece) rest → size rest < size left
+  piece_less s b cause [] piece rest (is, none) = cc
+  piece_less s b cause (Text bytes ∷ parts) piece rest (is, left) = rw left (omega arith)
+  piece_less s b cause (SliceOf slice ∷ parts) piece rest (inl (p, is, are, some, within, left)) = rw left (passed_size _ slice (length p) parts refl some within)
+  piece_less s b cause (SliceOf slice ∷ parts) piece rest (inr (is, none, rose)) = cc
 
-  never_more : (s : DiskState) (file : Option (OpenAt F)) (most : ℕ) (cause : Type 0) (left : List BodyPart) (answer : Answer) (rest : List BodyPart)
-      → Takes seen s file most cause left answer rest → size rest ≤ size left
-  never_more s file most cause [] answer rest (is, none) = rw none (omega arith)
-  never_more s file most cause (Text bytes ∷ parts) answer rest (is, left) = rw left (omega arith)
-  never_more s file most cause (SliceOf slice ∷ parts) answer rest (inl (p, is, are, some, within, left)) =
+  never_more : (s : DiskState) (b : GetBody F) (cause : Type 0) (left : List BodyPart) (answer : Answer) (rest : List BodyPart)
+      → Takes seen s b cause left answer rest → size rest ≤ size left
+  never_more s b cause [] answer rest (is, none) = rw none (omega arith)
+  never_more s b cause (Text bytes ∷ parts) answer rest (is, left) = rw left (omega arith)
+  never_more s b cause (SliceOf slice ∷ parts) answer rest (inl (p, is, are, some, within, left)) =
       let less : size (passed slice (length p) parts) < slice.count + size parts = passed_size _ slice (length p) parts refl some within in rw left (omega arith)
-  never_more s file most cause (SliceOf slice ∷ parts) answer rest (inr (is, none, rose)) = rw none (omega arith)
+  never_more s b cause (SliceOf slice ∷ parts) answer rest (inr (is, none, rose)) = rw none (omega arith)
 
   pub step_fewer : (s t : DiskState) (b c : GetBody F) (told : Option (Result (List ℕ) BodyFault)) → StepTakes handle seen s b told t c → IfItem told (most_of c < most_of b)
   step_fewer s t b c None takes = tt
-  step_fewer s t b c (Some (Ok bytes)) takes = piece_less s b.file b.most (Rose s.faults t.faults) (left_of b) bytes (left_of c) takes.takes
+  step_fewer s t b c (Some (Ok bytes)) takes = piece_less s b (Rose s.faults t.faults) (left_of b) bytes (left_of c) takes.takes
   step_fewer s t b c (Some (Err fault)) takes = tt
 
   pub step_no_more : (s t : DiskState) (b c : GetBody F) (told : Option (Result (List ℕ) BodyFault)) → StepTakes handle seen s b told t c → most_of c ≤ most_of b
-  step_no_more s t b c None takes = never_more s b.file b.most (Rose s.faults t.faults) (left_of b) End (left_of c) takes.takes
-  step_no_more s t b c (Some (Ok bytes)) takes = never_more s b.file b.most (Rose s.faults t.faults) (left_of b) (Piece bytes) (left_of c) takes.takes
-  step_no_more s t b c (Some (Err BodyBroken)) takes = never_more s b.file b.most (Rose s.faults t.faults) (left_of b) Broken (left_of c) takes.takes
+  step_no_more s t b c None takes = never_more s b (Rose s.faults t.faults) (left_of b) End (left_of c) takes.takes
+  step_no_more s t b c (Some (Ok bytes)) takes = never_more s b (Rose s.faults t.faults) (left_of b) (Piece bytes) (left_of c) takes.takes
+  step_no_more s t b c (Some (Err BodyBroken)) takes = never_more s b (Rose s.faults t.faults) (left_of b) Broken (left_of c) takes.takes
   step_no_more s t b c (Some (Err NoMemory)) takes = rw takes.left (omega arith)
 
   pub step_same : (s t : DiskState) (b c : GetBody F) (told : Option (Result (List ℕ) BodyFault)) → StepTakes handle seen s b told t c → IfGoesOn ends_of told (most_of c ≡ most_of b)

@@ -1,5 +1,5 @@
 -- A body at its end stays there.
-use Rattle.std.proofs.Common.{◌≡◌, ℕ, List, [], ◌∷◌, Bool, true, false, Option, None, Some, refl, sym, ◌∙◌, ◌⊎◌, inl, inr}
+use Rattle.std.proofs.Common.{◌≡◌, ℕ, List, [], ◌∷◌, false, Option, None, Some, sym, ◌∙◌, ◌⊎◌, inl, inr}
 use Rattle.std.specs.Prelude.{is_some}
 use Rattle.dav_core.specs.Disk.{DiskState}
 use Rattle.dav_model.specs.declared.answer.Answer.{Answer}
@@ -12,14 +12,14 @@ use Rattle.dav_get.specs.declared.body.GetBody.{GetBody}
 use Rattle.dav_get.specs.Bodies.{left_of, Takes, TouchesOwn, Polls}
 
 module _ {F : Type 0} (handle : F → ℕ) (seen : F → DiskState → Option Seen) where
-  over_after : (s : DiskState) (file : Option (OpenAt F)) (most : ℕ) (cause : Type 0) (left : List BodyPart) (answer : Answer) (rest : List BodyPart)
-      → Takes seen s file most cause left answer rest → (answer ≡ End) ⊎ (answer ≡ Broken) → rest ≡ []
-  over_after s file most cause [] answer rest (is, none) ends = none
-  over_after s file most cause (Text bytes ∷ parts) answer rest (is, left) (inl end) = let e : Piece bytes ≡ End = sym is ∙ end in cc
-  over_after s file most cause (Text bytes ∷ parts) answer rest (is, left) (inr broken) = let e : Piece bytes ≡ Broken = sym is ∙ broken in cc
-  over_after s file most cause (SliceOf slice ∷ parts) answer rest (inr (is, none, rose)) ends = none
-  over_after s file most cause (SliceOf slice ∷ parts) answer rest (inl (piece, is, are, some, within, left)) (inl end) = let e : Piece piece ≡ End = sym is ∙ end in cc
-  over_after s file most cause (SliceOf slice ∷ parts) answer rest (inl (piece, is, are, some, within, left)) (inr broken) = let e : Piece piece ≡ Broken = sym is ∙ broken in cc
+  over_after : (s : DiskState) (b : GetBody F) (cause : Type 0) (left : List BodyPart) (answer : Answer) (rest : List BodyPart)
+      → Takes seen s b cause left answer rest → (answer ≡ End) ⊎ (answer ≡ Broken) → rest ≡ []
+  over_after s b cause [] answer rest (is, none) ends = none
+  over_after s b cause (Text bytes ∷ parts) answer rest (is, left) (inl end) = let e : Piece bytes ≡ End = sym is ∙ end in cc
+  over_after s b cause (Text bytes ∷ parts) answer rest (is, left) (inr broken) = let e : Piece bytes ≡ Broken = sym is ∙ broken in cc
+  over_after s b cause (SliceOf slice ∷ parts) answer rest (inr (is, none, rose)) ends = none
+  over_after s b cause (SliceOf slice ∷ parts) answer rest (inl (piece, is, are, some, within, left)) (inl end) = let e : Piece piece ≡ End = sym is ∙ end in cc
+  over_after s b cause (SliceOf slice ∷ parts) answer rest (inl (piece, is, are, some, within, left)) (inr broken) = let e : Piece piece ≡ Broken = sym is ∙ broken in cc
 
   untouched : (s t : DiskState) (f g : Option (OpenAt F)) → is_some f ≡ false → TouchesOwn handle seen s f t g → t ≡ s
   untouched s t None None none touches = touches
@@ -29,5 +29,5 @@ module _ {F : Type 0} (handle : F → ℕ) (seen : F → DiskState → Option Se
   pub ended_stay : (s t u v : DiskState) (b c d : GetBody F) (answer later : Answer) → Polls handle seen s b answer t c → (answer ≡ End) ⊎ (answer ≡ Broken)
       → Polls handle seen u c later v d → (later ≡ End) × (v ≡ u)
   ended_stay s t u v b c d answer later first ends next =
-      let over = over_after s b.file b.most _ (left_of b) answer (left_of c) first.takes ends in
+      let over = over_after s b _ (left_of b) answer (left_of c) first.takes ends in
       ((rw over at next.takes).0, untouched u v c.file d.file (first.held.over over) next.disk)

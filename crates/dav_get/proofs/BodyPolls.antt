@@ -1,27 +1,19 @@
 -- What a poll does with each kind of part.
-use Rattle.std.proofs.Common.{◌≡◌, ◌≢◌, ◌≤◌, ◌<◌, ◌+◌, ◌-◌, ◌==◌, ◌^◌, ◌&&◌, ℕ, List, [], ◌∷◌, length, take, drop, min, max, cond, Bool, true, false, Option, None, Some, refl, sym, ◌∙◌, ap, inl, inr, arith, MatchOption}
-use Rattle.std.specs.Prelude.{is_some, nat_lt}
-use Rattle.std.specs.List.{list_all, list_any}
+use Rattle.std.proofs.Common.{◌≡◌, ◌≤◌, ◌<◌, ◌+◌, ◌-◌, ◌==◌, ℕ, List, [], ◌∷◌, length, take, cond, Bool, true, false, Option, Some, refl, sym, ◌∙◌, inl, arith}
+use Rattle.std.specs.List.{list_all}
 use Rattle.std.proofs.lemmas.Grind.{common_steps}
 use Rattle.std.proofs.lemmas.Bool.Decides.{nat_tests}
-use Rattle.dav_io.specs.Counts.{Rose}
 use Rattle.dav_core.specs.Disk.{DiskState}
 use Rattle.dav_model.specs.declared.ranges.Slice.{Slice}
-use Rattle.dav_model.specs.declared.answer.Answer.{Answer}
-use Rattle.dav_model.specs.declared.answer.Answer.TheVariants.{Piece, End, Broken}
+use Rattle.dav_model.specs.declared.answer.Answer.TheVariants.{Piece}
 use Rattle.dav_store.specs.Standing.{Seen}
-use Rattle.dav_store.specs.Files.{FileCloses}
 use Rattle.dav_get.specs.declared.part.BodyPart.{BodyPart}
 use Rattle.dav_get.specs.declared.part.BodyPart.TheVariants.{Text, Slice as SliceOf}
 use Rattle.dav_get.specs.declared.open_at.OpenAt.{OpenAt}
 use Rattle.dav_get.specs.declared.body.GetBody.{GetBody}
-use Rattle.dav_get.specs.OpenFiles.{IsAt, SameStands, IsPieceOf, Fills}
-use Rattle.dav_get.specs.Bodies.{left_of, is_part, is_slice, next_most_of, IsHeld, Closes, Passes, passed, Takes, TouchesOwn, IfPiece, Polls}
-use Rattle.dav_get.proofs.Touching.{touches_none, touches_then, closes_touch, passes_touch, held_then}
-
--- what a slice that is a part has
-pub slice_is_part : (slice : Slice) → is_part (SliceOf slice) ≡ true → (0 < slice.count) × (slice.start + slice.count < 2 ^ 64)
-slice_is_part slice is = grind (arith, nat_tests)
+use Rattle.dav_get.specs.OpenFiles.{Fills}
+use Rattle.dav_get.specs.Bodies.{left_of, is_part, IsHeld, Passes, passed, TouchesOwn, Polls}
+use Rattle.dav_get.proofs.Touching.{passes_ask, touches_then, passes_touch, held_then}
 
 -- the parts that follow the first
 later_parts : (part : BodyPart) (parts : List BodyPart) → list_all is_part (part ∷ parts) ≡ true → (is_part part ≡ true) × (list_all is_part parts ≡ true)
@@ -33,28 +25,6 @@ moved_is_part true slice n parts e is within all = all
 moved_is_part false slice n parts e is within all = grind (arith, nat_tests)
 
 module _ {F : Type 0} (handle : F → ℕ) (seen : F → DiskState → Option Seen) where
-  -- a body at its end
-  pub held_over : (s : DiskState) (b : GetBody F) → left_of b ≡ [] → b.file ≡ None → IsHeld handle seen s b
-  held_over s b left none = record {
-    parts = rw left refl;
-    needs = λ has. let none : false ≡ true = rw left at has in cc;
-    over = λ over. rw none refl;
-    some = λ has. let none : false ≡ true = rw left at has in cc;
-    room = λ has. let none : false ≡ true = rw left at has in cc;
-    file = λ h is. let f : Some h ≡ None = sym is ∙ none in cc;
-  }
-
-  -- nothing is left
-  pub end_polls : (s : DiskState) (b : GetBody F) → left_of b ≡ [] → IsHeld handle seen s b → Polls handle seen s b End s b
-  end_polls s b left held = record {
-    disk = touches_none handle seen s b.file;
-    takes = rw left (refl, refl);
-    held = held;
-    bound = tt;
-    most = refl;
-    room = refl;
-  }
-
   pub text_polls : (s t : DiskState) (b c : GetBody F) (bytes : List ℕ) (rest : List BodyPart) → left_of b ≡ Text bytes ∷ rest → IsHeld handle seen s b
       → left_of c ≡ rest → Passes handle s b (left_of c) t c.file → c.most ≡ b.most → length c.buffer.items ≡ length b.buffer.items
       → (piece : List ℕ) → piece ≡ bytes → Polls handle seen s b (Piece piece) t c
@@ -63,6 +33,7 @@ module _ {F : Type 0} (handle : F → ℕ) (seen : F → DiskState → Option Se
       let later = later_parts (Text bytes) rest all in record {
         disk = passes_touch handle seen s t b (left_of c) c.file passes;
         takes = rw (is, same) (refl, left);
+        asks = rw is (passes_ask handle seen s t b (left_of c) c.file passes);
         held = held_then handle seen s t b c held passes (rw left later.1) (λ has. rw is (rw left at has)) most room;
         bound = rw (is, same) (omega arith);
         most = most;
@@ -111,25 +82,9 @@ module _ {F : Type 0} (handle : F → ℕ) (seen : F → DiskState → Option Se
           rw long within,
           rw long left,
         ));
+        asks = rw (is, before, passes_ask handle seen m t d (left_of c) c.file passes) fills.asks;
         held = held_then handle seen m t d c there passes (rw left (moved_is_part _ slice n rest refl parts.0 within parts.1)) (λ has. rw (same, is) refl) cm cr;
         bound = rw (is, front, long) (omega arith);
         most = cm ∙ dm;
         room = cr ∙ dr;
-      }
-
-  pub broken_polls : (s m t : DiskState) (b d c : GetBody F) (slice : Slice) (rest : List BodyPart) (most : ℕ) (buffer : List ℕ) (h g : OpenAt F)
-      → left_of b ≡ SliceOf slice ∷ rest
-      → Fills handle seen s h slice most buffer None m g → b.file ≡ Some h → d.file ≡ Some g
-      → left_of c ≡ [] → Closes handle m d.file t → c.file ≡ None → c.most ≡ b.most → length c.buffer.items ≡ length b.buffer.items
-      → Polls handle seen s b Broken t c
-  broken_polls s m t b d c slice rest most buffer h g is fills before after left closes none cm cr =
-      let closed : FileCloses m (handle g.file) t = rw after at closes in
-      let rose : Rose s.faults t.faults = rw closed.counts fills.answer in
-      record {
-        disk = rw none (touches_then handle seen s m t b.file d.file None (fill_touches s m b.file d.file slice most buffer None h g fills before after) (closes_touch handle seen m t d.file closes));
-        takes = rw is (inr (refl, left, rose));
-        held = held_over t c left none;
-        bound = tt;
-        most = cm;
-        room = cr;
       }

@@ -1,23 +1,23 @@
 -- A poll of a body is a poll of the parts that it has left.
-use Rattle.std.proofs.Common.{◌≡◌, ◌≤◌, ◌<◌, ◌+◌, ◌-◌, ◌==◌, ℕ, List, [], ◌∷◌, length, drop, min, map, cond, Bool, true, false, Option, None, Some, refl, sym, ◌∙◌, ap, ◌⊎◌, inl, inr, arith}
+use Rattle.std.proofs.Common.{◌≡◌, ◌+◌, ◌-◌, ◌==◌, ℕ, List, [], ◌∷◌, length, drop, cond, Bool, true, false, Option, None, Some, refl, sym, ◌∙◌, ap, inl, inr}
 use Rattle.std.specs.Prelude.{is_some}
 use Rattle.std.specs.List.{list_any}
 use Rattle.dav_io.specs.Counts.{Rose}
-use Rattle.dav_io.specs.Told.{told_before}
+use Rattle.dav_io.proofs.ToldLemmas.{told_before}
 use Rattle.dav_core.specs.Disk.{DiskState}
 use Rattle.dav_core.specs.World.{World, bytes_of}
 use Rattle.dav_model.specs.declared.ranges.Slice.{Slice}
 use Rattle.dav_model.specs.declared.answer.Answer.{Answer}
 use Rattle.dav_model.specs.declared.answer.Answer.TheVariants.{Piece}
-use Rattle.dav_model.specs.Bodies.{Part, slice, moved, PieceOf, Polls as PollsParts}
+use Rattle.dav_model.specs.Bodies.{slice, PieceOf, Polls as PollsParts}
 use Rattle.dav_store.specs.Standing.{Seen}
 use Rattle.dav_get.specs.declared.part.BodyPart.{BodyPart}
 use Rattle.dav_get.specs.declared.part.BodyPart.TheVariants.{Text, Slice as SliceOf}
 use Rattle.dav_get.specs.declared.open_at.OpenAt.{OpenAt}
 use Rattle.dav_get.specs.declared.body.GetBody.{GetBody}
 use Rattle.dav_get.specs.OpenFiles.{IsPieceOf}
-use Rattle.dav_get.specs.Parts.{part_of, parts_of}
-use Rattle.dav_get.specs.Bodies.{left_of, is_slice, IsHeld, passed, Takes, TouchesOwn, HasNumber, HasParts, StandsIn, Polls, IsPolled}
+use Rattle.dav_get.specs.Parts.{parts_of}
+use Rattle.dav_get.specs.Bodies.{left_of, is_slice, IsHeld, Takes, TouchesOwn, HasNumber, StandsIn, Polls, IsPolled}
 
 passed_parts : (b : Bool) (number : ℕ) (part : Slice) (n : ℕ) (parts : List BodyPart) → (part.count - n == 0) ≡ b
     → parts_of number (cond b parts (SliceOf (record { start = part.start + n; count = part.count - n }) ∷ parts))
@@ -49,7 +49,7 @@ module _ {F : Type 0} (handle : F → ℕ) (seen : F → DiskState → Option Se
 
   pub takes_right : (s t : DiskState) (b : GetBody F) (left : List BodyPart) (answer : Answer) (rest : List BodyPart) (told : Option World) (number : ℕ)
       → (list_any is_slice left ≡ true → is_some b.file ≡ true) → StandsIn seen s told b.file → HasNumber seen s b.file number
-      → Takes seen s b.file b.most (Rose s.faults t.faults) left answer rest
+      → Takes seen s b (Rose s.faults t.faults) left answer rest
       → PollsParts told s.whole b.most s.faults t.faults (parts_of number left) answer (parts_of number rest)
   takes_right s t b [] answer rest told number needs stands has (end, none) = (end, ap (parts_of number) none)
   takes_right s t b (Text bytes ∷ parts) answer rest told number needs stands has (is, left) = inl (bytes, is, (refl, ap (parts_of number) left))

@@ -1,14 +1,13 @@
 -- What a body does with its file, in steps one after another.
-use Rattle.std.proofs.Common.{zero, suc, ◌+◌, add-one, drop-cons, get_or, ◌≡◌, ◌≢◌, ◌<◌, ◌-◌, ℕ, List, [], ◌∷◌, drop, length, length-drop, arith, Bool, true, false, Option, None, Some, refl, sym, ◌∙◌, ap}
+use Rattle.std.proofs.Common.{zero, suc, ◌+◌, add-one, drop-cons, get_or, ◌≡◌, ◌<◌, ◌-◌, ℕ, List, [], ◌∷◌, drop, length, length-drop, arith, true, false, Option, None, Some, refl, sym, ◌∙◌, ap}
 use Rattle.std.specs.Prelude.{is_some}
 use Rattle.std.specs.List.{list_all, list_any}
-use Rattle.dav_io.specs.Told.{Both, both_then, both_same}
+use Rattle.dav_io.proofs.ToldLemmas.{both_then, both_same}
 use Rattle.dav_core.specs.Disk.{DiskState}
-use Rattle.dav_core.specs.Keeps.{KeepsBut, keeps_same, keeps_but, but_then}
+use Rattle.dav_core.proofs.UnchangedLemmas.{keeps_same, keeps_but, but_then}
 use Rattle.dav_store.specs.Standing.{Seen}
-use Rattle.dav_store.specs.Files.{FileCloses}
 use Rattle.dav_get.specs.declared.part.BodyPart.{BodyPart}
-use Rattle.dav_get.specs.declared.part.BodyPart.TheVariants.{Text, Slice as SliceOf}
+use Rattle.dav_get.specs.declared.part.BodyPart.TheVariants.{Text}
 use Rattle.dav_get.specs.declared.open_at.OpenAt.{OpenAt}
 use Rattle.dav_get.specs.declared.body.GetBody.{GetBody}
 use Rattle.dav_get.specs.OpenFiles.{IsAt, SameStands}
@@ -58,6 +57,15 @@ module _ {F : Type 0} (handle : F → ℕ) (seen : F → DiskState → Option Se
   pub passes_touch : (s t : DiskState) (b : GetBody F) (left : List BodyPart) (file : Option (OpenAt F)) → Passes handle s b left t file → TouchesOwn handle seen s b.file t file
   passes_touch s t b [] file (none, closes) = rw none (closes_touch s t b.file closes)
   passes_touch s t b (part ∷ parts) file (same, still) = rw (same, still) (touches_none s b.file)
+
+  -- What closes a file asks nothing.
+  pub closes_ask : (s t : DiskState) (file : Option (OpenAt F)) → Closes handle s file t → t.asked ≡ s.asked
+  closes_ask s t None same = ap (λ (x : DiskState). x.asked) same
+  closes_ask s t (Some h) closed = closed.asked
+
+  pub passes_ask : (s t : DiskState) (b : GetBody F) (left : List BodyPart) (file : Option (OpenAt F)) → Passes handle s b left t file → t.asked ≡ s.asked
+  passes_ask s t b [] file (none, closes) = closes_ask s t b.file closes
+  passes_ask s t b (part ∷ parts) file (same, still) = ap (λ (x : DiskState). x.asked) still
 
   -- something is left, and nothing was done
   pub goes_on : (s : DiskState) (b : GetBody F) (left : List BodyPart) → (left ≡ [] → ⊥) → Passes handle s b left s b.file

@@ -1,10 +1,9 @@
 -- What a body has left, and what a poll of it does.
-use Rattle.std.specs.Prelude.{◌≡◌, ◌≤◌, ◌<◌, ◌+◌, ◌-◌, ◌==◌, ◌⊎◌, ◌^◌, ◌&&◌, ℕ, nat_lt, List, [], ◌∷◌, length, take, drop, min, max, map, cond, Bool, true, false, is_some, Option, None, Some, MatchOption}
+use Rattle.std.specs.Prelude.{◌≡◌, ◌≤◌, ◌<◌, ◌+◌, ◌-◌, ◌==◌, ◌⊎◌, ◌^◌, ◌&&◌, ℕ, nat_lt, List, [], ◌∷◌, length, take, drop, min, max, cond, Bool, true, false, is_some, Option, None, Some}
 use Rattle.std.specs.List.{list_all, list_any}
 use Rattle.dav_io.specs.Counts.{Rose}
-use Rattle.dav_io.specs.Told.{Both}
 use Rattle.dav_core.specs.Disk.{DiskState}
-use Rattle.dav_core.specs.Keeps.{KeepsBut}
+use Rattle.dav_core.specs.Unchanged.{KeepsBut}
 use Rattle.dav_core.specs.World.{World, bytes_of}
 use Rattle.dav_model.specs.declared.ranges.Slice.{Slice}
 use Rattle.dav_model.specs.declared.answer.Answer.{Answer}
@@ -19,7 +18,7 @@ use Rattle.dav_get.specs.declared.open_at.OpenAt.{OpenAt}
 use Rattle.dav_get.specs.declared.body.GetBody.{GetBody}
 use Rattle.dav_get.specs.declared.body.Given.{Given}
 use Rattle.dav_get.specs.declared.body.Given.TheVariants.{Text as GivenText, Read as GivenRead, End as GivenEnd, Broken as GivenBroken}
-use Rattle.dav_get.specs.OpenFiles.{IsAt, SameStands, IsPieceOf}
+use Rattle.dav_get.specs.OpenFiles.{AsksToRead, IsAt, SameStands, IsPieceOf}
 use Rattle.dav_get.specs.Parts.{parts_of}
 
 -- the parts that are left
@@ -41,9 +40,10 @@ next_most_of [] room = 0
 next_most_of (Text bytes ∷ parts) room = length bytes
 next_most_of (SliceOf slice ∷ parts) room = min slice.count room
 
--- What a body keeps: no part that is left is empty; its file is held where a slice is left, with room for its pieces, and
--- only while a part is left; the file is live, regular and opened for reading, at the place that is noted.
-pub record IsHeld {F : Type 0} (handle : F → ℕ) (seen : F → DiskState → Option Seen) (s : DiskState) (b : GetBody F) : Type 0 where
+-- What a body keeps: no part that is left is empty; its file is held where a slice is left, with room for its pieces,
+-- and only while a part is left; the file is live, regular and opened for reading, at the place that is noted.
+pub record IsHeld {F : Type 0} (handle : F → ℕ) (seen : F → DiskState → Option Seen) (s : DiskState)
+    (b : GetBody F) : Type 0 where
   pub parts : list_all is_part (left_of b) ≡ true
   pub needs : list_any is_slice (left_of b) ≡ true → is_some b.file ≡ true
   pub over : left_of b ≡ [] → is_some b.file ≡ false
@@ -57,60 +57,88 @@ Closes handle s None t = t ≡ s
 Closes handle s (Some h) t = FileCloses s (handle h.file) t
 
 -- The file is closed where nothing is left.
-abbrev pub Passes : {F : Type 0} → (F → ℕ) → DiskState → GetBody F → List BodyPart → DiskState → Option (OpenAt F) → Type 0
+abbrev pub Passes : {F : Type 0} → (F → ℕ) → DiskState → GetBody F → List BodyPart → DiskState → Option (OpenAt F)
+    → Type 0
 Passes handle s b [] t file = (file ≡ None) × Closes handle s b.file t
 Passes handle s b (part ∷ parts) t file = (file ≡ b.file) × (t ≡ s)
 
 -- what of a slice is left after n bytes
 abbrev pub passed : Slice → ℕ → List BodyPart → List BodyPart
-passed slice n parts = cond (slice.count - n == 0) parts (SliceOf (record { start = slice.start + n; count = slice.count - n }) ∷ parts)
+passed slice n parts = cond (slice.count - n == 0) parts
+    (SliceOf (record { start = slice.start + n; count = slice.count - n }) ∷ parts)
 
--- What a poll gives of the parts that are left, and what it leaves of them.
-abbrev pub Takes : {F : Type 0} → (F → DiskState → Option Seen) → DiskState → Option (OpenAt F) → ℕ → Type 0 → List BodyPart → Answer → List BodyPart → Type 0
-Takes seen s file most cause [] answer rest = (answer ≡ End) × (rest ≡ [])
-Takes seen s file most cause (Text bytes ∷ parts) answer rest = (answer ≡ Piece bytes) × (rest ≡ parts)
-Takes {F} seen s file most cause (SliceOf slice ∷ parts) answer rest =
-    ((piece : List ℕ) × (answer ≡ Piece piece) × ((h : OpenAt F) → file ≡ Some h → IsPieceOf seen s h slice most piece) × (0 < length piece) × (length piece ≤ slice.count) × (rest ≡ passed slice (length piece) parts))
+-- What a poll of a body gives of the parts that are left, and what it leaves of them.
+abbrev pub Takes : {F : Type 0} → (F → DiskState → Option Seen) → DiskState → GetBody F → Type 0 → List BodyPart
+    → Answer → List BodyPart → Type 0
+Takes seen s b cause [] answer rest = (answer ≡ End) × (rest ≡ [])
+Takes seen s b cause (Text bytes ∷ parts) answer rest = (answer ≡ Piece bytes) × (rest ≡ parts)
+Takes {F} seen s b cause (SliceOf slice ∷ parts) answer rest =
+    ((piece : List ℕ) × (answer ≡ Piece piece)
+    × ((h : OpenAt F) → b.file ≡ Some h → IsPieceOf seen s h slice b.most piece)
+    × (0 < length piece) × (length piece ≤ slice.count) × (rest ≡ passed slice (length piece) parts))
     ⊎ ((answer ≡ Broken) × (rest ≡ []) × cause)
 
 -- No other file is touched. The body's own is the same, or closed.
-abbrev pub TouchesOwn : {F : Type 0} → (F → ℕ) → (F → DiskState → Option Seen) → DiskState → Option (OpenAt F) → DiskState → Option (OpenAt F) → Type 0
+abbrev pub TouchesOwn : {F : Type 0} → (F → ℕ) → (F → DiskState → Option Seen) → DiskState → Option (OpenAt F)
+    → DiskState → Option (OpenAt F) → Type 0
 TouchesOwn handle seen s None t None = t ≡ s
 TouchesOwn handle seen s None t (Some g) = ⊥
 TouchesOwn handle seen s (Some h) t None = KeepsBut (handle h.file) s t × (t.live (handle h.file) ≡ None)
-TouchesOwn handle seen s (Some h) t (Some g) = KeepsBut (handle h.file) s t × (handle g.file ≡ handle h.file) × (t.live (handle h.file) ≡ s.live (handle h.file)) × SameStands (seen h.file s) (seen g.file t)
+TouchesOwn handle seen s (Some h) t (Some g) = KeepsBut (handle h.file) s t × (handle g.file ≡ handle h.file)
+    × (t.live (handle h.file) ≡ s.live (handle h.file)) × SameStands (seen h.file s) (seen g.file t)
 
 -- P, where a piece is given
 abbrev pub IfPiece : Answer → (List ℕ → Type 0) → Type 0
 IfPiece (Piece piece) P = P piece
 IfPiece answer P = Unit {0}
 
+-- whether a piece is given
+abbrev pub is_piece : Answer → Bool
+is_piece (Piece piece) = true
+is_piece answer = false
+
+-- Which calls of the disk a poll asks: none for a text or at the end, and for a slice those by which its next bytes are
+-- read.
+abbrev pub Asks : {F : Type 0} → Option (OpenAt F) → List BodyPart → Answer → ℕ → ℕ → Type 0
+Asks file [] answer before after = after ≡ before
+Asks file (Text bytes ∷ parts) answer before after = after ≡ before
+Asks None (SliceOf slice ∷ parts) answer before after = ⊥
+Asks (Some h) (SliceOf slice ∷ parts) answer before after = AsksToRead h.place slice.start
+    (is_piece answer) before after
+
 -- what a poll does
-pub record Polls {F : Type 0} (handle : F → ℕ) (seen : F → DiskState → Option Seen) (s : DiskState) (b : GetBody F) (answer : Answer) (t : DiskState) (c : GetBody F) : Type 0 where
+pub record Polls {F : Type 0} (handle : F → ℕ) (seen : F → DiskState → Option Seen) (s : DiskState) (b : GetBody F)
+    (answer : Answer) (t : DiskState) (c : GetBody F) : Type 0 where
   pub disk : TouchesOwn handle seen s b.file t c.file
-  pub takes : Takes seen s b.file b.most (Rose s.faults t.faults) (left_of b) answer (left_of c)
+  pub takes : Takes seen s b (Rose s.faults t.faults) (left_of b) answer (left_of c)
   pub held : IsHeld handle seen t c
+  pub asks : Asks b.file (left_of b) answer s.asked t.asked
   pub bound : IfPiece answer (λ piece. length piece ≤ next_most_of (left_of b) (length b.buffer.items))
   pub most : c.most ≡ b.most
   pub room : length c.buffer.items ≡ length b.buffer.items
 
 -- the number of the body's file, where it is told
 abbrev pub HasNumber : {F : Type 0} → (F → DiskState → Option Seen) → DiskState → Option (OpenAt F) → ℕ → Type 0
-HasNumber {F} seen s file number = (h : OpenAt F) (f : Seen) → file ≡ Some h → seen h.file s ≡ Some f → f.stands.number ≡ number
+HasNumber {F} seen s file number = (h : OpenAt F) (f : Seen) → file ≡ Some h → seen h.file s ≡ Some f
+    → f.stands.number ≡ number
 
 -- The body has these parts left. Where no number is told, any may stand for it.
-pub record HasParts {F : Type 0} (seen : F → DiskState → Option Seen) (s : DiskState) (parts : List Part) (b : GetBody F) : Type 0 where
+pub record HasParts {F : Type 0} (seen : F → DiskState → Option Seen) (s : DiskState) (parts : List Part)
+    (b : GetBody F) : Type 0 where
   pub number : ℕ
   pub are : parts ≡ parts_of number (left_of b)
   pub file : HasNumber seen s b.file number
 
 -- The body's file is told, with the bytes that a world has under its number.
-abbrev pub StandsIn : {F : Type 0} → (F → DiskState → Option Seen) → DiskState → Option World → Option (OpenAt F) → Type 0
-StandsIn {F} seen s told file = (w : World) (h : OpenAt F) → told ≡ Some w → file ≡ Some h → (f : Seen) × (seen h.file s ≡ Some f) × (f.stands.bytes ≡ bytes_of w f.stands.number)
+abbrev pub StandsIn : {F : Type 0} → (F → DiskState → Option Seen) → DiskState → Option World → Option (OpenAt F)
+    → Type 0
+StandsIn {F} seen s told file = (w : World) (h : OpenAt F) → told ≡ Some w → file ≡ Some h → (f : Seen)
+    × (seen h.file s ≡ Some f) × (f.stands.bytes ≡ bytes_of w f.stands.number)
 
 -- What a poll does, and that it is a poll of the parts that are left: in every run for their lengths, and for the bytes
 -- of a world in which the file stands.
-pub record IsPolled {F : Type 0} (handle : F → ℕ) (seen : F → DiskState → Option Seen) (s : DiskState) (b : GetBody F) (answer : Answer) (t : DiskState) (c : GetBody F) : Type 0 where
+pub record IsPolled {F : Type 0} (handle : F → ℕ) (seen : F → DiskState → Option Seen) (s : DiskState) (b : GetBody F)
+    (answer : Answer) (t : DiskState) (c : GetBody F) : Type 0 where
   pub does : Polls handle seen s b answer t c
   pub right : (told : Option World) (parts : List Part) → StandsIn seen s told b.file → HasParts seen s parts b
       → (rest : List Part) × HasParts seen t rest c × PollsParts told s.whole b.most s.faults t.faults parts answer rest
@@ -141,7 +169,8 @@ IsInside GivenEnd c = Unit {0}
 IsInside GivenBroken c = Unit {0}
 
 -- The same is left of the same file.
-pub record SameLeft {F : Type 0} (handle : F → ℕ) (seen : F → DiskState → Option Seen) (s : DiskState) (b : GetBody F) (t : DiskState) (c : GetBody F) : Type 0 where
+pub record SameLeft {F : Type 0} (handle : F → ℕ) (seen : F → DiskState → Option Seen) (s : DiskState) (b : GetBody F)
+    (t : DiskState) (c : GetBody F) : Type 0 where
   pub disk : TouchesOwn handle seen s b.file t c.file
   pub left : left_of c ≡ left_of b
   pub held : IsHeld handle seen t c

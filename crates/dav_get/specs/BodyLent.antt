@@ -1,5 +1,5 @@
 -- What a body is, once the piece that borrows from it is over.
-use Rattle.std.specs.Prelude.{ℕ, List, Option, ⊤}
+use Rattle.std.specs.Prelude.{ℕ, Option, ⊤}
 use Rattle.std.specs.Borrow.{follows_so, MutBor, Fml, RattleType}
 use mathlib.Core.Option.{none}
 use Rattle.dav_core.specs.Disk.{DiskState}
@@ -19,6 +19,8 @@ answer_in LentEnd = End
 answer_in LentBroken = Broken
 
 -- The body ends as one that was polled with this answer.
-abbrev pub EndsPolled : (F : RattleType) → (F.Denot → ℕ) → (F.Denot → DiskState → Option Seen) → DiskState → DiskState → MutBor (GetBody F.Denot) → GetBody F.Denot → Polled → Fml
+abbrev pub EndsPolled : (F : RattleType) → (F.Denot → ℕ) → (F.Denot → DiskState → Option Seen) → DiskState → DiskState
+    → MutBor (GetBody F.Denot) → GetBody F.Denot → Polled → Fml
 EndsPolled F handle seen s t entry before result =
-    follows_so (the_row F) (the_row F) entry.ghost_name none (λ _ _. ⊤) (λ after. IsPolled handle seen s before (answer_in result) t after)
+    follows_so (the_row F) (the_row F) entry.ghost_name none (λ _ _. ⊤)
+    (λ after. IsPolled handle seen s before (answer_in result) t after)

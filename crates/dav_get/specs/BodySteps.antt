@@ -1,5 +1,5 @@
 -- A body as steps.
-use Rattle.std.specs.Prelude.{◌+◌, ◌≡◌, ℕ, List, [], ◌∷◌, Bool, true, false, Option, None, Some, Result, Ok, Err}
+use Rattle.std.specs.Prelude.{◌+◌, ℕ, List, [], ◌∷◌, Bool, true, false, Option, None, Some, Result, Ok, Err}
 use Rattle.dav_core.specs.Disk.{DiskState}
 use Rattle.dav_body.specs.declared.fault.BodyFault.{BodyFault}
 use Rattle.dav_body.specs.declared.fault.BodyFault.TheVariants.{Broken as BodyBroken, NoMemory}
@@ -11,14 +11,16 @@ use Rattle.dav_get.specs.declared.body.GetBody.{GetBody}
 use Rattle.dav_get.specs.Bodies.{left_of, Polls, IsPolled, SameLeft}
 
 -- One step: a piece, the end, or a break, as a poll gives them; or want of memory, and then the same is left.
-abbrev pub StepGives : {F : Type 0} → (F → ℕ) → (F → DiskState → Option Seen) → DiskState → GetBody F → Option (Result (List ℕ) BodyFault) → DiskState → GetBody F → Type 0
+abbrev pub StepGives : {F : Type 0} → (F → ℕ) → (F → DiskState → Option Seen) → DiskState → GetBody F
+    → Option (Result (List ℕ) BodyFault) → DiskState → GetBody F → Type 0
 StepGives handle seen s b None t c = IsPolled handle seen s b End t c
 StepGives handle seen s b (Some (Ok bytes)) t c = IsPolled handle seen s b (Piece bytes) t c
 StepGives handle seen s b (Some (Err BodyBroken)) t c = IsPolled handle seen s b Broken t c
 StepGives handle seen s b (Some (Err NoMemory)) t c = SameLeft handle seen s b t c
 
 -- the same, by what a poll does alone
-abbrev pub Takes : {F : Type 0} → (F → ℕ) → (F → DiskState → Option Seen) → DiskState → GetBody F → Option (Result (List ℕ) BodyFault) → DiskState → GetBody F → Type 0
+abbrev pub Takes : {F : Type 0} → (F → ℕ) → (F → DiskState → Option Seen) → DiskState → GetBody F
+    → Option (Result (List ℕ) BodyFault) → DiskState → GetBody F → Type 0
 Takes handle seen s b None t c = Polls handle seen s b End t c
 Takes handle seen s b (Some (Ok bytes)) t c = Polls handle seen s b (Piece bytes) t c
 Takes handle seen s b (Some (Err BodyBroken)) t c = Polls handle seen s b Broken t c

@@ -8,3 +8,6 @@ pub mod Table
 pub mod Lives
 pub mod Prepared
 pub mod Right
+pub mod Heard
+pub mod Told
+pub mod Asked

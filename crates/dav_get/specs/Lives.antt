@@ -1,24 +1,31 @@
 -- What a GET leaves open: nothing but the file of its body.
-use Rattle.std.specs.Prelude.{◌≡◌, ℕ, true, Option, None, Some, Result, Ok, Err}
+use Rattle.std.specs.Prelude.{◌≡◌, ℕ, true, Option, None, Some, Ok, Err}
 use Rattle.std.specs.List.{list_any}
-use Rattle.dav_core.specs.Disk.{DiskState}
-use Rattle.dav_core.specs.Keeps.{Keeps, KeepsBut}
+use Rattle.dav_core.specs.declared.tree.Kind.TheVariants.{File}
+use Rattle.dav_core.specs.Disk.{DiskState, Live}
+use Rattle.dav_core.specs.Options.{reading}
+use Rattle.dav_core.specs.Unchanged.{Keeps, KeepsBut}
 use Rattle.dav_store.specs.View.{View}
-use Rattle.dav_get.specs.declared.body.GetBody.{GetBody}
 use Rattle.dav_get.specs.declared.open_at.OpenAt.{OpenAt}
 use Rattle.dav_get.specs.Bodies.{IsHeld, is_slice, left_of}
 use Rattle.dav_get.specs.Table.{Given}
 
--- Nothing is open that wasn't, but this file.
+-- a regular file, opened for reading and nothing else
+abbrev pub reading_file : Live
+reading_file = record { kind = File; how = reading }
+
+-- Nothing is open that wasn't, but this file, which is open for reading.
 abbrev pub OpensOnly : {F : Type 0} → (F → ℕ) → DiskState → Option (OpenAt F) → DiskState → Type 0
 OpensOnly handle s None t = Keeps s t
-OpensOnly handle s (Some h) t = KeepsBut (handle h.file) s t × (s.live (handle h.file) ≡ None)
+OpensOnly handle s (Some h) t =
+    KeepsBut (handle h.file) s t × (s.live (handle h.file) ≡ None) × (t.live (handle h.file) ≡ Some reading_file)
 
 module _ {S C F : Type 0} (view : View S C F) where
   -- the file in hand is the body's, or is closed
   abbrev pub KeptOrClosed : ℕ → S → Option (OpenAt F) → S → Type 0
   KeptOrClosed n s None t = KeepsBut n (view.state s) (view.state t) × ((view.state t).live n ≡ None)
   KeptOrClosed n s (Some h) t = KeepsBut n (view.state s) (view.state t) × (view.handle h.file ≡ n)
+      × ((view.state t).live n ≡ (view.state s).live n)
 
   abbrev pub HeldOrClosed : ℕ → S → Given F → S → Type 0
   HeldOrClosed n s (Ok r) t = IsHeld view.handle view.seen (view.state t) r.1 × KeptOrClosed n s r.1.file t
@@ -26,7 +33,8 @@ module _ {S C F : Type 0} (view : View S C F) where
 
   -- Nothing is open that wasn't, but the body's file.
   abbrev pub OpenOnlyHeld : S → Given F → S → Type 0
-  OpenOnlyHeld s (Ok r) t = IsHeld view.handle view.seen (view.state t) r.1 × OpensOnly view.handle (view.state s) r.1.file (view.state t)
+  OpenOnlyHeld s (Ok r) t = IsHeld view.handle view.seen (view.state t) r.1
+      × OpensOnly view.handle (view.state s) r.1.file (view.state t)
   OpenOnlyHeld s (Err e) t = Keeps (view.state s) (view.state t)
 
 -- where slices of a file are left, a piece has at most so many bytes

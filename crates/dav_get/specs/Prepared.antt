@@ -17,7 +17,8 @@ pub record AreReady (size : ℕ) (parts : List BodyPart) (buffer : ReadBuffer) :
   pub sound : list_all is_part parts ≡ true
   pub room : (parts ≡ []) ⊎ ((buffer.most ≡ size) × (max buffer.most zeros_size ≤ vec_len buffer.bytes))
 
-pub record IsPrepared (size : ℕ) (method : DavMethod) (path : WebPath) (info : Info) (sent : Sent) (p : Prepared) : Type 0 where
+pub record IsPrepared (size : ℕ) (method : DavMethod) (path : WebPath) (info : Info) (sent : Sent)
+    (p : Prepared) : Type 0 where
   pub outcome_is : IsOutcome method path info sent p.outcome
   pub are : ArePartsOf method path info sent p.parts.items
   pub ready : AreReady size p.parts.items p.buffer

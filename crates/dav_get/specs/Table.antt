@@ -1,15 +1,17 @@
--- The table of GET and HEAD over the calls of a store: which calls are made one after the other, and what is answered by
--- the answer of each.
-use Rattle.std.specs.Prelude.{◌≡◌, ◌⊎◌, ℕ, List, [], ◌∷◌, Bool, true, false, cond, Option, None, Some, Result, Ok, Err}
+-- The table of GET and HEAD over the calls of a store: which calls are made one after the other, and what is answered
+-- by the answer of each.
+use Rattle.std.specs.Prelude.{◌≡◌, ◌⊎◌, ℕ, List, [], ◌∷◌, Bool, true, false, Option, None, Some, Result, Ok, Err, IfOk}
 use Rattle.dav_core.specs.declared.dav_error.DavError.{DavError}
 use Rattle.dav_core.specs.declared.dav_error.DavError.TheVariants.{Status, StatusClose, NoMemory}
 use Rattle.dav_core.specs.declared.error.FsError.{FsError}
 use Rattle.dav_core.specs.declared.method.DavMethod.{DavMethod}
 use Rattle.dav_core.specs.DavPath.{WebPath, last_name, type_of_last}
-use Rattle.dav_core.specs.Info.{Info}
+use Rattle.dav_core.specs.Info.{Info, AreInYears}
 use Rattle.dav_core.specs.Options.{reading}
 use Rattle.dav_core.specs.Statuses.{of_fs}
+use Rattle.dav_core.specs.Tags.{HasTagBytes}
 use Rattle.dav_core.specs.Tree.{is_dir, is_file}
+use Rattle.dav_core.specs.Unchanged.{Keeps}
 use Rattle.dav_store.specs.Files.{FileRedirects}
 use Rattle.dav_store.specs.Frames.{OpensOne}
 use Rattle.dav_store.specs.View.{View, Lent, seen_in, Says, Seeks, Closes}
@@ -17,8 +19,7 @@ use Rattle.dav_model.specs.declared.outcome.Outcome.{Outcome}
 use Rattle.dav_model.specs.declared.ranges.Slice.{Slice}
 use Rattle.dav_model.specs.declared.sent.Sent.{Sent}
 use Rattle.dav_model.specs.declared.sent.Sent.TheVariants.{All, Alone, Unsatisfied, One, Several}
-use Rattle.dav_model.specs.declared.settings.Settings.{Settings}
-use Rattle.dav_model.specs.Conditions.{Fields}
+use Rattle.dav_model.specs.Due.{Query}
 use Rattle.dav_model.specs.Head.{Stood, is_get, is_set, is_well_known, redirected_fields, sent_fields, sent_of, sent_parts, sent_status, well_known}
 use Rattle.dav_model.specs.Times.{IsDate}
 use Rattle.dav_get.specs.declared.body.GetBody.{GetBody}
@@ -27,13 +28,24 @@ use Rattle.dav_get.specs.declared.part.BodyPart.{BodyPart}
 use Rattle.dav_get.specs.Bodies.{left_of}
 use Rattle.dav_get.specs.Parts.{parts_of}
 
--- a status with its fields and a body, or an error
+-- a status with its fields, and a body
+abbrev pub Answer : Type 0 → Type 0
+Answer F = Outcome × GetBody F
+
+-- an answer, or an error
 abbrev pub Given : Type 0 → Type 0
-Given F = Result (Outcome × GetBody F) DavError
+Given F = Result (Answer F) DavError
 
 -- metadata, as far as an answer speaks of it
 abbrev pub stood_by : Info → Option (List ℕ) → Stood
-stood_by info address = record { kind = info.kind; number = 0; len = info.len; modified = info.modified; tag = info.tag; address = address }
+stood_by info address = record {
+  kind = info.kind;
+  number = 0;
+  len = info.len;
+  modified = info.modified;
+  tag = info.tag;
+  address = address;
+}
 
 abbrev pub type_of : WebPath → List ℕ
 type_of path = type_of_last (last_name path.names)
@@ -41,15 +53,21 @@ type_of path = type_of_last (last_name path.names)
 -- status and fields, where this of a file is sent
 abbrev pub IsOutcome : DavMethod → WebPath → Info → Sent → Outcome → Type 0
 IsOutcome method path info sent outcome = (date : Option (List ℕ)) × IsDate info.modified date
-    × (outcome ≡ record { status = sent_status sent; fields = sent_fields (is_get method) (type_of path) info.len info.tag date sent })
+    × (outcome ≡ record {
+      status = sent_status sent;
+      fields = sent_fields (is_get method)
+          (type_of path) info.len info.tag date sent;
+    })
 
 -- status and fields, where the client is sent to another address
 abbrev pub IsRedirect : Info → List ℕ → Outcome → Type 0
-IsRedirect info address outcome = (date : Option (List ℕ)) × IsDate info.modified date × (outcome ≡ record { status = 302; fields = redirected_fields address info.tag date })
+IsRedirect info address outcome = (date : Option (List ℕ)) × IsDate info.modified date
+    × (outcome ≡ record { status = 302; fields = redirected_fields address info.tag date })
 
 -- the parts, where this of a file is sent; each slice is of the file's number
 abbrev pub ArePartsOf : DavMethod → WebPath → Info → Sent → List BodyPart → Type 0
-ArePartsOf method path info sent parts = (number : ℕ) → parts_of number parts ≡ sent_parts (is_get method) (type_of path) number info.len sent
+ArePartsOf method path info sent parts = (number : ℕ) → parts_of number parts ≡ sent_parts (is_get method)
+    (type_of path) number info.len sent
 
 -- the place to which the file is moved first
 abbrev pub first_start : List Slice → Option ℕ
@@ -64,8 +82,8 @@ first_place (One part) = Some part.start
 first_place (Several parts) = first_start parts
 
 -- an answer with a body
-abbrev pub GivesBody : {F : Type 0} → (Outcome → GetBody F → Type 0) → Given F → Type 0
-GivesBody P (Ok r) = P r.0 r.1
+abbrev pub GivesBody : {F : Type 0} → (Answer F → Type 0) → Given F → Type 0
+GivesBody P (Ok answer) = P answer
 GivesBody P (Err e) = ⊥
 
 -- a body of no parts, without a file
@@ -76,6 +94,20 @@ IsEmpty body = (left_of body ≡ []) × (body.file ≡ None)
 abbrev pub well_known_outcome : Outcome
 well_known_outcome = record { status = 200; fields = well_known.fields }
 
+-- what a query sends of a file with this metadata
+abbrev pub sent_for : Query → Info → Sent
+sent_for q info = sent_of q.method q.fields (stood_by info None)
+
+-- What is sent after a move of the file: where it can't be moved to the first part, no range could be met.
+abbrev pub sent_after : Result ℕ FsError → Sent → Sent
+sent_after (Ok place) sent = sent
+sent_after (Err e) sent = Unsatisfied
+
+-- What any metadata says of what stands there: its times can be shown, and its tag has only the bytes of a tag.
+pub record CouldSay (info : Info) : Type 0 where
+  pub years : AreInYears info
+  pub tag : HasTagBytes info.tag
+
 module _ {S C F : Type 0} (view : View S C F) where
   -- the file was asked for its address
   pub record Redirects (s : S) (file : F) (result : Result (Option (List ℕ)) FsError) (t : S) (after : F) : Type 0 where
@@ -84,75 +116,81 @@ module _ {S C F : Type 0} (view : View S C F) where
     pub lent : Lent view s t
 
   -- A body of these parts has the file at its place; where there are none, it is closed.
-  abbrev pub Holds : List BodyPart → F → ℕ → S → GetBody F → S → Type 0
-  Holds [] file place s body t = Closes view s file t × IsEmpty body
-  Holds (part ∷ parts) file place s body t = (t ≡ s) × (left_of body ≡ part ∷ parts) × (body.file ≡ Some (record { file = file; place = place }))
+  abbrev pub Holds : List BodyPart → OpenAt F → S → GetBody F → S → Type 0
+  Holds [] held s body t = Closes view s held.file t × IsEmpty body
+  Holds (part ∷ parts) held s body t = (t ≡ s) × (left_of body ≡ part ∷ parts) × (body.file ≡ Some held)
 
   -- This of the file is sent.
-  pub record Sends (method : DavMethod) (path : WebPath) (info : Info) (sent : Sent) (file : F) (place : ℕ) (s : S) (outcome : Outcome) (body : GetBody F) (t : S) : Type 0 where
-    pub outcome_is : IsOutcome method path info sent outcome
+  pub record Sends (q : Query) (info : Info) (sent : Sent) (held : OpenAt F) (s : S) (answer : Answer F)
+      (t : S) : Type 0 where
+    pub outcome_is : IsOutcome q.method q.path info sent answer.0
     pub parts : List BodyPart
-    pub are : ArePartsOf method path info sent parts
-    pub holds : Holds parts file place s body t
+    pub are : ArePartsOf q.method q.path info sent parts
+    pub holds : Holds parts held s answer.1 t
 
-  -- Where the file can't be moved to the first part, no range could be met.
-  abbrev pub AfterSeek : Result ℕ FsError → DavMethod → WebPath → Info → Sent → F → ℕ → S → Outcome → GetBody F → S → Type 0
-  AfterSeek (Ok n) method path info sent file place s outcome body t = Sends method path info sent file place s outcome body t
-  AfterSeek (Err e) method path info sent file place s outcome body t = Sends method path info Unsatisfied file place s outcome body t
+  -- P of the file where it stands, once it is moved to this place.
+  abbrev pub IfMoved : Option ℕ → F → S → (Result ℕ FsError → OpenAt F → S → Type 0) → Type 0
+  IfMoved None file s P = P (Ok 0) (record { file = file; place = 0 }) s
+  IfMoved (Some start) file s P = (sought : Result ℕ FsError) × (g : F) × (m : S)
+      × Seeks view s file start sought m g × P sought (record { file = g; place = start }) m
 
-  abbrev pub ByPlace : Option ℕ → DavMethod → WebPath → Info → Sent → F → S → Outcome → GetBody F → S → Type 0
-  ByPlace None method path info sent file s outcome body t = Sends method path info sent file 0 s outcome body t
-  ByPlace (Some start) method path info sent file s outcome body t = (sought : Result ℕ FsError) × (g : F) × (m : S)
-      × Seeks view s file start sought m g × AfterSeek sought method path info sent g start m outcome body t
+  -- This of the file is sent, which is moved to the first part before.
+  abbrev pub SendsFrom : Query → Info → Sent → F → S → Answer F → S → Type 0
+  SendsFrom q info sent file s answer t =
+      IfMoved (first_place sent) file s (λ sought held m. Sends q info (sent_after sought sent) held m answer t)
 
   -- what of a regular file is sent
-  abbrev pub SendsFile : DavMethod → WebPath → Fields → Info → F → S → Given F → S → Type 0
-  SendsFile method path fields info file s result t =
-      GivesBody (λ outcome body. ByPlace (first_place (sent_of method fields (stood_by info None))) method path info (sent_of method fields (stood_by info None)) file s outcome body t) result
+  abbrev pub SendsFile : Query → Info → F → S → Given F → S → Type 0
+  SendsFile q info file s result t = GivesBody (λ answer. SendsFrom q info (sent_for q info) file s answer t) result
 
-  abbrev pub AfterRedirect : Result (Option (List ℕ)) FsError → DavMethod → WebPath → Fields → Info → F → S → Given F → S → Type 0
-  AfterRedirect (Err e) method path fields info file s result t = Closes view s file t × (result ≡ Err (of_fs e))
-  AfterRedirect (Ok (Some address)) method path fields info file s result t =
-      GivesBody (λ outcome body. IsRedirect info address outcome × Closes view s file t × IsEmpty body) result
-  AfterRedirect (Ok None) method path fields info file s result t = SendsFile method path fields info file s result t
+  -- The client is sent to another address.
+  abbrev pub SendsAway : Info → List ℕ → F → S → Given F → S → Type 0
+  SendsAway info address file s result t =
+      GivesBody (λ answer. IsRedirect info address answer.0 × Closes view s file t × IsEmpty answer.1) result
 
-  abbrev pub ByRedirect : Bool → DavMethod → WebPath → Fields → Info → F → S → Given F → S → Type 0
-  ByRedirect false method path fields info file s result t = SendsFile method path fields info file s result t
-  ByRedirect true method path fields info file s result t = (said : Result (Option (List ℕ)) FsError) × (g : F) × (m : S)
-      × Redirects s file said m g × AfterRedirect said method path fields info g m result t
+  abbrev pub AfterRedirect : Result (Option (List ℕ)) FsError → Query → Info → F → S → Given F → S → Type 0
+  AfterRedirect (Err e) q info file s result t = Closes view s file t × (result ≡ Err (of_fs e))
+  AfterRedirect (Ok (Some address)) q info file s result t = SendsAway info address file s result t
+  AfterRedirect (Ok None) q info file s result t = SendsFile q info file s result t
 
-  abbrev pub ByFile : Bool → Settings → DavMethod → WebPath → Fields → Info → F → S → Given F → S → Type 0
-  ByFile true settings method path fields info file s result t = ByRedirect (is_set settings.redirect) method path fields info file s result t
-  ByFile false settings method path fields info file s result t = Closes view s file t × (result ≡ Err (Status 405))
+  abbrev pub ByRedirect : Bool → Query → Info → F → S → Given F → S → Type 0
+  ByRedirect false q info file s result t = SendsFile q info file s result t
+  ByRedirect true q info file s result t = (said : Result (Option (List ℕ)) FsError) × (g : F) × (m : S)
+      × Redirects s file said m g × AfterRedirect said q info g m result t
 
-  abbrev pub AfterMeta : Result Info FsError → Settings → DavMethod → WebPath → Fields → F → S → Given F → S → Type 0
-  AfterMeta (Err e) settings method path fields file s result t = Closes view s file t × (result ≡ Err (of_fs e))
-  AfterMeta (Ok info) settings method path fields file s result t = ByFile (is_file info.kind) settings method path fields info file s result t
+  abbrev pub ByFile : Bool → Query → Info → F → S → Given F → S → Type 0
+  ByFile true q info file s result t = ByRedirect (is_set q.settings.redirect) q info file s result t
+  ByFile false q info file s result t = Closes view s file t × (result ≡ Err (Status 405))
+
+  abbrev pub AfterMeta : Result Info FsError → Query → F → S → Given F → S → Type 0
+  AfterMeta (Err e) q file s result t = Closes view s file t × (result ≡ Err (of_fs e))
+  AfterMeta (Ok info) q file s result t = ByFile (is_file info.kind) q info file s result t
 
   -- a file that was opened
-  abbrev pub GetsFile : Settings → DavMethod → WebPath → Fields → F → S → Given F → S → Type 0
-  GetsFile settings method path fields file s result t = (said : Result Info FsError) × (g : F) × (m : S)
-      × Says view s file said m g × AfterMeta said settings method path fields g m result t
+  abbrev pub GetsFile : Query → F → S → Given F → S → Type 0
+  GetsFile q file s result t = (said : Result Info FsError) × (g : F) × (m : S)
+      × Says view s file said m g × IfOk said CouldSay × AfterMeta said q g m result t
 
-  abbrev pub AfterOpen : Result F FsError → Settings → DavMethod → WebPath → Fields → S → Given F → S → Type 0
-  AfterOpen (Err e) settings method path fields s result t = (t ≡ s) × (result ≡ Err (of_fs e))
-  AfterOpen (Ok file) settings method path fields s result t = GetsFile settings method path fields file s result t ⊎ (result ≡ Err NoMemory)
+  abbrev pub AfterOpen : Result F FsError → Query → S → Given F → S → Type 0
+  AfterOpen (Err e) q s result t = (t ≡ s) × (result ≡ Err (of_fs e))
+  AfterOpen (Ok file) q s result t = GetsFile q file s result t ⊎ (result ≡ Err NoMemory)
 
   -- A directory's form isn't built.
-  abbrev pub ByKind : Bool → Settings → C → DavMethod → WebPath → Fields → S → Given F → S → Type 0
-  ByKind true settings c method path fields s result t = (t ≡ s) × (result ≡ Err (StatusClose 501))
-  ByKind false settings c method path fields s result t = (opened : Result F FsError) × (m : S)
-      × view.opens s c path reading opened m × OpensOne view.handle view.seen reading (view.state s) opened (view.state m) × AfterOpen opened settings method path fields m result t
+  abbrev pub ByKind : Bool → Query → C → S → Given F → S → Type 0
+  ByKind true q c s result t = (t ≡ s) × (result ≡ Err (StatusClose 501))
+  ByKind false q c s result t = (opened : Result F FsError) × (m : S) × view.opens s c q.path reading opened m
+      × OpensOne view.handle view.seen reading (view.state s) opened (view.state m) × AfterOpen opened q m result t
 
-  abbrev pub AfterLook : Result Info FsError → Settings → C → DavMethod → WebPath → Fields → S → Given F → S → Type 0
-  AfterLook (Err e) settings c method path fields s result t = (t ≡ s) × (result ≡ Err (of_fs e))
-  AfterLook (Ok info) settings c method path fields s result t = ByKind (is_dir info.kind) settings c method path fields s result t
+  abbrev pub AfterLook : Result Info FsError → Query → C → S → Given F → S → Type 0
+  AfterLook (Err e) q c s result t = (t ≡ s) × (result ≡ Err (of_fs e))
+  AfterLook (Ok info) q c s result t = ByKind (is_dir info.kind) q c s result t
 
-  abbrev pub ByWellKnown : Bool → Settings → C → DavMethod → WebPath → Fields → S → Given F → S → Type 0
-  ByWellKnown true settings c method path fields s result t = (t ≡ s) × GivesBody (λ outcome body. (outcome ≡ well_known_outcome) × IsEmpty body) result
-  ByWellKnown false settings c method path fields s result t = (look : Result Info FsError) × (m : S)
-      × view.looks s c path look m × AfterLook look settings c method path fields m result t
+  abbrev pub ByWellKnown : Bool → Query → C → S → Given F → S → Type 0
+  ByWellKnown true q c s result t =
+      (t ≡ s) × GivesBody (λ answer. (answer.0 ≡ well_known_outcome) × IsEmpty answer.1) result
+  ByWellKnown false q c s result t = (look : Result Info FsError) × (m : S)
+      × view.looks s c q.path look m × Keeps (view.state s) (view.state m) × AfterLook look q c m result t
 
   -- A GET or HEAD. (Want of memory is answered beside the table.)
-  abbrev pub Gets : Settings → C → DavMethod → WebPath → Fields → S → Given F → S → Type 0
-  Gets settings c method path fields s result t = ByWellKnown (is_well_known settings method path) settings c method path fields s result t
+  abbrev pub Gets : Query → C → S → Given F → S → Type 0
+  Gets q c s result t = ByWellKnown (is_well_known q.settings q.method q.path) q c s result t

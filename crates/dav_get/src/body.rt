@@ -154,7 +154,8 @@ impl<F> GetBody<F> {
     where
         F: DavFile<D>,
         requires { IsHeld F.handle F.seen (D.state disk.old) self.old }
-        ensures done { Polls F.handle F.seen (D.state disk.old) self.old (answer_of result self.new) (D.state disk.new) self.new }
+        ensures done { Polls F.handle F.seen (D.state disk.old) self.old (answer_of result self.new)
+            (D.state disk.new) self.new }
         ensures inside { IsInside result self.new }
         ensures loan { D.loan disk.new ≡ D.loan disk.old }
     {
@@ -181,7 +182,8 @@ impl<F> GetBody<F> {
         requires held { IsHeld F.handle F.seen (D.state disk.old) self.old }
         requires next { self.old.next < vec_len self.old.parts }
         requires slice { left_of self.old ≡ SlicePart slice ∷ drop (self.old.next + 1) self.old.parts.items }
-        ensures done { Polls F.handle F.seen (D.state disk.old) self.old (answer_of result self.new) (D.state disk.new) self.new }
+        ensures done { Polls F.handle F.seen (D.state disk.old) self.old (answer_of result self.new)
+            (D.state disk.new) self.new }
         ensures inside { IsInside result self.new }
         ensures loan { D.loan disk.new ≡ D.loan disk.old }
     {
@@ -200,30 +202,21 @@ impl<F> GetBody<F> {
         }
     }
 
-    // Makes one poll.
-    fn poll<D: Disk>(&mut self, disk: &mut D) -> Given
-    where
-        F: DavFile<D>,
-        requires { IsHeld F.handle F.seen (D.state disk.old) self.old }
-        ensures done { IsPolled F.handle F.seen (D.state disk.old) self.old (answer_of result self.new) (D.state disk.new) self.new }
-        ensures inside { IsInside result self.new }
-        ensures loan { D.loan disk.new ≡ D.loan disk.old }
-    {
-        self.step(disk)
-    }
-
     /// The next piece: a whole text, or bytes of the file as they stand now, or zeros where no byte stands. It takes no
     /// memory. `Broken` comes only where the disk's count of faults rose. The file is ended with the last piece, and
-    /// where the body broke; then it is at its end.
+    /// where the body broke; then it is at its end. It asks the disk for nothing where a text is given or nothing is
+    /// left, for one read of a slice, and first for a move where the file isn't at the slice.
     pub fn poll_piece<'a, D: Disk>(&'a mut self, disk: &mut D) -> Polled<'a>
     where
         F: DavFile<D>,
         requires { IsHeld F.handle F.seen (D.state disk.old) self.old }
-        ensures* ends { sem 𝓛 (EndsPolled F.row F.handle F.seen (D.state disk.old) (D.state disk.new) self.entry self.old result) }
-        ensures bound { IfPiece (answer_in result) (λ piece. length piece ≤ next_most_of (left_of self.old) (vec_len self.old.buffer)) }
+        ensures* ends { sem 𝓛 (EndsPolled F.row F.handle F.seen (D.state disk.old)
+            (D.state disk.new) self.entry self.old result) }
+        ensures bound { IfPiece (answer_in result) (λ piece. length piece ≤ next_most_of (left_of self.old)
+            (vec_len self.old.buffer)) }
         ensures loan { D.loan disk.new ≡ D.loan disk.old }
     {
-        match self.poll(disk) {
+        match self.step(disk) {
             Given::Text(at) => match &self.parts[at] {
                 BodyPart::Text(text) => Polled::Piece(text.as_slice()),
                 BodyPart::Slice(_) => unreachable!("a text was given"),

@@ -81,7 +81,8 @@ impl<F> GetBody<F> {
     where
         F: DavFile<D>,
         requires { IsHeld F.handle F.seen (D.state disk.old) self.old }
-        ensures done { StepGives F.handle F.seen (D.state disk.old) self.old (item_of result) (D.state disk.new) self.new }
+        ensures done { StepGives F.handle F.seen (D.state disk.old) self.old (item_of result)
+            (D.state disk.new) self.new }
         ensures held { IsHeld F.handle F.seen (D.state disk.new) self.new }
         ensures fewer { IfItem (item_of result) (most_of self.new < most_of self.old) }
         ensures no_more { most_of self.new ≤ most_of self.old }
@@ -99,7 +100,8 @@ impl<F: DavFile<D>, D: Disk> Steps<D> for GetBody<F> {
 
     ghost may_resume = { λ b d. IsHeld F.handle F.seen (D.state d) b };
 
-    ghost gives = { λ b d told c e. StepGives F.handle F.seen (D.state d) b told (D.state e) c × (D.loan e ≡ D.loan d) };
+    ghost gives = { λ b d told c e. StepGives F.handle F.seen (D.state d) b told (D.state e) c
+        × (D.loan e ≡ D.loan d) };
 
     ghost most = { most_of };
 

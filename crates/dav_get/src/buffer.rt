@@ -18,7 +18,8 @@ impl ReadBuffer {
     /// Room for pieces of at most `read_size` bytes of a file, and of at most 4,096 zeros.
     pub fn new(alloc: Global, read_size: usize) -> Result<Self, NoMemory>
         requires { 0 < read_size }
-        ensures { IfOk result (λ buffer. (buffer.most ≡ read_size) × (vec_len buffer.bytes ≡ max read_size zeros_size)) }
+        ensures { IfOk result (λ buffer. (buffer.most ≡ read_size) × (vec_len buffer.bytes ≡ max read_size
+            zeros_size)) }
     {
         let bytes = vec![in alloc; 0; read_size.max(ZEROS_SIZE)]?;
         Ok(ReadBuffer {

@@ -29,8 +29,8 @@ fn of_ranges(ranges: Ranges) -> Sent
     }
 }
 
-/// What of a file is sent in answer to these fields. A precondition that fails decides; otherwise the ranges, where they
-/// are heard.
+/// What of a file is sent in answer to these fields. A precondition that fails decides; otherwise the ranges, where
+/// they are heard.
 pub(crate) fn decide<M: DavMetaData>(
     alloc: Global,
     method: DavMethod,

@@ -1,24 +1,29 @@
-//! GET and HEAD over a store. There is one function for each line of the table from which a file is in hand, so that a file
-//! that was opened is always closed or given to a body.
-ghost use Rattle.std.specs.Prelude.{◌≡◌, ◌<◌, ◌⊎◌, true, false, IsSome, None, Some, Ok, Err};
+//! GET and HEAD over a store. There is one function for each line of the table from which a file is in hand, so that a
+//! file that was opened is always closed or given to a body.
+ghost use Rattle.std.specs.Prelude.{◌≡◌, ◌<◌, ◌⊎◌, ℕ, true, false, IsSome, Some, Result, Ok, Err};
+ghost use Rattle.dav_core.specs.declared.error.FsError.{FsError};
 ghost use Rattle.dav_core.specs.Disk.{can_read, Live};
 ghost use Rattle.dav_core.specs.Options.{reading};
 ghost use Rattle.dav_model.specs.declared.sent.Sent.TheVariants.{Unsatisfied};
+ghost use Rattle.dav_model.specs.declared.target.Target.TheVariants.{At};
+ghost use Rattle.dav_model.specs.Announced.{HasSoundBody, IsFramed};
+ghost use Rattle.dav_model.specs.Due.{query};
 ghost use Rattle.dav_model.specs.Head.{is_set, is_well_known as the_is_well_known};
 ghost use Rattle.dav_model.specs.Sizes.{read_size_of};
-ghost use Rattle.std.specs.Prelude.{ℕ, Result};
-ghost use Rattle.dav_core.specs.declared.error.FsError.{FsError};
 ghost use Rattle.dav_store.specs.Shows.{Shows};
 ghost use Rattle.dav_store.specs.Standing.{Seen, Standing};
-ghost use Rattle.dav_get.specs.Right.{OpensLooked, RightHead, reply_at};
-ghost use Rattle.dav_model.specs.Announced.{HasSoundBody, IsFramed};
-ghost use Rattle.dav_model.specs.declared.target.Target.TheVariants.{At};
 ghost use Rattle.dav_store.specs.View.{the_view, Closes};
+ghost use Rattle.dav_get.specs.Asked.{asked_of};
+ghost use Rattle.dav_get.specs.Heard.{Heard};
 ghost use Rattle.dav_get.specs.Lives.{HeldOrClosed, HasMost, OpenOnlyHeld};
+ghost use Rattle.dav_get.specs.OpenFiles.{IsAt};
 ghost use Rattle.dav_get.specs.Prepared.{AreReady};
-ghost use Rattle.dav_get.specs.Table.{ByKind, ByPlace, ByRedirect, ByWellKnown, Gets, GetsFile, GivesBody, Holds, IsEmpty, IsRedirect, Redirects, Sends, SendsFile, first_place as the_first_place};
+ghost use Rattle.dav_get.specs.Right.{reply_at};
+ghost use Rattle.dav_get.specs.Table.{ByKind, ByRedirect, ByWellKnown, Gets, GetsFile, GivesBody, Holds, IsEmpty, Redirects, Sends, SendsAway, SendsFile, SendsFrom};
+ghost use Rattle.dav_get.specs.Told.{IsRightFor};
 ghost use Rattle.dav_get.specs.Within.{IsSentOf};
 
+use crate::asked::Asked;
 use crate::body::GetBody;
 use crate::buffer::ReadBuffer;
 use crate::deciding::{decide, first_place};
@@ -40,7 +45,8 @@ fn give_up<S: GuardedFileSystem<C>, C>(fs: &mut S, file: S::File, error: DavErro
     requires { IsSome ((S.Disk.state (S.inside fs.old)).live (S.File.handle file)) }
     ensures closed { Closes (the_view S.GuardedFileSystem S.Disk.Disk S.File.DavFile) fs.old file fs.new }
     ensures error { result ≡ Err error }
-    ensures life { HeldOrClosed (the_view S.GuardedFileSystem S.Disk.Disk S.File.DavFile) (S.File.handle file) fs.old result fs.new }
+    ensures life { HeldOrClosed (the_view S.GuardedFileSystem S.Disk.Disk S.File.DavFile)
+        (S.File.handle file) fs.old result fs.new }
     ensures loan { S.Disk.loan (S.inside fs.new) ≡ S.Disk.loan (S.inside fs.old) }
 {
     file_close(fs, file);
@@ -56,8 +62,9 @@ fn answer_alone<S: GuardedFileSystem<C>, C>(
 ) -> Given<S::File>
     requires { IsSome ((S.Disk.state (S.inside fs.old)).live (S.File.handle file)) }
     ensures closed { Closes (the_view S.GuardedFileSystem S.Disk.Disk S.File.DavFile) fs.old file fs.new }
-    ensures given { GivesBody (λ o body. (o ≡ outcome) × IsEmpty body) result }
-    ensures life { HeldOrClosed (the_view S.GuardedFileSystem S.Disk.Disk S.File.DavFile) (S.File.handle file) fs.old result fs.new }
+    ensures given { GivesBody (λ answer. (answer.0 ≡ outcome) × IsEmpty answer.1) result }
+    ensures life { HeldOrClosed (the_view S.GuardedFileSystem S.Disk.Disk S.File.DavFile)
+        (S.File.handle file) fs.old result fs.new }
     ensures loan { S.Disk.loan (S.inside fs.new) ≡ S.Disk.loan (S.inside fs.old) }
 {
     file_close(fs, file);
@@ -70,18 +77,18 @@ fn answer_alone<S: GuardedFileSystem<C>, C>(
 // Gives the parts that were made ready over the file; where there are none, the file is closed.
 fn hold<S: GuardedFileSystem<C>, C>(
     fs: &mut S,
-    file: S::File,
-    place: u64,
+    held: OpenAt<S::File>,
     prepared: Prepared,
     size: usize,
 ) -> (Outcome, GetBody<S::File>)
-    requires live { can_read ((S.Disk.state (S.inside fs.old)).live (S.File.handle file)) ≡ true }
-    requires place { (f : Seen) → S.File.seen file (S.Disk.state (S.inside fs.old)) ≡ Some f → f.place ≡ place }
+    requires at { IsAt S.File.handle S.File.seen (S.Disk.state (S.inside fs.old)) held }
     requires some { 0 < size }
     requires ready { AreReady size prepared.parts.items prepared.buffer }
     ensures outcome { result.0 ≡ prepared.outcome }
-    ensures holds { Holds (the_view S.GuardedFileSystem S.Disk.Disk S.File.DavFile) prepared.parts.items file place fs.old result.1 fs.new }
-    ensures life { HeldOrClosed (the_view S.GuardedFileSystem S.Disk.Disk S.File.DavFile) (S.File.handle file) fs.old (Ok result) fs.new }
+    ensures holds { Holds (the_view S.GuardedFileSystem S.Disk.Disk S.File.DavFile) prepared.parts.items held fs.old
+        result.1 fs.new }
+    ensures life { HeldOrClosed (the_view S.GuardedFileSystem S.Disk.Disk S.File.DavFile)
+        (S.File.handle held.file) fs.old (Ok result) fs.new }
     ensures most { HasMost size (Ok result) }
     ensures loan { S.Disk.loan (S.inside fs.new) ≡ S.Disk.loan (S.inside fs.old) }
 {
@@ -91,88 +98,88 @@ fn hold<S: GuardedFileSystem<C>, C>(
         buffer,
     } = prepared;
     if parts.is_empty() {
-        file_close(fs, file);
+        file_close(fs, held.file);
         return (outcome, GetBody::new(parts, None, buffer));
     }
-    let open = OpenAt { file, place };
-    (outcome, GetBody::new(parts, Some(open), buffer))
+    (outcome, GetBody::new(parts, Some(held), buffer))
 }
 
-// Sends this of the file, which stands at this place.
+// Sends this of the file, which stands at its place.
 fn send<S: GuardedFileSystem<C>, C>(
     alloc: Global,
-    settings: &Settings,
     fs: &mut S,
-    file: S::File,
-    place: u64,
-    method: DavMethod,
-    path: &DavPath,
+    held: OpenAt<S::File>,
+    asked: &Asked<'_>,
     meta: &S::Meta,
     sent: &Sent,
 ) -> Given<S::File>
-    requires live { can_read ((S.Disk.state (S.inside fs.old)).live (S.File.handle file)) ≡ true }
-    requires place { (f : Seen) → S.File.seen file (S.Disk.state (S.inside fs.old)) ≡ Some f → f.place ≡ place }
+    requires at { IsAt S.File.handle S.File.seen (S.Disk.state (S.inside fs.old)) held }
     requires within { IsSentOf (S.Meta.info meta.now).len sent.now }
-    ensures table { GivesBody (λ outcome body. Sends (the_view S.GuardedFileSystem S.Disk.Disk S.File.DavFile) method path.now (S.Meta.info meta.now) sent.now file place fs.old outcome body fs.new) result ⊎ (result ≡ Err DavError.NoMemory) }
-    ensures life { HeldOrClosed (the_view S.GuardedFileSystem S.Disk.Disk S.File.DavFile) (S.File.handle file) fs.old result fs.new }
-    ensures most { HasMost (read_size_of settings.now.read_buf_size) result }
+    ensures table { GivesBody (λ answer. Sends (the_view S.GuardedFileSystem S.Disk.Disk S.File.DavFile)
+        (asked_of asked.now) (S.Meta.info meta.now) sent.now held fs.old answer fs.new) result
+        ⊎ (result ≡ Err DavError.NoMemory) }
+    ensures life { HeldOrClosed (the_view S.GuardedFileSystem S.Disk.Disk S.File.DavFile)
+        (S.File.handle held.file) fs.old result fs.new }
+    ensures most { HasMost (read_size_of asked.now.settings.now.read_buf_size) result }
     ensures loan { S.Disk.loan (S.inside fs.new) ≡ S.Disk.loan (S.inside fs.old) }
 {
-    match prepare(alloc, settings, method, path, meta, sent) {
-        Ok(prepared) => Ok(hold(fs, file, place, prepared, settings.read_size())),
-        Err(_) => give_up(fs, file, DavError::NoMemory),
+    match prepare(alloc, asked.settings, asked.method, asked.path, meta, sent) {
+        Ok(prepared) => Ok(hold(fs, held, prepared, asked.settings.read_size())),
+        Err(_) => give_up(fs, held.file, DavError::NoMemory),
     }
 }
 
-// Sends this of the file, which is moved to the first part before. Where it can't be moved there, no range could be met.
+// Sends this of the file, which is moved to the first part before. Where it can't be moved there, no range could be
+// met.
 fn send_from<S: GuardedFileSystem<C>, C>(
     alloc: Global,
-    settings: &Settings,
     fs: &mut S,
     file: S::File,
-    method: DavMethod,
-    path: &DavPath,
+    asked: &Asked<'_>,
     meta: &S::Meta,
     sent: &Sent,
 ) -> Given<S::File>
     requires live { can_read ((S.Disk.state (S.inside fs.old)).live (S.File.handle file)) ≡ true }
     requires place { (f : Seen) → S.File.seen file (S.Disk.state (S.inside fs.old)) ≡ Some f → f.place ≡ 0 }
     requires within { IsSentOf (S.Meta.info meta.now).len sent.now }
-    ensures table { GivesBody (λ outcome body. ByPlace (the_view S.GuardedFileSystem S.Disk.Disk S.File.DavFile) (the_first_place sent.now) method path.now (S.Meta.info meta.now) sent.now file fs.old outcome body fs.new) result ⊎ (result ≡ Err DavError.NoMemory) }
-    ensures life { HeldOrClosed (the_view S.GuardedFileSystem S.Disk.Disk S.File.DavFile) (S.File.handle file) fs.old result fs.new }
-    ensures most { HasMost (read_size_of settings.now.read_buf_size) result }
+    ensures table { GivesBody (λ answer. SendsFrom (the_view S.GuardedFileSystem S.Disk.Disk S.File.DavFile)
+        (asked_of asked.now) (S.Meta.info meta.now) sent.now file fs.old answer fs.new) result
+        ⊎ (result ≡ Err DavError.NoMemory) }
+    ensures life { HeldOrClosed (the_view S.GuardedFileSystem S.Disk.Disk S.File.DavFile)
+        (S.File.handle file) fs.old result fs.new }
+    ensures most { HasMost (read_size_of asked.now.settings.now.read_buf_size) result }
     ensures loan { S.Disk.loan (S.inside fs.new) ≡ S.Disk.loan (S.inside fs.old) }
 {
     let Some(start) = first_place(sent) else {
-        return send(alloc, settings, fs, file, 0, method, path, meta, sent);
+        return send(alloc, fs, OpenAt { file, place: 0 }, asked, meta, sent);
     };
     let mut file = file;
     match file_seek(fs, &mut file, start) {
-        Ok(_) => send(alloc, settings, fs, file, start, method, path, meta, sent),
-        Err(_) => send_unplaced(alloc, settings, fs, file, start, method, path, meta),
+        Ok(_) => send(alloc, fs, OpenAt { file, place: start }, asked, meta, sent),
+        Err(_) => send_unplaced(alloc, fs, OpenAt { file, place: start }, asked, meta),
     }
 }
 
 // No range could be met, as the file couldn't be moved to the first.
 fn send_unplaced<S: GuardedFileSystem<C>, C>(
     alloc: Global,
-    settings: &Settings,
     fs: &mut S,
-    file: S::File,
-    start: u64,
-    method: DavMethod,
-    path: &DavPath,
+    held: OpenAt<S::File>,
+    asked: &Asked<'_>,
     meta: &S::Meta,
 ) -> Given<S::File>
-    requires { IsSome ((S.Disk.state (S.inside fs.old)).live (S.File.handle file)) }
-    ensures table { GivesBody (λ outcome body. Sends (the_view S.GuardedFileSystem S.Disk.Disk S.File.DavFile) method path.now (S.Meta.info meta.now) Unsatisfied file start fs.old outcome body fs.new) result ⊎ (result ≡ Err DavError.NoMemory) }
-    ensures life { HeldOrClosed (the_view S.GuardedFileSystem S.Disk.Disk S.File.DavFile) (S.File.handle file) fs.old result fs.new }
-    ensures most { HasMost (read_size_of settings.now.read_buf_size) result }
+    requires { IsSome ((S.Disk.state (S.inside fs.old)).live (S.File.handle held.file)) }
+    ensures table { GivesBody (λ answer. Sends (the_view S.GuardedFileSystem S.Disk.Disk S.File.DavFile)
+        (asked_of asked.now) (S.Meta.info meta.now) Unsatisfied held fs.old answer fs.new) result
+        ⊎ (result ≡ Err DavError.NoMemory) }
+    ensures life { HeldOrClosed (the_view S.GuardedFileSystem S.Disk.Disk S.File.DavFile)
+        (S.File.handle held.file) fs.old result fs.new }
+    ensures most { HasMost (read_size_of asked.now.settings.now.read_buf_size) result }
     ensures loan { S.Disk.loan (S.inside fs.new) ≡ S.Disk.loan (S.inside fs.old) }
 {
-    match prepare_unsatisfied(alloc, method, path, meta) {
-        Ok(outcome) => answer_alone(alloc, fs, file, outcome),
-        Err(_) => give_up(fs, file, DavError::NoMemory),
+    match prepare_unsatisfied(alloc, asked.method, asked.path, meta) {
+        Ok(outcome) => answer_alone(alloc, fs, held.file, outcome),
+        Err(_) => give_up(fs, held.file, DavError::NoMemory),
     }
 }
 
@@ -183,7 +190,8 @@ fn file_redirect<S: GuardedFileSystem<C>, C>(
     file: &mut S::File,
 ) -> Result<Option<Text>, FsError>
     requires { IsSome ((S.Disk.state (S.inside fs.old)).live (S.File.handle file.old)) }
-    ensures { Redirects (the_view S.GuardedFileSystem S.Disk.Disk S.File.DavFile) fs.old file.old result fs.new file.new }
+    ensures { Redirects (the_view S.GuardedFileSystem S.Disk.Disk S.File.DavFile) fs.old file.old result fs.new
+        file.new }
 {
     file.redirect_url(alloc, fs.disk())
 }
@@ -191,23 +199,22 @@ fn file_redirect<S: GuardedFileSystem<C>, C>(
 // Sends of a regular file what its metadata and the fields of the request call for.
 fn send_file<S: GuardedFileSystem<C>, C>(
     alloc: Global,
-    settings: &Settings,
     fs: &mut S,
     file: S::File,
-    method: DavMethod,
-    path: &DavPath,
-    fields: &HeaderMap,
+    asked: &Asked<'_>,
     meta: &S::Meta,
 ) -> Given<S::File>
     requires live { can_read ((S.Disk.state (S.inside fs.old)).live (S.File.handle file)) ≡ true }
     requires place { (f : Seen) → S.File.seen file (S.Disk.state (S.inside fs.old)) ≡ Some f → f.place ≡ 0 }
-    ensures table { SendsFile (the_view S.GuardedFileSystem S.Disk.Disk S.File.DavFile) method path.now fields.now (S.Meta.info meta.now) file fs.old result fs.new ⊎ (result ≡ Err DavError.NoMemory) }
-    ensures life { HeldOrClosed (the_view S.GuardedFileSystem S.Disk.Disk S.File.DavFile) (S.File.handle file) fs.old result fs.new }
-    ensures most { HasMost (read_size_of settings.now.read_buf_size) result }
+    ensures table { SendsFile (the_view S.GuardedFileSystem S.Disk.Disk S.File.DavFile) (asked_of asked.now)
+        (S.Meta.info meta.now) file fs.old result fs.new ⊎ (result ≡ Err DavError.NoMemory) }
+    ensures life { HeldOrClosed (the_view S.GuardedFileSystem S.Disk.Disk S.File.DavFile)
+        (S.File.handle file) fs.old result fs.new }
+    ensures most { HasMost (read_size_of asked.now.settings.now.read_buf_size) result }
     ensures loan { S.Disk.loan (S.inside fs.new) ≡ S.Disk.loan (S.inside fs.old) }
 {
-    match decide(alloc, method, fields, meta) {
-        Ok(sent) => send_from(alloc, settings, fs, file, method, path, meta, &sent),
+    match decide(alloc, asked.method, asked.fields, meta) {
+        Ok(sent) => send_from(alloc, fs, file, asked, meta, &sent),
         Err(_) => give_up(fs, file, DavError::NoMemory),
     }
 }
@@ -221,8 +228,10 @@ fn send_away<S: GuardedFileSystem<C>, C>(
     address: &Text,
 ) -> Given<S::File>
     requires { IsSome ((S.Disk.state (S.inside fs.old)).live (S.File.handle file)) }
-    ensures table { GivesBody (λ outcome body. IsRedirect (S.Meta.info meta.now) address.now outcome × Closes (the_view S.GuardedFileSystem S.Disk.Disk S.File.DavFile) fs.old file fs.new × IsEmpty body) result ⊎ (result ≡ Err DavError.NoMemory) }
-    ensures life { HeldOrClosed (the_view S.GuardedFileSystem S.Disk.Disk S.File.DavFile) (S.File.handle file) fs.old result fs.new }
+    ensures table { SendsAway (the_view S.GuardedFileSystem S.Disk.Disk S.File.DavFile)
+        (S.Meta.info meta.now) address.now file fs.old result fs.new ⊎ (result ≡ Err DavError.NoMemory) }
+    ensures life { HeldOrClosed (the_view S.GuardedFileSystem S.Disk.Disk S.File.DavFile)
+        (S.File.handle file) fs.old result fs.new }
     ensures loan { S.Disk.loan (S.inside fs.new) ≡ S.Disk.loan (S.inside fs.old) }
 {
     match redirected_fields(alloc, address, meta) {
@@ -240,28 +249,28 @@ fn send_away<S: GuardedFileSystem<C>, C>(
 // Gives a regular file that was opened, or the address to which it sends a client.
 fn give_file<S: GuardedFileSystem<C>, C>(
     alloc: Global,
-    settings: &Settings,
     fs: &mut S,
     file: S::File,
-    method: DavMethod,
-    path: &DavPath,
-    fields: &HeaderMap,
+    asked: &Asked<'_>,
     meta: &S::Meta,
 ) -> Given<S::File>
     requires live { can_read ((S.Disk.state (S.inside fs.old)).live (S.File.handle file)) ≡ true }
     requires place { (f : Seen) → S.File.seen file (S.Disk.state (S.inside fs.old)) ≡ Some f → f.place ≡ 0 }
-    ensures table { ByRedirect (the_view S.GuardedFileSystem S.Disk.Disk S.File.DavFile) (is_set settings.now.redirect) method path.now fields.now (S.Meta.info meta.now) file fs.old result fs.new ⊎ (result ≡ Err DavError.NoMemory) }
-    ensures life { HeldOrClosed (the_view S.GuardedFileSystem S.Disk.Disk S.File.DavFile) (S.File.handle file) fs.old result fs.new }
-    ensures most { HasMost (read_size_of settings.now.read_buf_size) result }
+    ensures table { ByRedirect (the_view S.GuardedFileSystem S.Disk.Disk S.File.DavFile)
+        (is_set asked.now.settings.now.redirect) (asked_of asked.now) (S.Meta.info meta.now) file fs.old result fs.new
+        ⊎ (result ≡ Err DavError.NoMemory) }
+    ensures life { HeldOrClosed (the_view S.GuardedFileSystem S.Disk.Disk S.File.DavFile)
+        (S.File.handle file) fs.old result fs.new }
+    ensures most { HasMost (read_size_of asked.now.settings.now.read_buf_size) result }
     ensures loan { S.Disk.loan (S.inside fs.new) ≡ S.Disk.loan (S.inside fs.old) }
 {
-    if !is_on(settings.redirect) {
-        return send_file(alloc, settings, fs, file, method, path, fields, meta);
+    if !is_on(asked.settings.redirect) {
+        return send_file(alloc, fs, file, asked, meta);
     }
     let mut file = file;
     match file_redirect(alloc, fs, &mut file) {
         Ok(Some(address)) => send_away(alloc, fs, file, meta, &address),
-        Ok(None) => send_file(alloc, settings, fs, file, method, path, fields, meta),
+        Ok(None) => send_file(alloc, fs, file, asked, meta),
         Err(error) => give_up(fs, file, DavError::from(error)),
     }
 }
@@ -279,26 +288,26 @@ fn is_on(setting: Option<bool>) -> bool
 // Looks at a file that was opened, and gives it where it is a regular one.
 fn get_file<S: GuardedFileSystem<C>, C>(
     alloc: Global,
-    settings: &Settings,
     fs: &mut S,
     file: S::File,
-    method: DavMethod,
-    path: &DavPath,
-    fields: &HeaderMap,
+    asked: &Asked<'_>,
 ) -> Given<S::File>
     requires live { IsSome ((S.Disk.state (S.inside fs.old)).live (S.File.handle file)) }
-    requires reads { (l : Live) → (S.Disk.state (S.inside fs.old)).live (S.File.handle file) ≡ Some l → l.how ≡ reading }
+    requires reads { (l : Live) → (S.Disk.state (S.inside fs.old)).live (S.File.handle file) ≡ Some l
+        → l.how ≡ reading }
     requires place { (f : Seen) → S.File.seen file (S.Disk.state (S.inside fs.old)) ≡ Some f → f.place ≡ 0 }
-    ensures table { GetsFile (the_view S.GuardedFileSystem S.Disk.Disk S.File.DavFile) settings.now method path.now fields.now file fs.old result fs.new ⊎ (result ≡ Err DavError.NoMemory) }
-    ensures life { HeldOrClosed (the_view S.GuardedFileSystem S.Disk.Disk S.File.DavFile) (S.File.handle file) fs.old result fs.new }
-    ensures most { HasMost (read_size_of settings.now.read_buf_size) result }
+    ensures table { GetsFile (the_view S.GuardedFileSystem S.Disk.Disk S.File.DavFile)
+        (asked_of asked.now) file fs.old result fs.new ⊎ (result ≡ Err DavError.NoMemory) }
+    ensures life { HeldOrClosed (the_view S.GuardedFileSystem S.Disk.Disk S.File.DavFile)
+        (S.File.handle file) fs.old result fs.new }
+    ensures most { HasMost (read_size_of asked.now.settings.now.read_buf_size) result }
     ensures loan { S.Disk.loan (S.inside fs.new) ≡ S.Disk.loan (S.inside fs.old) }
 {
     let mut file = file;
     match file_metadata(fs, &mut file) {
         Ok(meta) => {
             if meta.is_file() {
-                return give_file(alloc, settings, fs, file, method, path, fields, &meta);
+                return give_file(alloc, fs, file, asked, &meta);
             }
             give_up(fs, file, DavError::Status(StatusCode::METHOD_NOT_ALLOWED))
         }
@@ -309,20 +318,18 @@ fn get_file<S: GuardedFileSystem<C>, C>(
 // Opens what isn't a directory, and gives it.
 fn open_file<S: GuardedFileSystem<C>, C>(
     alloc: Global,
-    settings: &Settings,
     fs: &mut S,
     credentials: &C,
-    method: DavMethod,
-    path: &DavPath,
-    fields: &HeaderMap,
+    asked: &Asked<'_>,
 ) -> Given<S::File>
-    ensures table { ByKind (the_view S.GuardedFileSystem S.Disk.Disk S.File.DavFile) false settings.now credentials.now method path.now fields.now fs.old result fs.new }
+    ensures table { ByKind (the_view S.GuardedFileSystem S.Disk.Disk S.File.DavFile) false
+        (asked_of asked.now) credentials.now fs.old result fs.new }
     ensures life { OpenOnlyHeld (the_view S.GuardedFileSystem S.Disk.Disk S.File.DavFile) fs.old result fs.new }
-    ensures most { HasMost (read_size_of settings.now.read_buf_size) result }
+    ensures most { HasMost (read_size_of asked.now.settings.now.read_buf_size) result }
     ensures loan { S.Disk.loan (S.inside fs.new) ≡ S.Disk.loan (S.inside fs.old) }
 {
-    match fs.open(path, OpenOptions::read(), credentials) {
-        Ok(file) => get_file(alloc, settings, fs, file, method, path, fields),
+    match fs.open(asked.path, OpenOptions::read(), credentials) {
+        Ok(file) => get_file(alloc, fs, file, asked),
         Err(error) => Err(DavError::from(error)),
     }
 }
@@ -330,55 +337,55 @@ fn open_file<S: GuardedFileSystem<C>, C>(
 // Looks at the path, and gives what stands there.
 fn look<S: GuardedFileSystem<C>, C>(
     alloc: Global,
-    settings: &Settings,
     fs: &mut S,
     credentials: &C,
-    method: DavMethod,
-    path: &DavPath,
-    fields: &HeaderMap,
+    asked: &Asked<'_>,
 ) -> Given<S::File>
-    ensures table { ByWellKnown (the_view S.GuardedFileSystem S.Disk.Disk S.File.DavFile) false settings.now credentials.now method path.now fields.now fs.old result fs.new }
+    ensures table { ByWellKnown (the_view S.GuardedFileSystem S.Disk.Disk S.File.DavFile) false
+        (asked_of asked.now) credentials.now fs.old result fs.new }
     ensures life { OpenOnlyHeld (the_view S.GuardedFileSystem S.Disk.Disk S.File.DavFile) fs.old result fs.new }
-    ensures most { HasMost (read_size_of settings.now.read_buf_size) result }
+    ensures most { HasMost (read_size_of asked.now.settings.now.read_buf_size) result }
     ensures loan { S.Disk.loan (S.inside fs.new) ≡ S.Disk.loan (S.inside fs.old) }
 {
-    match fs.metadata(path, credentials) {
+    match fs.metadata(asked.path, credentials) {
         Ok(meta) => {
             if meta.is_dir() {
                 return Err(DavError::StatusClose(StatusCode::NOT_IMPLEMENTED));
             }
-            open_file(alloc, settings, fs, credentials, method, path, fields)
+            open_file(alloc, fs, credentials, asked)
         }
         Err(error) => Err(DavError::from(error)),
     }
 }
 
 // Whether the page is asked for that clients of a well-known server look for.
-fn is_well_known(settings: &Settings, method: DavMethod, path: &DavPath) -> bool
-    ensures { result ≡ the_is_well_known settings.now method path.now }
+fn is_well_known(asked: &Asked<'_>) -> bool
+    ensures { result ≡ the_is_well_known asked.now.settings.now asked.now.method asked.now.path.now }
 {
-    if !is_get(method) {
+    if !is_get(asked.method) {
         return false;
     }
-    if is_on(settings.autoindex) {
+    if is_on(asked.settings.autoindex) {
         return false;
     }
-    if !path.is_collection() {
+    if !asked.path.is_collection() {
         return false;
     }
-    match path.names().as_slice() {
+    match asked.path.names().as_slice() {
         [first, second] => first.as_str() == "remote.php" && second.as_str() == "webdav",
         _ => false,
     }
 }
 
-/// Answers a GET or HEAD (RFC 9110, sections 9.3.1, 9.3.2, 13 and 14) over any store: preconditions, one range or several, and
-/// the body that gives them. An error is the store's refusal, 405 for what is neither a directory nor a regular file, or 501
-/// with a close for a directory, whose form isn't built. A file that was opened is closed again, or held by the body.
+/// Answers a GET or HEAD (RFC 9110, sections 9.3.1, 9.3.2, 13 and 14) over any store: preconditions, one range or
+/// several, and the body that gives them. An error is the store's refusal, 405 for what is neither a directory nor a
+/// regular file, or 501 with a close for a directory, whose form isn't built. A file that was opened is closed again,
+/// or held by the body.
 ///
-/// `table` tells which call of the store gave the answer. `framed` says that its field `content-length` is the length of the
-/// body, and that a HEAD and 304 have none. `sound` says that no part of the body is empty, and that 204 has none. `right` says
-/// that the answer is the head of what the store shows at the path, unless a fault was met or memory was refused.
+/// `table` tells which call of the store gave the answer. `framed` says that its field `content-length` is the length
+/// of the body, and that a HEAD and 304 have none. `sound` says that no part of the body is empty, and that 204 has
+/// none. `heard` says, of any store, that the answer is right for what its look and its opening answered; `right`, that
+/// it is right for what the store shows at the path, unless a fault was met. Either way memory may be refused.
 pub fn handle_get<S: GuardedFileSystem<C>, C>(
     alloc: Global,
     settings: &Settings,
@@ -388,35 +395,45 @@ pub fn handle_get<S: GuardedFileSystem<C>, C>(
     path: &DavPath,
     fields: &HeaderMap,
 ) -> Given<S::File>
-    ensures table { Gets (the_view S.GuardedFileSystem S.Disk.Disk S.File.DavFile) settings.now credentials.now method path.now fields.now fs.old result fs.new ⊎ (result ≡ Err DavError.NoMemory) }
+    ensures table { Gets (the_view S.GuardedFileSystem S.Disk.Disk S.File.DavFile)
+        (query settings.now fields.now method path.now) credentials.now fs.old result fs.new
+        ⊎ (result ≡ Err DavError.NoMemory) }
     ensures framed { (number : ℕ) → IsFramed (At method path.now) (reply_at number result) }
     ensures sound { (number : ℕ) → HasSoundBody (reply_at number result) }
-    ensures right { (looked opened : Result Standing FsError) → Shows (the_view S.GuardedFileSystem S.Disk.Disk S.File.DavFile) fs.old credentials.now path.now looked opened
-        → OpensLooked looked opened → RightHead (the_view S.GuardedFileSystem S.Disk.Disk S.File.DavFile) settings.now method fields.now path.now looked fs.old result fs.new }
+    ensures heard { (result ≡ Err DavError.NoMemory) ⊎ Heard (the_view S.GuardedFileSystem S.Disk.Disk S.File.DavFile)
+        (query settings.now fields.now method path.now) credentials.now fs.old result fs.new }
+    ensures right { (looked opened : Result Standing FsError)
+        → Shows (the_view S.GuardedFileSystem S.Disk.Disk S.File.DavFile) fs.old credentials.now path.now looked opened
+        → (result ≡ Err DavError.NoMemory) ⊎ IsRightFor (the_view S.GuardedFileSystem S.Disk.Disk S.File.DavFile)
+        (query settings.now fields.now method path.now) looked opened fs.old result fs.new }
     ensures life { OpenOnlyHeld (the_view S.GuardedFileSystem S.Disk.Disk S.File.DavFile) fs.old result fs.new }
     ensures most { HasMost (read_size_of settings.now.read_buf_size) result }
     ensures loan { S.Disk.loan (S.inside fs.new) ≡ S.Disk.loan (S.inside fs.old) }
 {
-    get_once(alloc, settings, fs, credentials, method, path, fields)
+    let asked = Asked {
+        settings,
+        method,
+        path,
+        fields,
+    };
+    get_once(alloc, fs, credentials, &asked)
 }
 
 // A GET or HEAD, by the table alone.
 fn get_once<S: GuardedFileSystem<C>, C>(
     alloc: Global,
-    settings: &Settings,
     fs: &mut S,
     credentials: &C,
-    method: DavMethod,
-    path: &DavPath,
-    fields: &HeaderMap,
+    asked: &Asked<'_>,
 ) -> Given<S::File>
-    ensures table { Gets (the_view S.GuardedFileSystem S.Disk.Disk S.File.DavFile) settings.now credentials.now method path.now fields.now fs.old result fs.new ⊎ (result ≡ Err DavError.NoMemory) }
+    ensures table { Gets (the_view S.GuardedFileSystem S.Disk.Disk S.File.DavFile)
+        (asked_of asked.now) credentials.now fs.old result fs.new ⊎ (result ≡ Err DavError.NoMemory) }
     ensures life { OpenOnlyHeld (the_view S.GuardedFileSystem S.Disk.Disk S.File.DavFile) fs.old result fs.new }
-    ensures most { HasMost (read_size_of settings.now.read_buf_size) result }
+    ensures most { HasMost (read_size_of asked.now.settings.now.read_buf_size) result }
     ensures loan { S.Disk.loan (S.inside fs.new) ≡ S.Disk.loan (S.inside fs.old) }
 {
-    if !is_well_known(settings, method, path) {
-        return look(alloc, settings, fs, credentials, method, path, fields);
+    if !is_well_known(asked) {
+        return look(alloc, fs, credentials, asked);
     }
     match well_known_fields(alloc) {
         Ok(fields) => {

@@ -36,7 +36,8 @@ fn quote(alloc: Global, tag: &Text) -> Result<Octets, NoMemory>
 
 // Adds the entity tag, where there is one.
 fn add_tag<M: DavMetaData>(alloc: Global, fields: &mut Vec<Field>, meta: &M) -> Result<(), NoMemory>
-    ensures { OnOk result (fields.new.items ≡ fields.old.items ++ field_where (codes "etag") (quoted_where (M.info meta.now).tag)) }
+    ensures { OnOk result (fields.new.items ≡ fields.old.items ++ field_where (codes "etag")
+        (quoted_where (M.info meta.now).tag)) }
 {
     let Some(tag) = meta.etag(alloc)? else {
         return Ok(());
@@ -71,7 +72,8 @@ fn add_date<M: DavMetaData>(
     fields: &mut Vec<Field>,
     meta: &M,
 ) -> Result<(), NoMemory>
-    ensures { OnOk result ((date : Option (List ℕ)) × IsDate (M.info meta.now).modified date × (fields.new.items ≡ fields.old.items ++ field_where (codes "last-modified") date)) }
+    ensures { OnOk result ((date : Option (List ℕ)) × IsDate (M.info meta.now).modified date
+        × (fields.new.items ≡ fields.old.items ++ field_where (codes "last-modified") date)) }
 {
     match meta.modified() {
         Ok(time) => {
@@ -114,7 +116,8 @@ fn add_length(
     len: u64,
     sent: &Sent,
 ) -> Result<(), NoMemory>
-    ensures { OnOk result (fields.new.items ≡ fields.old.items ++ field_where (codes "content-length") (option_map decimal (the_sent_length gives len sent.now))) }
+    ensures { OnOk result (fields.new.items ≡ fields.old.items ++ field_where (codes "content-length")
+        (option_map decimal (the_sent_length gives len sent.now))) }
 {
     let Some(number) = sent_length(gives, len, sent) else {
         return Ok(());
@@ -136,7 +139,8 @@ pub(crate) fn span(alloc: Global, len: u64, part: &Slice) -> Result<String, NoMe
 // Adds `content-range`, where it stands.
 fn add_range(alloc: Global, fields: &mut Vec<Field>, len: u64, sent: &Sent) -> Result<(), NoMemory>
     requires { IsSentOf len sent.now }
-    ensures { OnOk result (fields.new.items ≡ fields.old.items ++ field_where (codes "content-range") (the_sent_range len sent.now)) }
+    ensures { OnOk result (fields.new.items ≡ fields.old.items ++ field_where (codes "content-range")
+        (the_sent_range len sent.now)) }
 {
     match sent {
         Sent::All | Sent::Alone(_) | Sent::Several(_) => Ok(()),

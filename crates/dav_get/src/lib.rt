@@ -1,6 +1,7 @@
 //! GET and HEAD of files, over any store.
 #![tactic(auto)]
 
+mod asked;
 mod body;
 pub mod body_laws;
 mod body_steps;
@@ -20,6 +21,3 @@ pub use get::handle_get;
 pub use open_at::OpenAt;
 pub use part::BodyPart;
 pub use ranges::slices;
-
-#[cfg(test)]
-mod tests;

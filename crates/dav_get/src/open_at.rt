@@ -51,7 +51,8 @@ impl<F> OpenAt<F> {
         requires some { 0 < most }
         requires room { most ≤ length into.old }
         requires zeros { zeros_size ≤ length into.old }
-        ensures done { Fills F.handle F.seen (D.state disk.old) self.old slice most into.new result (D.state disk.new) self.new }
+        ensures done { Fills F.handle F.seen (D.state disk.old) self.old slice most into.new result
+            (D.state disk.new) self.new }
         ensures loan { D.loan disk.new ≡ D.loan disk.old }
     {
         let wanted = slice.count.min(most as u64) as usize;
@@ -85,7 +86,8 @@ impl<F> OpenAt<F> {
         requires some { 0 < most }
         requires room { most ≤ length into.old }
         requires zeros { zeros_size ≤ length into.old }
-        ensures done { Fills F.handle F.seen (D.state disk.old) self.old slice most into.new result (D.state disk.new) self.new }
+        ensures done { Fills F.handle F.seen (D.state disk.old) self.old slice most into.new result
+            (D.state disk.new) self.new }
         ensures loan { D.loan disk.new ≡ D.loan disk.old }
     {
         if !self.move_to(disk, slice.start) {

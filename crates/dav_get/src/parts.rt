@@ -35,7 +35,8 @@ fn add_part(
     part: &Slice,
 ) -> Result<(), NoMemory>
     requires { IsWithin len part.now }
-    ensures parts { OnOk result ((number : ℕ) → parts_of number parts.new.items ≡ parts_of number parts.old.items ++ two_parts kind.now number len part.now) }
+    ensures parts { OnOk result ((number : ℕ) → parts_of number parts.new.items ≡ parts_of number parts.old.items ++
+        two_parts kind.now number len part.now) }
     ensures sound { list_all is_part parts.old.items ≡ true → OnOk result (list_all is_part parts.new.items ≡ true) }
 {
     let head = part_head(alloc, kind, len, part)?;
@@ -47,7 +48,8 @@ fn add_part(
 // Several slices, each with the text before it, and the last boundary.
 fn several(alloc: Global, kind: &str, len: u64, slices: &[Slice]) -> Result<Vec<BodyPart>, NoMemory>
     requires { AllByRecursion (IsWithin len) slices.now }
-    ensures parts { IfOk result (λ parts. (number : ℕ) → parts_of number parts.items ≡ several_parts kind.now number len slices.now) }
+    ensures parts { IfOk result (λ parts. (number : ℕ) → parts_of number parts.items ≡ several_parts kind.now number len
+        slices.now) }
     ensures sound { IfOk result (λ parts. list_all is_part parts.items ≡ true) }
 {
     let mut parts = Vec::new(alloc);
@@ -62,7 +64,8 @@ fn several(alloc: Global, kind: &str, len: u64, slices: &[Slice]) -> Result<Vec<
 // One slice, if there is something in it.
 fn single(alloc: Global, part: Slice) -> Result<Vec<BodyPart>, NoMemory>
     requires { part.start + part.count < 2 ^ 64 }
-    ensures parts { IfOk result (λ parts. (number : ℕ) → parts_of number parts.items ≡ slice_where number part.start part.count) }
+    ensures parts { IfOk result (λ parts. (number : ℕ) → parts_of number parts.items ≡ slice_where number part.start
+        part.count) }
     ensures sound { IfOk result (λ parts. list_all is_part parts.items ≡ true) }
 {
     let mut parts = Vec::new(alloc);
@@ -81,7 +84,8 @@ pub(crate) fn sent_parts(
     sent: &Sent,
 ) -> Result<Vec<BodyPart>, NoMemory>
     requires { IsSentOf len sent.now }
-    ensures parts { IfOk result (λ parts. (number : ℕ) → parts_of number parts.items ≡ the_sent_parts gives kind.now number len sent.now) }
+    ensures parts { IfOk result (λ parts. (number : ℕ) → parts_of number parts.items ≡ the_sent_parts gives kind.now
+        number len sent.now) }
     ensures sound { IfOk result (λ parts. list_all is_part parts.items ≡ true) }
 {
     if !gives {

@@ -66,7 +66,8 @@ pub(crate) fn prepare<M: DavMetaData>(
     sent: &Sent,
 ) -> Result<Prepared, NoMemory>
     requires { IsSentOf (M.info meta.now).len sent.now }
-    ensures { IfOk result (IsPrepared (read_size_of settings.now.read_buf_size) method path.now (M.info meta.now) sent.now) }
+    ensures { IfOk result (IsPrepared (read_size_of settings.now.read_buf_size) method path.now
+        (M.info meta.now) sent.now) }
 {
     let gives = is_get(method);
     let kind = path.get_mime_type_str();

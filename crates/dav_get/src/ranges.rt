@@ -70,7 +70,8 @@ fn slice_of(len: u64, first: Option<u64>, last: Option<u64>) -> Option<Option<Sl
 // The slice that a piece with a dash at this place asks for, as above.
 fn slice_at(len: u64, piece: &[u8], dash: usize) -> Option<Option<Slice>>
     requires { dash < length piece.now }
-    ensures { result ≡ option_map (ranges.slice_of len) (option_and_then (λ b. ranges.from_end len b.first b.last) (ranges.cut_at (Some dash) piece.now)) }
+    ensures { result ≡ option_map (ranges.slice_of len) (option_and_then (λ b. ranges.from_end len b.first b.last)
+        (ranges.cut_at (Some dash) piece.now)) }
 {
     let first = match bound(&piece[..dash]) {
         Some(first) => first,
@@ -102,7 +103,8 @@ fn slice_in(len: u64, piece: &[u8]) -> Option<Option<Slice>>
 
 // The slices that the pieces ask for. None where one of them asks for nothing that the file has.
 fn all_slices(alloc: Global, len: u64, pieces: &[&[u8]]) -> Result<Option<Vec<Slice>>, NoMemory>
-    ensures { IfOk result (λ all. option_map (λ v. v.items) all ≡ ranges.all_slices len (filter_map (ranges.kept len) (map (λ p. p.now) pieces.now))) }
+    ensures { IfOk result (λ all. option_map (λ v. v.items) all ≡ ranges.all_slices len
+        (filter_map (ranges.kept len) (map (λ p. p.now) pieces.now))) }
 {
     let mut all = Vec::new(alloc);
     for piece in pieces {

@@ -1,28 +1,31 @@
 -- What others do leaves a body as it was.
-use Rattle.std.proofs.Common.{◌≡◌, ◌≢◌, ℕ, Bool, true, false, List, [], ◌∷◌, Option, None, Some, Result, Ok, Err, refl, sym, ap, subst, ◌∙◌}
+use Rattle.std.proofs.Common.{◌≡◌, ◌≢◌, ℕ, Bool, true, false, List, [], ◌∷◌, Option, None, Some, Result, Ok, Err, refl, sym, ap, subst, ◌∙◌, ◌&&◌, ◌+◌, ◌^◌, length, nat_lt, ltb-true}
 use Rattle.std.specs.Prelude.{is_some}
-use Rattle.std.specs.List.{list_any, AllByRecursion}
+use Rattle.std.specs.List.{list_all, list_any, AllByRecursion}
+use Rattle.std.proofs.lemmas.Bool.{and_parts}
 use Rattle.std.specs.Option.{option_map}
-use Rattle.dav_io.specs.Told.{Both, told_before, both_map, both_same}
+use Rattle.dav_io.specs.Told.{Both}
+use Rattle.dav_io.proofs.ToldLemmas.{told_before, both_map, both_same}
 use Rattle.dav_core.specs.declared.tree.Kind.{Kind}
 use Rattle.dav_core.specs.World.{World, OpenFile, number_of}
-use Rattle.dav_core.specs.Changes.{turned_opens}
+use Rattle.dav_core.proofs.TurnsLeaveOpens.{turned_opens}
 use Rattle.dav_core.specs.Disk.{DiskState, Live, Turns, TurnedIn, can_read}
-use Rattle.dav_core.specs.Keeps.{Keeps, KeepsBut, SameOpen}
-use Rattle.dav_model.specs.Bodies.{Part, text}
-use Rattle.dav_model.specs.Play.{HasOpen}
+use Rattle.dav_core.specs.Unchanged.{Keeps, KeepsBut, SameOpen}
+use Rattle.dav_model.specs.Bodies.{NoneEmpty, Part, text}
+use Rattle.dav_model.specs.Play.{HasOpen, has_slice}
 use Rattle.dav_store.specs.Files.{LeavesOpen, SameSeen}
 use Rattle.dav_store.specs.Standing.{Seen}
 use Rattle.dav_plain.specs.declared.file.PlainFile.{PlainFile}
-use Rattle.dav_plain.specs.Calls.{seen_by, plain_stays}
+use Rattle.dav_plain.specs.Calls.{seen_by}
+use Rattle.dav_plain.specs.PlainStays.{plain_stays}
 use Rattle.dav_plain.specs.Standing.{seen_in, seen_with}
 use Rattle.dav_get.specs.declared.part.BodyPart.{BodyPart}
 use Rattle.dav_get.specs.declared.part.BodyPart.TheVariants.{Text, Slice as SliceOf}
 use Rattle.dav_get.specs.declared.open_at.OpenAt.{OpenAt}
-use Rattle.dav_get.specs.Bodies.{left_of, is_slice}
+use Rattle.dav_get.specs.Bodies.{left_of, is_part, is_slice, IsHeld}
 use Rattle.dav_get.specs.Parts.{parts_of}
 use Rattle.dav_get.proofs.BodyKept.{held_stays}
-use Rattle.dav_handler.specs.Held.{Body, IsOpen, handle_of, number_in, number_seen, parts_in}
+use Rattle.dav_handler.specs.Held.{Body, IsOpen, handle_in, handle_of, held_by, number_in, number_seen, parts_in}
 
 live_is : (o : Option Live) → can_read o ≡ true → (l : Live) × (o ≡ Some l)
 live_is None e = cc
@@ -94,12 +97,12 @@ seen_told : (told : Option World) (live : Option Live) (h : ℕ) (w : World) →
 seen_told None live h w e some = cc
 seen_told (Some v) live h w e some = let f : v ≡ w = cc in rw (← f) (seen_there v live h some)
 
-all_open : (w : World) (number h : ℕ) (parts : List BodyPart) → number_of w h ≡ Some number → AllByRecursion (HasOpen w) (parts_of number parts)
+all_open : (w : World) (number h : ℕ) (parts : List BodyPart) → number_of w h ≡ Some number → AllByRecursion (HasOpen w (Some h)) (parts_of number parts)
 all_open w number h [] e = tt
 all_open w number h (Text bytes ∷ parts) e = (tt, all_open w number h parts e)
-all_open w number h (SliceOf part ∷ parts) e = ((h, e), all_open w number h parts e)
+all_open w number h (SliceOf part ∷ parts) e = ((h, refl, e), all_open w number h parts e)
 
-texts_open : (w : World) (number : ℕ) (parts : List BodyPart) → list_any is_slice parts ≡ false → AllByRecursion (HasOpen w) (parts_of number parts)
+texts_open : (w : World) (number : ℕ) (parts : List BodyPart) → list_any is_slice parts ≡ false → AllByRecursion (HasOpen w None) (parts_of number parts)
 texts_open w number [] e = tt
 texts_open w number (Text bytes ∷ parts) e = (tt, texts_open w number parts e)
 texts_open w number (SliceOf part ∷ parts) e = cc
@@ -109,12 +112,12 @@ no_slices true h = let f : false ≡ true = h refl in cc
 no_slices false h = refl
 
 file_open : (s : DiskState) (w : World) (parts : List BodyPart) (file : Option (OpenAt PlainFile)) → s.told ≡ Some w → (list_any is_slice parts ≡ true → is_some file ≡ true)
-    → ((h : OpenAt PlainFile) → file ≡ Some h → is_some (seen_by h.file s) ≡ true) → AllByRecursion (HasOpen w) (parts_of (number_in s file) parts)
+    → ((h : OpenAt PlainFile) → file ≡ Some h → is_some (seen_by h.file s) ≡ true) → AllByRecursion (HasOpen w (handle_in file)) (parts_of (number_in s file) parts)
 file_open s w parts None told needs seen = texts_open w 0 parts (no_slices (list_any is_slice parts) needs)
 file_open s w parts (Some h) told needs seen = all_open w (number_seen (seen_by h.file s)) (handle_of h.file) parts (seen_told s.told (s.live (handle_of h.file)) (handle_of h.file) w told (seen h refl))
 
 -- each slice of a body has its file open
-pub body_open : (most : ℕ) (s : DiskState) (w : World) (b : Body) → IsOpen most s b → s.told ≡ Some w → AllByRecursion (HasOpen w) (parts_in s (Some b))
+pub body_open : (most : ℕ) (s : DiskState) (w : World) (b : Body) → IsOpen most s b → s.told ≡ Some w → AllByRecursion (HasOpen w (held_by (Some b))) (parts_in s (Some b))
 body_open most s w b is told = file_open s w (left_of b) b.file told is.held.needs (λ h file. is.told w h told file)
 
 -- a list of texts is the same for each number
@@ -122,3 +125,37 @@ pub texts_any : (m n : ℕ) (parts : List BodyPart) → list_any is_slice parts 
 texts_any m n [] e = refl
 texts_any m n (Text bytes ∷ parts) e = ap (λ x. text bytes ∷ x) (texts_any m n parts e)
 texts_any m n (SliceOf part ∷ parts) e = cc
+
+-- the same slices, by the number of the file
+pub slices_same : (number : ℕ) (parts : List BodyPart) → has_slice (parts_of number parts) ≡ list_any is_slice parts
+slices_same number [] = refl
+slices_same number (Text bytes ∷ parts) = slices_same number parts
+slices_same number (SliceOf part ∷ parts) = refl
+
+pub none_left : (number : ℕ) (parts : List BodyPart) → parts_of number parts ≡ [] → parts ≡ []
+none_left number [] e = refl
+none_left number (part ∷ parts) e = cc
+
+handle_some : (file : Option (OpenAt PlainFile)) → is_some file ≡ true → is_some (handle_in file) ≡ true
+handle_some None e = cc
+handle_some (Some h) e = refl
+
+handle_none : (file : Option (OpenAt PlainFile)) → is_some file ≡ false → handle_in file ≡ None
+handle_none None e = refl
+handle_none (Some h) e = cc
+
+-- A body with a slice left holds its file, and one with nothing left holds none.
+pub body_needs : (s : DiskState) (b : Body) → IsHeld handle_of seen_by s b → has_slice (parts_in s (Some b)) ≡ true → is_some (held_by (Some b)) ≡ true
+body_needs s b held has = handle_some b.file (held.needs (sym (slices_same (number_in s b.file) (left_of b)) ∙ has))
+
+pub body_over : (s : DiskState) (b : Body) → IsHeld handle_of seen_by s b → parts_in s (Some b) ≡ [] → held_by (Some b) ≡ None
+body_over s b held none = handle_none b.file (held.over (none_left (number_in s b.file) (left_of b) none))
+
+-- no part is empty
+pub parts_full : (number : ℕ) (parts : List BodyPart) → list_all is_part parts ≡ true → NoneEmpty (parts_of number parts)
+parts_full number [] e = tt
+parts_full number (Text bytes ∷ parts) e =
+    let (one, rest) = and_parts (nat_lt 0 (length bytes)) (list_all is_part parts) e in (ltb-true 0 (length bytes) one, parts_full number parts rest)
+parts_full number (SliceOf part ∷ parts) e =
+    let (one, rest) = and_parts (nat_lt 0 part.count && nat_lt (part.start + part.count) (2 ^ 64)) (list_all is_part parts) e in
+    (ltb-true 0 part.count (and_parts (nat_lt 0 part.count) (nat_lt (part.start + part.count) (2 ^ 64)) one).0, parts_full number parts rest)

@@ -1,6 +1,8 @@
 pub mod Frames
 pub mod Upkeep
 pub mod Polling
-pub mod Tracing
 pub mod Answering
 pub mod Stepping
+pub mod Handles
+pub mod HeardShown
+pub mod PlainShown

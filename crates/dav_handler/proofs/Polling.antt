@@ -4,17 +4,19 @@ use Rattle.std.specs.Prelude.{is_some}
 use Rattle.std.specs.List.{list_any}
 use mathlib.Core.Path.{fun_ext}
 use Rattle.dav_io.specs.Counts.{Rose}
-use Rattle.dav_io.specs.Told.{Both, told_before}
+use Rattle.dav_io.specs.Told.{Both}
+use Rattle.dav_io.proofs.ToldLemmas.{told_before}
 use Rattle.dav_core.specs.World.{World, put}
 use Rattle.dav_core.specs.Disk.{DiskState}
-use Rattle.dav_core.specs.Keeps.{SameBesidesOpens, keeps_same, put_other, put_same}
+use Rattle.dav_core.specs.Unchanged.{SameBesidesOpens}
+use Rattle.dav_core.proofs.UnchangedLemmas.{keeps_same, put_other, put_same}
 use Rattle.dav_model.specs.declared.answer.Answer.{Answer}
 use Rattle.dav_model.specs.declared.settings.Settings.{Settings}
 use Rattle.dav_model.specs.declared.step.Step.TheVariants.{Poll}
-use Rattle.dav_model.specs.Bodies.{Part, Playing, Polls as PollsParts}
+use Rattle.dav_model.specs.Bodies.{Part, Polls as PollsParts}
 use Rattle.dav_model.specs.Sizes.{read_size_of}
-use Rattle.dav_model.specs.Trail.{point_of}
-use Rattle.dav_model.specs.Play.{Stepped}
+use Rattle.dav_model.specs.Trail.{Goes}
+use Rattle.dav_model.specs.Play.{Lets, Stepped}
 use Rattle.dav_store.specs.Standing.{Seen}
 use Rattle.dav_plain.specs.declared.file.PlainFile.{PlainFile}
 use Rattle.dav_plain.specs.Calls.{seen_by}
@@ -26,9 +28,11 @@ use Rattle.dav_get.specs.OpenFiles.{SameStands}
 use Rattle.dav_get.specs.Bodies.{left_of, is_slice, HasNumber, IsHeld, IsPolled, Polls, StandsIn, Takes, TouchesOwn}
 use Rattle.dav_get.specs.Parts.{parts_of}
 use Rattle.dav_get.proofs.BodyRight.{takes_right}
-use Rattle.dav_handler.specs.Held.{Body, IsHeldBody, IsOpen, IsPlaying, PollsBody, Sweeps, handle_of, left_in, number_in, number_seen, parts_in}
-use Rattle.dav_handler.proofs.Frames.{both_some, no_slices, texts_any}
-use Rattle.dav_handler.proofs.Upkeep.{Others, OthersStay, left_put, others_leave, playing_out, playing_put, touches_others}
+use Rattle.dav_handler.specs.Held.{Body, IsHeldBody, IsOpen, IsPlaying, PollsBody, Sweeps, handle_of, held_by, held_in, left_in, number_in, number_seen, parts_in}
+use Rattle.dav_handler.proofs.Frames.{body_needs, body_over, both_some, no_slices, texts_any}
+use Rattle.dav_handler.proofs.Handles.{touches_lets}
+use Rattle.dav_handler.specs.Player.{plain_playing}
+use Rattle.dav_handler.proofs.Upkeep.{Others, OthersStay, stays_open, held_put, left_put, others_leave, playing_out, playing_put, touches_others}
 
 -- The size of the buffer counts only where a slice is next.
 polls_most : (told : Option World) (whole : Bool) (m n before after number : ℕ) (parts : List BodyPart) (answer : Answer) (rest : List Part) → (list_any is_slice parts ≡ true → m ≡ n)
@@ -37,11 +41,11 @@ polls_most told whole m n before after number [] answer rest h p = p
 polls_most told whole m n before after number (Text bytes ∷ parts) answer rest h p = p
 polls_most told whole m n before after number (SliceOf part ∷ parts) answer rest h p = subst (λ x. PollsParts told whole x before after (parts_of number (SliceOf part ∷ parts)) answer rest) (h refl) p
 
-slices_before : (s : DiskState) (file : Option (OpenAt PlainFile)) (most : ℕ) (cause : Type 0) (left : List BodyPart) (answer : Answer) (rest : List BodyPart)
-    → Takes seen_by s file most cause left answer rest → list_any is_slice rest ≡ true → list_any is_slice left ≡ true
-slices_before s file most cause [] answer rest (is, none) has = let f : false ≡ true = sym (ap (list_any is_slice) none) ∙ has in cc
-slices_before s file most cause (Text bytes ∷ parts) answer rest (is, left) has = sym (ap (list_any is_slice) left) ∙ has
-slices_before s file most cause (SliceOf part ∷ parts) answer rest takes has = refl
+slices_before : (s : DiskState) (b : Body) (cause : Type 0) (left : List BodyPart) (answer : Answer) (rest : List BodyPart)
+    → Takes seen_by s b cause left answer rest → list_any is_slice rest ≡ true → list_any is_slice left ≡ true
+slices_before s b cause [] answer rest (is, none) has = let f : false ≡ true = sym (ap (list_any is_slice) none) ∙ has in cc
+slices_before s b cause (Text bytes ∷ parts) answer rest (is, left) has = sym (ap (list_any is_slice) left) ∙ has
+slices_before s b cause (SliceOf part ∷ parts) answer rest takes has = refl
 
 touched_seen : (s t : DiskState) (f g : Option (OpenAt PlainFile)) (w : World) → TouchesOwn handle_of seen_by s f t g → t.told ≡ Some w
     → ((v : World) (h : OpenAt PlainFile) → s.told ≡ Some v → f ≡ Some h → is_some (seen_by h.file s) ≡ true) → (k : OpenAt PlainFile) → g ≡ Some k → is_some (seen_by k.file t) ≡ true
@@ -92,7 +96,7 @@ module _ (most : ℕ) (s t : DiskState) (b c : Body) (answer : Answer) where
   pub polled_open : IsOpen most s b → Polls handle_of seen_by s b answer t c → IsOpen most t c
   polled_open is polls = record {
     held = polls.held;
-    size = λ has. polls.most ∙ is.size (slices_before s b.file b.most (Rose s.faults t.faults) (left_of b) answer (left_of c) polls.takes has);
+    size = λ has. polls.most ∙ is.size (slices_before s b (Rose s.faults t.faults) (left_of b) answer (left_of c) polls.takes has);
     told = λ w h told file. touched_seen s t b.file c.file w polls.disk told is.told h file;
   }
 
@@ -103,9 +107,9 @@ module _ (most : ℕ) (s t : DiskState) (b c : Body) (answer : Answer) where
       (sym (touched_parts s t b.file c.file (left_of c) polls.disk polls.held.needs))
       (takes_right handle_of seen_by s t b (left_of b) answer (left_of c) s.told (number_in s b.file) is.held.needs (stands_in most s b is) (has_number s b.file) polls.takes))
 
-pub stay_counts : (s t : DiskState) (file : Option (OpenAt PlainFile)) → OthersStay s file t → s.faults ≤ t.faults
-stay_counts s t None e = rw e (omega arith)
-stay_counts s t (Some h) keeps = keeps.counts
+pub stay_goes : (s t : DiskState) (file : Option (OpenAt PlainFile)) → OthersStay s file t → Goes s t
+stay_goes s t None e = rw e (record { faults = omega arith; asked = omega arith; whole = λ w. w; listers = refl })
+stay_goes s t (Some h) keeps = record { faults = keeps.counts; asked = keeps.asked; whole = keeps.whole; listers = keeps.listers }
 
 pub stay_world : (s t : DiskState) (file : Option (OpenAt PlainFile)) → OthersStay s file t → Both s.told t.told SameBesidesOpens
 stay_world s t None e = subst (λ x. Both s.told x.told SameBesidesOpens) (sym e) (keeps_same s).world
@@ -160,18 +164,36 @@ module _ (settings : Settings) (s t : DiskState) (at : ℕ → Option Body) (rep
       some_none : (part : BodyPart) (parts : List BodyPart) → part ∷ parts ≡ [] → ⊥
       some_none part parts e = cc
 
+  swept_held : (left : List BodyPart) (new : ℕ → Option Body) → left_of c ≡ left → Sweeps (put k (Some c) at) k new → held_in new ≡ put k (held_by (Some c)) (held_in at)
+  swept_held [] new e sweeps =
+      ap held_in (sweeps.gone c (put_same k (Some c) at) e ∙ put_twice k None (Some c) at) ∙ held_put at k None
+      ∙ ap (λ x. put k x (held_in at)) (sym (body_over t c polls.held (ap (parts_of (number_in t c.file)) e)))
+  swept_held (part ∷ parts) new e sweeps =
+      ap held_in (sweeps.stays c (put_same k (Some c) at) (λ none. some_none part parts (sym e ∙ none))) ∙ held_put at k (Some c)
+    where
+      some_none : (part : BodyPart) (parts : List BodyPart) → part ∷ parts ≡ [] → ⊥
+      some_none part parts e = cc
+
   -- a body was polled, and taken out where nothing is left
   poll_steps : (u : DiskState) (new : ℕ → Option Body) → u ≡ t → Sweeps (put k (Some c) at) k new
-      → Stepped (point_of s) (record { settings = settings; replies = replies; left = left_in s at }) (Poll k) (Ok answer) (point_of u) (record { settings = settings; replies = replies; left = left_in u new })
+      → Stepped (record { at = s; playing = plain_playing settings replies (left_in s at) (held_in at) }) (Poll k) (Ok answer) (record { at = u; playing = plain_playing settings replies (left_in u new) (held_in new) })
   poll_steps u new same sweeps =
-      subst (λ x. Stepped (point_of s) (record { settings = settings; replies = replies; left = left_in s at }) (Poll k) (Ok answer) (point_of x) (record { settings = settings; replies = replies; left = left_in x new })) (sym same) (
-        record { counts = stay_counts s t b.file (touches_others s t b.file c.file polls.disk); world = stay_world s t b.file (touches_others s t b.file c.file polls.disk) },
-        (
-          parts_in t (Some c),
-          ap (λ left. record { settings = settings; replies = replies; left = left }) (swept_left (left_of c) new refl sweeps),
-          subst (λ x. PollsParts s.told s.whole (read_size_of settings.read_buf_size) s.faults t.faults (parts_in s x) answer (parts_in t (Some c))) (sym there)
-              (polled_parts (read_size_of settings.read_buf_size) s t b c answer (p.held k b there) polls),
-        ),
+      subst (λ x. Stepped (record { at = s; playing = plain_playing settings replies (left_in s at) (held_in at) }) (Poll k) (Ok answer) (record { at = x; playing = plain_playing settings replies (left_in x new) (held_in new) })) (sym same) (
+        record {
+          goes = stay_goes s t b.file (touches_others s t b.file c.file polls.disk);
+          leaves = stay_world s t b.file (touches_others s t b.file c.file polls.disk);
+          rest = parts_in t (Some c);
+          gives = subst (λ x. PollsParts s.told s.whole (read_size_of settings.read_buf_size) s.faults t.faults (parts_in s x) answer (parts_in t (Some c))) (sym there)
+              (polled_parts (read_size_of settings.read_buf_size) s t b c answer (p.held k b there) polls);
+          gets = record {
+            file = held_by (Some c);
+            is = λ i. plain_playing settings replies (swept_left (left_of c) new refl sweeps i) (swept_held (left_of c) new refl sweeps i);
+            needs = body_needs t c polls.held;
+            over = body_over t c polls.held;
+          };
+          live = subst (λ x. Lets (held_by x) (held_by (Some c)) s.live t.live) (sym there) (touches_lets s t b.file c.file polls.disk);
+        },
+        stays_open (read_size_of settings.read_buf_size) t new settings replies replies (swept_playing (left_of c) new refl sweeps),
       )
 
 -- the player after a poll
@@ -184,7 +206,7 @@ playing_polled settings s t u at mid new replies k answer p polls sweeps same =
 -- the answer to a poll
 pub polled : (settings : Settings) (s t u : DiskState) (at mid new : ℕ → Option Body) (replies k : ℕ) (answer : Answer) → IsPlaying (read_size_of settings.read_buf_size) s at replies
     → PollsBody at k s answer t mid → Sweeps mid k new → u ≡ t
-    → Stepped (point_of s) (record { settings = settings; replies = replies; left = left_in s at }) (Poll k) (Ok answer) (point_of u) (record { settings = settings; replies = replies; left = left_in u new })
+    → Stepped (record { at = s; playing = plain_playing settings replies (left_in s at) (held_in at) }) (Poll k) (Ok answer) (record { at = u; playing = plain_playing settings replies (left_in u new) (held_in new) })
 polled settings s t u at mid new replies k answer p polls sweeps same =
     poll_steps settings s t at replies k answer polls.before polls.now p polls.there polls.polled.does u new same (subst (λ z. Sweeps z k new) polls.are sweeps)
 

@@ -1,64 +1,99 @@
 -- From what a call of the player did to the clause of its step.
 use Rattle.std.proofs.Common.{◌≡◌, ◌≤◌, ◌+◌, ◌==◌, ℕ, List, [], ◌∷◌, Option, None, Some, Result, Ok, Err, refl, sym, ap, subst, ◌∙◌, ◌⊎◌, arith}
-use Rattle.dav_io.specs.Counts.{Rose}
-use Rattle.dav_io.specs.Told.{Both, both_map}
+use Rattle.std.specs.Prelude.{Bool, true, IsTrue, is_some}
+use Rattle.dav_io.specs.Told.{Both}
+use Rattle.dav_io.proofs.ToldLemmas.{both_map, both_same}
 use Rattle.dav_io.specs.declared.clock.Moment.{Moment}
 use Rattle.dav_io.specs.declared.failure.NoMemory.{NoMemory}
 use Rattle.dav_core.specs.World.{World, put}
 use Rattle.dav_core.specs.Changes.{turned}
 use Rattle.dav_core.specs.Disk.{DiskState, Turns, TurnedIn}
-use Rattle.dav_core.specs.Keeps.{Keeps, SameBesidesOpens, keeps_same, same_besides}
+use Rattle.dav_core.specs.Unchanged.{Keeps, KeepsBut, SameBesidesOpens}
+use Rattle.dav_core.proofs.UnchangedLemmas.{keeps_same, same_besides}
 use Rattle.dav_model.specs.declared.settings.Settings.{Settings}
-use Rattle.dav_model.specs.declared.target.Target.{Target}
-use Rattle.dav_model.specs.declared.step.Step.TheVariants.{Request, Poll, Abandon, Turn}
+use Rattle.dav_model.specs.declared.step.Step.TheVariants.{Request, Poll, Abandon, Purge, Turn}
 use Rattle.dav_model.specs.declared.answer.Answer.TheVariants.{Reply as Replied, End, Done}
-use Rattle.dav_model.specs.Requests.{Asked, fields_of, gates}
-use Rattle.dav_model.specs.Bodies.{Part, Playing, Polls}
-use Rattle.dav_model.specs.Head.{IsReplyTo, IsSpoiledTo}
+use Rattle.dav_model.specs.Requests.{Asked, fields_of}
+use Rattle.dav_model.specs.Bodies.{Part, Polls}
+use Rattle.dav_model.specs.Play.{Gets, Lets, Quiet, Refuses, Stage, StaysOpen, Stepped, has_slice}
+use Rattle.dav_model.specs.Rules.{nothing_known, plain_rules}
 use Rattle.dav_model.specs.Sizes.{read_size_of}
-use Rattle.dav_model.specs.Trail.{Point, point_of, Goes}
-use Rattle.dav_model.specs.Play.{Valid, Gated, Replies, Stepped}
+use Rattle.dav_model.specs.Trail.{Goes, target_of}
+use Rattle.dav_model.proofs.JoiningLemmas.{learns_same}
 use Rattle.dav_plain.specs.declared.file.PlainFile.{PlainFile}
 use Rattle.dav_get.specs.declared.open_at.OpenAt.{OpenAt}
 use Rattle.dav_get.specs.Bodies.{Closes}
 use Rattle.dav_get.specs.Lives.{OpensOnly}
 use Rattle.dav_handler.specs.declared.found.Found.{Found}
 use Rattle.dav_handler.specs.Found.{Answers, HoldsOnly, reply_of}
-use Rattle.dav_handler.specs.Held.{Body, ClosesBody, IsPlaying, handle_of, left_in, parts_in}
-use Rattle.dav_handler.proofs.Upkeep.{OthersStay, closes_others, gone_leave, held_undone, holds_every, left_all, left_none, left_put, turn_every}
-use Rattle.dav_handler.proofs.Polling.{stay_counts, stay_world}
+use Rattle.dav_handler.specs.Held.{Body, ClosesBody, IsPlaying, handle_of, held_by, held_in, left_in, parts_in}
+use Rattle.dav_handler.specs.Player.{plain_playing}
+use Rattle.dav_handler.proofs.Frames.{body_needs, body_over}
+use Rattle.dav_handler.proofs.Handles.{ends_lets, holds_takes, keeps_live}
+use Rattle.dav_handler.proofs.Upkeep.{OthersStay, closes_others, gone_leave, held_none, held_put, held_undone, holds_every, left_all, left_none, left_put, playing_closed, playing_kept, stays_open, turn_every}
+use Rattle.dav_handler.proofs.Polling.{stay_goes, stay_world}
 
-abbrev playing : Settings → ℕ → (ℕ → List Part) → Playing
-playing settings replies left = record { settings = settings; replies = replies; left = left }
+-- a player over a plain store, by what it keeps
+abbrev pub staged : Settings → DiskState → ℕ → (ℕ → Option Body) → Stage
+staged settings s replies at = record { at = s; playing = plain_playing settings replies (left_in s at) (held_in at) }
 
-opens_counts : (s t : DiskState) (file : Option (OpenAt PlainFile)) → OpensOnly handle_of s file t → s.faults ≤ t.faults
-opens_counts s t None keeps = keeps.counts
-opens_counts s t (Some h) opens = opens.0.counts
+keeps_goes : (s t : DiskState) → Keeps s t → Goes s t
+keeps_goes s t keeps = record { faults = keeps.counts; asked = keeps.asked; whole = keeps.whole; listers = keeps.listers }
+
+but_goes : (own : ℕ) (s t : DiskState) → KeepsBut own s t → Goes s t
+but_goes own s t keeps = record { faults = keeps.counts; asked = keeps.asked; whole = keeps.whole; listers = keeps.listers }
+
+opens_goes : (s t : DiskState) (file : Option (OpenAt PlainFile)) → OpensOnly handle_of s file t → Goes s t
+opens_goes s t None keeps = keeps_goes s t keeps
+opens_goes s t (Some h) opens = but_goes (handle_of h.file) s t opens.0
 
 opens_world : (s t : DiskState) (file : Option (OpenAt PlainFile)) → OpensOnly handle_of s file t → Both s.told t.told SameBesidesOpens
 opens_world s t None keeps = keeps.world
 opens_world s t (Some h) opens = opens.0.world
 
-counts_only : (most : ℕ) (s t : DiskState) (body : Option Body) → HoldsOnly most s body t → s.faults ≤ t.faults
-counts_only most s t None keeps = keeps.counts
-counts_only most s t (Some b) holds = opens_counts s t b.file holds.0
+goes_only : (most : ℕ) (s t : DiskState) (body : Option Body) → HoldsOnly most s body t → Goes s t
+goes_only most s t None keeps = keeps_goes s t keeps
+goes_only most s t (Some b) holds = opens_goes s t b.file holds.0
 
 world_only : (most : ℕ) (s t : DiskState) (body : Option Body) → HoldsOnly most s body t → Both s.told t.told SameBesidesOpens
 world_only most s t None keeps = keeps.world
 world_only most s t (Some b) holds = opens_world s t b.file holds.0
 
--- what was found is what the request asks for
-replies_as : (settings : Settings) (s t : DiskState) (request : Asked) (found : Found) → Answers settings s (fields_of request) (gates request) found t
-    → Replies (Valid (point_of s) (point_of t ∷ [])) settings (point_of s) (point_of t) request (reply_of t found)
-replies_as settings s t request found answers = record { gated = answers.gated; failed = answers.failed; framed = answers.framed; sound = answers.sound; right = λ valid w told. answers.right valid.first w told }
+body_gets : (most : ℕ) (s t : DiskState) (body : Option Body) → HoldsOnly most s body t → (has_slice (parts_in t body) ≡ true → is_some (held_by body) ≡ true) × (parts_in t body ≡ [] → held_by body ≡ None)
+body_gets most s t None holds = (λ e. cc, λ e. refl)
+body_gets most s t (Some b) holds = (body_needs t b holds.1.held, body_over t b holds.1.held)
+
+-- what the body of a reply has left, and holds
+abbrev gets_found : (settings : Settings) (s t : DiskState) (body : Option Body) (replies : ℕ) (at new : ℕ → Option Body) → left_in t new ≡ put replies (parts_in t body) (left_in s at)
+    → held_in new ≡ put replies (held_by body) (held_in at) → HoldsOnly (read_size_of settings.read_buf_size) s body t
+    → Gets replies (parts_in t body) (plain_playing settings (replies + 1) (left_in s at) (held_in at)) (plain_playing settings (replies + 1) (left_in t new) (held_in new))
+gets_found settings s t body replies at new left held holds =
+    let (needs, over) = body_gets (read_size_of settings.read_buf_size) s t body holds in
+    record {
+      file = held_by body;
+      is = λ i. plain_playing settings (replies + 1) (left i) (held i);
+      needs = needs;
+      over = over;
+    }
 
 -- a reply
-pub replied : (settings : Settings) (s t : DiskState) (request : Asked) (now : Moment) (found : Found) (replies : ℕ) (left after : ℕ → List Part)
-    → Answers settings s (fields_of request) (gates request) found t → after ≡ put replies (parts_in t found.body) left
-    → Stepped (point_of s) (playing settings replies left) (Request request now) (Ok (Replied found.outcome.status found.outcome.fields replies)) (point_of t) (playing settings (replies + 1) after)
-replied settings s t request now found replies left after answers is = (
-  record { counts = counts_only (read_size_of settings.read_buf_size) s t found.body answers.holds; world = world_only (read_size_of settings.read_buf_size) s t found.body answers.holds },
-  (reply_of t found, refl, ap (playing settings (replies + 1)) is, replies_as settings s t request found answers),
+pub replied : (settings : Settings) (s t : DiskState) (request : Asked) (now : Moment) (found : Found) (replies : ℕ) (at new : ℕ → Option Body)
+    → Answers settings s (fields_of request) (target_of (plain_rules settings) request) found t → left_in t new ≡ put replies (parts_in t found.body) (left_in s at)
+    → held_in new ≡ put replies (held_by found.body) (held_in at) → IsPlaying (read_size_of settings.read_buf_size) t new (replies + 1)
+    → Stepped (staged settings s replies at) (Request request now) (Ok (Replied found.outcome.status found.outcome.fields replies)) (staged settings t (replies + 1) new)
+replied settings s t request now found replies at new answers is held playing = (
+  record {
+    goes = goes_only (read_size_of settings.read_buf_size) s t found.body answers.holds;
+    leaves = world_only (read_size_of settings.read_buf_size) s t found.body answers.holds;
+    reply = reply_of t found;
+    is = refl;
+    knows = nothing_known;
+    learns = learns_same s.told nothing_known nothing_known refl;
+    gets = gets_found settings s t found.body replies at new is held answers.holds;
+    live = holds_takes (read_size_of settings.read_buf_size) s t found.body answers.holds;
+    right = answers.right;
+  },
+  stays_open (read_size_of settings.read_buf_size) t new settings (replies + 1) (replies + 1) playing,
 )
 
 -- what is left after an answer without a body
@@ -73,15 +108,34 @@ pub left_joined : (most : ℕ) (s t : DiskState) (at new : ℕ → Option Body) 
 left_joined most s t at new k replies body o holds p e is =
     ap (left_in t) is ∙ left_put s t at k (Some o) (λ n b ne there. holds_every most s t body at replies holds p n b there) ∙ ap (λ x. put k x (left_in s at)) (sym (ap (parts_in t) e))
 
+-- what is held after an answer without a body, and after one with a body
+pub held_replied : (at : ℕ → Option Body) (k : ℕ) (body : Option Body) → body ≡ None → at k ≡ None → held_in at ≡ put k (held_by body) (held_in at)
+held_replied at k body e none = held_none k at none ∙ ap (λ x. put k x (held_in at)) (sym (ap held_by e))
+
+pub held_joined : (at new : ℕ → Option Body) (k : ℕ) (body : Option Body) (o : Body) → body ≡ Some o → new ≡ put k (Some o) at → held_in new ≡ put k (held_by body) (held_in at)
+held_joined at new k body o e is = ap held_in is ∙ held_put at k (Some o) ∙ ap (λ x. put k x (held_in at)) (sym (ap held_by e))
+
 -- a request that was refused memory
 pub refused : (settings : Settings) (s t : DiskState) (request : Asked) (now : Moment) (replies : ℕ) (at : ℕ → Option Body) (e : _) → Keeps s t → IsPlaying (read_size_of settings.read_buf_size) s at replies
-    → Stepped (point_of s) (playing settings replies (left_in s at)) (Request request now) (Err e) (point_of t) (playing settings replies (left_in t at))
-refused settings s t request now replies at e keeps p =
-    (record { counts = keeps.counts; world = keeps.world }, ap (playing settings replies) (left_all s t at (holds_every (read_size_of settings.read_buf_size) s t None at replies keeps p)))
+    → Stepped (staged settings s replies at) (Request request now) (Err e) (staged settings t replies at)
+refused settings s t request now replies at e keeps p = record {
+  goes = keeps_goes s t keeps;
+  leaves = keeps.world;
+  knows = nothing_known;
+  learns = learns_same s.told nothing_known nothing_known refl;
+  live = keeps_live s t keeps;
+  is = ap (λ left. plain_playing settings replies left (held_in at)) (left_all s t at (holds_every (read_size_of settings.read_buf_size) s t None at replies keeps p));
+  held = stays_open (read_size_of settings.read_buf_size) t at settings replies replies (playing_kept (read_size_of settings.read_buf_size) s t at replies keeps p);
+}
 
-closed_counts : (s t : DiskState) (o : Option Body) → ClosesBody o s t → s.faults ≤ t.faults
-closed_counts s t None e = rw e (omega arith)
-closed_counts s t (Some b) c = stay_counts s t b.file (closes_others s t b.file c)
+-- closing a body meets no fault and asks nothing
+closed_quiet : (s t : DiskState) (o : Option Body) → ClosesBody o s t → Quiet Done s t
+closed_quiet s t None e = rw e (record { goes = keeps_goes s s (keeps_same s); is = refl; faults = refl; asked = refl })
+closed_quiet s t (Some b) c = closed_file b.file c
+  where
+    closed_file : (file : Option (OpenAt PlainFile)) → Closes handle_of s file t → Quiet Done s t
+    closed_file None e = rw e (record { goes = keeps_goes s s (keeps_same s); is = refl; faults = refl; asked = refl })
+    closed_file (Some h) closes = record { goes = but_goes (handle_of h.file) s t closes.keeps; is = refl; faults = closes.counts; asked = closes.asked }
 
 closed_world : (s t : DiskState) (o : Option Body) → ClosesBody o s t → Both s.told t.told SameBesidesOpens
 closed_world s t None e = subst (λ x. Both s.told x.told SameBesidesOpens) (sym e) (keeps_same s).world
@@ -89,22 +143,40 @@ closed_world s t (Some b) c = stay_world s t b.file (closes_others s t b.file c)
 
 -- a body was abandoned
 pub abandoned : (settings : Settings) (s t : DiskState) (at new : ℕ → Option Body) (replies body : ℕ) → IsPlaying (read_size_of settings.read_buf_size) s at replies → ClosesBody (at body) s t → new ≡ put body None at
-    → Stepped (point_of s) (playing settings replies (left_in s at)) (Abandon body) (Ok Done) (point_of t) (playing settings replies (left_in t new))
+    → Stepped (staged settings s replies at) (Abandon body) (Ok Done) (staged settings t replies new)
 abandoned settings s t at new replies body p closes is = (
-  record { counts = closed_counts s t (at body) closes; world = closed_world s t (at body) closes },
-  (refl, ap (playing settings replies) (ap (left_in t) is ∙ left_put s t at body None (gone_leave (read_size_of settings.read_buf_size) s t at replies body (at body) p refl closes))),
+  (
+    closed_quiet s t (at body) closes,
+    closed_world s t (at body) closes,
+    ends_lets s t (at body) closes,
+    record {
+      file = None;
+      is = λ i. plain_playing settings replies ((ap (left_in t) is ∙ left_put s t at body None (gone_leave (read_size_of settings.read_buf_size) s t at replies body (at body) p refl closes)) i) ((ap held_in is ∙ held_put at body None) i);
+      needs = λ e. cc;
+      over = λ e. refl;
+    },
+  ),
+  stays_open (read_size_of settings.read_buf_size) t new settings replies replies (playing_closed (read_size_of settings.read_buf_size) s t at new replies body p closes is),
 )
 
 -- an ended body was polled
-pub polled_end : (settings : Settings) (s : DiskState) (at : ℕ → Option Body) (replies body : ℕ) → at body ≡ None
-    → Stepped (point_of s) (playing settings replies (left_in s at)) (Poll body) (Ok End) (point_of s) (playing settings replies (left_in s at))
-polled_end settings s at replies body none = (
-  record { counts = omega arith; world = (keeps_same s).world },
-  (
-    [],
-    ap (playing settings replies) (left_none s body at none),
-    subst (λ x. Polls s.told s.whole (read_size_of settings.read_buf_size) s.faults s.faults (parts_in s x) End []) (sym none) (refl, refl),
-  ),
+pub polled_end : (settings : Settings) (s : DiskState) (at : ℕ → Option Body) (replies body : ℕ) → IsPlaying (read_size_of settings.read_buf_size) s at replies → at body ≡ None
+    → Stepped (staged settings s replies at) (Poll body) (Ok End) (staged settings s replies at)
+polled_end settings s at replies body p none = (
+  record {
+    goes = keeps_goes s s (keeps_same s);
+    leaves = (keeps_same s).world;
+    rest = [];
+    gives = subst (λ x. Polls s.told s.whole (read_size_of settings.read_buf_size) s.faults s.faults (parts_in s x) End []) (sym none) (refl, refl);
+    gets = record {
+      file = None;
+      is = λ i. plain_playing settings replies (left_none s body at none i) (held_none body at none i);
+      needs = λ e. cc;
+      over = λ e. refl;
+    };
+    live = subst (λ x. Lets (held_by x) None s.live s.live) (sym none) (refl, refl);
+  },
+  stays_open (read_size_of settings.read_buf_size) s at settings replies replies p,
 )
 
 same_world : {E : Type 0} (x : E) (v w : World) → TurnedIn (Err x) v w → SameBesidesOpens v w
@@ -113,25 +185,46 @@ same_world x v w e = rw e (same_besides v)
 turned_world : (v w : World) → w ≡ turned v → SameBesidesOpens (turned v) w
 turned_world v w e = rw e (same_besides (turned v))
 
+turns_goes : {E : Type 0} (s t : DiskState) (result : Result Unit E) → Turns s result t → Goes s t
+turns_goes s t result turns = record { faults = rw turns.counts (omega arith); asked = rw turns.asked (omega arith); whole = turns.whole; listers = turns.listers }
+
 -- a turn of the outside
-pub turned_steps : (settings : Settings) (s t : DiskState) (at : ℕ → Option Body) (replies : ℕ) → Turns {E = NoMemory} s (Ok tt) t
-    → Stepped (point_of s) (playing settings replies (left_in s at)) Turn (Ok Done) (point_of t) (playing settings replies (left_in t at))
-turned_steps settings s t at replies turns = (
-  record { counts = rw turns.counts (omega arith); world = both_map s.told t.told (TurnedIn {E = NoMemory} (Ok tt)) (λ v w. SameBesidesOpens (turned v) w) turned_world turns.told },
-  (refl, ap (playing settings replies) (left_all s t at (turn_every s t (Ok tt) at turns))),
+pub turned_steps : (settings : Settings) (s t : DiskState) (at : ℕ → Option Body) (replies : ℕ) → IsPlaying (read_size_of settings.read_buf_size) t at replies → Turns {E = NoMemory} s (Ok tt) t
+    → Stepped (staged settings s replies at) Turn (Ok Done) (staged settings t replies at)
+turned_steps settings s t at replies p turns = (
+  (
+    record { goes = turns_goes s t (Ok tt) turns; is = refl; faults = turns.counts; asked = turns.asked },
+    both_map s.told t.told (TurnedIn {E = NoMemory} (Ok tt)) (λ v w. SameBesidesOpens (turned v) w) turned_world turns.told,
+    turns.live,
+    ap (λ left. plain_playing settings replies left (held_in at)) (left_all s t at (turn_every s t (Ok tt) at turns)),
+  ),
+  stays_open (read_size_of settings.read_buf_size) t at settings replies replies p,
 )
 
-pub turn_refused : (settings : Settings) (s t : DiskState) (at : ℕ → Option Body) (replies : ℕ) (e : NoMemory) → Turns s (Err e) t
-    → Stepped (point_of s) (playing settings replies (left_in s at)) Turn (Err e) (point_of t) (playing settings replies (left_in t at))
-turn_refused settings s t at replies e turns = (
-  record { counts = rw turns.counts (omega arith); world = both_map s.told t.told (TurnedIn {E = NoMemory} (Err e)) SameBesidesOpens (same_world e) turns.told },
-  ap (playing settings replies) (left_all s t at (turn_every s t (Err e) at turns)),
-)
+pub turn_refused : (settings : Settings) (s t : DiskState) (at : ℕ → Option Body) (replies : ℕ) (e : NoMemory) → IsPlaying (read_size_of settings.read_buf_size) t at replies → Turns s (Err e) t
+    → Stepped (staged settings s replies at) Turn (Err e) (staged settings t replies at)
+turn_refused settings s t at replies e p turns = record {
+  goes = turns_goes s t (Err e) turns;
+  leaves = both_map s.told t.told (TurnedIn {E = NoMemory} (Err e)) SameBesidesOpens (same_world e) turns.told;
+  knows = nothing_known;
+  learns = learns_same s.told nothing_known nothing_known refl;
+  live = turns.live;
+  is = ap (λ left. plain_playing settings replies left (held_in at)) (left_all s t at (turn_every s t (Err e) at turns));
+  held = stays_open (read_size_of settings.read_buf_size) t at settings replies replies p;
+}
 
 -- there was no room for the body of an answer
 pub undone_steps : (settings : Settings) (s m t : DiskState) (request : Asked) (now : Moment) (replies : ℕ) (at new : ℕ → Option Body) (body : Option Body) (o c : Body) (e : NoMemory)
     → IsPlaying (read_size_of settings.read_buf_size) s at replies → HoldsOnly (read_size_of settings.read_buf_size) s body m → body ≡ Some o → c ≡ o → Closes handle_of m c.file t → new ≡ at
-    → Stepped (point_of s) (playing settings replies (left_in s at)) (Request request now) (Err e) (point_of t) (playing settings replies (left_in t new))
+    → Stepped (staged settings s replies at) (Request request now) (Err e) (staged settings t replies new)
 undone_steps settings s m t request now replies at new body o c e p holds is same closes unchanged =
-    subst (λ z. Stepped (point_of s) (playing settings replies (left_in s at)) (Request request now) (Err e) (point_of t) (playing settings replies (left_in t z))) (sym unchanged)
+    subst (λ z. Stepped (staged settings s replies at) (Request request now) (Err e) (staged settings t replies z)) (sym unchanged)
     (refused settings s t request now replies at e (held_undone (read_size_of settings.read_buf_size) s m t body o c holds is same closes) p)
+
+-- A purge leaves the disk as it was, and a plain store has no memory of which anything could go.
+pub purged : (settings : Settings) (s : DiskState) (now : Moment) (replies : ℕ) (at : ℕ → Option Body) → IsPlaying (read_size_of settings.read_buf_size) s at replies
+    → Stepped (staged settings s replies at) (Purge now) (Ok Done) (staged settings s replies at)
+purged settings s now replies at p = (
+  (refl, refl, (nothing_known, refl, record { open_same = λ dir time. refl; known = λ dir time has e. cc })),
+  stays_open (read_size_of settings.read_buf_size) s at settings replies replies p,
+)

@@ -5,20 +5,21 @@ use Rattle.std.specs.List.{AllByRecursion, list_any}
 use mathlib.Core.Path.{fun_ext}
 use Rattle.dav_core.specs.World.{World, put}
 use Rattle.dav_core.specs.Disk.{DiskState, Live, Turns, can_read}
-use Rattle.dav_core.specs.Keeps.{Keeps, KeepsBut, but_then, closed_again, put_other, equal_keys, other_keys}
+use Rattle.dav_core.specs.Unchanged.{Keeps, KeepsBut}
+use Rattle.dav_core.proofs.UnchangedLemmas.{but_then, closed_again, put_other, equal_keys, other_keys}
 use Rattle.dav_model.specs.declared.settings.Settings.{Settings}
-use Rattle.dav_model.specs.Bodies.{Part}
-use Rattle.dav_model.specs.Trail.{point_of}
-use Rattle.dav_model.specs.Play.{HasOpen, StaysOpen}
+use Rattle.dav_model.specs.Bodies.{NoneEmpty, Part}
+use Rattle.dav_model.specs.Play.{AreFull, HasOpen, StaysOpen}
 use Rattle.dav_store.specs.Files.{LeavesOpen}
 use Rattle.dav_plain.specs.declared.file.PlainFile.{PlainFile}
 use Rattle.dav_plain.specs.Calls.{seen_by}
 use Rattle.dav_get.specs.declared.open_at.OpenAt.{OpenAt}
-use Rattle.dav_get.specs.Bodies.{Closes, TouchesOwn}
+use Rattle.dav_get.specs.Bodies.{Closes, TouchesOwn, left_of}
 use Rattle.dav_get.specs.Lives.{OpensOnly}
 use Rattle.dav_handler.specs.Found.{HoldsOnly}
-use Rattle.dav_handler.specs.Held.{Body, ClosesBody, IsOpen, IsPlaying, handle_of, left_in, parts_in}
-use Rattle.dav_handler.proofs.Frames.{Leaves, body_open, but_leaves, keeps_leaves, open_stays, parts_stay, same_leaves, turn_leaves}
+use Rattle.dav_handler.specs.Held.{Body, ClosesBody, IsOpen, IsPlaying, handle_of, held_by, held_in, left_in, number_in, parts_in}
+use Rattle.dav_handler.specs.Player.{plain_playing}
+use Rattle.dav_handler.proofs.Frames.{Leaves, parts_full, body_open, but_leaves, keeps_leaves, open_stays, parts_stay, same_leaves, turn_leaves}
 
 chosen : (b : Bool) (w x : Option Body) (c : Body) → cond b w x ≡ Some c → ((b ≡ true) × (w ≡ Some c)) ⊎ ((b ≡ false) × (x ≡ Some c))
 chosen true w x c e = inl (refl, e)
@@ -68,6 +69,22 @@ left_put s t at k w others = fun_ext (λ n. put_parts s t (n == k) w (at n) (λ 
 absent : (b : Bool) (x : List Part) → (b ≡ true → x ≡ []) → x ≡ cond b [] x
 absent true x h = h refl
 absent false x h = refl
+
+held_cond : (b : Bool) (w x : Option Body) → held_by (cond b w x) ≡ cond b (held_by w) (held_by x)
+held_cond true w x = refl
+held_cond false w x = refl
+
+-- what the bodies hold after a change at k
+pub held_put : (at : ℕ → Option Body) (k : ℕ) (w : Option Body) → held_in (put k w at) ≡ put k (held_by w) (held_in at)
+held_put at k w = fun_ext (λ n. held_cond (n == k) w (at n))
+
+unheld : (b : Bool) (x : Option ℕ) → (b ≡ true → x ≡ None) → x ≡ cond b None x
+unheld true x h = h refl
+unheld false x h = refl
+
+-- a body that held nothing holds nothing
+pub held_none : (k : ℕ) (at : ℕ → Option Body) → at k ≡ None → held_in at ≡ put k None (held_in at)
+held_none k at none = fun_ext (λ n. unheld (n == k) (held_in at n) (λ t. ap (λ m. held_by (at m)) (equal_keys n k t) ∙ ap held_by none))
 
 -- a body that had nothing left has nothing left
 pub left_none : (s : DiskState) (k : ℕ) (at : ℕ → Option Body) → at k ≡ None → left_in s at ≡ put k [] (left_in s at)
@@ -148,7 +165,7 @@ fresh_file s own h none live e = let f : s.live h ≡ None = ap s.live e ∙ non
 
 opens_every : (most : ℕ) (s t : DiskState) (file : Option (OpenAt PlainFile)) (at : ℕ → Option Body) (replies : ℕ) → OpensOnly handle_of s file t → IsPlaying most s at replies → Every s t at
 opens_every most s t None at replies keeps p n b e h file = keeps_every most s t at replies keeps p n b e h file
-opens_every most s t (Some g) at replies (keeps, none) p n b e h file =
+opens_every most s t (Some g) at replies (keeps, none, now) p n b e h file =
     let live = ((p.held n b e).held.file h file).live in
     but_leaves (handle_of g.file) s t (handle_of h.file) keeps (fresh_file s (handle_of g.file) (handle_of h.file) none live) live
 
@@ -186,14 +203,23 @@ held_undone most s m t body o c holds e same closes =
     let h : HoldsOnly most s (Some o) m = subst (λ x. HoldsOnly most s x m) e holds in
     undone s m t o.file h.0 (subst (λ (z : Body). Closes handle_of m z.file t) same closes)
 
-each_open : (most : ℕ) (s : DiskState) (w : World) (o : Option Body) → ((b : Body) → o ≡ Some b → IsOpen most s b) → s.told ≡ Some w → AllByRecursion (HasOpen w) (parts_in s o)
+each_open : (most : ℕ) (s : DiskState) (w : World) (o : Option Body) → ((b : Body) → o ≡ Some b → IsOpen most s b) → s.told ≡ Some w → AllByRecursion (HasOpen w (held_by o)) (parts_in s o)
 each_open most s w None is told = tt
 each_open most s w (Some b) is told = body_open most s w b (is b refl) told
 
 -- each body of a player has its file open
 pub stays_open : (most : ℕ) (s : DiskState) (at : ℕ → Option Body) (settings : Settings) (replies count : ℕ) → IsPlaying most s at replies
-    → StaysOpen (point_of s) (record { settings = settings; replies = count; left = left_in s at })
+    → StaysOpen s (plain_playing settings count (left_in s at) (held_in at))
 stays_open most s at settings replies count p w told body = each_open most s w (at body) (p.held body) told
+
+each_full : (most : ℕ) (s : DiskState) (o : Option Body) → ((b : Body) → o ≡ Some b → IsOpen most s b) → NoneEmpty (parts_in s o)
+each_full most s None is = tt
+each_full most s (Some b) is = parts_full (number_in s b.file) (left_of b) (is b refl).held.parts
+
+-- no part of a body of a player is empty
+pub stays_full : (most : ℕ) (s : DiskState) (at : ℕ → Option Body) (settings : Settings) (replies count : ℕ) → IsPlaying most s at replies
+    → AreFull (plain_playing settings count (left_in s at) (held_in at))
+stays_full most s at settings replies count p body = each_full most s (at body) (p.held body)
 
 -- a request that was refused memory
 pub playing_kept : (most : ℕ) (s t : DiskState) (at : ℕ → Option Body) (replies : ℕ) → Keeps s t → IsPlaying most s at replies → IsPlaying most t at replies

@@ -4,18 +4,17 @@ use Rattle.dav_io.specs.Counts.{Rose}
 use Rattle.dav_io.specs.declared.failure.NoMemory.{NoMemory}
 use Rattle.dav_core.specs.declared.dav_error.DavError.{DavError}
 use Rattle.dav_core.specs.Disk.{DiskState}
-use Rattle.dav_core.specs.Keeps.{Keeps}
+use Rattle.dav_core.specs.Unchanged.{Keeps}
 use Rattle.dav_core.specs.Statuses.{closes, lacks_memory, status_of}
 use Rattle.dav_core.specs.World.{World}
 use Rattle.dav_model.specs.declared.settings.Settings.{Settings}
 use Rattle.dav_model.specs.declared.target.Target.{Target}
 use Rattle.dav_model.specs.declared.target.Target.TheVariants.{At, Refused}
 use Rattle.dav_model.specs.Conditions.{Fields}
-use Rattle.dav_model.specs.Announced.{HasSoundBody, IsFramed}
-use Rattle.dav_model.specs.Head.{Reply, refusal, IsReplyTo, IsSpoiledTo}
+use Rattle.dav_model.specs.Head.{Reply, refusal}
 use Rattle.dav_model.specs.Sizes.{read_size_of}
-use Rattle.dav_model.specs.Trail.{point_of}
-use Rattle.dav_model.specs.Play.{NoLinks, Gated}
+use Rattle.dav_model.specs.Play.{Replies}
+use Rattle.dav_model.specs.Rules.{nothing_known, plain_rules}
 use Rattle.dav_get.specs.Bodies.{left_of}
 use Rattle.dav_get.specs.Lives.{OpensOnly}
 use Rattle.dav_handler.specs.declared.found.Found.{Found}
@@ -33,21 +32,11 @@ HoldsOnly most s (Some b) t = OpensOnly handle_of s b.file t × IsOpen most t b
 -- The answer to what is asked for.
 pub record Answers (settings : Settings) (s : DiskState) (fields : Fields) (target : Target) (found : Found) (t : DiskState) : Type 0 where
   pub holds : HoldsOnly (read_size_of settings.read_buf_size) s found.body t
-  pub gated : Gated target (reply_of t found)
-  pub failed : found.outcome.status ≡ 500 → Rose s.faults t.faults
-  pub framed : IsFramed target (reply_of t found)
-  pub sound : HasSoundBody (reply_of t found)
-  pub right : NoLinks (point_of s) → (w : World) → s.told ≡ Some w
-      → IsReplyTo settings w fields target (reply_of t found) ⊎ (IsSpoiledTo settings w fields target (reply_of t found) × Rose s.faults t.faults)
+  pub right : Replies target (plain_rules settings) nothing_known s t fields (reply_of t found)
 
 abbrev pub Finds : Settings → DiskState → Fields → Target → Result Found NoMemory → DiskState → Type 0
 Finds settings s fields target (Ok found) t = Answers settings s fields target found t
 Finds settings s fields target (Err e) t = Keeps s t
-
--- a target is not refused with the status of a failure
-abbrev pub NoFailure : Target → Type 0
-NoFailure (At method path) = Unit {0}
-NoFailure (Refused status close) = status ≢ 500
 
 -- A refusal. It has no body.
 pub record IsRefused (reply : Reply) (found : Found) : Type 0 where

@@ -40,6 +40,19 @@ abbrev pub parts_in : DiskState → Option Body → List Part
 parts_in s None = []
 parts_in s (Some b) = parts_of (number_in s b.file) (left_of b)
 
+-- the handle of a body's file, where it holds one
+abbrev pub handle_in : Option (OpenAt PlainFile) → Option ℕ
+handle_in None = None
+handle_in (Some h) = Some (handle_of h.file)
+
+abbrev pub held_by : Option Body → Option ℕ
+held_by None = None
+held_by (Some b) = handle_in b.file
+
+-- the handle that each body holds
+abbrev pub held_in : (ℕ → Option Body) → ℕ → Option ℕ
+held_in bodies n = held_by (bodies n)
+
 -- what each body has left
 abbrev pub left_in : DiskState → (ℕ → Option Body) → ℕ → List Part
 left_in s bodies n = parts_in s (bodies n)

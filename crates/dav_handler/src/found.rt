@@ -3,10 +3,12 @@ ghost use Rattle.std.specs.Prelude.{◌≡◌, ◌++◌, ◌∷◌, [], IfOk, On
 ghost use Rattle.dav_core.specs.Statuses.{lacks_memory as the_lacks_memory};
 ghost use Rattle.dav_get.specs.Bodies.{IsHeld};
 ghost use Rattle.dav_model.specs.Head.{field, refusal as the_refusal};
-ghost use Rattle.dav_model.specs.Requests.{fields_of, gates};
+ghost use Rattle.dav_model.specs.Requests.{fields_of};
+ghost use Rattle.dav_model.specs.Rules.{plain_rules};
+ghost use Rattle.dav_model.specs.Trail.{target_of};
 ghost use Rattle.dav_model.specs.declared.target.Target.TheVariants.{At};
 ghost use Rattle.dav_plain.specs.Calls.{seen_by};
-ghost use Rattle.dav_handler.specs.Found.{Finds, Gives, IsRefused, IsRefusedBy, NoFailure};
+ghost use Rattle.dav_handler.specs.Found.{Finds, Gives, IsRefused, IsRefusedBy};
 ghost use Rattle.dav_handler.specs.Held.{handle_of};
 
 use crate::gates::target;
@@ -125,7 +127,6 @@ fn find<D: Disk>(
     target: &Target,
     fields: &HeaderMap,
 ) -> Result<Found, NoMemory>
-    requires { NoFailure target.now }
     ensures done { Finds settings.now (D.state store.old.disk) fields.now target.now result (D.state store.new.disk) }
     ensures loan { D.loan store.new.disk ≡ D.loan store.old.disk }
 {
@@ -142,10 +143,10 @@ pub fn find_for<D: Disk>(
     store: &mut PlainFs<D>,
     request: &Request<Octets>,
 ) -> Result<Found, NoMemory>
-    ensures done { Finds settings.now (D.state store.old.disk) (fields_of request.now) (gates request.now) result (D.state store.new.disk) }
+    ensures done { Finds settings.now (D.state store.old.disk) (fields_of request.now) (target_of (plain_rules settings.now) request.now) result (D.state store.new.disk) }
     ensures loan { D.loan store.new.disk ≡ D.loan store.old.disk }
 {
-    match target(alloc, request) {
+    match target(alloc, settings, request) {
         Ok(asked) => find(alloc, settings, store, &asked, request.headers()),
         Err(error) => Err(error),
     }

@@ -1,38 +1,47 @@
 // The gates: what a request asks for, before the disk is asked.
-ghost use Rattle.std.specs.Prelude.{◌≡◌, IfOk, [], false};
-ghost use Rattle.dav_model.specs.declared.target.Target.TheVariants.{Refused};
+ghost use Rattle.std.specs.Prelude.{◌≡◌, IfOk, true, false};
+ghost use Rattle.http.specs.Request.{head_of, body_of};
 ghost use Rattle.http_header.specs.Token.{lowercase};
 ghost use Rattle.http_uri.specs.Uri.{uri_path};
 ghost use Rattle.dav_core.specs.Grammar.{parsed};
-ghost use Rattle.dav_core.specs.Statuses.{path_status};
-ghost use Rattle.dav_handler.specs.Found.{NoFailure};
+ghost use Rattle.dav_core.specs.Statuses.{path_status as the_path_status};
 ghost use Rattle.dav_model.specs.Conditions.{reads as the_reads};
-ghost use Rattle.dav_model.specs.Requests.{gates, target_read, has_field as the_has_field, is_bare as the_is_bare, unbuilt as the_unbuilt};
+ghost use Rattle.dav_model.specs.Gates.{admitted as the_admitted, announces_body as the_announces_body, bulk_of, has_field as the_has_field, in_allowed, is_built as the_is_built, of_body as the_of_body, takes_much as the_takes_much, takes_some as the_takes_some, weighed as the_weighed, with_path as the_with_path};
+ghost use Rattle.dav_model.specs.Rules.{plain_rules};
+ghost use Rattle.dav_model.specs.Trail.{target_of};
+ghost use Rattle.dav_model.specs.declared.target.Target.TheVariants.{Refused};
 
-use dav_core::{DavMethod, DavPath, ParseError, dav_method};
+use dav_core::{DavMethod, DavMethodSet, DavPath, ParseError, dav_method};
 use dav_io::{NoMemory, Octets};
-use dav_model::Target;
-use http::{Request, Uri};
+use dav_model::{Settings, Target};
+use http::{HeaderMap, Request, Uri};
 use std::alloc::Global;
 
-// Whether the request has a field of this name.
-fn has_field(request: &Request<Octets>, name: &str) -> bool
-    ensures { result ≡ the_has_field request.now (lowercase name.now) }
+// The most bytes of a body of a method that doesn't store it.
+const MOST_BODY: usize = 65_536;
+
+fn refused(status: u16, close: bool) -> Target
+    ensures { result ≡ Refused status close }
 {
-    request.headers().get(name).is_some()
+    Target::Refused { status, close }
 }
 
-// Whether the request has no body, and no field that announces one.
-fn is_bare(request: &Request<Octets>) -> bool
-    ensures { result ≡ the_is_bare request.now }
+// Whether there is a field of this name.
+fn has_field(fields: &HeaderMap, name: &str) -> bool
+    ensures { result ≡ the_has_field fields.now (lowercase name.now) }
 {
-    if !request.body().as_slice().is_empty() {
-        return false;
+    fields.get(name).is_some()
+}
+
+/// Whether the fields of a request announce a body (RFC 9112, section 6.3). Who doesn't read the body can't know where
+/// the next request begins.
+pub fn announces_body(fields: &HeaderMap) -> bool
+    ensures { result ≡ the_announces_body fields.now }
+{
+    if has_field(fields, "content-length") {
+        return true;
     }
-    if has_field(request, "content-length") {
-        return false;
-    }
-    !has_field(request, "transfer-encoding")
+    has_field(fields, "transfer-encoding")
 }
 
 // Whether a method reads. No other is built.
@@ -45,67 +54,138 @@ fn reads(method: DavMethod) -> bool
     }
 }
 
-// What a form that isn't built is refused with.
-fn unbuilt() -> Target
-    ensures { result ≡ the_unbuilt }
+// Whether the form of a request is built.
+fn is_built(fields: &HeaderMap, method: DavMethod) -> bool
+    ensures { result ≡ the_is_built fields.now method }
 {
-    Target::Refused {
-        status: 501,
-        close: true,
+    if !reads(method) {
+        return false;
+    }
+    if has_field(fields, "if") {
+        return false;
+    }
+    !announces_body(fields)
+}
+
+// Whether a method stores a body of any length.
+fn takes_much(method: DavMethod) -> bool
+    ensures { result ≡ the_takes_much method }
+{
+    matches!(method, DavMethod::Put | DavMethod::Patch)
+}
+
+// Whether a method has a use for a body.
+fn takes_some(method: DavMethod) -> bool
+    ensures { result ≡ the_takes_some method }
+{
+    match method {
+        DavMethod::Put
+        | DavMethod::Patch
+        | DavMethod::PropFind
+        | DavMethod::PropPatch
+        | DavMethod::Lock
+        | DavMethod::Report
+        | DavMethod::MkCalendar
+        | DavMethod::MkAddressbook => true,
+        _ => false,
     }
 }
 
-// What a fault of a path is answered with. Want of memory is no fault of a path.
-fn refused_path(fault: ParseError) -> Result<Target, NoMemory>
-    ensures value { IfOk result (λ target. target ≡ Refused (path_status fault) false) }
-    ensures status { IfOk result NoFailure }
+// What a body is refused with, where its method has no use for it.
+fn of_body(method: DavMethod, body: &[u8]) -> Option<Target>
+    ensures { result ≡ the_of_body method (bulk_of body.now) }
 {
-    let status = match fault {
+    if body.is_empty() {
+        return None;
+    }
+    if body.len() > MOST_BODY {
+        if takes_much(method) {
+            return None;
+        }
+        return Some(refused(413, false));
+    }
+    if takes_some(method) {
+        return None;
+    }
+    Some(refused(415, false))
+}
+
+// Whether a method is among those that are set; without a set each is.
+fn is_allowed(allow: &Option<DavMethodSet>, method: DavMethod) -> bool
+    ensures { result ≡ in_allowed allow.now method }
+{
+    match allow {
+        None => true,
+        Some(set) => set.contains(method),
+    }
+}
+
+// What a fault of a path is answered with.
+fn path_status(fault: ParseError) -> u16
+    ensures { result ≡ the_path_status fault }
+{
+    match fault {
         ParseError::InvalidPath => 400,
         ParseError::ForbiddenPath => 403,
         ParseError::PrefixMismatch | ParseError::NotText => 404,
-        ParseError::NoMemory => return Err(NoMemory),
-    };
-    Ok(Target::Refused {
-        status,
-        close: false,
-    })
+        ParseError::NoMemory => 500,
+    }
 }
 
-// What the path of a target asks for. It is read before a field whose form is not built counts.
-fn target_of(
-    alloc: Global,
-    method: DavMethod,
-    is_unbuilt: bool,
-    uri: &Uri,
-) -> Result<Target, NoMemory>
-    ensures value { IfOk result (λ target. target ≡ target_read method is_unbuilt (parsed (uri_path uri.now) [])) }
-    ensures status { IfOk result NoFailure }
+// What the path of a target asks for, below a prefix.
+fn with_path(alloc: Global, method: DavMethod, uri: &Uri, prefix: &str) -> Result<Target, NoMemory>
+    ensures { IfOk result (λ target. target ≡ the_with_path method (parsed (uri_path uri.now) prefix.now)) }
 {
-    match DavPath::from_uri_and_prefix(alloc, uri, "") {
-        Ok(path) => {
-            if is_unbuilt {
-                return Ok(unbuilt());
+    match DavPath::from_uri_and_prefix(alloc, uri, prefix) {
+        Ok(path) => Ok(Target::At { method, path }),
+        Err(ParseError::NoMemory) => Err(NoMemory),
+        Err(fault) => Ok(refused(path_status(fault), false)),
+    }
+}
+
+// The gates of the head: a method that is known and allowed, and a path.
+fn admitted(
+    alloc: Global,
+    settings: &Settings,
+    request: &Request<Octets>,
+) -> Result<Target, NoMemory>
+    ensures { IfOk result (λ target. target ≡ the_admitted settings.now true (head_of request.now)) }
+{
+    let Ok(method) = dav_method(request.method()) else {
+        return Ok(refused(501, true));
+    };
+    if !is_allowed(&settings.allow, method) {
+        return Ok(refused(405, true));
+    }
+    with_path(alloc, method, request.uri(), settings.prefix.as_str())
+}
+
+// The gates of the body, and of a form that isn't built.
+fn weighed(request: &Request<Octets>, target: Target) -> Target
+    ensures { result ≡ the_weighed (head_of request.now).headers (bulk_of (body_of request.now)) target }
+{
+    match target {
+        Target::Refused { status, close } => refused(status, close),
+        Target::At { method, path } => {
+            if let Some(refusal) = of_body(method, request.body().as_slice()) {
+                return refusal;
             }
-            Ok(Target::At { method, path })
+            if is_built(request.headers(), method) {
+                return Target::At { method, path };
+            }
+            refused(501, true)
         }
-        Err(fault) => refused_path(fault),
     }
 }
 
 /// What a request asks for, or what it is refused with whatever stands on the disk.
-pub fn target(alloc: Global, request: &Request<Octets>) -> Result<Target, NoMemory>
-    ensures value { IfOk result (λ target. target ≡ gates request.now) }
-    ensures status { IfOk result NoFailure }
+pub fn target(
+    alloc: Global,
+    settings: &Settings,
+    request: &Request<Octets>,
+) -> Result<Target, NoMemory>
+    ensures { IfOk result (λ target. target ≡ target_of (plain_rules settings.now) request.now) }
 {
-    let Ok(method) = dav_method(request.method()) else {
-        return Ok(unbuilt());
-    };
-    if !reads(method) {
-        return Ok(unbuilt());
-    }
-    if !is_bare(request) {
-        return Ok(unbuilt());
-    }
-    target_of(alloc, method, has_field(request, "if"), request.uri())
+    let target = admitted(alloc, settings, request)?;
+    Ok(weighed(request, target))
 }

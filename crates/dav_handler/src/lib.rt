@@ -9,6 +9,7 @@ mod playing;
 
 pub use dav_model::{Answer, Settings, Step};
 pub use dav_plain::PlainFs;
+pub use gates::announces_body;
 pub use player::Player;
 pub use playing::play;
 

@@ -1,8 +1,7 @@
-ghost use Rattle.std.specs.Prelude.{◌≡◌, ◌<◌, ◌≤◌, ◌+◌, ◌^◌, [], Ok};
+ghost use Rattle.std.specs.Prelude.{◌≡◌, ◌<◌, ◌≤◌, ◌+◌, ◌^◌, [], None, Ok};
 ghost use Rattle.dav_model.specs.Sizes.{read_size_of};
 ghost use Rattle.dav_core.specs.Disk.{Turns};
 ghost use Rattle.dav_model.specs.declared.answer.Answer.TheVariants.{Reply as Replied};
-ghost use Rattle.dav_model.specs.Trail.{point_of};
 ghost use Rattle.dav_handler.specs.Held.{IsPlaying, body_at};
 
 use crate::bodies::{Bodies, end_body, poll_body, sweep};
@@ -27,15 +26,14 @@ pub struct Player<D: Disk> {
 }
 
 impl<D: Disk> Player<D> {
-    ghost use Rattle.dav_handler.specs.Player.{playing_of, point_at};
+    ghost use Rattle.dav_handler.specs.Player.{plain_playing, playing_of, stage_of};
     ghost use Rattle.dav_model.specs.Play.{Stepped};
     ghost use Rattle.dav_model.specs.declared.step.Step.TheVariants.{Abandon, Poll, Turn, Request as Asks};
 
     /// A player over a disk from its root on, with no reply yet.
     pub fn plain(alloc: Global, disk: D, settings: Settings) -> Self
         ensures loan { D.loan result.store.disk ≡ D.loan disk }
-        ensures point { point_at result ≡ point_of (D.state disk) }
-        ensures playing { playing_of result ≡ record { settings = settings; replies = 0; left = λ _. [] } }
+        ensures stage { stage_of result ≡ record { at = D.state disk; playing = plain_playing settings 0 (λ _. []) (λ _. None) } }
     {
         Player {
             alloc,
@@ -76,7 +74,7 @@ impl<D: Disk> Player<D> {
 
     // A turn of the outside.
     fn turn(&mut self) -> Result<Answer, NoMemory>
-        ensures done { Stepped (point_at self.old) (playing_of self.old) Turn result (point_at self.new) (playing_of self.new) }
+        ensures done { Stepped (stage_of self.old) Turn result (stage_of self.new) }
         ensures loan { D.loan self.new.store.disk ≡ D.loan self.old.store.disk }
     {
         match turn_disk(&mut self.store) {
@@ -87,7 +85,7 @@ impl<D: Disk> Player<D> {
 
     // Abandons a body.
     fn abandon(&mut self, body: u32) -> Answer
-        ensures done { Stepped (point_at self.old) (playing_of self.old) (Abandon body) (Ok result) (point_at self.new) (playing_of self.new) }
+        ensures done { Stepped (stage_of self.old) (Abandon body) (Ok result) (stage_of self.new) }
         ensures loan { D.loan self.new.store.disk ≡ D.loan self.old.store.disk }
     {
         end_body(&mut self.bodies, &mut self.store, body);
@@ -97,7 +95,7 @@ impl<D: Disk> Player<D> {
     // A request. A file that was opened for it is held by its body, or closed again.
     fn request(&mut self, request: &Request<Octets>, now: Moment) -> Result<Answer, NoMemory>
         requires { self.old.replies + 1 < 2 ^ 32 }
-        ensures done { Stepped (point_at self.old) (playing_of self.old) (Asks request.now now) result (point_at self.new) (playing_of self.new) }
+        ensures done { Stepped (stage_of self.old) (Asks request.now now) result (stage_of self.new) }
         ensures loan { D.loan self.new.store.disk ≡ D.loan self.old.store.disk }
     {
         let found = match find_for(self.alloc, &self.settings, &mut self.store, request) {
@@ -127,13 +125,15 @@ impl<D: Disk> Player<D> {
 
     // The next piece of a body. Its memory is taken before the disk is asked.
     fn poll(&mut self, body: u32) -> Result<Answer, NoMemory>
-        ensures done { Stepped (point_at self.old) (playing_of self.old) (Poll body) result (point_at self.new) (playing_of self.new) }
+        ensures done { Stepped (stage_of self.old) (Poll body) result (stage_of self.new) }
         ensures loan { D.loan self.new.store.disk ≡ D.loan self.old.store.disk }
     {
         let Some(open) = self.bodies.get(&body) else {
             return Ok(Answer::End);
         };
-        let room = Vec::with_capacity(self.alloc, open.next_most())?;
+        let Ok(room) = Vec::with_capacity(self.alloc, open.next_most()) else {
+            return Err(NoMemory);
+        };
         let answer = poll_body(&mut self.bodies, &mut self.store, body, room);
         sweep(&mut self.bodies, &mut self.store, body);
         Ok(answer)
@@ -142,14 +142,14 @@ impl<D: Disk> Player<D> {
     // One step.
     pub(crate) fn step(&mut self, step: &Step) -> Result<Answer, NoMemory>
         requires { self.old.replies + 1 < 2 ^ 32 }
-        ensures done { Stepped (point_at self.old) (playing_of self.old) step.now result (point_at self.new) (playing_of self.new) }
+        ensures done { Stepped (stage_of self.old) step.now result (stage_of self.new) }
         ensures loan { D.loan self.new.store.disk ≡ D.loan self.old.store.disk }
     {
         match step {
             Step::Request { request, now } => self.request(request, *now),
             Step::Poll(body) => self.poll(*body),
             Step::Abandon(body) => Ok(self.abandon(*body)),
-            Step::Purge(_) => Ok(Answer::Done),
+            Step::Purge(_now) => Ok(Answer::Done),
             Step::Turn => self.turn(),
         }
     }

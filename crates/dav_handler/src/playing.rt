@@ -1,6 +1,6 @@
 ghost use Rattle.std.specs.Prelude.{◌≡◌, ◌+◌, ◌<◌, ◌^◌, length};
-ghost use Rattle.dav_handler.specs.Player.{playing_of, point_at};
-ghost use Rattle.dav_model.specs.Play.{Played};
+ghost use Rattle.dav_handler.specs.Player.{stage_of};
+ghost use Rattle.dav_model.specs.Play.{PlayedOn};
 
 use crate::player::Player;
 use dav_core::Disk;
@@ -15,7 +15,7 @@ pub fn play<D: Disk>(
     answers: &mut Vec<Answer>,
 ) -> Result<(), NoMemory>
     requires { player.old.replies + length steps.now < 2 ^ 32 }
-    ensures done { Played (point_at player.old) (playing_of player.old) steps.now answers.old.items answers.new.items result (point_at player.new) (playing_of player.new) }
+    ensures done { PlayedOn (stage_of player.old) steps.now answers.old.items answers.new.items result (stage_of player.new) }
     ensures loan { D.loan player.new.store.disk ≡ D.loan player.old.store.disk }
 {
     for step in steps {

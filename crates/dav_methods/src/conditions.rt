@@ -10,7 +10,9 @@ use std::alloc::Global;
 
 // Whether `if-match`, or without it `if-unmodified-since`, is false.
 fn is_refused(alloc: Global, fields: &HeaderMap, there: &Standing) -> Result<bool, NoMemory>
-    ensures { IfOk result (λ refused. refused ≡ conditions.is_refused (conditions.list_in fields.now (codes "if-match")) (conditions.date_in fields.now (codes "if-unmodified-since")) there.now.stands there.now.tag there.now.time) }
+    ensures { IfOk result (λ refused. refused ≡ conditions.is_refused
+        (conditions.list_in fields.now (codes "if-match")) (conditions.date_in fields.now (codes "if-unmodified-since"))
+        there.now.stands there.now.tag there.now.time) }
 {
     if let Some(list) = list_in(alloc, fields, "if-match")? {
         return Ok(!there.matches_strongly(&list));
@@ -21,8 +23,8 @@ fn is_refused(alloc: Global, fields: &HeaderMap, there: &Standing) -> Result<boo
     }
 }
 
-// GET and HEAD.
-fn reads(method: DavMethod) -> bool
+/// Whether a method reads: GET and HEAD do.
+pub fn reads(method: DavMethod) -> bool
     ensures { result ≡ conditions.reads method }
 {
     matches!(method, DavMethod::Get | DavMethod::Head)
@@ -35,7 +37,10 @@ fn repeated(
     fields: &HeaderMap,
     there: &Standing,
 ) -> Result<Option<StatusCode>, NoMemory>
-    ensures { IfOk result (λ status. status ≡ conditions.repeated method (conditions.list_in fields.now (codes "if-none-match")) (conditions.date_in fields.now (codes "if-modified-since")) there.now.stands there.now.tag there.now.time) }
+    ensures { IfOk result (λ status. status ≡ conditions.repeated method
+        (conditions.list_in fields.now (codes "if-none-match"))
+        (conditions.date_in fields.now (codes "if-modified-since"))
+        there.now.stands there.now.tag there.now.time) }
 {
     if let Some(list) = list_in(alloc, fields, "if-none-match")? {
         if !there.matches_weakly(&list) {
@@ -65,7 +70,8 @@ pub fn if_match<M: DavMetaData>(
     fields: &HeaderMap,
     meta: Option<&M>,
 ) -> Result<Option<StatusCode>, NoMemory>
-    ensures { IfOk result (λ status. status ≡ conditions.condition_of method fields.now (option_map (λ m. M.info m.now) meta.entry)) }
+    ensures { IfOk result (λ status. status ≡ conditions.condition_of method fields.now
+        (option_map (λ m. M.info m.now) meta.entry)) }
 {
     let there = Standing::of(alloc, meta)?;
     if is_refused(alloc, fields, &there)? {
@@ -74,9 +80,10 @@ pub fn if_match<M: DavMetaData>(
     repeated(alloc, method, fields, &there)
 }
 
-/// Whether a value of `if-range` matches a tag and the time of the last change (RFC 9110 section 13.1.5): a tag by strong
-/// comparison, a date where it is the time in whole seconds. That section wants of a date that it is a strong validator, too;
-/// this isn't asked, since no clock is, so a file that changes twice in one second is one file to a date.
+/// Whether a value of `if-range` matches a tag and the time of the last change (RFC 9110 section 13.1.5): a tag by
+/// strong comparison, a date where it is the time in whole seconds. That section wants of a date that it is a strong
+/// validator, too; this isn't asked, since no clock is, so a file that changes twice in one second is one file to a
+/// date.
 pub fn ifrange_match(r: &IfRange, tag: Option<&ETag>, modified: Option<FileTime>) -> bool
     ensures { result ≡ conditions.range_matches r.now (option_copied tag.entry) modified }
 {

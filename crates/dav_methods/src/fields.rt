@@ -8,7 +8,7 @@ use dav_io::{NoMemory, Octets};
 use http::HeaderMap;
 use std::alloc::Global;
 
-// The first value of a name.
+/// The first value of a name, whose case doesn't matter.
 pub fn first_value<'a>(fields: &'a HeaderMap, name: &str) -> Option<&'a [u8]>
     ensures { option_copied result ≡ conditions.first_bytes fields.now (lowercase name.now) }
 {

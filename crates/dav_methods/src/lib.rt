@@ -5,8 +5,5 @@ mod conditions;
 mod fields;
 mod standing;
 
-pub use conditions::{if_match, ifrange_match, ranges_are_heard};
+pub use conditions::{if_match, ifrange_match, ranges_are_heard, reads};
 pub use fields::first_value;
-
-#[cfg(test)]
-mod tests;

@@ -149,3 +149,18 @@ head_of_get fields path stood reply (date, shown, is) shared =
     let here : IsShared (sent_status sent) = subst (λ (r : Reply). IsShared r.status) is shared in
     let same = lengths_same stood.len sent (known_get fields stood) here in
     (date, shown, ap bare is ∙ (ap (headed type stood date sent) same ∙ ap (sent_reply false type stood date) (sent_same fields stood)))
+
+known_shared : (sent : Sent) → KnownStatus sent → (sent_status sent ≡ 412 → ⊥) → (sent_status sent ≡ 416 → ⊥) → IsShared (sent_status sent)
+known_shared All known no_412 no_416 = inl refl
+known_shared (Alone status) (inl e) no_412 no_416 = absurd (no_412 e)
+known_shared (Alone status) (inr e) no_412 no_416 = inr (inr e)
+known_shared Unsatisfied known no_412 no_416 = absurd (no_416 refl)
+known_shared (One part) known no_412 no_416 = inr (inl refl)
+known_shared (Several parts) known no_412 no_416 = inr (inl refl)
+
+-- the statuses of a file's answer but 412 and 416
+pub shared_status : (fields : Fields) (path : WebPath) (stood : Stood) (reply : Reply) → IsSent Get path stood (sent_of Get fields stood) reply
+    → (reply.status ≡ 412 → ⊥) → (reply.status ≡ 416 → ⊥) → IsShared reply.status
+shared_status fields path stood reply (date, dated, is) no_412 no_416 =
+    let same : sent_status (sent_of Get fields stood) ≡ reply.status = sym (ap (λ (r : Reply). r.status) is) in
+    subst IsShared same (known_shared (sent_of Get fields stood) (known_get fields stood) (λ e. no_412 (sym same ∙ e)) (λ e. no_416 (sym same ∙ e)))

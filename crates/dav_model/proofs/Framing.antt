@@ -19,8 +19,7 @@ use Rattle.dav_model.specs.declared.target.Target.TheVariants.{At, Refused}
 use Rattle.dav_model.specs.Announced.{IsFramed, IsFramedBy, PolledToEnd, bytes_in, length_is_own, value_of}
 use Rattle.dav_model.specs.Bodies.{Part, bytes_left, slice}
 use Rattle.dav_model.specs.Conditions.{Fields}
-use Rattle.dav_model.specs.Head.{Reply, Stood, IsFileHead, IsHeadAt, IsHeadOr, IsKindHead, IsReplyTo, IsSent, address_of, found_in, is_get, is_well_known, redirected, refusal, sent_of, sent_reply, sent_status, well_known}
-use Rattle.dav_model.specs.Requests.{Asked, fields_of, gates}
+use Rattle.dav_model.specs.Head.{Reply, Stood, IsSent, is_get, redirected, refusal, sent_reply, sent_status, well_known}
 use Rattle.dav_model.proofs.Announcing.{polled_bytes}
 
 -- what has no parts, and announces none
@@ -81,28 +80,6 @@ sent_framed method path stood sent reply (date, dated, is) =
 -- and so are the other answers
 pub refused_framed : (target : Target) (reply : Reply) (status : ℕ) (close : Bool) → reply ≡ refusal status close → IsFramed target reply
 refused_framed target reply status close is = subst (λ (r : Reply). IsFramed target r) (sym is) (framed_refusal (length_is_own target status) status close)
-
-file_framed : (address : Option (List ℕ)) (method : DavMethod) (fields : Fields) (path : WebPath) (stood : Stood) (reply : Reply) → IsFileHead address method fields path stood reply → IsFramed (At method path) reply
-file_framed (Some address) method fields path stood reply (date, dated, is) =
-    subst (λ (r : Reply). IsFramed (At method path) r) (sym is) (framed_redirect (length_is_own (At method path) 302) address stood.tag date)
-file_framed None method fields path stood reply is = sent_framed method path stood (sent_of method fields stood) reply is
-
-kind_framed : (kind : Kind) (settings : Settings) (method : DavMethod) (fields : Fields) (path : WebPath) (stood : Stood) (reply : Reply) → IsKindHead kind settings method fields path stood reply → IsFramed (At method path) reply
-kind_framed Dir settings method fields path stood reply is = refused_framed (At method path) reply 501 true is
-kind_framed File settings method fields path stood reply is = file_framed (address_of settings stood) method fields path stood reply is
-kind_framed Link settings method fields path stood reply is = refused_framed (At method path) reply 405 false is
-
-at_framed : (settings : Settings) (method : DavMethod) (fields : Fields) (path : WebPath) (found : Result Stood FsError) (reply : Reply) → IsHeadAt settings method fields path found reply → IsFramed (At method path) reply
-at_framed settings method fields path (Ok stood) reply is = kind_framed stood.kind settings method fields path stood reply is
-at_framed settings method fields path (Err e) reply is = refused_framed (At method path) reply (fs_status e) false is
-
-or_framed : (known : Bool) (settings : Settings) (method : DavMethod) (fields : Fields) (path : WebPath) (found : Result Stood FsError) (reply : Reply) → IsHeadOr known settings method fields path found reply → IsFramed (At method path) reply
-or_framed true settings method fields path found reply is = subst (λ (r : Reply). IsFramed (At method path) r) (sym is) (framed_well_known (length_is_own (At method path) 200))
-or_framed false settings method fields path found reply is = at_framed settings method fields path found reply is
-
-pub head_framed : (settings : Settings) (w : World) (fields : Fields) (target : Target) (reply : Reply) → IsReplyTo settings w fields target reply → IsFramed target reply
-head_framed settings w fields (Refused status close) reply is = refused_framed (Refused status close) reply status close is
-head_framed settings w fields (At method path) reply is = or_framed (is_well_known settings method path) settings method fields path (found_in w path) reply is
 
 -- a body gives as many bytes as are announced
 pub given_length : (target : Target) (reply : Reply) (value : List ℕ) (pieces : List (List ℕ)) → IsFramed target reply → length_is_own target reply.status ≡ true

@@ -3,3 +3,11 @@ pub mod RangeRows
 pub mod Within
 pub mod Framing
 pub mod Nonempty
+pub mod PollsShrink
+pub mod JoiningLemmas
+pub mod LooseWalks
+pub mod Headline
+pub mod Denied
+pub mod RightReplies
+pub mod WorldsCouldShow
+pub mod PlainWalks

@@ -24,13 +24,6 @@ HasBytes (slice number start count) = 0 < count
 abbrev pub NoneEmpty : List Part → Type 0
 NoneEmpty parts = AllByRecursion HasBytes parts
 
--- a player as its answers show it: what is set, how many replies it gave, and what each body has left
-pub record Playing : Type 0 where
-  pub settings : Settings
-  pub replies : ℕ
-  -- An unknown or ended body has nothing left.
-  pub left : ℕ → List Part
-
 -- a slice moved on by n bytes; it goes when nothing of it is left
 abbrev pub moved : ℕ → ℕ → ℕ → ℕ → List Part → List Part
 moved number start count n parts = cond (count - n == 0) parts (slice number (start + n) (count - n) ∷ parts)
@@ -68,17 +61,3 @@ bytes_left (slice number start count ∷ parts) = count + bytes_left parts
 -- the same, and one for each part
 abbrev pub size : List Part → ℕ
 size parts = bytes_left parts + length parts
-
-moved_size : (b : Bool) (number start count n : ℕ) (parts : List Part) → ((count - n == 0) ≡ b) → 0 < n → n ≤ count
-    → size (cond b parts (slice number (start + n) (count - n) ∷ parts)) < count + bytes_left parts + suc (length parts)
-moved_size true number start count n parts e some within = omega arith
-moved_size false number start count n parts e some within = omega arith
-
--- a piece leaves less
-pub polls_shrink : (told : Option World) (whole : Bool) (most before after : ℕ) (left : List Part) (answer : Answer) (rest : List Part)
-    → Polls told whole most before after left answer rest → (piece : List ℕ) → answer ≡ Piece piece → size rest < size left
-polls_shrink told whole most before after [] answer rest (e, none) piece f = let g : Piece piece ≡ End = sym f ∙ e in cc
-polls_shrink told whole most before after (part ∷ parts) answer rest (inr (e, none, rose)) piece f = let g : Piece piece ≡ Broken = sym f ∙ e in cc
-polls_shrink told whole most before after (text bytes ∷ parts) answer rest (inl (p, e, (is, are))) piece f = rw are (omega arith)
-polls_shrink told whole most before after (slice number start count ∷ parts) answer rest (inl (p, e, (some, within, are, right))) piece f =
-    rw are (moved_size _ number start count (length p) parts refl some within)

@@ -1,4 +1,4 @@
--- The head: status, header fields and parts of the answer to a GET or HEAD, by the world and the request alone.
+-- The head of a file's answer, and of the answers without a file: status, header fields and parts.
 use Rattle.std.specs.Prelude.{◌≡◌, ◌==◌, ◌&&◌, ◌⊎◌, ◌+◌, ◌-◌, ℕ, List, [], ◌∷◌, ◌++◌, Bool, true, false, cond, not, length, codes, decimal, Option, None, Some, Result, Ok, Err}
 use Rattle.std.specs.Option.{option_map}
 use Rattle.std.specs.List.{flat_map}
@@ -30,7 +30,6 @@ use Rattle.dav_model.specs.declared.target.Target.{Target}
 use Rattle.dav_model.specs.declared.target.Target.TheVariants.{At, Refused}
 use Rattle.dav_model.specs.Bodies.{Part, text, slice}
 use Rattle.dav_model.specs.Conditions.{Fields, condition, first_bytes, ranges_are_heard, strong}
-use Rattle.dav_model.specs.Requests.{Asked, fields_of, gates}
 use Rattle.dav_model.specs.Slices.{ranges}
 use Rattle.dav_model.specs.Times.{IsDate}
 
@@ -55,10 +54,6 @@ closing close = cond close (field (codes "connection") (codes "close") ∷ []) [
 -- A refusal has no body.
 abbrev pub refusal : ℕ → Bool → Reply
 refusal status close = record { status = status; fields = closing close ++ field (codes "content-length") (codes "0") ∷ []; parts = [] }
-
--- the answer where the disk failed
-abbrev pub failure : Reply
-failure = refusal 500 false
 
 abbrev pub quoted : List ℕ → List ℕ
 quoted tag = 34 ∷ (tag ++ 34 ∷ [])
@@ -205,27 +200,12 @@ abbrev pub IsFileHead : Option (List ℕ) → DavMethod → Fields → WebPath �
 IsFileHead (Some address) method fields path stood reply = (date : Option (List ℕ)) × IsDate stood.modified date × (reply ≡ redirected address stood.tag date)
 IsFileHead None method fields path stood reply = IsSent method path stood (sent_of method fields stood) reply
 
--- The answer where a directory, a file or a link stands. A directory's form isn't built.
-abbrev pub IsKindHead : Kind → Settings → DavMethod → Fields → WebPath → Stood → Reply → Type 0
-IsKindHead Dir settings method fields path stood reply = reply ≡ refusal 501 true
-IsKindHead File settings method fields path stood reply = IsFileHead (address_of settings stood) method fields path stood reply
-IsKindHead Link settings method fields path stood reply = reply ≡ refusal 405 false
-
--- The answer to a GET or HEAD by what stands at its path, or why nothing does.
-abbrev pub IsHeadAt : Settings → DavMethod → Fields → WebPath → Result Stood FsError → Reply → Type 0
-IsHeadAt settings method fields path (Ok stood) reply = IsKindHead stood.kind settings method fields path stood reply
-IsHeadAt settings method fields path (Err e) reply = reply ≡ refusal (fs_status e) false
-
 -- the page that clients of a well-known server look for: it is there whatever stands in the tree
 abbrev pub is_well_known : Settings → DavMethod → WebPath → Bool
 is_well_known settings method path = is_get method && (not (is_set settings.autoindex) && (path.slash && same_names path.names (codes "remote.php" ∷ codes "webdav" ∷ [])))
 
 abbrev pub well_known : Reply
 well_known = record { status = 200; fields = field (codes "accept-ranges") (codes "bytes") ∷ field (codes "content-length") (codes "0") ∷ []; parts = [] }
-
-abbrev pub IsHeadOr : Bool → Settings → DavMethod → Fields → WebPath → Result Stood FsError → Reply → Type 0
-IsHeadOr true settings method fields path found reply = reply ≡ well_known
-IsHeadOr false settings method fields path found reply = IsHeadAt settings method fields path found reply
 
 -- a row of a world, as far as an answer speaks of it
 abbrev pub stood_in : World → Row → Stood
@@ -237,45 +217,3 @@ stood_in w row = record {
   tag = tag_of row.kind row.number (length (bytes_of w row.number)) (known_time row.time);
   address = None;
 }
-
--- A file with a final slash is forbidden, and so is a path below a file.
-abbrev pub found_with : Bool → World → Result Row DiskError → Result Stood FsError
-found_with slash w (Ok row) = cond (slash && is_file row.kind) (Err Forbidden) (Ok (stood_in w row))
-found_with slash w (Err e) = Err (fs_error_of e)
-
--- what stands at a path of a world
-abbrev pub found_in : World → WebPath → Result Stood FsError
-found_in w path = found_with path.slash w (look w.tree path.names)
-
--- the answer to what is asked for
-abbrev pub IsReplyTo : Settings → World → Fields → Target → Reply → Type 0
-IsReplyTo settings w fields (Refused status close) reply = reply ≡ refusal status close
-IsReplyTo settings w fields (At method path) reply = IsHeadOr (is_well_known settings method path) settings method fields path (found_in w path) reply
-
--- The head of a request over a world: the one right answer.
-abbrev pub IsHead : Settings → World → Asked → Reply → Type 0
-IsHead settings w request reply = IsReplyTo settings w (fields_of request) (gates request) reply
-
--- Where a part or several of a regular file are sent, and the file couldn't be placed at the first: no range could be met.
-pub record IsUnplaced (settings : Settings) (method : DavMethod) (fields : Fields) (path : WebPath) (stood : Stood) (reply : Reply) : Type 0 where
-  pub regular : stood.kind ≡ File
-  pub here : address_of settings stood ≡ None
-  pub partial : sent_status (sent_of method fields stood) ≡ 206
-  pub sent : IsSent method path stood Unsatisfied reply
-
--- What may be answered in place of the head where the disk failed: a failure, or that no range could be met.
-abbrev pub IsSpoiledAt : Settings → DavMethod → Fields → WebPath → Result Stood FsError → Reply → Type 0
-IsSpoiledAt settings method fields path (Err e) reply = reply ≡ failure
-IsSpoiledAt settings method fields path (Ok stood) reply = (reply ≡ failure) ⊎ IsUnplaced settings method fields path stood reply
-
--- The page that is there whatever stands in the tree asks no disk.
-abbrev pub IsSpoiledOr : Bool → Settings → DavMethod → Fields → WebPath → Result Stood FsError → Reply → Type 0
-IsSpoiledOr true settings method fields path found reply = ⊥
-IsSpoiledOr false settings method fields path found reply = IsSpoiledAt settings method fields path found reply
-
-abbrev pub IsSpoiledTo : Settings → World → Fields → Target → Reply → Type 0
-IsSpoiledTo settings w fields (Refused status close) reply = ⊥
-IsSpoiledTo settings w fields (At method path) reply = IsSpoiledOr (is_well_known settings method path) settings method fields path (found_in w path) reply
-
-abbrev pub IsSpoiled : Settings → World → Asked → Reply → Type 0
-IsSpoiled settings w request reply = IsSpoiledTo settings w (fields_of request) (gates request) reply

@@ -9,5 +9,10 @@ pub mod Head
 pub mod Announced
 pub mod Trail
 pub mod Play
-pub mod Joining
-pub mod Answered
+pub mod Folds
+pub mod Rules
+pub mod Shown
+pub mod Finding
+pub mod Gates
+pub mod Due
+pub mod Valid

@@ -1,92 +1,236 @@
 -- What the answers to a list of steps are, along a trail.
-use Rattle.std.specs.Prelude.{◌≡◌, ◌+◌, ◌⊎◌, ℕ, List, [], ◌∷◌, ◌++◌, Some, Result, Ok, Err}
-use Rattle.std.specs.List.{AllByRecursion}
+use Rattle.std.specs.Prelude.{◌≡◌, ◌+◌, ◌⊎◌, ℕ, Bool, true, false, List, [], ◌∷◌, ◌++◌, is_some, Option, None, Some, Result, Ok, Err}
+use Rattle.std.specs.List.{AllByRecursion, list_any}
 use Rattle.dav_io.specs.Counts.{Rose}
+use Rattle.dav_io.specs.Told.{Both}
 use Rattle.dav_io.specs.declared.failure.NoMemory.{NoMemory}
-use Rattle.dav_core.specs.Tree.{NoLink}
+use Rattle.dav_core.specs.declared.time.FileTime.{FileTime}
+use Rattle.dav_core.specs.declared.tree.Kind.TheVariants.{File}
+use Rattle.dav_core.specs.Changes.{turned}
+use Rattle.dav_core.specs.Disk.{Live}
+use Rattle.dav_core.specs.Options.{reading}
+use Rattle.dav_core.specs.Path.{Names}
+use Rattle.dav_core.specs.Tree.{is_linked}
+use Rattle.dav_core.specs.Unchanged.{SameBesidesOpens}
 use Rattle.dav_core.specs.World.{World, put, number_of}
 use Rattle.dav_model.specs.declared.step.Step.{Step}
 use Rattle.dav_model.specs.declared.step.Step.TheVariants.{Request, Poll, Abandon, Purge, Turn}
 use Rattle.dav_model.specs.declared.answer.Answer.{Answer}
 use Rattle.dav_model.specs.declared.answer.Answer.TheVariants.{Reply as Replied, Done}
-use Rattle.dav_model.specs.Trail.{Point, Trail, Goes, GoesRefused, last_of}
-use Rattle.dav_model.specs.Bodies.{Part, text, slice, Playing, Polls}
 use Rattle.dav_model.specs.declared.target.Target.{Target}
 use Rattle.dav_model.specs.declared.target.Target.TheVariants.{At, Refused}
-use Rattle.dav_model.specs.declared.settings.Settings.{Settings}
+use Rattle.dav_model.specs.Bodies.{NoneEmpty, Part, text, slice, Polls}
+use Rattle.dav_model.specs.Conditions.{Fields}
+use Rattle.dav_model.specs.Due.{Query, query, IsRight}
+use Rattle.dav_model.specs.Finding.{MayShow, resolved, shown_in}
+use Rattle.dav_model.specs.Folds.{Name}
+use Rattle.dav_model.specs.Head.{Reply, refusal}
+use Rattle.dav_model.specs.Requests.{Asked, fields_of}
+use Rattle.dav_model.specs.Rules.{Rules, Knowledge, Learns, Forgets, WasKnown, HasNames}
+use Rattle.dav_model.specs.Shown.{Shown, CouldShow}
 use Rattle.dav_model.specs.Sizes.{read_size_of}
-use Rattle.dav_model.specs.Requests.{Asked, gates}
-use Rattle.dav_model.specs.Head.{Reply, refusal, IsHead, IsSpoiled}
-use Rattle.dav_model.specs.Announced.{HasSoundBody, IsFramed}
+use Rattle.dav_model.specs.Trail.{Point, Move, Goes, Leaves, target_of, last_of, steps_of, answers_of, points_of}
+use Rattle.dav_model.specs.Valid.{Occurs, Valid}
 
--- no row is a symbolic link
-abbrev pub NoLinks : Point → Type 0
-NoLinks s = (w : World) → s.told ≡ Some w → AllByRecursion NoLink w.tree
+-- A player as its answers show it.
+pub record Playing : Type 0 where
+  pub rules : Rules
+  -- how many replies it gave
+  pub replies : ℕ
+  -- what each body has left. An unknown or ended body has nothing.
+  pub left : ℕ → List Part
+  -- the handle of the file that each body holds
+  pub held : ℕ → Option ℕ
+  -- what the memory of its store knows
+  pub knows : Knowledge
 
--- A trail is valid where no row of it is a symbolic link. (What folding and the macOS rules ask of a trail joins here.)
-pub record Valid (s : Point) (ts : List Point) : Type 0 where
-  pub first : NoLinks s
-  pub others : AllByRecursion NoLinks ts
+-- ---- bodies and their files
 
--- what the gates refuse
-abbrev pub Gated : Target → Reply → Type 0
-Gated (Refused status close) reply = reply ≡ refusal status close
-Gated (At method path) reply = Unit {0}
+abbrev pub is_slice : Part → Bool
+is_slice (text bytes) = false
+is_slice (slice number start count) = true
 
--- The answer to a request between two points. In every run what the gates refuse is refused, `content-length` is that of the
--- body, and no part of the body is empty; where `valid` holds, the reply is the head of the world before the step, or what may stand in its place where the count rose.
-pub record Replies (valid : Type 0) (settings : Settings) (s t : Point) (request : Asked) (reply : Reply) : Type 0 where
-  pub gated : Gated (gates request) reply
-  pub failed : reply.status ≡ 500 → Rose s.faults t.faults
-  pub framed : IsFramed (gates request) reply
-  pub sound : HasSoundBody reply
-  pub right : valid → (w : World) → s.told ≡ Some w → IsHead settings w request reply ⊎ (IsSpoiled settings w request reply × Rose s.faults t.faults)
+abbrev pub has_slice : List Part → Bool
+has_slice parts = list_any is_slice parts
 
--- The answer to a step, and what it leaves of the player.
-abbrev pub Stands : Type 0 → Playing → Point → Point → Step → Answer → Playing → Type 0
-Stands valid p s t (Request request now) answer q = (reply : Reply) × (answer ≡ Replied reply.status reply.fields p.replies)
-    × (q ≡ record p { replies = p.replies + 1; left = put p.replies reply.parts p.left }) × Replies valid p.settings s t request reply
-Stands valid p s t (Poll body) answer q = (rest : List Part) × (q ≡ record p { left = put body rest p.left })
-    × Polls s.told s.whole (read_size_of p.settings.read_buf_size) s.faults t.faults (p.left body) answer rest
-Stands valid p s t (Abandon body) answer q = (answer ≡ Done) × (q ≡ record p { left = put body [] p.left })
-Stands valid p s t (Purge now) answer q = (answer ≡ Done) × (q ≡ p)
-Stands valid p s t Turn answer q = (answer ≡ Done) × (q ≡ p)
+-- a live handle of a regular file that is read
+abbrev pub read_file : Live
+read_file = record { kind = File; how = reading }
 
--- the file of a slice is open
-abbrev pub HasOpen : World → Part → Type 0
-HasOpen w (text bytes) = Unit {0}
-HasOpen w (slice number start count) = (h : ℕ) × (number_of w h ≡ Some number)
+-- A reply's body takes a new handle, or none; nothing else is opened or closed.
+abbrev pub Takes : Option ℕ → (ℕ → Option Live) → (ℕ → Option Live) → Type 0
+Takes None old new = new ≡ old
+Takes (Some h) old new = (old h ≡ None) × (new ≡ put h (Some read_file) old)
 
--- Each slice that a body has left has its file open.
+-- A body that held a file holds it still, or closed it; no body takes another, and nothing else is opened or closed.
+abbrev pub Lets : Option ℕ → Option ℕ → (ℕ → Option Live) → (ℕ → Option Live) → Type 0
+Lets None after old new = (after ≡ None) × (new ≡ old)
+Lets (Some h) None old new = new ≡ put h None old
+Lets (Some h) (Some g) old new = (g ≡ h) × (new ≡ old)
+
+abbrev pub with_body : ℕ → List Part → Option ℕ → Playing → Playing
+with_body body parts file p = record p { left = put body parts p.left; held = put body file p.held }
+
+-- A body has these parts left now. As long as a slice is left it holds a file, and none where nothing is left; where only
+-- texts are left, as a last boundary, it may.
+pub record Gets (body : ℕ) (parts : List Part) (p : Playing) (q : Playing) : Type 0 where
+  pub file : Option ℕ
+  pub is : q ≡ with_body body parts file p
+  pub needs : has_slice parts ≡ true → is_some file ≡ true
+  pub over : parts ≡ [] → file ≡ None
+
+-- The file of each slice that a body has left is open under the handle that the body holds.
+abbrev pub HasOpen : World → Option ℕ → Part → Type 0
+HasOpen w file (text bytes) = Unit {0}
+HasOpen w file (slice number start count) = (h : ℕ) × (file ≡ Some h) × (number_of w h ≡ Some number)
+
 abbrev pub StaysOpen : Point → Playing → Type 0
-StaysOpen t q = (w : World) → t.told ≡ Some w → (body : ℕ) → AllByRecursion (HasOpen w) (q.left body)
+StaysOpen t q = (w : World) → t.told ≡ Some w → (body : ℕ) → AllByRecursion (HasOpen w (q.held body)) (q.left body)
+
+-- no part that a body has left is empty
+abbrev pub AreFull : Playing → Type 0
+AreFull p = (body : ℕ) → NoneEmpty (p.left body)
+
+-- ---- replies
+
+-- A GET or HEAD. In every run the reply is right for something that the store could show, and over a told world for what a
+-- loose walk finds there. (In a valid run, where no link is met, that is what the rules show: a law.)
+pub record Reads (rules : Rules) (k : Knowledge) (s t : Point) (q : Query) (reply : Reply) : Type 0 where
+  pub shown : Shown
+  pub could : CouldShow shown
+  pub may : MayShow rules k s.told shown
+  pub right : IsRight q shown (Rose s.faults t.faults) reply
+
+-- The reply to a request with these fields between two points, by what it asks for.
+abbrev pub Replies : Target → Rules → Knowledge → Point → Point → Fields → Reply → Type 0
+Replies (Refused status close) rules k s t fields reply = reply ≡ refusal status close
+Replies (At method path) rules k s t fields reply = Reads rules k s t (query rules.settings fields method path) reply
+
+-- ---- steps
+
+pub record Answered (p : Playing) (s t : Point) (request : Asked) (answer : Answer) (q : Playing) : Type 0 where
+  pub goes : Goes s t
+  pub leaves : Leaves s t
+  pub reply : Reply
+  pub is : answer ≡ Replied reply.status reply.fields p.replies
+  pub knows : Knowledge
+  pub learns : Learns s.told p.knows knows
+  pub gets : Gets p.replies reply.parts (record p { replies = p.replies + 1; knows = knows }) q
+  pub live : Takes gets.file s.live t.live
+  pub right : Replies (target_of p.rules request) p.rules p.knows s t (fields_of request) reply
+
+pub record Polled (p : Playing) (s t : Point) (body : ℕ) (answer : Answer) (q : Playing) : Type 0 where
+  pub goes : Goes s t
+  pub leaves : Leaves s t
+  pub rest : List Part
+  pub gives : Polls s.told s.whole (read_size_of p.rules.settings.read_buf_size) s.faults t.faults (p.left body) answer rest
+  pub gets : Gets body rest p q
+  pub live : Lets (p.held body) gets.file s.live t.live
+
+-- A turn, and the end of a body, meet no fault and ask nothing.
+pub record Quiet (answer : Answer) (s t : Point) : Type 0 where
+  pub goes : Goes s t
+  pub is : answer ≡ Done
+  pub faults : t.faults ≡ s.faults
+  pub asked : t.asked ≡ s.asked
+
+-- the outside's changes
+abbrev pub Turned : Point → Point → Type 0
+Turned s t = Both s.told t.told (λ v w. SameBesidesOpens (turned v) w)
+
+-- What a step is answered, what it makes of the disk, and what it leaves of the player.
+abbrev pub Stands : Playing → Point → Point → Step → Answer → Playing → Type 0
+Stands p s t (Request request now) answer q = Answered p s t request answer q
+Stands p s t (Poll body) answer q = Polled p s t body answer q
+Stands p s t (Abandon body) answer q = Quiet answer s t × Leaves s t × Lets (p.held body) None s.live t.live × Gets body [] p q
+Stands p s t (Purge now) answer q = (answer ≡ Done) × (t ≡ s) × ((k : Knowledge) × (q ≡ record p { knows = k }) × Forgets p.knows k)
+Stands p s t Turn answer q = Quiet answer s t × Turned s t × (t.live ≡ s.live) × (q ≡ p)
+
+-- A step that was refused memory: the player is as it was, but for what its memory knows, and nothing else is live.
+pub record Refuses (p : Playing) (s t : Point) (q : Playing) : Type 0 where
+  pub goes : Goes s t
+  pub leaves : Leaves s t
+  pub live : t.live ≡ s.live
+  pub knows : Knowledge
+  pub learns : Learns s.told p.knows knows
+  pub is : q ≡ record p { knows = knows }
+  pub held : StaysOpen t q
+
+-- ---- runs
 
 -- The answers to the steps along a trail.
-abbrev pub Plays : Type 0 → Playing → Point → List Step → List Point → List Answer → Playing → Type 0
-Plays valid p s [] [] [] q = q ≡ p
-Plays valid p s (x ∷ xs) (t ∷ ts) (a ∷ rest) q = (m : Playing) × Stands valid p s t x a m × StaysOpen t m × Plays valid m t xs ts rest q
-Plays valid p s xs ts answers q = ⊥
+abbrev pub Plays : Playing → Point → List Move → Playing → Type 0
+Plays p s [] q = q ≡ p
+Plays p s (move ∷ moves) q = (m : Playing) × Stands p s move.to move.step move.answer m × StaysOpen move.to m × Plays m move.to moves q
+
+-- a player over its disk at a moment
+pub record Stage : Type 0 where
+  pub at : Point
+  pub playing : Playing
 
 -- How a run ends after the steps that were answered: with none left, or at a step that was refused memory.
-abbrev pub Ends : Result Unit NoMemory → List Step → Point → Point → Type 0
-Ends (Ok x) [] m t = t ≡ m
-Ends (Err e) (x ∷ xs) m t = GoesRefused x m t
-Ends result rest m t = ⊥
+abbrev pub Ends : Result Unit NoMemory → List Step → Stage → Stage → Type 0
+Ends (Ok x) [] m b = b ≡ m
+Ends (Err e) (step ∷ steps) m b = Refuses m.playing m.at b.at b.playing
+Ends result rest m b = ⊥
 
--- There is one trail from entry to exit that the steps allow, and the answers that were added stand to it.
-pub record Played (s : Point) (p : Playing) (steps : List Step) (old new : List Answer) (result : Result Unit NoMemory) (t : Point) (q : Playing) : Type 0 where
-  pub done : List Step
+-- The answers that were added stand to this trail, from entry to exit.
+pub record Played (trail : List Move) (a : Stage) (steps : List Step) (old new : List Answer) (result : Result Unit NoMemory) (b : Stage) : Type 0 where
   pub rest : List Step
-  pub trail : List Point
-  pub added : List Answer
-  pub steps_are : steps ≡ done ++ rest
-  pub answers_are : new ≡ old ++ added
-  pub held : StaysOpen s p
-  pub allowed : Trail s done trail
-  pub answered : Plays (Valid s trail) p s done trail added q
-  pub ends : Ends result rest (last_of s trail) t
+  pub player : Playing
+  pub steps_are : steps ≡ steps_of trail ++ rest
+  pub answers_are : new ≡ old ++ answers_of trail
+  pub held : StaysOpen a.at a.playing
+  pub full : AreFull a.playing
+  pub answered : Plays a.playing a.at trail player
+  pub ends : Ends result rest (record { at = last_of a.at trail; playing = player }) b
 
--- One step: it is answered, or was refused memory, and then the player is as it was.
-abbrev pub Stepped : Point → Playing → Step → Result Answer NoMemory → Point → Playing → Type 0
-Stepped s p step (Ok answer) t q = Goes step s t × Stands (Valid s (t ∷ [])) p s t step answer q
-Stepped s p step (Err e) t q = GoesRefused step s t × (q ≡ p)
+-- One step by itself.
+abbrev pub Stepped : Stage → Step → Result Answer NoMemory → Stage → Type 0
+Stepped a step (Ok answer) b = Stands a.playing a.at b.at step answer b.playing × StaysOpen b.at b.playing
+Stepped a step (Err e) b = Refuses a.playing a.at b.at b.playing
+
+-- What is known at exit was known at entry, or a world of the trail has it. It is the same trail in both.
+pub record Learned (points : List Point) (k l : Knowledge) : Type 0 where
+  pub open_same : (dir : Names) (time : FileTime) → l.is_open dir time ≡ k.is_open dir time
+  pub known : (dir : Names) (time : FileTime) (has : Name → Bool) → l.names dir time ≡ Some has
+      → WasKnown k dir time has ⊎ ((w : World) × Occurs w points × HasNames w dir time has)
+
+-- ---- the headline
+
+-- No link is met on the way to the path or at it.
+abbrev pub MeetsNoLink : Rules → World → Query → Type 0
+MeetsNoLink rules w q = is_linked w.tree (resolved rules w.tree q.path.names) ≡ false
+
+-- The reply to a GET or HEAD is the one right answer for what the tree has where the rules find the path, as if there were no
+-- memory; or what may stand in its place where the count of faults rose.
+abbrev pub IsOfTree : Rules → Point → Point → Query → Reply → Type 0
+IsOfTree rules s t q reply = (w : World) → s.told ≡ Some w → MeetsNoLink rules w q
+    → IsRight q (shown_in rules w) (Rose s.faults t.faults) reply
+
+abbrev pub RepliesByTree : Target → Rules → Point → Point → Fields → Reply → Type 0
+RepliesByTree (Refused status close) rules s t fields reply = reply ≡ refusal status close
+RepliesByTree (At method path) rules s t fields reply = IsOfTree rules s t (query rules.settings fields method path) reply
+
+-- The same of a step that was answered, if it is a request.
+abbrev pub StepByTree : (p : Playing) (s t : Point) (step : Step) (answer : Answer) (q : Playing) → Stands p s t step answer q → Type 0
+StepByTree p s t (Request request now) answer q st = RepliesByTree (target_of p.rules request) p.rules s t (fields_of request) st.reply
+StepByTree p s t (Poll body) answer q st = Unit {0}
+StepByTree p s t (Abandon body) answer q st = Unit {0}
+StepByTree p s t (Purge now) answer q st = Unit {0}
+StepByTree p s t Turn answer q st = Unit {0}
+
+-- Each reply along a trail is that of the tree before its step.
+abbrev pub EachByTree : (p : Playing) (s : Point) (moves : List Move) (q : Playing) → Plays p s moves q → Type 0
+EachByTree p s [] q plays = Unit {0}
+EachByTree p s (move ∷ moves) q (m, st, held, plays) = StepByTree p s move.to move.step move.answer m st × EachByTree m move.to moves q plays
+
+-- All points of a run, its first among them.
+abbrev pub points_from : Stage → List Move → List Point
+points_from a trail = a.at ∷ points_of trail
+
+-- The clause of `play`: one trail, of which all of it speaks. In a valid run each reply is that of the tree before its step.
+pub record PlayedOn (a : Stage) (steps : List Step) (old new : List Answer) (result : Result Unit NoMemory) (b : Stage) : Type 0 where
+  pub trail : List Move
+  pub played : Played trail a steps old new result b
+  pub headline : Valid a.playing.rules a.playing.knows (points_from a trail) → EachByTree a.playing a.at trail played.player played.answered

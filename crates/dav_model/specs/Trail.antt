@@ -1,48 +1,60 @@
--- The trail: the worlds between the steps of a run, each with the disk's count of faults beside it.
-use Rattle.std.specs.Prelude.{◌≤◌, ℕ, List, [], ◌∷◌, Bool, Option}
+-- The trail: the steps of a run that were answered, each with its answer and the point to which it led.
+use Rattle.std.specs.Prelude.{◌≡◌, ◌≤◌, List, [], ◌∷◌, map, Bool, true, false, IsTrue}
+use Rattle.http.specs.Request.{head_of, body_of}
 use Rattle.dav_io.specs.Told.{Both}
-use Rattle.dav_core.specs.World.{World}
-use Rattle.dav_core.specs.Changes.{turned}
 use Rattle.dav_core.specs.Disk.{DiskState}
-use Rattle.dav_core.specs.Keeps.{SameBesidesOpens}
+use Rattle.dav_core.specs.Unchanged.{SameBesidesOpens}
 use Rattle.dav_model.specs.declared.step.Step.{Step}
 use Rattle.dav_model.specs.declared.step.Step.TheVariants.{Request, Poll, Abandon, Purge, Turn}
+use Rattle.dav_model.specs.declared.answer.Answer.{Answer}
+use Rattle.dav_model.specs.declared.target.Target.{Target}
+use Rattle.dav_model.specs.Requests.{Asked}
+use Rattle.dav_model.specs.Gates.{gates, bulk_of}
+use Rattle.dav_model.specs.Rules.{Rules}
 
--- What a disk tells at one moment, whether it tells that its reads are whole, and its count of faults there.
-pub record Point : Type 0 where
-  pub told : Option World
-  pub whole : Bool
-  pub faults : ℕ
+-- A point is the state of the disk between two steps: its world where it is told, its counts, and what is live.
+abbrev pub Point : Type 0
+Point = DiskState
 
-abbrev pub point_of : DiskState → Point
-point_of s = record { told = s.told; whole = s.whole; faults = s.faults }
+-- a step, its answer, and the point to which it led
+pub record Move : Type 0 where
+  pub step : Step
+  pub answer : Answer
+  pub to : Point
 
--- What a step makes of the world. Reading changes nothing. (Writing requests have a relation of their own.)
-abbrev pub after : Step → World → World
-after (Request request now) v = v
-after (Poll body) v = v
-after (Abandon body) v = v
-after (Purge now) v = v
-after Turn v = turned v
+abbrev pub steps_of : List Move → List Step
+steps_of moves = map (λ move. move.step) moves
 
--- A step leads from one point to the next.
-pub record Goes (step : Step) (s t : Point) : Type 0 where
-  pub counts : s.faults ≤ t.faults
-  pub world : Both s.told t.told (λ v w. SameBesidesOpens (after step v) w)
+abbrev pub answers_of : List Move → List Answer
+answers_of moves = map (λ move. move.answer) moves
 
--- A step that was refused memory: a turn makes nothing.
-pub record GoesRefused (step : Step) (s t : Point) : Type 0 where
-  pub counts : s.faults ≤ t.faults
-  pub world : Both s.told t.told SameBesidesOpens
-
--- From a point, the steps may lead to these points, one after each step.
-abbrev pub Trail : Point → List Step → List Point → Type 0
-Trail s [] [] = Unit {0}
-Trail s (x ∷ xs) (t ∷ ts) = Goes x s t × Trail t xs ts
-Trail s [] (t ∷ ts) = ⊥
-Trail s (x ∷ xs) [] = ⊥
+abbrev pub points_of : List Move → List Point
+points_of moves = map (λ move. move.to) moves
 
 -- the last point
-abbrev pub last_of : Point → List Point → Point
+abbrev pub last_of : Point → List Move → Point
 last_of s [] = s
-last_of s (t ∷ ts) = last_of t ts
+last_of s (move ∷ moves) = last_of move.to moves
+
+-- what a request asks for
+abbrev pub target_of : Rules → Asked → Target
+target_of rules request = gates rules.settings true (head_of request) (bulk_of (body_of request))
+
+-- What no step but a turn changes: the tree, the bytes, the script.
+abbrev pub Leaves : Point → Point → Type 0
+Leaves s t = Both s.told t.told SameBesidesOpens
+
+-- What holds of every step: counts don't fall, whole reads stay whole, no listing is left open.
+pub record Goes (s t : Point) : Type 0 where
+  pub faults : s.faults ≤ t.faults
+  pub asked : s.asked ≤ t.asked
+  pub whole : IsTrue s.whole → IsTrue t.whole
+  pub listers : t.listers ≡ s.listers
+
+-- whether a step changes neither the tree nor the bytes: all do but a turn of the outside
+abbrev pub step_leaves : Step → Bool
+step_leaves (Request request now) = true
+step_leaves (Poll body) = true
+step_leaves (Abandon body) = true
+step_leaves (Purge now) = true
+step_leaves Turn = false

@@ -1,26 +1,53 @@
 //! Laws over the definitions, each the contract of a function that does nothing.
-ghost use Rattle.std.specs.Prelude.{◌≡◌, ◌++◌, ℕ, List, [], true, false, codes, decimal, Some, Result, Ok};
+ghost use Rattle.std.specs.Prelude.{◌≡◌, ◌++◌, ◌∷◌, ℕ, List, [], Bool, true, false, codes, decimal, is_some, Some, Result, Ok};
+ghost use Rattle.std.specs.List.{AllByRecursion};
+ghost use Rattle.dav_io.specs.Counts.{Rose};
 ghost use Rattle.dav_io.specs.declared.failure.NoMemory.{NoMemory};
-ghost use Rattle.dav_model.specs.declared.step.Step.{Step};
-ghost use Rattle.dav_model.specs.declared.answer.Answer.{Answer};
 ghost use Rattle.dav_core.specs.DavPath.{WebPath};
 ghost use Rattle.dav_core.specs.declared.method.DavMethod.TheVariants.{Get, Head};
-ghost use Rattle.dav_core.specs.World.{World};
+ghost use Rattle.dav_model.specs.declared.answer.Answer.{Answer};
 ghost use Rattle.dav_model.specs.declared.settings.Settings.{Settings};
+ghost use Rattle.dav_model.specs.declared.step.Step.{Step};
 ghost use Rattle.dav_model.specs.declared.target.Target.{Target};
-ghost use Rattle.dav_model.specs.Announced.{PolledToEnd, bytes_in, IsFramed, IsShared, bare, length_is_own, value_of};
+ghost use Rattle.dav_model.specs.declared.target.Target.TheVariants.{At};
+ghost use Rattle.dav_model.specs.Announced.{HasSoundBody, PolledToEnd, bytes_in, IsFramed, bare, length_is_own, value_of};
 ghost use Rattle.dav_model.specs.Conditions.{Fields};
-ghost use Rattle.dav_model.specs.Head.{Reply, Stood, IsHead, IsSent, sent_of};
-ghost use Rattle.dav_model.specs.Requests.{Asked, gates};
-ghost use Rattle.dav_model.specs.Trail.{Point};
-ghost use Rattle.dav_model.specs.Bodies.{Playing};
-ghost use Rattle.dav_model.specs.Play.{Played};
+ghost use Rattle.dav_model.specs.Due.{IsHead, IsRight, Query, due, query};
+ghost use Rattle.dav_model.specs.Head.{Reply, is_well_known};
+ghost use Rattle.dav_model.specs.Play.{EachByTree, Learned, Played, Playing, Plays, Stage, points_from};
+ghost use Rattle.dav_model.specs.Shown.{CouldShow, Shown};
+ghost use Rattle.dav_model.specs.Trail.{Leaves, Move, Point, last_of, points_of, step_leaves};
+ghost use Rattle.dav_model.specs.Valid.{Valid};
 
-/// Joining: two runs, the second from the world, the count, the replies and the bodies that the first leaves, are one
-/// run of the joined steps. The first had no want of memory.
+/// Joining: two runs, the second from the stage that the first leaves, are one run of the joined steps along the joined
+/// trail, whether the second's answers are a list of their own or go on from those of the first. The first had no want of
+/// memory.
 pub fn runs_join()
-    ensures { (s m t : Point) (p q r : Playing) (xs ys : List Step) (old a b : List Answer) (result : Result Unit NoMemory)
-        → Played s p xs old a (Ok tt) m q → Played m q ys [] b result t r → Played s p (xs ++ ys) old (a ++ b) result t r }
+    ensures goes_on { (xs ys : List Move) (a m b : Stage) (steps more : List Step) (old mid new : List Answer) (result : Result Unit NoMemory)
+        → Played xs a steps old mid (Ok tt) m → Played ys m more mid new result b → Played (xs ++ ys) a (steps ++ more) old new result b }
+    ensures joined { (xs ys : List Move) (a m b : Stage) (steps more : List Step) (old new added : List Answer) (result : Result Unit NoMemory)
+        → Played xs a steps old new (Ok tt) m → Played ys m more [] added result b
+        → Played (xs ++ ys) a (steps ++ more) old (new ++ added) result b }
+{}
+
+/// Reading changes no file: steps of which none is a turn of the outside leave the tree, the bytes and the script.
+pub fn reading_changes_no_file()
+    ensures { (p q : Playing) (s : Point) (moves : List Move) → AllByRecursion (λ move. step_leaves move.step ≡ true) moves
+        → Plays p s moves q → Leaves s (last_of s moves) }
+{}
+
+/// The headline: in a valid run each reply to a GET or HEAD is that of the tree before its step, as if there were no
+/// memory, or what may stand in its place where the disk's count of faults rose.
+pub fn each_reply_is_that_of_the_tree()
+    ensures { (p : Playing) (s : Point) (moves : List Move) (q : Playing) (plays : Plays p s moves q)
+        → Valid p.rules p.knows (s ∷ points_of moves) → EachByTree p s moves q plays }
+{}
+
+/// What the memory knows at the exit of a run was known at its entry, or a world of its trail has it.
+pub fn what_is_known_was_told()
+    ensures { (trail : List Move) (a b : Stage) (steps : List Step) (old new : List Answer) (result : Result Unit NoMemory)
+        → Played trail a steps old new result b → AllByRecursion (λ point. is_some point.told ≡ true) (points_from a trail)
+        → Learned (points_from a trail) a.playing.knows b.playing.knows }
 {}
 
 /// A body that is polled to its end without a break has exactly the number of bytes that the value of the reply's field
@@ -34,16 +61,21 @@ pub fn bodies_have_the_announced_length()
         → IsFramed target reply → length_is_own target reply.status ≡ false → PolledToEnd reply.parts pieces → pieces ≡ [] }
 {}
 
-/// The one right answer to a request over a world has a body of the length that it announces.
-pub fn heads_are_framed()
-    ensures { (settings : Settings) (w : World) (request : Asked) (reply : Reply)
-        → IsHead settings w request reply → IsFramed (gates request) reply }
+/// Of each right reply, and of what may stand in its place: `content-length` is the length of its body, no part of the body
+/// is empty, and 500 comes only where a fault was met, over what a disk's store could show.
+pub fn right_replies_are_framed()
+    ensures framed { (q : Query) (shown : Shown) (before after : ℕ) (reply : Reply) → IsRight q shown (Rose before after) reply → IsFramed (At q.method q.path) reply }
+    ensures sound { (q : Query) (shown : Shown) (before after : ℕ) (reply : Reply) → IsRight q shown (Rose before after) reply → HasSoundBody reply }
+    ensures failed { (q : Query) (shown : Shown) (before after : ℕ) (reply : Reply)
+        → CouldShow shown → IsRight q shown (Rose before after) reply → reply.status ≡ 500 → Rose before after }
 {}
 
-/// Where a GET of a file is rightly answered with 200, 206 or 304, a HEAD with the same fields is rightly answered with
-/// the same status and the same fields, and without a body (RFC 9110, section 9.3.2).
+/// Two requests that differ by their method alone: where the GET is rightly answered by a reply, the HEAD is rightly
+/// answered by the same reply without its body (RFC 9110, section 9.3.2). Apart stand 412 and 416, at which `content-length`
+/// is that of the whole file for a HEAD, and 0 for a GET, and the one page that is there for GET alone.
 pub fn heads_are_gets_without_bodies()
-    ensures { (fields : Fields) (path : WebPath) (stood : Stood) (reply : Reply)
-        → IsSent Get path stood (sent_of Get fields stood) reply → IsShared reply.status
-        → IsSent Head path stood (sent_of Head fields stood) (bare reply) }
+    ensures { (shown : Shown) (settings : Settings) (fields : Fields) (path : WebPath) (reply : Reply) → is_well_known settings Get path ≡ false
+        → IsHead (query settings fields Get path) (due shown (query settings fields Get path)) reply
+        → (reply.status ≡ 412 → ⊥) → (reply.status ≡ 416 → ⊥)
+        → IsHead (query settings fields Head path) (due shown (query settings fields Head path)) (bare reply) }
 {}

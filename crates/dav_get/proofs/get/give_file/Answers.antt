@@ -1,6 +1,5 @@
-use Rattle.std.proofs.Common.{◌≡◌}
 use Rattle.dav_store.specs.View.{the_view}
-use Rattle.dav_get.proofs.Living.{held_kept}
+use Rattle.dav_get.proofs.FilesLeftOpen.{held_kept}
 use Rattle.dav_get.proofs.get.give_file.Goals as goal
 
 pub returns-in-Ok-Some-clause-life : goal.returns-in-Ok-Some-clause-life

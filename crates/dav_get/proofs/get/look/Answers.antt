@@ -1,6 +1,5 @@
-use Rattle.std.proofs.Common.{◌≡◌}
 use Rattle.dav_store.specs.View.{the_view}
-use Rattle.dav_get.proofs.Living.{looked_before}
+use Rattle.dav_get.proofs.FilesLeftOpen.{looked_before}
 use Rattle.dav_get.proofs.get.look.Goals as goal
 
 pub returns-else-is_dir-clause-life : goal.returns-else-is_dir-clause-life

@@ -1,6 +1,5 @@
-use Rattle.std.proofs.Common.{◌≡◌}
 use Rattle.dav_store.specs.View.{the_view}
-use Rattle.dav_get.proofs.Living.{opened_before}
+use Rattle.dav_get.proofs.FilesLeftOpen.{opened_before}
 use Rattle.dav_get.proofs.get.open_file.Goals as goal
 
 pub returns-in-Ok-clause-life : goal.returns-in-Ok-clause-life

@@ -1,4 +1,4 @@
-use Rattle.std.proofs.Common.{◌≡◌, ◌≤◌, ap, ◌∷◌, [], ◌++◌, ◌∙◌, arith, take_all, length}
+use Rattle.std.proofs.Common.{◌≤◌, ap, ◌∷◌, [], ◌++◌, ◌∙◌, arith, take_all, length}
 use Rattle.dav_get.specs.declared.part.BodyPart.TheVariants.{Text}
 use Rattle.dav_model.specs.Head.{two_parts}
 use Rattle.dav_get.proofs.Several.{several_more, several_end}

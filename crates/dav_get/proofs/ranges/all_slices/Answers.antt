@@ -1,6 +1,6 @@
 use Rattle.std.proofs.Common.{Some, ap, sym, ◌∙◌, drop, Vec, Global}
 use Rattle.dav_model.specs.declared.ranges.Slice.{Slice}
-use Rattle.dav_get.proofs.Going.{after, slices_in, texts, found_more, found_same, found_none}
+use Rattle.dav_get.proofs.BodyStays.{after, slices_in, texts, found_more, found_same, found_none}
 use Rattle.dav_get.proofs.ranges.all_slices.Goals as goal
 use Rattle.dav_get.proofs.ranges.all_slices.Goals.{in-Some-Some+in_ok-push-in-Some-Some, in-None}
 

@@ -1,7 +1,7 @@
 use Rattle.std.proofs.Common.{◌≡◌, map, drop}
 use Rattle.std.specs.List.{filter_map}
 use Rattle.dav_model.specs.Slices as ranges
-use Rattle.dav_get.proofs.Going.{after}
+use Rattle.dav_get.proofs.BodyStays.{after}
 use Rattle.dav_get.proofs.ranges.all_slices.Given as goal
 
 -- what is left decides

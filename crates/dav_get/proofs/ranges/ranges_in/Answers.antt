@@ -1,6 +1,6 @@
 use Rattle.std.proofs.Common.{ap, sym, ◌∙◌}
 use Rattle.dav_model.specs.Slices.{answer, is_readable}
-use Rattle.dav_get.proofs.Going.{slices_in, texts, readable}
+use Rattle.dav_get.proofs.BodyStays.{slices_in, texts, readable}
 use Rattle.dav_get.proofs.ranges.ranges_in.Goals as goal
 
 pub returns : goal.returns

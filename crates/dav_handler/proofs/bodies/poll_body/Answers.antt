@@ -1,5 +1,5 @@
 use Rattle.std.proofs.Common.{Some, sym, rules}
-use Rattle.dav_core.specs.Tables.{updates_put}
+use Rattle.dav_core.proofs.TablesLemmas.{updates_put}
 use Rattle.dav_handler.proofs.bodies.poll_body.Goals as goal
 
 pub returns-clause-done : goal.returns-clause-done

@@ -1,5 +1,5 @@
 use Rattle.std.proofs.Common.{ap, refl}
-use Rattle.dav_handler.proofs.Answering.{given_answers, refused_answers}
+use Rattle.dav_handler.proofs.Answering.{given_answers, given_heard, refused_answers}
 use Rattle.dav_handler.proofs.found.find_at.Goals as goal
 
 pub give-requires : goal.give-requires
@@ -7,12 +7,13 @@ give-requires g c = c.in-Ok.ensures.life.0
 
 pub returns-in-Ok-clause-done : goal.returns-in-Ok-clause-done
 returns-in-Ok-clause-done g c =
-    given_answers _ refl (record { looks_so = λ s k path r t h. h; links_so = λ s k path r t h. ap (λ x. g.D.Disk.state x.disk) h.1; opens_so = λ s k path how o t h. h; seen_so = refl })
-    c.args.settings.now c.args.store.now c.handle_get.new.fs tt c.args.method c.args.path.now c.args.fields.now (g.met.D.Disk.world c.args.store.now.disk)
-    c.in-Ok.given (g.D.Disk.state c.give.new.store.disk) c.give.result c.in-Ok.ensures.table c.in-Ok.ensures.life c.in-Ok.ensures.most c.in-Ok.ensures.right c.in-Ok.ensures.framed c.in-Ok.ensures.sound c.give.ensures.outcome c.give.ensures.gives
+    given_answers _ (record { looks_so = λ s k path r t h. h; links_so = λ s k path r t h. ap (λ x. g.D.Disk.state x.disk) h.1; opens_so = λ s k path how o t h. h; seen_so = refl })
+    c.args.settings.now c.args.store.now c.handle_get.new.fs tt c.args.method c.args.path.now c.args.fields.now (g.met.D.Disk.world c.args.store.now.disk) (g.met.D.Disk.tells_live c.handle_get.new.fs.disk)
+    c.in-Ok.given (g.D.Disk.state c.give.new.store.disk) c.give.result (given_heard c.in-Ok.given c.in-Ok.ensures.heard) (λ looked opened shows. given_heard c.in-Ok.given (c.in-Ok.ensures.right looked opened shows))
+    c.in-Ok.ensures.life.0 c.in-Ok.ensures.life.1 c.in-Ok.ensures.most c.give.ensures.outcome c.give.ensures.gives
 
 pub returns-in-Err-clause-done : goal.returns-in-Err-clause-done
 returns-in-Err-clause-done g c =
-    refused_answers _ refl (record { looks_so = λ s k path r t h. h; links_so = λ s k path r t h. ap (λ x. g.D.Disk.state x.disk) h.1; opens_so = λ s k path how o t h. h; seen_so = refl })
+    refused_answers _ (record { looks_so = λ s k path r t h. h; links_so = λ s k path r t h. ap (λ x. g.D.Disk.state x.disk) h.1; opens_so = λ s k path how o t h. h; seen_so = refl })
     c.args.settings.now c.args.store.now c.handle_get.new.fs tt c.args.method c.args.path.now c.args.fields.now (g.met.D.Disk.world c.args.store.now.disk)
-    c.in-Err.error c.refuse.result c.in-Err.ensures.table c.in-Err.ensures.life c.in-Err.ensures.right c.in-Err.ensures.framed c.in-Err.ensures.sound c.refuse.ensures
+    c.in-Err.error c.refuse.result c.in-Err.ensures.heard c.in-Err.ensures.life c.in-Err.ensures.right c.refuse.ensures

@@ -1,4 +1,5 @@
-use Rattle.dav_plain.specs.Calls.{plain_stays, seen_by}
+use Rattle.dav_plain.specs.Calls.{seen_by}
+use Rattle.dav_plain.specs.PlainStays.{plain_stays}
 use Rattle.dav_get.proofs.BodyKept.{held_stays}
 use Rattle.dav_handler.specs.Held.{handle_of}
 use Rattle.dav_handler.proofs.Frames.{turn_leaves}

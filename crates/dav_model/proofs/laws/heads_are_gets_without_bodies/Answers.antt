@@ -1,5 +1,5 @@
-use Rattle.dav_model.proofs.Announcing.{head_of_get}
+use Rattle.dav_model.proofs.RightReplies.{head_as_get}
 use Rattle.dav_model.proofs.laws.heads_are_gets_without_bodies.Goals as goal
 
 pub returns : goal.returns
-returns c = head_of_get
+returns c = head_as_get

@@ -1,23 +1,25 @@
 use Rattle.std.proofs.Common.{ap, arith}
-use Rattle.dav_core.specs.Tables.{updates_put, unchanged_same}
+use Rattle.dav_core.proofs.TablesLemmas.{updates_put, unchanged_same}
 use Rattle.dav_handler.specs.Held.{body_at}
 use Rattle.dav_handler.proofs.Upkeep.{playing_undone, playing_kept, playing_kept_more, playing_joined}
-use Rattle.dav_handler.proofs.Stepping.{left_joined, left_replied, refused, replied, undone_steps}
+use Rattle.dav_handler.proofs.Stepping.{held_joined, held_replied, left_joined, left_replied, refused, replied, undone_steps}
 use Rattle.dav_handler.proofs.player.Player.request.Goals as goal
 
 pub invariant_of-self : goal.invariant_of-self
 invariant_of-self g c = record { ok = playing_kept _ _ _ _ _ c.in-Err.ensures.done c.args.self.now.ok }
 
 pub returns-in-Err-clause-done : goal.returns-in-Err-clause-done
-returns-in-Err-clause-done g c = refused _ _ _ _ c.args.now _ (body_at c.args.self.now.bodies) c.in-Err.error c.in-Err.ensures.done c.args.self.now.ok
+returns-in-Err-clause-done g c = refused _ _ _ c.args.request.now c.args.now _ (body_at c.args.self.now.bodies) c.in-Err.error c.in-Err.ensures.done c.args.self.now.ok
 
 pub invariant_of-self-in-None : goal.invariant_of-self-in-None
 invariant_of-self-in-None g c = record { ok = playing_kept_more _ _ _ _ _ _ c.in-Ok.ensures.done.holds c.args.self.now.ok }
 
 pub returns-in-None-clause-done : goal.returns-in-None-clause-done
 returns-in-None-clause-done g c = rw c.reply.ensures (
-    replied _ _ _ _ c.args.now c.in-Ok.found _ _ _ c.in-Ok.ensures.done
-    (left_replied _ _ _ (body_at c.args.self.now.bodies) c.args.self.now.replies _ _ c.in-Ok.ensures.done.holds c.args.self.now.ok c.in-None.is (c.args.self.now.ok.earlier _ (omega arith))))
+    replied _ _ _ _ c.args.now c.in-Ok.found _ (body_at c.args.self.now.bodies) (body_at c.args.self.now.bodies) c.in-Ok.ensures.done
+    (left_replied _ _ _ (body_at c.args.self.now.bodies) c.args.self.now.replies _ _ c.in-Ok.ensures.done.holds c.args.self.now.ok c.in-None.is (c.args.self.now.ok.earlier _ (omega arith)))
+    (held_replied (body_at c.args.self.now.bodies) c.args.self.now.replies _ c.in-None.is (c.args.self.now.ok.earlier _ (omega arith)))
+    (playing_kept_more _ _ _ _ _ _ c.in-Ok.ensures.done.holds c.args.self.now.ok))
 
 pub invariant_of-self-in-Ok-insert : goal.invariant_of-self-in-Ok-insert
 invariant_of-self-in-Ok-insert g c = record {
@@ -27,8 +29,12 @@ invariant_of-self-in-Ok-insert g c = record {
 
 pub returns-in-Ok-insert-clause-done : goal.returns-in-Ok-insert-clause-done
 returns-in-Ok-insert-clause-done g c = rw c.reply-in-Ok-insert.ensures (
-    replied _ _ _ _ c.args.now c.in-Ok.found _ _ _ c.in-Ok.ensures.done
+    replied _ _ _ _ c.args.now c.in-Ok.found _ (body_at c.args.self.now.bodies) (body_at c.insert.new.self) c.in-Ok.ensures.done
     (left_joined _ _ _ (body_at c.args.self.now.bodies) _ c.args.self.now.replies _ _ c.in-Some.open c.in-Ok.ensures.done.holds c.args.self.now.ok c.in-Some.is
+    (updates_put c.args.self.now.replies c.args.self.now.bodies c.insert.new.self _ c.in-Ok-insert.ensures.updates))
+    (held_joined (body_at c.args.self.now.bodies) _ c.args.self.now.replies _ c.in-Some.open c.in-Some.is
+    (updates_put c.args.self.now.replies c.args.self.now.bodies c.insert.new.self _ c.in-Ok-insert.ensures.updates))
+    (playing_joined _ _ _ _ _ c.args.self.now.replies _ c.in-Some.open c.args.self.now.ok c.in-Ok.ensures.done.holds c.in-Some.is
     (updates_put c.args.self.now.replies c.args.self.now.bodies c.insert.new.self _ c.in-Ok-insert.ensures.updates)))
 
 pub invariant_of-self-in-Err-insert : goal.invariant_of-self-in-Err-insert
@@ -38,5 +44,5 @@ invariant_of-self-in-Err-insert g c = record {
 }
 
 pub returns-in-Err-insert-clause-done : goal.returns-in-Err-insert-clause-done
-returns-in-Err-insert-clause-done g c = undone_steps _ _ (g.D.Disk.state c.find_for.new.store.disk) _ _ c.args.now _ (body_at c.args.self.now.bodies) _ _ c.in-Some.open _ _ c.args.self.now.ok c.in-Ok.ensures.done.holds c.in-Some.is
+returns-in-Err-insert-clause-done g c = undone_steps _ _ (g.D.Disk.state c.find_for.new.store.disk) _ c.args.request.now c.args.now _ (body_at c.args.self.now.bodies) _ _ c.in-Some.open _ _ c.args.self.now.ok c.in-Ok.ensures.done.holds c.in-Some.is
     (ap (λ p. p.1) c.in-Err-insert.ensures.value_returned) (rw c.disk.ensures.value at c.close.ensures.done) (unchanged_same c.args.self.now.bodies c.insert.new.self c.in-Err-insert.ensures.err)

@@ -1,0 +1,43 @@
+-- What a store shows, as far as answers speak of it.
+use Rattle.std.specs.Prelude.{◌≡◌, ◌&&◌, ℕ, nat_le, List, Bool, true, Result, Ok, Err, IfSome}
+use Rattle.std.specs.List.{list_all, AllByRecursion}
+use Rattle.dav_core.specs.declared.error.FsError.{FsError}
+use Rattle.dav_core.specs.DavPath.{WebPath}
+use Rattle.dav_core.specs.Info.{IsInYears}
+use Rattle.dav_core.specs.Errors.{CouldRefuse}
+use Rattle.dav_core.specs.Tags.{HasTagBytes}
+use Rattle.dav_model.specs.Head.{Stood}
+use Rattle.dav_model.specs.Folds.{Name}
+
+-- a name in a directory, and what stands there
+pub record Entry : Type 0 where
+  pub name : Name
+  pub stood : Stood
+
+-- What a look at a path gives, what opening it for reading gives, and what a listing of it gives. These are functions apart:
+-- a name may be looked at and forbidden to open, and a store that finds names by a memory may find two of its calls at two
+-- places.
+pub record Shown : Type 0 where
+  pub looked : WebPath → Result Stood FsError
+  pub opened : WebPath → Result Stood FsError
+  pub listed : WebPath → Result (List Entry) FsError
+
+abbrev pub is_printable : ℕ → Bool
+is_printable b = nat_le 32 b && nat_le b 126
+
+-- What could stand anywhere: a tag has the bytes of a tag, a time can be shown, and an address that a client is sent to in
+-- its place is printable ASCII.
+pub record CouldStand (stood : Stood) : Type 0 where
+  pub tag : HasTagBytes stood.tag
+  pub modified : IsInYears stood.modified
+  pub address : IfSome stood.address (λ text. list_all is_printable text ≡ true)
+
+abbrev pub Could : {A : Type 0} → (A → Type 0) → Result A FsError → Type 0
+Could P (Ok a) = P a
+Could P (Err e) = CouldRefuse e
+
+-- What the store of a disk could show, whatever its disk holds.
+pub record CouldShow (shown : Shown) : Type 0 where
+  pub looked : (path : WebPath) → Could CouldStand (shown.looked path)
+  pub opened : (path : WebPath) → Could CouldStand (shown.opened path)
+  pub listed : (path : WebPath) → Could (AllByRecursion (λ (e : Entry). CouldStand e.stood)) (shown.listed path)
