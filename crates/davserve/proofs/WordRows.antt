@@ -3,7 +3,7 @@ use Rattle.std.proofs.Common.{◌≡◌, ◌≤◌, ◌∙◌, ℕ, [], codes, d
 use Rattle.std.specs.Fmt.{digits}
 use Rattle.std.proofs.lemmas.Fmt.{decimal_is_IsNumeral}
 use Rattle.davserve.specs.Words.{size_said}
-use Rattle.davserve.proofs.Sizes.{said_of}
+use Rattle.davserve.proofs.SizesAreSaid.{said_of}
 
 -- each number up to the most is said by its digits
 pub digits_say : (n : ℕ) → n ≤ 1048576 → size_said (decimal n) ≡ Some n

@@ -4,7 +4,8 @@ use Rattle.std.specs.List.{concat, flat_map}
 use Rattle.http.specs.declared.version.TheConstants.Version.{HTTP_10}
 use Rattle.http.specs.Request.{head_of}
 use Rattle.dav_model.specs.Announced.{length_is_own, value_of}
-use Rattle.dav_model.specs.Requests.{gates}
+use Rattle.dav_model.specs.Rules.{Rules}
+use Rattle.dav_model.specs.Trail.{target_of}
 use Rattle.dav_wire.specs.Answers.{head_text}
 use Rattle.dav_wire.specs.Chunks.{HasBody, ending, written}
 use Rattle.dav_wire.specs.declared.chunks.Framing.TheVariants.{Raw, Chunked}
@@ -55,9 +56,9 @@ IsReadBack x = (behind : List ℕ) → HasBody (flat_map (written (framing_of x)
 -- The bytes of the body are as many as the answer announces, and all that stands behind the head. There are none where the
 -- field speaks of a body that isn't sent, and nothing stands behind the head of an answer to which no body is expected. No
 -- piece is empty, and chunks are read back.
-pub record GivesAnnounced (x : Exchange) : Type 0 where
-  pub counted : length_is_own (gates x.request) x.status ≡ true → (value : List ℕ) → Announces x value → value ≡ decimal (length (concat x.pieces))
-  pub none : length_is_own (gates x.request) x.status ≡ false → x.pieces ≡ []
+pub record GivesAnnounced (rules : Rules) (x : Exchange) : Type 0 where
+  pub counted : length_is_own (target_of rules x.request) x.status ≡ true → (value : List ℕ) → Announces x value → value ≡ decimal (length (concat x.pieces))
+  pub none : length_is_own (target_of rules x.request) x.status ≡ false → x.pieces ≡ []
   pub written : (value : List ℕ) → Announces x value → wire_of x ≡ head_text x.status x.fields x.closing Raw ++ concat x.pieces
   pub bodiless : IsBodiless x → IsHeadAlone x
   pub full : All IsNonempty x.pieces

@@ -1,39 +1,36 @@
 -- How one exchange goes, and how it ends. Which exchange it is says a predicate.
+use Rattle.dav_model.specs.Play.{Stage, Playing}
 use Rattle.std.specs.Prelude.{◌≡◌, ◌⊎◌, ◌||◌, List, [], ◌∷◌, ◌++◌, cond, Bool, true, false, ℕ, Result, Ok, Err}
 use Rattle.http.specs.declared.request.Parts.{Parts}
 use Rattle.http.specs.Request.{head_of, body_of}
 use Rattle.dav_io.specs.Counts.{Rose}
-use Rattle.dav_io.specs.Outside.{Stream}
 use Rattle.dav_io.specs.declared.failure.NoMemory.{NoMemory}
 use Rattle.dav_io.specs.declared.clock.Moment.{Moment}
 use Rattle.dav_io.specs.declared.fields.Field.{Field}
 use Rattle.dav_wire.specs.Answers.{has_close_field}
 use Rattle.dav_wire.specs.Chunks.{ending}
-use Rattle.dav_wire.specs.Writing.{Pushes, Sent, SentFront}
 use Rattle.dav_wire.specs.declared.chunks.Framing.{Framing}
 use Rattle.dav_model.specs.declared.step.Step.{Step}
 use Rattle.dav_model.specs.declared.step.Step.TheVariants.{Poll, Turn}
 use Rattle.dav_model.specs.declared.answer.Answer.{Answer}
 use Rattle.dav_model.specs.declared.answer.Answer.TheVariants.{Broken, Done}
 use Rattle.dav_model.specs.Requests.{Asked}
-use Rattle.dav_model.specs.declared.settings.Settings.{Settings}
-use Rattle.dav_model.specs.Bodies.{Playing}
 use Rattle.dav_model.specs.Trail.{Point}
-use Rattle.dav_model.specs.Play.{Played}
 use Rattle.davserve.specs.declared.exchange.Ended.{Ended}
 use Rattle.davserve.specs.declared.exchange.Ended.TheVariants.{Open, Closed, SinkFailed, Broke as BrokeOff}
-use Rattle.davserve.specs.Exchange.{Exchange, AsksClose, fresh, is_closed, begun_steps, begun_answers, steps_of, answers_of, begun_wire_of, wire_of, with_pieces}
+use Rattle.davserve.specs.Exchange.{Exchange, ClosesAfter, is_closed, begun_steps, begun_answers, steps_of, answers_of, begun_wire_of, wire_of, with_pieces}
+use Rattle.davserve.specs.Stages.{PlayedOn, Outlet, PushesOn, Sends, SendsFront, Work, stage_at}
 
 -- whether another request may follow an answer
 abbrev pub ended_by : Bool → List Field → Ended
 ended_by closing fields = cond (closing || has_close_field fields) Closed Open
 
--- What ends a body was given to the sink or is held, and then it is told whether another request may follow. Or the sink
+-- What ends a body was given to the sink or waits, and then it is told whether another request may follow. Or the sink
 -- failed.
-abbrev pub EndsBody : Framing → Bool → List Field → Stream → Stream → List ℕ → Ended → List ℕ → Type 0
-EndsBody framing closing fields old new held ended later =
-    ((ended ≡ ended_by closing fields) × Pushes old held (ending framing) (Ok tt) later new)
-    ⊎ ((ended ≡ SinkFailed) × Pushes old held (ending framing) (Err (record {})) later new)
+abbrev pub EndsBody : Framing → Bool → List Field → Outlet → Ended → Outlet → Type 0
+EndsBody framing closing fields a ended b =
+    ((ended ≡ ended_by closing fields) × PushesOn a (ending framing) (Ok tt) b)
+    ⊎ ((ended ≡ SinkFailed) × PushesOn a (ending framing) (Err (record {})) b)
 
 -- the exchange of this request at this moment
 pub record IsAt (request : Asked) (now : Moment) (closing : Bool) (x : Exchange) : Type 0 where
@@ -46,44 +43,44 @@ pub record IsAnswerTo (parts : Parts) (now : Moment) (x : Exchange) : Type 0 whe
   pub parts_are : head_of x.request ≡ parts
   pub empty : body_of x.request ≡ []
   pub now_is : x.now ≡ now
-  pub asks : AsksClose parts x.closing
+  pub asks : ClosesAfter parts x.closing
 
--- An exchange has got so far, and its bytes are sent or held behind those that were held before.
-pub record Begun (s : Point) (p : Playing) (request : Asked) (now : Moment) (closing : Bool) (status : ℕ) (fields : List Field) (body : ℕ) (old new : Stream) (before held : List ℕ) (t : Point) (q : Playing) : Type 0 where
+-- The exchange has got so far: it has these pieces, and its bytes are sent or wait behind those that waited before.
+pub record Begun (x : Exchange) (a b : Work) : Type 0 where
   pub pieces : List (List ℕ)
-  pub played : Played s p (begun_steps (with_pieces request now closing status fields body pieces)) [] (begun_answers (with_pieces request now closing status fields body pieces)) (Ok tt) t q
-  pub sent : Sent old new (before ++ begun_wire_of (with_pieces request now closing status fields body pieces)) held
+  pub played : PlayedOn a.stage (begun_steps (with_pieces x pieces)) (begun_answers (with_pieces x pieces)) (Ok tt) b.stage
+  pub sent : Sends a.outlet (begun_wire_of (with_pieces x pieces)) b.outlet
 
 -- An exchange was made.
-pub record Whole (Is : Exchange → Type 0) (s : Point) (p : Playing) (closed : Bool) (old new : Stream) (before held : List ℕ) (t : Point) (q : Playing) : Type 0 where
+pub record Whole (Is : Exchange → Type 0) (closed : Bool) (a b : Work) : Type 0 where
   pub exchange : Exchange
   pub is : Is exchange
   pub closed_is : is_closed exchange ≡ closed
-  pub played : Played s p (steps_of exchange) [] (answers_of exchange) (Ok tt) t q
-  pub sent : Sent old new (before ++ wire_of exchange) held
+  pub played : PlayedOn a.stage (steps_of exchange) (answers_of exchange) (Ok tt) b.stage
+  pub sent : Sends a.outlet (wire_of exchange) b.outlet
 
 -- A body broke: the last bytes are those of the last piece before it. What ends a body isn't written, so that a client
 -- that reads chunks knows.
-pub record BrokenOff (Is : Exchange → Type 0) (s : Point) (p : Playing) (old new : Stream) (before held : List ℕ) (t : Point) (q : Playing) : Type 0 where
+pub record BrokenOff (Is : Exchange → Type 0) (a b : Work) : Type 0 where
   pub exchange : Exchange
   pub is : Is exchange
-  pub played : Played s p (steps_of exchange) [] (begun_answers exchange ++ Done ∷ Broken ∷ []) (Ok tt) t q
-  pub sent : Sent old new (before ++ begun_wire_of exchange) held
-  pub rose : Rose s.faults t.faults
+  pub played : PlayedOn a.stage (steps_of exchange) (begun_answers exchange ++ Done ∷ Broken ∷ []) (Ok tt) b.stage
+  pub sent : Sends a.outlet (begun_wire_of exchange) b.outlet
+  pub rose : Rose a.stage.at.faults b.stage.at.faults
 
 -- The steps up to the reply were played, or as many as memory allowed, and no byte of the answer was made.
-pub record Unheard (Is : Exchange → Type 0) (s : Point) (p : Playing) (bytes : List ℕ) (t : Point) : Type 0 where
+pub record Unheard (Is : Exchange → Type 0) (a : Stage) (bytes : List ℕ) (t : Point) : Type 0 where
   pub exchange : Exchange
   pub is : Is exchange
   pub no_pieces : exchange.pieces ≡ []
   pub answers : List Answer
   pub result : Result Unit NoMemory
   pub after : Playing
-  pub played : Played s p (begun_steps exchange) [] answers result t after
+  pub played : PlayedOn a (begun_steps exchange) answers result (stage_at t after)
   pub none : bytes ≡ []
 
 -- The steps up to a piece were played, and perhaps a turn and a poll behind them, of which no byte came.
-pub record Underway (Is : Exchange → Type 0) (s : Point) (p : Playing) (bytes : List ℕ) (t : Point) : Type 0 where
+pub record Underway (Is : Exchange → Type 0) (a : Stage) (bytes : List ℕ) (t : Point) : Type 0 where
   pub exchange : Exchange
   pub is : Is exchange
   pub more : List Step
@@ -91,48 +88,40 @@ pub record Underway (Is : Exchange → Type 0) (s : Point) (p : Playing) (bytes 
   pub answers : List Answer
   pub result : Result Unit NoMemory
   pub after : Playing
-  pub played : Played s p (begun_steps exchange ++ more) [] (begun_answers exchange ++ answers) result t after
+  pub played : PlayedOn a (begun_steps exchange ++ more) (begun_answers exchange ++ answers) result (stage_at t after)
   pub are : bytes ≡ begun_wire_of exchange
 
 -- All steps were played to the end of the body: the bytes are those of the whole answer.
-pub record PlayedToEnd (Is : Exchange → Type 0) (s : Point) (p : Playing) (bytes : List ℕ) (t : Point) : Type 0 where
+pub record PlayedToEnd (Is : Exchange → Type 0) (a : Stage) (bytes : List ℕ) (t : Point) : Type 0 where
   pub exchange : Exchange
   pub is : Is exchange
   pub after : Playing
-  pub played : Played s p (steps_of exchange) [] (answers_of exchange) (Ok tt) t after
+  pub played : PlayedOn a (steps_of exchange) (answers_of exchange) (Ok tt) (stage_at t after)
   pub are : bytes ≡ wire_of exchange
 
--- Memory was refused at one of these steps.
-abbrev pub RefusedAt : Point → Playing → List Step → Point → Playing → Type 0
-RefusedAt s p steps t q = (answers : List Answer) × Played s p steps [] answers (Err (record {})) t q
-
 -- how far an exchange came, and the bytes of its answer so far
-abbrev pub Reached : (Exchange → Type 0) → Point → Playing → List ℕ → Point → Type 0
-Reached Is s p bytes t = Unheard Is s p bytes t ⊎ (Underway Is s p bytes t ⊎ PlayedToEnd Is s p bytes t)
+abbrev pub Reached : (Exchange → Type 0) → Stage → List ℕ → Point → Type 0
+Reached Is a bytes t = Unheard Is a bytes t ⊎ (Underway Is a bytes t ⊎ PlayedToEnd Is a bytes t)
 
 -- The sink failed in an exchange: a front of the bytes was sent.
-pub record SinkStopped (Is : Exchange → Type 0) (s : Point) (p : Playing) (old new : Stream) (before : List ℕ) (t : Point) : Type 0 where
+pub record SinkStopped (Is : Exchange → Type 0) (a : Work) (b : Outlet) (t : Point) : Type 0 where
   pub bytes : List ℕ
-  pub reached : Reached Is s p bytes t
-  pub sent : SentFront old new (before ++ bytes)
-  pub rose : Rose old.faults new.faults
+  pub reached : Reached Is a.stage bytes t
+  pub sent : SendsFront a.outlet bytes b
+  pub rose : Rose a.outlet.sink.faults b.sink.faults
 
--- Memory was refused in an exchange: its bytes so far are sent or held.
-pub record MemoryStopped (Is : Exchange → Type 0) (s : Point) (p : Playing) (old new : Stream) (before held : List ℕ) (t : Point) : Type 0 where
+-- Memory was refused in an exchange: its bytes so far are sent or wait.
+pub record MemoryStopped (Is : Exchange → Type 0) (a : Work) (b : Outlet) (t : Point) : Type 0 where
   pub bytes : List ℕ
-  pub reached : Reached Is s p bytes t
-  pub sent : Sent old new (before ++ bytes) held
+  pub reached : Reached Is a.stage bytes t
+  pub sent : Sends a.outlet bytes b
 
-abbrev pub Exchanges : (Exchange → Type 0) → Point → Playing → Stream → Stream → List ℕ → Ended → List ℕ → Point → Playing → Type 0
-Exchanges Is s p old new before Open held t q = Whole Is s p false old new before held t q
-Exchanges Is s p old new before Closed held t q = Whole Is s p true old new before held t q
-Exchanges Is s p old new before SinkFailed held t q = SinkStopped Is s p old new before t
-Exchanges Is s p old new before BrokeOff held t q = BrokenOff Is s p old new before held t q
+abbrev pub Exchanges : (Exchange → Type 0) → Work → Ended → Work → Type 0
+Exchanges Is a Open b = Whole Is false a b
+Exchanges Is a Closed b = Whole Is true a b
+Exchanges Is a SinkFailed b = SinkStopped Is a b.outlet b.stage.at
+Exchanges Is a BrokeOff b = BrokenOff Is a b
 
 -- One request was answered by a player of its own.
-abbrev pub Answers : Settings → Point → Parts → Moment → Stream → Stream → List ℕ → Ended → List ℕ → Point → Type 0
-Answers settings s parts now old new before ended held t = (q : Playing) × Exchanges (IsAnswerTo parts now) s (fresh settings) old new before ended held t q
-
--- All that was held was given to the sink, and the status stands; or the sink failed, and the status is 4.
-abbrev pub Finishes : ℕ → Stream → Stream → List ℕ → ℕ → Type 0
-Finishes wanted old new held status = ((status ≡ wanted) × Sent old new held []) ⊎ ((status ≡ 4) × SentFront old new held × Rose old.faults new.faults)
+abbrev pub Answers : Parts → Moment → Work → Ended → Outlet → Point → Type 0
+Answers parts now a ended b t = (q : Playing) × Exchanges (IsAnswerTo parts now) a ended (record { outlet = b; stage = stage_at t q })

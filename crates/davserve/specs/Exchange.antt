@@ -1,4 +1,5 @@
 -- An exchange is a request and all that is answered to it. Its steps, its answers and its bytes are functions of it.
+use Rattle.dav_model.specs.Play.{Playing}
 use Rattle.std.specs.Prelude.{◌≡◌, ◌⊎◌, ◌↔◌, ◌||◌, ℕ, List, [], ◌∷◌, ◌++◌, Bool, IsTrue, true, Option, Some, None}
 use Rattle.std.specs.List.{flat_map}
 use Rattle.http.specs.declared.request.Parts.{Parts}
@@ -10,10 +11,10 @@ use Rattle.dav_io.specs.declared.fields.Field.{Field}
 use Rattle.dav_model.specs.declared.step.Step.{Step}
 use Rattle.dav_model.specs.declared.step.Step.TheVariants.{Request, Poll, Purge, Turn}
 use Rattle.dav_model.specs.declared.answer.Answer.{Answer}
-use Rattle.dav_model.specs.declared.answer.Answer.TheVariants.{Reply as Replied, Piece, End, Done}
+use Rattle.dav_model.specs.declared.answer.Answer.TheVariants.{Reply as Replied, Piece, End, Broken, Done}
+use Rattle.dav_model.specs.Gates.{announces_body}
 use Rattle.dav_model.specs.Requests.{Asked}
-use Rattle.dav_model.specs.Bodies.{Playing}
-use Rattle.dav_model.specs.declared.settings.Settings.{Settings}
+use Rattle.dav_model.specs.Rules.{Rules, Knowledge}
 use Rattle.dav_wire.specs.Answers.{head_text, has_close_field}
 use Rattle.dav_wire.specs.Chunks.{written, ending}
 use Rattle.dav_wire.specs.Framing.{framing, takes_chunks}
@@ -31,9 +32,14 @@ pub record Exchange : Type 0 where
   pub body : ℕ
   pub pieces : List (List ℕ)
 
--- a request of HTTP/1.0, or with a member `close` of a field `connection`
-abbrev pub AsksClose : Parts → Bool → Type 0
-AsksClose parts closing = IsTrue closing ↔ ((parts.version ≡ HTTP_10) ⊎ (asks_close parts.headers ≡ true))
+-- Nothing is read behind a request of HTTP/1.0, one with a member `close` of a field `connection`, and one that announces a
+-- body: as that isn't read, nobody knows where the next request begins.
+abbrev pub IsLast : Parts → Type 0
+IsLast parts = (parts.version ≡ HTTP_10) ⊎ ((announces_body parts.headers ≡ true) ⊎ (asks_close parts.headers ≡ true))
+
+-- whether the connection closes behind the answer, whatever that is
+abbrev pub ClosesAfter : Parts → Bool → Type 0
+ClosesAfter parts closing = IsTrue closing ↔ IsLast parts
 
 -- whether nothing more is read after the answer
 abbrev pub is_closed : Exchange → Bool
@@ -73,9 +79,9 @@ begun_wire_of x = head_text x.status x.fields x.closing (framing_of x) ++ flat_m
 abbrev pub wire_of : Exchange → List ℕ
 wire_of x = begun_wire_of x ++ ending (framing_of x)
 
--- a player of these settings, with no replies and no bodies
-abbrev pub fresh : Settings → Playing
-fresh settings = record { settings = settings; replies = 0; left = λ _. [] }
+-- a player of these rules with no replies and no bodies, over a memory that knows this
+abbrev pub fresh : Rules → Knowledge → Playing
+fresh rules knows = record { rules = rules; replies = 0; left = λ _. []; held = λ _. None; knows = knows }
 
 -- The moment is what the clock shows, where it tells.
 abbrev pub IsShown : Option Moment → Moment → Type 0
@@ -85,8 +91,22 @@ IsShown shown now = (shown ≡ Some now) ⊎ (shown ≡ None)
 pub record IsOf (shown : Option Moment) (head : RequestHead) (x : Exchange) : Type 0 where
   pub parts : IsRead head (head_of x.request)
   pub empty : body_of x.request ≡ []
-  pub closing : AsksClose (head_of x.request) x.closing
+  pub closing : ClosesAfter (head_of x.request) x.closing
   pub moment : IsShown shown x.now
 
-abbrev pub with_pieces : Asked → Moment → Bool → ℕ → List Field → ℕ → List (List ℕ) → Exchange
-with_pieces request now closing status fields body pieces = record { request = request; now = now; closing = closing; status = status; fields = fields; body = body; pieces = pieces }
+-- an exchange that has no pieces yet
+abbrev pub exchange_of : Asked → Moment → Bool → ℕ → List Field → ℕ → Exchange
+exchange_of request now closing status fields body =
+    record { request = request; now = now; closing = closing; status = status; fields = fields; body = body; pieces = [] }
+
+-- the same exchange with these pieces
+abbrev pub with_pieces : Exchange → List (List ℕ) → Exchange
+with_pieces x pieces = record x { pieces = pieces }
+
+-- an answer to a request
+abbrev pub IsReply : Answer → Type 0
+IsReply (Replied status fields body) = Unit {0}
+IsReply (Piece bytes) = ⊥
+IsReply End = ⊥
+IsReply Broken = ⊥
+IsReply Done = ⊥

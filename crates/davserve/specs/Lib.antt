@@ -1,4 +1,5 @@
 pub mod Words
+pub mod Stages
 pub mod Exchange
 pub mod Ends
 pub mod Serving

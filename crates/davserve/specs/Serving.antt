@@ -1,34 +1,41 @@
 -- What a run has served so far, and how it ends.
-use Rattle.std.specs.Prelude.{◌≡◌, ◌≤◌, ◌+◌, ◌^◌, ◌⊎◌, ℕ, List, [], ◌∷◌, ◌++◌, length, Bool, true, false, Ok, Option}
+use Rattle.dav_model.specs.Play.{Stage, Playing}
+use Rattle.std.specs.Prelude.{◌≡◌, ◌≤◌, ◌<◌, ◌+◌, ◌^◌, ◌⊎◌, ℕ, List, [], ◌∷◌, ◌++◌, length, Bool, true, false, Ok, Option, Some}
 use Rattle.std.specs.List.{flat_map, AllByRecursion}
-use Rattle.httparse.specs.Grammar.{RequestHead}
+use Rattle.httparse.specs.Grammar.{RequestHead, HasNoRequest, MayBecomeRequest}
 use Rattle.dav_io.specs.Counts.{Rose}
 use Rattle.dav_io.specs.Told.{Both}
 use Rattle.dav_io.specs.Outside.{Stream}
 use Rattle.dav_io.specs.declared.clock.Moment.{Moment}
 use Rattle.dav_model.specs.declared.answer.Answer.TheVariants.{Broken, Done}
-use Rattle.dav_model.specs.Bodies.{Playing}
 use Rattle.dav_model.specs.declared.settings.Settings.{Settings}
+use Rattle.dav_model.specs.Rules.{Rules, nothing_known, plain_rules}
 use Rattle.dav_model.specs.Trail.{Point}
-use Rattle.dav_model.specs.Play.{Played}
-use Rattle.dav_wire.specs.Requests.{IsRequest, Requests, Refusal, IsUnfinished, HasNone}
+use Rattle.dav_wire.specs.Requests.{IsRequest, Requests, Refusal, IsUnfinished}
 use Rattle.dav_wire.specs.Answers.{bad_request_text}
 use Rattle.dav_wire.specs.Writing.{Sent, SentAll, SentFront}
+use Rattle.davserve.specs.declared.ending.Ending.{Ending}
+use Rattle.davserve.specs.declared.ending.Ending.TheVariants.{Over, Closed, Refused, Unfinished, SourceFailed, SinkFailed, DiskFailed, TooMuch}
 use Rattle.davserve.specs.Exchange.{Exchange, IsOf, fresh, is_closed, steps_of, answers_of, begun_answers, begun_wire_of, wire_of}
 use Rattle.davserve.specs.Ends.{Reached}
+use Rattle.davserve.specs.Stages.{PlayedOn, Outlet, Outside, stage_at}
 
 -- What is the same for all exchanges of a run: what the clock shows, and what is set.
 pub record Setup : Type 0 where
   pub shown : Option Moment
-  pub settings : Settings
+  pub rules : Rules
 
 abbrev pub setup_with : Option Moment → Settings → Setup
-setup_with shown settings = record { shown = shown; settings = settings }
+setup_with shown settings = record { shown = shown; rules = plain_rules settings }
+
+-- a new player over the disk
+abbrev pub ready : Rules → Point → Stage
+ready rules s = stage_at s (fresh rules nothing_known)
 
 -- The exchanges were played one after the other, each by a new player over the disk that the one before it left.
-abbrev pub Chain : Settings → Point → List Exchange → Point → Type 0
-Chain settings s [] t = t ≡ s
-Chain settings s (x ∷ xs) t = (m : Point) × (q : Playing) × Played s (fresh settings) (steps_of x) [] (answers_of x) (Ok tt) m q × Chain settings m xs t
+abbrev pub Chain : Rules → Stage → List Exchange → Stage → Type 0
+Chain rules a [] b = b ≡ a
+Chain rules a (x ∷ xs) b = (m : Stage) × PlayedOn a (steps_of x) (answers_of x) (Ok tt) m × Chain rules (ready rules m.at) xs b
 
 -- each exchange is that of its head
 abbrev pub Alike : Setup → List RequestHead → List Exchange → Type 0
@@ -50,14 +57,14 @@ abbrev pub wires : List Exchange → List ℕ
 wires xs = flat_map wire_of xs
 
 -- The requests at the front of the input were answered by these exchanges. `held` is what was taken from the source and
--- not yet read.
-pub record Serving (setup : Setup) (closed : Bool) (input source : Stream) (held : List ℕ) (s : Point) (exchanges : List Exchange) (t : Point) : Type 0 where
+-- not yet read, and `last` is the stage at which the next request would be played.
+pub record Serving (setup : Setup) (closed : Bool) (before : Outside) (source : Stream) (held : List ℕ) (exchanges : List Exchange) (last : Stage) : Type 0 where
   pub heads : List RequestHead
-  pub played : Chain setup.settings s exchanges t
+  pub played : Chain setup.rules (ready setup.rules before.disk) exchanges last
   pub alike : Alike setup heads exchanges
   pub follow : Follow closed exchanges
-  pub counted : input.faults ≤ source.faults
-  pub requests : Both input.bytes source.bytes (λ a b. Requests a heads (held ++ b))
+  pub counted : before.source.faults ≤ source.faults
+  pub requests : Both before.source.bytes source.bytes (λ a b. Requests a heads (held ++ b))
 
 -- What the source has left, where it tells, is nothing.
 abbrev pub IsEmptied : Stream → Stream → Type 0
@@ -71,6 +78,16 @@ LeftIs P input source held = Both input.bytes source.bytes (λ a b. P (held ++ b
 abbrev pub TookBytes : Stream → Stream → ℕ → Type 0
 TookBytes input source n = Both input.bytes source.bytes (λ a b. length a ≡ n + length b)
 
+-- fewer bytes were taken from the source, where it tells
+abbrev pub TookFewer : Stream → Stream → ℕ → Type 0
+TookFewer input source n = Both input.bytes source.bytes (λ a b. length a < n + length b)
+
+-- More bytes are wanted behind these: they are no request and no refusal, and more can make a request of them.
+pub record IsWanting (held : List ℕ) : Type 0 where
+  pub short : length held ≤ 65536
+  pub none : HasNoRequest held
+  pub may : MayBecomeRequest held
+
 -- The exchange answers the request that stands at the front of what is held.
 pub record Faces (setup : Setup) (held : List ℕ) (x : Exchange) : Type 0 where
   pub head : RequestHead
@@ -78,99 +95,142 @@ pub record Faces (setup : Setup) (held : List ℕ) (x : Exchange) : Type 0 where
   pub stands : IsRequest held head rest
   pub is : IsOf setup.shown head x
 
--- The input was read to its end: all requests are answered.
-pub record ServedAll (setup : Setup) (input source : Stream) (s : Point) (old new : Stream) (t : Point) : Type 0 where
+-- The input was read to its end, below 2^60 bytes: all requests are answered.
+pub record ServedAll (setup : Setup) (before after : Outside) : Type 0 where
   pub exchanges : List Exchange
-  pub serving : Serving setup false input source [] s exchanges t
-  pub sent : SentAll old new (wires exchanges)
-  pub over : IsEmptied input source
+  pub serving : Serving setup false before after.source [] exchanges (ready setup.rules after.disk)
+  pub sent : SentAll before.sink after.sink (wires exchanges)
+  pub over : IsEmptied before.source after.source
+  pub few : TookFewer before.source after.source (2 ^ 60)
 
 -- An answer closes: the requests up to it are answered.
-pub record ServedClosing (setup : Setup) (input source : Stream) (s : Point) (old new : Stream) (t : Point) : Type 0 where
+pub record ServedClosing (setup : Setup) (before after : Outside) : Type 0 where
   pub held : List ℕ
   pub exchanges : List Exchange
-  pub serving : Serving setup true input source held s exchanges t
-  pub sent : SentAll old new (wires exchanges)
+  pub serving : Serving setup true before after.source held exchanges (ready setup.rules after.disk)
+  pub sent : SentAll before.sink after.sink (wires exchanges)
 
 -- Behind the requests that were answered stands what no request can be, and 400 was written for it.
-pub record ServedRefusing (setup : Setup) (input source : Stream) (s : Point) (old new : Stream) (t : Point) : Type 0 where
+pub record ServedRefusing (setup : Setup) (before after : Outside) : Type 0 where
   pub held : List ℕ
   pub exchanges : List Exchange
-  pub serving : Serving setup false input source held s exchanges t
-  pub sent : SentAll old new (wires exchanges ++ bad_request_text)
-  pub refused : LeftIs Refusal input source held
+  pub serving : Serving setup false before after.source held exchanges (ready setup.rules after.disk)
+  pub sent : SentAll before.sink after.sink (wires exchanges ++ bad_request_text)
+  pub refused : LeftIs Refusal before.source after.source held
 
--- Behind the requests that were answered the input ends inside a head, and nothing was written for it.
-pub record ServedUnfinished (setup : Setup) (input source : Stream) (s : Point) (old new : Stream) (t : Point) : Type 0 where
+-- Behind the requests that were answered the input ends inside a head, below 2^60 bytes, and nothing was written for it.
+pub record ServedUnfinished (setup : Setup) (before after : Outside) : Type 0 where
   pub held : List ℕ
   pub exchanges : List Exchange
-  pub serving : Serving setup false input source held s exchanges t
-  pub sent : SentAll old new (wires exchanges)
-  pub over : IsEmptied input source
+  pub serving : Serving setup false before after.source held exchanges (ready setup.rules after.disk)
+  pub sent : SentAll before.sink after.sink (wires exchanges)
+  pub over : IsEmptied before.source after.source
+  pub few : TookFewer before.source after.source (2 ^ 60)
   pub unfinished : IsUnfinished held
 
--- No more bytes come: all requests that were whole are answered.
-pub record ServedSoFar (setup : Setup) (input source : Stream) (s : Point) (old new : Stream) (t : Point) : Type 0 where
+-- All requests that were whole are answered, all answers are written, and what is held behind them is no refusal.
+pub record ServedSoFar (setup : Setup) (before after : Outside) : Type 0 where
   pub held : List ℕ
   pub exchanges : List Exchange
-  pub serving : Serving setup false input source held s exchanges t
-  pub sent : SentAll old new (wires exchanges)
-  pub none : HasNone held
+  pub serving : Serving setup false before after.source held exchanges (ready setup.rules after.disk)
+  pub sent : SentAll before.sink after.sink (wires exchanges)
+  pub wanting : IsWanting held
+
+-- What may be said wherever all requests that were whole are answered and all answers are written, by what is left and
+-- what was written.
+abbrev pub HoldsSoFar : Setup → Outside → (Stream → Stream → Type 0) → Type 0
+HoldsSoFar setup before P = (now : Outside) → ServedSoFar setup before now → P now.source now.sink
+
+-- A whole request was taken, and nothing was written.
+pub record Owes (before now : Outside) : Type 0 where
+  pub taken : List ℕ
+  pub left : List ℕ
+  pub written : List ℕ
+  pub head : RequestHead
+  pub rest : List ℕ
+  pub first : before.source.bytes ≡ Some (taken ++ left)
+  pub stands : now.source.bytes ≡ Some left
+  pub was : before.sink.bytes ≡ Some written
+  pub is : now.sink.bytes ≡ Some written
+  pub request : IsRequest taken head rest
 
 -- A body broke in the answer to the request behind those that were answered: the bytes end with its last
 -- piece, and what ends a body isn't written.
-pub record ServedBroken (setup : Setup) (input source : Stream) (s : Point) (old new : Stream) (t : Point) : Type 0 where
+pub record ServedBroken (setup : Setup) (before after : Outside) : Type 0 where
   pub held : List ℕ
-  pub before : Point
+  pub place : Stage
   pub exchanges : List Exchange
-  pub serving : Serving setup false input source held s exchanges before
+  pub serving : Serving setup false before after.source held exchanges place
   pub broken : Exchange
   pub faces : Faces setup held broken
-  pub after : Playing
-  pub played : Played before (fresh setup.settings) (steps_of broken) [] (begun_answers broken ++ Done ∷ Broken ∷ []) (Ok tt) t after
-  pub sent : SentAll old new (wires exchanges ++ begun_wire_of broken)
+  pub player : Playing
+  pub played : PlayedOn place (steps_of broken) (begun_answers broken ++ Done ∷ Broken ∷ []) (Ok tt) (stage_at after.disk player)
+  pub sent : SentAll before.sink after.sink (wires exchanges ++ begun_wire_of broken)
 
--- What the run came to behind the exchanges that were played, and the bytes of it.
-pub data Partway (setup : Setup) (input source : Stream) (held : List ℕ) (s : Point) (bytes : List ℕ) (t : Point) : Type 0 where
+-- What the run came to behind the exchanges that were played, and the bytes of it. `refused` says that what no request
+-- can be stands there.
+pub data Partway (setup : Setup) (refused : Type 0) (held : List ℕ) (place : Stage) (bytes : List ℕ) (t : Point) : Type 0 where
   -- nothing
-  nothing : bytes ≡ [] → t ≡ s → Partway setup input source held s bytes t
+  nothing : bytes ≡ [] → t ≡ place.at → Partway setup refused held place bytes t
   -- the answer to what no request can be
-  refusal : bytes ≡ bad_request_text → t ≡ s → LeftIs Refusal input source held → Partway setup input source held s bytes t
+  refusal : bytes ≡ bad_request_text → t ≡ place.at → refused → Partway setup refused held place bytes t
   -- some of the exchange of the request that stands there
-  exchange : Reached (Faces setup held) s (fresh setup.settings) bytes t → Partway setup input source held s bytes t
+  exchange : Reached (Faces setup held) place bytes t → Partway setup refused held place bytes t
 
--- The sink failed, or memory was refused: a front of the bytes is written.
-pub record ServedPartly (setup : Setup) (input source : Stream) (s : Point) (old new : Stream) (t : Point) : Type 0 where
+-- Some exchanges were played, and these bytes are made behind them: none where the last of them closes.
+pub record Halfway (setup : Setup) (before after : Outside) (exchanges : List Exchange) (bytes : List ℕ) : Type 0 where
   pub closed : Bool
   pub held : List ℕ
-  pub before : Point
+  pub place : Stage
+  pub serving : Serving setup closed before after.source held exchanges place
+  pub partway : Partway setup (LeftIs Refusal before.source after.source held) held place bytes after.disk
+  pub behind : closed ≡ true → bytes ≡ []
+
+-- The sink failed, or memory was refused: a front of the bytes is written.
+pub record ServedPartly (setup : Setup) (before after : Outside) : Type 0 where
   pub exchanges : List Exchange
-  pub serving : Serving setup closed input source held s exchanges before
   pub bytes : List ℕ
-  pub partway : Partway setup input source held before bytes t
-  pub sent : SentFront old new (wires exchanges ++ bytes)
+  pub halfway : Halfway setup before after exchanges bytes
+  pub sent : SentFront before.sink after.sink (wires exchanges ++ bytes)
 
--- Memory was refused: a front of the bytes is written, and the others are held.
-pub record Starved (setup : Setup) (input source : Stream) (s : Point) (old new : Stream) (waiting : List ℕ) (t : Point) : Type 0 where
-  pub held : List ℕ
-  pub before : Point
+-- Memory was refused: a front of the bytes is written, and the others wait.
+pub record Starved (setup : Setup) (before : Outside) (waiting : List ℕ) (after : Outside) : Type 0 where
   pub exchanges : List Exchange
-  pub serving : Serving setup false input source held s exchanges before
   pub bytes : List ℕ
-  pub partway : Partway setup input source held before bytes t
-  pub sent : Sent old new (wires exchanges ++ bytes) waiting
+  pub halfway : Halfway setup before after exchanges bytes
+  pub sent : Sent before.sink after.sink (wires exchanges ++ bytes) waiting
 
--- What a status says of a run that serves.
-pub record ServeEnds (setup : Setup) (input source : Stream) (s : Point) (old new : Stream) (status : ℕ) (t : Point) : Type 0 where
-  pub done : status ≡ 0 → ServedAll setup input source s old new t ⊎ ServedClosing setup input source s old new t
-  pub source_failed : status ≡ 3 → Rose input.faults source.faults × ServedSoFar setup input source s old new t
-  pub sink_failed : status ≡ 4 → Rose old.faults new.faults × ServedPartly setup input source s old new t
-  pub disk_failed : status ≡ 5 → Rose s.faults t.faults × ServedBroken setup input source s old new t
-  pub invalid : status ≡ 6 → ServedRefusing setup input source s old new t ⊎ ServedUnfinished setup input source s old new t
-  pub too_much : status ≡ 7 → TookBytes input source (2 ^ 60) × ServedSoFar setup input source s old new t
-  pub only : (status ≡ 0) ⊎ ((status ≡ 3) ⊎ ((status ≡ 4) ⊎ ((status ≡ 5) ⊎ ((status ≡ 6) ⊎ (status ≡ 7)))))
+-- What each end of a run that serves says.
+abbrev pub EndsBy : Setup → Outside → Outside → Ending → Type 0
+EndsBy setup before after Over = ServedAll setup before after
+EndsBy setup before after Closed = ServedClosing setup before after
+EndsBy setup before after Refused = ServedRefusing setup before after
+EndsBy setup before after Unfinished = ServedUnfinished setup before after
+EndsBy setup before after SourceFailed = Rose before.source.faults after.source.faults × ServedSoFar setup before after
+EndsBy setup before after SinkFailed = Rose before.sink.faults after.sink.faults × ServedPartly setup before after
+EndsBy setup before after DiskFailed = Rose before.disk.faults after.disk.faults × ServedBroken setup before after
+EndsBy setup before after TooMuch = TookBytes before.source after.source (2 ^ 60) × ServedSoFar setup before after
 
--- the status at the end of an input
-abbrev pub EndsAt : List ℕ → ℕ → Type 0
-EndsAt [] status = status ≡ 0
-EndsAt (b ∷ bytes) status = status ≡ 6
+-- the status of each end
+abbrev pub status_of : Ending → ℕ
+status_of Over = 0
+status_of Closed = 0
+status_of SourceFailed = 3
+status_of SinkFailed = 4
+status_of DiskFailed = 5
+status_of Refused = 6
+status_of Unfinished = 6
+status_of TooMuch = 7
+
+-- A run that serves ends with the status of its end.
+abbrev pub ServeEnds : Setup → Outside → Outside → ℕ → Type 0
+ServeEnds setup before after status = (end : Ending) × (status ≡ status_of end) × EndsBy setup before after end
+
+-- the end of an input, by what is held there
+abbrev pub over_with : List ℕ → Ending
+over_with [] = Over
+over_with (b ∷ bytes) = Unfinished
+
+-- All that waited was given to the sink, and the end stands; or the sink failed.
+abbrev pub Finishes : Ending → Outlet → Stream → Ending → Type 0
+Finishes wanted a new end = ((end ≡ wanted) × Sent a.sink new a.waiting []) ⊎ ((end ≡ SinkFailed) × SentFront a.sink new a.waiting × Rose a.sink.faults new.faults)

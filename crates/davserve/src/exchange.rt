@@ -1,14 +1,15 @@
 // One request, and all that is answered to it.
 ghost use Rattle.std.specs.Prelude.{◌≡◌, ◌+◌, ◌<◌, ◌^◌, IfOk, OnErr};
 ghost use Rattle.http.specs.Request.{head_of};
-ghost use Rattle.dav_handler.specs.Player.{playing_of, point_at};
+ghost use Rattle.dav_handler.specs.Player.{stage_of};
 ghost use Rattle.dav_wire.specs.Framing.{takes_chunks as the_takes_chunks};
-ghost use Rattle.davserve.specs.Exchange.{AsksClose};
+ghost use Rattle.davserve.specs.Exchange.{ClosesAfter};
 ghost use Rattle.davserve.specs.Ends.{EndsBody, Exchanges, IsAt, MemoryStopped, ended_by};
+ghost use Rattle.davserve.specs.Stages.{outlet_of, work_of};
 
 use crate::turns::{poll_turn, request_turn};
 use dav_core::Disk;
-use dav_handler::{Answer, Player};
+use dav_handler::{Answer, Player, announces_body};
 use dav_io::{Field, Moment, NoMemory, Octets, Sink};
 use dav_wire::{
     Framing, Output, answer_head, asks_close, framing, is_old, says_close, takes_chunks,
@@ -41,7 +42,7 @@ pub struct Manner {
 
 /// How a request with this head is answered.
 pub fn manner_of(parts: &Parts) -> Manner
-    ensures closing { AsksClose parts.now result.closing }
+    ensures closing { ClosesAfter parts.now result.closing }
     ensures chunks { result.chunks ≡ the_takes_chunks parts.now }
 {
     Manner {
@@ -50,11 +51,14 @@ pub fn manner_of(parts: &Parts) -> Manner
     }
 }
 
-// Whether the request asks that the connection closes.
+// Whether the connection closes behind the answer, whatever that is.
 fn closes_after(parts: &Parts) -> bool
-    ensures { AsksClose parts.now result }
+    ensures { ClosesAfter parts.now result }
 {
     if is_old(parts.version) {
+        return true;
+    }
+    if announces_body(&parts.headers) {
         return true;
     }
     asks_close(&parts.headers)
@@ -74,8 +78,12 @@ pub fn exchange<K: Sink, D: Disk>(
     requires replies { player.old.replies + 4 < 2 ^ 32 }
     requires chunks { manner.chunks ≡ the_takes_chunks (head_of request) }
     ensures loan { D.loan player.new.store.disk ≡ D.loan player.old.store.disk }
-    ensures ends { IfOk result (λ ended. Exchanges (IsAt request now manner.closing) (point_at player.old) (playing_of player.old) (K.stream sink.old) (K.stream sink.new) output.old ended output.new (point_at player.new) (playing_of player.new)) }
-    ensures memory { OnErr result (MemoryStopped (IsAt request now manner.closing) (point_at player.old) (playing_of player.old) (K.stream sink.old) (K.stream sink.new) output.old output.new (point_at player.new)) }
+    ensures ends { IfOk result (λ ended. Exchanges (IsAt request now manner.closing)
+        (work_of (K.stream sink.old) output.old (stage_of player.old)) ended
+        (work_of (K.stream sink.new) output.new (stage_of player.new))) }
+    ensures memory { OnErr result (MemoryStopped (IsAt request now manner.closing)
+        (work_of (K.stream sink.old) output.old (stage_of player.old))
+        (outlet_of (K.stream sink.new) output.new) (stage_of player.new).at) }
 {
     let reply = match request_turn(alloc, player, now, request) {
         Ok(reply) => reply,
@@ -122,7 +130,8 @@ fn ends_body<K: Sink>(
     closing: bool,
     fields: &[Field],
 ) -> Ended
-    ensures { EndsBody way closing fields.now (K.stream sink.old) (K.stream sink.new) output.old result output.new }
+    ensures { EndsBody way closing fields.now (outlet_of (K.stream sink.old) output.old) result
+        (outlet_of (K.stream sink.new) output.new) }
 {
     match output.push_end(sink, way) {
         Ok(()) => what_follows(closing, fields),

@@ -1,6 +1,7 @@
 //! The program: it serves a folder to the requests on standard input, and writes the answers to standard output.
 #![tactic(auto)]
 
+mod ending;
 mod exchange;
 mod laws;
 mod run;
@@ -91,10 +92,10 @@ fn ends(rt: &HostRuntime, status: u8) -> ExitCode {
     ExitCode::from(status)
 }
 
-// Names the words that aren't understood, and those that are.
+// Names the words that aren't understood, in one line whatever they hold, and those that are.
 fn refuses(rt: &HostRuntime, words: &[String]) -> ExitCode {
     let _ = match words.join(rt.alloc(), " ") {
-        Ok(text) => eprintln!(rt; "davserve: not understood: '{text}'; {USAGE}"),
+        Ok(text) => eprintln!(rt; "davserve: not understood: {text:?}; {USAGE}"),
         Err(_) => eprintln!(rt; "{}", line_of(2)),
     };
     ExitCode::from(2)

@@ -1,17 +1,19 @@
 // Serving the requests of a source, one after the other.
 ghost use Rattle.std.specs.Prelude.{◌≡◌, ◌++◌, ◌≤◌, IfOk, OnErr, [], length};
-ghost use Rattle.dav_model.specs.Trail.{point_of};
+ghost use Rattle.dav_model.specs.Rules.{plain_rules};
 ghost use Rattle.dav_wire.specs.Answers.{bad_request_text as the_bad_request_text};
-ghost use Rattle.davserve.specs.Ends.{Answers, IsAnswerTo, MemoryStopped, Finishes};
-ghost use Rattle.davserve.specs.Exchange.{fresh};
-ghost use Rattle.davserve.specs.Serving.{ServeEnds, ServedPartly, Starved, EndsAt, setup_with};
+ghost use Rattle.davserve.specs.declared.ending.Ending.TheVariants.{Refused};
+ghost use Rattle.davserve.specs.Ends.{Answers, IsAnswerTo, MemoryStopped};
+ghost use Rattle.davserve.specs.Serving.{HoldsSoFar, EndsBy, ServedPartly, Starved, Finishes, over_with, ready, setup_with};
+ghost use Rattle.davserve.specs.Stages.{outlet_of, outside_of, work_of};
 ghost use Rattle.davserve.specs.Words.{with_buffer};
 
+use crate::ending::Ending;
 use crate::exchange::{Ended, exchange, manner_of};
 use crate::words::Options;
 use dav_core::Disk;
 use dav_handler::Player;
-use dav_io::{Clock, Moment, NoMemory, Sink, Source};
+use dav_io::{Client, Clock, Moment, NoMemory, Sink};
 use dav_wire::{Found, Input, Output, ReadError, bad_request_text, fill_flushing, into_request};
 use http::request::Parts;
 use std::alloc::Global;
@@ -26,8 +28,12 @@ fn answer<K: Sink, D: Disk>(
     now: Moment,
     parts: Parts,
 ) -> Result<Ended, NoMemory>
-    ensures ends { IfOk result (λ ended. Answers (with_buffer options.bufsize) (point_of (D.state disk.old)) parts now (K.stream sink.old) (K.stream sink.new) output.old ended output.new (point_of (D.state disk.new))) }
-    ensures memory { OnErr result (MemoryStopped (IsAnswerTo parts now) (point_of (D.state disk.old)) (fresh (with_buffer options.bufsize)) (K.stream sink.old) (K.stream sink.new) output.old output.new (point_of (D.state disk.new))) }
+    ensures ends { IfOk result (λ ended. Answers parts now
+        (work_of (K.stream sink.old) output.old (ready (plain_rules (with_buffer options.bufsize)) (D.state disk.old)))
+        ended (outlet_of (K.stream sink.new) output.new) (D.state disk.new)) }
+    ensures memory { OnErr result (MemoryStopped (IsAnswerTo parts now)
+        (work_of (K.stream sink.old) output.old (ready (plain_rules (with_buffer options.bufsize)) (D.state disk.old)))
+        (outlet_of (K.stream sink.new) output.new) (D.state disk.new)) }
 {
     let manner = manner_of(&parts);
     let request = into_request(alloc, parts);
@@ -37,40 +43,40 @@ fn answer<K: Sink, D: Disk>(
     ended
 }
 
-// Gives all that waits to the sink, at the end of a run: the status, or that of a sink that failed.
-fn finish<K: Sink>(output: &mut Output, sink: &mut K, status: u8) -> u8
-    ensures { Finishes status (K.stream sink.old) (K.stream sink.new) output.old result }
+// Gives all that waits to the sink, at the end of a run: the end stands, or the sink failed.
+fn finish<K: Sink>(output: &mut Output, sink: &mut K, ending: Ending) -> Ending
+    ensures { Finishes ending (outlet_of (K.stream sink.old) output.old) (K.stream sink.new) result }
 {
     match output.flush(sink) {
-        Ok(()) => status,
-        Err(_) => 4,
+        Ok(()) => ending,
+        Err(_) => Ending::SinkFailed,
     }
 }
 
 // Refuses what no request can be.
-fn refuse<K: Sink>(output: &mut Output, sink: &mut K) -> u8
-    ensures { Finishes 6 (K.stream sink.old) (K.stream sink.new) (output.old ++ the_bad_request_text) result }
+fn refuse<K: Sink>(output: &mut Output, sink: &mut K) -> Ending
+    ensures { Finishes Refused (outlet_of (K.stream sink.old) (output.old ++ the_bad_request_text)) (K.stream sink.new) result }
 {
     match output.push(sink, bad_request_text()) {
-        Ok(()) => finish(output, sink, 6),
-        Err(_) => 4,
+        Ok(()) => finish(output, sink, Ending::Refused),
+        Err(_) => Ending::SinkFailed,
     }
 }
 
 // What an input is at its end: all read, or a head that isn't finished.
-fn at_end(input: &Input) -> u8
-    ensures { EndsAt input.now.bytes result }
+fn at_end(input: &Input) -> Ending
+    ensures { result ≡ over_with input.now.bytes }
 {
     if input.pending().is_empty() {
-        return 0;
+        return Ending::Over;
     }
-    6
+    Ending::Unfinished
 }
 
 // Answers requests until the input ends, an answer closes, or something fails. Answers to requests that came together
-// leave together: what waits for the sink is given to it before the source is asked again, and at the end. Where memory
+// leave together: what waits for the sink is given to it before the client is asked again, and at the end. Where memory
 // is refused, it waits still.
-fn answer_all<S: Source, K: Sink, D: Disk, C: Clock>(
+fn answer_all<S: Client<K>, K: Sink, D: Disk, C: Clock>(
     alloc: Global,
     options: Options,
     input: &mut Input,
@@ -79,12 +85,23 @@ fn answer_all<S: Source, K: Sink, D: Disk, C: Clock>(
     sink: &mut K,
     disk: &mut D,
     clock: &mut C,
-) -> Result<u8, NoMemory>
+) -> Result<Ending, NoMemory>
     requires unread { input.old ≡ record { bytes = []; taken = 0 } }
     requires empty { output.old ≡ [] }
+    requires waits { HoldsSoFar
+        (setup_with (C.shows clock.old) (with_buffer options.bufsize))
+        (outside_of (S.stream source.old) (K.stream sink.old) (D.state disk.old))
+        (S.may source.old) }
     ensures clock { C.shows clock.new ≡ C.shows clock.old }
-    ensures ends { IfOk result (λ status. ServeEnds (setup_with (C.shows clock.old) (with_buffer options.bufsize)) (S.stream source.old) (S.stream source.new) (point_of (D.state disk.old)) (K.stream sink.old) (K.stream sink.new) status (point_of (D.state disk.new))) }
-    ensures memory { OnErr result (Starved (setup_with (C.shows clock.old) (with_buffer options.bufsize)) (S.stream source.old) (S.stream source.new) (point_of (D.state disk.old)) (K.stream sink.old) (K.stream sink.new) output.new (point_of (D.state disk.new))) }
+    ensures ends { IfOk result (EndsBy
+        (setup_with (C.shows clock.old) (with_buffer options.bufsize))
+        (outside_of (S.stream source.old) (K.stream sink.old) (D.state disk.old))
+        (outside_of (S.stream source.new) (K.stream sink.new) (D.state disk.new))) }
+    ensures memory { OnErr result (Starved
+        (setup_with (C.shows clock.old) (with_buffer options.bufsize))
+        (outside_of (S.stream source.old) (K.stream sink.old) (D.state disk.old))
+        output.new
+        (outside_of (S.stream source.new) (K.stream sink.new) (D.state disk.new))) }
 {
     'requests: loop {
         match input.next_head(alloc) {
@@ -92,9 +109,9 @@ fn answer_all<S: Source, K: Sink, D: Disk, C: Clock>(
                 let now = clock.now();
                 match answer(alloc, options, disk, output, sink, now, parts) {
                     Ok(Ended::Open) => {}
-                    Ok(Ended::Closed) => return Ok(finish(output, sink, 0)),
-                    Ok(Ended::SinkFailed) => return Ok(4),
-                    Ok(Ended::Broke) => return Ok(finish(output, sink, 5)),
+                    Ok(Ended::Closed) => return Ok(finish(output, sink, Ending::Closed)),
+                    Ok(Ended::SinkFailed) => return Ok(Ending::SinkFailed),
+                    Ok(Ended::Broke) => return Ok(finish(output, sink, Ending::DiskFailed)),
                     Err(error) => return Err(error),
                 }
             }
@@ -105,29 +122,39 @@ fn answer_all<S: Source, K: Sink, D: Disk, C: Clock>(
                         return Ok(at_end(input));
                     }
                 }
-                Err(ReadError::Failed) => return Ok(3),
-                Err(ReadError::TooMuch) => return Ok(7),
+                Err(ReadError::Failed) => return Ok(Ending::SourceFailed),
+                Err(ReadError::TooMuch) => return Ok(Ending::TooMuch),
                 Err(ReadError::NoMemory) => return Err(NoMemory),
-                Err(ReadError::Unsent) => return Ok(4),
+                Err(ReadError::Unsent) => return Ok(Ending::SinkFailed),
             },
             Err(error) => return Err(error),
         }
     }
 }
 
-/// Reads requests from a source and writes their answers to a sink, until the input ends, an answer closes, or something
-/// fails. It answers the program's status.
-pub fn serve<S: Source, K: Sink, D: Disk, C: Clock>(
+/// Reads requests from a client and writes their answers to a sink, until the input ends, an answer closes, or something
+/// fails. It answers how it ended. The client is asked only where all that came is answered and written.
+pub fn serve<S: Client<K>, K: Sink, D: Disk, C: Clock>(
     alloc: Global,
     options: Options,
     source: &mut S,
     sink: &mut K,
     disk: &mut D,
     clock: &mut C,
-) -> Result<u8, NoMemory>
+) -> Result<Ending, NoMemory>
+    requires waits { HoldsSoFar
+        (setup_with (C.shows clock.old) (with_buffer options.bufsize))
+        (outside_of (S.stream source.old) (K.stream sink.old) (D.state disk.old))
+        (S.may source.old) }
     ensures clock { C.shows clock.new ≡ C.shows clock.old }
-    ensures ends { IfOk result (λ status. ServeEnds (setup_with (C.shows clock.old) (with_buffer options.bufsize)) (S.stream source.old) (S.stream source.new) (point_of (D.state disk.old)) (K.stream sink.old) (K.stream sink.new) status (point_of (D.state disk.new))) }
-    ensures memory { OnErr result (ServedPartly (setup_with (C.shows clock.old) (with_buffer options.bufsize)) (S.stream source.old) (S.stream source.new) (point_of (D.state disk.old)) (K.stream sink.old) (K.stream sink.new) (point_of (D.state disk.new))) }
+    ensures ends { IfOk result (EndsBy
+        (setup_with (C.shows clock.old) (with_buffer options.bufsize))
+        (outside_of (S.stream source.old) (K.stream sink.old) (D.state disk.old))
+        (outside_of (S.stream source.new) (K.stream sink.new) (D.state disk.new))) }
+    ensures memory { OnErr result (ServedPartly
+        (setup_with (C.shows clock.old) (with_buffer options.bufsize))
+        (outside_of (S.stream source.old) (K.stream sink.old) (D.state disk.old))
+        (outside_of (S.stream source.new) (K.stream sink.new) (D.state disk.new))) }
 {
     let mut input = match Input::new(alloc) {
         Ok(input) => input,
@@ -147,7 +174,7 @@ pub fn serve<S: Source, K: Sink, D: Disk, C: Clock>(
         disk,
         clock,
     ) {
-        Ok(status) => Ok(status),
+        Ok(ending) => Ok(ending),
         Err(error) => {
             // What was answered before is written also where memory is refused.
             let _ = output.flush(sink);

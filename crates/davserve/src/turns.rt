@@ -1,9 +1,8 @@
 // Steps of the player, a few at a time.
 ghost use Rattle.std.specs.Prelude.{◌≡◌, ◌+◌, ◌<◌, ◌≤◌, ◌^◌, ◌∷◌, [], IfOk, OnOk, OnErr, Ok};
-ghost use Rattle.dav_handler.specs.Player.{playing_of, point_at};
-ghost use Rattle.dav_model.specs.Play.{Played};
-ghost use Rattle.dav_model.specs.Answered.{IsReply};
-ghost use Rattle.davserve.specs.Ends.{RefusedAt};
+ghost use Rattle.dav_handler.specs.Player.{stage_of};
+ghost use Rattle.davserve.specs.Exchange.{IsReply};
+ghost use Rattle.davserve.specs.Stages.{PlayedOn, RefusedAt};
 ghost use Rattle.dav_model.specs.declared.step.Step.TheVariants.{Poll, Purge, Request as Asks, Turn};
 ghost use Rattle.dav_model.specs.declared.answer.Answer.TheVariants.{Done, Reply as Replied};
 
@@ -30,8 +29,10 @@ pub fn poll_turn<D: Disk>(
     requires { player.old.replies + 2 < 2 ^ 32 }
     ensures loan { D.loan player.new.store.disk ≡ D.loan player.old.store.disk }
     ensures replies { OnOk result (player.new.replies ≤ player.old.replies) }
-    ensures played { IfOk result (λ a. Played (point_at player.old) (playing_of player.old) (Turn ∷ Poll body ∷ []) [] (Done ∷ a ∷ []) (Ok tt) (point_at player.new) (playing_of player.new)) }
-    ensures refused { OnErr result (RefusedAt (point_at player.old) (playing_of player.old) (Turn ∷ Poll body ∷ []) (point_at player.new) (playing_of player.new)) }
+    ensures played { IfOk result (λ a. PlayedOn (stage_of player.old)
+        (Turn ∷ Poll body ∷ []) (Done ∷ a ∷ []) (Ok tt) (stage_of player.new)) }
+    ensures refused { OnErr result (RefusedAt (stage_of player.old)
+        (Turn ∷ Poll body ∷ []) (stage_of player.new)) }
 {
     let mut answers = Vec::new(alloc);
     let steps = [Step::Turn, Step::Poll(body)];
@@ -55,8 +56,11 @@ pub fn request_turn<D: Disk>(
     requires { player.old.replies + 3 < 2 ^ 32 }
     ensures loan { D.loan player.new.store.disk ≡ D.loan player.old.store.disk }
     ensures replies { OnOk result (player.new.replies ≤ player.old.replies + 1) }
-    ensures played { IfOk result (λ r. Played (point_at player.old) (playing_of player.old) (Turn ∷ Purge now ∷ Asks request now ∷ []) [] (Done ∷ Done ∷ Replied r.status r.headers r.body ∷ []) (Ok tt) (point_at player.new) (playing_of player.new)) }
-    ensures refused { OnErr result (RefusedAt (point_at player.old) (playing_of player.old) (Turn ∷ Purge now ∷ Asks request now ∷ []) (point_at player.new) (playing_of player.new)) }
+    ensures played { IfOk result (λ r. PlayedOn (stage_of player.old)
+        (Turn ∷ Purge now ∷ Asks request now ∷ []) (Done ∷ Done ∷ Replied r.status r.headers r.body ∷ []) (Ok tt)
+        (stage_of player.new)) }
+    ensures refused { OnErr result (RefusedAt (stage_of player.old)
+        (Turn ∷ Purge now ∷ Asks request now ∷ []) (stage_of player.new)) }
 {
     let mut answers = Vec::new(alloc);
     let steps = [Step::Turn, Step::Purge(now), Step::Request { request, now }];

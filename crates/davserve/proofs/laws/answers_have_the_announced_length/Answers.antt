@@ -1,7 +1,12 @@
 use Rattle.davserve.specs.Exchange.{Exchange}
-use Rattle.davserve.proofs.Giving.{announced_length, announced_none}
-use Rattle.davserve.proofs.Delimiting.{announced_wire, counted_bytes}
+use Rattle.davserve.proofs.ExchangesAreGiven.{announced_length, announced_none}
+use Rattle.davserve.proofs.BodiesAreDelimited.{announced_wire, counted_bytes}
 use Rattle.davserve.proofs.laws.answers_have_the_announced_length.Goals as goal
 
 pub returns : goal.returns
-returns c = record { length = announced_length; none = announced_none; written = announced_wire; counted = λ (x : Exchange). counted_bytes x.pieces }
+returns c = record {
+  length = λ a b x value r. announced_length a b x r value;
+  none = λ a b x r. announced_none a b x r;
+  written = announced_wire;
+  counted = λ (x : Exchange). counted_bytes x.pieces;
+}

@@ -1,6 +1,10 @@
-use Rattle.davserve.proofs.Delimiting.{raw_body}
-use Rattle.davserve.proofs.Nonempty.{nonempty_pieces, read_back}
+use Rattle.davserve.proofs.BodiesAreDelimited.{raw_body}
+use Rattle.davserve.proofs.PiecesAreSome.{nonempty_pieces, read_back}
 use Rattle.davserve.proofs.laws.answers_in_chunks_are_read_back.Goals as goal
 
 pub returns : goal.returns
-returns c = record { chunked = read_back; full = nonempty_pieces; raw = raw_body }
+returns c = record {
+  chunked = λ a b x behind r. read_back a b x behind r;
+  full = λ a b x last r. nonempty_pieces a b x last r;
+  raw = raw_body;
+}

@@ -1,8 +1,9 @@
 use Rattle.std.proofs.Common.{◌≡◌, ◌+◌, ◌-◌, ◌*◌, ◌^◌, length}
-use Rattle.dav_model.specs.Trail.{point_of}
+use Rattle.dav_io.specs.Outside.{Stream}
 use Rattle.davserve.specs.Serving.{setup_with}
+use Rattle.davserve.specs.Stages.{outside_of}
 use Rattle.davserve.specs.Words.{with_buffer}
-use Rattle.davserve.proofs.Served.{Progress}
+use Rattle.davserve.proofs.Progress.{Progress}
 use Rattle.davserve.proofs.serving.answer_all.Given as goal
 
 abbrev pub decreases-requests : goal.decreases-requests
@@ -11,5 +12,9 @@ decreases-requests g l = 2 * (2 ^ 60 - l.input.taken) + length l.input.bytes
 abbrev pub invariant-requests : goal.invariant-requests
 invariant-requests g l = record {
   clock : g.C.Clock.shows l.clock ≡ g.C.Clock.shows l.fn.clock;
-  progress : Progress (setup_with (g.C.Clock.shows l.fn.clock) (with_buffer l.fn.options.bufsize)) (g.S.Source.stream l.fn.source) (g.S.Source.stream l.source) l.input (point_of (g.D.Disk.state l.fn.disk)) (g.K.Sink.stream l.fn.sink) (g.K.Sink.stream l.sink) l.output (point_of (g.D.Disk.state l.disk));
+  progress : Progress (setup_with (g.C.Clock.shows l.fn.clock) (with_buffer l.fn.options.bufsize))
+      (outside_of (g.S.Client.stream l.fn.source) (g.K.Sink.stream l.fn.sink) (g.D.Disk.state l.fn.disk))
+      l.input l.output
+      (outside_of (g.S.Client.stream l.source) (g.K.Sink.stream l.sink) (g.D.Disk.state l.disk));
+  may : (left written : Stream) → g.S.Client.may l.fn.source left written → g.S.Client.may l.source left written;
 }

@@ -1,9 +1,10 @@
 use Rattle.std.proofs.Common.{refl}
-use Rattle.davserve.proofs.Finding.{refuses, refuses_not}
+use Rattle.davserve.specs.declared.ending.Ending.TheVariants.{Refused, SinkFailed}
+use Rattle.davserve.proofs.RunEnds.{refuses, refuses_not}
 use Rattle.davserve.proofs.serving.refuse.Goals as goal
 
 pub returns-in-Ok : goal.returns-in-Ok
-returns-in-Ok g c = rw c.bad_request_text.ensures at (refuses _ _ _ _ _ _ _ c.in-Ok.ensures c.finish.ensures)
+returns-in-Ok g c = rw c.bad_request_text.ensures at (refuses Refused _ c.in-Ok.ensures c.finish.ensures)
 
 pub returns-in-Err : goal.returns-in-Err
-returns-in-Err g c = rw c.bad_request_text.ensures at (refuses_not _ _ _ _ _ _ _ refl c.in-Err.ensures)
+returns-in-Err g c = rw c.bad_request_text.ensures at (refuses_not Refused SinkFailed refl c.in-Err.ensures)

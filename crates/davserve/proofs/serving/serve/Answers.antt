@@ -1,12 +1,11 @@
-use Rattle.davserve.proofs.Served.{none_partly}
-use Rattle.davserve.proofs.Finding.{starved_flushed}
+use Rattle.davserve.proofs.RunEnds.{none_partly, starved_flushed}
 use Rattle.davserve.proofs.serving.serve.Goals as goal
 
 pub returns-in-Err-clause-memory : goal.returns-in-Err-clause-memory
-returns-in-Err-clause-memory g c = none_partly _ _ _ _
+returns-in-Err-clause-memory g c = none_partly _ _
 
 pub returns-in-Err-new-clause-memory : goal.returns-in-Err-new-clause-memory
-returns-in-Err-new-clause-memory g c = none_partly _ _ _ _
+returns-in-Err-new-clause-memory g c = none_partly _ _
 
 pub returns-clause-memory : goal.returns-clause-memory
-returns-clause-memory g c = starved_flushed _ _ _ _ _ _ _ _ _ _ _ c.in-Err-answer_all.ensures.memory c.flush.ensures.pushes c.flush.ensures.emptied
+returns-clause-memory g c = starved_flushed _ _ _ c.in-Err-answer_all.ensures.memory c.flush.ensures.pushes c.flush.ensures.emptied

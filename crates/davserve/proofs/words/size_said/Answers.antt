@@ -1,5 +1,5 @@
 use Rattle.std.proofs.Common.{◌∙◌, length, eqb-true, sym, ap}
-use Rattle.davserve.proofs.Sizes.{empty_says_none, plus_says_none, zeros_say_none, read_says, unread_says_none}
+use Rattle.davserve.proofs.SizesAreSaid.{empty_says_none, plus_says_none, zeros_say_none, read_says, unread_says_none}
 use Rattle.davserve.proofs.words.size_said.Goals as goal
 
 pub returns-then-is_empty : goal.returns-then-is_empty
