@@ -8,9 +8,6 @@ use Rattle.dav_cache.proofs.Keys.{key_decides, key_tells, path_tells, name_decid
 use Rattle.dav_cache.proofs.Lists.{lookup-without_same, lookup-take}
 use Rattle.dav_cache.proofs.Dots.{AllBelow, Falling, below-take, below-without, below-lookup, falling-take, falling-without, lookup-away, lookup-past, lookup-front}
 
-one_if : Bool → ℕ
-one_if b = if b then 1 else 0
-
 pub named-below : (n : ℕ) (es : Dots) → AllBelow n es → named n es ≡ 0
 named-below n [] all = refl
 named-below n (e ∷ es) all =

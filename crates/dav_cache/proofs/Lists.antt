@@ -43,11 +43,6 @@ purged-take is_old (e ∷ es) = by_rest (purged is_old es) (purged-take is_old e
     ]
     by_rest (f ∷ fs) h = (suc h.0, ap (λ l. e ∷ l) h.1)
 
--- a list that is cut to one entry at least
-pub take_max : {A : Type 0} (size : ℕ) (x : A) (xs : List A) → take (max size 1) (x ∷ xs) ≡ x ∷ take (size - 1) xs
-take_max zero x xs = refl
-take_max (suc n) x xs = let m : max (suc n) 1 ≡ suc n = omega arith in let k : suc n - 1 ≡ n = omega arith in rw (m, k) refl
-
 -- ---- a purge that looks from the end
 
 module _ {K X : Type 0} (is_old : X → Bool) where

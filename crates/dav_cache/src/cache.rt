@@ -177,6 +177,3 @@ impl Cache {
         }
     }
 }
-
-#[cfg(test)]
-mod tests;

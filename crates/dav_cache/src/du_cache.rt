@@ -434,6 +434,3 @@ fn put_back(
     }
     Ok(())
 }
-
-#[cfg(test)]
-mod tests;

@@ -1,87 +1,75 @@
-ghost use Rattle.std.specs.Prelude.{◌≡◌, None, IfOk};
-
 use crate::*;
-use dav_core::{Disk, FileTime, FsPath, Kind, Row, Tree};
+use dav_core::{Disk, FileTime, FsPath};
 use dav_disk::MemDisk;
 use dav_io::{Moment, NoMemory, Text};
 use std::alloc::Global;
 use std::process::Abort;
 use std::test::*;
 
-pub mod dice;
-mod rows;
-mod worlds;
-
-/// So many seconds since 1970.
-pub fn at(secs: i64) -> FileTime {
-    FileTime { secs, nanos: 0 }
-}
-
-/// So many milliseconds since 1970.
-pub fn moment(millis: u32) -> Moment {
-    Moment(u64::from(millis) * 1_000_000)
-}
-
-/// A path by its names, which are plain.
-pub fn path(alloc: Global, names: &[&str]) -> Result<FsPath, NoMemory> {
-    let mut all = Vec::new(alloc);
-    for name in names {
-        all.push(Text::copy(alloc, name)?)?;
-    }
-    if FsPath::fits(&all) {
-        Ok(FsPath::new(all))
+/// A path of one plain name.
+fn path(alloc: Global, name: &str) -> Result<FsPath, NoMemory> {
+    let mut names = Vec::new(alloc);
+    names.push(Text::copy(alloc, name)?)?;
+    if FsPath::fits(&names) {
+        Ok(FsPath::new(names))
     } else {
         Err(NoMemory)
     }
 }
 
-pub fn dir_key(alloc: Global, dir: &str) -> Result<DuKey, NoMemory>
-    ensures { IfOk result (λ key. key.name ≡ None) }
-{
-    Ok(DuKey {
-        dir: path(alloc, &[dir])?,
-        name: None,
-    })
-}
-
-pub fn name_key(alloc: Global, dir: &str, name: &str) -> Result<DuKey, NoMemory> {
-    Ok(DuKey {
-        dir: path(alloc, &[dir])?,
-        name: Some(Text::copy(alloc, name)?),
-    })
-}
-
-/// The names with which a directory may be sealed.
-pub fn names(alloc: Global, names: &[&str]) -> Result<Vec<Text>, NoMemory> {
-    let mut all = Vec::new(alloc);
-    for name in names {
-        all.push(Text::copy(alloc, name)?)?;
-    }
-    Ok(all)
-}
-
-/// Adds a directory of 1 s, where it can be.
-pub fn add_dir(disk: &mut MemDisk, dir: &FsPath, number: u64) -> Result<(), NoMemory> {
-    let time = at(1);
-    if disk.can_add(dir, number, time) {
-        disk.add_dir(dir, number, time)?;
-    }
-    Ok(())
-}
-
-/// Adds a file of 1 s, where it can be.
-pub fn add_file(disk: &mut MemDisk, file: &FsPath, number: u64) -> Result<(), NoMemory> {
-    let time = at(1);
-    if disk.can_add(file, number, time) {
-        disk.add_file(file, number, time, b"x")?;
-    }
-    Ok(())
-}
-
-/// A disk with the directory `/d` of 1 s and the file `/d/f.txt`.
-pub fn disk(alloc: Global) -> Result<MemDisk, NoMemory> {
+/// A disk with the directory `/d`.
+fn disk(alloc: Global) -> Result<MemDisk, NoMemory> {
     let mut disk = MemDisk::new(alloc)?;
-    add_dir(&mut disk, &path(alloc, &["d"])?, 2)?;
-    add_file(&mut disk, &path(alloc, &["d", "f.txt"])?, 3)?;
+    let dir = path(alloc, "d")?;
+    let time = FileTime { secs: 1, nanos: 0 };
+    if disk.can_add(&dir, 2, time) {
+        disk.add_dir(&dir, 2, time)?;
+    }
     Ok(disk)
+}
+
+#[test]
+fn listings_are_gathered_and_sealed(rt: HostRuntime) -> Result<(), Fail> {
+    let alloc = rt.alloc();
+    let mut disk = disk(alloc)?;
+    let mut memory = Owned::new(alloc, 2, 9)?;
+    let dir = path(alloc, "d")?;
+    let mut builder = DUCacheBuilder::start(alloc, dir.try_clone()?, &mut disk);
+    for name in ["._b", "f.txt", "._a", "._b", "."] {
+        builder.add(name)?;
+    }
+    builder.finish(&mut disk, &mut memory, Moment(0))?;
+    builder.finish(&mut disk, &mut memory, Moment(0))?;
+    assert_eq!(rt; disk.asked(), 2);
+    assert_eq!(rt; memory.dots().len(), 3);
+    for (name, absent) in [("._a", false), ("._b", false), ("._c", true)] {
+        let denied = memory.negative(alloc, &dir, &Text::copy(alloc, name)?, &mut disk)?;
+        assert_eq!(rt; denied, absent, "of {name}");
+    }
+    assert_eq!(rt; disk.asked(), 5);
+    Ok(())
+}
+
+/// Whether the memory finds `/d` after it was put, and how many calls the disk was asked.
+fn finds<R: Remember>(
+    memory: &mut R,
+    alloc: Global,
+    disk: &mut MemDisk,
+) -> Result<(bool, u64), NoMemory> {
+    let before = disk.asked();
+    memory.insert(alloc, &path(alloc, "d")?, Moment(0))?;
+    let found = memory.get(alloc, &path(alloc, "D")?, disk)?.is_some();
+    Ok((found, disk.asked().wrapping_sub(before)))
+}
+
+#[test]
+fn paths_are_remembered(rt: HostRuntime) -> Result<(), Fail> {
+    let alloc = rt.alloc();
+    let mut disk = disk(alloc)?;
+    let mut memory = Owned::new(alloc, 2, 9)?;
+    assert_eq!(rt; finds(&mut memory, alloc, &mut disk)?, (true, 1));
+    assert_eq!(rt; finds(&mut Forget, alloc, &mut disk)?, (false, 0));
+    memory.purge(Moment(900_000_000_000));
+    assert!(rt; memory.paths().is_empty());
+    Ok(())
 }

@@ -1,6 +1,8 @@
 pub mod Pairs
 pub mod Forests
 pub mod Events
+pub mod EventsTellForests
+pub mod ForestCodes
 pub mod Trees
-pub mod Heights
+pub mod NodesAreLower
 pub mod Tokens

@@ -38,7 +38,7 @@ pub struct Nodes {
 
 impl Model for Nodes {
     ghost use Rattle.dav_lock.specs.Forests.{Forest, height};
-    ghost use Rattle.dav_lock.specs.Events.{forest_code};
+    ghost use Rattle.dav_lock.specs.ForestCodes.{forest_code};
 
     ghost Value = { Forest };
 
@@ -50,7 +50,7 @@ impl Model for Nodes {
 
     ghost size = { height };
 
-    ghost use Rattle.dav_lock.specs.Heights.{below_height};
+    ghost use Rattle.dav_lock.specs.NodesAreLower.{below_height};
 
     ghost size_decreases = { λ a h. below_height a.nodes.items };
 }
@@ -59,6 +59,7 @@ impl Nodes {
     ghost use Rattle.dav_lock.specs.Trees.{forest_of, tree_of};
     ghost use Rattle.dav_lock.specs.Forests.{bare, then, joined};
 
+    /// These nodes, in this order.
     pub fn new(nodes: Vec<XmlNode>) -> Self
         ensures { result ≡ forest_of nodes.items }
     {
@@ -97,6 +98,7 @@ impl Nodes {
         Ok(())
     }
 
+    /// Equal nodes. They may be refused for want of memory.
     #[cycle(copies)]
     pub fn try_clone(&self) -> Result<Self, NoMemory>
         ensures { IfOk result (λ copy. copy ≡ self.now) }
@@ -113,6 +115,7 @@ impl Nodes {
 impl XmlNode {
     ghost use Rattle.dav_lock.specs.Trees.{tree_of};
 
+    /// An equal node. It may be refused for want of memory.
     #[cycle(copies)]
     pub fn try_clone(&self) -> Result<Self, NoMemory>
         ensures { IfOk result (λ copy. copy ≡ self.now) }
@@ -155,6 +158,7 @@ impl Element {
         }
     }
 
+    /// An equal element. It may be refused for want of memory.
     #[cycle(copies)]
     pub fn try_clone(&self) -> Result<Self, NoMemory>
         ensures { IfOk result (λ copy. copy ≡ self.now) }
@@ -176,8 +180,8 @@ impl Element {
     }
 }
 
-/// A copy of a text, where there is one.
-pub(crate) fn copy_text(text: &Option<Text>) -> Result<Option<Text>, NoMemory>
+/// An equal text, where there is one. It may be refused for want of memory.
+pub fn copy_text(text: &Option<Text>) -> Result<Option<Text>, NoMemory>
     ensures { IfOk result (λ copy. copy ≡ text.now) }
 {
     match text {

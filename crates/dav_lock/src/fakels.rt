@@ -54,6 +54,7 @@ pub trait DavLockSystem {
 pub struct FakeLs;
 
 impl FakeLs {
+    /// The lock system. It holds nothing.
     pub fn new() -> FakeLs {
         FakeLs
     }

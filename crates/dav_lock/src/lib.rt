@@ -9,7 +9,7 @@ mod locks;
 mod pairs;
 mod token;
 
-pub use element::{Element, Nodes, XmlNode};
+pub use element::{Element, Nodes, XmlNode, copy_text};
 pub use fakels::{DavLockSystem, FakeLs};
 pub use lease::{Lease, end_of, grant};
 pub use lock::{DavLock, LockError};

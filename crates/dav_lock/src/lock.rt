@@ -1,7 +1,6 @@
 ghost use Rattle.std.specs.Prelude.{◌≡◌, IfOk};
 
-use crate::element::copy_text;
-use crate::{Element, Lease};
+use crate::{Element, Lease, copy_text};
 use dav_core::DavPath;
 use dav_io::{Moment, NoMemory, Text};
 use thiserror::Error;
@@ -9,6 +8,7 @@ use thiserror::Error;
 /// Why a lock system refused a call.
 #[derive(Debug, Drop, PartialEq, Error)]
 pub enum LockError {
+    /// Memory was refused.
     #[error("out of memory")]
     NoMemory,
 }
@@ -34,6 +34,7 @@ pub struct DavLock {
 }
 
 impl DavLock {
+    /// An equal lock. It may be refused for want of memory.
     pub fn try_clone(&self) -> Result<Self, NoMemory>
         ensures { IfOk result (λ copy. copy ≡ self.now) }
     {

@@ -15,7 +15,7 @@ impl Model for Locks {
     ghost use Rattle.std.specs.Prelude.{List};
     ghost use Rattle.dav_lock.specs.declared.lock.DavLock.{DavLock};
     ghost use Rattle.std.specs.Coded.{codes};
-    ghost use Rattle.dav_lock.specs.Events.{forest_code};
+    ghost use Rattle.dav_lock.specs.ForestCodes.{forest_code};
 
     ghost Value = { List DavLock };
 
@@ -25,18 +25,21 @@ impl Model for Locks {
 }
 
 impl Locks {
+    /// These locks, in this order.
     pub fn new(locks: Vec<DavLock>) -> Self
         ensures { result ≡ locks.items }
     {
         Locks { locks }
     }
 
+    /// The locks in their order.
     pub fn as_slice(&self) -> &[DavLock]
         ensures { result.now ≡ self.now }
     {
         self.locks.as_slice()
     }
 
+    /// An equal list of equal locks. It may be refused for want of memory.
     pub fn try_clone(&self) -> Result<Self, NoMemory>
         ensures { IfOk result (λ copy. copy ≡ self.now) }
     {

@@ -23,6 +23,7 @@ impl Model for Pairs {
 }
 
 impl Pairs {
+    /// The pairs of a map.
     pub fn new(pairs: BTreeMap<Text, Text>) -> Self
         ensures { result ≡ pairs.entries }
     {
@@ -66,6 +67,7 @@ impl Pairs {
         Ok(())
     }
 
+    /// An equal list of pairs. It may be refused for want of memory.
     pub fn try_clone(&self) -> Result<Self, NoMemory>
         ensures { IfOk result (λ copy. copy ≡ self.now) }
     {

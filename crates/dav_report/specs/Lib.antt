@@ -1,8 +1,10 @@
 pub mod ComponentNames
 pub mod Filters
 pub mod FilterEvents
+pub mod EventsTellFilters
+pub mod FilterCodes
 pub mod FilterLists
-pub mod FilterDepths
+pub mod FiltersAreLower
 pub mod Children
 pub mod Requests
 pub mod Calendars

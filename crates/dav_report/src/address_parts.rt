@@ -1,58 +1,48 @@
 //! Reading an address book request.
-ghost use Rattle.std.specs.Prelude.{◌≡◌, IfOk, option_map, option_copied};
+ghost use Rattle.std.specs.Prelude.{◌≡◌, IfOk, option_copied};
 ghost use Rattle.std.specs.Option.{option_and_then};
-ghost use Rattle.std.specs.List.{flat_map};
 ghost use Rattle.dav_report.specs.Children.{last_of};
 ghost use Rattle.dav_report.specs.Requests.{number};
-ghost use Rattle.dav_report.specs.AddressBooks.{property_filter, outer_filters, all_filters, counts, all_counts, address_query};
+ghost use Rattle.dav_report.specs.AddressBooks.{property_filter, outer_filters, counts, all_counts, address_query};
 
 use crate::carddav::{AddressBookQuery, PropertyFilter};
 use crate::children::{copy_attribute, element_named, first_text, has_named};
-use crate::filter_parts::{later, read_last_match, read_parameters, read_properties};
+use crate::filter_parts::{
+    FromElement, Outer, kept_filter, read_each, read_last_match, read_parameters, read_properties,
+};
 use dav_io::{NoMemory, Text};
 use dav_lock::{Element, Nodes};
 use std::alloc::Global;
 
-/// The filter of a property, or nothing where one is at fault.
-fn read_property(alloc: Global, element: &Element) -> Result<Option<PropertyFilter>, NoMemory>
-    ensures { IfOk result (λ read. read ≡ property_filter element.now) }
-{
-    let name = match copy_attribute(element, "name")? {
-        Some(name) => name,
-        None => return Ok(None),
-    };
-    let param_filters = match read_parameters(alloc, &element.children)? {
-        Some(filters) => filters,
-        None => return Ok(None),
-    };
-    let is_not_defined = has_named(&element.children, "is-not-defined");
-    let text_match = read_last_match(alloc, &element.children)?;
-    Ok(Some(PropertyFilter {
-        name,
-        is_not_defined,
-        text_match,
-        param_filters,
-    }))
-}
+impl FromElement for PropertyFilter {
+    ghost asked = { property_filter };
 
-/// The filters of properties, or nothing where one is at fault.
-fn read_filters(alloc: Global, children: &Nodes) -> Result<Option<Vec<PropertyFilter>>, NoMemory>
-    ensures { IfOk result
-        (λ read. option_map (λ filters. filters.items) read ≡ outer_filters children.now) }
-{
-    let mut filters = Vec::new(alloc);
-    for node in children.as_slice() {
-        let element = match element_named(node, "prop-filter") {
-            Some(element) => element,
-            None => continue,
-        };
-        let filter = match read_property(alloc, element)? {
-            Some(filter) => filter,
+    fn read(alloc: Global, element: &Element) -> Result<Option<Self>, NoMemory> {
+        let name = match copy_attribute(element, "name")? {
+            Some(name) => name,
             None => return Ok(None),
         };
-        filters.push(filter)?;
+        let param_filters = match read_parameters(alloc, &element.children)? {
+            Some(filters) => filters,
+            None => return Ok(None),
+        };
+        let is_not_defined = has_named(&element.children, "is-not-defined");
+        let text_match = read_last_match(alloc, &element.children)?;
+        Ok(Some(PropertyFilter {
+            name,
+            is_not_defined,
+            text_match,
+            param_filters,
+        }))
     }
-    Ok(Some(filters))
+}
+
+impl Outer for PropertyFilter {
+    ghost outer = { outer_filters };
+
+    fn read_all(alloc: Global, children: &Nodes) -> Result<Option<Vec<Self>>, NoMemory> {
+        read_each(alloc, children, "prop-filter")
+    }
 }
 
 /// The first text of the last `nresults` that has one.
@@ -107,27 +97,6 @@ fn read_limit(children: &Nodes) -> Option<u32>
         Some(text) => read_number(text),
         None => None,
     }
-}
-
-/// The filter that a query keeps, which is the last; or nothing where any is at fault.
-fn kept_filter(alloc: Global, children: &Nodes) -> Result<Option<Option<PropertyFilter>>, NoMemory>
-    ensures { IfOk result
-        (λ read. read
-        ≡ option_map (λ filters. last_of (flat_map (λ fs. fs) filters)) (all_filters children.now)) }
-{
-    let mut kept = None;
-    for node in children.as_slice() {
-        let element = match element_named(node, "filter") {
-            Some(element) => element,
-            None => continue,
-        };
-        let filters = match read_filters(alloc, &element.children)? {
-            Some(filters) => filters,
-            None => return Ok(None),
-        };
-        kept = later(kept, filters);
-    }
-    Ok(Some(kept))
 }
 
 /// What a query asks for, or nothing where a filter is at fault.

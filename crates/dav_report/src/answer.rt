@@ -18,6 +18,7 @@ pub struct Record {
 }
 
 impl Record {
+    /// An equal record. It may be refused for want of memory.
     pub fn try_clone(&self) -> Result<Self, NoMemory>
         ensures { IfOk result (λ copy. copy ≡ self.now) }
     {
@@ -44,6 +45,7 @@ impl Model for Records {
 }
 
 impl Records {
+    /// These resources, in this order.
     pub fn new(records: Vec<Record>) -> Self
         ensures { result ≡ records.items }
     {
@@ -59,6 +61,7 @@ impl Records {
         }
     }
 
+    /// The resources in their order.
     pub fn as_slice(&self) -> &[Record]
         ensures { result.now ≡ self.now }
     {
@@ -74,6 +77,7 @@ impl Records {
         Ok(())
     }
 
+    /// An equal list of records. It may be refused for want of memory.
     pub fn try_clone(&self) -> Result<Self, NoMemory>
         ensures { IfOk result (λ copy. copy ≡ self.now) }
     {
@@ -94,6 +98,7 @@ pub struct Report {
 }
 
 impl Report {
+    /// An equal report. It may be refused for want of memory.
     pub fn try_clone(&self) -> Result<Self, NoMemory>
         ensures { IfOk result (λ copy. copy ≡ self.now) }
     {

@@ -23,11 +23,13 @@ pub const NS_CALDAV_URI: &str = "urn:ietf:params:xml:ns:caldav";
 /// The namespace of the calendar server extensions.
 pub const NS_CALENDARSERVER_URI: &str = "http://calendarserver.org/ns/";
 
-/// The directory of calendars by its name, its path, and its path with a final slash.
+/// The name of the directory of calendars.
 pub const DEFAULT_CALDAV_NAME: &str = "calendars";
 
+/// The path of the directory of calendars.
 pub const DEFAULT_CALDAV_DIRECTORY: &str = "/calendars";
 
+/// The path of the directory of calendars, with a final slash.
 pub const DEFAULT_CALDAV_DIRECTORY_ENDSLASH: &str = "/calendars/";
 
 /// The properties of a calendar collection (RFC 4791 sections 5.2 and 6.2, RFC 6638 sections 2.1.1, 2.2.1 and 2.4.1).

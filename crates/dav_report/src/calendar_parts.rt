@@ -1,15 +1,15 @@
 //! Reading a calendar request.
 ghost use Rattle.std.specs.Prelude.{◌≡◌, IfOk, option_map};
-ghost use Rattle.std.specs.List.{flat_map};
-ghost use Rattle.dav_report.specs.Children.{last_of};
-ghost use Rattle.dav_report.specs.Calendars.{time_range, last_range, property_filter, property_filters, component_filter, outer_filters, all_filters, calendar_query, free_busy};
+ghost use Rattle.dav_report.specs.Calendars.{time_range, last_range, property_filter, property_filters, component_filter, outer_filters, calendar_query, free_busy};
 
 use crate::ParameterFilters;
 use crate::caldav::{
     CalendarQuery, ComponentFilter, ComponentFilters, PropertyFilter, PropertyFilters, TimeRange,
 };
 use crate::children::{copy_attribute, element_named, first_named, has_named, last_named};
-use crate::filter_parts::{later, read_last_match, read_properties};
+use crate::filter_parts::{
+    FromElement, Outer, kept_filter, read_each, read_last_match, read_properties,
+};
 use dav_io::NoMemory;
 use dav_lock::{Element, Nodes};
 use std::alloc::Global;
@@ -42,24 +42,25 @@ pub(crate) fn read_free_busy(children: &Nodes) -> Result<Option<TimeRange>, NoMe
     }
 }
 
-/// The filter of a property, or nothing where it has no name.
-fn read_property(alloc: Global, element: &Element) -> Result<Option<PropertyFilter>, NoMemory>
-    ensures { IfOk result (λ read. read ≡ property_filter element.now) }
-{
-    match copy_attribute(element, "name")? {
-        Some(name) => {
-            let is_not_defined = has_named(&element.children, "is-not-defined");
-            let text_match = read_last_match(alloc, &element.children)?;
-            let time_range = read_last_range(&element.children)?;
-            Ok(Some(PropertyFilter {
-                name,
-                is_not_defined,
-                text_match,
-                time_range,
-                param_filters: ParameterFilters::empty(alloc),
-            }))
+impl FromElement for PropertyFilter {
+    ghost asked = { property_filter };
+
+    fn read(alloc: Global, element: &Element) -> Result<Option<Self>, NoMemory> {
+        match copy_attribute(element, "name")? {
+            Some(name) => {
+                let is_not_defined = has_named(&element.children, "is-not-defined");
+                let text_match = read_last_match(alloc, &element.children)?;
+                let time_range = read_last_range(&element.children)?;
+                Ok(Some(PropertyFilter {
+                    name,
+                    is_not_defined,
+                    text_match,
+                    time_range,
+                    param_filters: ParameterFilters::empty(alloc),
+                }))
+            }
+            None => Ok(None),
         }
-        None => Ok(None),
     }
 }
 
@@ -70,19 +71,10 @@ fn read_property_filters(
 ) -> Result<Option<PropertyFilters>, NoMemory>
     ensures { IfOk result (λ read. read ≡ property_filters children.now) }
 {
-    let mut filters = PropertyFilters::empty(alloc);
-    for node in children.as_slice() {
-        let element = match element_named(node, "prop-filter") {
-            Some(element) => element,
-            None => continue,
-        };
-        let filter = match read_property(alloc, element)? {
-            Some(filter) => filter,
-            None => return Ok(None),
-        };
-        filters.push(filter)?;
+    match read_each(alloc, children, "prop-filter")? {
+        Some(filters) => Ok(Some(PropertyFilters::new(filters))),
+        None => Ok(None),
     }
-    Ok(Some(filters))
 }
 
 /// The filter of a component with those in it, or nothing where one is at fault.
@@ -137,25 +129,12 @@ fn read_components(
     Ok(Some(filters))
 }
 
-/// The filter that a query keeps, which is the last; or nothing where any is at fault.
-fn kept_filter(alloc: Global, children: &Nodes) -> Result<Option<Option<ComponentFilter>>, NoMemory>
-    ensures { IfOk result
-        (λ read. read
-        ≡ option_map (λ filters. last_of (flat_map (λ fs. fs) filters)) (all_filters children.now)) }
-{
-    let mut kept = None;
-    for node in children.as_slice() {
-        let element = match element_named(node, "filter") {
-            Some(element) => element,
-            None => continue,
-        };
-        let filters = match read_components(alloc, &element.children)? {
-            Some(filters) => filters,
-            None => return Ok(None),
-        };
-        kept = later(kept, filters);
+impl Outer for ComponentFilter {
+    ghost outer = { outer_filters };
+
+    fn read_all(alloc: Global, children: &Nodes) -> Result<Option<Vec<Self>>, NoMemory> {
+        read_components(alloc, children)
     }
-    Ok(Some(kept))
 }
 
 /// What a query asks for, or nothing where a filter is at fault.

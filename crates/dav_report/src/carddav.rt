@@ -12,11 +12,13 @@ pub use query::{AddressBookQuery, CardDavReportType};
 /// The namespace of address book elements (RFC 6352 section 4).
 pub const NS_CARDDAV_URI: &str = "urn:ietf:params:xml:ns:carddav";
 
-/// The directory of address books by its name, its path, and its path with a final slash.
+/// The name of the directory of address books.
 pub const DEFAULT_CARDDAV_NAME: &str = "addressbooks";
 
+/// The path of the directory of address books.
 pub const DEFAULT_CARDDAV_DIRECTORY: &str = "/addressbooks";
 
+/// The path of the directory of address books, with a final slash.
 pub const DEFAULT_CARDDAV_DIRECTORY_ENDSLASH: &str = "/addressbooks/";
 
 /// The greatest size of a resource in an address book, in bytes.

@@ -16,6 +16,7 @@ pub enum ReportError {
     /// The store refused a listing or a file.
     #[error("the store refused a call")]
     Fs(FsError),
+    /// Memory was refused.
     #[error("out of memory")]
     NoMemory,
 }

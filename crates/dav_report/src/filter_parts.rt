@@ -1,7 +1,10 @@
 //! Reading what calendar and address book filters share.
-ghost use Rattle.std.specs.Prelude.{◌≡◌, ◌++◌, IfOk, OnOk, codes, map};
-ghost use Rattle.dav_report.specs.Children.{attribute, elements, texts, last_of};
+ghost use Rattle.std.specs.Prelude.{◌≡◌, ◌++◌, IfOk, List, OnOk, Option, codes, map, option_map};
+ghost use Rattle.std.specs.List.{flat_map};
 ghost use Rattle.std.specs.Option.{option_or};
+ghost use Rattle.dav_lock.specs.Forests.{Forest};
+ghost use Rattle.dav_lock.specs.declared.element.Element.{Element as ElementValue};
+ghost use Rattle.dav_report.specs.Children.{attribute, each, elements, named, texts, last_of};
 ghost use Rattle.dav_report.specs.Requests.{is_yes, text_match, last_match, parameter_filter, parameter_filters, properties, hrefs};
 
 use crate::children::{
@@ -54,21 +57,91 @@ pub(crate) fn read_last_match(
     }
 }
 
-/// The filter of a parameter, or nothing where it has no name.
-fn read_parameter(alloc: Global, element: &Element) -> Result<Option<ParameterFilter>, NoMemory>
-    ensures { IfOk result (λ read. read ≡ parameter_filter element.now) }
+/// A filter that an element stands for, unless it is at fault.
+pub(crate) trait FromElement: Sized + Drop {
+    /// The filter, or nothing where it is at fault.
+    ghost asked: { ElementValue → Option Self };
+
+    fn read(alloc: Global, element: &Element) -> Result<Option<Self>, NoMemory>
+        ensures { IfOk result (λ read. read ≡ asked element.now) };
+}
+
+/// The filter of each element of this name, or nothing where one is at fault.
+pub(crate) fn read_each<F: FromElement>(
+    alloc: Global,
+    children: &Nodes,
+    name: &str,
+) -> Result<Option<Vec<F>>, NoMemory>
+    ensures { IfOk result
+        (λ read. option_map (λ filters. filters.items) read
+        ≡ each F.asked (named name.now children.now)) }
 {
-    match copy_attribute(element, "name")? {
-        Some(name) => {
-            let is_not_defined = has_named(&element.children, "is-not-defined");
-            let text_match = read_last_match(alloc, &element.children)?;
-            Ok(Some(ParameterFilter {
-                name,
-                is_not_defined,
-                text_match,
-            }))
+    let mut filters = Vec::new(alloc);
+    for node in children.as_slice() {
+        let element = match element_named(node, name) {
+            Some(element) => element,
+            None => continue,
+        };
+        let filter = match F::read(alloc, element)? {
+            Some(filter) => filter,
+            None => return Ok(None),
+        };
+        filters.push(filter)?;
+    }
+    Ok(Some(filters))
+}
+
+/// A filter of the kind that a query keeps, and those that a `filter` stands for.
+pub(crate) trait Outer: Sized + Drop {
+    /// The filters, or nothing where one is at fault.
+    ghost outer: { Forest → Option (List Self) };
+
+    fn read_all(alloc: Global, children: &Nodes) -> Result<Option<Vec<Self>>, NoMemory>
+        ensures { IfOk result
+            (λ read. option_map (λ filters. filters.items) read ≡ outer children.now) };
+}
+
+/// The filter that a query keeps, which is the last; or nothing where any is at fault.
+pub(crate) fn kept_filter<F: Outer>(
+    alloc: Global,
+    children: &Nodes,
+) -> Result<Option<Option<F>>, NoMemory>
+    ensures { IfOk result
+        (λ read. read
+        ≡ option_map (λ filters. last_of (flat_map (λ fs. fs) filters))
+        (each (λ f. F.outer f.children) (named (codes "filter") children.now))) }
+{
+    let mut kept = None;
+    for node in children.as_slice() {
+        let element = match element_named(node, "filter") {
+            Some(element) => element,
+            None => continue,
+        };
+        let filters = match F::read_all(alloc, &element.children)? {
+            Some(filters) => filters,
+            None => return Ok(None),
+        };
+        kept = later(kept, filters);
+    }
+    Ok(Some(kept))
+}
+
+impl FromElement for ParameterFilter {
+    ghost asked = { parameter_filter };
+
+    fn read(alloc: Global, element: &Element) -> Result<Option<Self>, NoMemory> {
+        match copy_attribute(element, "name")? {
+            Some(name) => {
+                let is_not_defined = has_named(&element.children, "is-not-defined");
+                let text_match = read_last_match(alloc, &element.children)?;
+                Ok(Some(ParameterFilter {
+                    name,
+                    is_not_defined,
+                    text_match,
+                }))
+            }
+            None => Ok(None),
         }
-        None => Ok(None),
     }
 }
 
@@ -79,19 +152,10 @@ pub(crate) fn read_parameters(
 ) -> Result<Option<ParameterFilters>, NoMemory>
     ensures { IfOk result (λ read. read ≡ parameter_filters children.now) }
 {
-    let mut filters = ParameterFilters::empty(alloc);
-    for node in children.as_slice() {
-        let element = match element_named(node, "param-filter") {
-            Some(element) => element,
-            None => continue,
-        };
-        let filter = match read_parameter(alloc, element)? {
-            Some(filter) => filter,
-            None => return Ok(None),
-        };
-        filters.push(filter)?;
+    match read_each(alloc, children, "param-filter")? {
+        Some(filters) => Ok(Some(ParameterFilters::new(filters))),
+        None => Ok(None),
     }
-    Ok(Some(filters))
 }
 
 /// Adds the names of the elements.
@@ -153,7 +217,7 @@ pub(crate) fn read_links(alloc: Global, children: &Nodes) -> Result<Names, NoMem
 }
 
 /// The last of the newer ones, or else the one that was kept.
-pub(crate) fn later<T: Drop>(kept: Option<T>, mut newer: Vec<T>) -> Option<T>
+fn later<T: Drop>(kept: Option<T>, mut newer: Vec<T>) -> Option<T>
     ensures { result ≡ option_or (last_of newer.items) kept }
 {
     match newer.pop() {

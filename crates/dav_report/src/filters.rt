@@ -1,8 +1,8 @@
 //! What calendar and address book filters share.
 ghost use Rattle.std.specs.Prelude.{◌≡◌, [], ◌∷◌, ◌++◌, IfOk, OnOk, OnErr, false};
 
-use crate::names::copy_text;
 use dav_io::{NoMemory, Text};
+use dav_lock::copy_text;
 use std::alloc::Global;
 use std::marker::Model;
 
@@ -32,6 +32,7 @@ impl TextMatch {
         })
     }
 
+    /// An equal comparison. It may be refused for want of memory.
     pub fn try_clone(&self) -> Result<Self, NoMemory>
         ensures { IfOk result (λ copy. copy ≡ self.now) }
     {
@@ -79,6 +80,7 @@ impl ParameterFilter {
         })
     }
 
+    /// An equal filter. It may be refused for want of memory.
     pub fn try_clone(&self) -> Result<Self, NoMemory>
         ensures { IfOk result (λ copy. copy ≡ self.now) }
     {
@@ -108,6 +110,7 @@ impl Model for ParameterFilters {
 }
 
 impl ParameterFilters {
+    /// These filters, in this order.
     pub fn new(filters: Vec<ParameterFilter>) -> Self
         ensures { result ≡ filters.items }
     {
@@ -123,6 +126,7 @@ impl ParameterFilters {
         }
     }
 
+    /// The filters in their order.
     pub fn as_slice(&self) -> &[ParameterFilter]
         ensures { result.now ≡ self.now }
     {
@@ -138,6 +142,7 @@ impl ParameterFilters {
         Ok(())
     }
 
+    /// An equal list of filters. It may be refused for want of memory.
     pub fn try_clone(&self) -> Result<Self, NoMemory>
         ensures { IfOk result (λ copy. copy ≡ self.now) }
     {

@@ -19,6 +19,7 @@ impl Model for Names {
 }
 
 impl Names {
+    /// These names, in this order.
     pub fn new(names: Vec<Text>) -> Self
         ensures { result ≡ names.items }
     {
@@ -34,6 +35,7 @@ impl Names {
         }
     }
 
+    /// The names in their order.
     pub fn as_slice(&self) -> &[Text]
         ensures { result.now ≡ self.now }
     {
@@ -49,6 +51,7 @@ impl Names {
         Ok(())
     }
 
+    /// An equal list of names. It may be refused for want of memory.
     pub fn try_clone(&self) -> Result<Self, NoMemory>
         ensures { IfOk result (λ copy. copy ≡ self.now) }
     {
@@ -58,16 +61,6 @@ impl Names {
             names.push(name.try_clone()?)?;
         }
         Ok(Names { names })
-    }
-}
-
-/// A copy of a text, where there is one.
-pub(crate) fn copy_text(text: &Option<Text>) -> Result<Option<Text>, NoMemory>
-    ensures { IfOk result (λ copy. copy ≡ text.now) }
-{
-    match text {
-        None => Ok(None),
-        Some(text) => Ok(Some(text.try_clone()?)),
     }
 }
 

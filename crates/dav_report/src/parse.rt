@@ -45,8 +45,8 @@ pub fn parse_calendar_report(alloc: Global, root: &Element) -> Result<CalDavRepo
     Err(ReportError::BadRequest)
 }
 
-/// The address book report that this element asks for (RFC 6352 sections 8.6 and 8.7). It is `BadRequest` for an element
-/// of another name, and for a filter without a name.
+/// The address book report that this element asks for (RFC 6352 sections 8.6 and 8.7). It is `BadRequest` for an
+/// element of another name, and for a filter without a name.
 pub fn parse_addressbook_report(
     alloc: Global,
     root: &Element,

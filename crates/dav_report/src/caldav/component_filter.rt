@@ -25,7 +25,7 @@ pub struct ComponentFilters {
 
 impl Model for ComponentFilters {
     ghost use Rattle.dav_report.specs.Filters.{Filters, filters_depth};
-    ghost use Rattle.dav_report.specs.FilterEvents.{filters_code};
+    ghost use Rattle.dav_report.specs.FilterCodes.{filters_code};
 
     ghost Value = { Filters };
 
@@ -37,7 +37,7 @@ impl Model for ComponentFilters {
 
     ghost size = { filters_depth };
 
-    ghost use Rattle.dav_report.specs.FilterDepths.{below_depth};
+    ghost use Rattle.dav_report.specs.FiltersAreLower.{below_depth};
 
     ghost size_decreases = { λ a h. below_depth a.filters.items };
 }
@@ -47,6 +47,7 @@ impl ComponentFilters {
     ghost use Rattle.dav_report.specs.Filters.{no_filters, joined};
     ghost use Rattle.dav_report.specs.FilterLists.{filters_of};
 
+    /// These filters, in this order.
     pub fn new(filters: Vec<ComponentFilter>) -> Self
         ensures { result ≡ filters_of filters.items }
     {
@@ -62,6 +63,7 @@ impl ComponentFilters {
         }
     }
 
+    /// The filters in their order.
     pub fn as_slice(&self) -> &[ComponentFilter]
         ensures { filters_of result.now ≡ self.now }
     {
@@ -84,6 +86,7 @@ impl ComponentFilters {
         Ok(())
     }
 
+    /// Equal filters, with those in them. It may be refused for want of memory.
     #[cycle(copies)]
     pub fn try_clone(&self) -> Result<Self, NoMemory>
         ensures { IfOk result (λ copy. copy ≡ self.now) }
@@ -100,6 +103,7 @@ impl ComponentFilters {
 impl ComponentFilter {
     ghost use Rattle.std.specs.Prelude.{◌≡◌, IfOk};
 
+    /// An equal filter, with those in it. It may be refused for want of memory.
     #[cycle(copies)]
     pub fn try_clone(&self) -> Result<Self, NoMemory>
         ensures { IfOk result (λ copy. copy ≡ self.now) }

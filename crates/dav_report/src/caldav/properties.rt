@@ -1,8 +1,8 @@
 ghost use Rattle.std.specs.Prelude.{◌≡◌, [], ◌∷◌, IfOk};
 
 use super::CalendarComponentType;
-use crate::names::copy_text;
 use dav_io::{NoMemory, Text};
+use dav_lock::copy_text;
 use std::alloc::Global;
 use std::marker::Model;
 
@@ -22,18 +22,21 @@ impl Model for ComponentTypes {
 }
 
 impl ComponentTypes {
+    /// These kinds, in this order.
     pub fn new(kinds: Vec<CalendarComponentType>) -> Self
         ensures { result ≡ kinds.items }
     {
         ComponentTypes { kinds }
     }
 
+    /// The kinds in their order.
     pub fn as_slice(&self) -> &[CalendarComponentType]
         ensures { result.now ≡ self.now }
     {
         self.kinds.as_slice()
     }
 
+    /// An equal list of kinds. It may be refused for want of memory.
     pub fn try_clone(&self) -> Result<Self, NoMemory>
         ensures { IfOk result (λ copy. copy ≡ self.now) }
     {
@@ -89,6 +92,7 @@ impl CalendarProperties {
         })
     }
 
+    /// Equal properties. It may be refused for want of memory.
     pub fn try_clone(&self) -> Result<Self, NoMemory>
         ensures { IfOk result (λ copy. copy ≡ self.now) }
     {

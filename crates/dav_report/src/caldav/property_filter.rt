@@ -1,9 +1,9 @@
 ghost use Rattle.std.specs.Prelude.{◌≡◌, [], ◌∷◌, ◌++◌, IfOk, OnOk, OnErr};
 
 use crate::filters::copy_match;
-use crate::names::copy_text;
 use crate::{ParameterFilters, TextMatch};
 use dav_io::{NoMemory, Text};
+use dav_lock::copy_text;
 use std::alloc::Global;
 use std::marker::Model;
 
@@ -15,6 +15,7 @@ pub struct TimeRange {
 }
 
 impl TimeRange {
+    /// An equal range. It may be refused for want of memory.
     pub fn try_clone(&self) -> Result<Self, NoMemory>
         ensures { IfOk result (λ copy. copy ≡ self.now) }
     {
@@ -46,6 +47,7 @@ pub struct PropertyFilter {
 }
 
 impl PropertyFilter {
+    /// An equal filter. It may be refused for want of memory.
     pub fn try_clone(&self) -> Result<Self, NoMemory>
         ensures { IfOk result (λ copy. copy ≡ self.now) }
     {
@@ -79,6 +81,7 @@ impl Model for PropertyFilters {
 }
 
 impl PropertyFilters {
+    /// These filters, in this order.
     pub fn new(filters: Vec<PropertyFilter>) -> Self
         ensures { result ≡ filters.items }
     {
@@ -94,6 +97,7 @@ impl PropertyFilters {
         }
     }
 
+    /// The filters in their order.
     pub fn as_slice(&self) -> &[PropertyFilter]
         ensures { result.now ≡ self.now }
     {
@@ -109,6 +113,7 @@ impl PropertyFilters {
         Ok(())
     }
 
+    /// An equal list of filters. It may be refused for want of memory.
     pub fn try_clone(&self) -> Result<Self, NoMemory>
         ensures { IfOk result (λ copy. copy ≡ self.now) }
     {

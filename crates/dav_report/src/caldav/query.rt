@@ -14,6 +14,7 @@ pub struct CalendarQuery {
 }
 
 impl CalendarQuery {
+    /// An equal query. It may be refused for want of memory.
     pub fn try_clone(&self) -> Result<Self, NoMemory>
         ensures { IfOk result (λ copy. copy ≡ self.now) }
     {
@@ -48,6 +49,7 @@ pub enum CalDavReportType {
 }
 
 impl CalDavReportType {
+    /// An equal report. It may be refused for want of memory.
     pub fn try_clone(&self) -> Result<Self, NoMemory>
         ensures { IfOk result (λ copy. copy ≡ self.now) }
     {

@@ -1,8 +1,8 @@
 ghost use Rattle.std.specs.Prelude.{◌≡◌, IfOk};
 
 use crate::carddav::DEFAULT_MAX_RESOURCE_SIZE;
-use crate::names::copy_text;
 use dav_io::{NoMemory, Text};
+use dav_lock::copy_text;
 use std::alloc::Global;
 
 /// The properties of an address book collection (RFC 6352 section 6.2). Sizes are in bytes.
@@ -26,6 +26,7 @@ impl AddressBookProperties {
         })
     }
 
+    /// Equal properties. It may be refused for want of memory.
     pub fn try_clone(&self) -> Result<Self, NoMemory>
         ensures { IfOk result (λ copy. copy ≡ self.now) }
     {

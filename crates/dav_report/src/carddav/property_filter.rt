@@ -15,6 +15,7 @@ pub struct PropertyFilter {
 }
 
 impl PropertyFilter {
+    /// An equal filter. It may be refused for want of memory.
     pub fn try_clone(&self) -> Result<Self, NoMemory>
         ensures { IfOk result (λ copy. copy ≡ self.now) }
     {

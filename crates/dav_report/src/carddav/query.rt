@@ -13,6 +13,7 @@ pub struct AddressBookQuery {
 }
 
 impl AddressBookQuery {
+    /// An equal query. It may be refused for want of memory.
     pub fn try_clone(&self) -> Result<Self, NoMemory>
         ensures { IfOk result (λ copy. copy ≡ self.now) }
     {
@@ -44,6 +45,7 @@ pub enum CardDavReportType {
 }
 
 impl CardDavReportType {
+    /// An equal report. It may be refused for want of memory.
     pub fn try_clone(&self) -> Result<Self, NoMemory>
         ensures { IfOk result (λ copy. copy ≡ self.now) }
     {
