@@ -11,7 +11,7 @@ use Rattle.dav_core.specs.declared.handle.DiskError.{DiskError}
 use Rattle.dav_core.specs.Path.{Names}
 use Rattle.dav_core.specs.World.{World, OpenFile, put}
 use Rattle.dav_core.specs.Disk.{Live, DiskState, Metas, FileMetas, Opens, OpenedIn, kind_opened, Seeks, SoughtIn, Reads, ReadIn, placed, Closes, ClosedIn}
-use Rattle.dav_core.specs.Unchanged.{SameBesidesOpens, SameOpen, KeepsBut, Keeps}
+use Rattle.dav_core.specs.Unchanged.{SameBesidesOpens, SameOpen, SameListing, KeepsBut, Keeps}
 
 pub same_besides : (w : World) → SameBesidesOpens w w
 same_besides w = record { tree = refl; files = refl; greatest = refl; latest = refl; script = refl }
@@ -21,6 +21,9 @@ same_besides_then a b c p q = record { tree = q.tree ∙ p.tree; files = q.files
 
 same_open_then : (h : ℕ) (a b c : World) → SameOpen h a b → SameOpen h b c → SameOpen h a c
 same_open_then h a b c p q = q ∙ p
+
+same_listing_then : (n : ℕ) (a b c : World) → SameListing n a b → SameListing n b c → SameListing n a c
+same_listing_then n a b c p q = q ∙ p
 
 pub put_same : {A : Type 0} (k : ℕ) (a : A) (f : ℕ → A) → put k a f k ≡ a
 put_same k a f = grind (arith, nat_tests)
@@ -44,6 +47,7 @@ keeps_same s = record {
   asked = omega arith;
   whole = λ w. w;
   listers = refl;
+  listings = λ n k e. both_same s.told s.told (SameListing n) (λ w. refl) refl;
   world = both_same s.told s.told SameBesidesOpens same_besides refl;
   live = λ h. refl;
   opens = λ h l e. both_same s.told s.told (SameOpen h) (λ w. refl) refl;
@@ -55,13 +59,14 @@ keeps_then s m t p q = record {
   asked = omega arith;
   whole = λ w. q.whole (p.whole w);
   listers = q.listers ∙ p.listers;
+  listings = λ n k e. both_then _ _ _ (SameListing n) (SameListing n) (SameListing n) (same_listing_then n) (p.listings n k e) (q.listings n k (ap (λ f. f n) p.listers ∙ e));
   world = both_then _ _ _ _ _ _ same_besides_then p.world q.world;
   live = λ h. q.live h ∙ p.live h;
   opens = λ h l e. both_then _ _ _ (SameOpen h) (SameOpen h) (SameOpen h) (same_open_then h) (p.opens h l e) (q.opens h l (p.live h ∙ e));
 }
 
 pub keeps_but : (own : ℕ) (s t : DiskState) → Keeps s t → KeepsBut own s t
-keeps_but own s t p = record { counts = p.counts; asked = p.asked; whole = p.whole; listers = p.listers; world = p.world; live = λ h ne. p.live h; opens = λ h l ne e. p.opens h l e }
+keeps_but own s t p = record { counts = p.counts; asked = p.asked; whole = p.whole; listers = p.listers; listings = p.listings; world = p.world; live = λ h ne. p.live h; opens = λ h l ne e. p.opens h l e }
 
 pub but_then : (own : ℕ) (s m t : DiskState) → KeepsBut own s m → KeepsBut own m t → KeepsBut own s t
 but_then own s m t p q = record {
@@ -69,6 +74,7 @@ but_then own s m t p q = record {
   asked = omega arith;
   whole = λ w. q.whole (p.whole w);
   listers = q.listers ∙ p.listers;
+  listings = λ n k e. both_then _ _ _ (SameListing n) (SameListing n) (SameListing n) (same_listing_then n) (p.listings n k e) (q.listings n k (ap (λ f. f n) p.listers ∙ e));
   world = both_then _ _ _ _ _ _ same_besides_then p.world q.world;
   live = λ h ne. q.live h ne ∙ p.live h ne;
   opens = λ h l ne e. both_then _ _ _ (SameOpen h) (SameOpen h) (SameOpen h) (same_open_then h) (p.opens h l ne e) (q.opens h l ne (p.live h ne ∙ e));
@@ -85,6 +91,7 @@ closed_again own s t keeps before now = record {
   asked = keeps.asked;
   whole = keeps.whole;
   listers = keeps.listers;
+  listings = keeps.listings;
   world = keeps.world;
   live = λ h. live_none (h == own) h own s.live t.live (equal_keys h own) before now (λ f. keeps.live h (other_keys h own f)) refl;
   opens = λ h l e. keeps.opens h l (differ s.live own h l before e) e;

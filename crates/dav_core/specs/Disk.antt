@@ -40,12 +40,17 @@ pub record TellsLive (s : DiskState) : Type 0 where
   pub listings : (w : World) → s.told ≡ Some w → (l : ℕ) → is_some (w.listings l) ≡ is_some (s.listers l)
 
 -- A call that is counted: a fault is answered only where one was met.
-pub record Asks {T : Type 0} (result : Result T DiskError) (old new : DiskState) : Type 0 where
+pub record IsCounted {T : Type 0} (result : Result T DiskError) (old new : DiskState) : Type 0 where
   pub counts : old.faults ≤ new.faults
   pub rose : IsErrOf result Failed → Rose old.faults new.faults
   pub asked : new.asked ≡ one_more old.asked
   pub more : old.asked ≤ new.asked
   pub whole : IsTrue old.whole → IsTrue new.whole
+
+-- A counted call of no listing.
+pub record Asks {T : Type 0} (result : Result T DiskError) (old new : DiskState) : Type 0 where
+  pub counted : IsCounted result old new
+  pub open counted use *
   pub listers : new.listers ≡ old.listers
 
 -- The tree calls for this refusal, or a fault or want of memory was met.

@@ -6,6 +6,7 @@ pub mod Options
 pub mod Errors
 pub mod Disk
 pub mod Tables
+pub mod Listing
 pub mod Unchanged
 pub mod DavPath
 pub mod Info

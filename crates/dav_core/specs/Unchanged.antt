@@ -24,12 +24,17 @@ pub record SameBesidesOpens (v w : World) : Type 0 where
 abbrev pub SameOpen : ℕ → World → World → Type 0
 SameOpen h v w = w.opens h ≡ v.opens h
 
+-- the names that a listing has to come stay
+abbrev pub SameListing : ℕ → World → World → Type 0
+SameListing n v w = w.listings n ≡ v.listings n
+
 -- Nothing changed but for the handle `own`.
 pub record KeepsBut (own : ℕ) (s t : DiskState) : Type 0 where
   pub counts : s.faults ≤ t.faults
   pub asked : s.asked ≤ t.asked
   pub whole : IsTrue s.whole → IsTrue t.whole
   pub listers : t.listers ≡ s.listers
+  pub listings : (n k : ℕ) → s.listers n ≡ Some k → Both s.told t.told (SameListing n)
   pub world : Both s.told t.told SameBesidesOpens
   pub live : (h : ℕ) → h ≢ own → t.live h ≡ s.live h
   pub opens : (h : ℕ) (l : Live) → h ≢ own → s.live h ≡ Some l → Both s.told t.told (SameOpen h)
@@ -40,6 +45,7 @@ pub record Keeps (s t : DiskState) : Type 0 where
   pub asked : s.asked ≤ t.asked
   pub whole : IsTrue s.whole → IsTrue t.whole
   pub listers : t.listers ≡ s.listers
+  pub listings : (n k : ℕ) → s.listers n ≡ Some k → Both s.told t.told (SameListing n)
   pub world : Both s.told t.told SameBesidesOpens
   pub live : (h : ℕ) → t.live h ≡ s.live h
   pub opens : (h : ℕ) (l : Live) → s.live h ≡ Some l → Both s.told t.told (SameOpen h)

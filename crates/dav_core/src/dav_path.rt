@@ -61,7 +61,8 @@ impl DavPath {
         prefix: &str,
     ) -> Result<DavPath, ParseError>
         ensures ok { IfOk result (λ path. parsed (uri_path uri.now) prefix.now ≡ Ok path) }
-        ensures err { IfErr result (λ fault. fault ≢ ParseError.NoMemory → parsed (uri_path uri.now) prefix.now ≡ Err fault) }
+        ensures err { IfErr result (λ fault. fault ≢ ParseError.NoMemory
+            → parsed (uri_path uri.now) prefix.now ≡ Err fault) }
     {
         DavPath::from_str_and_prefix(alloc, uri.path(), prefix)
     }

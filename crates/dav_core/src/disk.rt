@@ -3,9 +3,11 @@ ghost use Rattle.std.specs.Borrow.{GName};
 ghost use Rattle.dav_core.specs.World.{World, IsWorld};
 ghost use Rattle.dav_core.specs.Options.{reading};
 ghost use Rattle.dav_core.specs.Disk.{DiskState, TellsLive, Metas, FileMetas, Opens, Seeks, Reads, Closes, Turns};
+ghost use Rattle.dav_core.specs.Listing.{Lists, ListsOn, EndsListing};
 
-use crate::{DiskError, FsPath, Handle, Meta, OpenOptions};
-use dav_io::NoMemory;
+use crate::{DiskError, FsPath, Handle, Lister, Meta, OpenOptions};
+use dav_io::{NoMemory, Text};
+use std::alloc::Global;
 
 /// A disk that is asked call by call. It counts the calls asked of it and the faults that it met; both counts stay at
 /// the greatest u64 once they are there. It may tell its world; then each call does to that world what its relation
@@ -54,6 +56,23 @@ pub trait Disk {
         ensures done { Closes (state self.old) file.0 (state self.new) }
         ensures loan { loan self.new ≡ loan self.old };
 
+    /// Begins a listing of the directory at a path: of the names that stand there now, each once, in the disk's order.
+    fn list(&mut self, path: &FsPath) -> Result<Lister, DiskError>
+        ensures done { Lists (state self.old) path.now result (state self.new) }
+        ensures loan { loan self.new ≡ loan self.old };
+
+    /// The next name of a listing, which is plain, or None after the last.
+    fn list_next(&mut self, alloc: Global, at: Lister) -> Result<Option<Text>, DiskError>
+        requires { IsSome ((state self.old).listers at.0) }
+        ensures done { ListsOn (state self.old) at.0 result (state self.new) }
+        ensures loan { loan self.new ≡ loan self.old };
+
+    /// Ends a listing. It is no counted call, and can't be refused.
+    fn end_list(&mut self, at: Lister)
+        requires { IsSome ((state self.old).listers at.0) }
+        ensures done { EndsListing (state self.old) at.0 (state self.new) }
+        ensures loan { loan self.new ≡ loan self.old };
+
     /// Lets the outside make its next batch of changes, whole. Where memory is refused it makes nothing.
     fn turn(&mut self) -> Result<(), NoMemory>
         ensures done { Turns (state self.old) result (state self.new) }
@@ -93,6 +112,18 @@ impl<D: Disk> Disk for &mut D {
 
     fn close(&mut self, file: Handle) {
         Disk::close(&mut **self, file)
+    }
+
+    fn list(&mut self, path: &FsPath) -> Result<Lister, DiskError> {
+        Disk::list(&mut **self, path)
+    }
+
+    fn list_next(&mut self, alloc: Global, at: Lister) -> Result<Option<Text>, DiskError> {
+        Disk::list_next(&mut **self, alloc, at)
+    }
+
+    fn end_list(&mut self, at: Lister) {
+        Disk::end_list(&mut **self, at)
     }
 
     fn turn(&mut self) -> Result<(), NoMemory> {

@@ -15,7 +15,8 @@ pub struct ETag {
 impl ETag {
     /// The strong tag of what metadata speaks of. None exactly where it has none.
     pub fn from_meta<M: DavMetaData>(alloc: Global, meta: &M) -> Result<Option<ETag>, NoMemory>
-        ensures { IfOk result (λ tag. tag ≡ option_map (λ text. record { weak = false; tag = text }) (M.info meta.now).tag) }
+        ensures { IfOk result (λ tag. tag ≡ option_map (λ text. record { weak = false; tag = text })
+            (M.info meta.now).tag) }
     {
         match meta.etag(alloc)? {
             Some(text) => Ok(Some(ETag {

@@ -94,7 +94,8 @@ fn comma(text: &[u8]) -> usize
 
 // Adds what a member says. False where it is neither empty nor a tag.
 fn add_member(alloc: Global, tags: &mut Vec<ETag>, member: &[u8]) -> Result<bool, NoMemory>
-    ensures { IfOk result (λ read. MatchBool read (Adds (the_trimmed member.now) tags.old.items tags.new.items) (reading.said_in (the_trimmed member.now) ≡ None)) }
+    ensures { IfOk result (λ read. MatchBool read (Adds (the_trimmed member.now) tags.old.items tags.new.items)
+        (reading.said_in (the_trimmed member.now) ≡ None)) }
 {
     let member = trimmed(member);
     if member.is_empty() {

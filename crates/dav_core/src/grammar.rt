@@ -90,7 +90,8 @@ fn is_up(segment: &[u8]) -> bool
 
 // Drops the last segment that was kept.
 fn drop_last(kept: &mut Vec<&[u8]>) -> Result<(), ParseError>
-    ensures ok { OnOk result (grammar.without_last (map (λ s. s.now) kept.old.items) ≡ Ok (map (λ s. s.now) kept.new.items)) }
+    ensures ok { OnOk result (grammar.without_last (map (λ s. s.now) kept.old.items) ≡ Ok
+        (map (λ s. s.now) kept.new.items)) }
     ensures err { IfErr result (λ e. grammar.without_last (map (λ s. s.now) kept.old.items) ≡ Err e) }
 {
     match kept.pop() {
@@ -101,8 +102,10 @@ fn drop_last(kept: &mut Vec<&[u8]>) -> Result<(), ParseError>
 
 // Keeps a segment, or drops what it drops.
 fn keep<'a>(kept: &mut Vec<&'a [u8]>, segment: &'a [u8]) -> Result<(), ParseError>
-    ensures ok { OnOk result (grammar.keep segment.now (map (λ s. s.now) kept.old.items) ≡ Ok (map (λ s. s.now) kept.new.items)) }
-    ensures err { IfErr result (λ e. e ≢ ParseError.NoMemory → grammar.keep segment.now (map (λ s. s.now) kept.old.items) ≡ Err e) }
+    ensures ok { OnOk result (grammar.keep segment.now (map (λ s. s.now) kept.old.items) ≡ Ok
+        (map (λ s. s.now) kept.new.items)) }
+    ensures err { IfErr result (λ e. e ≢ ParseError.NoMemory
+        → grammar.keep segment.now (map (λ s. s.now) kept.old.items) ≡ Err e) }
 {
     if is_skipped(segment) {
         return Ok(());
@@ -116,7 +119,8 @@ fn keep<'a>(kept: &mut Vec<&'a [u8]>, segment: &'a [u8]) -> Result<(), ParseErro
 
 // The segments that are kept.
 fn kept_of<'a>(alloc: Global, segments: &[&'a [u8]]) -> Result<Vec<&'a [u8]>, ParseError>
-    ensures ok { IfOk result (λ kept. grammar.kept_of (map (λ s. s.now) segments.now) ≡ Ok (map (λ s. s.now) kept.items)) }
+    ensures ok { IfOk result (λ kept. grammar.kept_of (map (λ s. s.now) segments.now) ≡ Ok
+        (map (λ s. s.now) kept.items)) }
     ensures err { IfErr result (λ e. e ≢ ParseError.NoMemory → grammar.kept_of (map (λ s. s.now) segments.now) ≡ Err e) }
 {
     let mut kept = Vec::new(alloc);

@@ -14,7 +14,8 @@ pub fn links_decode()
 /// Segments are kept one after another: an empty one and `.` are dropped, `..` drops the last that is kept, and is
 /// refused where none is left.
 pub fn segments_are_kept()
-    ensures { (segments : Names) (next : List ℕ) → kept_of (segments ++ next ∷ []) ≡ and_then (kept_of segments) (keep next) }
+    ensures { (segments : Names) (next : List ℕ)
+        → kept_of (segments ++ next ∷ []) ≡ and_then (kept_of segments) (keep next) }
 {}
 
 /// A name that was pushed is the one that the parent is without.
@@ -25,14 +26,18 @@ pub fn pushed_names_go()
 /// A path that a text gives is a list of plain names in UTF-8 that ends well, below the names of the prefix. The calls
 /// that change a path or make another of it keep that.
 pub fn paths_stay_paths()
-    ensures read { (text prefix : List ℕ) (path : WebPath) → parsed text prefix ≡ Ok path → IsPath path × (prefix_names prefix ≡ path.prefix) }
-    ensures pushed { (path : WebPath) (name : List ℕ) → IsPath path → is_plain name ≡ true → is_utf8 name ≡ true → IsPath (record path { names = path.names ++ name ∷ []; slash = false }) }
-    ensures parent { (path : WebPath) → IsPath path → IsPath (record path { names = parent_of path.names; slash = true }) }
+    ensures read { (text prefix : List ℕ) (path : WebPath) → parsed text prefix ≡ Ok path → IsPath path
+        × (prefix_names prefix ≡ path.prefix) }
+    ensures pushed { (path : WebPath) (name : List ℕ) → IsPath path → is_plain name ≡ true → is_utf8 name ≡ true
+        → IsPath (record path { names = path.names ++ name ∷ []; slash = false }) }
+    ensures parent { (path : WebPath) → IsPath path
+        → IsPath (record path { names = parent_of path.names; slash = true }) }
     ensures slash { (path : WebPath) → IsPath path → IsPath (record path { slash = true }) }
 {}
 
 /// A link is parsed back to its path: `from_str_and_prefix` of what `as_url_string` writes, under the same prefix, is the
 /// path again.
 pub fn links_parse_back()
-    ensures { (path : WebPath) (prefix : List ℕ) → IsPath path → prefix_names prefix ≡ path.prefix → parsed (link_of (shown path)) prefix ≡ Ok path }
+    ensures { (path : WebPath) (prefix : List ℕ) → IsPath path → prefix_names prefix ≡ path.prefix
+        → parsed (link_of (shown path)) prefix ≡ Ok path }
 {}

@@ -45,6 +45,7 @@ pub use meta::DavMetaData;
 pub use method::{DavMethod, DavMethodSet, dav_method};
 pub use parse_error::ParseError;
 pub use path::FsPath;
+pub use plain_name::is_plain;
 pub use time::FileTime;
 pub use tree::{Kind, Row, Tree, has_dir, row_at};
 

@@ -42,7 +42,8 @@ fn placed(
 ) -> Result<DavPath, ParseError>
     requires { all_plain all.items ≡ true }
     ensures ok { IfOk result (λ path. grammar.placed (map (λ s. s.now) segments.now) prefix.items all.items ≡ Ok path) }
-    ensures err { IfErr result (λ fault. fault ≢ ParseError.NoMemory → grammar.placed (map (λ s. s.now) segments.now) prefix.items all.items ≡ Err fault) }
+    ensures err { IfErr result (λ fault. fault ≢ ParseError.NoMemory
+        → grammar.placed (map (λ s. s.now) segments.now) prefix.items all.items ≡ Err fault) }
 {
     if !begins_with(all.as_slice(), prefix.as_slice()) {
         return Err(ParseError::PrefixMismatch);

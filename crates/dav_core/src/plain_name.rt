@@ -20,7 +20,7 @@ pub fn is_dots(bytes: &[u8]) -> bool
     bytes == b"..".as_slice()
 }
 
-// Whether bytes are a plain name.
+/// Whether bytes are a plain name: some bytes, none of them a slash or NUL, that are neither `.` nor `..`.
 pub fn is_plain(bytes: &[u8]) -> bool
     ensures { result ≡ the_is_plain bytes.now }
 {

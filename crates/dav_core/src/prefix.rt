@@ -11,7 +11,8 @@ use std::alloc::Global;
 
 // Appends a segment of a prefix, where it isn't empty.
 fn push_segment(alloc: Global, names: &mut Vec<Text>, segment: &str) -> Result<(), NoMemory>
-    ensures { OnOk result (names.new.items ≡ names.old.items ++ filter (λ s. not (grammar.is_empty s)) (segment.now ∷ [])) }
+    ensures { OnOk result (names.new.items ≡ names.old.items ++ filter (λ s. not (grammar.is_empty s))
+        (segment.now ∷ [])) }
 {
     if segment.is_empty() {
         return Ok(());

@@ -58,7 +58,8 @@ fn before_digits<'a>(text: &'a [u8], number: u64) -> Option<&'a [u8]>
 
 // What stands before a dash and the digits of a number at the end of a text.
 fn before_part<'a>(text: &'a [u8], number: u64) -> Option<&'a [u8]>
-    ensures { MatchOption result (EndsOtherwise text.now (codes "-" ++ hex number)) (λ front. text.now ≡ front.now ++ (codes "-" ++ hex number)) }
+    ensures { MatchOption result (EndsOtherwise text.now (codes "-" ++ hex number))
+        (λ front. text.now ≡ front.now ++ (codes "-" ++ hex number)) }
 {
     let Some(rest) = before_digits(text, number) else {
         return None;

@@ -23,6 +23,3 @@ pub use outside::{Client, Sink, Source};
 pub use sure::{SureSink, SureSource};
 pub use text::Text;
 pub use writing::put_all;
-
-#[cfg(test)]
-mod tests;

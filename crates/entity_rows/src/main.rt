@@ -7,14 +7,21 @@
 //!     decode TEXT       `=` and the text that stands for it, or the fault and its position
 //!     stream BYTES      the same, as bytes that come one a call; then what was written
 //!     characters BYTES  the codes of the characters, and `broken` in the place of bytes that are none
+//!     room ROOM TEXT    whether `encode_attribute_w` wrote all into so much room, and what it wrote
+//!     all TEXT          what the two encoders and `write_char` write, one after the other
+//!     failing CALL,CALL ROOM BYTES       as `stream`, where these calls of the source fail, into so much room
+//!     interrupted CALL,CALL BYTES        as `characters`, where these calls of the source fail
+//!     lent BYTES        as `stream`, and then what is left of the source, which was only lent
+//!     errors            the texts of faults, and which kinds are equal
 //!     #                 is written as it stands
 #![tactic(auto)]
 
 use anyhow::Result;
-use dav_io::{MemSink, MemSource, Octets};
+use dav_io::{Failed, MemSink, MemSource, Octets, Source, SureSink, SureSource};
 use htmlescape::{
-    Chars, CharsError, DecodeErr, DecodeErrKind, IoFault, chars, decode_html, decode_html_rw,
-    encode_attribute, encode_minimal,
+    Chars, CharsError, DecodeErr, DecodeErrKind, IoFault, NAMED_ENTITIES, chars, decode_chars,
+    decode_html, decode_html_rw, encode_attribute, encode_attribute_w, encode_minimal,
+    encode_minimal_w, write_char,
 };
 use percent_encoding::{AsciiSet, CONTROLS, percent_decode, percent_encode};
 use std::alloc::Global;
@@ -88,20 +95,68 @@ fn decode(alloc: Global, cell: &str) -> Result<String> {
     }
 }
 
-// A source of the bytes of a cell, which gives one a call.
-fn source(alloc: Global, cell: &str) -> Result<MemSource> {
+// A source of the bytes of a cell, which gives one a call. The calls of the numbers fail.
+fn source(alloc: Global, fails: &str, cell: &str) -> Result<MemSource> {
+    let mut fail = Vec::new(alloc);
+    for call in fails.split(',') {
+        if let Ok(call) = call.parse::<u64>() {
+            fail.push(call)?;
+        }
+    }
     let bytes = Octets::new(bytes_of(alloc, cell)?);
-    Ok(MemSource::new(bytes, 1, Vec::new(alloc)))
+    Ok(MemSource::new(bytes, 1, fail))
 }
 
-fn stream(alloc: Global, cell: &str) -> Result<String> {
-    let mut sink = MemSink::new(alloc, ROOM, 3, Vec::new(alloc))?;
-    let answer = match decode_html_rw(source(alloc, cell)?, &mut sink) {
+// How a decoding ended, and what it wrote.
+fn ended(alloc: Global, answer: Result<(), DecodeErr>, written: &[u8]) -> Result<String> {
+    let answer = match answer {
         Ok(()) => String::from_str(alloc, "whole")?,
         Err(error) => fault(alloc, error)?,
     };
-    let written = shown(alloc, sink.written())?;
+    let written = shown(alloc, written)?;
     Ok(format!(in alloc; "{answer} ={written}")?)
+}
+
+fn stream(alloc: Global, fails: &str, room: usize, cell: &str) -> Result<String> {
+    let mut sink = MemSink::new(alloc, room, 3, Vec::new(alloc))?;
+    let answer = decode_html_rw(source(alloc, fails, cell)?, &mut sink);
+    ended(alloc, answer, sink.written())
+}
+
+fn lent(alloc: Global, cell: &str) -> Result<String> {
+    let bytes = Octets::new(bytes_of(alloc, cell)?);
+    let mut text = chars(SureSource::new(bytes));
+    let mut sink = SureSink::new(alloc, ROOM)?;
+    let answer = decode_chars(&mut text, &mut sink);
+    let mut line = ended(alloc, answer, sink.written())?;
+    let mut rest = [0u8; 64];
+    let count = text.into_inner().take(&mut rest)?;
+    let rest = shown(alloc, rest.get(..count).unwrap_or(b"?"))?;
+    line.push_str(format!(in alloc; " left {rest}")?.as_str())?;
+    Ok(line)
+}
+
+fn into_room(alloc: Global, room: &str, cell: &str) -> Result<String> {
+    let text = text_of(alloc, cell)?;
+    let room = room.parse::<usize>().unwrap_or(0);
+    let mut sink = MemSink::new(alloc, room, 3, Vec::new(alloc))?;
+    let word = match encode_attribute_w(text.as_str(), &mut sink) {
+        Ok(()) => "whole",
+        Err(_) => "part",
+    };
+    let written = shown(alloc, sink.written())?;
+    Ok(format!(in alloc; "{word} ={written}")?)
+}
+
+fn all(alloc: Global, cell: &str) -> Result<String> {
+    let text = text_of(alloc, cell)?;
+    let mut sink = SureSink::new(alloc, ROOM)?;
+    encode_minimal_w(text.as_str(), &mut sink)?;
+    encode_attribute_w(text.as_str(), &mut sink)?;
+    for c in text.as_str().chars() {
+        write_char(&mut sink, c)?;
+    }
+    shown(alloc, sink.written())
 }
 
 // Adds the next character to a line. False at the end.
@@ -118,8 +173,8 @@ fn add_next(alloc: Global, line: &mut String, text: &mut Chars<MemSource>) -> Re
     Ok(true)
 }
 
-fn characters(alloc: Global, cell: &str) -> Result<String> {
-    let mut text = chars(source(alloc, cell)?);
+fn characters(alloc: Global, fails: &str, cell: &str) -> Result<String> {
+    let mut text = chars(source(alloc, fails, cell)?);
     let mut line = String::from_str(alloc, "are")?;
     for _ in 0..ROOM {
         if !add_next(alloc, &mut line, &mut text)? {
@@ -129,16 +184,37 @@ fn characters(alloc: Global, cell: &str) -> Result<String> {
     Ok(line)
 }
 
+fn errors(alloc: Global) -> Result<String> {
+    let reading = DecodeErrKind::IoError(IoFault::Read);
+    let writing = DecodeErrKind::IoError(IoFault::Write);
+    let (same, other) = (
+        reading == writing,
+        DecodeErrKind::TooLong == DecodeErrKind::NoMemory,
+    );
+    let (text, failed, count) = (CharsError::NotUtf8, Failed, NAMED_ENTITIES.len());
+    Ok(format!(in alloc; "{text}; {failed}; {same}; {other}; {count}")?)
+}
+
 fn answer(alloc: Global, row: &str) -> Result<String> {
     let mut cells = row.splitn(2, ' ');
     let word = cells.next().unwrap_or("");
     let cell = cells.next().unwrap_or("");
+    let (second, rest) = cell.split_once(' ').unwrap_or((cell, ""));
     match word {
         "minimal" => minimal(alloc, cell),
         "attribute" => attribute(alloc, cell),
         "decode" => decode(alloc, cell),
-        "stream" => stream(alloc, cell),
-        "characters" => characters(alloc, cell),
+        "stream" => stream(alloc, "", ROOM, cell),
+        "characters" => characters(alloc, "", cell),
+        "room" => into_room(alloc, second, rest),
+        "all" => all(alloc, cell),
+        "failing" => {
+            let (room, bytes) = rest.split_once(' ').unwrap_or((rest, ""));
+            stream(alloc, second, room.parse::<usize>().unwrap_or(ROOM), bytes)
+        }
+        "interrupted" => characters(alloc, second, rest),
+        "lent" => lent(alloc, cell),
+        "errors" => errors(alloc),
         _ => Ok(String::from_str(alloc, row)?),
     }
 }

@@ -26,8 +26,6 @@ mod name;
 mod reading;
 mod readings;
 mod state;
-#[cfg(test)]
-mod tests;
 mod writing;
 
 pub use characters::{Chars, CharsError};
