@@ -13,9 +13,9 @@ use Rattle.dav_core.specs.Tree.{look, IsTreeRefusal}
 use Rattle.dav_core.proofs.LookLemmas.{look_err}
 use Rattle.dav_core.specs.World.{World, put}
 use Rattle.dav_core.proofs.UnchangedLemmas.{put_same}
-use Rattle.dav_core.specs.Disk.{Live, Asks, Refused, Metas, MayRefuseMeta, Opens, MayRefuseOpen}
+use Rattle.dav_core.specs.Disk.{Live, IsCounted, Refused, Metas, MayRefuseMeta, Opens, MayRefuseOpen}
 use Rattle.dav_core.proofs.RefusedLemmas.{refused_of}
-use Rattle.dav_disk.specs.Calls.{Known, state_of, FindsMeta, RefusesOpen, OpensAt}
+use Rattle.dav_disk.specs.Calls.{Known, state_of, lengths, FindsMeta, RefusesBy, OpensAt}
 
 -- what a counted call makes of the counts, and of whether reads are whole
 pub record Counted (faults asked : ℕ) (whole : Bool) (met more : ℕ) (still : Bool) : Type 0 where
@@ -24,13 +24,13 @@ pub record Counted (faults asked : ℕ) (whole : Bool) (met more : ℕ) (still :
   pub goes : asked ≤ more
   pub keeps : IsTrue whole → IsTrue still
 
-asks_ok : {T : Type 0} (v : T) (k n : Known) (f a : ℕ) (x : Bool) (g b : ℕ) (y : Bool) → Counted f a x g b y → Asks {T = T} (Ok v) (state_of k f a x) (state_of n g b y)
-asks_ok v k n f a x g b y c = record { counts = c.rises; rose = λ h. cc; asked = c.counts; more = c.goes; whole = c.keeps; listers = refl }
+pub counted_ok : {T : Type 0} (v : T) (k n : Known) (f a : ℕ) (x : Bool) (g b : ℕ) (y : Bool) → Counted f a x g b y → IsCounted {T = T} (Ok v) (state_of k f a x) (state_of n g b y)
+counted_ok v k n f a x g b y c = record { counts = c.rises; rose = λ h. cc; asked = c.counts; more = c.goes; whole = c.keeps }
 
-asks_err : {T : Type 0} (e : DiskError) (k n : Known) (f a : ℕ) (x : Bool) (g b : ℕ) (y : Bool) → (e ≡ Failed → ⊥) → Counted f a x g b y → Asks {T = T} (Err e) (state_of k f a x) (state_of n g b y)
-asks_err e k n f a x g b y fine c = record { counts = c.rises; rose = λ h. absurd (fine (let same : e ≡ Failed = cc in same)); asked = c.counts; more = c.goes; whole = c.keeps; listers = refl }
+pub counted_err : {T : Type 0} (e : DiskError) (k n : Known) (f a : ℕ) (x : Bool) (g b : ℕ) (y : Bool) → (e ≡ Failed → ⊥) → Counted f a x g b y → IsCounted {T = T} (Err e) (state_of k f a x) (state_of n g b y)
+counted_err e k n f a x g b y fine c = record { counts = c.rises; rose = λ h. absurd (fine (let same : e ≡ Failed = cc in same)); asked = c.counts; more = c.goes; whole = c.keeps }
 
-no_fault : (e : DiskError) → IsTreeRefusal e → e ≡ Failed → ⊥
+pub no_fault : (e : DiskError) → IsTreeRefusal e → e ≡ Failed → ⊥
 no_fault e (inl h) f = cc
 no_fault e (inr h) f = cc
 
@@ -44,14 +44,14 @@ same_world v w e = cc
 pub meta_done : (k : Known) (f a : ℕ) (x : Bool) (g b : ℕ) (y : Bool) (path : Names) (result : Result Meta DiskError) → Counted f a x g b y → FindsMeta k.world path result
     → Metas (state_of k f a x) path result (state_of k g b y)
 meta_done k f a x g b y path (Ok meta) c found = record {
-  asks = asks_ok meta k k f a x g b y c;
+  asks = record { counted = counted_ok meta k k f a x g b y c; listers = refl };
   only = tt;
   world = refl;
   live = refl;
   told = λ w e linked. (let same = same_world k.world w e in rw (← same) found);
 }
 meta_done k f a x g b y path (Err e) c found = record {
-  asks = asks_err e k k f a x g b y (no_fault e (look_err k.world.tree path e found)) c;
+  asks = record { counted = counted_err e k k f a x g b y (no_fault e (look_err k.world.tree path e found)) c; listers = refl };
   only = may_meta e (look_err k.world.tree path e found);
   world = refl;
   live = refl;
@@ -62,7 +62,7 @@ by_tree : (e : DiskError) → IsTreeRefusal e → MayRefuseOpen e
 by_tree e (inl h) = rw h tt
 by_tree e (inr h) = rw h tt
 
-may_open : (tree : List Row) (path : Names) (e : DiskError) → RefusesOpen e (look tree path) → MayRefuseOpen e
+may_open : (tree : List Row) (path : Names) (e : DiskError) → RefusesBy e (look tree path) → MayRefuseOpen e
 may_open tree path NotFound h = tt
 may_open tree path Exists h = by_tree Exists (look_err tree path Exists h)
 may_open tree path NotDir h = tt
@@ -71,16 +71,16 @@ may_open tree path NotEmpty h = by_tree NotEmpty (look_err tree path NotEmpty h)
 may_open tree path Failed h = tt
 may_open tree path NoMemory h = tt
 
-refused_open : (e : DiskError) (found : Result Row DiskError) → RefusesOpen e found → Refused e found
-refused_open NotFound found h = h
-refused_open Exists found h = h
-refused_open NotDir found h = h
-refused_open IsDir found h = h
-refused_open NotEmpty found h = h
-refused_open Failed found h = tt
-refused_open NoMemory found h = tt
+pub refused_by : (e : DiskError) (found : Result Row DiskError) → RefusesBy e found → Refused e found
+refused_by NotFound found h = h
+refused_by Exists found h = h
+refused_by NotDir found h = h
+refused_by IsDir found h = h
+refused_by NotEmpty found h = h
+refused_by Failed found h = tt
+refused_by NoMemory found h = tt
 
-open_no_fault : (tree : List Row) (path : Names) (e : DiskError) → RefusesOpen e (look tree path) → e ≡ Failed → ⊥
+open_no_fault : (tree : List Row) (path : Names) (e : DiskError) → RefusesBy e (look tree path) → e ≡ Failed → ⊥
 open_no_fault tree path NotFound h f = cc
 open_no_fault tree path Exists h f = cc
 open_no_fault tree path NotDir h f = cc
@@ -97,16 +97,16 @@ pub open_done : (k n : Known) (f a : ℕ) (x : Bool) (g b : ℕ) (y : Bool) (pat
 open_done k n f a x g b y path how (Ok h) c (row, found, free, e) =
     let live = ap (λ (n : Known). n.live) e in
     record {
-      asks = asks_ok h k n f a x g b y c;
+      asks = record { counted = counted_ok h k n f a x g b y c; listers = ap (λ (n : Known). lengths n.world.listings) e };
       only = tt;
       live = (row.kind, free, live);
       told = (row.number, ap (λ (n : Known). n.world) e, λ linked. (row, found, refl, kind_put k.live h.0 (record { kind = row.kind; how = how }) n.live live));
     }
 open_done k n f a x g b y path how (Err e) c (same, refuses) = record {
-  asks = asks_err e k n f a x g b y (open_no_fault k.world.tree path e refuses) c;
+  asks = record { counted = counted_err e k n f a x g b y (open_no_fault k.world.tree path e refuses) c; listers = ap (λ (n : Known). lengths n.world.listings) same };
   only = may_open k.world.tree path e refuses;
   live = ap (λ (n : Known). n.live) same;
-  told = (ap (λ (n : Known). n.world) same, λ linked. refused_open e (look k.world.tree path) refuses);
+  told = (ap (λ (n : Known). n.world) same, λ linked. refused_by e (look k.world.tree path) refuses);
 }
 
 pub meta_no_fault : (w : World) (path : Names) (result : Result Meta DiskError) → FindsMeta w path result → IsErrOf result Failed → ⊥

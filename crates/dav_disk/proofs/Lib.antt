@@ -2,6 +2,7 @@ pub mod Walks
 pub mod Opened
 pub mod Added
 pub mod Done
+pub mod DoneListings
 pub mod Trees
 pub mod Changed
 pub mod Moved

@@ -1,4 +1,5 @@
 pub mod Files
+pub mod Listings
 pub mod Rows
 pub mod Calls
 pub mod Memory

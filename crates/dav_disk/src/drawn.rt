@@ -49,7 +49,9 @@ fn resize(
     len: u64,
     time: FileTime,
 ) -> Result<(), NoMemory>
-    ensures { OnOk result (stored_at files.new ≡ put number (Some (record { bytes = resized len (bytes_or_none (stored_at files.old number)); time = time })) (stored_at files.old)) }
+    ensures { OnOk result (stored_at files.new ≡ put number
+        (Some (record { bytes = resized len (bytes_or_none (stored_at files.old number)); time = time }))
+        (stored_at files.old)) }
 {
     let mut bytes = match files.remove(&number) {
         Some(file) => file.bytes,
@@ -70,7 +72,13 @@ impl Drawn {
         greatest: u64,
         latest: FileTime,
     ) -> Result<Drawn, NoMemory>
-        ensures { IfOk result (λ d. (w : World) → drawn_in d w ≡ record w { tree = rows.now; files = stored_at files.now; greatest = greatest; latest = latest }) }
+        ensures { IfOk result (λ d. (w : World)
+            → drawn_in d w ≡ record w {
+              tree = rows.now;
+              files = stored_at files.now;
+              greatest = greatest;
+              latest = latest;
+            }) }
     {
         let rows = copy_rows(alloc, rows)?;
         let files = copy_files(files)?;
@@ -137,7 +145,8 @@ impl Drawn {
 
     // A file gets this length.
     fn cut(&mut self, path: &FsPath, len: u64) -> Result<(), NoMemory>
-        ensures { OnOk result ((w : World) → drawn_in self.new w ≡ cut_found (found (drawn_in self.old w).tree path.now) len (drawn_in self.old w)) }
+        ensures { OnOk result ((w : World) → drawn_in self.new w ≡ cut_found (found (drawn_in self.old w).tree path.now)
+            len (drawn_in self.old w)) }
     {
         let Ok(row) = look(&self.rows, path.as_slice()) else {
             return Ok(());
@@ -158,7 +167,8 @@ impl Drawn {
 
     // What stands at a path goes, with all below it.
     fn remove(&mut self, path: &FsPath)
-        ensures { (w : World) → drawn_in self.new w ≡ removed_found (found (drawn_in self.old w).tree path.now) (drawn_in self.old w) }
+        ensures { (w : World) → drawn_in self.new w ≡ removed_found (found (drawn_in self.old w).tree path.now)
+            (drawn_in self.old w) }
     {
         let names = path.as_slice();
         let Ok(_) = look(&self.rows, names) else {
@@ -207,7 +217,8 @@ impl Drawn {
 
     // What stands at a path is moved to another.
     fn rename(&mut self, from: &FsPath, to: &FsPath) -> Result<(), NoMemory>
-        ensures { OnOk result ((w : World) → drawn_in self.new w ≡ renamed_found (found (drawn_in self.old w).tree from.now) to.now (drawn_in self.old w)) }
+        ensures { OnOk result ((w : World) → drawn_in self.new w ≡ renamed_found
+            (found (drawn_in self.old w).tree from.now) to.now (drawn_in self.old w)) }
     {
         let (names, target) = (from.as_slice(), to.as_slice());
         let Ok(row) = look(&self.rows, names) else {

@@ -3,6 +3,8 @@
 
 mod drawn;
 mod faults;
+mod listing;
+mod listings;
 mod mem_disk;
 mod memory;
 mod paths;
@@ -13,6 +15,3 @@ mod tree;
 
 pub use mem_disk::MemDisk;
 pub use sure_disk::SureDisk;
-
-#[cfg(test)]
-mod tests;

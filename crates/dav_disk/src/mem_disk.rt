@@ -1,10 +1,10 @@
-ghost use Rattle.std.specs.Prelude.{◌≡◌, ◌<◌, ◌≤◌, ◌++◌, ◌∷◌, [], ℕ, All, None, Some, IfOk, IsSome, OnOk, OnErr, true, length, drop};
+ghost use Rattle.std.specs.Prelude.{◌≡◌, ◌<◌, ◌≤◌, ◌++◌, ◌∷◌, [], ℕ, All, None, Some, IfOk, IfSome, IsSome, OnOk, OnErr, true, length, drop};
 ghost use Rattle.dav_disk.specs.Lengths.{first_of, GivesMost, UsesLength};
 
 use crate::faults::Faults;
 use crate::memory::Memory;
-use dav_core::{Change, Disk, DiskError, FileTime, FsPath, Handle, Meta, OpenOptions};
-use dav_io::NoMemory;
+use dav_core::{Change, Disk, DiskError, FileTime, FsPath, Handle, Lister, Meta, OpenOptions};
+use dav_io::{NoMemory, Text};
 use std::alloc::Global;
 
 /// A disk in memory that tells its world. It fails at the calls of the numbers given, and its next reads give no more
@@ -46,7 +46,8 @@ impl MemDisk {
 
     /// A root directory alone, of number 1 and time 0. The latest time used is 1 second past 1970, and no call fails.
     pub fn new(alloc: Global) -> Result<Self, NoMemory>
-        ensures made { IfOk result (λ d. mem_state d ≡ state_of (record { world = first_world; live = λ _. None }) 0 0 true) }
+        ensures made { IfOk result (λ d. mem_state d ≡ state_of (record { world = first_world; live = λ _. None }) 0 0
+            true) }
         ensures fails { IfOk result (λ d. fails_at d ≡ []) }
         ensures lens { IfOk result (λ d. lens_left d ≡ []) }
     {
@@ -73,7 +74,8 @@ impl MemDisk {
     /// Sets a directory. Other times stay.
     pub fn add_dir(&mut self, path: &FsPath, number: u64, time: FileTime) -> Result<(), NoMemory>
         requires { the_can_add (mem_world self.old) path.now number time ≡ true }
-        ensures ok { OnOk result (mem_state self.new ≡ record (mem_state self.old) { told = Some (with_dir (mem_world self.old) path.now number time) }) }
+        ensures ok { OnOk result (mem_state self.new ≡ record (mem_state self.old)
+            { told = Some (with_dir (mem_world self.old) path.now number time) }) }
         ensures err { OnErr result (mem_state self.new ≡ mem_state self.old) }
         ensures fails { fails_at self.new ≡ fails_at self.old }
         ensures lens { lens_left self.new ≡ lens_left self.old }
@@ -90,7 +92,8 @@ impl MemDisk {
         bytes: &[u8],
     ) -> Result<(), NoMemory>
         requires { the_can_add (mem_world self.old) path.now number time ≡ true }
-        ensures ok { OnOk result (mem_state self.new ≡ record (mem_state self.old) { told = Some (with_file (mem_world self.old) path.now number time bytes.now) }) }
+        ensures ok { OnOk result (mem_state self.new ≡ record (mem_state self.old)
+            { told = Some (with_file (mem_world self.old) path.now number time bytes.now) }) }
         ensures err { OnErr result (mem_state self.new ≡ mem_state self.old) }
         ensures fails { fails_at self.new ≡ fails_at self.old }
         ensures lens { lens_left self.new ≡ lens_left self.old }
@@ -122,7 +125,8 @@ impl MemDisk {
 
     /// Adds a batch of changes that `turn` makes when its turn comes.
     pub fn script(&mut self, batch: Vec<Change>) -> Result<(), NoMemory>
-        ensures ok { OnOk result (mem_state self.new ≡ record (mem_state self.old) { told = Some (with_batch (mem_world self.old) batch.items) }) }
+        ensures ok { OnOk result (mem_state self.new ≡ record (mem_state self.old)
+            { told = Some (with_batch (mem_world self.old) batch.items) }) }
         ensures err { OnErr result (mem_state self.new ≡ mem_state self.old) }
         ensures fails { fails_at self.new ≡ fails_at self.old }
         ensures lens { lens_left self.new ≡ lens_left self.old }
@@ -147,7 +151,9 @@ impl MemDisk {
 
 impl Disk for MemDisk {
     ghost use Rattle.dav_core.specs.Disk.{Metas, FileMetas, Opens, Seeks, Reads, Closes, Turns};
+    ghost use Rattle.dav_core.specs.Listing.{Lists, ListsOn, EndsListing};
     ghost use Rattle.dav_core.specs.Options.{reading};
+    ghost use Rattle.dav_disk.specs.Listings.{AreSorted};
     ghost use Rattle.dav_disk.specs.Failing.{mem_state, mem_world, Follows, fails_at, is_empty, lens_left};
     ghost use Rattle.dav_disk.specs.Files.{SaysNoMore};
     ghost use Rattle.dav_disk.specs.Worlds.{told_world, told_live};
@@ -238,6 +244,42 @@ impl Disk for MemDisk {
         ensures lens { lens_left self.new ≡ lens_left self.old }
     {
         self.memory.close(file);
+    }
+
+    fn list(&mut self, path: &FsPath) -> Result<Lister, DiskError>
+        ensures done { Lists (mem_state self.old) path.now result (mem_state self.new) }
+        ensures order { IfOk result (λ l. IfSome ((mem_world self.new).listings l.0) AreSorted) }
+        ensures loan { ⟦<MemDisk as Disk>⟧.loan self.new ≡ ⟦<MemDisk as Disk>⟧.loan self.old }
+        ensures schedule { Follows self.old result self.new }
+        ensures lens { lens_left self.new ≡ lens_left self.old }
+    {
+        if self.faults.next() {
+            return Err(DiskError::Failed);
+        }
+        self.memory.list(path)
+    }
+
+    fn list_next(&mut self, _alloc: Global, at: Lister) -> Result<Option<Text>, DiskError>
+        requires { IsSome ((mem_state self.old).listers at.0) }
+        ensures done { ListsOn (mem_state self.old) at.0 result (mem_state self.new) }
+        ensures loan { ⟦<MemDisk as Disk>⟧.loan self.new ≡ ⟦<MemDisk as Disk>⟧.loan self.old }
+        ensures schedule { Follows self.old result self.new }
+        ensures lens { lens_left self.new ≡ lens_left self.old }
+    {
+        if self.faults.next() {
+            return Err(DiskError::Failed);
+        }
+        Ok(self.memory.list_next(at))
+    }
+
+    fn end_list(&mut self, at: Lister)
+        requires { IsSome ((mem_state self.old).listers at.0) }
+        ensures done { EndsListing (mem_state self.old) at.0 (mem_state self.new) }
+        ensures loan { ⟦<MemDisk as Disk>⟧.loan self.new ≡ ⟦<MemDisk as Disk>⟧.loan self.old }
+        ensures fails { fails_at self.new ≡ fails_at self.old }
+        ensures lens { lens_left self.new ≡ lens_left self.old }
+    {
+        self.memory.end_list(at);
     }
 
     fn turn(&mut self) -> Result<(), NoMemory>

@@ -1,26 +1,31 @@
-ghost use Rattle.std.specs.Prelude.{◌≡◌, ◌<◌, ℕ, None, Some, Ok, Option, IfOk, OnOk, OnErr, IsSome, true, option_map};
+ghost use Rattle.std.specs.Prelude.{◌≡◌, ◌<◌, ℕ, None, Some, Ok, Option, IfOk, OnOk, OnErr, IsSome, IfSome, true, option_map};
 ghost use Rattle.dav_core.specs.Tree.{is_tree, is_file};
 ghost use Rattle.dav_core.specs.World.{AreGiven, time_of};
 ghost use Rattle.dav_disk.specs.Files.{AreStored, SaysNoMore, open_at, stored_at};
 ghost use Rattle.dav_disk.specs.Rows.{root_row as the_root};
 
 use crate::drawn::Drawn;
+use crate::listing::Listing;
+use crate::listings::{listing_of, take_name};
 use crate::rows::{can_be_set, has_number, is_free, later_of, put_row, second_past};
 use crate::tables::{
-    Opened, StoredFile, bytes_at, copy_from, free_handle, is_stored, open_file, set_place, time_at,
+    Opened, StoredFile, bytes_at, copy_from, free_key, is_stored, open_file, set_place, time_at,
 };
 use crate::tree::look;
-use dav_core::{Batch, Change, DiskError, FileTime, FsPath, Handle, Kind, Meta, OpenOptions, Row};
-use dav_io::NoMemory;
+use dav_core::{
+    Batch, Change, DiskError, FileTime, FsPath, Handle, Kind, Lister, Meta, OpenOptions, Row,
+};
+use dav_io::{NoMemory, Text};
 use std::alloc::Global;
 use std::collections::BTreeMap;
 
-// The rows, files and open files of a disk in memory, without its faults and counts.
+// The rows, files, open files and open listings of a disk in memory, without its faults and counts.
 #[derive(Drop)]
 pub struct Memory {
     rows: Vec<Row>,
     files: BTreeMap<u64, StoredFile>,
     opens: BTreeMap<u32, Opened>,
+    listings: BTreeMap<u32, Listing>,
     greatest: u64,
     latest: FileTime,
     script: Vec<Batch>,
@@ -43,9 +48,10 @@ fn root_row(alloc: Global) -> Row
 
 impl Memory {
     ghost use Rattle.dav_disk.specs.Rows.{first_world, is_new_number, can_add as the_can_add, with_dir, with_file, with_batch};
-    ghost use Rattle.dav_disk.specs.Calls.{FindsMeta, OpensAt, Places, ReadsAt, with_closed};
+    ghost use Rattle.dav_disk.specs.Calls.{FindsMeta, OpensAt, Places, ReadsAt, with_closed, ListsAt, NextAt, with_names};
     ghost use Rattle.dav_disk.specs.Memory.{known_of};
     ghost use Rattle.dav_core.specs.Disk.{FileMetaIn, kind_at};
+    ghost use Rattle.dav_core.specs.Path.{is_plain};
     ghost use Rattle.dav_core.specs.Changes.{turned};
 
     // The root alone.
@@ -58,6 +64,7 @@ impl Memory {
             rows,
             files: BTreeMap::new(alloc),
             opens: BTreeMap::new(alloc),
+            listings: BTreeMap::new(alloc),
             greatest: 1,
             latest: FileTime { secs: 1, nanos: 0 },
             script: Vec::new(alloc),
@@ -99,7 +106,7 @@ impl Memory {
             kind: row.kind,
             how,
         };
-        let handle = match free_handle(&self.opens) {
+        let handle = match free_key(&self.opens) {
             Some(handle) => handle,
             None => return Err(DiskError::NoMemory),
         };
@@ -175,6 +182,46 @@ impl Memory {
         let _ = self.opens.remove(&file.0);
     }
 
+    // Begins a listing of the directory at a path, under a lister that was free.
+    pub fn list(&mut self, path: &FsPath) -> Result<Lister, DiskError>
+        ensures { ListsAt (known_of self.old) path.now result (known_of self.new) }
+    {
+        let row = match look(&self.rows, path.as_slice()) {
+            Ok(row) => row,
+            Err(e) => return Err(e),
+        };
+        if row.kind != Kind::Dir {
+            return Err(DiskError::NotDir);
+        }
+        let Some(lister) = free_key(&self.listings) else {
+            return Err(DiskError::NoMemory);
+        };
+        let alloc: Global = *self.rows.allocator();
+        let Ok(listing) = listing_of(alloc, &self.rows, path.as_slice()) else {
+            return Err(DiskError::NoMemory);
+        };
+        match self.listings.insert(lister, listing) {
+            Ok(_) => Ok(Lister(lister)),
+            Err(_) => Err(DiskError::NoMemory),
+        }
+    }
+
+    // The next name of a listing, if there is one.
+    pub fn list_next(&mut self, at: Lister) -> Option<Text>
+        requires { IsSome ((known_of self.old).world.listings at.0) }
+        ensures next { NextAt (known_of self.old) at.0 result (known_of self.new) }
+        ensures plain { IfSome result (λ name. is_plain name ≡ true) }
+    {
+        take_name(&mut self.listings, at.0)
+    }
+
+    // Ends a listing.
+    pub fn end_list(&mut self, at: Lister)
+        ensures { known_of self.new ≡ with_names (known_of self.old) at.0 None }
+    {
+        let _ = self.listings.remove(&at.0);
+    }
+
     // Whether no row and no file has the number.
     fn is_new(&self, number: u64) -> bool
         ensures { result ≡ is_new_number (known_of self.now).world number }
@@ -198,7 +245,8 @@ impl Memory {
     // Sets a directory.
     pub fn add_dir(&mut self, path: &FsPath, number: u64, time: FileTime) -> Result<(), NoMemory>
         requires { the_can_add (known_of self.old).world path.now number time ≡ true }
-        ensures ok { OnOk result (known_of self.new ≡ record (known_of self.old) { world = with_dir (known_of self.old).world path.now number time }) }
+        ensures ok { OnOk result (known_of self.new ≡ record (known_of self.old)
+            { world = with_dir (known_of self.old).world path.now number time }) }
         ensures err { OnErr result (known_of self.new ≡ known_of self.old) }
     {
         let latest = later_of(self.latest, second_past(time));
@@ -222,7 +270,8 @@ impl Memory {
         bytes: &[u8],
     ) -> Result<(), NoMemory>
         requires { the_can_add (known_of self.old).world path.now number time ≡ true }
-        ensures ok { OnOk result (known_of self.new ≡ record (known_of self.old) { world = with_file (known_of self.old).world path.now number time bytes.now }) }
+        ensures ok { OnOk result (known_of self.new ≡ record (known_of self.old)
+            { world = with_file (known_of self.old).world path.now number time bytes.now }) }
         ensures err { OnErr result (known_of self.new ≡ known_of self.old) }
     {
         let latest = later_of(self.latest, second_past(time));
@@ -244,7 +293,8 @@ impl Memory {
 
     // Adds a batch of changes to come.
     pub fn script(&mut self, batch: Vec<Change>) -> Result<(), NoMemory>
-        ensures ok { OnOk result (known_of self.new ≡ record (known_of self.old) { world = with_batch (known_of self.old).world batch.items }) }
+        ensures ok { OnOk result (known_of self.new ≡ record (known_of self.old)
+            { world = with_batch (known_of self.old).world batch.items }) }
         ensures err { OnErr result (known_of self.new ≡ known_of self.old) }
     {
         self.script.push(Batch::new(batch))?;
@@ -253,8 +303,10 @@ impl Memory {
 
     // Makes the next batch of changes, whole.
     pub fn turn(&mut self) -> Result<(), NoMemory>
-        ensures ok { OnOk result (known_of self.new ≡ record (known_of self.old) { world = turned (known_of self.old).world }) }
+        ensures ok { OnOk result (known_of self.new ≡ record (known_of self.old)
+            { world = turned (known_of self.old).world }) }
         ensures err { OnErr result (known_of self.new ≡ known_of self.old) }
+        ensures listings { (known_of self.new).world.listings ≡ (known_of self.old).world.listings }
     {
         if self.script.is_empty() {
             return Ok(());

@@ -1,8 +1,8 @@
 ghost use Rattle.std.specs.Prelude.{◌≡◌, None, Some, IfOk, IsSome, OnOk, OnErr, true};
 
 use crate::memory::Memory;
-use dav_core::{Change, Disk, DiskError, FileTime, FsPath, Handle, Meta, OpenOptions};
-use dav_io::NoMemory;
+use dav_core::{Change, Disk, DiskError, FileTime, FsPath, Handle, Lister, Meta, OpenOptions};
+use dav_io::{NoMemory, Text};
 use std::alloc::Global;
 
 /// A disk in memory that tells its world and never fails. Its reads are whole.
@@ -36,7 +36,8 @@ impl SureDisk {
     /// Sets a directory. Other times stay.
     pub fn add_dir(&mut self, path: &FsPath, number: u64, time: FileTime) -> Result<(), NoMemory>
         requires { the_can_add (sure_world self.old) path.now number time ≡ true }
-        ensures ok { OnOk result (sure_state self.new ≡ record (sure_state self.old) { told = Some (with_dir (sure_world self.old) path.now number time) }) }
+        ensures ok { OnOk result (sure_state self.new ≡ record (sure_state self.old)
+            { told = Some (with_dir (sure_world self.old) path.now number time) }) }
         ensures err { OnErr result (sure_state self.new ≡ sure_state self.old) }
     {
         self.memory.add_dir(path, number, time)
@@ -51,7 +52,8 @@ impl SureDisk {
         bytes: &[u8],
     ) -> Result<(), NoMemory>
         requires { the_can_add (sure_world self.old) path.now number time ≡ true }
-        ensures ok { OnOk result (sure_state self.new ≡ record (sure_state self.old) { told = Some (with_file (sure_world self.old) path.now number time bytes.now) }) }
+        ensures ok { OnOk result (sure_state self.new ≡ record (sure_state self.old)
+            { told = Some (with_file (sure_world self.old) path.now number time bytes.now) }) }
         ensures err { OnErr result (sure_state self.new ≡ sure_state self.old) }
     {
         self.memory.add_file(path, number, time, bytes)
@@ -59,7 +61,8 @@ impl SureDisk {
 
     /// Adds a batch of changes that `turn` makes when its turn comes.
     pub fn script(&mut self, batch: Vec<Change>) -> Result<(), NoMemory>
-        ensures ok { OnOk result (sure_state self.new ≡ record (sure_state self.old) { told = Some (with_batch (sure_world self.old) batch.items) }) }
+        ensures ok { OnOk result (sure_state self.new ≡ record (sure_state self.old)
+            { told = Some (with_batch (sure_world self.old) batch.items) }) }
         ensures err { OnErr result (sure_state self.new ≡ sure_state self.old) }
     {
         self.memory.script(batch)
@@ -130,6 +133,20 @@ impl Disk for SureDisk {
 
     fn close(&mut self, file: Handle) {
         self.memory.close(file);
+    }
+
+    fn list(&mut self, path: &FsPath) -> Result<Lister, DiskError> {
+        self.asked = self.asked.saturating_add(1);
+        self.memory.list(path)
+    }
+
+    fn list_next(&mut self, _alloc: Global, at: Lister) -> Result<Option<Text>, DiskError> {
+        self.asked = self.asked.saturating_add(1);
+        Ok(self.memory.list_next(at))
+    }
+
+    fn end_list(&mut self, at: Lister) {
+        self.memory.end_list(at);
     }
 
     fn turn(&mut self) -> Result<(), NoMemory> {

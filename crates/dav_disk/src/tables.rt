@@ -76,14 +76,14 @@ pub fn open_file(opens: &BTreeMap<u32, Opened>, handle: u32) -> Opened
     }
 }
 
-// The least handle that isn't live, or none where all are.
-pub fn free_handle(opens: &BTreeMap<u32, Opened>) -> Option<u32>
-    ensures free { IfSome result (λ h. at_key opens.now h ≡ None) }
-    ensures full { IfNone result ((h : ℕ) → h < 2 ^ 32 → IsSome (at_key opens.now h)) }
+// The least key that a table doesn't have, or none where it has all.
+pub fn free_key<V>(table: &BTreeMap<u32, V>) -> Option<u32>
+    ensures free { IfSome result (λ key. at_key table.now key ≡ None) }
+    ensures full { IfNone result ((key : ℕ) → key < 2 ^ 32 → IsSome (at_key table.now key)) }
 {
-    for handle in 0..=u32::MAX {
-        if !opens.contains_key(&handle) {
-            return Some(handle);
+    for key in 0..=u32::MAX {
+        if !table.contains_key(&key) {
+            return Some(key);
         }
     }
     None
@@ -96,7 +96,8 @@ pub fn put_file(
     bytes: Vec<u8>,
     time: FileTime,
 ) -> Result<(), NoMemory>
-    ensures { OnOk result (stored_at files.new ≡ put number (Some (record { bytes = bytes.items; time = time })) (stored_at files.old)) }
+    ensures { OnOk result (stored_at files.new ≡ put number (Some (record { bytes = bytes.items; time = time }))
+        (stored_at files.old)) }
 {
     files.insert(number, StoredFile { bytes, time })?;
     Ok(())

@@ -1,2 +1,2 @@
-pub mod LiveHandles
+pub mod Listers
 pub mod PathTexts

@@ -5,7 +5,7 @@ use Rattle.std.specs.BTreeMap.{BTreeMap}
 use Rattle.std.specs.declared.io.ErrorKind.{ErrorKind}
 use Rattle.std.specs.declared.io.ErrorKind.TheVariants as kind
 use Rattle.dav_core.specs.declared.handle.DiskError.{DiskError}
-use Rattle.dav_core.specs.declared.handle.DiskError.TheVariants.{NotFound, NotDir}
+use Rattle.dav_core.specs.declared.handle.DiskError.TheVariants.{NotFound, NotDir, NoMemory}
 use Rattle.dav_core.specs.Path.{Names}
 use Rattle.dav_core.specs.World.{World, IsWorld}
 use Rattle.dav_core.specs.Disk.{Live, DiskState}
@@ -32,10 +32,10 @@ live_of f = record { kind = f.kind; how = f.how }
 abbrev pub live_at : {F : Type 0} → BTreeMap ℕ (HostFile F) → ℕ → Option Live
 live_at opens h = option_map live_of (at_key opens h)
 
--- A disk that tells nothing keeps its counts and its live handles.
-abbrev pub untold : ℕ → ℕ → (ℕ → Option Live) → DiskState
-untold faults asked live =
-    record { told = None; faults = faults; asked = asked; whole = false; live = live; listers = λ _. None }
+-- A disk that tells nothing keeps its counts, its live handles and its live listers.
+abbrev pub untold : ℕ → ℕ → (ℕ → Option Live) → (ℕ → Option ℕ) → DiskState
+untold faults asked live listers =
+    record { told = None; faults = faults; asked = asked; whole = false; live = live; listers = listers }
 
 -- what the machine's error is where a path is looked at or opened: one of two refusals of the walk, and else a fault
 abbrev pub refusal_of : ErrorKind → Option DiskError
@@ -43,9 +43,20 @@ refusal_of kind.NotFound = Some NotFound
 refusal_of kind.NotADirectory = Some NotDir
 refusal_of _ = None
 
+-- what it is where a directory is listed
+abbrev pub list_refusal_of : ErrorKind → Option DiskError
+list_refusal_of kind.NotFound = Some NotFound
+list_refusal_of kind.NotADirectory = Some NotDir
+list_refusal_of kind.OutOfMemory = Some NoMemory
+list_refusal_of _ = None
+
 -- the refusals of a walk
 abbrev pub IsWalkRefusal : DiskError → Type 0
 IsWalkRefusal e = (e ≡ NotFound) ⊎ (e ≡ NotDir)
+
+-- the refusals of a listing of the machine
+abbrev pub IsListRefusal : DiskError → Type 0
+IsListRefusal e = (e ≡ NotFound) ⊎ (e ≡ NotDir) ⊎ (e ≡ NoMemory)
 
 -- nothing is told
 pub never_told : (w : World) → None ≡ Some w → IsWorld w

@@ -1,3 +1,4 @@
 pub mod Host
 pub mod Kinds
+pub mod Listings
 pub mod Streams

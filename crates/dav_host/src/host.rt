@@ -1,33 +1,37 @@
 ghost use Rattle.std.specs.Prelude.{◌≡◌, ◌≢◌, ◌≤◌, None, Some, IfOk, IfSome, IfErr, refl, string_bytes, string_capacity};
 ghost use Rattle.dav_io.specs.Counts.{Rose, one_more};
-ghost use Rattle.dav_host.specs.Host.{room, live_at, untold, IsWalkRefusal, never_told, refusal_of};
+ghost use Rattle.dav_host.specs.Host.{room, live_at, untold, IsWalkRefusal, never_told, refusal_of, list_refusal_of, IsListRefusal};
+ghost use Rattle.dav_host.specs.Listings.{listers_at};
 ghost use Rattle.dav_core.specs.Untold.{untold_live};
 ghost use Rattle.std.specs.IoError.{error_kind};
 
+use crate::keys::free_key;
+use crate::listings::{HostListing, listing_of, next_name};
 use crate::meta::meta_of;
-use crate::opens::{HostFile, can_read, free_handle, read_at, seek_at};
+use crate::opens::{HostFile, can_read, meta_at, open_meta, read_at, seek_at};
 use crate::paths::{ROOM, lay_path};
-use dav_core::{Disk, DiskError, FsPath, Handle, Kind, Meta, OpenOptions};
-use dav_io::NoMemory;
+use dav_core::{Disk, DiskError, FsPath, Handle, Lister, Meta, OpenOptions};
+use dav_io::{NoMemory, Text};
 use std::alloc::Global;
 use std::collections::BTreeMap;
-use std::fs::OpenFile;
 use std::io::ErrorKind;
 use std::os::unix::fs::OpenOptionsExt;
 use std::rt::Files;
 use std::{fs, io};
 
-/// The machine's files below a folder. It doesn't tell what they hold, and keeps its counts and its live handles. A
-/// path whose text, with the folder's, has more than 8,192 bytes is a fault, as is every error of the machine that has
-/// no refusal of its own, permission denied among them.
+/// The machine's files below a folder. It doesn't tell what they hold, and keeps its counts, its live handles and its
+/// live listers. A path whose text, with the folder's, has more than 8,192 bytes is a fault, as is every error of the
+/// machine that has no refusal of its own, permission denied among them. So are names that can't be told, which aren't
+/// UTF-8 or not plain: a listing gives all others first, and then one fault for them.
 #[derive(Drop)]
-pub struct HostDisk<R: Files + Drop> {
+pub struct HostDisk<R: Files + AllocGlobal + Clone + Drop> {
     rt: R,
     root: String,
     path: String,
     faults: u64,
     asked: u64,
     opens: BTreeMap<u32, HostFile<R::File>>,
+    listings: BTreeMap<u32, HostListing<R>>,
     ghost room: { room ≤ string_capacity path },
 }
 
@@ -39,6 +43,19 @@ fn refusal(error: &io::Error) -> Option<DiskError>
     match error.kind() {
         ErrorKind::NotFound => Some(DiskError::NotFound),
         ErrorKind::NotADirectory => Some(DiskError::NotDir),
+        _ => None,
+    }
+}
+
+// The refusal of a listing for the machine's error, or None where it is a fault.
+fn list_refusal(error: &io::Error) -> Option<DiskError>
+    ensures value { result ≡ list_refusal_of (error_kind error.now) }
+    ensures may { IfSome result IsListRefusal }
+{
+    match error.kind() {
+        ErrorKind::NotFound => Some(DiskError::NotFound),
+        ErrorKind::NotADirectory => Some(DiskError::NotDir),
+        ErrorKind::OutOfMemory => Some(DiskError::NoMemory),
         _ => None,
     }
 }
@@ -57,23 +74,10 @@ fn open_file<R: Files>(rt: &R, path: &str, how: OpenOptions, public: bool) -> io
     options.open(rt, path)
 }
 
-// What the machine says of an open file, or None where that is a fault.
-fn open_meta<F: OpenFile>(file: &F) -> Option<Meta> {
-    meta_of(&file.metadata().ok()?)
-}
-
-// What is said of a file that has still the kind that was seen when it was opened.
-fn same_kind(kind: Kind, found: Option<Meta>) -> Option<Meta>
-    ensures { IfSome result (λ meta. meta.kind ≡ kind) }
-{
-    let meta = found?;
-    (meta.kind == kind).then_some(meta)
-}
-
-impl<R: Files + Drop> HostDisk<R> {
+impl<R: Files + AllocGlobal + Clone + Drop> HostDisk<R> {
     /// The folder `root`, with room for the text of a path.
     pub fn new(alloc: Global, rt: R, root: &str) -> Result<HostDisk<R>, NoMemory>
-        ensures state { IfOk result (λ d. ⟦<HostDisk<R> as Disk>⟧.state d ≡ untold 0 0 (λ _. None)) }
+        ensures state { IfOk result (λ d. ⟦<HostDisk<R> as Disk>⟧.state d ≡ untold 0 0 (λ _. None) (λ _. None)) }
         ensures root { IfOk result (λ d. string_bytes d.root ≡ root.now) }
     {
         Ok(HostDisk {
@@ -83,6 +87,7 @@ impl<R: Files + Drop> HostDisk<R> {
             faults: 0,
             asked: 0,
             opens: BTreeMap::new(alloc),
+            listings: BTreeMap::new(alloc),
         })
     }
 
@@ -101,14 +106,15 @@ impl<R: Files + Drop> HostDisk<R> {
         ensures rose { Rose self.old.faults self.new.faults }
         ensures asked { self.new.asked ≡ self.old.asked }
         ensures opens { self.new.opens ≡ self.old.opens }
+        ensures listings { self.new.listings ≡ self.old.listings }
     {
         self.faults = self.faults.saturating_add(1);
         DiskError::Failed
     }
 }
 
-impl<R: Files + Drop> Disk for HostDisk<R> {
-    ghost state = { λ d. untold d.faults d.asked (live_at d.opens) };
+impl<R: Files + AllocGlobal + Clone + Drop> Disk for HostDisk<R> {
+    ghost state = { λ d. untold d.faults d.asked (live_at d.opens) (listers_at d.listings) };
 
     fn meta(&mut self, path: &FsPath) -> Result<Meta, DiskError> {
         self.asked = self.asked.saturating_add(1);
@@ -129,7 +135,7 @@ impl<R: Files + Drop> Disk for HostDisk<R> {
 
     fn open(&mut self, path: &FsPath, how: OpenOptions, public: bool) -> Result<Handle, DiskError> {
         self.asked = self.asked.saturating_add(1);
-        let Some(handle) = free_handle(&self.opens) else {
+        let Some(handle) = free_key(&self.opens) else {
             return Err(DiskError::NoMemory);
         };
         if !lay_path(&mut self.path, self.root.as_str(), path.as_slice()) {
@@ -145,12 +151,7 @@ impl<R: Files + Drop> Disk for HostDisk<R> {
         let Some(meta) = open_meta(&file) else {
             return Err(self.fault());
         };
-        let opened = HostFile {
-            file,
-            kind: meta.kind,
-            how,
-        };
-        match self.opens.insert(handle, opened) {
+        match self.opens.insert(handle, HostFile::new(file, how, meta)) {
             Ok(_) => Ok(Handle(handle)),
             Err(_) => Err(DiskError::NoMemory),
         }
@@ -158,11 +159,7 @@ impl<R: Files + Drop> Disk for HostDisk<R> {
 
     fn file_meta(&mut self, file: Handle) -> Result<Meta, DiskError> {
         self.asked = self.asked.saturating_add(1);
-        let found = match self.opens.get(&file.0) {
-            Some(opened) => same_kind(opened.kind, open_meta(&opened.file)),
-            None => None,
-        };
-        match found {
+        match meta_at(&mut self.opens, file.0) {
             Some(meta) => Ok(meta),
             None => Err(self.fault()),
         }
@@ -191,11 +188,45 @@ impl<R: Files + Drop> Disk for HostDisk<R> {
         let _ = self.opens.remove(&file.0);
     }
 
+    fn list(&mut self, path: &FsPath) -> Result<Lister, DiskError> {
+        self.asked = self.asked.saturating_add(1);
+        let Some(lister) = free_key(&self.listings) else {
+            return Err(DiskError::NoMemory);
+        };
+        if !lay_path(&mut self.path, self.root.as_str(), path.as_slice()) {
+            return Err(self.fault());
+        }
+        let names = match fs::read_dir(&self.rt, self.path.as_str()) {
+            Ok(names) => names,
+            Err(error) => match list_refusal(&error) {
+                Some(e) => return Err(e),
+                None => return Err(self.fault()),
+            },
+        };
+        match self.listings.insert(lister, listing_of(names)) {
+            Ok(_) => Ok(Lister(lister)),
+            Err(_) => Err(DiskError::NoMemory),
+        }
+    }
+
+    fn list_next(&mut self, alloc: Global, at: Lister) -> Result<Option<Text>, DiskError> {
+        self.asked = self.asked.saturating_add(1);
+        match next_name(alloc, &mut self.listings, at.0) {
+            Ok(found) => Ok(found),
+            Err(DiskError::NoMemory) => Err(DiskError::NoMemory),
+            Err(_) => Err(self.fault()),
+        }
+    }
+
+    fn end_list(&mut self, at: Lister) {
+        let _ = self.listings.remove(&at.0);
+    }
+
     fn turn(&mut self) -> Result<(), NoMemory> {
         Ok(())
     }
 
     ghost world = { λ d w e. never_told w e };
 
-    ghost tells_live = { λ d. untold_live (untold d.faults d.asked (live_at d.opens)) refl };
+    ghost tells_live = { λ d. untold_live (untold d.faults d.asked (live_at d.opens) (listers_at d.listings)) refl };
 }

@@ -4,6 +4,8 @@
 
 mod clock;
 mod host;
+mod keys;
+mod listings;
 mod meta;
 mod opens;
 mod paths;

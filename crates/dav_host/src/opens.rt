@@ -1,11 +1,13 @@
 // The table of open files.
-ghost use Rattle.std.specs.Prelude.{◌≡◌, ◌<◌, ◌≤◌, ◌^◌, ℕ, None, Some, IsSome, IfSome, IfNone, OnOk, OnErr, length};
+ghost use Rattle.std.specs.Prelude.{◌≡◌, ◌≤◌, Some, IfSome, length, option_map};
 ghost use Rattle.dav_core.specs.Disk.{can_read as the_can_read};
-ghost use Rattle.dav_host.specs.Host.{live_at};
+ghost use Rattle.dav_host.specs.Host.{live_at, live_of};
 
+use crate::meta::meta_of;
 use crate::stream::read_again;
-use dav_core::{Kind, OpenOptions};
+use dav_core::{Kind, Meta, OpenOptions};
 use std::collections::BTreeMap;
+use std::fs::OpenFile;
 use std::io::{Read, Seek, SeekFrom};
 
 // An open file of the machine, with the kind that was seen when it was opened, and how it was opened.
@@ -14,19 +16,41 @@ pub struct HostFile<F> {
     pub file: F,
     pub kind: Kind,
     pub how: OpenOptions,
+    // What was seen when it was opened, until it is asked for. It is kept only of a file that isn't written.
+    pub seen: Option<Meta>,
 }
 
-// The least handle that isn't live, or none where all are.
-pub fn free_handle<F>(opens: &BTreeMap<u32, HostFile<F>>) -> Option<u32>
-    ensures free { IfSome result (λ h. live_at opens.now h ≡ None) }
-    ensures full { IfNone result ((h : ℕ) → h < 2 ^ 32 → IsSome (live_at opens.now h)) }
-{
-    for handle in 0..=u32::MAX {
-        if !opens.contains_key(&handle) {
-            return Some(handle);
+impl<F: OpenFile> HostFile<F> {
+    // A file that was opened, and what was seen of it.
+    pub fn new(file: F, how: OpenOptions, meta: Meta) -> HostFile<F>
+        ensures { live_of result ≡ record { kind = meta.kind; how = how } }
+    {
+        let is_written = how.write || how.append;
+        HostFile {
+            file,
+            kind: meta.kind,
+            how,
+            seen: if is_written { None } else { Some(meta) },
         }
     }
-    None
+
+    // What is said of it, if it has still the kind that was seen when it was opened. None is a fault.
+    fn look(&mut self) -> Option<Meta>
+        ensures live { live_of self.new ≡ live_of self.old }
+        ensures kind { IfSome result (λ meta. meta.kind ≡ self.old.kind) }
+    {
+        let found = match self.seen.take() {
+            Some(meta) => Some(meta),
+            None => open_meta(&self.file),
+        };
+        let meta = found?;
+        (meta.kind == self.kind).then_some(meta)
+    }
+}
+
+// What the machine says of an open file, or None where that is a fault.
+pub fn open_meta<F: OpenFile>(file: &F) -> Option<Meta> {
+    meta_of(&file.metadata().ok()?)
 }
 
 // Whether a regular file was opened for reading.
@@ -36,6 +60,17 @@ pub fn can_read<F>(opens: &BTreeMap<u32, HostFile<F>>, handle: u32) -> bool
     match opens.get(&handle) {
         Some(opened) => opened.kind == Kind::File && opened.how.read,
         None => false,
+    }
+}
+
+// What is said of an open file: first what was seen when it was opened. None is a fault.
+pub fn meta_at<F: OpenFile>(opens: &mut BTreeMap<u32, HostFile<F>>, handle: u32) -> Option<Meta>
+    ensures live { live_at opens.new ≡ live_at opens.old }
+    ensures kind { IfSome result (λ meta. option_map (λ l. l.kind) (live_at opens.old handle) ≡ Some meta.kind) }
+{
+    match opens.get_mut(&handle) {
+        Some(opened) => opened.look(),
+        None => None,
     }
 }
 

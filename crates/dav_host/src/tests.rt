@@ -102,6 +102,57 @@ fn a_host_disk_reads_files_of_the_machine(rt: HostRuntime) -> Result<(), Fail> {
     Ok(())
 }
 
+// The first name of a listing of the directory at a path and whether it is the only one, or None where there is none.
+fn only_name<D: Disk>(
+    alloc: Global,
+    disk: &mut D,
+    text: &str,
+) -> Result<Option<(Text, bool)>, DiskError> {
+    let Ok(path) = path_of(alloc, text) else {
+        return Err(DiskError::NoMemory);
+    };
+    let at = disk.list(&path)?;
+    let first = disk.list_next(alloc, at);
+    let second = disk.list_next(alloc, at);
+    disk.end_list(at);
+    match (first?, second?) {
+        (None, _) => Ok(None),
+        (Some(name), next) => Ok(Some((name, next.is_none()))),
+    }
+}
+
+// Whether a listing gives this name alone, `-` for none, or is refused so.
+fn lists<D: Disk>(alloc: Global, disk: &mut D, text: &str, want: Result<&str, DiskError>) -> bool {
+    match (only_name(alloc, disk, text), want) {
+        (Ok(Some((name, only))), Ok(want)) => only && name.as_str() == want,
+        (Ok(None), Ok(want)) => want == "-",
+        (Err(found), Err(want)) => found == want,
+        _ => false,
+    }
+}
+
+#[test]
+fn a_host_disk_lists_folders_of_the_machine(rt: HostRuntime) -> Result<(), Fail> {
+    let alloc = rt.alloc();
+    let _ = fs::remove_dir_all(&rt, "lists");
+    fs::create_dir_all(&rt, "lists/d/e")?;
+    fs::write(&rt, "lists/d/e/f", "")?;
+    let long = "n".repeat(alloc, 8200)?;
+    let mut disk = HostDisk::new(alloc, &rt, "lists")?;
+    let rows = [
+        ("d", Ok("e")),
+        ("d/e", Ok("f")),
+        ("d/e/f", Err(DiskError::NotDir)),
+        ("x", Err(DiskError::NotFound)),
+        (long.as_str(), Err(DiskError::Failed)),
+    ];
+    for (text, want) in rows {
+        assert!(rt; lists(alloc, &mut disk, text, want), "{text}");
+    }
+    assert_eq!(rt; disk.faults(), 1);
+    Ok(())
+}
+
 fn put<K: Sink>(sink: &mut K, bytes: &[u8]) -> Result<usize, Failed> {
     if bytes.is_empty() {
         return Ok(0);

@@ -41,7 +41,8 @@ impl<D: Disk> DavFile<D> for PlainFile {
     /// Its metadata as it is now, by one call of the disk.
     fn metadata(&mut self, disk: &mut D) -> Result<PlainMeta, FsError>
         requires { IsSome ((D.state disk.old).live self.old.handle.0) }
-        ensures done { FileSays (D.state disk.old) self.old.handle.0 (seen_by self.old (D.state disk.old)) (info_in (λ m. info_of m.0) result) (D.state disk.new) (seen_by self.new (D.state disk.new)) }
+        ensures done { FileSays (D.state disk.old) self.old.handle.0 (seen_by self.old (D.state disk.old))
+            (info_in (λ m. info_of m.0) result) (D.state disk.new) (seen_by self.new (D.state disk.new)) }
         ensures handle { self.new.handle.0 ≡ self.old.handle.0 }
         ensures loan { D.loan disk.new ≡ D.loan disk.old }
         ensures asks { AsksMeta (D.state disk.old) self.old.handle.0 result (D.state disk.new) }
@@ -55,7 +56,8 @@ impl<D: Disk> DavFile<D> for PlainFile {
     /// Sets its place, by one call of the disk. It is refused only by a fault, whatever it is.
     fn seek(&mut self, disk: &mut D, place: u64) -> Result<u64, FsError>
         requires { IsSome ((D.state disk.old).live self.old.handle.0) }
-        ensures done { FileSeeks (D.state disk.old) self.old.handle.0 (seen_by self.old (D.state disk.old)) place result (D.state disk.new) (seen_by self.new (D.state disk.new)) }
+        ensures done { FileSeeks (D.state disk.old) self.old.handle.0 (seen_by self.old (D.state disk.old)) place result
+            (D.state disk.new) (seen_by self.new (D.state disk.new)) }
         ensures handle { self.new.handle.0 ≡ self.old.handle.0 }
         ensures loan { D.loan disk.new ≡ D.loan disk.old }
         ensures only { OnErr result (IsFault (D.state disk.old) result (D.state disk.new)) }
@@ -71,10 +73,12 @@ impl<D: Disk> DavFile<D> for PlainFile {
     fn read_into(&mut self, disk: &mut D, into: &mut [u8]) -> Result<usize, FsError>
         requires live { IsSome ((D.state disk.old).live self.old.handle.0) }
         requires room { 0 < length into.old }
-        ensures done { FileReads (D.state disk.old) self.old.handle.0 (seen_by self.old (D.state disk.old)) into.new result (D.state disk.new) (seen_by self.new (D.state disk.new)) }
+        ensures done { FileReads (D.state disk.old) self.old.handle.0 (seen_by self.old (D.state disk.old)) into.new
+            result (D.state disk.new) (seen_by self.new (D.state disk.new)) }
         ensures handle { self.new.handle.0 ≡ self.old.handle.0 }
         ensures loan { D.loan disk.new ≡ D.loan disk.old }
-        ensures only { OnErr result (IsFault (D.state disk.old) result (D.state disk.new) ⊎ ((result ≡ Err FsError.Forbidden) × (can_read ((D.state disk.old).live self.old.handle.0) ≡ false))) }
+        ensures only { OnErr result (IsFault (D.state disk.old) result (D.state disk.new)
+            ⊎ ((result ≡ Err FsError.Forbidden) × (can_read ((D.state disk.old).live self.old.handle.0) ≡ false))) }
         ensures asks { AsksRead (D.state disk.old) self.old.handle.0 into.new result (D.state disk.new) }
     {
         match disk.read(self.handle, into) {
@@ -104,7 +108,8 @@ impl<D: Disk> DavFile<D> for PlainFile {
     /// None: it sends nobody elsewhere. It asks the disk nothing.
     fn redirect_url(&mut self, _alloc: Global, _disk: &mut D) -> Result<Option<Text>, FsError>
         requires { IsSome ((D.state _disk.old).live self.old.handle.0) }
-        ensures done { FileRedirects (D.state _disk.old) (seen_by self.old (D.state _disk.old)) result (D.state _disk.new) (seen_by self.new (D.state _disk.new)) }
+        ensures done { FileRedirects (D.state _disk.old) (seen_by self.old (D.state _disk.old)) result
+            (D.state _disk.new) (seen_by self.new (D.state _disk.new)) }
         ensures handle { self.new.handle.0 ≡ self.old.handle.0 }
         ensures loan { D.loan _disk.new ≡ D.loan _disk.old }
         ensures none { result ≡ Ok None }

@@ -169,4 +169,6 @@ impl<D: Disk> DavFileSystem for PlainFs<D> {
     ghost puts_over = { λ s d e. refl };
 
     ghost puts_back = { λ s. refl };
+
+    ghost admits_lent = { λ s d keeps admits. admits };
 }

@@ -11,6 +11,3 @@ pub use entry::{PlainDir, PlainEntry};
 pub use file::PlainFile;
 pub use fs::PlainFs;
 pub use meta::PlainMeta;
-
-#[cfg(test)]
-mod tests;

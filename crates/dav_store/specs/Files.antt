@@ -32,9 +32,13 @@ Spoiled s result t = IsFault s result t ⊎ (result ≡ Err NoMemory)
 abbrev pub AsksOnce : DiskState → DiskState → Type 0
 AsksOnce s t = t.asked ≡ one_more s.asked
 
+-- one call was asked, or none
+abbrev pub AsksAtMostOnce : DiskState → DiskState → Type 0
+AsksAtMostOnce s t = (t.asked ≡ s.asked) ⊎ AsksOnce s t
+
 -- One call was asked; where memory was refused maybe none.
 abbrev pub AsksToGive : {A : Type 0} → Result A FsError → DiskState → DiskState → Type 0
-AsksToGive (Err NoMemory) s t = (t.asked ≡ s.asked) ⊎ AsksOnce s t
+AsksToGive (Err NoMemory) s t = AsksAtMostOnce s t
 AsksToGive result s t = AsksOnce s t
 
 -- The metadata of the file as it is now.
@@ -107,6 +111,7 @@ Redirects s (Err e) t f = Spoiled {T = Option (List ℕ)} s (Err e) t
 
 pub record FileRedirects (s : DiskState) (seen : Option Seen) (result : Result (Option (List ℕ)) FsError) (t : DiskState) (after : Option Seen) : Type 0 where
   pub keeps : Keeps s t
+  pub asked : AsksAtMostOnce s t
   pub same : after ≡ seen
   pub refused : OnErr result (Spoiled s result t)
   pub printable : IfOk result (λ address. IfSome address (λ text. list_all is_printable text ≡ true))

@@ -6,12 +6,8 @@ use Rattle.dav_core.specs.declared.error.FsError.TheVariants.{NoMemory}
 use Rattle.dav_core.specs.declared.tree.Kind.{Kind}
 use Rattle.dav_core.specs.Disk.{DiskState, Live}
 use Rattle.dav_core.specs.Info.{Info}
-use Rattle.dav_core.specs.Unchanged.{Keeps, SameOpen, SameBesidesOpens}
+use Rattle.dav_core.specs.Unchanged.{Keeps, SameOpen, SameListing, SameBesidesOpens}
 use Rattle.dav_core.specs.World.{World}
-
--- the names that a listing has to come stay
-abbrev pub SameListing : ℕ → World → World → Type 0
-SameListing n v w = w.listings n ≡ v.listings n
 
 -- what a disk has of the lister that a listing holds, if it holds one
 abbrev pub left_of : DiskState → Option ℕ → Option ℕ

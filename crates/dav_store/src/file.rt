@@ -26,7 +26,8 @@ pub trait DavFile<D: Disk> {
     /// Its metadata as it is now. It is refused only by a fault.
     fn metadata(&mut self, disk: &mut D) -> Result<Self::Meta, FsError>
         requires { IsSome ((D.state disk.old).live (handle self.old)) }
-        ensures done { FileSays (D.state disk.old) (handle self.old) (seen self.old (D.state disk.old)) (info_in Self.Meta.info result) (D.state disk.new) (seen self.new (D.state disk.new)) }
+        ensures done { FileSays (D.state disk.old) (handle self.old) (seen self.old (D.state disk.old))
+            (info_in Self.Meta.info result) (D.state disk.new) (seen self.new (D.state disk.new)) }
         ensures handle { handle self.new ≡ handle self.old }
         ensures loan { D.loan disk.new ≡ D.loan disk.old };
 
@@ -34,7 +35,8 @@ pub trait DavFile<D: Disk> {
     /// refused only by a fault.
     fn seek(&mut self, disk: &mut D, place: u64) -> Result<u64, FsError>
         requires { IsSome ((D.state disk.old).live (handle self.old)) }
-        ensures done { FileSeeks (D.state disk.old) (handle self.old) (seen self.old (D.state disk.old)) place result (D.state disk.new) (seen self.new (D.state disk.new)) }
+        ensures done { FileSeeks (D.state disk.old) (handle self.old) (seen self.old (D.state disk.old)) place result
+            (D.state disk.new) (seen self.new (D.state disk.new)) }
         ensures handle { handle self.new ≡ handle self.old }
         ensures loan { D.loan disk.new ≡ D.loan disk.old };
 
@@ -43,7 +45,8 @@ pub trait DavFile<D: Disk> {
     fn read_into(&mut self, disk: &mut D, into: &mut [u8]) -> Result<usize, FsError>
         requires live { IsSome ((D.state disk.old).live (handle self.old)) }
         requires room { 0 < length into.old }
-        ensures done { FileReads (D.state disk.old) (handle self.old) (seen self.old (D.state disk.old)) into.new result (D.state disk.new) (seen self.new (D.state disk.new)) }
+        ensures done { FileReads (D.state disk.old) (handle self.old) (seen self.old (D.state disk.old)) into.new result
+            (D.state disk.new) (seen self.new (D.state disk.new)) }
         ensures handle { handle self.new ≡ handle self.old }
         ensures loan { D.loan disk.new ≡ D.loan disk.old };
 
@@ -52,7 +55,8 @@ pub trait DavFile<D: Disk> {
     fn read_bytes(&mut self, alloc: Global, disk: &mut D, count: usize) -> Result<Bytes, FsError>
         requires live { IsSome ((D.state disk.old).live (handle self.old)) }
         requires some { 0 < count }
-        ensures done { FileGives (D.state disk.old) (handle self.old) (seen self.old (D.state disk.old)) count result (D.state disk.new) (seen self.new (D.state disk.new)) }
+        ensures done { FileGives (D.state disk.old) (handle self.old) (seen self.old (D.state disk.old)) count result
+            (D.state disk.new) (seen self.new (D.state disk.new)) }
         ensures handle { handle self.new ≡ handle self.old }
         ensures loan { D.loan disk.new ≡ D.loan disk.old }
     {
@@ -72,7 +76,8 @@ pub trait DavFile<D: Disk> {
     fn write_bytes(&mut self, disk: &mut D, buf: &[u8]) -> Result<(), FsError>
         requires { IsSome ((D.state disk.old).live (handle self.old)) }
         ensures done { writes self.old (D.state disk.old) buf.now result self.new (D.state disk.new) }
-        ensures one { FileWrites (D.state disk.old) (handle self.old) (seen self.old (D.state disk.old)) buf.now result (D.state disk.new) (seen self.new (D.state disk.new)) }
+        ensures one { FileWrites (D.state disk.old) (handle self.old) (seen self.old (D.state disk.old)) buf.now result
+            (D.state disk.new) (seen self.new (D.state disk.new)) }
         ensures handle { handle self.new ≡ handle self.old }
         ensures loan { D.loan disk.new ≡ D.loan disk.old };
 
@@ -80,21 +85,24 @@ pub trait DavFile<D: Disk> {
     fn write_buf<B: Buf + Drop>(&mut self, disk: &mut D, buf: B) -> Result<(), FsError>
         requires { IsSome ((D.state disk.old).live (handle self.old)) }
         ensures done { writes self.old (D.state disk.old) (B.unread buf) result self.new (D.state disk.new) }
-        ensures one { FileWrites (D.state disk.old) (handle self.old) (seen self.old (D.state disk.old)) (B.unread buf) result (D.state disk.new) (seen self.new (D.state disk.new)) }
+        ensures one { FileWrites (D.state disk.old) (handle self.old) (seen self.old (D.state disk.old)) (B.unread buf)
+            result (D.state disk.new) (seen self.new (D.state disk.new)) }
         ensures handle { handle self.new ≡ handle self.old }
         ensures loan { D.loan disk.new ≡ D.loan disk.old };
 
     /// Writes out what is held back, of which there is nothing. It asks the disk nothing.
     fn flush(&mut self, disk: &mut D) -> Result<(), FsError>
         requires { IsSome ((D.state disk.old).live (handle self.old)) }
-        ensures done { FileFlushes (D.state disk.old) (seen self.old (D.state disk.old)) result (D.state disk.new) (seen self.new (D.state disk.new)) }
+        ensures done { FileFlushes (D.state disk.old) (seen self.old (D.state disk.old)) result (D.state disk.new)
+            (seen self.new (D.state disk.new)) }
         ensures handle { handle self.new ≡ handle self.old }
         ensures loan { D.loan disk.new ≡ D.loan disk.old };
 
-    /// The address to which it sends a client, where it has one: a text of printable ASCII.
+    /// The address to which it sends a client, where it has one: a text of printable ASCII. It asks the disk at most once.
     fn redirect_url(&mut self, alloc: Global, disk: &mut D) -> Result<Option<Text>, FsError>
         requires { IsSome ((D.state disk.old).live (handle self.old)) }
-        ensures done { FileRedirects (D.state disk.old) (seen self.old (D.state disk.old)) result (D.state disk.new) (seen self.new (D.state disk.new)) }
+        ensures done { FileRedirects (D.state disk.old) (seen self.old (D.state disk.old)) result (D.state disk.new)
+            (seen self.new (D.state disk.new)) }
         ensures handle { handle self.new ≡ handle self.old }
         ensures loan { D.loan disk.new ≡ D.loan disk.old };
 

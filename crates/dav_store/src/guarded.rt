@@ -59,8 +59,9 @@ pub trait GuardedFileSystem<C> {
     /// How many answers a listing has to come, by what the disk has of its lister.
     ghost to_come: { Self.Dir → Option ℕ → ℕ };
 
-    /// Whether the store may remember what a listing gives.
-    ghost admits: { Self → Self.Dir → Type 0 } = { λ _ _. Unit {0} };
+    /// Whether the store may remember what a listing gives now. It speaks of its memory and of the tree, so all that only
+    /// reads keeps it.
+    ghost admits: { Self → Type 0 } = { λ _. Unit {0} };
 
     /// What the beginning of a listing may answer.
     ghost lists: { Self → C → WebPath → ReadDirMeta → Result Self.Dir FsError → Self → Type 0 };
@@ -104,12 +105,14 @@ pub trait GuardedFileSystem<C> {
     fn metadata(&mut self, path: &DavPath, credentials: &C) -> Result<Self::Meta, FsError>
         ensures done { looks self.old credentials.now path.now (info_in Self.Meta.info result) self.new }
         ensures keeps { Keeps (Self.Disk.state (inside self.old)) (Self.Disk.state (inside self.new)) }
+        ensures admits { admits self.old → admits self.new }
         ensures loan { Self.Disk.loan (inside self.new) ≡ Self.Disk.loan (inside self.old) };
 
     /// What stands at a path, links not followed.
     fn symlink_metadata(&mut self, path: &DavPath, credentials: &C) -> Result<Self::Meta, FsError>
         ensures done { looks_at_link self.old credentials.now path.now (info_in Self.Meta.info result) self.new }
         ensures keeps { Keeps (Self.Disk.state (inside self.old)) (Self.Disk.state (inside self.new)) }
+        ensures admits { admits self.old → admits self.new }
         ensures loan { Self.Disk.loan (inside self.new) ≡ Self.Disk.loan (inside self.old) };
 
     /// Opens what stands at a path, at its first byte.
@@ -120,7 +123,9 @@ pub trait GuardedFileSystem<C> {
         credentials: &C,
     ) -> Result<Self::File, FsError>
         ensures done { opens self.old credentials.now path.now options result self.new }
-        ensures one { OpensOne Self.File.handle Self.File.seen options (Self.Disk.state (inside self.old)) result (Self.Disk.state (inside self.new)) }
+        ensures one { OpensOne Self.File.handle Self.File.seen options (Self.Disk.state (inside self.old)) result
+            (Self.Disk.state (inside self.new)) }
+        ensures admits { admits self.old → admits self.new }
         ensures loan { Self.Disk.loan (inside self.new) ≡ Self.Disk.loan (inside self.old) };
 
     /// Begins a listing of the directory at a path.
@@ -132,16 +137,20 @@ pub trait GuardedFileSystem<C> {
     ) -> Result<Self::Dir, FsError>
         ensures done { lists self.old credentials.now path.now meta result self.new }
         ensures one { ListsOne lister (Self.Disk.state (inside self.old)) result (Self.Disk.state (inside self.new)) }
+        ensures admits { admits self.old → admits self.new }
         ensures loan { Self.Disk.loan (inside self.new) ≡ Self.Disk.loan (inside self.old) };
 
     /// The next entry, or None after the last. Each answer but None and want of memory leaves fewer answers to come.
     fn next_entry(&mut self, dir: &mut Self::Dir) -> Result<Option<Self::Entry>, FsError>
         requires live { HasLister (Self.Disk.state (inside self.old)) (lister dir.old) }
-        requires admits { admits self.old dir.old }
+        requires admits { admits self.old }
         ensures done { lists_on self.old dir.old result self.new dir.new }
-        ensures nearer { Nearer (to_come dir.old (left_of (Self.Disk.state (inside self.old)) (lister dir.old))) result (to_come dir.new (left_of (Self.Disk.state (inside self.new)) (lister dir.new))) }
-        ensures goes_on { GoesOn (Self.Disk.state (inside self.old)) (lister dir.old) (Self.Disk.state (inside self.new)) }
+        ensures nearer { Nearer (to_come dir.old (left_of (Self.Disk.state (inside self.old)) (lister dir.old))) result
+            (to_come dir.new (left_of (Self.Disk.state (inside self.new)) (lister dir.new))) }
+        ensures goes_on { GoesOn (Self.Disk.state (inside self.old)) (lister dir.old)
+            (Self.Disk.state (inside self.new)) }
         ensures lister { lister dir.new ≡ lister dir.old }
+        ensures admits { admits self.old → admits self.new }
         ensures loan { Self.Disk.loan (inside self.new) ≡ Self.Disk.loan (inside self.old) };
 
     /// Ends a listing.
@@ -149,6 +158,7 @@ pub trait GuardedFileSystem<C> {
         requires { HasLister (Self.Disk.state (inside self.old)) (lister dir) }
         ensures done { ends_list self.old dir self.new }
         ensures ends { EndsList (Self.Disk.state (inside self.old)) (lister dir) (Self.Disk.state (inside self.new)) }
+        ensures admits { admits self.old → admits self.new }
         ensures loan { Self.Disk.loan (inside self.new) ≡ Self.Disk.loan (inside self.old) };
 
     /// Makes a directory at a path.
@@ -189,4 +199,8 @@ pub trait GuardedFileSystem<C> {
 
     /// Putting inside what is inside changes nothing.
     ghost puts_back: { (s : Self) → with_disk s (inside s) ≡ s };
+
+    /// A disk put inside that has the same tree keeps what the store may remember.
+    ghost admits_lent: { (s : Self) (d : Self.Disk) → Keeps (Self.Disk.state (inside s)) (Self.Disk.state d)
+        → admits s → admits (with_disk s d) };
 }

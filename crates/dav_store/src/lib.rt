@@ -8,6 +8,7 @@ mod file;
 mod guarded;
 mod through;
 mod unguarded;
+mod walk;
 
 pub use body_reader::BodyReader;
 pub use entry::{DavDirEntry, ReadDirMeta};
@@ -15,6 +16,7 @@ pub use file::DavFile;
 pub use guarded::GuardedFileSystem;
 pub use through::{file_close, file_metadata, file_read, file_seek};
 pub use unguarded::DavFileSystem;
+pub use walk::count_entries;
 
 #[cfg(test)]
 mod tests;

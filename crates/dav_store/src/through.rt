@@ -12,7 +12,8 @@ pub fn file_metadata<S: GuardedFileSystem<C>, C>(
     file: &mut S::File,
 ) -> Result<S::Meta, FsError>
     requires { IsSome ((S.Disk.state (S.inside fs.old)).live (S.File.handle file.old)) }
-    ensures { Says (the_view S.GuardedFileSystem S.Disk.Disk S.File.DavFile) fs.old file.old (info_in S.Meta.info result) fs.new file.new }
+    ensures { Says (the_view S.GuardedFileSystem S.Disk.Disk S.File.DavFile) fs.old file.old
+        (info_in S.Meta.info result) fs.new file.new }
 {
     file.metadata(fs.disk())
 }
@@ -24,7 +25,8 @@ pub fn file_seek<S: GuardedFileSystem<C>, C>(
     place: u64,
 ) -> Result<u64, FsError>
     requires { IsSome ((S.Disk.state (S.inside fs.old)).live (S.File.handle file.old)) }
-    ensures { Seeks (the_view S.GuardedFileSystem S.Disk.Disk S.File.DavFile) fs.old file.old place result fs.new file.new }
+    ensures { Seeks (the_view S.GuardedFileSystem S.Disk.Disk S.File.DavFile) fs.old file.old place result fs.new
+        file.new }
 {
     file.seek(fs.disk(), place)
 }
@@ -37,7 +39,8 @@ pub fn file_read<S: GuardedFileSystem<C>, C>(
 ) -> Result<usize, FsError>
     requires live { IsSome ((S.Disk.state (S.inside fs.old)).live (S.File.handle file.old)) }
     requires room { 0 < length into.old }
-    ensures { Reads (the_view S.GuardedFileSystem S.Disk.Disk S.File.DavFile) fs.old file.old into.new result fs.new file.new }
+    ensures { Reads (the_view S.GuardedFileSystem S.Disk.Disk S.File.DavFile) fs.old file.old into.new result fs.new
+        file.new }
 {
     file.read_into(fs.disk(), into)
 }

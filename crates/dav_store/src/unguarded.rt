@@ -47,7 +47,7 @@ pub trait DavFileSystem {
 
     ghost to_come: { Self.Dir → Option ℕ → ℕ };
 
-    ghost admits: { Self → Self.Dir → Type 0 } = { λ _ _. Unit {0} };
+    ghost admits: { Self → Type 0 } = { λ _. Unit {0} };
 
     ghost lists: { Self → WebPath → ReadDirMeta → Result Self.Dir FsError → Self → Type 0 };
 
@@ -87,34 +87,42 @@ pub trait DavFileSystem {
     fn metadata(&mut self, path: &DavPath) -> Result<Self::Meta, FsError>
         ensures done { looks self.old path.now (info_in Self.Meta.info result) self.new }
         ensures keeps { Keeps (Self.Disk.state (inside self.old)) (Self.Disk.state (inside self.new)) }
+        ensures admits { admits self.old → admits self.new }
         ensures loan { Self.Disk.loan (inside self.new) ≡ Self.Disk.loan (inside self.old) };
 
     /// What stands at a path, links not followed.
     fn symlink_metadata(&mut self, path: &DavPath) -> Result<Self::Meta, FsError>
         ensures done { looks_at_link self.old path.now (info_in Self.Meta.info result) self.new }
         ensures keeps { Keeps (Self.Disk.state (inside self.old)) (Self.Disk.state (inside self.new)) }
+        ensures admits { admits self.old → admits self.new }
         ensures loan { Self.Disk.loan (inside self.new) ≡ Self.Disk.loan (inside self.old) };
 
     /// Opens what stands at a path, at its first byte.
     fn open(&mut self, path: &DavPath, options: OpenOptions) -> Result<Self::File, FsError>
         ensures done { opens self.old path.now options result self.new }
-        ensures one { OpensOne Self.File.handle Self.File.seen options (Self.Disk.state (inside self.old)) result (Self.Disk.state (inside self.new)) }
+        ensures one { OpensOne Self.File.handle Self.File.seen options (Self.Disk.state (inside self.old)) result
+            (Self.Disk.state (inside self.new)) }
+        ensures admits { admits self.old → admits self.new }
         ensures loan { Self.Disk.loan (inside self.new) ≡ Self.Disk.loan (inside self.old) };
 
     /// Begins a listing of the directory at a path.
     fn read_dir(&mut self, path: &DavPath, meta: ReadDirMeta) -> Result<Self::Dir, FsError>
         ensures done { lists self.old path.now meta result self.new }
         ensures one { ListsOne lister (Self.Disk.state (inside self.old)) result (Self.Disk.state (inside self.new)) }
+        ensures admits { admits self.old → admits self.new }
         ensures loan { Self.Disk.loan (inside self.new) ≡ Self.Disk.loan (inside self.old) };
 
     /// The next entry, or None after the last. Each answer but None and want of memory leaves fewer answers to come.
     fn next_entry(&mut self, dir: &mut Self::Dir) -> Result<Option<Self::Entry>, FsError>
         requires live { HasLister (Self.Disk.state (inside self.old)) (lister dir.old) }
-        requires admits { admits self.old dir.old }
+        requires admits { admits self.old }
         ensures done { lists_on self.old dir.old result self.new dir.new }
-        ensures nearer { Nearer (to_come dir.old (left_of (Self.Disk.state (inside self.old)) (lister dir.old))) result (to_come dir.new (left_of (Self.Disk.state (inside self.new)) (lister dir.new))) }
-        ensures goes_on { GoesOn (Self.Disk.state (inside self.old)) (lister dir.old) (Self.Disk.state (inside self.new)) }
+        ensures nearer { Nearer (to_come dir.old (left_of (Self.Disk.state (inside self.old)) (lister dir.old))) result
+            (to_come dir.new (left_of (Self.Disk.state (inside self.new)) (lister dir.new))) }
+        ensures goes_on { GoesOn (Self.Disk.state (inside self.old)) (lister dir.old)
+            (Self.Disk.state (inside self.new)) }
         ensures lister { lister dir.new ≡ lister dir.old }
+        ensures admits { admits self.old → admits self.new }
         ensures loan { Self.Disk.loan (inside self.new) ≡ Self.Disk.loan (inside self.old) };
 
     /// Ends a listing.
@@ -122,6 +130,7 @@ pub trait DavFileSystem {
         requires { HasLister (Self.Disk.state (inside self.old)) (lister dir) }
         ensures done { ends_list self.old dir self.new }
         ensures ends { EndsList (Self.Disk.state (inside self.old)) (lister dir) (Self.Disk.state (inside self.new)) }
+        ensures admits { admits self.old → admits self.new }
         ensures loan { Self.Disk.loan (inside self.new) ≡ Self.Disk.loan (inside self.old) };
 
     /// Makes a directory at a path.
@@ -159,6 +168,9 @@ pub trait DavFileSystem {
     ghost puts_over: { (s : Self) (d e : Self.Disk) → with_disk (with_disk s d) e ≡ with_disk s e };
 
     ghost puts_back: { (s : Self) → with_disk s (inside s) ≡ s };
+
+    ghost admits_lent: { (s : Self) (d : Self.Disk) → Keeps (Self.Disk.state (inside s)) (Self.Disk.state d)
+        → admits s → admits (with_disk s d) };
 }
 
 impl<S: DavFileSystem> GuardedFileSystem<()> for S {
@@ -285,4 +297,6 @@ impl<S: DavFileSystem> GuardedFileSystem<()> for S {
     ghost puts_over = { S.puts_over };
 
     ghost puts_back = { S.puts_back };
+
+    ghost admits_lent = { S.admits_lent };
 }

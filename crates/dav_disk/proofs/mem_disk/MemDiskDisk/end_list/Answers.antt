@@ -1,0 +1,6 @@
+use Rattle.dav_disk.specs.Memory.{known_of}
+use Rattle.dav_disk.proofs.DoneListings.{end_done}
+use Rattle.dav_disk.proofs.mem_disk.MemDiskDisk.end_list.Goals as goal
+
+pub returns-clause-done : goal.returns-clause-done
+returns-clause-done c = end_done (known_of c.args.self.now.memory) (known_of c.end_list.new.self) _ _ _ _ c.args.at.0 (λ whole. whole) c.end_list.ensures
