@@ -21,6 +21,3 @@ pub use sender::{Sender, SenderFuture};
 pub use steps::Steps;
 pub use stream::AsyncStream;
 pub use stream_body::StreamBody;
-
-#[cfg(test)]
-mod tests;

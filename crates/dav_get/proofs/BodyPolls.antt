@@ -12,7 +12,7 @@ use Rattle.dav_get.specs.declared.part.BodyPart.TheVariants.{Text, Slice as Slic
 use Rattle.dav_get.specs.declared.open_at.OpenAt.{OpenAt}
 use Rattle.dav_get.specs.declared.body.GetBody.{GetBody}
 use Rattle.dav_get.specs.OpenFiles.{Fills}
-use Rattle.dav_get.specs.Bodies.{left_of, is_part, IsHeld, Passes, passed, TouchesOwn, Polls}
+use Rattle.dav_get.specs.Bodies.{left_of, is_part, has_room, IsHeld, Passes, passed, TouchesOwn, Polls}
 use Rattle.dav_get.proofs.Touching.{passes_ask, touches_then, passes_touch, held_then}
 
 -- the parts that follow the first
@@ -24,6 +24,17 @@ moved_is_part : (b : Bool) (slice : Slice) (n : ℕ) (parts : List BodyPart) →
 moved_is_part true slice n parts e is within all = all
 moved_is_part false slice n parts e is within all = grind (arith, nat_tests)
 
+moved_has_room : (b : Bool) (most room : ℕ) (slice : Slice) (n : ℕ) (parts : List BodyPart) → (slice.count - n == 0) ≡ b
+    → list_all (has_room most room) (SliceOf slice ∷ parts) ≡ true
+    → list_all (has_room most room) (cond b parts (SliceOf (record { start = slice.start + n; count = slice.count - n }) ∷ parts)) ≡ true
+moved_has_room true most room slice n parts e all = grind (arith, common_steps)
+moved_has_room false most room slice n parts e all = grind (arith, nat_tests)
+
+-- the room for a slice that stands first
+pub first_has_room : (most room : ℕ) (left : List BodyPart) (slice : Slice) (parts : List BodyPart) → left ≡ SliceOf slice ∷ parts → list_all (has_room most room) left ≡ true
+    → has_room most room (SliceOf slice) ≡ true
+first_has_room most room left slice parts is all = let both : list_all (has_room most room) (SliceOf slice ∷ parts) ≡ true = rw is at all in grind (arith, common_steps)
+
 module _ {F : Type 0} (handle : F → ℕ) (seen : F → DiskState → Option Seen) where
   pub text_polls : (s t : DiskState) (b c : GetBody F) (bytes : List ℕ) (rest : List BodyPart) → left_of b ≡ Text bytes ∷ rest → IsHeld handle seen s b
       → left_of c ≡ rest → Passes handle s b (left_of c) t c.file → c.most ≡ b.most → length c.buffer.items ≡ length b.buffer.items
@@ -34,7 +45,7 @@ module _ {F : Type 0} (handle : F → ℕ) (seen : F → DiskState → Option Se
         disk = passes_touch handle seen s t b (left_of c) c.file passes;
         takes = rw (is, same) (refl, left);
         asks = rw is (passes_ask handle seen s t b (left_of c) c.file passes);
-        held = held_then handle seen s t b c held passes (rw left later.1) (λ has. rw is (rw left at has)) most room;
+        held = held_then handle seen s t b c held passes (rw left later.1) (λ has. rw is (rw left at has)) (rw left (rw is at held.room)) most room;
         bound = rw (is, same) (omega arith);
         most = most;
         room = room;
@@ -49,7 +60,7 @@ module _ {F : Type 0} (handle : F → ℕ) (seen : F → DiskState → Option Se
     needs = λ has. rw after refl;
     over = λ none. absurd (some (sym left ∙ none));
     some = λ has. rw same (held.some (rw left at has));
-    room = λ has. rw (same, room) (held.room (rw left at has));
+    room = rw (same, room, left) held.room;
     file = λ k is. let e : k ≡ g = (let f : Some g ≡ Some k = sym after ∙ is in cc) in rw e fills.answer.4;
   }
 
@@ -83,7 +94,8 @@ module _ {F : Type 0} (handle : F → ℕ) (seen : F → DiskState → Option Se
           rw long left,
         ));
         asks = rw (is, before, passes_ask handle seen m t d (left_of c) c.file passes) fills.asks;
-        held = held_then handle seen m t d c there passes (rw left (moved_is_part _ slice n rest refl parts.0 within parts.1)) (λ has. rw (same, is) refl) cm cr;
+        held = held_then handle seen m t d c there passes (rw left (moved_is_part _ slice n rest refl parts.0 within parts.1)) (λ has. rw (same, is) refl)
+            (rw (left, dm, dr) (moved_has_room _ b.most (length b.buffer.items) slice n rest refl (rw is at held.room))) cm cr;
         bound = rw (is, front, long) (omega arith);
         most = cm ∙ dm;
         room = cr ∙ dr;

@@ -11,7 +11,8 @@ use Rattle.dav_core.specs.Options.{reading}
 use Rattle.dav_store.specs.Frames.{IsOpened}
 use Rattle.dav_store.specs.View.{View}
 use Rattle.dav_get.specs.declared.open_at.OpenAt.{OpenAt}
-use Rattle.dav_get.specs.Lives.{KeptOrClosed, HeldOrClosed, OpensOnly, OpenOnlyHeld, reading_file}
+use Rattle.dav_model.specs.Play.{read_file}
+use Rattle.dav_get.specs.Lives.{KeptOrClosed, HeldOrClosed, OpensOnly, OpenOnlyHeld}
 use Rattle.dav_get.specs.OpenFiles.{IsAt}
 use Rattle.dav_get.specs.Table.{Given}
 
@@ -21,7 +22,7 @@ kind_of_file File b is = refl
 kind_of_file Link b is = cc
 
 -- What may be read and was opened for reading is a regular file, opened for nothing else.
-read_alone : (live : Option Live) → can_read live ≡ true → ((l : Live) → live ≡ Some l → l.how ≡ reading) → live ≡ Some reading_file
+read_alone : (live : Option Live) → can_read live ≡ true → ((l : Live) → live ≡ Some l → l.how ≡ reading) → live ≡ Some read_file
 read_alone None can how = cc
 read_alone (Some l) can how =
     let kind = kind_of_file l.kind l.how.read can in

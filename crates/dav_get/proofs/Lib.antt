@@ -1,3 +1,5 @@
+pub mod FrontsRead
+pub mod Rooms
 pub mod Dates
 pub mod Several
 pub mod Touching
@@ -11,8 +13,8 @@ pub mod FilesLeftOpen
 pub mod BodyEnds
 pub mod Framing
 pub mod Sending
+pub mod Asking
 pub mod TableIsHeard
 pub mod MetaAsked
 pub mod HeardIsRight
 pub mod HeardCouldStand
-pub mod BodyNumbered

@@ -25,7 +25,7 @@ use Rattle.dav_get.specs.Table.{Answer, Holds, IfMoved, Sends, SendsFrom, first_
 rose_on : (a b c : ℕ) → Rose a b → b ≤ c → Rose a c
 rose_on a b c rose le = grind arith
 
-some_start : (sent : Sent) (start : ℕ) → first_place sent ≡ Some start → sent_status sent ≡ 206
+pub some_start : (sent : Sent) (start : ℕ) → first_place sent ≡ Some start → sent_status sent ≡ 206
 some_start All start e = cc
 some_start (Alone status) start e = cc
 some_start Unsatisfied start e = cc

@@ -11,7 +11,7 @@ use Rattle.dav_get.specs.declared.part.BodyPart.TheVariants.{Text}
 use Rattle.dav_get.specs.declared.open_at.OpenAt.{OpenAt}
 use Rattle.dav_get.specs.declared.body.GetBody.{GetBody}
 use Rattle.dav_get.specs.OpenFiles.{IsAt, SameStands}
-use Rattle.dav_get.specs.Bodies.{left_of, is_part, is_slice, text_of, IsText, IsHeld, Closes, Passes, TouchesOwn}
+use Rattle.dav_get.specs.Bodies.{left_of, is_part, is_slice, has_room, text_of, IsText, IsHeld, Closes, Passes, TouchesOwn}
 
 -- something is left before the end of a list
 pub some_left : {A : Type 0} (xs : List A) (n : ℕ) → n < length xs → drop n xs ≡ [] → ⊥
@@ -89,12 +89,13 @@ module _ {F : Type 0} (handle : F → ℕ) (seen : F → DiskState → Option Se
   -- a body stays held where it goes on
   pub held_then : (s t : DiskState) (b c : GetBody F) → IsHeld handle seen s b → Passes handle s b (left_of c) t c.file
       → list_all is_part (left_of c) ≡ true → (list_any is_slice (left_of c) ≡ true → list_any is_slice (left_of b) ≡ true)
+      → list_all (has_room b.most (length b.buffer.items)) (left_of c) ≡ true
       → c.most ≡ b.most → length c.buffer.items ≡ length b.buffer.items → IsHeld handle seen t c
-  held_then s t b c held passes parts slices most room = record {
+  held_then s t b c held passes parts slices fit most room = record {
     parts = parts;
     needs = needs_then s t b (left_of c) c.file passes (λ has. held.needs (slices has));
     over = over_then s t b (left_of c) c.file passes;
     some = λ has. rw most (held.some (slices has));
-    room = λ has. rw (most, room) (held.room (slices has));
+    room = rw (most, room) fit;
     file = file_then s t b (left_of c) c.file passes held.file;
   }

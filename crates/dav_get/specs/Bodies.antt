@@ -1,5 +1,5 @@
 -- What a body has left, and what a poll of it does.
-use Rattle.std.specs.Prelude.{◌≡◌, ◌≤◌, ◌<◌, ◌+◌, ◌-◌, ◌==◌, ◌⊎◌, ◌^◌, ◌&&◌, ℕ, nat_lt, List, [], ◌∷◌, length, take, drop, min, max, cond, Bool, true, false, is_some, Option, None, Some}
+use Rattle.std.specs.Prelude.{◌≡◌, ◌≤◌, ◌<◌, ◌+◌, ◌-◌, ◌==◌, ◌⊎◌, ◌^◌, ◌&&◌, ℕ, nat_lt, nat_le, List, [], ◌∷◌, length, take, drop, min, max, cond, Bool, true, false, is_some, Option, None, Some}
 use Rattle.std.specs.List.{list_all, list_any}
 use Rattle.dav_io.specs.Counts.{Rose}
 use Rattle.dav_core.specs.Disk.{DiskState}
@@ -9,6 +9,7 @@ use Rattle.dav_model.specs.declared.ranges.Slice.{Slice}
 use Rattle.dav_model.specs.declared.answer.Answer.{Answer}
 use Rattle.dav_model.specs.declared.answer.Answer.TheVariants.{Piece, End, Broken}
 use Rattle.dav_model.specs.Bodies.{Part, Polls as PollsParts}
+use Rattle.dav_model.specs.Calls.{AsksToRead, is_piece}
 use Rattle.dav_model.specs.Sizes.{zeros_size}
 use Rattle.dav_store.specs.Standing.{Seen}
 use Rattle.dav_store.specs.Files.{FileCloses}
@@ -18,7 +19,7 @@ use Rattle.dav_get.specs.declared.open_at.OpenAt.{OpenAt}
 use Rattle.dav_get.specs.declared.body.GetBody.{GetBody}
 use Rattle.dav_get.specs.declared.body.Given.{Given}
 use Rattle.dav_get.specs.declared.body.Given.TheVariants.{Text as GivenText, Read as GivenRead, End as GivenEnd, Broken as GivenBroken}
-use Rattle.dav_get.specs.OpenFiles.{AsksToRead, IsAt, SameStands, IsPieceOf}
+use Rattle.dav_get.specs.OpenFiles.{IsAt, SameStands, IsPieceOf}
 use Rattle.dav_get.specs.Parts.{parts_of}
 
 -- the parts that are left
@@ -34,6 +35,11 @@ abbrev pub is_slice : BodyPart → Bool
 is_slice (Text bytes) = false
 is_slice (SliceOf slice) = true
 
+-- whether there is room for each piece of a part: for all of a slice, or for the most that a piece has
+abbrev pub has_room : ℕ → ℕ → BodyPart → Bool
+has_room most room (Text bytes) = true
+has_room most room (SliceOf slice) = nat_le (min slice.count (max most zeros_size)) room
+
 -- the most bytes that the next piece may have
 abbrev pub next_most_of : List BodyPart → ℕ → ℕ
 next_most_of [] room = 0
@@ -48,7 +54,7 @@ pub record IsHeld {F : Type 0} (handle : F → ℕ) (seen : F → DiskState → 
   pub needs : list_any is_slice (left_of b) ≡ true → is_some b.file ≡ true
   pub over : left_of b ≡ [] → is_some b.file ≡ false
   pub some : list_any is_slice (left_of b) ≡ true → 0 < b.most
-  pub room : list_any is_slice (left_of b) ≡ true → max b.most zeros_size ≤ length b.buffer.items
+  pub room : list_all (has_room b.most (length b.buffer.items)) (left_of b) ≡ true
   pub file : (h : OpenAt F) → b.file ≡ Some h → IsAt handle seen s h
 
 -- The file is closed, where there is one.
@@ -91,11 +97,6 @@ TouchesOwn handle seen s (Some h) t (Some g) = KeepsBut (handle h.file) s t × (
 abbrev pub IfPiece : Answer → (List ℕ → Type 0) → Type 0
 IfPiece (Piece piece) P = P piece
 IfPiece answer P = Unit {0}
-
--- whether a piece is given
-abbrev pub is_piece : Answer → Bool
-is_piece (Piece piece) = true
-is_piece answer = false
 
 -- Which calls of the disk a poll asks: none for a text or at the end, and for a slice those by which its next bytes are
 -- read.

@@ -5,6 +5,7 @@ pub mod Bodies
 pub mod BodySteps
 pub mod BodyLent
 pub mod Table
+pub mod Calls
 pub mod Lives
 pub mod Prepared
 pub mod Right

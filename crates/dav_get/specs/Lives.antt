@@ -1,24 +1,19 @@
 -- What a GET leaves open: nothing but the file of its body.
 use Rattle.std.specs.Prelude.{◌≡◌, ℕ, true, Option, None, Some, Ok, Err}
 use Rattle.std.specs.List.{list_any}
-use Rattle.dav_core.specs.declared.tree.Kind.TheVariants.{File}
-use Rattle.dav_core.specs.Disk.{DiskState, Live}
-use Rattle.dav_core.specs.Options.{reading}
+use Rattle.dav_core.specs.Disk.{DiskState}
 use Rattle.dav_core.specs.Unchanged.{Keeps, KeepsBut}
+use Rattle.dav_model.specs.Play.{read_file}
 use Rattle.dav_store.specs.View.{View}
 use Rattle.dav_get.specs.declared.open_at.OpenAt.{OpenAt}
 use Rattle.dav_get.specs.Bodies.{IsHeld, is_slice, left_of}
 use Rattle.dav_get.specs.Table.{Given}
 
--- a regular file, opened for reading and nothing else
-abbrev pub reading_file : Live
-reading_file = record { kind = File; how = reading }
-
 -- Nothing is open that wasn't, but this file, which is open for reading.
 abbrev pub OpensOnly : {F : Type 0} → (F → ℕ) → DiskState → Option (OpenAt F) → DiskState → Type 0
 OpensOnly handle s None t = Keeps s t
 OpensOnly handle s (Some h) t =
-    KeepsBut (handle h.file) s t × (s.live (handle h.file) ≡ None) × (t.live (handle h.file) ≡ Some reading_file)
+    KeepsBut (handle h.file) s t × (s.live (handle h.file) ≡ None) × (t.live (handle h.file) ≡ Some read_file)
 
 module _ {S C F : Type 0} (view : View S C F) where
   -- the file in hand is the body's, or is closed

@@ -1,11 +1,12 @@
 -- What a body asks of its open file.
-use Rattle.std.specs.Prelude.{◌≡◌, ◌≢◌, ◌≤◌, ◌<◌, ◌⊎◌, ℕ, List, length, take, drop, Bool, true, false, is_some, IsTrue, IsFalse, Option, Some, MatchOption}
-use Rattle.dav_io.specs.Counts.{Rose, one_more}
+use Rattle.std.specs.Prelude.{◌≡◌, ◌≢◌, ◌≤◌, ◌<◌, ℕ, List, length, take, drop, Bool, true, is_some, IsTrue, IsFalse, Option, Some, MatchOption}
+use Rattle.dav_io.specs.Counts.{Rose}
 use Rattle.dav_io.specs.Told.{Both}
 use Rattle.dav_core.specs.Disk.{DiskState, can_read}
 use Rattle.dav_core.specs.Unchanged.{KeepsBut}
 use Rattle.dav_model.specs.declared.ranges.Slice.{Slice}
 use Rattle.dav_model.specs.Bodies.{PieceOf}
+use Rattle.dav_model.specs.Calls.{AsksToRead}
 use Rattle.dav_store.specs.Files.{AsksOnce}
 use Rattle.dav_store.specs.Standing.{Seen}
 use Rattle.dav_get.specs.declared.open_at.OpenAt.{OpenAt}
@@ -40,17 +41,6 @@ pub record IsPieceOf {F : Type 0} (seen : F → DiskState → Option Seen) (s : 
   pub within : length piece ≤ slice.count
   pub told : (f : Seen) → seen h.file s ≡ Some f → PieceOf s.whole most
       (drop slice.start f.stands.bytes) slice.count piece
-
--- A read was asked, or the move alone where that failed.
-abbrev pub MovesAndReads : Bool → ℕ → ℕ → Type 0
-MovesAndReads true before after = after ≡ one_more (one_more before)
-MovesAndReads false before after = (after ≡ one_more before) ⊎ (after ≡ one_more (one_more before))
-
--- Which calls of the disk the next bytes of a slice ask: one where the file stands at the slice, and two where it has
--- to be moved there. Where no bytes came, the second may not have been asked.
-pub record AsksToRead (place start : ℕ) (came : Bool) (before after : ℕ) : Type 0 where
-  pub here : place ≡ start → after ≡ one_more before
-  pub there : place ≢ start → MovesAndReads came before after
 
 -- A piece of n bytes stands at the front of the buffer, or a fault was met.
 pub record Fills {F : Type 0} (handle : F → ℕ) (seen : F → DiskState → Option Seen) (s : DiskState) (h : OpenAt F)

@@ -23,17 +23,8 @@ abbrev pub or_zero : Option ℕ → ℕ
 or_zero None = 0
 or_zero (Some number) = number
 
--- the number of an open file, where it is told, and 0 where it isn't
-abbrev pub number_seen : Option Seen → ℕ
-number_seen seen = or_zero (number_told seen)
-
 module _ {S C F : Type 0} (view : View S C F) where
   -- The file that the body has open has this number, where one is told.
   abbrev pub IsOfNumber : Option ℕ → S → Given F → Type 0
   IsOfNumber number t (Ok r) = (h : OpenAt F) → r.1.file ≡ Some h → number_told (seen_in view t h.file) ≡ number
   IsOfNumber number t (Err e) = Unit {0}
-
-  -- the number of the file that a body has open, and 0 where it has none
-  abbrev pub number_at : S → Option (OpenAt F) → ℕ
-  number_at t None = 0
-  number_at t (Some h) = number_seen (seen_in view t h.file)

@@ -1,4 +1,4 @@
-ghost use Rattle.std.specs.Prelude.{◌≡◌, ◌<◌, IfOk, max, vec_len};
+ghost use Rattle.std.specs.Prelude.{◌≡◌, ◌<◌, IfOk, max, min, vec_len};
 ghost use Rattle.dav_model.specs.Sizes.{zeros_size};
 
 use dav_io::NoMemory;
@@ -15,13 +15,15 @@ pub struct ReadBuffer {
 }
 
 impl ReadBuffer {
-    /// Room for pieces of at most `read_size` bytes of a file, and of at most 4,096 zeros.
-    pub fn new(alloc: Global, read_size: usize) -> Result<Self, NoMemory>
+    /// Room for pieces of at most `read_size` bytes of a file, and of at most 4,096 zeros. It is no longer than the longest
+    /// slice, which has `longest` bytes.
+    pub fn new(alloc: Global, read_size: usize, longest: u64) -> Result<Self, NoMemory>
         requires { 0 < read_size }
-        ensures { IfOk result (λ buffer. (buffer.most ≡ read_size) × (vec_len buffer.bytes ≡ max read_size
-            zeros_size)) }
+        ensures { IfOk result (λ buffer. (buffer.most ≡ read_size) × (vec_len buffer.bytes ≡ min longest (max read_size
+            zeros_size))) }
     {
-        let bytes = vec![in alloc; 0; read_size.max(ZEROS_SIZE)]?;
+        let room = longest.min(read_size.max(ZEROS_SIZE) as u64) as usize;
+        let bytes = vec![in alloc; 0; room]?;
         Ok(ReadBuffer {
             most: read_size,
             bytes,

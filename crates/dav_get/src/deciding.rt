@@ -1,5 +1,6 @@
 // What of a file is sent.
 ghost use Rattle.std.specs.Prelude.{◌≡◌, ℕ, None, IfOk};
+ghost use Rattle.dav_model.specs.Conditions.{ranges_are_heard as ranges_heard, strong};
 ghost use Rattle.dav_model.specs.Head.{sent_of, sent_ranges};
 ghost use Rattle.dav_model.specs.Slices.{AreWithin};
 ghost use Rattle.dav_get.specs.Table.{stood_by, first_place as the_first_place};
@@ -11,6 +12,7 @@ use dav_io::NoMemory;
 use dav_methods::{first_value, if_match, ranges_are_heard};
 use dav_model::{Ranges, Sent};
 use http::HeaderMap;
+use http::header::{IF_RANGE, RANGE};
 use std::alloc::Global;
 
 // What of a file is sent for its ranges.
@@ -43,12 +45,23 @@ pub(crate) fn decide<M: DavMetaData>(
     if let Some(status) = if_match(alloc, method, fields, Some(meta))? {
         return Ok(Sent::Alone(status.as_u16()));
     }
-    let tag = ETag::from_meta(alloc, meta)?;
-    if !ranges_are_heard(alloc, fields, tag.as_ref(), modified(meta))? {
+    if !are_heard(alloc, fields, meta)? {
         return Ok(Sent::All);
     }
-    let ranges = slices(alloc, first_value(fields, "range"), meta.len())?;
+    let ranges = slices(alloc, first_value(fields, &RANGE), meta.len())?;
     Ok(of_ranges(ranges))
+}
+
+// Whether the ranges are heard. The tag is made only where a field is compared with it.
+fn are_heard<M: DavMetaData>(alloc: Global, fields: &HeaderMap, meta: &M) -> Result<bool, NoMemory>
+    ensures { IfOk result (λ heard. heard ≡ ranges_heard fields.now (strong (M.info meta.now).tag)
+        (M.info meta.now).modified) }
+{
+    if first_value(fields, &IF_RANGE).is_none() {
+        return Ok(true);
+    }
+    let tag = ETag::from_meta(alloc, meta)?;
+    ranges_are_heard(alloc, fields, tag.as_ref(), modified(meta))
 }
 
 // The time of the last change, where it is known.

@@ -7,6 +7,7 @@ ghost use Rattle.dav_core.specs.Options.{reading};
 ghost use Rattle.dav_model.specs.declared.sent.Sent.TheVariants.{Unsatisfied};
 ghost use Rattle.dav_model.specs.declared.target.Target.TheVariants.{At};
 ghost use Rattle.dav_model.specs.Announced.{HasSoundBody, IsFramed};
+ghost use Rattle.dav_model.specs.Calls.{AsksUnlessKnown};
 ghost use Rattle.dav_model.specs.Due.{query};
 ghost use Rattle.dav_model.specs.Head.{is_set, is_well_known as the_is_well_known};
 ghost use Rattle.dav_model.specs.Sizes.{read_size_of};
@@ -14,6 +15,7 @@ ghost use Rattle.dav_store.specs.Shows.{Shows};
 ghost use Rattle.dav_store.specs.Standing.{Seen, Standing};
 ghost use Rattle.dav_store.specs.View.{the_view, Closes};
 ghost use Rattle.dav_get.specs.Asked.{asked_of};
+ghost use Rattle.dav_get.specs.Calls.{AsksByOne, status_given};
 ghost use Rattle.dav_get.specs.Heard.{Heard};
 ghost use Rattle.dav_get.specs.Lives.{HeldOrClosed, HasMost, OpenOnlyHeld};
 ghost use Rattle.dav_get.specs.OpenFiles.{IsAt};
@@ -385,7 +387,8 @@ fn is_well_known(asked: &Asked<'_>) -> bool
 /// `table` tells which call of the store gave the answer. `framed` says that its field `content-length` is the length
 /// of the body, and that a HEAD and 304 have none. `sound` says that no part of the body is empty, and that 204 has
 /// none. `heard` says, of any store, that the answer is right for what its look and its opening answered; `right`, that
-/// it is right for what the store shows at the path, unless a fault was met. Either way memory may be refused.
+/// it is right for what the store shows at the path, unless a fault was met. Either way memory may be refused. `asks`
+/// says, of a store that looks and opens by one call each, how many calls of the disk it takes.
 pub fn handle_get<S: GuardedFileSystem<C>, C>(
     alloc: Global,
     settings: &Settings,
@@ -406,6 +409,10 @@ pub fn handle_get<S: GuardedFileSystem<C>, C>(
         → Shows (the_view S.GuardedFileSystem S.Disk.Disk S.File.DavFile) fs.old credentials.now path.now looked opened
         → (result ≡ Err DavError.NoMemory) ⊎ IsRightFor (the_view S.GuardedFileSystem S.Disk.Disk S.File.DavFile)
         (query settings.now fields.now method path.now) looked opened fs.old result fs.new }
+    ensures asks { AsksByOne (the_view S.GuardedFileSystem S.Disk.Disk S.File.DavFile)
+        → (result ≡ Err DavError.NoMemory) ⊎ AsksUnlessKnown (the_is_well_known settings.now method path.now)
+        (is_set settings.now.redirect) (status_given result) (S.Disk.state (S.inside fs.old)).asked
+        (S.Disk.state (S.inside fs.new)).asked }
     ensures life { OpenOnlyHeld (the_view S.GuardedFileSystem S.Disk.Disk S.File.DavFile) fs.old result fs.new }
     ensures most { HasMost (read_size_of settings.now.read_buf_size) result }
     ensures loan { S.Disk.loan (S.inside fs.new) ≡ S.Disk.loan (S.inside fs.old) }

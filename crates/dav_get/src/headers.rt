@@ -11,27 +11,39 @@ use dav_core::{DavMetaData, FileTime};
 use dav_io::{Field, Fields, NoMemory, Octets, Text};
 use dav_model::{Sent, Slice};
 use httpdate::HttpDate;
+use itoa::Buffer;
 use std::alloc::Global;
 
-// Adds a field.
+// The most fields of a file's answer.
+const MOST_FIELDS: usize = 6;
+
+// Adds a field of this value.
+fn push(alloc: Global, fields: &mut Vec<Field>, name: &str, value: Octets) -> Result<(), NoMemory>
+    ensures { OnOk result (fields.new.items ≡ fields.old.items ++ field name.now value ∷ []) }
+{
+    let name = Text::copy(alloc, name)?;
+    fields.push(Field { name, value })?;
+    Ok(())
+}
+
+// Adds a field whose value is copied.
 fn add(alloc: Global, fields: &mut Vec<Field>, name: &str, value: &[u8]) -> Result<(), NoMemory>
     ensures { OnOk result (fields.new.items ≡ fields.old.items ++ field name.now value.now ∷ []) }
 {
-    let name = Text::copy(alloc, name)?;
     let value = Octets::new(Vec::from_slice(alloc, value)?);
-    fields.push(Field { name, value })?;
-    Ok(())
+    push(alloc, fields, name, value)
 }
 
 // A tag between its quotes.
 fn quote(alloc: Global, tag: &Text) -> Result<Octets, NoMemory>
     ensures { IfOk result (λ value. value ≡ quoted tag.now) }
 {
-    let mut value = Octets::empty(alloc);
-    value.extend(b"\"")?;
-    value.extend(tag.as_slice())?;
-    value.extend(b"\"")?;
-    Ok(value)
+    let text = tag.as_slice();
+    let mut value = Vec::with_capacity(alloc, text.len() + 2)?;
+    value.extend_from_slice(b"\"")?;
+    value.extend_from_slice(text)?;
+    value.extend_from_slice(b"\"")?;
+    Ok(Octets::new(value))
 }
 
 // Adds the entity tag, where there is one.
@@ -43,7 +55,7 @@ fn add_tag<M: DavMetaData>(alloc: Global, fields: &mut Vec<Field>, meta: &M) -> 
         return Ok(());
     };
     let value = quote(alloc, &tag)?;
-    add(alloc, fields, "etag", value.as_slice())
+    push(alloc, fields, "etag", value)
 }
 
 // The whole seconds of a known time, since 1970.
@@ -122,8 +134,13 @@ fn add_length(
     let Some(number) = sent_length(gives, len, sent) else {
         return Ok(());
     };
-    let text = format!(in alloc; "{number}")?;
-    add(alloc, fields, "content-length", text.as_bytes())
+    let mut text = Buffer::new();
+    add(
+        alloc,
+        fields,
+        "content-length",
+        text.format(number).as_bytes(),
+    )
 }
 
 /// The first and the last byte of a slice, and the length of the file (RFC 9110, section 14.4).
@@ -146,12 +163,22 @@ fn add_range(alloc: Global, fields: &mut Vec<Field>, len: u64, sent: &Sent) -> R
         Sent::All | Sent::Alone(_) | Sent::Several(_) => Ok(()),
         Sent::Unsatisfied => {
             let text = format!(in alloc; "bytes */{len}")?;
-            add(alloc, fields, "content-range", text.as_bytes())
+            push(
+                alloc,
+                fields,
+                "content-range",
+                Octets::new(text.into_bytes()),
+            )
         }
         Sent::One(part) => {
             let span = span(alloc, len, part)?;
             let text = format!(in alloc; "bytes {span}")?;
-            add(alloc, fields, "content-range", text.as_bytes())
+            push(
+                alloc,
+                fields,
+                "content-range",
+                Octets::new(text.into_bytes()),
+            )
         }
     }
 }
@@ -179,7 +206,7 @@ pub(crate) fn sent_fields<M: DavMetaData>(
         × (fields ≡ the_sent_fields gives kind.now (M.info meta.now).len (M.info meta.now).tag date sent.now)) }
 {
     let len = meta.len();
-    let mut fields = Vec::new(alloc);
+    let mut fields = Vec::with_capacity(alloc, MOST_FIELDS)?;
     add(alloc, &mut fields, "accept-ranges", b"bytes")?;
     add_length(alloc, &mut fields, gives, len, sent)?;
     add_range(alloc, &mut fields, len, sent)?;

@@ -1,6 +1,7 @@
-ghost use Rattle.std.specs.Prelude.{◌≡◌, ◌≤◌, ◌<◌, ◌+◌, ◌^◌, length};
+ghost use Rattle.std.specs.Prelude.{◌≡◌, ◌≤◌, ◌<◌, ◌+◌, ◌^◌, length, replicate, take, true};
 ghost use Rattle.dav_core.specs.Disk.{can_read};
-ghost use Rattle.dav_model.specs.Sizes.{zeros_size};
+ghost use Rattle.dav_get.specs.declared.part.BodyPart.TheVariants.{Slice as SlicePart};
+ghost use Rattle.dav_get.specs.Bodies.{has_room};
 ghost use Rattle.dav_get.specs.OpenFiles.{IsAt, Moves, Fills};
 
 use crate::buffer::ZEROS_SIZE;
@@ -13,6 +14,15 @@ use dav_store::DavFile;
 pub struct OpenAt<F> {
     pub file: F,
     pub place: u64,
+}
+
+// Puts so many zeros to the front.
+fn put_zeros(into: &mut [u8], count: usize)
+    requires { count ≤ length into.old }
+    ensures front { take count into.new ≡ replicate count 0 }
+    ensures len { length into.new ≡ length into.old }
+{
+    into[..count].fill(0);
 }
 
 impl<F> OpenAt<F> {
@@ -49,18 +59,19 @@ impl<F> OpenAt<F> {
         requires slice { 0 < slice.count }
         requires fits { slice.start + slice.count < 2 ^ 64 }
         requires some { 0 < most }
-        requires room { most ≤ length into.old }
-        requires zeros { zeros_size ≤ length into.old }
+        requires room { has_room most (length into.old) (SlicePart slice) ≡ true }
         ensures done { Fills F.handle F.seen (D.state disk.old) self.old slice most into.new result
             (D.state disk.new) self.new }
         ensures loan { D.loan disk.new ≡ D.loan disk.old }
     {
         let wanted = slice.count.min(most as u64) as usize;
+        prove!(wanted <= into.len());
         match self.file.read_into(disk, &mut into[..wanted]) {
             Err(_) => None,
             Ok(0) => {
                 let zeros = slice.count.min(ZEROS_SIZE as u64) as usize;
-                into[..zeros].fill(0);
+                prove!(zeros <= into.len());
+                put_zeros(into, zeros);
                 Some(zeros)
             }
             Ok(count) => {
@@ -84,8 +95,7 @@ impl<F> OpenAt<F> {
         requires slice { 0 < slice.count }
         requires fits { slice.start + slice.count < 2 ^ 64 }
         requires some { 0 < most }
-        requires room { most ≤ length into.old }
-        requires zeros { zeros_size ≤ length into.old }
+        requires room { has_room most (length into.old) (SlicePart slice) ≡ true }
         ensures done { Fills F.handle F.seen (D.state disk.old) self.old slice most into.new result
             (D.state disk.new) self.new }
         ensures loan { D.loan disk.new ≡ D.loan disk.old }

@@ -4,7 +4,7 @@ ghost use Rattle.std.specs.List.{list_all};
 ghost use Rattle.dav_model.specs.Head.{is_get as the_is_get, sent_status};
 ghost use Rattle.dav_model.specs.Sizes.{read_size_of};
 ghost use Rattle.dav_get.specs.Bodies.{is_part};
-ghost use Rattle.dav_get.specs.Prepared.{AreReady, IsPrepared};
+ghost use Rattle.dav_get.specs.Prepared.{AreReady, IsPrepared, longest as the_longest};
 ghost use Rattle.dav_get.specs.Table.{IsOutcome};
 ghost use Rattle.dav_get.specs.Within.{IsSentOf};
 ghost use Rattle.dav_model.specs.declared.sent.Sent.TheVariants.{Unsatisfied};
@@ -44,6 +44,19 @@ fn status_of(sent: &Sent) -> u16
     }
 }
 
+// The most bytes of a slice among these parts.
+fn longest(parts: &[BodyPart]) -> u64
+    ensures { result ≡ the_longest parts.now }
+{
+    let mut most = 0;
+    for part in parts {
+        if let BodyPart::Slice(slice) = part {
+            most = slice.count.max(most);
+        }
+    }
+    most
+}
+
 // Room for the pieces of these parts, where there are some.
 fn room_for(alloc: Global, size: usize, parts: &[BodyPart]) -> Result<ReadBuffer, NoMemory>
     requires some { 0 < size }
@@ -53,7 +66,7 @@ fn room_for(alloc: Global, size: usize, parts: &[BodyPart]) -> Result<ReadBuffer
     if parts.is_empty() {
         return Ok(ReadBuffer::none(alloc));
     }
-    ReadBuffer::new(alloc, size)
+    ReadBuffer::new(alloc, size, longest(parts))
 }
 
 /// Makes ready the answer in which this of a file is sent.

@@ -1,24 +1,30 @@
 ghost use Rattle.std.specs.Prelude.{◌≡◌, IfOk, codes, option_copied, option_map};
 ghost use Rattle.dav_model.specs.Conditions as conditions;
+ghost use Rattle.dav_methods.specs.Standing.{stands, tag_of, time_of};
 
 use crate::fields::{date_in, first_value, list_in};
-use crate::standing::{Standing, is_at};
+use crate::standing::{is_at, is_unmodified, matches_strongly, matches_weakly};
 use dav_core::{DavMetaData, DavMethod, ETag, FileTime, IfRange};
 use dav_io::NoMemory;
+use http::header::{IF_MATCH, IF_MODIFIED_SINCE, IF_NONE_MATCH, IF_RANGE, IF_UNMODIFIED_SINCE};
 use http::{HeaderMap, StatusCode};
 use std::alloc::Global;
 
 // Whether `if-match`, or without it `if-unmodified-since`, is false.
-fn is_refused(alloc: Global, fields: &HeaderMap, there: &Standing) -> Result<bool, NoMemory>
-    ensures { IfOk result (λ refused. refused ≡ conditions.is_refused
-        (conditions.list_in fields.now (codes "if-match")) (conditions.date_in fields.now (codes "if-unmodified-since"))
-        there.now.stands there.now.tag there.now.time) }
+fn is_refused<M: DavMetaData>(
+    alloc: Global,
+    fields: &HeaderMap,
+    there: Option<&M>,
+) -> Result<bool, NoMemory>
+    ensures { let info = option_map (λ m. M.info m.now) there.entry in IfOk result (λ refused.
+        refused ≡ conditions.is_refused (conditions.list_in fields.now (codes "if-match"))
+        (conditions.date_in fields.now (codes "if-unmodified-since")) (stands info) (tag_of info) (time_of info)) }
 {
-    if let Some(list) = list_in(alloc, fields, "if-match")? {
-        return Ok(!there.matches_strongly(&list));
+    if let Some(list) = list_in(alloc, fields, &IF_MATCH)? {
+        return Ok(!matches_strongly(there, &list));
     }
-    match date_in(fields, "if-unmodified-since") {
-        Some(date) => Ok(!(there.stands && there.is_unmodified(date))),
+    match date_in(fields, &IF_UNMODIFIED_SINCE) {
+        Some(date) => Ok(!(there.is_some() && is_unmodified(there, date))),
         None => Ok(false),
     }
 }
@@ -31,19 +37,18 @@ pub fn reads(method: DavMethod) -> bool
 }
 
 // The status where `if-none-match`, or without it `if-modified-since` of a method that reads, is false.
-fn repeated(
+fn repeated<M: DavMetaData>(
     alloc: Global,
     method: DavMethod,
     fields: &HeaderMap,
-    there: &Standing,
+    there: Option<&M>,
 ) -> Result<Option<StatusCode>, NoMemory>
-    ensures { IfOk result (λ status. status ≡ conditions.repeated method
-        (conditions.list_in fields.now (codes "if-none-match"))
-        (conditions.date_in fields.now (codes "if-modified-since"))
-        there.now.stands there.now.tag there.now.time) }
+    ensures { let info = option_map (λ m. M.info m.now) there.entry in IfOk result (λ status.
+        status ≡ conditions.repeated method (conditions.list_in fields.now (codes "if-none-match"))
+        (conditions.date_in fields.now (codes "if-modified-since")) (stands info) (tag_of info) (time_of info)) }
 {
-    if let Some(list) = list_in(alloc, fields, "if-none-match")? {
-        if !there.matches_weakly(&list) {
+    if let Some(list) = list_in(alloc, fields, &IF_NONE_MATCH)? {
+        if !matches_weakly(there, &list) {
             return Ok(None);
         }
         if reads(method) {
@@ -51,8 +56,8 @@ fn repeated(
         }
         return Ok(Some(StatusCode::PRECONDITION_FAILED));
     }
-    match date_in(fields, "if-modified-since") {
-        Some(date) if reads(method) && there.is_unmodified(date) => {
+    match date_in(fields, &IF_MODIFIED_SINCE) {
+        Some(date) if reads(method) && is_unmodified(there, date) => {
             Ok(Some(StatusCode::NOT_MODIFIED))
         }
         _ => Ok(None),
@@ -64,6 +69,7 @@ fn repeated(
 ///
 /// A field whose value isn't readable counts as absent. Of `if-match` and `if-none-match` all values count, of the two
 /// dates the first. Where the time of the last change is unknown, `if-unmodified-since` gives 412.
+#[tactic(auto, using(crate::proofs::OwnTags::conditions_by_standing))]
 pub fn if_match<M: DavMetaData>(
     alloc: Global,
     method: DavMethod,
@@ -73,11 +79,10 @@ pub fn if_match<M: DavMetaData>(
     ensures { IfOk result (λ status. status ≡ conditions.condition_of method fields.now
         (option_map (λ m. M.info m.now) meta.entry)) }
 {
-    let there = Standing::of(alloc, meta)?;
-    if is_refused(alloc, fields, &there)? {
+    if is_refused(alloc, fields, meta)? {
         return Ok(Some(StatusCode::PRECONDITION_FAILED));
     }
-    repeated(alloc, method, fields, &there)
+    repeated(alloc, method, fields, meta)
 }
 
 /// Whether a value of `if-range` matches a tag and the time of the last change (RFC 9110 section 13.1.5): a tag by
@@ -109,7 +114,7 @@ pub fn ranges_are_heard(
 ) -> Result<bool, NoMemory>
     ensures { IfOk result (λ heard. heard ≡ conditions.ranges_are_heard fields.now (option_copied tag.entry) modified) }
 {
-    let Some(value) = first_value(fields, "if-range") else {
+    let Some(value) = first_value(fields, &IF_RANGE) else {
         return Ok(true);
     };
     match IfRange::parse(alloc, value)? {

@@ -1,16 +1,16 @@
 // The values of the fields that carry preconditions.
 ghost use Rattle.std.specs.Prelude.{◌≡◌, IfOk, option_copied};
-ghost use Rattle.http_header.specs.Token.{lowercase};
 ghost use Rattle.dav_model.specs.Conditions as conditions;
 
 use dav_core::{EtagList, date_secs};
 use dav_io::{NoMemory, Octets};
 use http::HeaderMap;
+use http::header::HeaderName;
 use std::alloc::Global;
 
-/// The first value of a name, whose case doesn't matter.
-pub fn first_value<'a>(fields: &'a HeaderMap, name: &str) -> Option<&'a [u8]>
-    ensures { option_copied result ≡ conditions.first_bytes fields.now (lowercase name.now) }
+/// The first value of a name.
+pub fn first_value<'a>(fields: &'a HeaderMap, name: &HeaderName) -> Option<&'a [u8]>
+    ensures { option_copied result ≡ conditions.first_bytes fields.now name.now }
 {
     match fields.get(name) {
         Some(value) => Some(value.as_bytes()),
@@ -19,8 +19,8 @@ pub fn first_value<'a>(fields: &'a HeaderMap, name: &str) -> Option<&'a [u8]>
 }
 
 // All values of a name, with a comma and a space between them.
-fn all_values(alloc: Global, fields: &HeaderMap, name: &str) -> Result<Octets, NoMemory>
-    ensures { IfOk result (λ text. text ≡ conditions.joined (conditions.values_of fields.now (lowercase name.now))) }
+fn all_values(alloc: Global, fields: &HeaderMap, name: &HeaderName) -> Result<Octets, NoMemory>
+    ensures { IfOk result (λ text. text ≡ conditions.joined (conditions.values_of fields.now name.now)) }
 {
     let mut text = Vec::new(alloc);
     let mut values = fields.get_all(name).iter();
@@ -35,16 +35,20 @@ fn all_values(alloc: Global, fields: &HeaderMap, name: &str) -> Result<Octets, N
 }
 
 // The list of tags that the values of a name are.
-pub fn list_in(alloc: Global, fields: &HeaderMap, name: &str) -> Result<Option<EtagList>, NoMemory>
-    ensures { IfOk result (λ list. list ≡ conditions.list_in fields.now (lowercase name.now)) }
+pub fn list_in(
+    alloc: Global,
+    fields: &HeaderMap,
+    name: &HeaderName,
+) -> Result<Option<EtagList>, NoMemory>
+    ensures { IfOk result (λ list. list ≡ conditions.list_in fields.now name.now) }
 {
     let text = all_values(alloc, fields, name)?;
     EtagList::parse(alloc, text.as_slice())
 }
 
 // The date that the first value of a name is, in whole seconds since 1970.
-pub fn date_in(fields: &HeaderMap, name: &str) -> Option<u64>
-    ensures { result ≡ conditions.date_in fields.now (lowercase name.now) }
+pub fn date_in(fields: &HeaderMap, name: &HeaderName) -> Option<u64>
+    ensures { result ≡ conditions.date_in fields.now name.now }
 {
     match first_value(fields, name) {
         Some(value) => date_secs(value),

@@ -14,7 +14,7 @@ use Rattle.dav_model.specs.declared.ranges.Ranges.{Ranges}
 use Rattle.dav_model.specs.declared.ranges.Ranges.TheVariants.{Whole, Unsatisfiable, Parts}
 use Rattle.dav_model.specs.declared.sent.Sent.{Sent}
 use Rattle.dav_model.specs.declared.sent.Sent.TheVariants.{All, Alone, Unsatisfied, One, Several}
-use Rattle.dav_model.specs.Announced.{PolledToEnd, bytes_in, IsShared, bare}
+use Rattle.dav_model.specs.Announced.{PolledToEnd, bytes_in, bare}
 use Rattle.dav_model.specs.Bodies.{Part, bytes_left, text, slice, Polls}
 use Rattle.dav_model.specs.Conditions.{Fields, condition, repeated, is_refused, list_in, date_in, first_bytes, ranges_are_heard, strong}
 use Rattle.dav_model.specs.Head.{Reply, Stood, IsSent, field, field_where, given_parts, quoted_where, sent_by, sent_length, sent_of, sent_range, sent_ranges, sent_reply, sent_status, sent_type}
@@ -100,6 +100,10 @@ known_get : (fields : Fields) (stood : Stood) → KnownStatus (sent_of Get field
 known_get fields stood =
     known_sent (condition Get fields true (strong stood.tag) stood.modified) (ranges_are_heard fields (strong stood.tag) stood.modified)
     (first_bytes fields (codes "range")) stood.len (given_condition fields (strong stood.tag) stood.modified)
+
+-- The statuses of which a HEAD has the fields of the GET.
+abbrev pub IsShared : ℕ → Type 0
+IsShared status = (status ≡ 200) ⊎ ((status ≡ 206) ⊎ (status ≡ 304))
 
 not_412 : (status : ℕ) → status ≡ 412 → IsShared status → ⊥
 not_412 status e (inl f) = omega arith

@@ -11,3 +11,7 @@ pub mod Denied
 pub mod RightReplies
 pub mod WorldsCouldShow
 pub mod PlainWalks
+pub mod FieldValues
+pub mod WellFormedReplies
+pub mod GateStatuses
+pub mod WellFormedRuns

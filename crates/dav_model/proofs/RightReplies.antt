@@ -1,6 +1,6 @@
--- What follows of each right reply: its length is announced as it is, no part is empty, and 500 is a fault's.
-use Rattle.std.proofs.Common.{◌≡◌, ◌≢◌, inl, inr, ◌&&◌, ◌==◌, ℕ, Bool, true, false, not, cond, if◌then◌else◌, List, [], ◌∷◌, ◌++◌, codes, Option, None, Some, Result, Ok, Err, refl, sym, ap, subst, ◌∙◌, arith}
-use Rattle.std.specs.List.{AllByRecursion}
+-- What follows of each right reply: its length is announced as it is, no part is empty, its status is one of a list, and
+-- 500 is a fault's.
+use Rattle.std.proofs.Common.{◌≡◌, ◌⊎◌, inl, inr, ◌&&◌, ℕ, Bool, true, false, cond, if◌then◌else◌, List, [], ◌∷◌, codes, Option, None, Some, Result, Ok, Err, refl, sym, ap, subst, ◌∙◌, true≢false}
 use Rattle.dav_core.specs.declared.error.FsError.{FsError}
 use Rattle.dav_core.specs.declared.method.DavMethod.{DavMethod}
 use Rattle.dav_core.specs.declared.time.FileTime.{FileTime}
@@ -16,13 +16,13 @@ use Rattle.dav_model.specs.declared.ranges.Ranges.{Ranges}
 use Rattle.dav_model.specs.declared.ranges.Ranges.TheVariants.{Whole, Unsatisfiable, Parts}
 use Rattle.dav_model.specs.declared.sent.Sent.TheVariants.{Unsatisfied}
 use Rattle.dav_model.specs.declared.target.Target.TheVariants.{At}
-use Rattle.dav_model.specs.Announced.{HasSoundBody, IsFramed, IsFramedBy, length_is_own, value_of}
+use Rattle.dav_model.specs.Announced.{HasSoundBody, IsFramed, length_is_own}
 use Rattle.dav_model.specs.Conditions.{Fields, condition, date_in, first_bytes, is_refused, is_unmodified, list_in, matches, ranges_are_heard, reads, repeated, strong}
-use Rattle.dav_model.specs.Head.{Reply, Stood, IsFileHead, address_of, is_get, is_well_known, refusal, sent_by, sent_of, sent_parts_of, sent_ranges, sent_status}
+use Rattle.dav_model.specs.Head.{Reply, Stood, IsFileHead, address_of, is_well_known, redirected, refusal, sent_by, sent_of, sent_parts_of, sent_ranges, sent_status, well_known}
 use Rattle.dav_model.specs.Slices.{ranges}
 use Rattle.dav_model.proofs.Framing.{framed_redirect, framed_well_known, refused_framed, sent_framed}
 use Rattle.dav_model.proofs.Nonempty.{sent_has, sent_sound, sound_empty}
-use Rattle.dav_model.specs.Due.{Query, Due, known, refused, file, due, due_looked, due_opened, due_kind, due_sent, failure, IsHead, IsRight, IsSpoiled}
+use Rattle.dav_model.specs.Due.{Query, Due, known, refused, file, due, due_looked, due_opened, due_kind, due_sent, IsHead, IsRight, IsSpoiled}
 use Rattle.dav_core.specs.declared.method.DavMethod.TheVariants.{Get, Head}
 use Rattle.dav_io.specs.Counts.{Rose}
 use Rattle.dav_model.specs.declared.settings.Settings.{Settings}
@@ -36,6 +36,7 @@ use Rattle.dav_model.specs.Trail.{Point}
 use Rattle.dav_model.proofs.Announcing.{head_of_get, shared_status}
 use Rattle.dav_core.specs.Errors.{CouldRefuse}
 use Rattle.dav_model.specs.Shown.{Shown, Could, CouldShow, CouldStand}
+use Rattle.dav_model.specs.WellFormed.{is_among, right_statuses}
 
 -- ---- content-length is that of the body
 
@@ -82,93 +83,126 @@ pub right_sound : (q : Query) (shown : Shown) (rose : Type 0) (reply : Reply) �
 right_sound q shown rose reply (inl is) = head_sound q (due shown q) reply is
 right_sound q shown rose reply (inr (is, r)) = spoiled_sound q (due shown q) reply is
 
--- ---- 500 comes only where a fault was met
+-- ---- the statuses: 500 comes only where a fault was met
 
--- A precondition's status is no failure's.
-abbrev IsNoFailure : Option ℕ → Type 0
-IsNoFailure None = Unit {0}
-IsNoFailure (Some n) = n ≢ 500
+-- a status of right replies, where nothing failed
+abbrev IsListed : ℕ → Type 0
+IsListed status = is_among status right_statuses ≡ true
 
-either : (b : Bool) (x y : Option ℕ) → IsNoFailure x → IsNoFailure y → IsNoFailure (if b then x else y)
-either true x y p q = p
-either false x y p q = q
+-- It holds of the status, where there is one.
+abbrev pub Where : (ℕ → Type 0) → Option ℕ → Type 0
+Where Has None = Unit {0}
+Where Has (Some status) = Has status
 
-read_status : (b : Bool) → IsNoFailure (Some (if b then 304 else 412))
-read_status true e = omega arith
-read_status false e = omega arith
+-- A precondition's status is 304 or 412.
+module _ (Has : ℕ → Type 0) (repeats : Has 304) (fails : Has 412) where
+  either : (b : Bool) (x y : Option ℕ) → Where Has x → Where Has y → Where Has (if b then x else y)
+  either true x y p q = p
+  either false x y p q = q
 
-repeats_well : (method : DavMethod) (list : Option EtagList) (date : Option ℕ) (stands : Bool) (tag : Option ETag) (time : Option FileTime) → IsNoFailure (repeated method list date stands tag time)
-repeats_well method (Some list) date stands tag time = either (matches equal_weakly stands tag list) (Some (if reads method then 304 else 412)) None (read_status (reads method)) tt
-repeats_well method None (Some date) stands tag time = either (reads method && is_unmodified time date) (Some 304) None (λ e. omega arith) tt
-repeats_well method None None stands tag time = tt
+  read_status : (b : Bool) → Where Has (Some (if b then 304 else 412))
+  read_status true = repeats
+  read_status false = fails
 
-condition_well : (method : DavMethod) (fields : Fields) (tag : Option ETag) (time : Option FileTime) → IsNoFailure (condition method fields true tag time)
-condition_well method fields tag time = either (is_refused (list_in fields (codes "if-match")) (date_in fields (codes "if-unmodified-since")) true tag time) (Some 412)
-    (repeated method (list_in fields (codes "if-none-match")) (date_in fields (codes "if-modified-since")) true tag time) (λ e. omega arith)
-    (repeats_well method (list_in fields (codes "if-none-match")) (date_in fields (codes "if-modified-since")) true tag time)
+  repeats_where : (method : DavMethod) (list : Option EtagList) (date : Option ℕ) (stands : Bool) (tag : Option ETag) (time : Option FileTime)
+      → Where Has (repeated method list date stands tag time)
+  repeats_where method (Some list) date stands tag time =
+      either (matches equal_weakly stands tag list) (Some (if reads method then 304 else 412)) None (read_status (reads method)) tt
+  repeats_where method None (Some date) stands tag time = either (reads method && is_unmodified time date) (Some 304) None repeats tt
+  repeats_where method None None stands tag time = tt
 
-parts_well : (parts : List Slice) → sent_status (sent_parts_of parts) ≢ 500
-parts_well [] e = omega arith
-parts_well (a ∷ []) e = omega arith
-parts_well (a ∷ b ∷ parts) e = omega arith
+  pub condition_where : (method : DavMethod) (fields : Fields) (tag : Option ETag) (time : Option FileTime)
+      → Where Has (condition method fields true tag time)
+  condition_where method fields tag time = either (is_refused (list_in fields (codes "if-match")) (date_in fields (codes "if-unmodified-since")) true tag time) (Some 412)
+      (repeated method (list_in fields (codes "if-none-match")) (date_in fields (codes "if-modified-since")) true tag time) fails
+      (repeats_where method (list_in fields (codes "if-none-match")) (date_in fields (codes "if-modified-since")) true tag time)
 
-ranges_well : (r : Ranges) → sent_status (sent_ranges r) ≢ 500
-ranges_well Whole e = omega arith
-ranges_well Unsatisfiable e = omega arith
-ranges_well (Parts parts) e = parts_well parts e
+parts_listed : (parts : List Slice) → IsListed (sent_status (sent_parts_of parts))
+parts_listed [] = refl
+parts_listed (a ∷ []) = refl
+parts_listed (a ∷ b ∷ parts) = refl
 
-sent_well : (status : Option ℕ) (on : Bool) (range : Option (List ℕ)) (len : ℕ) → IsNoFailure status → sent_status (sent_by status on range len) ≢ 500
-sent_well (Some status) on range len ne = ne
-sent_well None false range len ne = λ e. omega arith
-sent_well None true range len ne = ranges_well (ranges range len)
+ranges_listed : (r : Ranges) → IsListed (sent_status (sent_ranges r))
+ranges_listed Whole = refl
+ranges_listed Unsatisfiable = refl
+ranges_listed (Parts parts) = parts_listed parts
 
-abbrev IsWell : Due → Type 0
-IsWell known = Unit {0}
-IsWell (refused status close) = status ≢ 500
-IsWell (file path stood) = Unit {0}
+sent_listed : (status : Option ℕ) (on : Bool) (range : Option (List ℕ)) (len : ℕ) → Where IsListed status → IsListed (sent_status (sent_by status on range len))
+sent_listed (Some status) on range len is = is
+sent_listed None false range len is = refl
+sent_listed None true range len is = ranges_listed (ranges range len)
 
-refused_well : (e : FsError) → CouldRefuse e → fs_status e ≢ 500
-refused_well e (inl is) f = let g : 404 ≡ 500 = ap fs_status (sym is) ∙ f in absurd (omega (arith, g))
-refused_well e (inr is) f = let g : 403 ≡ 500 = ap fs_status (sym is) ∙ f in absurd (omega (arith, g))
+abbrev IsListedDue : Due → Type 0
+IsListedDue known = Unit {0}
+IsListedDue (refused status close) = IsListed status
+IsListedDue (file path stood) = Unit {0}
 
-opened_well : (path : WebPath) (found : Result Stood FsError) → Could CouldStand found → IsWell (due_opened path found)
-opened_well path (Err e) could = refused_well e could
-opened_well path (Ok stood) could = by_kind stood.kind
+refused_listed : (e : FsError) → CouldRefuse e → IsListed (fs_status e)
+refused_listed e (inl is) = subst (λ x. IsListed (fs_status x)) (sym is) refl
+refused_listed e (inr is) = subst (λ x. IsListed (fs_status x)) (sym is) refl
+
+opened_listed : (path : WebPath) (found : Result Stood FsError) → Could CouldStand found → IsListedDue (due_opened path found)
+opened_listed path (Err e) could = refused_listed e could
+opened_listed path (Ok stood) could = by_kind stood.kind
   where
-    by_kind : (kind : Kind) → IsWell (due_sent kind path stood)
-    by_kind Dir = λ e. omega arith
+    by_kind : (kind : Kind) → IsListedDue (due_sent kind path stood)
+    by_kind Dir = refl
     by_kind File = tt
-    by_kind Link = λ e. omega arith
+    by_kind Link = refl
 
-if_well : (b : Bool) (c d : Due) → IsWell c → IsWell d → IsWell (cond b c d)
-if_well true c d p q = p
-if_well false c d p q = q
+if_listed : (b : Bool) (c d : Due) → IsListedDue c → IsListedDue d → IsListedDue (cond b c d)
+if_listed true c d p q = p
+if_listed false c d p q = q
 
-kind_well : (shown : Shown) (q : Query) (kind : Kind) → CouldShow shown → IsWell (due_kind shown q kind)
-kind_well shown q Dir could = λ e. omega arith
-kind_well shown q File could = opened_well q.path _ (could.opened q.path)
-kind_well shown q Link could = opened_well q.path _ (could.opened q.path)
+kind_listed : (shown : Shown) (q : Query) (kind : Kind) → CouldShow shown → IsListedDue (due_kind shown q kind)
+kind_listed shown q Dir could = refl
+kind_listed shown q File could = opened_listed q.path _ (could.opened q.path)
+kind_listed shown q Link could = opened_listed q.path _ (could.opened q.path)
 
-looked_well : (shown : Shown) (q : Query) (found : Result Stood FsError) → Could CouldStand found → CouldShow shown → IsWell (due_looked shown q found)
-looked_well shown q (Err e) here could = refused_well e here
-looked_well shown q (Ok stood) here could = kind_well shown q stood.kind could
+looked_listed : (shown : Shown) (q : Query) (found : Result Stood FsError) → Could CouldStand found → CouldShow shown → IsListedDue (due_looked shown q found)
+looked_listed shown q (Err e) here could = refused_listed e here
+looked_listed shown q (Ok stood) here could = kind_listed shown q stood.kind could
 
-due_well : (shown : Shown) (q : Query) → CouldShow shown → IsWell (due shown q)
-due_well shown q could = if_well (is_well_known q.settings q.method q.path) known _ tt (looked_well shown q _ (could.looked q.path) could)
+due_listed : (shown : Shown) (q : Query) → CouldShow shown → IsListedDue (due shown q)
+due_listed shown q could = if_listed (is_well_known q.settings q.method q.path) known _ tt (looked_listed shown q _ (could.looked q.path) could)
 
-head_well : (q : Query) (d : Due) (reply : Reply) → IsWell d → IsHead q d reply → reply.status ≢ 500
-head_well q known reply well is e = let f : 200 ≡ 500 = ap (λ (r : Reply). r.status) (sym is) ∙ e in absurd (omega (arith, f))
-head_well q (refused status close) reply well is e = well (ap (λ (r : Reply). r.status) (sym is) ∙ e)
-head_well q (file path stood) reply well is e = by_address (address_of q.settings stood) is
+-- the status of a reply that is this one
+status_of : (reply other : Reply) → reply ≡ other → IsListed other.status → IsListed reply.status
+status_of reply other is listed = subst (λ (r : Reply). IsListed r.status) (sym is) listed
+
+head_listed : (q : Query) (d : Due) (reply : Reply) → IsListedDue d → IsHead q d reply → IsListed reply.status
+head_listed q known reply listed is = status_of reply well_known is refl
+head_listed q (refused status close) reply listed is = status_of reply (refusal status close) is listed
+head_listed q (file path stood) reply listed is = by_address (address_of q.settings stood) is
   where
-    by_address : (address : Option (List ℕ)) → IsFileHead address q.method q.fields path stood reply → ⊥
-    by_address (Some address) (date, dated, is) = let f : 302 ≡ 500 = ap (λ (r : Reply). r.status) (sym is) ∙ e in absurd (omega (arith, f))
-    by_address None (date, dated, is) = sent_well (condition q.method q.fields true (strong stood.tag) stood.modified) (ranges_are_heard q.fields (strong stood.tag) stood.modified)
-        (first_bytes q.fields (codes "range")) stood.len (condition_well q.method q.fields (strong stood.tag) stood.modified) (ap (λ (r : Reply). r.status) (sym is) ∙ e)
+    by_address : (address : Option (List ℕ)) → IsFileHead address q.method q.fields path stood reply → IsListed reply.status
+    by_address (Some address) (date, dated, is) = status_of reply (redirected address stood.tag date) is refl
+    by_address None (date, dated, is) = status_of reply _ is
+        (sent_listed (condition q.method q.fields true (strong stood.tag) stood.modified) (ranges_are_heard q.fields (strong stood.tag) stood.modified)
+        (first_bytes q.fields (codes "range")) stood.len (condition_where IsListed refl refl q.method q.fields (strong stood.tag) stood.modified))
+
+spoiled_listed : (q : Query) (d : Due) (reply : Reply) → IsSpoiled q d reply → IsListed reply.status ⊎ (reply.status ≡ 500)
+spoiled_listed q known reply is = absurd is
+spoiled_listed q (refused status close) reply is = inr (ap (λ (r : Reply). r.status) is)
+spoiled_listed q (file path stood) reply (inl is) = inr (ap (λ (r : Reply). r.status) is)
+spoiled_listed q (file path stood) reply (inr unplaced) = let (date, dated, is) = unplaced.sent in inl (status_of reply _ is refl)
+
+with_rise : (rose : Type 0) (status : ℕ) → rose → IsListed status ⊎ (status ≡ 500) → IsListed status ⊎ ((status ≡ 500) × rose)
+with_rise rose status r (inl listed) = inl listed
+with_rise rose status r (inr failed) = inr (failed, r)
+
+-- The status is one of the list, or 500, and then a fault was met.
+pub right_listed : (q : Query) (shown : Shown) (rose : Type 0) (reply : Reply) → CouldShow shown → IsRight q shown rose reply
+    → (is_among reply.status right_statuses ≡ true) ⊎ ((reply.status ≡ 500) × rose)
+right_listed q shown rose reply could (inl is) = inl (head_listed q (due shown q) reply (due_listed shown q could) is)
+right_listed q shown rose reply could (inr (is, r)) = with_rise rose reply.status r (spoiled_listed q (due shown q) reply is)
 
 pub failed_by_fault : (q : Query) (shown : Shown) (rose : Type 0) (reply : Reply) → CouldShow shown → IsRight q shown rose reply → reply.status ≡ 500 → rose
-failed_by_fault q shown rose reply could (inl is) e = absurd (head_well q (due shown q) reply (due_well shown q could) is e)
-failed_by_fault q shown rose reply could (inr (is, r)) e = r
+failed_by_fault q shown rose reply could right e = by_list (right_listed q shown rose reply could right)
+  where
+    by_list : (is_among reply.status right_statuses ≡ true) ⊎ ((reply.status ≡ 500) × rose) → rose
+    by_list (inl listed) = absurd (true≢false (sym listed ∙ ap (λ n. is_among n right_statuses) e))
+    by_list (inr (is, r)) = r
 
 -- what the gates refuse, or the right reply to what they let through, announces the length of its body
 pub replies_framed : (target : Target) (rules : Rules) (k : Knowledge) (s t : Point) (fields : Fields) (reply : Reply) → Replies target rules k s t fields reply → IsFramed target reply

@@ -1,5 +1,5 @@
 -- What a head announces: of a body its length, and of a HEAD the fields of the GET.
-use Rattle.std.specs.Prelude.{◌≡◌, ◌==◌, ◌&&◌, ◌⊎◌, ◌+◌, ℕ, Bool, true, false, not, cond, List, [], ◌∷◌, length, bytes_eq, codes, decimal, Option, None, Some}
+use Rattle.std.specs.Prelude.{◌≡◌, ◌==◌, ◌&&◌, ◌+◌, ℕ, Bool, true, false, not, cond, List, [], ◌∷◌, length, bytes_eq, codes, decimal, Option, None, Some}
 use Rattle.dav_io.specs.declared.fields.Field.{Field}
 use Rattle.dav_core.specs.World.{World}
 use Rattle.dav_model.specs.declared.answer.Answer.{Answer}
@@ -51,10 +51,6 @@ PolledToEnd left (piece ∷ pieces) = (rest : List Part) × IsPoll left (Piece p
 abbrev pub bytes_in : List (List ℕ) → ℕ
 bytes_in [] = 0
 bytes_in (piece ∷ pieces) = length piece + bytes_in pieces
-
--- The statuses of which a HEAD has the fields of the GET.
-abbrev pub IsShared : ℕ → Type 0
-IsShared status = (status ≡ 200) ⊎ ((status ≡ 206) ⊎ (status ≡ 304))
 
 -- a reply without its body
 abbrev pub bare : Reply → Reply

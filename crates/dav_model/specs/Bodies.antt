@@ -45,12 +45,16 @@ Gives told whole most (text bytes) parts piece rest = (piece ≡ bytes) × (rest
 Gives told whole most (slice number start count) parts piece rest = (0 < length piece) × (length piece ≤ count) × (rest ≡ moved number start count (length piece) parts)
     × ((w : World) → told ≡ Some w → PieceOf whole most (standing_from w number start) count piece)
 
--- A poll of a body with these parts left gives this answer, and leaves those. It breaks only where the count of faults
--- rose, and nothing is left then.
+-- A text doesn't break. A slice breaks only where the count of faults rose.
+abbrev pub Breaks : Part → ℕ → ℕ → Type 0
+Breaks (text bytes) before after = ⊥
+Breaks (slice number start count) before after = Rose before after
+
+-- A poll of a body with these parts left gives this answer, and leaves those. Where it breaks, nothing is left.
 abbrev pub Polls : Option World → Bool → ℕ → ℕ → ℕ → List Part → Answer → List Part → Type 0
 Polls told whole most before after [] answer rest = (answer ≡ End) × (rest ≡ [])
 Polls told whole most before after (part ∷ parts) answer rest = ((piece : List ℕ) × (answer ≡ Piece piece) × Gives told whole most part parts piece rest)
-    ⊎ ((answer ≡ Broken) × (rest ≡ []) × Rose before after)
+    ⊎ ((answer ≡ Broken) × (rest ≡ []) × Breaks part before after)
 
 -- how many bytes a body has left
 abbrev pub bytes_left : List Part → ℕ

@@ -1,6 +1,7 @@
 pub mod Sizes
 pub mod Unset
 pub mod Bodies
+pub mod Calls
 pub mod Times
 pub mod Requests
 pub mod Slices
@@ -16,3 +17,4 @@ pub mod Finding
 pub mod Gates
 pub mod Due
 pub mod Valid
+pub mod WellFormed

@@ -20,6 +20,7 @@ use Rattle.dav_model.specs.declared.answer.Answer.TheVariants.{Reply as Replied,
 use Rattle.dav_model.specs.declared.target.Target.{Target}
 use Rattle.dav_model.specs.declared.target.Target.TheVariants.{At, Refused}
 use Rattle.dav_model.specs.Bodies.{NoneEmpty, Part, text, slice, Polls}
+use Rattle.dav_model.specs.Calls.{AsksToPoll, AsksToReply}
 use Rattle.dav_model.specs.Conditions.{Fields}
 use Rattle.dav_model.specs.Due.{Query, query, IsRight}
 use Rattle.dav_model.specs.Finding.{MayShow, resolved, shown_in}
@@ -118,6 +119,8 @@ pub record Answered (p : Playing) (s t : Point) (request : Asked) (answer : Answ
   pub gets : Gets p.replies reply.parts (record p { replies = p.replies + 1; knows = knows }) q
   pub live : Takes gets.file s.live t.live
   pub right : Replies (target_of p.rules request) p.rules p.knows s t (fields_of request) reply
+  -- how many calls of the disk it asks
+  pub asks : AsksToReply (target_of p.rules request) p.rules reply.status s.asked t.asked
 
 pub record Polled (p : Playing) (s t : Point) (body : ℕ) (answer : Answer) (q : Playing) : Type 0 where
   pub goes : Goes s t
@@ -126,6 +129,8 @@ pub record Polled (p : Playing) (s t : Point) (body : ℕ) (answer : Answer) (q 
   pub gives : Polls s.told s.whole (read_size_of p.rules.settings.read_buf_size) s.faults t.faults (p.left body) answer rest
   pub gets : Gets body rest p q
   pub live : Lets (p.held body) gets.file s.live t.live
+  -- how many calls of the disk it asks
+  pub asks : AsksToPoll s.told (p.held body) (p.left body) answer s.asked t.asked
 
 -- A turn, and the end of a body, meet no fault and ask nothing.
 pub record Quiet (answer : Answer) (s t : Point) : Type 0 where

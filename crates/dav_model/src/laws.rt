@@ -1,5 +1,5 @@
 //! Laws over the definitions, each the contract of a function that does nothing.
-ghost use Rattle.std.specs.Prelude.{◌≡◌, ◌++◌, ◌∷◌, ℕ, List, [], Bool, true, false, codes, decimal, is_some, Some, Result, Ok};
+ghost use Rattle.std.specs.Prelude.{◌≡◌, ◌⊎◌, ◌++◌, ◌∷◌, ℕ, List, [], Bool, true, false, codes, decimal, is_some, Some, Result, Ok};
 ghost use Rattle.std.specs.List.{AllByRecursion};
 ghost use Rattle.dav_io.specs.Counts.{Rose};
 ghost use Rattle.dav_io.specs.declared.failure.NoMemory.{NoMemory};
@@ -9,15 +9,18 @@ ghost use Rattle.dav_model.specs.declared.answer.Answer.{Answer};
 ghost use Rattle.dav_model.specs.declared.settings.Settings.{Settings};
 ghost use Rattle.dav_model.specs.declared.step.Step.{Step};
 ghost use Rattle.dav_model.specs.declared.target.Target.{Target};
-ghost use Rattle.dav_model.specs.declared.target.Target.TheVariants.{At};
+ghost use Rattle.dav_model.specs.declared.target.Target.TheVariants.{At, Refused};
 ghost use Rattle.dav_model.specs.Announced.{HasSoundBody, PolledToEnd, bytes_in, IsFramed, bare, length_is_own, value_of};
 ghost use Rattle.dav_model.specs.Conditions.{Fields};
 ghost use Rattle.dav_model.specs.Due.{IsHead, IsRight, Query, due, query};
-ghost use Rattle.dav_model.specs.Head.{Reply, is_well_known};
-ghost use Rattle.dav_model.specs.Play.{EachByTree, Learned, Played, Playing, Plays, Stage, points_from};
+ghost use Rattle.dav_model.specs.Head.{Reply, is_well_known, refusal};
+ghost use Rattle.dav_model.specs.Play.{EachByTree, Learned, Played, PlayedOn, Playing, Plays, Stage, points_from};
+ghost use Rattle.dav_model.specs.Requests.{Asked};
+ghost use Rattle.dav_model.specs.Rules.{Rules};
 ghost use Rattle.dav_model.specs.Shown.{CouldShow, Shown};
-ghost use Rattle.dav_model.specs.Trail.{Leaves, Move, Point, last_of, points_of, step_leaves};
+ghost use Rattle.dav_model.specs.Trail.{Leaves, Move, Point, last_of, points_of, step_leaves, target_of};
 ghost use Rattle.dav_model.specs.Valid.{Valid};
+ghost use Rattle.dav_model.specs.WellFormed.{IsWellFormed, IsWellFormedAnswer, gate_statuses, is_among, right_statuses};
 
 /// Joining: two runs, the second from the stage that the first leaves, are one run of the joined steps along the joined
 /// trail, whether the second's answers are a list of their own or go on from those of the first. The first had no want of
@@ -64,10 +67,31 @@ pub fn bodies_have_the_announced_length()
 /// Of each right reply, and of what may stand in its place: `content-length` is the length of its body, no part of the body
 /// is empty, and 500 comes only where a fault was met, over what a disk's store could show.
 pub fn right_replies_are_framed()
-    ensures framed { (q : Query) (shown : Shown) (before after : ℕ) (reply : Reply) → IsRight q shown (Rose before after) reply → IsFramed (At q.method q.path) reply }
-    ensures sound { (q : Query) (shown : Shown) (before after : ℕ) (reply : Reply) → IsRight q shown (Rose before after) reply → HasSoundBody reply }
+    ensures framed { (q : Query) (shown : Shown) (before after : ℕ) (reply : Reply)
+        → IsRight q shown (Rose before after) reply → IsFramed (At q.method q.path) reply }
+    ensures sound { (q : Query) (shown : Shown) (before after : ℕ) (reply : Reply)
+        → IsRight q shown (Rose before after) reply → HasSoundBody reply }
     ensures failed { (q : Query) (shown : Shown) (before after : ℕ) (reply : Reply)
         → CouldShow shown → IsRight q shown (Rose before after) reply → reply.status ≡ 500 → Rose before after }
+{}
+
+/// Each reply is well-formed: its status is one of a list, the names of its fields ascend and none stands twice, each name is
+/// a token and each value a field value, so that none of them ends a line. So no type, tag, time or address that a store
+/// tells splits an answer.
+///
+/// `run`: each reply that the clause of `play` adds, in every run, over a disk that tells its world or doesn't. `right`:
+/// each that is right over what a disk's store could show, or stands in its place; `status`: its list, and that 500 comes
+/// only where a fault was met. `refused`: what the gates refuse, and its list.
+pub fn right_replies_are_well_formed()
+    ensures right { (q : Query) (shown : Shown) (before after : ℕ) (reply : Reply)
+        → CouldShow shown → IsRight q shown (Rose before after) reply → IsWellFormed reply.status reply.fields }
+    ensures status { (q : Query) (shown : Shown) (before after : ℕ) (reply : Reply)
+        → CouldShow shown → IsRight q shown (Rose before after) reply
+        → (is_among reply.status right_statuses ≡ true) ⊎ ((reply.status ≡ 500) × Rose before after) }
+    ensures refused { (rules : Rules) (request : Asked) (status : ℕ) (close : Bool) → target_of rules request ≡ Refused status close
+        → (is_among status gate_statuses ≡ true) × IsWellFormed status (refusal status close).fields }
+    ensures run { (a b : Stage) (steps : List Step) (old added : List Answer) (result : Result Unit NoMemory)
+        → PlayedOn a steps old (old ++ added) result b → AllByRecursion IsWellFormedAnswer added }
 {}
 
 /// Two requests that differ by their method alone: where the GET is rightly answered by a reply, the HEAD is rightly

@@ -1,6 +1,7 @@
 use Rattle.std.proofs.Common.{inl, inr}
 use Rattle.dav_model.specs.Due.{query}
 use Rattle.dav_store.specs.View.{the_view}
+use Rattle.dav_get.proofs.Asking.{gets_asks}
 use Rattle.dav_get.proofs.Framing.{gets_framed, gets_sound}
 use Rattle.dav_get.proofs.HeardIsRight.{heard_right}
 use Rattle.dav_get.proofs.TableIsHeard.{gets_heard}
@@ -24,3 +25,7 @@ returns-clause-right g c = λ looked opened shows.
       | inl none ↦ inl none
       | inr heard ↦ inr (heard_right (the_view g.S.GuardedFileSystem g.S.Disk.Disk g.S.File.DavFile) (query c.args.settings.now c.args.fields.now c.args.method c.args.path.now) looked opened c.args.credentials.now c.args.fs.now c.get_once.result c.get_once.new.fs shows c.get_once.ensures.life heard)
     ]
+
+pub returns-clause-asks : goal.returns-clause-asks
+returns-clause-asks g c = λ few.
+    gets_asks (the_view g.S.GuardedFileSystem g.S.Disk.Disk g.S.File.DavFile) (query c.args.settings.now c.args.fields.now c.args.method c.args.path.now) few c.args.credentials.now c.args.fs.now c.get_once.result c.get_once.new.fs c.get_once.ensures.table

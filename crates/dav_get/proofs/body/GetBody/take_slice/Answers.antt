@@ -1,11 +1,14 @@
 use Rattle.std.proofs.Common.{Some, ap, length, take, refl, sym, ◌∙◌}
 use Rattle.std.specs.Vec.{with_items}
 use Rattle.std.proofs.lemmas.List.{with_items_is}
-use Rattle.dav_get.proofs.BodyPolls.{slice_polls}
+use Rattle.dav_get.proofs.BodyPolls.{first_has_room, slice_polls}
 use Rattle.dav_get.proofs.body.GetBody.take_slice.Goals as goal
 
 pub fill-requires-clause-at : goal.fill-requires-clause-at
 fill-requires-clause-at g c = c.requires.held.file c.in-Some.open c.in-Some.is
+
+pub fill-requires-clause-room : goal.fill-requires-clause-room
+fill-requires-clause-room g c = rw c.deref_mut.ensures.value (first_has_room _ _ _ c.args.slice _ c.requires.slice c.requires.held.room)
 
 pub returns-clause-done : goal.returns-clause-done
 returns-clause-done g c =

@@ -1,0 +1,238 @@
+-- How often a GET asks the disk, by its table.
+use Rattle.std.proofs.Common.{◌≡◌, ◌≢◌, ◌≤◌, ◌<◌, ◌+◌, ℕ, Bool, true, false, cond, List, [], ◌∷◌, Option, None, Some, Result, Ok, Err, refl, sym, ap, subst, ◌∙◌, arith, ◌⊎◌, inl, inr, true≢false}
+use Rattle.std.specs.Prelude.{codes}
+use Rattle.dav_io.specs.Counts.{one_more}
+use Rattle.dav_core.specs.declared.dav_error.DavError.{DavError}
+use Rattle.dav_core.specs.declared.dav_error.DavError.TheVariants.{NoMemory, Status, StatusClose}
+use Rattle.dav_core.specs.declared.error.FsError.{FsError}
+use Rattle.dav_core.specs.declared.error.FsError.TheVariants as fs
+use Rattle.dav_core.specs.Info.{Info}
+use Rattle.dav_core.specs.Statuses.{of_fs, status_of}
+use Rattle.dav_core.specs.Tree.{is_dir, is_file}
+use Rattle.dav_store.specs.Files.{AsksOnce}
+use Rattle.dav_store.specs.View.{View, Closes}
+use Rattle.dav_model.specs.declared.outcome.Outcome.{Outcome}
+use Rattle.dav_model.specs.declared.ranges.Ranges.{Ranges}
+use Rattle.dav_model.specs.declared.ranges.Ranges.TheVariants.{Whole, Unsatisfiable, Parts}
+use Rattle.dav_model.specs.declared.ranges.Slice.{Slice}
+use Rattle.dav_model.specs.declared.sent.Sent.{Sent}
+use Rattle.dav_model.specs.declared.sent.Sent.TheVariants.{Unsatisfied}
+use Rattle.dav_model.specs.Calls.{AsksToGet, AsksUnlessKnown, more_by}
+use Rattle.dav_model.specs.Conditions.{condition, first_bytes, ranges_are_heard, strong}
+use Rattle.dav_model.specs.Due.{Query}
+use Rattle.dav_model.specs.Head.{is_set, is_well_known, sent_by, sent_parts_of, sent_ranges, sent_status}
+use Rattle.dav_model.specs.Slices.{ranges}
+use Rattle.dav_model.proofs.RightReplies.{Where, condition_where}
+use Rattle.dav_get.specs.declared.open_at.OpenAt.{OpenAt}
+use Rattle.dav_get.specs.declared.part.BodyPart.{BodyPart}
+use Rattle.dav_get.specs.declared.body.GetBody.{GetBody}
+use Rattle.dav_get.specs.Calls.{AsksByOne, AsksToOpen, status_given}
+use Rattle.dav_get.specs.Table.{AfterLook, AfterMeta, AfterOpen, AfterRedirect, Answer, ByFile, ByKind, ByRedirect, ByWellKnown, Gets, Given, Holds, IfMoved, Sends, SendsAway, SendsFile, first_place, sent_after, sent_for}
+use Rattle.dav_get.proofs.Sending.{some_start}
+
+-- ---- counts
+
+more_one : (calls before : ℕ) → one_more (more_by calls before) ≡ more_by (calls + 1) before
+more_one calls before = omega arith
+
+-- where clients are sent nowhere a file is asked three times before it is sent
+exactly : (r : Bool) (n : ℕ) → r ≡ false → 3 ≤ n → n ≤ cond r 4 3 → n ≡ 3
+exactly true n = λ no some most. absurd (true≢false no)
+exactly false n = λ no some most. omega arith
+
+within : (r : Bool) (n : ℕ) → n ≤ 4 → n ≤ cond r 5 4
+within true n most = omega arith
+within false n most = omega arith
+
+within_file : (r : Bool) (n : ℕ) → n ≤ cond r 4 3 → n + 1 ≤ cond r 5 4
+within_file true n most = omega arith
+within_file false n most = omega arith
+
+before_move : (r : Bool) (n : ℕ) → n ≤ cond r 4 3 → n ≤ cond r 5 4
+before_move true n most = omega arith
+before_move false n most = omega arith
+
+-- ---- statuses
+
+no_success : (e : FsError) → (status_of (of_fs e) ≢ 200) × (status_of (of_fs e) ≢ 206)
+no_success fs.NotFound = (λ e. omega arith, λ e. omega arith)
+no_success fs.Forbidden = (λ e. omega arith, λ e. omega arith)
+no_success fs.Exists = (λ e. omega arith, λ e. omega arith)
+no_success fs.GeneralFailure = (λ e. omega arith, λ e. omega arith)
+no_success fs.NotImplemented = (λ e. omega arith, λ e. omega arith)
+no_success fs.InsufficientStorage = (λ e. omega arith, λ e. omega arith)
+no_success fs.LoopDetected = (λ e. omega arith, λ e. omega arith)
+no_success fs.PathTooLong = (λ e. omega arith, λ e. omega arith)
+no_success fs.TooLarge = (λ e. omega arith, λ e. omega arith)
+no_success fs.IsRemote = (λ e. omega arith, λ e. omega arith)
+no_success fs.NoMemory = (λ e. omega arith, λ e. omega arith)
+
+-- What is answered 206 has a first part.
+abbrev IsPlaced : Sent → Type 0
+IsPlaced sent = sent_status sent ≡ 206 → (start : ℕ) × (first_place sent ≡ Some start)
+
+parts_placed : (parts : List Slice) → IsPlaced (sent_parts_of parts)
+parts_placed [] e = let no : ⊥ = omega (arith, e) in absurd no
+parts_placed (a ∷ []) e = (a.start, refl)
+parts_placed (a ∷ b ∷ parts) e = (a.start, refl)
+
+ranges_placed : (r : Ranges) → IsPlaced (sent_ranges r)
+ranges_placed Whole e = let no : ⊥ = omega (arith, e) in absurd no
+ranges_placed Unsatisfiable e = let no : ⊥ = omega (arith, e) in absurd no
+ranges_placed (Parts parts) e = parts_placed parts e
+
+sent_placed : (status : Option ℕ) (on : Bool) (range : Option (List ℕ)) (len : ℕ) → Where (λ n. n ≢ 206) status → IsPlaced (sent_by status on range len)
+sent_placed (Some status) on range len ne e = absurd (ne e)
+sent_placed None false range len ne e = let no : ⊥ = omega (arith, e) in absurd no
+sent_placed None true range len ne e = ranges_placed (ranges range len) e
+
+for_placed : (q : Query) (info : Info) → IsPlaced (sent_for q info)
+for_placed q info =
+    sent_placed (condition q.method q.fields true (strong info.tag) info.modified) (ranges_are_heard q.fields (strong info.tag) info.modified) (first_bytes q.fields (codes "range")) info.len
+    (condition_where (λ n. n ≢ 206) (λ e. omega arith) (λ e. omega arith) q.method q.fields (strong info.tag) info.modified)
+
+-- ---- the table
+
+module _ {S C F : Type 0} (view : View S C F) (q : Query) (b : ℕ) where
+  -- So many calls were asked.
+  abbrev Asked : ℕ → S → Type 0
+  Asked n s = (view.state s).asked ≡ more_by n b
+
+  once : (n : ℕ) (s t : S) → Asked n s → AsksOnce (view.state s) (view.state t) → Asked (n + 1) t
+  once n s t was is = is ∙ ap one_more was ∙ more_one n b
+
+  abbrev Done : Bool → Given F → S → Type 0
+  Done r result t = (result ≡ Err NoMemory) ⊎ AsksToGet r (status_given result) b (view.state t).asked
+
+  -- no file is sent
+  unsent : (r : Bool) (n status : ℕ) (t : S) → Asked n t → 0 < n → n ≤ 4 → status ≢ 200 → status ≢ 206 → AsksToGet r status b (view.state t).asked
+  unsent r n status t was some most whole part = record {
+    calls = n;
+    are = was;
+    some = some;
+    most = within r n most;
+    whole = λ no is. absurd (whole is);
+    partial = λ no is. absurd (part is);
+  }
+
+  error : (r : Bool) (n : ℕ) (e : DavError) (result : Given F) (t : S) → Asked n t → 0 < n → n ≤ 4 → status_of e ≢ 200 → status_of e ≢ 206 → result ≡ Err e → Done r result t
+  error r n e result t was some most whole part is =
+      inr (subst (λ x. AsksToGet r (status_given {F = F} x) b (view.state t).asked) (sym is) (unsent r n (status_of e) t was some most whole part))
+
+  refused : (r : Bool) (n : ℕ) (e : FsError) (result : Given F) (t : S) → Asked n t → 0 < n → n ≤ 4 → result ≡ Err (of_fs e) → Done r result t
+  refused r n e result t was some most is = error r n (of_fs e) result t was some most (no_success e).0 (no_success e).1 is
+
+  closed_asks : (n : ℕ) (s : S) (file : F) (t : S) → Asked n s → Closes view s file t → Asked n t
+  closed_asks n s file t was closed = closed.done.asked ∙ was
+
+  holds_asks : (parts : List BodyPart) (held : OpenAt F) (s : S) (body : GetBody F) (t : S) → Holds view parts held s body t → (view.state t).asked ≡ (view.state s).asked
+  holds_asks [] held s body t (closed, empty) = closed.done.asked
+  holds_asks (part ∷ parts) held s body t (same, left, some) = ap (λ (x : S). (view.state x).asked) same
+
+  sends_status : (info : Info) (sent : Sent) (held : OpenAt F) (s : S) (answer : Answer F) (t : S) → Sends view q info sent held s answer t → answer.0.status ≡ sent_status sent
+  sends_status info sent held s answer t row = let (date, dated, is) = row.outcome_is in ap (λ (o : Outcome). o.status) is
+
+  -- a file that was moved to its first part, or couldn't be
+  moved_asks : (r : Bool) (n : ℕ) (info : Info) (sent : Sent) (sought : Result ℕ FsError) (held : OpenAt F) (s : S) (answer : Answer F) (t : S) → sent_status sent ≡ 206 → Asked (n + 1) s → 3 ≤ n → n ≤ cond r 4 3
+      → Sends view q info (sent_after sought sent) held s answer t → AsksToGet r answer.0.status b (view.state t).asked
+  moved_asks r n info sent (Ok place) held s answer t part was some most row =
+      let status : answer.0.status ≡ 206 = sends_status info sent held s answer t row ∙ part in
+      record {
+        calls = n + 1;
+        are = holds_asks row.parts held s answer.1 t row.holds ∙ was;
+        some = omega arith;
+        most = within_file r n most;
+        whole = λ no is. (let e : 200 ≡ 206 = sym is ∙ status in let never : ⊥ = omega (arith, e) in absurd never);
+        partial = λ no is. (let three : n ≡ 3 = exactly r n no some most in omega (arith, three));
+      }
+  moved_asks r n info sent (Err e) held s answer t part was some most row =
+      let status : answer.0.status ≡ 416 = sends_status info Unsatisfied held s answer t row in
+      record {
+        calls = n + 1;
+        are = holds_asks row.parts held s answer.1 t row.holds ∙ was;
+        some = omega arith;
+        most = within_file r n most;
+        whole = λ no is. (let f : 200 ≡ 416 = sym is ∙ status in let never : ⊥ = omega (arith, f) in absurd never);
+        partial = λ no is. (let f : 206 ≡ 416 = sym is ∙ status in let never : ⊥ = omega (arith, f) in absurd never);
+      }
+
+  no_place : (start : ℕ) → ◌≡◌ {A = Option ℕ} None (Some start) → ⊥
+  no_place start e = cc
+
+  sends_asks : (r : Bool) (n : ℕ) (info : Info) (sent : Sent) (place : Option ℕ) (file : F) (s : S) (answer : Answer F) (t : S) → IsPlaced sent → first_place sent ≡ place → Asked n s → 3 ≤ n → n ≤ cond r 4 3
+      → IfMoved view place file s (λ sought held m. Sends view q info (sent_after sought sent) held m answer t) → AsksToGet r answer.0.status b (view.state t).asked
+  sends_asks r n info sent None file s answer t placed at was some most row = record {
+    calls = n;
+    are = holds_asks row.parts (record { file = file; place = 0 }) s answer.1 t row.holds ∙ was;
+    some = omega arith;
+    most = before_move r n most;
+    whole = λ no is. exactly r n no some most;
+    partial = λ no is. (
+        let (start, first) = placed (sym (sends_status info sent (record { file = file; place = 0 }) s answer t row) ∙ is) in
+        absurd (no_place start (sym at ∙ first))
+        );
+  }
+  sends_asks r n info sent (Some start) file s answer t placed at was some most (sought, g, m, seeks, row) =
+      moved_asks r n info sent sought (record { file = g; place = start }) m answer t (some_start sent start at) (once n s m was seeks.done.asked) some most row
+
+  file_asks : (r : Bool) (n : ℕ) (info : Info) (file : F) (s : S) (result : Given F) (t : S) → Asked n s → 3 ≤ n → n ≤ cond r 4 3 → SendsFile view q info file s result t → Done r result t
+  file_asks r n info file s (Err e) t was some most row = absurd row
+  file_asks r n info file s (Ok answer) t was some most row = inr (sends_asks r n info (sent_for q info) (first_place (sent_for q info)) file s answer t (for_placed q info) refl was some most row)
+
+  away_asks : (n : ℕ) (info : Info) (address : List ℕ) (file : F) (s : S) (result : Given F) (t : S) → Asked n s → 3 ≤ n → n ≤ 4 → SendsAway view info address file s result t → Done true result t
+  away_asks n info address file s (Err e) t was some most row = absurd row
+  away_asks n info address file s (Ok answer) t was some most ((date, dated, is), closed, empty) =
+      let status : answer.0.status ≡ 302 = ap (λ (o : Outcome). o.status) is in
+      inr (subst (λ x. AsksToGet true x b (view.state t).asked) (sym status) (unsent true n 302 t (closed_asks n s file t was closed) (omega arith) most (λ e. omega arith) (λ e. omega arith)))
+
+  addressed : (said : Result (Option (List ℕ)) FsError) (n : ℕ) (info : Info) (file : F) (s : S) (result : Given F) (t : S) → Asked n s → 3 ≤ n → n ≤ 4 → AfterRedirect view said q info file s result t → Done true result t
+  addressed (Err e) n info file s result t was some most (closed, is) = refused true n e result t (closed_asks n s file t was closed) (omega arith) most is
+  addressed (Ok (Some address)) n info file s result t was some most row = away_asks n info address file s result t was some most row
+  addressed (Ok None) n info file s result t was some most row = file_asks true n info file s result t was some most row
+
+  redirect_asks : (r : Bool) (info : Info) (file : F) (s : S) (result : Given F) (t : S) → Asked 3 s → ByRedirect view r q info file s result t → Done r result t
+  redirect_asks false info file s result t was row = file_asks false 3 info file s result t was (omega arith) (omega arith) row
+  redirect_asks true info file s result t was (said, g, m, asked, row) = elim asked.done.asked [
+    | inl none ↦ addressed said 3 info g m result t (none ∙ was) (omega arith) (omega arith) row
+    | inr one ↦ addressed said 4 info g m result t (once 3 s m was one) (omega arith) (omega arith) row
+  ]
+
+  kind_asks : (regular : Bool) (info : Info) (file : F) (s : S) (result : Given F) (t : S) → Asked 3 s → ByFile view regular q info file s result t → Done (is_set q.settings.redirect) result t
+  kind_asks true info file s result t was row = redirect_asks (is_set q.settings.redirect) info file s result t was row
+  kind_asks false info file s result t was (closed, is) =
+      error (is_set q.settings.redirect) 3 (Status 405) result t (closed_asks 3 s file t was closed) (omega arith) (omega arith) (λ e. omega arith) (λ e. omega arith) is
+
+  meta_asks : (said : Result Info FsError) (file : F) (s : S) (result : Given F) (t : S) → Asked 3 s → AfterMeta view said q file s result t → Done (is_set q.settings.redirect) result t
+  meta_asks (Err e) file s result t was (closed, is) = refused (is_set q.settings.redirect) 3 e result t (closed_asks 3 s file t was closed) (omega arith) (omega arith) is
+  meta_asks (Ok info) file s result t was row = kind_asks (is_file info.kind) info file s result t was row
+
+  open_asks : (opened : Result F FsError) (s m : S) (result : Given F) (t : S) → Asked 1 s → AsksToOpen opened (view.state s) (view.state m) → AfterOpen view opened q m result t → Done (is_set q.settings.redirect) result t
+  open_asks (Err e) s m result t was asked (same, is) = elim asked [
+    | inl none ↦ refused (is_set q.settings.redirect) 1 e result t (ap (λ (x : S). (view.state x).asked) same ∙ none ∙ was) (omega arith) (omega arith) is
+    | inr one ↦ refused (is_set q.settings.redirect) 2 e result t (ap (λ (x : S). (view.state x).asked) same ∙ once 1 s m was one) (omega arith) (omega arith) is
+  ]
+  open_asks (Ok file) s m result t was one (inr none) = inl none
+  open_asks (Ok file) s m result t was one (inl (said, g, k, says, could, row)) = meta_asks said g k result t (once 2 m k (once 1 s m was one) says.done.asked) row
+
+  module _ (few : AsksByOne view) where
+    dir_asks : (dir : Bool) (c : C) (s : S) (result : Given F) (t : S) → Asked 1 s → ByKind view dir q c s result t → Done (is_set q.settings.redirect) result t
+    dir_asks true c s result t was (same, is) =
+        error (is_set q.settings.redirect) 1 (StatusClose 501) result t (ap (λ (x : S). (view.state x).asked) same ∙ was) (omega arith) (omega arith) (λ e. omega arith) (λ e. omega arith) is
+    dir_asks false c s result t was (opened, m, opens, one, row) = open_asks opened s m result t was (few.opens s m c q.path opened opens) row
+
+    look_asks : (look : Result Info FsError) (c : C) (s : S) (result : Given F) (t : S) → Asked 1 s → AfterLook view look q c s result t → Done (is_set q.settings.redirect) result t
+    look_asks (Err e) c s result t was (same, is) = refused (is_set q.settings.redirect) 1 e result t (ap (λ (x : S). (view.state x).asked) same ∙ was) (omega arith) (omega arith) is
+    look_asks (Ok info) c s result t was row = dir_asks (is_dir info.kind) c s result t was row
+
+module _ {S C F : Type 0} (view : View S C F) (q : Query) (few : AsksByOne view) where
+  known_asks : (known : Bool) (c : C) (s : S) (result : Given F) (t : S) → ByWellKnown view known q c s result t
+      → (result ≡ Err NoMemory) ⊎ AsksUnlessKnown known (is_set q.settings.redirect) (status_given result) (view.state s).asked (view.state t).asked
+  known_asks true c s result t (same, row) = inr (ap (λ (x : S). (view.state x).asked) same)
+  known_asks false c s result t (look, m, looks, keeps, row) =
+      look_asks view q (view.state s).asked few look c m result t (few.looks s m c q.path look looks) row
+
+  -- What the table answers asks few calls.
+  pub gets_asks : (c : C) (s : S) (result : Given F) (t : S) → Gets view q c s result t ⊎ (result ≡ Err NoMemory)
+      → (result ≡ Err NoMemory) ⊎ AsksUnlessKnown (is_well_known q.settings q.method q.path) (is_set q.settings.redirect) (status_given result) (view.state s).asked (view.state t).asked
+  gets_asks c s result t (inl row) = known_asks (is_well_known q.settings q.method q.path) c s result t row
+  gets_asks c s result t (inr none) = inl none

@@ -1,0 +1,203 @@
+-- The fields of each reply stand in order, and each is a field.
+use Rattle.std.proofs.Common.{◌≡◌, ◌&&◌, ◌⊎◌, inl, inr, ◌++◌, ℕ, List, [], ◌∷◌, map, Bool, true, false, All, Contains, codes, bytes_eq, decimal, option_map, Option, None, Some, refl, sym, ap, subst, ◌∙◌, arith, true≢false}
+use Rattle.std.specs.Ordering.{nat_cmp, is_lt}
+use Rattle.std.specs.declared.cmp.Ordering.{Ordering}
+use Rattle.std.specs.declared.cmp.Ordering.TheVariants.{Less, Equal, Greater}
+use Rattle.std.specs.Cmp.Lexicographic.{slice_cmp}
+use Rattle.std.specs.List.{list_all, AllByRecursion}
+use Rattle.std.specs.List.Sorted.{IsStrictlySortedBy}
+use Rattle.std.proofs.lemmas.Bool.{and_parts}
+use Rattle.std.proofs.lemmas.List.Elements.{All-cons, All-nil}
+use Rattle.std.proofs.lemmas.List.Sums.{AllPass-from_list_all}
+use Rattle.http_header.specs.Token.{IsToken, is_token_byte, is_value_byte}
+use Rattle.dav_io.specs.declared.fields.Field.{Field}
+use Rattle.dav_model.specs.declared.sent.Sent.{Sent}
+use Rattle.dav_model.specs.Head.{field, field_where, quoted_where, redirected_fields, refusal, sent_fields, sent_length, sent_range, sent_type, well_known}
+use Rattle.dav_model.specs.WellFormed.{Ascend, IsReplyField, reply_names}
+use Rattle.dav_model.proofs.FieldValues.{Fits, FitsWhere, length_fits, range_fits, sent_type_fits}
+
+-- A value of a field of this name: of a connection it is that it closes.
+abbrev IsValue : List ℕ → List ℕ → Type 0
+IsValue name value = Fits value × (bytes_eq name (codes "connection") ≡ true → value ≡ codes "close")
+
+-- The fields have some of these names, in their order.
+abbrev pub HasSome : List (List ℕ) → List Field → Type 0
+HasSome names [] = Unit {0}
+HasSome [] (f ∷ fields) = ⊥
+HasSome (name ∷ names) (f ∷ fields) = ((f.name ≡ name) × IsValue name f.value × HasSome names fields) ⊎ HasSome names (f ∷ fields)
+
+-- ---- from names to fields
+
+abbrev in_order : List (List ℕ) → Bool
+in_order [] = true
+in_order (x ∷ xs) = list_all (λ y. is_lt (slice_cmp nat_cmp x y)) xs && in_order xs
+
+less : (o : Ordering) → is_lt o ≡ true → o ≡ Less
+less Less e = refl
+less Equal e = absurd (true≢false (sym e))
+less Greater e = absurd (true≢false (sym e))
+
+below : (x : List ℕ) (names : List (List ℕ)) (fields : List Field) → list_all (λ y. is_lt (slice_cmp nat_cmp x y)) names ≡ true → HasSome names fields
+    → AllByRecursion (λ y. slice_cmp nat_cmp x y ≡ Less) (map (λ (f : Field). f.name) fields)
+below x names [] e has = tt
+below x [] (f ∷ fields) e has = absurd has
+below x (name ∷ names) (f ∷ fields) e (inl (same, is, has)) =
+    let p = and_parts (is_lt (slice_cmp nat_cmp x name)) (list_all (λ y. is_lt (slice_cmp nat_cmp x y)) names) e in
+    (subst (λ y. slice_cmp nat_cmp x y ≡ Less) (sym same) (less (slice_cmp nat_cmp x name) p.0), below x names fields p.1 has)
+below x (name ∷ names) (f ∷ fields) e (inr has) =
+    below x names (f ∷ fields) (and_parts (is_lt (slice_cmp nat_cmp x name)) (list_all (λ y. is_lt (slice_cmp nat_cmp x y)) names) e).1 has
+
+sorted : (names : List (List ℕ)) (fields : List Field) → in_order names ≡ true → HasSome names fields
+    → IsStrictlySortedBy (slice_cmp nat_cmp) (map (λ (f : Field). f.name) fields)
+unfolding IsStrictlySortedBy
+sorted names [] e has = tt
+sorted [] (f ∷ fields) e has = absurd has
+sorted (name ∷ names) (f ∷ fields) e (inl (same, is, has)) =
+    let p = and_parts (list_all (λ y. is_lt (slice_cmp nat_cmp name y)) names) (in_order names) e in
+    (below f.name names fields (subst (λ x. list_all (λ y. is_lt (slice_cmp nat_cmp x y)) names ≡ true) (sym same) p.0) has, sorted names fields p.1 has)
+sorted (name ∷ names) (f ∷ fields) e (inr has) =
+    sorted names (f ∷ fields) (and_parts (list_all (λ y. is_lt (slice_cmp nat_cmp name y)) names) (in_order names) e).1 has
+
+-- a name of the table
+record IsKnown (name : List ℕ) : Type 0 where
+  token : IsToken name
+  among : Contains reply_names name
+
+known : (name : List ℕ) → IsToken name → Contains reply_names name → IsKnown name
+known name token among = record { token = token; among = among }
+
+known_names : AllByRecursion IsKnown reply_names
+unfolding is_token_byte
+known_names = (
+  known (codes "accept-ranges") (omega arith, AllPass-from_list_all is_token_byte (codes "accept-ranges") refl) (0, omega arith, refl),
+  (
+    known (codes "connection") (omega arith, AllPass-from_list_all is_token_byte (codes "connection") refl) (1, omega arith, refl),
+    (
+      known (codes "content-length") (omega arith, AllPass-from_list_all is_token_byte (codes "content-length") refl) (2, omega arith, refl),
+      (
+        known (codes "content-range") (omega arith, AllPass-from_list_all is_token_byte (codes "content-range") refl) (3, omega arith, refl),
+        (
+          known (codes "content-type") (omega arith, AllPass-from_list_all is_token_byte (codes "content-type") refl) (4, omega arith, refl),
+          (
+            known (codes "etag") (omega arith, AllPass-from_list_all is_token_byte (codes "etag") refl) (5, omega arith, refl),
+            (
+              known (codes "last-modified") (omega arith, AllPass-from_list_all is_token_byte (codes "last-modified") refl) (6, omega arith, refl),
+              (
+                known (codes "location") (omega arith, AllPass-from_list_all is_token_byte (codes "location") refl) (7, omega arith, refl),
+                tt,
+              ),
+            ),
+          ),
+        ),
+      ),
+    ),
+  ),
+)
+
+reply_field : (name : List ℕ) (f : Field) → f.name ≡ name → IsKnown name → IsValue name f.value → IsReplyField f
+reply_field name f same known is = record {
+  known = subst (Contains reply_names) (sym same) known.among;
+  name = subst IsToken (sym same) known.token;
+  value = AllPass-from_list_all is_value_byte f.value is.0.all;
+  closes = λ e. is.1 (ap (λ x. bytes_eq x (codes "connection")) (sym same ∙ e));
+}
+
+each : (names : List (List ℕ)) (fields : List Field) → AllByRecursion IsKnown names → HasSome names fields → All IsReplyField fields
+each names [] known has = All-nil IsReplyField
+each [] (f ∷ fields) known has = absurd has
+each (name ∷ names) (f ∷ fields) (known, more) (inl (same, is, has)) =
+    All-cons IsReplyField f fields (reply_field name f same known is) (each names fields more has)
+each (name ∷ names) (f ∷ fields) (known, more) (inr has) = each names (f ∷ fields) more has
+
+pub ascend_some : (fields : List Field) → HasSome reply_names fields → Ascend fields
+ascend_some fields has = sorted reply_names fields refl has
+
+pub each_some : (fields : List Field) → HasSome reply_names fields → All IsReplyField fields
+each_some fields has = each reply_names fields known_names has
+
+-- ---- the fields of each reply
+
+skip : (name : List ℕ) (names : List (List ℕ)) (fields : List Field) → HasSome names fields → HasSome (name ∷ names) fields
+skip name names [] has = tt
+skip name names (f ∷ fields) has = inr has
+
+value_of_other : (name value : List ℕ) → bytes_eq name (codes "connection") ≡ false → Fits value → IsValue name value
+value_of_other name value other fits = (fits, λ e. absurd (true≢false (sym e ∙ other)))
+
+next : (name value : List ℕ) (names : List (List ℕ)) (fields : List Field) → bytes_eq name (codes "connection") ≡ false → Fits value → HasSome names fields
+    → HasSome (name ∷ names) (field name value ∷ fields)
+next name value names fields other fits has = inl (refl, value_of_other name value other fits, has)
+
+perhaps : (name : List ℕ) (value : Option (List ℕ)) (names : List (List ℕ)) (fields : List Field) → bytes_eq name (codes "connection") ≡ false → FitsWhere value → HasSome names fields
+    → HasSome (name ∷ names) (field_where name value ++ fields)
+perhaps name None names fields other fits has = skip name names fields has
+perhaps name (Some value) names fields other fits has = next name value names fields other fits has
+
+perhaps_last : (name : List ℕ) (value : Option (List ℕ)) (names : List (List ℕ)) → bytes_eq name (codes "connection") ≡ false → FitsWhere value → HasSome (name ∷ names) (field_where name value)
+perhaps_last name None names other fits = tt
+perhaps_last name (Some value) names other fits = next name value names [] other fits tt
+
+-- the names from each on
+abbrev from_modified : List (List ℕ)
+from_modified = codes "last-modified" ∷ codes "location" ∷ []
+
+abbrev from_tag : List (List ℕ)
+from_tag = codes "etag" ∷ from_modified
+
+abbrev from_type : List (List ℕ)
+from_type = codes "content-type" ∷ from_tag
+
+abbrev from_range : List (List ℕ)
+from_range = codes "content-range" ∷ from_type
+
+abbrev from_length : List (List ℕ)
+from_length = codes "content-length" ∷ from_range
+
+abbrev from_connection : List (List ℕ)
+from_connection = codes "connection" ∷ from_length
+
+-- no body, and its length
+abbrev zero_length : List Field
+zero_length = field (codes "content-length") (codes "0") ∷ []
+
+zero_some : HasSome from_length zero_length
+zero_some = next (codes "content-length") (codes "0") from_range [] refl (record { all = refl }) tt
+
+pub refusal_some : (status : ℕ) (close : Bool) → HasSome reply_names (refusal status close).fields
+refusal_some status true =
+    skip (codes "accept-ranges") from_connection (field (codes "connection") (codes "close") ∷ zero_length)
+    (inl (refl, (record { all = refl }, λ e. refl), zero_some))
+refusal_some status false = skip (codes "accept-ranges") from_connection zero_length (skip (codes "connection") from_length zero_length zero_some)
+
+pub known_some : HasSome reply_names well_known.fields
+known_some =
+    next (codes "accept-ranges") (codes "bytes") from_connection zero_length refl (record { all = refl }) (skip (codes "connection") from_length zero_length zero_some)
+
+pub redirect_some : (address : List ℕ) (tag date : Option (List ℕ)) → Fits address → FitsWhere (quoted_where tag) → FitsWhere date → HasSome reply_names (redirected_fields address tag date)
+redirect_some address tag date fits tagged dated =
+    let last : List Field = field (codes "location") address ∷ [] in
+    let times : List Field = field_where (codes "last-modified") date ++ last in
+    let rest : List Field = field_where (codes "etag") (quoted_where tag) ++ times in
+    let all : List Field = field (codes "content-length") (codes "0") ∷ rest in
+    skip (codes "accept-ranges") from_connection all (skip (codes "connection") from_length all
+    (next (codes "content-length") (codes "0") from_range rest refl (record { all = refl })
+    (skip (codes "content-range") from_type rest (skip (codes "content-type") from_tag rest
+    (perhaps (codes "etag") (quoted_where tag) from_modified times refl tagged
+    (perhaps (codes "last-modified") date (codes "location" ∷ []) last refl dated
+    (next (codes "location") address [] [] refl fits tt)))))))
+
+pub sent_some : (gives : Bool) (type : List ℕ) (len : ℕ) (tag date : Option (List ℕ)) (sent : Sent) → Fits type → FitsWhere (quoted_where tag) → FitsWhere date
+    → HasSome reply_names (sent_fields gives type len tag date sent)
+sent_some gives type len tag date sent fits tagged dated =
+    let times : List Field = field_where (codes "last-modified") date in
+    let tags : List Field = field_where (codes "etag") (quoted_where tag) ++ times in
+    let types : List Field = field (codes "content-type") (sent_type type sent) ∷ tags in
+    let ranges : List Field = field_where (codes "content-range") (sent_range len sent) ++ types in
+    let lengths : List Field = field_where (codes "content-length") (option_map decimal (sent_length gives len sent)) ++ ranges in
+    next (codes "accept-ranges") (codes "bytes") from_connection lengths refl (record { all = refl })
+    (skip (codes "connection") from_length lengths
+    (perhaps (codes "content-length") (option_map decimal (sent_length gives len sent)) from_range ranges refl (length_fits gives len sent)
+    (perhaps (codes "content-range") (sent_range len sent) from_type types refl (range_fits len sent)
+    (next (codes "content-type") (sent_type type sent) from_tag tags refl (sent_type_fits type sent fits)
+    (perhaps (codes "etag") (quoted_where tag) from_modified times refl tagged
+    (perhaps_last (codes "last-modified") date (codes "location" ∷ []) refl dated))))))
