@@ -1,5 +1,5 @@
 -- What a request finds, from what the calls below it answered.
-use Rattle.std.proofs.Common.{◌≡◌, ◌⊎◌, inl, inr, ℕ, Bool, true, false, List, [], ◌∷◌, Option, None, Some, Result, Ok, Err, refl, sym, ap, subst, ◌∙◌}
+use Rattle.std.proofs.Common.{◌≡◌, ◌⊎◌, inl, inr, ℕ, Bool, true, false, List, Option, None, Some, Result, Ok, Err, refl, sym, ap, subst, ◌∙◌}
 use Rattle.std.specs.Prelude.{IfOk, is_some}
 use Rattle.std.specs.List.{list_any}
 use Rattle.std.specs.Option.{option_map}
@@ -8,20 +8,20 @@ use Rattle.dav_core.specs.declared.dav_error.DavError.{DavError}
 use Rattle.dav_core.specs.declared.dav_error.DavError.TheVariants.{NoMemory as OutOfMemory}
 use Rattle.dav_core.specs.declared.error.FsError.{FsError}
 use Rattle.dav_core.specs.declared.method.DavMethod.{DavMethod}
-use Rattle.dav_core.specs.declared.tree.Kind.{Kind}
 use Rattle.dav_core.specs.DavPath.{WebPath}
 use Rattle.dav_core.specs.Disk.{DiskState, Live, TellsLive}
 use Rattle.dav_core.specs.Statuses.{closes, lacks_memory, status_of}
 use Rattle.dav_core.specs.Tree.{is_linked}
 use Rattle.dav_core.specs.Unchanged.{Keeps}
-use Rattle.dav_core.specs.World.{World, IsWorld, OpenFile}
+use Rattle.dav_core.specs.World.{World, IsWorld}
 use Rattle.dav_core.proofs.UnchangedLemmas.{keeps_same}
 use Rattle.dav_model.specs.declared.outcome.Outcome.{Outcome}
 use Rattle.dav_model.specs.declared.settings.Settings.{Settings}
 use Rattle.dav_model.specs.declared.target.Target.TheVariants.{At, Refused}
+use Rattle.dav_model.specs.Calls.{AsksUnlessKnown}
 use Rattle.dav_model.specs.Conditions.{Fields}
 use Rattle.dav_model.specs.Due.{Query, IsRight, query}
-use Rattle.dav_model.specs.Head.{Reply, refusal}
+use Rattle.dav_model.specs.Head.{Reply, is_set, is_well_known, refusal}
 use Rattle.dav_model.specs.Play.{Reads}
 use Rattle.dav_model.specs.Rules.{nothing_known, plain_rules}
 use Rattle.dav_model.specs.Sizes.{read_size_of}
@@ -36,8 +36,9 @@ use Rattle.dav_plain.proofs.Showing.{IsPlain, plain_shows}
 use Rattle.dav_get.specs.declared.open_at.OpenAt.{OpenAt}
 use Rattle.dav_get.specs.declared.part.BodyPart.{BodyPart}
 use Rattle.dav_get.specs.Bodies.{IsHeld, left_of, is_slice}
+use Rattle.dav_get.specs.Calls.{AsksByOne}
 use Rattle.dav_get.specs.Heard.{Heard}
-use Rattle.dav_get.specs.Lives.{HasMost, OpenOnlyHeld, OpensOnly}
+use Rattle.dav_get.specs.Lives.{HasMost, OpensOnly}
 use Rattle.dav_get.specs.Parts.{parts_of}
 use Rattle.dav_get.specs.Right.{IsOfNumber, number_told, or_zero, reply_at}
 use Rattle.dav_get.specs.Table.{Given}
@@ -47,6 +48,7 @@ use Rattle.dav_handler.specs.Found.{Answers, Finds, Gives, HoldsOnly, IsRefused,
 use Rattle.dav_handler.specs.Held.{Body, IsOpen, handle_of, number_in, number_seen, parts_in}
 use Rattle.dav_handler.proofs.Frames.{no_slices, texts_any}
 use Rattle.dav_handler.proofs.HeardShown.{heard_rightly}
+use Rattle.dav_handler.proofs.PlainAsks.{plain_asks}
 use Rattle.dav_handler.proofs.PlainShown.{reads_heard, reads_told}
 
 -- a refusal is answered as it is
@@ -60,6 +62,7 @@ gate_answers settings s fields status close (Err x) is = keeps_same s
 gate_answers settings s fields status close (Ok found) is = record {
   holds = subst (λ b. HoldsOnly (read_size_of settings.read_buf_size) s b s) (sym is.body) (keeps_same s);
   right = reply_refused s status close found is;
+  asks = refl;
 }
 
 -- ---- what is told of a body's file
@@ -114,7 +117,7 @@ module _ {S C : Type 0} (view : View S C PlainFile) (plain : IsPlain view) (q : 
   reads_of worlds result reply hears right same = by_told (view.state s).told refl
     where
       heard_here : ((w : World) → (view.state s).told ≡ Some w → is_linked w.tree q.path.names ≡ true) → Reads (plain_rules q.settings) nothing_known (view.state s) (view.state m) q reply
-      heard_here linked = reads_heard q (view.state s) (view.state m) reply linked (heard_rightly view plain q c s m result reply hears (same hears.number hears.file))
+      heard_here linked = reads_heard q (view.state s) (view.state m) reply linked (heard_rightly view plain q c s m result reply hears same)
 
       by_link : (w : World) (b : Bool) → (view.state s).told ≡ Some w → is_linked w.tree q.path.names ≡ b → Reads (plain_rules q.settings) nothing_known (view.state s) (view.state m) q reply
       by_link w true told link = heard_here (λ v e. (let same_world : w ≡ v = cc in subst (λ (x : World). is_linked x.tree q.path.names ≡ true) same_world link))
@@ -156,15 +159,18 @@ pub given_answers : {S C : Type 0} (view : View S C PlainFile) (plain : IsPlain 
     → ((w : World) → (view.state s).told ≡ Some w → IsWorld w) → TellsLive (view.state m) → (r : Outcome × Body) (t : DiskState) (found : Found)
     → Heard view (query settings fields method path) c s (Ok r) m
     → ((looked opened : Result Standing FsError) → Shows view s c path looked opened → IsRightFor view (query settings fields method path) looked opened s (Ok r) m)
+    → (AsksByOne view → (◌≡◌ {A = Given PlainFile} (Ok r) (Err OutOfMemory)) ⊎ AsksUnlessKnown (is_well_known settings method path) (is_set settings.redirect) r.0.status (view.state s).asked (view.state m).asked)
     → IsHeld handle_of seen_by (view.state m) r.1 → OpensOnly handle_of (view.state s) r.1.file (view.state m) → HasMost (read_size_of settings.read_buf_size) (Ok r)
     → found.outcome ≡ r.0 → Gives (view.state m) r.1 found.body t → Answers settings (view.state s) fields (At method path) found t
-given_answers view plain settings s m c method path fields worlds tells r t found hears right held opens size outcome gives =
+given_answers view plain settings s m c method path fields worlds tells r t found hears right asks held opens size outcome gives =
     let same = given_state (view.state m) t r.1 found.body gives in
     let gives' : Gives (view.state m) r.1 found.body (view.state m) = subst (Gives (view.state m) r.1 found.body) same gives in
     subst (λ x. Answers settings (view.state s) fields (At method path) found x) (sym same) (record {
       holds = holds_given view plain (query settings fields method path) c s m (read_size_of settings.read_buf_size) r found.body gives' held opens size tells;
       right = reads_of view plain (query settings fields method path) c s m worlds (Ok r) (reply_of (view.state m) found) hears right
           (same_given view plain (query settings fields method path) c s m r found outcome gives' held);
+      asks = λ folds macos. subst (λ n. AsksUnlessKnown (is_well_known settings method path) (is_set settings.redirect) n (view.state s).asked (view.state m).asked)
+          (ap (λ (o : Outcome). o.status) (sym outcome)) (given_heard r (asks (plain_asks view plain)));
     })
 
 -- An answer that is a refusal.
@@ -173,14 +179,17 @@ pub refused_answers : {S C : Type 0} (view : View S C PlainFile) (plain : IsPlai
     → (◌≡◌ {A = Given PlainFile} (Err e) (Err OutOfMemory)) ⊎ Heard view (query settings fields method path) c s (Err e) m → Keeps (view.state s) (view.state m)
     → ((looked opened : Result Standing FsError) → Shows view s c path looked opened
     → (◌≡◌ {A = Given PlainFile} (Err e) (Err OutOfMemory)) ⊎ IsRightFor view (query settings fields method path) looked opened s (Err e) m)
+    → (AsksByOne view → (◌≡◌ {A = Given PlainFile} (Err e) (Err OutOfMemory)) ⊎ AsksUnlessKnown (is_well_known settings method path) (is_set settings.redirect) (status_of e) (view.state s).asked (view.state m).asked)
     → IfOk result (IsRefusedBy e) → Finds settings (view.state s) fields (At method path) result (view.state m)
-refused_answers view plain settings s m c method path fields worlds e (Err x) hears keeps right is = keeps
-refused_answers view plain settings s m c method path fields worlds e (Ok found) hears keeps right is =
+refused_answers view plain settings s m c method path fields worlds e (Err x) hears keeps right asks is = keeps
+refused_answers view plain settings s m c method path fields worlds e (Ok found) hears keeps right asks is =
     let same : refusal (status_of e) (closes e) ≡ reply_of (view.state m) found = sym (reply_refused (view.state m) (status_of e) (closes e) found is.refused) in
     record {
       holds = subst (λ b. HoldsOnly (read_size_of settings.read_buf_size) (view.state s) b (view.state m)) (sym is.refused.body) keeps;
       right = reads_of view plain (query settings fields method path) c s m worlds (Err e) (reply_of (view.state m) found) (had hears)
           (λ looked opened shows. had (right looked opened shows)) (λ number file. same);
+      asks = λ folds macos. subst (λ n. AsksUnlessKnown (is_well_known settings method path) (is_set settings.redirect) n (view.state s).asked (view.state m).asked)
+          (sym is.refused.status) (had (asks (plain_asks view plain)));
     }
   where
     had : {X : Type 0} → (◌≡◌ {A = Given PlainFile} (Err e) (Err OutOfMemory)) ⊎ X → X

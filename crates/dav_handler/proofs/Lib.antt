@@ -1,6 +1,7 @@
 pub mod Frames
 pub mod Upkeep
 pub mod Polling
+pub mod PlainAsks
 pub mod Answering
 pub mod Stepping
 pub mod Handles

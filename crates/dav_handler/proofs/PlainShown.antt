@@ -1,5 +1,5 @@
 -- What a plain store could show, by what was heard of it or by the world that its disk tells, and that a reply is right for it.
-use Rattle.std.proofs.Common.{◌≡◌, ◌⊎◌, inl, inr, ◌&&◌, Bool, true, false, cond, if◌then◌else◌, ℕ, Option, None, Some, Result, Ok, Err, refl, sym, ap, subst, ◌∙◌}
+use Rattle.std.proofs.Common.{◌≡◌, ◌⊎◌, inl, Bool, true, false, cond, if◌then◌else◌, Option, None, Some, Result, Ok, Err, refl, sym, ap, subst, ◌∙◌}
 use Rattle.dav_io.specs.Counts.{Rose}
 use Rattle.dav_core.specs.declared.error.FsError.{FsError}
 use Rattle.dav_core.specs.declared.error.FsError.TheVariants as fs
@@ -23,12 +23,13 @@ use Rattle.dav_model.proofs.LooseWalks.{exactly_may}
 use Rattle.dav_model.proofs.PlainWalks.{plain_resolved, unlinked_row}
 use Rattle.dav_model.proofs.WorldsCouldShow.{world_could}
 use Rattle.dav_plain.specs.Standing.{found, looked, opened, standing_of, under_slash}
+use Rattle.dav_get.specs.Heard.{shown_alike}
 use Rattle.dav_get.specs.Told.{found_as, shown_as}
-use Rattle.dav_handler.proofs.HeardShown.{Rightly, two}
+use Rattle.dav_handler.proofs.HeardShown.{Rightly}
 
 -- What is shown: of a world what the rules show, where no link is met, and else what was heard.
 abbrev shown_for : Settings → Option World → Result Stood FsError → Result Stood FsError → Shown
-shown_for settings None looked opened = two looked opened
+shown_for settings None looked opened = shown_alike looked opened
 shown_for settings (Some w) looked opened = record {
   looked = λ path. cond (is_linked w.tree path.names) looked (looked_at (plain_rules settings) w (exactly (plain_rules settings) w.tree) path);
   opened = λ path. cond (is_linked w.tree path.names) opened (opened_at (plain_rules settings) w (exactly (plain_rules settings) w.tree) path);
@@ -66,11 +67,11 @@ abbrev Fits : Query → Shown → Type 0 → Reply → Type 0
 Fits q shown rose reply = IsHead q (due shown q) reply ⊎ (IsSpoiled q (due shown q) reply × rose)
 
 fits_for : (q : Query) (told : Option World) (looked opened : Result Stood FsError) (rose : Type 0) (reply : Reply) → ((w : World) → told ≡ Some w → is_linked w.tree q.path.names ≡ true)
-    → Fits q (two looked opened) rose reply → Fits q (shown_for q.settings told looked opened) rose reply
+    → Fits q (shown_alike looked opened) rose reply → Fits q (shown_for q.settings told looked opened) rose reply
 fits_for q None looked opened rose reply linked is = is
 fits_for q (Some w) looked opened rose reply linked is =
     subst (λ d. IsHead q d reply ⊎ (IsSpoiled q d reply × rose))
-    (due_same (two looked opened) (shown_for q.settings (Some w) looked opened) q
+    (due_same (shown_alike looked opened) (shown_for q.settings (Some w) looked opened) q
     (sym (ap (λ b. cond b looked (looked_at (plain_rules q.settings) w (exactly (plain_rules q.settings) w.tree) q.path)) (linked w refl)))
     (sym (ap (λ b. cond b opened (opened_at (plain_rules q.settings) w (exactly (plain_rules q.settings) w.tree) q.path)) (linked w refl))))
     is

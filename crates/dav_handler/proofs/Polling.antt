@@ -1,34 +1,39 @@
 -- From what a poll of a body does to the clause of its step.
-use Rattle.std.proofs.Common.{◌≡◌, ◌≢◌, ◌≤◌, ◌==◌, ℕ, Bool, true, false, cond, List, [], ◌∷◌, Option, None, Some, Ok, refl, sym, ap, subst, ◌∙◌, arith}
+use Rattle.std.proofs.Common.{◌≡◌, ◌≢◌, ◌≤◌, ◌==◌, ◌⊎◌, inl, inr, ℕ, Bool, true, false, cond, List, [], ◌∷◌, Option, None, Some, Ok, refl, sym, ap, subst, ◌∙◌, arith}
+use Rattle.std.proofs.lemmas.Bool.Decides.{nat_tests}
 use Rattle.std.specs.Prelude.{is_some}
 use Rattle.std.specs.List.{list_any}
+use Rattle.std.specs.Option.{option_map}
 use mathlib.Core.Path.{fun_ext}
-use Rattle.dav_io.specs.Counts.{Rose}
+use Rattle.dav_io.specs.Counts.{Rose, one_more}
 use Rattle.dav_io.specs.Told.{Both}
 use Rattle.dav_io.proofs.ToldLemmas.{told_before}
-use Rattle.dav_core.specs.World.{World, put}
-use Rattle.dav_core.specs.Disk.{DiskState}
+use Rattle.dav_core.specs.declared.tree.Kind.{Kind}
+use Rattle.dav_core.specs.World.{World, OpenFile, put}
+use Rattle.dav_core.specs.Disk.{DiskState, Live}
 use Rattle.dav_core.specs.Unchanged.{SameBesidesOpens}
 use Rattle.dav_core.proofs.UnchangedLemmas.{keeps_same, put_other, put_same}
 use Rattle.dav_model.specs.declared.answer.Answer.{Answer}
 use Rattle.dav_model.specs.declared.settings.Settings.{Settings}
 use Rattle.dav_model.specs.declared.step.Step.TheVariants.{Poll}
 use Rattle.dav_model.specs.Bodies.{Part, Polls as PollsParts}
+use Rattle.dav_model.specs.Calls.{AsksToPoll, AsksToRead, is_piece, place_held}
 use Rattle.dav_model.specs.Sizes.{read_size_of}
 use Rattle.dav_model.specs.Trail.{Goes}
 use Rattle.dav_model.specs.Play.{Lets, Stepped}
 use Rattle.dav_store.specs.Standing.{Seen}
 use Rattle.dav_plain.specs.declared.file.PlainFile.{PlainFile}
 use Rattle.dav_plain.specs.Calls.{seen_by}
+use Rattle.dav_plain.specs.Standing.{seen_in, seen_with}
 use Rattle.dav_plain.proofs.Showing.{bytes_seen}
 use Rattle.dav_get.specs.declared.part.BodyPart.{BodyPart}
 use Rattle.dav_get.specs.declared.part.BodyPart.TheVariants.{Text, Slice as SliceOf}
 use Rattle.dav_get.specs.declared.open_at.OpenAt.{OpenAt}
-use Rattle.dav_get.specs.OpenFiles.{SameStands}
-use Rattle.dav_get.specs.Bodies.{left_of, is_slice, HasNumber, IsHeld, IsPolled, Polls, StandsIn, Takes, TouchesOwn}
+use Rattle.dav_get.specs.OpenFiles.{IsAt, SameStands}
+use Rattle.dav_get.specs.Bodies.{left_of, is_slice, Asks, HasNumber, IsHeld, IsPolled, Polls, StandsIn, Takes, TouchesOwn}
 use Rattle.dav_get.specs.Parts.{parts_of}
 use Rattle.dav_get.proofs.BodyRight.{takes_right}
-use Rattle.dav_handler.specs.Held.{Body, IsHeldBody, IsOpen, IsPlaying, PollsBody, Sweeps, handle_of, held_by, held_in, left_in, number_in, number_seen, parts_in}
+use Rattle.dav_handler.specs.Held.{Body, IsHeldBody, IsOpen, IsPlaying, PollsBody, Sweeps, handle_in, handle_of, held_by, held_in, left_in, number_in, number_seen, parts_in}
 use Rattle.dav_handler.proofs.Frames.{body_needs, body_over, both_some, no_slices, texts_any}
 use Rattle.dav_handler.proofs.Handles.{touches_lets}
 use Rattle.dav_handler.specs.Player.{plain_playing}
@@ -92,6 +97,42 @@ some_is (Some f) e = (f, refl)
 stands_in : (most : ℕ) (s : DiskState) (b : Body) → IsOpen most s b → StandsIn seen_by s s.told b.file
 stands_in most s b is w h told file = let (f, e) = some_is (seen_by h.file s) (is.told w h told file) in (f, e, bytes_seen h.file s w f told e)
 
+-- The place of a file that is told is that of the world.
+option_place : (w : World) (kind : Kind) (o : Option OpenFile) (f : Seen) → option_map (seen_in w kind) o ≡ Some f → option_map (λ (x : OpenFile). x.place) o ≡ Some f.place
+option_place w kind None f e = cc
+option_place w kind (Some o) f e = let g : seen_in w kind o ≡ f = cc in rw (← g) refl
+
+place_with : (w : World) (live : Option Live) (h : ℕ) (f : Seen) → seen_with (Some w) live h ≡ Some f → option_map (λ (x : OpenFile). x.place) (w.opens h) ≡ Some f.place
+place_with w None h f e = cc
+place_with w (Some l) h f e = option_place w l.kind (w.opens h) f e
+
+place_seen : (file : PlainFile) (s : DiskState) (w : World) (f : Seen) → s.told ≡ Some w → seen_by file s ≡ Some f → place_held w (Some (handle_of file)) ≡ Some f.place
+place_seen file s w f told e = place_with w (s.live (handle_of file)) (handle_of file) f (ap (λ x. seen_with x (s.live (handle_of file)) (handle_of file)) (sym told) ∙ e)
+
+-- A slice asks one call or two.
+asks_few : (place start : ℕ) (came : Bool) (before after : ℕ) → AsksToRead place start came before after → (after ≡ one_more before) ⊎ (after ≡ one_more (one_more before))
+asks_few place start came before after asks = few (place == start) came refl asks
+  where
+    few : (here came : Bool) → (place == start) ≡ here → AsksToRead place start came before after → (after ≡ one_more before) ⊎ (after ≡ one_more (one_more before))
+    few true came e asks = inl (asks.here (grind (arith, nat_tests)))
+    few false true e asks = inr (asks.there (λ same. grind (arith, nat_tests)))
+    few false false e asks = asks.there (λ same. grind (arith, nat_tests))
+
+-- The place that is noted in a body is that of its file in a told world.
+asks_told : (s : DiskState) (file : Option (OpenAt PlainFile)) (left : List BodyPart) (number : ℕ) (answer : Answer) (after : ℕ) → ((h : OpenAt PlainFile) → file ≡ Some h → IsAt handle_of seen_by s h)
+    → ((w : World) (h : OpenAt PlainFile) → s.told ≡ Some w → file ≡ Some h → is_some (seen_by h.file s) ≡ true) → Asks file left answer s.asked after
+    → AsksToPoll s.told (handle_in file) (parts_of number left) answer s.asked after
+asks_told s file [] number answer after at told asks = asks
+asks_told s file (Text bytes ∷ parts) number answer after at told asks = asks
+asks_told s None (SliceOf part ∷ parts) number answer after at told asks = absurd asks
+asks_told s (Some h) (SliceOf part ∷ parts) number answer after at told asks = record {
+  few = asks_few h.place part.start (is_piece answer) s.asked after asks;
+  by_place = λ w e. (
+      let (f, seen) = some_is (seen_by h.file s) (told w h e refl) in
+      (h.place, place_seen h.file s w f e seen ∙ ap Some ((at h refl).place f seen), asks)
+      );
+}
+
 module _ (most : ℕ) (s t : DiskState) (b c : Body) (answer : Answer) where
   pub polled_open : IsOpen most s b → Polls handle_of seen_by s b answer t c → IsOpen most t c
   polled_open is polls = record {
@@ -106,6 +147,9 @@ module _ (most : ℕ) (s t : DiskState) (b c : Body) (answer : Answer) where
       (subst (λ z. PollsParts s.told s.whole b.most s.faults t.faults (parts_of (number_in s b.file) (left_of b)) answer z)
       (sym (touched_parts s t b.file c.file (left_of c) polls.disk polls.held.needs))
       (takes_right handle_of seen_by s t b (left_of b) answer (left_of c) s.told (number_in s b.file) is.held.needs (stands_in most s b is) (has_number s b.file) polls.takes))
+
+  polled_asks : IsOpen most s b → Polls handle_of seen_by s b answer t c → AsksToPoll s.told (held_by (Some b)) (parts_in s (Some b)) answer s.asked t.asked
+  polled_asks is polls = asks_told s b.file (left_of b) (number_in s b.file) answer t.asked is.held.file is.told polls.asks
 
 pub stay_goes : (s t : DiskState) (file : Option (OpenAt PlainFile)) → OthersStay s file t → Goes s t
 stay_goes s t None e = rw e (record { faults = omega arith; asked = omega arith; whole = λ w. w; listers = refl })
@@ -192,6 +236,8 @@ module _ (settings : Settings) (s t : DiskState) (at : ℕ → Option Body) (rep
             over = body_over t c polls.held;
           };
           live = subst (λ x. Lets (held_by x) (held_by (Some c)) s.live t.live) (sym there) (touches_lets s t b.file c.file polls.disk);
+          asks = subst (λ x. AsksToPoll s.told (held_by x) (parts_in s x) answer s.asked t.asked) (sym there)
+              (polled_asks (read_size_of settings.read_buf_size) s t b c answer (p.held k b there) polls);
         },
         stays_open (read_size_of settings.read_buf_size) t new settings replies replies (swept_playing (left_of c) new refl sweeps),
       )

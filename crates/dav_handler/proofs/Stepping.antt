@@ -15,6 +15,7 @@ use Rattle.dav_model.specs.declared.step.Step.TheVariants.{Request, Poll, Abando
 use Rattle.dav_model.specs.declared.answer.Answer.TheVariants.{Reply as Replied, End, Done}
 use Rattle.dav_model.specs.Requests.{Asked, fields_of}
 use Rattle.dav_model.specs.Bodies.{Part, Polls}
+use Rattle.dav_model.specs.Calls.{AsksToPoll}
 use Rattle.dav_model.specs.Play.{Gets, Lets, Quiet, Refuses, Stage, StaysOpen, Stepped, has_slice}
 use Rattle.dav_model.specs.Rules.{nothing_known, plain_rules}
 use Rattle.dav_model.specs.Sizes.{read_size_of}
@@ -92,6 +93,7 @@ replied settings s t request now found replies at new answers is held playing = 
     gets = gets_found settings s t found.body replies at new is held answers.holds;
     live = holds_takes (read_size_of settings.read_buf_size) s t found.body answers.holds;
     right = answers.right;
+    asks = answers.asks;
   },
   stays_open (read_size_of settings.read_buf_size) t new settings (replies + 1) (replies + 1) playing,
 )
@@ -175,6 +177,7 @@ polled_end settings s at replies body p none = (
       over = λ e. refl;
     };
     live = subst (λ x. Lets (held_by x) None s.live s.live) (sym none) (refl, refl);
+    asks = subst (λ x. AsksToPoll s.told (held_by x) (parts_in s x) End s.asked s.asked) (sym none) refl;
   },
   stays_open (read_size_of settings.read_buf_size) s at settings replies replies p,
 )

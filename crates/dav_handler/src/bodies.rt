@@ -59,8 +59,10 @@ pub fn poll_body<D: Disk>(
     requires there { IsSome (body_at bodies.old body) }
     requires held { IsHeldBody (body_at bodies.old body) (D.state store.old.disk) }
     requires empty { room.items ≡ [] }
-    requires room { (b : AnyBody) → body_at bodies.old body ≡ Some b → next_most_of (left_of b) (vec_len b.buffer) ≤ vec_capacity room }
-    ensures done { PollsBody (body_at bodies.old) body (D.state store.old.disk) result (D.state store.new.disk) (body_at bodies.new) }
+    requires room { (b : AnyBody) → body_at bodies.old body ≡ Some b
+        → next_most_of (left_of b) (vec_len b.buffer) ≤ vec_capacity room }
+    ensures done { PollsBody (body_at bodies.old) body (D.state store.old.disk) result (D.state store.new.disk)
+        (body_at bodies.new) }
     ensures loan { D.loan store.new.disk ≡ D.loan store.old.disk }
 {
     match bodies.get_mut(&body) {
@@ -71,7 +73,8 @@ pub fn poll_body<D: Disk>(
 
 // Whether nothing is left of the body of a number.
 fn is_over(bodies: &Bodies, body: u32) -> bool
-    ensures some { (b : AnyBody) → body_at bodies.now body ≡ Some b → IsTrue result ↔ (next_most_of (left_of b) (vec_len b.buffer) ≡ 0) }
+    ensures some { (b : AnyBody) → body_at bodies.now body ≡ Some b
+        → IsTrue result ↔ (next_most_of (left_of b) (vec_len b.buffer) ≡ 0) }
 {
     match bodies.get(&body) {
         Some(open) => open.next_most() == 0,

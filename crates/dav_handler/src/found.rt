@@ -107,7 +107,8 @@ fn find_at<D: Disk>(
     path: &DavPath,
     fields: &HeaderMap,
 ) -> Result<Found, NoMemory>
-    ensures done { Finds settings.now (D.state store.old.disk) fields.now (At method path.now) result (D.state store.new.disk) }
+    ensures done { Finds settings.now (D.state store.old.disk) fields.now (At method path.now) result
+        (D.state store.new.disk) }
     ensures loan { D.loan store.new.disk ≡ D.loan store.old.disk }
 {
     match handle_get(alloc, settings, store, &(), method, path, fields) {
@@ -143,7 +144,8 @@ pub fn find_for<D: Disk>(
     store: &mut PlainFs<D>,
     request: &Request<Octets>,
 ) -> Result<Found, NoMemory>
-    ensures done { Finds settings.now (D.state store.old.disk) (fields_of request.now) (target_of (plain_rules settings.now) request.now) result (D.state store.new.disk) }
+    ensures done { Finds settings.now (D.state store.old.disk) (fields_of request.now)
+        (target_of (plain_rules settings.now) request.now) result (D.state store.new.disk) }
     ensures loan { D.loan store.new.disk ≡ D.loan store.old.disk }
 {
     match target(alloc, settings, request) {

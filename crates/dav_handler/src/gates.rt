@@ -1,7 +1,6 @@
 // The gates: what a request asks for, before the disk is asked.
 ghost use Rattle.std.specs.Prelude.{◌≡◌, IfOk, true, false};
 ghost use Rattle.http.specs.Request.{head_of, body_of};
-ghost use Rattle.http_header.specs.Token.{lowercase};
 ghost use Rattle.http_uri.specs.Uri.{uri_path};
 ghost use Rattle.dav_core.specs.Grammar.{parsed};
 ghost use Rattle.dav_core.specs.Statuses.{path_status as the_path_status};
@@ -14,6 +13,7 @@ ghost use Rattle.dav_model.specs.declared.target.Target.TheVariants.{Refused};
 use dav_core::{DavMethod, DavMethodSet, DavPath, ParseError, dav_method};
 use dav_io::{NoMemory, Octets};
 use dav_model::{Settings, Target};
+use http::header::{CONTENT_LENGTH, HeaderName, TRANSFER_ENCODING};
 use http::{HeaderMap, Request, Uri};
 use std::alloc::Global;
 
@@ -27,8 +27,8 @@ fn refused(status: u16, close: bool) -> Target
 }
 
 // Whether there is a field of this name.
-fn has_field(fields: &HeaderMap, name: &str) -> bool
-    ensures { result ≡ the_has_field fields.now (lowercase name.now) }
+fn has_field(fields: &HeaderMap, name: &HeaderName) -> bool
+    ensures { result ≡ the_has_field fields.now name.now }
 {
     fields.get(name).is_some()
 }
@@ -38,10 +38,10 @@ fn has_field(fields: &HeaderMap, name: &str) -> bool
 pub fn announces_body(fields: &HeaderMap) -> bool
     ensures { result ≡ the_announces_body fields.now }
 {
-    if has_field(fields, "content-length") {
+    if has_field(fields, &CONTENT_LENGTH) {
         return true;
     }
-    has_field(fields, "transfer-encoding")
+    has_field(fields, &TRANSFER_ENCODING)
 }
 
 // Whether a method reads. No other is built.
@@ -61,7 +61,7 @@ fn is_built(fields: &HeaderMap, method: DavMethod) -> bool
     if !reads(method) {
         return false;
     }
-    if has_field(fields, "if") {
+    if fields.get("if").is_some() {
         return false;
     }
     !announces_body(fields)

@@ -12,14 +12,3 @@ pub use dav_plain::PlainFs;
 pub use gates::announces_body;
 pub use player::Player;
 pub use playing::play;
-
-#[cfg(test)]
-mod asking;
-#[cfg(test)]
-mod tests;
-#[cfg(test)]
-mod tests_bodies;
-#[cfg(test)]
-mod tests_ranges;
-#[cfg(test)]
-mod tests_several;

@@ -27,13 +27,14 @@ pub struct Player<D: Disk> {
 
 impl<D: Disk> Player<D> {
     ghost use Rattle.dav_handler.specs.Player.{plain_playing, playing_of, stage_of};
-    ghost use Rattle.dav_model.specs.Play.{Stepped};
+    ghost use Rattle.dav_model.specs.Play.{AreFull, StaysOpen, Stepped};
     ghost use Rattle.dav_model.specs.declared.step.Step.TheVariants.{Abandon, Poll, Turn, Request as Asks};
 
     /// A player over a disk from its root on, with no reply yet.
     pub fn plain(alloc: Global, disk: D, settings: Settings) -> Self
         ensures loan { D.loan result.store.disk ≡ D.loan disk }
-        ensures stage { stage_of result ≡ record { at = D.state disk; playing = plain_playing settings 0 (λ _. []) (λ _. None) } }
+        ensures stage { stage_of result ≡ record
+            { at = D.state disk; playing = plain_playing settings 0 (λ _. []) (λ _. None) } }
     {
         Player {
             alloc,
@@ -139,9 +140,13 @@ impl<D: Disk> Player<D> {
         Ok(answer)
     }
 
-    // One step.
-    pub(crate) fn step(&mut self, step: &Step) -> Result<Answer, NoMemory>
+    /// Answers one step; `play` is the loop over it. After want of memory the bodies that were open before are as they
+    /// were. `held` and `full` hold of every player: the file of each slice that a body has left is open, and no part
+    /// that is left is empty.
+    pub fn step(&mut self, step: &Step) -> Result<Answer, NoMemory>
         requires { self.old.replies + 1 < 2 ^ 32 }
+        ensures held { StaysOpen (D.state self.old.store.disk) (playing_of self.old) }
+        ensures full { AreFull (playing_of self.old) }
         ensures done { Stepped (stage_of self.old) step.now result (stage_of self.new) }
         ensures loan { D.loan self.new.store.disk ≡ D.loan self.old.store.disk }
     {

@@ -15,7 +15,8 @@ pub fn play<D: Disk>(
     answers: &mut Vec<Answer>,
 ) -> Result<(), NoMemory>
     requires { player.old.replies + length steps.now < 2 ^ 32 }
-    ensures done { PlayedOn (stage_of player.old) steps.now answers.old.items answers.new.items result (stage_of player.new) }
+    ensures done { PlayedOn (stage_of player.old) steps.now answers.old.items answers.new.items result
+        (stage_of player.new) }
     ensures loan { D.loan player.new.store.disk ≡ D.loan player.old.store.disk }
 {
     for step in steps {

@@ -39,6 +39,7 @@ fills_ok old new held kept b m f start end n most front took held_is kept_is tak
       asked = took.asked;
       counts = took.counts;
       failed = λ e. cc;
+      fewer = λ e. cc;
       too_much = λ e. cc;
       sent = λ e. cc;
       memory = λ e. cc;

@@ -50,6 +50,7 @@ pub record Fills (old : Stream) (held : Pending) (result : Result ℕ ReadError)
   pub asked : new.asked ≡ asked_after result old.asked
   pub counts : old.faults ≤ new.faults
   pub failed : result ≡ Err Failed → Rose old.faults new.faults
+  pub fewer : result ≡ Err Failed → held.taken < 2 ^ 60
   pub too_much : result ≡ Err TooMuch → held.taken ≡ 2 ^ 60
   pub sent : result ≡ Err Unsent → ⊥
   pub memory : result ≡ Err WithoutMemory → ⊥

@@ -5,12 +5,15 @@ ghost use Rattle.dav_wire.specs.Taking.{TakesAt};
 
 use dav_io::{Client, Failed, Sink, Source};
 
-// Moves bytes to the front.
+// Moves bytes to the front. Where they stand there, nothing is done.
 pub fn move_front(buffer: &mut [u8], start: usize, len: usize)
     requires { start + len ≤ length buffer.old }
     ensures front { take len buffer.new ≡ take len (drop start buffer.old) }
     ensures len { length buffer.new ≡ length buffer.old }
 {
+    if start == 0 {
+        return;
+    }
     buffer.copy_within(start..start + len, 0);
 }
 

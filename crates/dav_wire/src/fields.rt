@@ -6,12 +6,13 @@ ghost use Rattle.httparse.specs.Grammar.{is_ows, skip_ows};
 ghost use Rattle.dav_wire.specs.Fields.{is_close_word, is_close_member, names_close as close_named, asks_close as close_asked};
 
 use http::HeaderMap;
+use http::header::CONNECTION;
 
 /// Is `close` a member of a field `connection`, in any case?
 pub fn asks_close(fields: &HeaderMap) -> bool
     ensures { result ≡ close_asked fields.now }
 {
-    let mut values = fields.get_all("connection").iter();
+    let mut values = fields.get_all(&CONNECTION).iter();
     while let Some(value) = values.next() {
         if names_close(value.as_bytes()) {
             return true;

@@ -21,6 +21,3 @@ pub use next::{Found, ReadError};
 pub use output::Output;
 pub use reading::fill_flushing;
 pub use request::{into_request, is_old, takes_chunks};
-
-#[cfg(test)]
-mod tests;

@@ -18,7 +18,9 @@ pub fn fill_flushing<S: Client<K>, K: Sink>(
     sink: &mut K,
 ) -> Result<usize, ReadError>
     requires short { length input.old.bytes ≤ 65536 }
-    requires ready { (later : List ℕ) (written : Stream) → later ≡ [] → Pushes (K.stream sink.old) output.old [] (Ok tt) later written → S.may source.old (S.stream source.old) written }
+    requires ready { (later : List ℕ) (written : Stream) → later ≡ []
+        → Pushes (K.stream sink.old) output.old [] (Ok tt) later written
+        → S.may source.old (S.stream source.old) written }
     ensures stays { (left written : Stream) → S.may source.old left written → S.may source.new left written }
     ensures fills { FillsThen (S.stream source.old) input.old result input.new (S.stream source.new) }
     ensures sends { Pushes (K.stream sink.old) output.old [] (sending result) output.new (K.stream sink.new) }

@@ -18,7 +18,7 @@ use Rattle.dav_model.proofs.Framing.{given_length, gives_none}
 use Rattle.dav_model.proofs.RightReplies.{replies_framed}
 use Rattle.davserve.specs.Exchange.{Exchange, begun_answers, piece_steps, piece_answers, steps_of, answers_of}
 use Rattle.davserve.specs.Stages.{PlayedOn}
-use Rattle.davserve.proofs.RequestsAreReplied.{all_played}
+use Rattle.davserve.proofs.StepsArePlayed.{all_played}
 
 -- a body that was polled: it gave these pieces, and then this answer
 abbrev pub PolledPieces : List Part → List (List ℕ) → Answer → Type 0

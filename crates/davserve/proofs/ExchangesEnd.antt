@@ -11,7 +11,7 @@ use Rattle.dav_model.specs.declared.step.Step.TheVariants.{Request, Poll, Purge,
 use Rattle.dav_model.specs.declared.answer.Answer.{Answer}
 use Rattle.dav_model.specs.declared.answer.Answer.TheVariants.{Reply as Replied, Piece, End, Broken, Done}
 use Rattle.dav_model.specs.Requests.{Asked}
-use Rattle.dav_model.specs.Bodies.{Part, Polls, size}
+use Rattle.dav_model.specs.Bodies.{Part, Polls, size, slice, text}
 use Rattle.dav_model.proofs.PollsShrink.{polls_shrink}
 use Rattle.dav_model.specs.Sizes.{read_size_of}
 use Rattle.dav_model.proofs.JoiningLemmas.{played_join, played_counts, poll_says}
@@ -38,7 +38,8 @@ broke_at : (told : Option _) (whole : Bool) (most before after : ℕ) (left : Li
     → Polls told whole most before after left answer rest → ((x : List ℕ) → answer ≡ Piece x → ⊥) → (answer ≡ End → ⊥) → (answer ≡ Broken) × Rose before after
 broke_at told whole most before after [] answer rest (e, none) piece end = absurd (end e)
 broke_at told whole most before after (part ∷ parts) answer rest (inl (x, e, gives)) piece end = absurd (piece x e)
-broke_at told whole most before after (part ∷ parts) answer rest (inr (e, none, rose)) piece end = (e, rose)
+broke_at told whole most before after (text bytes ∷ parts) answer rest (inr (e, none, never)) piece end = absurd never
+broke_at told whole most before after (slice number start count ∷ parts) answer rest (inr (e, none, rose)) piece end = (e, rose)
 
 pub rose_between : (a b c d : ℕ) → a ≤ b → b ≤ c → Rose c d → Rose a d
 rose_between a b c d x y (inl lt) = inl (omega arith)

@@ -1,8 +1,7 @@
 pub mod SizesAreSaid
 pub mod WordRows
 pub mod PlayedByTree
-pub mod RequestsAreReplied
-pub mod PollsAreAnswered
+pub mod StepsArePlayed
 pub mod RepliesCounted
 pub mod RequestsAreSome
 pub mod ExchangesEnd
@@ -17,3 +16,5 @@ pub mod HeadsHaveNoPieces
 pub mod PiecesAreSome
 pub mod ServedGiveAnnounced
 pub mod BrokenGiveLess
+pub mod FieldsAdded
+pub mod HeadsAreRead

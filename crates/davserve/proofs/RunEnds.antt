@@ -295,6 +295,7 @@ pub ends_failed : {setup : Setup} {before : Outside} {held kept : Pending} {mid 
     → EndsBy setup before (outside_of filled mid.sink mid.disk) SourceFailed
 ends_failed {before = before} {held = held} {kept = kept} {mid = mid} {filled = filled} a f = (
   rose_between before.source.faults mid.source.faults mid.source.faults filled.faults a.served.serving.counted (omega arith) (f.failed refl),
+  took_fewer before.source filled kept.taken (subst (λ (z : Pending). z.taken < 2 ^ 60) (sym f.grows) (f.fewer refl)) (served_filled a.served f).taken,
   so_far (served_filled a.served f) refl (still_wanting held kept f.grows a.wanting),
 )
 

@@ -5,3 +5,4 @@ pub mod Ends
 pub mod Serving
 pub mod Completing
 pub mod Bodies
+pub mod Heads

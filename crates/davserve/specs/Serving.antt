@@ -206,7 +206,8 @@ EndsBy setup before after Over = ServedAll setup before after
 EndsBy setup before after Closed = ServedClosing setup before after
 EndsBy setup before after Refused = ServedRefusing setup before after
 EndsBy setup before after Unfinished = ServedUnfinished setup before after
-EndsBy setup before after SourceFailed = Rose before.source.faults after.source.faults × ServedSoFar setup before after
+EndsBy setup before after SourceFailed = Rose before.source.faults after.source.faults
+    × TookFewer before.source after.source (2 ^ 60) × ServedSoFar setup before after
 EndsBy setup before after SinkFailed = Rose before.sink.faults after.sink.faults × ServedPartly setup before after
 EndsBy setup before after DiskFailed = Rose before.disk.faults after.disk.faults × ServedBroken setup before after
 EndsBy setup before after TooMuch = TookBytes before.source after.source (2 ^ 60) × ServedSoFar setup before after

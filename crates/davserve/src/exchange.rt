@@ -85,7 +85,7 @@ pub fn exchange<K: Sink, D: Disk>(
         (work_of (K.stream sink.old) output.old (stage_of player.old))
         (outlet_of (K.stream sink.new) output.new) (stage_of player.new).at) }
 {
-    let reply = match request_turn(alloc, player, now, request) {
+    let reply = match request_turn(player, now, request) {
         Ok(reply) => reply,
         Err(error) => return Err(error),
     };
@@ -105,7 +105,7 @@ pub fn exchange<K: Sink, D: Disk>(
         Err(_) => return Ok(Ended::SinkFailed),
     }
     'pieces: loop {
-        let answer = match poll_turn(alloc, player, reply.body) {
+        let answer = match poll_turn(player, reply.body) {
             Ok(answer) => answer,
             Err(error) => return Err(error),
         };

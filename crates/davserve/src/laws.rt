@@ -1,20 +1,24 @@
-//! Laws over the exchanges that `run` answers: of their bodies, and where these end. Each function does nothing; its
-//! contract is the law.
+//! Laws over the exchanges that `run` answers: of their heads, of their bodies, and where these end. Each function does
+//! nothing; its contract is the law.
 ghost use Rattle.dav_model.specs.Play.{Stage};
-ghost use Rattle.std.specs.Prelude.{◌≡◌, ◌++◌, ℕ, Bool, List, [], ◌∷◌, All, true, false, decimal, Option, Ok, length};
+ghost use Rattle.std.specs.Prelude.{◌≡◌, ◌++◌, ℕ, Bool, List, [], ◌∷◌, All, true, false, codes, decimal, Option, Result, Ok, length};
 ghost use Rattle.std.specs.List.{AllByRecursion, concat, flat_map};
 ghost use Rattle.httparse.specs.Grammar.{RequestHead};
 ghost use Rattle.dav_io.specs.Outside.{Stream};
 ghost use Rattle.dav_io.specs.declared.clock.Moment.{Moment};
+ghost use Rattle.dav_io.specs.declared.failure.NoMemory.{NoMemory};
 ghost use Rattle.dav_model.specs.declared.answer.Answer.{Answer};
 ghost use Rattle.dav_model.specs.declared.answer.Answer.TheVariants.{Broken, Done};
+ghost use Rattle.dav_model.specs.declared.step.Step.{Step};
 ghost use Rattle.dav_model.specs.Announced.{bytes_in, length_is_own};
 ghost use Rattle.dav_model.specs.Trail.{target_of};
-ghost use Rattle.dav_wire.specs.Answers.{head_text};
+ghost use Rattle.dav_wire.specs.AnswerHeads.{ReadsAnswer};
+ghost use Rattle.dav_wire.specs.Answers.{bad_request_text, close_field, head_text};
 ghost use Rattle.dav_wire.specs.Chunks.{written, ending, HasBody};
 ghost use Rattle.dav_wire.specs.declared.chunks.Framing.TheVariants.{Raw, Chunked};
 ghost use Rattle.davserve.specs.Bodies.{Announces, AnnouncesMore, GivesAnnounced, IsBodiless, IsHeadAlone, IsNonempty, IsShort, TellsEnd};
 ghost use Rattle.davserve.specs.Exchange.{Exchange, IsOf, begun_answers, framing_of, steps_of, answers_of, wire_of};
+ghost use Rattle.davserve.specs.Heads.{HasHead};
 ghost use Rattle.davserve.specs.Serving.{Setup, Serving, ServedSoFar, Owes};
 ghost use Rattle.davserve.specs.Stages.{Outside, PlayedOn};
 
@@ -69,6 +73,20 @@ pub fn framed_answers_end()
 pub fn served_answers_give_what_they_announce()
     ensures { (setup : Setup) (closed : Bool) (before : Outside) (source : Stream) (held : List ℕ) (xs : List Exchange) (last : Stage)
         → Serving setup closed before source held xs last → AllByRecursion (GivesAnnounced setup.rules) xs }
+{}
+
+/// The head of each answer that a run writes is read back as one response head, whatever follows: with exactly its status
+/// and its fields, in order and none of them twice, and behind it stands its body (`served`). The same holds of an answer
+/// whose body breaks, or behind whose reply memory is refused (`begun`), and of the refusal of what is no request. So
+/// nothing that a disk tells splits an answer or brings a field into it; by `answer_heads_are_one` of `dav_wire` nothing
+/// else is read there.
+pub fn heads_are_read_back()
+    ensures served { (setup : Setup) (closed : Bool) (before : Outside) (source : Stream) (held : List ℕ) (xs : List Exchange) (last : Stage)
+        → Serving setup closed before source held xs last → AllByRecursion HasHead xs }
+    ensures begun { (a b : Stage) (x : Exchange) (steps : List Step) (behind : List Answer) (result : Result Unit NoMemory)
+        → PlayedOn a steps (begun_answers x ++ behind) result b → HasHead x }
+    ensures refusal { (behind : List ℕ) → ReadsAnswer (bad_request_text ++ behind) 400
+        (close_field ∷ record { name = codes "content-length"; value = codes "0" } ∷ []) behind }
 {}
 
 /// A client that waits for its answer isn't asked meanwhile: where a whole request was taken, and nothing was written, not

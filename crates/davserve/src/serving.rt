@@ -55,7 +55,8 @@ fn finish<K: Sink>(output: &mut Output, sink: &mut K, ending: Ending) -> Ending
 
 // Refuses what no request can be.
 fn refuse<K: Sink>(output: &mut Output, sink: &mut K) -> Ending
-    ensures { Finishes Refused (outlet_of (K.stream sink.old) (output.old ++ the_bad_request_text)) (K.stream sink.new) result }
+    ensures { Finishes Refused (outlet_of (K.stream sink.old) (output.old ++ the_bad_request_text)) (K.stream sink.new)
+        result }
 {
     match output.push(sink, bad_request_text()) {
         Ok(()) => finish(output, sink, Ending::Refused),

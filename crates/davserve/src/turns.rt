@@ -7,10 +7,9 @@ ghost use Rattle.dav_model.specs.declared.step.Step.TheVariants.{Poll, Purge, Re
 ghost use Rattle.dav_model.specs.declared.answer.Answer.TheVariants.{Done, Reply as Replied};
 
 use dav_core::Disk;
-use dav_handler::{Answer, Player, Step, play};
+use dav_handler::{Answer, Player, Step};
 use dav_io::{Fields, Moment, NoMemory, Octets};
 use http::Request;
-use std::alloc::Global;
 
 /// A reply: its status, its fields and the number of its body.
 #[derive(Drop)]
@@ -21,11 +20,7 @@ pub struct Reply {
 }
 
 /// A turn of the outside and a poll.
-pub fn poll_turn<D: Disk>(
-    alloc: Global,
-    player: &mut Player<D>,
-    body: u32,
-) -> Result<Answer, NoMemory>
+pub fn poll_turn<D: Disk>(player: &mut Player<D>, body: u32) -> Result<Answer, NoMemory>
     requires { player.old.replies + 2 < 2 ^ 32 }
     ensures loan { D.loan player.new.store.disk ≡ D.loan player.old.store.disk }
     ensures replies { OnOk result (player.new.replies ≤ player.old.replies) }
@@ -34,21 +29,18 @@ pub fn poll_turn<D: Disk>(
     ensures refused { OnErr result (RefusedAt (stage_of player.old)
         (Turn ∷ Poll body ∷ []) (stage_of player.new)) }
 {
-    let mut answers = Vec::new(alloc);
-    let steps = [Step::Turn, Step::Poll(body)];
-    match play(player, &steps, &mut answers) {
-        Ok(()) => {}
+    match player.step(&Step::Turn) {
+        Ok(_) => {}
         Err(error) => return Err(error),
     }
-    match answers.pop() {
-        Some(answer) => Ok(answer),
-        None => unreachable!(),
+    match player.step(&Step::Poll(body)) {
+        Ok(answer) => Ok(answer),
+        Err(error) => Err(error),
     }
 }
 
 /// A turn of the outside, a purge and a request.
 pub fn request_turn<D: Disk>(
-    alloc: Global,
     player: &mut Player<D>,
     now: Moment,
     request: Request<Octets>,
@@ -62,15 +54,17 @@ pub fn request_turn<D: Disk>(
     ensures refused { OnErr result (RefusedAt (stage_of player.old)
         (Turn ∷ Purge now ∷ Asks request now ∷ []) (stage_of player.new)) }
 {
-    let mut answers = Vec::new(alloc);
-    let steps = [Step::Turn, Step::Purge(now), Step::Request { request, now }];
-    match play(player, &steps, &mut answers) {
-        Ok(()) => {}
+    match player.step(&Step::Turn) {
+        Ok(_) => {}
         Err(error) => return Err(error),
     }
-    match answers.pop() {
-        Some(answer) => Ok(into_reply(answer)),
-        None => unreachable!(),
+    match player.step(&Step::Purge(now)) {
+        Ok(_) => {}
+        Err(error) => return Err(error),
+    }
+    match player.step(&Step::Request { request, now }) {
+        Ok(answer) => Ok(into_reply(answer)),
+        Err(error) => Err(error),
     }
 }
 

@@ -1,33 +1,28 @@
-use Rattle.std.proofs.Common.{◌∷◌, [], subst, Ok, arith}
-use Rattle.dav_model.specs.declared.answer.Answer.TheVariants.{Done}
-use Rattle.dav_model.specs.declared.step.Step.TheVariants.{Request, Purge, Turn}
+use Rattle.std.proofs.Common.{[], ◌∷◌}
+use Rattle.dav_model.specs.declared.step.Step.TheVariants.{Purge, Request, Turn}
 use Rattle.dav_handler.specs.Player.{stage_of}
-use Rattle.davserve.specs.Stages.{PlayedOn}
-use Rattle.davserve.proofs.PollsAreAnswered.{refused_at}
-use Rattle.davserve.proofs.RepliesCounted.{replies_counted}
-use Rattle.davserve.proofs.RequestsAreReplied.{ends_with_reply}
+use Rattle.davserve.proofs.StepsArePlayed.{refused_first, refused_second, refused_third, request_played, request_replied}
 use Rattle.davserve.proofs.turns.request_turn.Goals as goal
 
 pub into_reply-requires : goal.into_reply-requires
-into_reply-requires g c =
-    (ends_with_reply (stage_of c.args.player.now) (stage_of c.play.new.player)
-    c.args.now c.args.request _ c.in-Some.answer c.in-Ok.ensures.done c.new-answers.ensures.items c.in-Some.ensures.items).reply
+into_reply-requires g c = request_replied (stage_of c.step-2.new.self) (stage_of c.step-3.new.self) c.args.request c.args.now _ c.in-Ok-step-2.ensures.done
 
 pub returns-in-Err-clause-refused : goal.returns-in-Err-clause-refused
 returns-in-Err-clause-refused g c =
-    refused_at (stage_of c.args.player.now) (stage_of c.play.new.player) (Turn ∷ Purge c.args.now ∷ Request c.args.request c.args.now ∷ []) _ _ _
-    c.in-Err.ensures.done c.new-answers.ensures.items
+    refused_first (stage_of c.args.player.now) c.step.ensures.held c.step.ensures.full (stage_of c.step.new.self) Turn (Purge c.args.now ∷ Request c.args.request c.args.now ∷ []) _
+    c.in-Err.ensures.done
 
-pub returns-clause-replies : goal.returns-clause-replies
-returns-clause-replies g c =
-    let done = c.in-Ok.ensures.done in
-    let same = replies_counted done.trail (stage_of c.args.player.now) (stage_of c.play.new.player) (Turn ∷ Purge c.args.now ∷ Request c.args.request c.args.now ∷ []) _ _ done.played in
-    omega arith
+pub returns-in-Err-step-clause-refused : goal.returns-in-Err-step-clause-refused
+returns-in-Err-step-clause-refused g c =
+    refused_second (stage_of c.args.player.now) c.step.ensures.held c.step.ensures.full (stage_of c.step.new.self) (stage_of c.step-2.new.self) Turn (Purge c.args.now)
+    (Request c.args.request c.args.now ∷ []) _ _ c.in-Ok.ensures.done c.in-Err-step.ensures.done
 
-pub returns-clause-played : goal.returns-clause-played
-returns-clause-played g c =
-    let a = stage_of c.args.player.now in
-    let b = stage_of c.play.new.player in
-    subst (λ x. PlayedOn a (Turn ∷ Purge c.args.now ∷ Request c.args.request c.args.now ∷ []) (Done ∷ Done ∷ x ∷ []) (Ok tt) b)
-    c.into_reply.ensures
-    (ends_with_reply a b c.args.now c.args.request _ c.in-Some.answer c.in-Ok.ensures.done c.new-answers.ensures.items c.in-Some.ensures.items).played
+pub returns-clause-refused : goal.returns-clause-refused
+returns-clause-refused g c =
+    refused_third (stage_of c.args.player.now) c.step.ensures.held c.step.ensures.full (stage_of c.step.new.self) (stage_of c.step-2.new.self) (stage_of c.step-3.new.self) Turn (Purge c.args.now)
+    (Request c.args.request c.args.now) _ _ _ c.in-Ok.ensures.done c.in-Ok-step.ensures.done c.in-Err-step-2.ensures.done
+
+pub returns-in-Ok-step-2-clause-played : goal.returns-in-Ok-step-2-clause-played
+returns-in-Ok-step-2-clause-played g c =
+    request_played (stage_of c.args.player.now) c.step.ensures.held c.step.ensures.full (stage_of c.step.new.self) (stage_of c.step-2.new.self) (stage_of c.step-3.new.self) c.args.now c.args.request _ _ _ _
+    c.in-Ok.ensures.done c.in-Ok-step.ensures.done c.in-Ok-step-2.ensures.done c.into_reply.ensures

@@ -1,0 +1,30 @@
+-- A plain store asks its disk once to look, and at most once to open.
+use Rattle.std.proofs.Common.{◌≡◌, Bool, true, false, Result, Ok, Err, refl, sym, ap, subst, inl, inr}
+use Rattle.dav_core.specs.declared.error.FsError.{FsError}
+use Rattle.dav_core.specs.declared.handle.DiskError.{DiskError}
+use Rattle.dav_core.specs.declared.handle.Handle.{Handle}
+use Rattle.dav_core.specs.DavPath.{WebPath}
+use Rattle.dav_core.specs.Disk.{DiskState}
+use Rattle.dav_core.specs.Options.{reading}
+use Rattle.dav_store.specs.Files.{AsksOnce}
+use Rattle.dav_store.specs.View.{View}
+use Rattle.dav_plain.specs.declared.file.PlainFile.{PlainFile}
+use Rattle.dav_plain.specs.Calls.{IsOpening, filed}
+use Rattle.dav_plain.proofs.Showing.{IsPlain}
+use Rattle.dav_get.specs.Calls.{AsksByOne, AsksToOpen}
+
+filed_asks : (answer : Result Handle DiskError) (s t : DiskState) → AsksOnce s t → AsksToOpen (filed answer) s t
+filed_asks (Ok h) s t one = one
+filed_asks (Err e) s t one = inr one
+
+opens_asks : (slash : Bool) (path : WebPath) (o : Result PlainFile FsError) (s t : DiskState) → path.slash ≡ slash → IsOpening s path reading o t → AsksToOpen o s t
+opens_asks true path o s t e opening =
+    let (is, same) = opening.slash e in subst (λ x. AsksToOpen x s t) (sym is) (inl (ap (λ (d : DiskState). d.asked) same))
+opens_asks false path o s t e opening =
+    let (answer, opens, is) = opening.asked e refl in subst (λ x. AsksToOpen x s t) (sym is) (filed_asks answer s t opens.asks.asked)
+
+pub plain_asks : {S C : Type 0} (view : View S C PlainFile) → IsPlain view → AsksByOne view
+plain_asks view plain = record {
+  looks = λ s t c path r h. (let (answer, metas, is) = plain.looks_so s c path r t h in metas.asks.asked);
+  opens = λ s t c path o h. opens_asks path.slash path o (view.state s) (view.state t) refl (plain.opens_so s c path reading o t h);
+}
