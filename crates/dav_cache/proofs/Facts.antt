@@ -1,5 +1,6 @@
 -- The facts on the dot-underscore entries, in every run. No premise is needed.
 use Rattle.std.proofs.Common.{Contains, ◌≡◌, ℕ, ◌-◌, ◌<◌, ◌≤◌, ◌^◌, nat_lt, ◌||◌, Bool, true, false, not, ◌&&◌, List, [], ◌∷◌, Option, Some, None, if◌then◌else◌, refl, sym, ap, subst, ◌∙◌, arith, ◌++◌, inl, inr, slice_get}
+use Rattle.std.specs.Prelude.{pos}
 use Rattle.std.specs.Map.{lookup}
 use Rattle.std.specs.List.{list_any, filter}
 use Rattle.std.proofs.lemmas.Bool.{cases_Bool, false≢true, true≢false, or_cases}
@@ -12,10 +13,11 @@ use Rattle.dav_cache.specs.declared.event.Told.TheVariants.{Nothing, Absent, Pat
 use Rattle.dav_cache.proofs.Lists.{purged-take}
 use Rattle.dav_cache.proofs.Invariant.{get-set}
 use Rattle.dav_cache.proofs.Runs.{get-replicate}
-use Rattle.dav_cache.specs.Transparency.{AllBelow, Falling, HoldsBelow, FactsAreKept}
+use Rattle.dav_cache.specs.Transparency.{AllBelow, Falling, Numbers, AllNumbered, HoldsNumber, FactsAreKept}
 use Rattle.dav_cache.proofs.Keys.{name_decides}
 use Rattle.dav_cache.proofs.Order.{less_itself, after_trans, least_is, any-push, any-filter}
-use Rattle.dav_cache.proofs.Dots.{below-take, below-without, below-lookup, falling-take, falling-without, one-number, seals}
+use Rattle.dav_cache.proofs.Dots.{below-take, below-without, below-lookup, falling-take, falling-without, seals}
+use Rattle.dav_cache.proofs.Numbers.{numbered-lookup, numbered-take, numbered-without, numbered-sealed, numbered-like, with_number, with_number-own, with_number-other}
 use Rattle.dav_cache.proofs.Counts.{AreNew, counted-take, counted-dropped, counted-sealed}
 use Rattle.dav_cache.proofs.Paths.{run_ok, start_ok}
 
@@ -72,19 +74,26 @@ nothing_known tree known = let l : known.0 < 0 = known.1 in omega arith
 
 -- ---- the invariant of the dot-underscore entries
 
-abbrev pub PlaceFact : ℕ → Place → Type 0
-PlaceFact next (Peeked dir name number t) = number < next
-PlaceFact next (Passed dir name number t) = number < next
-PlaceFact next (Lists l) = GivenOnce l
-PlaceFact next (Ended l after) = AreNew (λ x. false) l.names
-PlaceFact next _ = Unit {0}
+abbrev pub PlaceFact : Numbers → ℕ → Place → Type 0
+PlaceFact table next (Peeked dir name number t) = (number < next) × (table number ≡ (dir, t))
+PlaceFact table next (Passed dir name number t) = (number < next) × (table number ≡ (dir, t))
+PlaceFact table next (Lists l) = GivenOnce l
+PlaceFact table next (Ended l after) = AreNew (λ x. false) l.names
+PlaceFact table next _ = Unit {0}
 
-fact-more : (n m : ℕ) (p : Place) → n ≤ m → PlaceFact n p → PlaceFact m p
-fact-more n m (Peeked dir name number t) le f = let l : number < n = f in omega arith
-fact-more n m (Passed dir name number t) le f = let l : number < n = f in omega arith
-fact-more n m (Lists l) le f = f
-fact-more n m (Ended l after) le f = f
-fact-more n m _ le f = tt
+-- a table has what another one has for the numbers below n
+abbrev pub IsLike : ℕ → Numbers → Numbers → Type 0
+IsLike n table table' = (k : ℕ) → k < n → table' k ≡ table k
+
+number-more : (table table' : Numbers) (n m : ℕ) (dir : Names) (number : ℕ) (t : FileTime) → IsLike n table table' → n ≤ m → (number < n) × (table number ≡ (dir, t)) → (number < m) × (table' number ≡ (dir, t))
+number-more table table' n m dir number t like le f = let l : number < n = f.0 in (omega arith, like number f.0 ∙ f.1)
+
+fact-more : (table table' : Numbers) (n m : ℕ) (p : Place) → IsLike n table table' → n ≤ m → PlaceFact table n p → PlaceFact table' m p
+fact-more table table' n m (Peeked dir name number t) like le f = number-more table table' n m dir number t like le f
+fact-more table table' n m (Passed dir name number t) like le f = number-more table table' n m dir number t like le f
+fact-more table table' n m (Lists l) like le f = f
+fact-more table table' n m (Ended l after) like le f = f
+fact-more table table' n m _ like le f = tt
 
 pub record DotsOk (s : State) : Type 0 where
   pub below : AllBelow s.next s.dots
@@ -93,21 +102,26 @@ pub record DotsOk (s : State) : Type 0 where
 
 pub record FactsOk (s : State) : Type 0 where
   pub dots : DotsOk s
-  pub places : (c : ℕ) (p : Place) → slice_get s.places c ≡ Some p → PlaceFact s.next p
+  pub table : Numbers
+  pub numbered : AllNumbered table s.dots
+  pub places : (c : ℕ) (p : Place) → slice_get s.places c ≡ Some p → PlaceFact table s.next p
 
-goes_ok : (s s1 : State) (c : ℕ) (p : Place) (t : Told) → s1.places ≡ s.places → s.next ≤ s1.next → DotsOk s1 → FactsOk s → PlaceFact s1.next p → FactsOk (goes s1 c p t).0
-goes_ok s s1 c p t same le dots old ok = record {
+goes_ok : (s s1 : State) (c : ℕ) (p : Place) (t : Told) → s1.places ≡ s.places → s.next ≤ s1.next → DotsOk s1 → (old : FactsOk s)
+    → (table : Numbers) → IsLike s.next old.table table → AllNumbered table s1.dots → PlaceFact table s1.next p → FactsOk (goes s1 c p t).0
+goes_ok s s1 c p t same le dots old table like numbered ok = record {
   dots = record { below = dots.below; falling = dots.falling; counted = dots.counted };
+  table = table;
+  numbered = numbered;
   places = λ i q h. elim (get-set s1.places c i p q h) [
-    | inl at ↦ subst (PlaceFact s1.next) at.1 ok
-    | inr was ↦ fact-more s.next s1.next q le (old.places i q (subst (λ w. slice_get w i ≡ Some q) same was))
+    | inl at ↦ subst (PlaceFact table s1.next) at.1 ok
+    | inr was ↦ fact-more old.table table s.next s1.next q like le (old.places i q (subst (λ w. slice_get w i ≡ Some q) same was))
   ];
 }
 
 module _ (s : State) (old : FactsOk s) (c : ℕ) where
   -- the entries stay
-  stay : (p : Place) (t : Told) → PlaceFact s.next p → FactsOk (goes s c p t).0
-  stay p t ok = goes_ok s s c p t refl (omega arith) old.dots old ok
+  stay : (p : Place) (t : Told) → PlaceFact old.table s.next p → FactsOk (goes s c p t).0
+  stay p t ok = goes_ok s s c p t refl (omega arith) old.dots old old.table (λ k less. refl) old.numbered ok
 
   ask_ok : (dir : Names) (name : Name) (o : Option Place) → FactsOk (ask s c dir name o).0
   ask_ok dir name (Some Idle) = stay (Asked dir name) Nothing tt
@@ -115,7 +129,7 @@ module _ (s : State) (old : FactsOk s) (c : ℕ) where
 
   peeked_ok : (dir : Names) (name : Name) (o : Option DuEntry) → lookup (same_key (dir_key dir)) s.dots ≡ o → FactsOk (peeked s c dir name o).0
   peeked_ok dir name None h = stay Idle (Absent false) tt
-  peeked_ok dir name (Some e) h = stay (Peeked dir name e.number e.time) Nothing (below-lookup s.next (same_key (dir_key dir)) s.dots e old.dots.below h)
+  peeked_ok dir name (Some e) h = stay (Peeked dir name e.number e.time) Nothing (below-lookup s.next (same_key (dir_key dir)) s.dots e old.dots.below h, numbered-lookup old.table (dir_key dir) s.dots e old.numbered h)
 
   peek_ok : (o : Option Place) → FactsOk (peek s c o).0
   peek_ok (Some (Asked dir name)) = peeked_ok dir name (lookup (same_key (dir_key dir)) s.dots) refl
@@ -141,7 +155,7 @@ module _ (s : State) (old : FactsOk s) (c : ℕ) where
         falling = falling-without (same_key (dir_key dir)) s.dots old.dots.falling;
         counted = λ d. counted-dropped dir d s.dots (old.dots.counted d);
       })
-      old tt
+      old old.table (λ k less. refl) (numbered-without old.table (same_key (dir_key dir)) s.dots old.numbered) tt
   drop_dir_ok _ = old
 
   begin_ok : (dir : Names) (o : Option Place) → FactsOk (begin s c dir o).0
@@ -171,11 +185,14 @@ module _ (s : State) (old : FactsOk s) (c : ℕ) where
   with_dots_ok l now room (Some t) new =
       let listed : Listed = record { dir = l.dir; time = t; moment = now; number = s.next } in
       let after_ : Dots = sealed s.dots_size listed l.names room s.dots in
+      let table : Numbers = with_number old.table s.next (l.dir, t) in
       let done = seals [] s.dots_size s.dots listed l.names room old.dots.falling old.dots.below (λ d e h tree known. absurd (nothing_known tree known)) (λ tree known. absurd (nothing_known tree known)) in
       (elim (nat_lt s.next (2 ^ 64 - 1)) as (λ b. FactsOk (goes (with_dots s (if b then Some after_ else None)) c Idle Nothing).0) [
         | true ↦ goes_ok s (with_dots s (Some after_)) c Idle Nothing refl (omega arith)
             (record { below = done.below; falling = done.falling; counted = counted-sealed s.dots_size listed l.names room s.dots old.dots.falling old.dots.below old.dots.counted new })
-            old tt
+            old table (λ k less. with_number-other old.table s.next (l.dir, t) k less)
+            (numbered-sealed table s.dots_size listed l.names room s.dots (numbered-like old.table s.next (l.dir, t) s.dots old.dots.below old.numbered) (with_number-own old.table s.next (l.dir, t)))
+            tt
         | false ↦ stay Idle Nothing tt
       ])
 
@@ -191,7 +208,7 @@ module _ (s : State) (old : FactsOk s) (c : ℕ) where
   got_ok asked None = stay Idle (Path None) tt
   got_ok asked (Some e) =
       goes_ok s (record s { paths = promoted (fold_path asked) (Some e) s.paths }) c (Got asked e.path) Nothing refl (omega arith)
-      (record { below = old.dots.below; falling = old.dots.falling; counted = old.dots.counted }) old tt
+      (record { below = old.dots.below; falling = old.dots.falling; counted = old.dots.counted }) old old.table (λ k less. refl) old.numbered tt
 
   get_ok : (o : Option Place) → FactsOk (get s c o).0
   get_ok (Some (Finding asked)) = got_ok asked (lookup (same_path (fold_path asked)) s.paths)
@@ -208,13 +225,13 @@ module _ (s : State) (old : FactsOk s) (c : ℕ) where
   drop_ok : (o : Option Place) → FactsOk (drop s c o).0
   drop_ok (Some (Missed asked)) =
       goes_ok s (record s { paths = without (same_path (fold_path asked)) s.paths }) c Idle (Path None) refl (omega arith)
-      (record { below = old.dots.below; falling = old.dots.falling; counted = old.dots.counted }) old tt
+      (record { below = old.dots.below; falling = old.dots.falling; counted = old.dots.counted }) old old.table (λ k less. refl) old.numbered tt
   drop_ok _ = old
 
   insert_ok : (path : Names) (now : Moment) (o : Option Place) → FactsOk (insert s c path now o).0
   insert_ok path now (Some Idle) =
       goes_ok s (record s { paths = put s.paths_size (same_path (fold_path path)) (fold_path path) (record { path = path; secs = whole_seconds now.0 }) s.paths }) c Idle Nothing refl (omega arith)
-      (record { below = old.dots.below; falling = old.dots.falling; counted = old.dots.counted }) old tt
+      (record { below = old.dots.below; falling = old.dots.falling; counted = old.dots.counted }) old old.table (λ k less. refl) old.numbered tt
   insert_ok path now _ = old
 
 purge_ok : (s : State) (now : Moment) (dots : Bool) → FactsOk s → FactsOk (purge s now dots).0
@@ -226,9 +243,11 @@ purge_ok s now true old =
         falling = subst Falling (sym is.1) (falling-take is.0 s.dots old.dots.falling);
         counted = λ d. subst (λ w. IsCounted w d) (sym is.1) (counted-take is.0 s.dots d old.dots.falling (old.dots.counted d));
       };
+      table = old.table;
+      numbered = subst (AllNumbered old.table) (sym is.1) (numbered-take old.table is.0 s.dots old.numbered);
       places = old.places;
     }
-purge_ok s now false old = record { dots = record { below = old.dots.below; falling = old.dots.falling; counted = old.dots.counted }; places = old.places }
+purge_ok s now false old = record { dots = record { below = old.dots.below; falling = old.dots.falling; counted = old.dots.counted }; table = old.table; numbered = old.numbered; places = old.places }
 
 pub step_facts : (s : State) (e : Event) → FactsOk s → FactsOk (step s e)
 step_facts s (Ask c dir name) old = ask_ok s old c dir name (slice_get s.places c)
@@ -247,22 +266,28 @@ step_facts s (Probe c refused) old = probe_ok s old c refused (slice_get s.place
 step_facts s (Drop c) old = drop_ok s old c (slice_get s.places c)
 step_facts s (Insert c path now) old = insert_ok s old c path now (slice_get s.places c)
 step_facts s (Purge now dots) old = purge_ok s now dots old
-step_facts s (Change tree) old = record { dots = record { below = old.dots.below; falling = old.dots.falling; counted = old.dots.counted }; places = old.places }
+step_facts s (Change tree) old = record { dots = record { below = old.dots.below; falling = old.dots.falling; counted = old.dots.counted }; table = old.table; numbered = old.numbered; places = old.places }
 
 pub run_facts : (s : State) (events : List Event) → FactsOk s → FactsOk (run s events)
 run_facts s [] old = old
 run_facts s (e ∷ events) old = run_facts (step s e) events (step_facts s e old)
 
+-- before any listing a table has anything
+abbrev no_numbers : Numbers
+no_numbers number = ([], record { secs = pos 0; nanos = 0 })
+
 pub start_facts : (tree : Tree) (callers paths dots : ℕ) → FactsOk (start tree callers paths dots)
 start_facts tree callers paths dots = record {
   dots = record { below = tt; falling = tt; counted = λ d e h. cc };
-  places = λ c p h. subst (PlaceFact 1) (get-replicate callers c Idle p h) tt;
+  table = no_numbers;
+  numbered = tt;
+  places = λ c p h. subst (PlaceFact no_numbers 1) (get-replicate callers c Idle p h) tt;
 }
 
-holds_below : (n : ℕ) (p : Place) → PlaceFact n p → HoldsBelow n p
-holds_below n (Peeked dir name number t) f = f
-holds_below n (Passed dir name number t) f = f
-holds_below n _ f = tt
+holds_number : (table : Numbers) (n : ℕ) (p : Place) → PlaceFact table n p → HoldsNumber table n p
+holds_number table n (Peeked dir name number t) f = f
+holds_number table n (Passed dir name number t) f = f
+holds_number table n _ f = tt
 
 pub facts_are_kept : (tree : Tree) (callers paths dots : ℕ) → FactsAreKept (start tree callers paths dots)
 facts_are_kept tree callers paths dots events =
@@ -272,6 +297,9 @@ facts_are_kept tree callers paths dots events =
     record {
       folded = (run_ok s0 events (start_ok tree callers paths dots)).folded;
       dots = record { below = facts.dots.below; falling = facts.dots.falling; counted = facts.dots.counted };
-      one = λ d d' e e' h h' same. one-number s.dots d d' e e' facts.dots.falling h h' same;
-      held = λ c p h. holds_below s.next p (facts.places c p h);
+      numbers = record {
+        table = facts.table;
+        entries = facts.numbered;
+        held = λ c p h. holds_number facts.table s.next p (facts.places c p h);
+      };
     }

@@ -182,7 +182,7 @@ absent_only tree callers paths dots events event fair is =
     let s0 = start tree callers paths dots in
     let s = run s0 events in
     let (c, dir, name, number, t, concludes_, place, yes_) = absent_told s event is in
-    let check = all_tell tree callers paths dots events c (Passed dir name number t) place in
+    let check = (all_tell tree callers paths dots events c (Passed dir name number t) place).0 in
     let parts' : check.before ++ Check c false ∷ check.between ≡ events ++ [] = sym check.parts ∙ sym (append-nil events) in
     let fair' : IsFair (events ++ []) s0 = subst (λ l. IsFair l s0) (sym (append-nil events)) fair in
     let then_ = at_moment tree callers paths dots check.before (Check c false ∷ check.between) (subst (λ l. IsFair l s0) check.parts fair) in
@@ -229,4 +229,4 @@ path_only tree callers paths dots events event path is =
 -- ---- what is held past a Check
 
 pub checks_held : (tree : Tree) (callers paths dots : ℕ) → ChecksAreHeld (start tree callers paths dots)
-checks_held tree callers paths dots events c dir name number time place = all_tell tree callers paths dots events c (Passed dir name number time) place
+checks_held tree callers paths dots events c dir name number time place = (all_tell tree callers paths dots events c (Passed dir name number time) place).0

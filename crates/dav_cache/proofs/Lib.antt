@@ -1,6 +1,7 @@
 pub mod Keys
 pub mod Lists
 pub mod Dots
+pub mod Numbers
 pub mod Order
 pub mod Invariant
 pub mod Steps

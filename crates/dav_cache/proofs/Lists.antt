@@ -1,6 +1,5 @@
 -- Look-ups after an entry goes, comes, or falls off the end.
-use Rattle.std.proofs.Common.{◌≡◌, ℕ, zero, suc, ◌<◌, ◌≤◌, ◌-◌, max, Bool, true, false, List, [], ◌∷◌, ◌++◌, length, get_or, take, Some, None, refl, sym, ap, ◌∙◌, arith, inl, inr}
-use Rattle.std.proofs.Math.Seq.{take-suc}
+use Rattle.std.proofs.Common.{◌≡◌, ℕ, zero, suc, Bool, true, false, List, [], ◌∷◌, ◌++◌, take, Some, None, refl, ap, ◌∙◌, inl, inr}
 use Rattle.std.specs.Map.{lookup}
 use Rattle.std.proofs.lemmas.Bool.{cases_Bool}
 use Rattle.dav_cache.specs.Entries.{without, purged, unless_old}
@@ -57,26 +56,3 @@ module _ {K X : Type 0} (is_old : X → Bool) where
   pub purged-young : (es : List (K × X)) (e : K × X) → is_old e.1 ≡ false → purged is_old (es ++ e ∷ []) ≡ es ++ e ∷ []
   purged-young [] e young = rw young refl
   purged-young (f ∷ es) e young = ap (unless_old is_old f) (purged-young es e young) ∙ unless-append f e es
-
-  cut_last : (es : List (K × X)) (m : ℕ) (e : K × X) → suc m ≤ length es → e ≡ get_or es (suc m - 1) e → take (suc m) es ≡ take m es ++ e ∷ []
-  cut_last es m e le is =
-      let k : suc m - 1 ≡ m = omega arith in
-      let here : e ≡ get_or es m e = rw k at is in
-      take-suc es m e (omega arith) ∙ ap (λ x. take m es ++ x ∷ []) (sym here)
-
-  -- the last of the first n entries is old
-  pub purged_shorter : (es : List (K × X)) (n : ℕ) (e : K × X) → 0 < n → n ≤ length es → e ≡ get_or es (n - 1) e → is_old e.1 ≡ true → purged is_old (take (n - 1) es) ≡ purged is_old (take n es)
-  purged_shorter es zero e pos le is old = absurd (omega arith)
-  purged_shorter es (suc m) e pos le is old =
-      let k : suc m - 1 ≡ m = omega arith in
-      let cut = cut_last es m e le is in
-      ap (λ j. purged is_old (take j es)) k ∙ sym (purged-old (take m es) e old) ∙ sym (ap (purged is_old) cut)
-
-  -- or it is not, and all stay
-  pub purged_stays : (es : List (K × X)) (n : ℕ) (e : K × X) → 0 < n → n ≤ length es → e ≡ get_or es (n - 1) e → is_old e.1 ≡ false → take n es ≡ purged is_old (take n es)
-  purged_stays es zero e pos le is young = absurd (omega arith)
-  purged_stays es (suc m) e pos le is young = let cut = cut_last es m e le is in cut ∙ sym (purged-young (take m es) e young) ∙ sym (ap (purged is_old) cut)
-
-  pub purged_none : (es : List (K × X)) (n : ℕ) → n ≤ 0 → take n es ≡ purged is_old (take n es)
-  purged_none es zero le = refl
-  purged_none es (suc m) le = absurd (omega arith)

@@ -53,13 +53,13 @@ after_trans (Some l) a b p q = less_trans l a b p q
 abbrev pub IsLeast : Name → List Name → Type 0
 IsLeast m names = (list_any (same_name m) names ≡ true) × ((x : Name) → list_any (same_name x) names ≡ true → (x ≡ m) ⊎ (is_less m x ≡ true))
 
-any_front : (x : Name) (ns : List Name) → list_any (same_name x) (x ∷ ns) ≡ true
+pub any_front : (x : Name) (ns : List Name) → list_any (same_name x) (x ∷ ns) ≡ true
 any_front x ns = ap (λ b. b || list_any (same_name x) ns) ((name_decides x x).1 refl)
 
 any_more : (x n : Name) (ns : List Name) → list_any (same_name x) ns ≡ true → list_any (same_name x) (n ∷ ns) ≡ true
 any_more x n ns h = elim (cases_Bool (same_name x n)) [ inl t ↦ ap (λ b. b || list_any (same_name x) ns) t | inr t ↦ ap (λ b. b || list_any (same_name x) ns) t ∙ h ]
 
-any_cases : (x n : Name) (ns : List Name) → list_any (same_name x) (n ∷ ns) ≡ true → (x ≡ n) ⊎ (list_any (same_name x) ns ≡ true)
+pub any_cases : (x n : Name) (ns : List Name) → list_any (same_name x) (n ∷ ns) ≡ true → (x ≡ n) ⊎ (list_any (same_name x) ns ≡ true)
 any_cases x n ns h = elim (or_cases (same_name x n) (list_any (same_name x) ns) h) [ inl t ↦ inl ((name_decides x n).0 t) | inr t ↦ inr t ]
 
 no_least : (ns : List Name) → least ns ≡ None → ns ≡ []

@@ -188,3 +188,8 @@ are_sealable names = list_all is_dot names && is_rising None names
 abbrev pub kept : Name → List Name → List Name
 kept name [] = name ∷ []
 kept name (other ∷ names) = if is_less name other then name ∷ other ∷ names else (if is_less other name then other ∷ kept name names else other ∷ names)
+
+-- names in order, and each once
+abbrev pub in_order : List Name → List Name
+in_order [] = []
+in_order (name ∷ names) = kept name (in_order names)

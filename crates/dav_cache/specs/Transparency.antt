@@ -67,9 +67,24 @@ SoundAt trees dots dir =
     (e : DuEntry) → lookup (same_key (dir_key dir)) dots ≡ Some e → (tree : Tree) → Contains trees tree → time_of tree dir ≡ Some e.time
     → (name : Name) → IsTrue (is_dot name) → has_name tree dir name ≡ stands dots (name_key dir name) e.number
 
--- a tree and events that meet both premises, after which a name is denied
+-- at two moments of one listing the directory has the time at the first, and not at the second
+pub record LeavesDuring (events : List Event) (s : State) : Type 0 where
+  pub caller : ℕ
+  pub dir : Names
+  pub time : FileTime
+  pub i : ℕ
+  pub k : ℕ
+  pub later : i ≤ k
+  pub within : k ≤ length events
+  pub lists : (m : ℕ) → i ≤ m → m ≤ k → IsListing (moment events s m) caller dir
+  pub has : time_of (moment events s i).tree dir ≡ Some time
+  pub left : time_of (moment events s k).tree dir ≡ Some time → ⊥
+
+-- A tree and events that meet both premises, in which a directory leaves a time during a listing of it, and after which a name is denied
 abbrev pub CanBeMet : Type 0
-CanBeMet = (now : Moment) → (tree : Tree) × (events : List Event) × IsFair events (start tree 1 2 2) × (told (run (start tree 1 2 2) events) (Conclude 0) ≡ Absent true)
+CanBeMet =
+    (now : Moment) → (tree : Tree) × (events : List Event) × IsFair events (start tree 1 2 3) × LeavesDuring events (start tree 1 2 3)
+    × (told (run (start tree 1 2 3) events) (Conclude 0) ≡ Absent true)
 
 -- ---- whose events they are
 
@@ -143,23 +158,31 @@ EntriesAreSound s = (before after : List Event) → IsFair (before ++ after) s �
 
 -- ---- the facts that each event keeps
 
--- one number belongs to one directory and one time
-abbrev pub OneNumber : Dots → Type 0
-OneNumber dots =
-    (d d' : Names) (e e' : DuEntry) → lookup (same_key (dir_key d)) dots ≡ Some e → lookup (same_key (dir_key d')) dots ≡ Some e' → e'.number ≡ e.number
-    → (d' ≡ d) × (e'.time ≡ e.time)
+-- a table of the numbers: which directory the listing with this number was of, and the directory's time
+abbrev pub Numbers : Type 0
+Numbers = ℕ → Names × FileTime
 
--- the number that a caller holds is one that was given
-abbrev pub HoldsBelow : ℕ → Place → Type 0
-HoldsBelow next (Peeked dir name number time) = number < next
-HoldsBelow next (Passed dir name number time) = number < next
-HoldsBelow next _ = Unit {0}
+-- each entry, of a directory or of a name, has the directory and the time that stand in the table for its number
+abbrev pub AllNumbered : Numbers → Dots → Type 0
+AllNumbered table [] = Unit {0}
+AllNumbered table (e ∷ es) = (table e.1.number ≡ (e.0.dir, e.1.time)) × AllNumbered table es
+
+-- so does what a caller past its Peek holds, and its number is one that was given
+abbrev pub HoldsNumber : Numbers → ℕ → Place → Type 0
+HoldsNumber table next (Peeked dir name number time) = (number < next) × (table number ≡ (dir, time))
+HoldsNumber table next (Passed dir name number time) = (number < next) × (table number ≡ (dir, time))
+HoldsNumber table next _ = Unit {0}
+
+-- one number belongs to one directory and one time, in the entries of directories and of names, and in what callers hold
+pub record OneListing (s : State) : Type 0 where
+  pub table : Numbers
+  pub entries : AllNumbered table s.dots
+  pub held : (caller : ℕ) (place : Place) → slice_get s.places caller ≡ Some place → HoldsNumber table s.next place
 
 pub record IsKept (s : State) : Type 0 where
   pub folded : AllFolded s.paths
   pub dots : AreCounted s.next s.dots
-  pub one : OneNumber s.dots
-  pub held : (caller : ℕ) (place : Place) → slice_get s.places caller ≡ Some place → HoldsBelow s.next place
+  pub numbers : OneListing s
 
 abbrev pub FactsAreKept : State → Type 0
 FactsAreKept s = (events : List Event) → IsKept (run s events)
@@ -173,6 +196,30 @@ abbrev pub ListingsAreRight : State → Type 0
 ListingsAreRight s =
     (before after : List Event) → IsFair (before ++ after) s → (caller : ℕ) (l : Listing) (time : FileTime) → slice_get (run s before).places caller ≡ Some (Lists l)
     → l.whole ≡ true → l.before ≡ Some time → time_of (run s before).tree l.dir ≡ Some time → HasUpTo l (run s before).tree
+
+-- ---- a caller past its Peek
+
+-- The caller's last own events are its Ask, its Peek, and these. At the Peek the directory's entry had this number and this time
+pub record Noted (s : State) (events : List Event) (caller : ℕ) (dir : Names) (name : Name) (number : ℕ) (time : FileTime) (since : List Event) : Type 0 where
+  pub earlier : List Event
+  pub before : List Event
+  pub between : List Event
+  pub parts : events ≡ before ++ Peek caller ∷ between
+  pub asked : own caller s before ≡ earlier ++ Ask caller dir name ∷ []
+  pub waited : own caller (run s (before ++ Peek caller ∷ [])) between ≡ since
+  pub entry : DuEntry
+  pub found : lookup (same_key (dir_key dir)) (run s before).dots ≡ Some entry
+  pub same_number : entry.number ≡ number
+  pub same_time : entry.time ≡ time
+
+-- the events of a caller in this place since its Peek, where it is past it
+abbrev pub IsNoted : State → List Event → ℕ → Place → Type 0
+IsNoted s events caller (Peeked dir name number time) = Noted s events caller dir name number time []
+IsNoted s events caller (Passed dir name number time) = Noted s events caller dir name number time (Check caller false ∷ [])
+IsNoted s events caller _ = Unit {0}
+
+abbrev pub PeeksAreHeld : State → Type 0
+PeeksAreHeld s = (events : List Event) (caller : ℕ) (place : Place) → slice_get (run s events).places caller ≡ Some place → IsNoted s events caller place
 
 -- ---- a caller past its Check
 

@@ -1,6 +1,8 @@
-ghost use Rattle.std.specs.Prelude.{◌≡◌, ℕ, List, ◌<◌, ◌≤◌, ◌-◌, ◌++◌, Some, None, OnOk, OnErr, take, drop, length, slice_index_or, true, false};
-ghost use Rattle.dav_cache.specs.Trees.{FileTime as Time, is_dot, is_less};
-ghost use Rattle.dav_cache.specs.Entries.{kept, is_rising};
+ghost use Rattle.std.specs.Prelude.{◌≡◌, [], ◌∷◌, ◌++◌, Some, OnOk, OnErr, true};
+ghost use Rattle.std.specs.List.{list_all};
+ghost use Rattle.dav_cache.specs.Trees.{FileTime as Time, is_dot};
+ghost use Rattle.dav_cache.specs.Entries.{are_sealable, dir_key, in_order};
+ghost use Rattle.dav_cache.specs.Memory.{SealsIn};
 ghost use Rattle.dav_cache.specs.Core.{one_time as the_one_time};
 ghost use Rattle.dav_cache.specs.Builder as builder;
 
@@ -11,11 +13,13 @@ use dav_io::{Moment, NoMemory, Text};
 use std::alloc::Global;
 use std::marker::Model;
 
-/// Gathers the names of a listing that begin with `._`, to be sealed at its end.
+/// Gathers the names of a listing that begin with `._`, to be sealed at its end. A contract sees them in order and each
+/// once, however they were added.
 #[derive(Drop)]
 pub struct DUCacheBuilder {
     key: DuKey,
     before: Option<FileTime>,
+    // As they came. Only `finish` puts them in order.
     names: Vec<Text>,
     faulted: bool,
     finished: bool,
@@ -24,13 +28,21 @@ pub struct DUCacheBuilder {
 impl Model for DUCacheBuilder {
     ghost use Rattle.std.specs.Prelude.{◌≡◌, None, true};
     ghost use Rattle.dav_cache.specs.Builder.{BuilderState};
-    ghost use Rattle.dav_cache.specs.Entries.{are_sealable};
+    ghost use Rattle.std.specs.List.{list_all};
+    ghost use Rattle.dav_cache.specs.Trees.{is_dot};
+    ghost use Rattle.dav_cache.specs.Entries.{in_order};
 
     ghost Value = { BuilderState };
 
-    ghost view = { λ b. record { dir = b.key.dir; before = b.before; names = b.names.items; faulted = b.faulted; finished = b.finished } };
+    ghost view = { λ b. record {
+      dir = b.key.dir;
+      before = b.before;
+      names = in_order b.names.items;
+      faulted = b.faulted;
+      finished = b.finished;
+    } };
 
-    ghost invariant = { λ b. (b.key.name ≡ None) × (are_sealable b.names.items ≡ true) };
+    ghost invariant = { λ b. (b.key.name ≡ None) × (list_all is_dot b.names.items ≡ true) };
 }
 
 impl DUCacheBuilder {
@@ -82,8 +94,10 @@ impl DUCacheBuilder {
         memory: &mut R,
         now: Moment,
     ) -> Result<(), NoMemory>
-        requires { (time : Time) → builder.may_settle self.old ≡ Some time → R.may_seal memory.old self.old.dir time self.old.names }
-        ensures done { builder.Finishes R.state self.old.finished self.old (D.state disk.old) now memory.old result self.new (D.state disk.new) memory.new }
+        requires { (time : Time) → builder.may_settle self.old ≡ Some time
+            → R.may_seal memory.old self.old.dir time self.old.names }
+        ensures done { builder.Finishes R.state self.old.finished self.old (D.state disk.old) now memory.old result
+            self.new (D.state disk.new) memory.new }
         ensures loan { D.loan disk.new ≡ D.loan disk.old }
     {
         if self.finished {
@@ -95,11 +109,22 @@ impl DUCacheBuilder {
         let Some(time) = one_time(before, after) else {
             return Ok(());
         };
-        let alloc: Global = *self.names.allocator();
-        match memory.seal(alloc, &self.key, time, self.names.as_slice(), now) {
+        match self.seal_into(memory, time, now) {
             Sealed::NoMemory => Err(NoMemory),
             Sealed::Done | Sealed::Last => Ok(()),
         }
+    }
+
+    // Seals the names with a time that the directory has.
+    fn seal_into<R: Remember>(&mut self, memory: &mut R, time: FileTime, now: Moment) -> Sealed
+        requires { R.may_seal memory.old self.old.dir time self.old.names }
+        ensures sealed { SealsIn (R.state memory.old) (dir_key self.old.dir) time self.old.names now result
+            (R.state memory.new) }
+        ensures same { self.new ≡ self.old }
+    {
+        put_in_order(&mut self.names);
+        let alloc: Global = *self.names.allocator();
+        memory.seal(alloc, &self.key, time, self.names.as_slice(), now)
     }
 
     // The time that the names may be sealed with, if the directory still has it.
@@ -149,33 +174,23 @@ fn begins_dot(name: &[u8]) -> bool
     }
 }
 
-// How many of the names don't come after this one.
-fn place_of(names: &[Text], name: &Text) -> usize
-    ensures within { result ≤ length names.now }
-    ensures place { kept name.now names.now ≡ kept name.now (take result names.now) ++ drop result names.now }
-    ensures before { (d : List ℕ) → 0 < result → is_less name.now (slice_index_or names.now (result - 1) d) ≡ false }
-{
-    let mut at = names.len();
-    while at > 0 {
-        if !name.cmp(&names[at - 1]).is_lt() {
-            return at;
-        }
-        at -= 1;
-    }
-    at
-}
-
-// Keeps a name among names that rise, in its place and once.
+// Adds a name.
 fn keep(names: &mut Vec<Text>, alloc: Global, name: &str) -> Result<(), NoMemory>
-    requires { is_rising None names.old.items ≡ true }
-    ensures ok { OnOk result (names.new.items ≡ kept name.now names.old.items) }
+    ensures ok { OnOk result (names.new.items ≡ names.old.items ++ name.now ∷ []) }
     ensures err { OnErr result (names.new.items ≡ names.old.items) }
 {
-    let name = Text::copy(alloc, name)?;
-    let at = place_of(names, &name);
-    if at > 0 && names[at - 1] == name {
-        return Ok(());
-    }
-    names.insert(at, name)?;
+    names.push(Text::copy(alloc, name)?)?;
     Ok(())
+}
+
+// Puts names that begin with `._` in order, each once. It takes no memory.
+fn put_in_order(names: &mut Vec<Text>)
+    requires { list_all is_dot names.old.items ≡ true }
+    ensures value { names.new.items ≡ in_order names.old.items }
+    ensures same { in_order names.new.items ≡ in_order names.old.items }
+    ensures dots { list_all is_dot names.new.items ≡ true }
+    ensures sealable { are_sealable names.new.items ≡ true }
+{
+    names.sort_unstable();
+    names.dedup();
 }

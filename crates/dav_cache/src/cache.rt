@@ -68,7 +68,8 @@ impl Cache {
 
     /// Puts an entry for where the path is, first. A full cache drops its last entry. A moment is in nanoseconds.
     pub fn insert(&mut self, path: &FsPath, now: Moment) -> Result<(), NoMemory>
-        ensures ok { OnOk result (self.new ≡ record self.old { entries = entries.inserted self.old.size path.now now self.old.entries }) }
+        ensures ok { OnOk result (self.new ≡ record self.old
+            { entries = entries.inserted self.old.size path.now now self.old.entries }) }
         ensures err { OnErr result (self.new ≡ self.old) }
     {
         let key = fold(self.allocator(), path)?;
@@ -86,7 +87,8 @@ impl Cache {
         path: &FsPath,
         disk: &mut D,
     ) -> Result<Option<(FsPath, Meta)>, NoMemory>
-        ensures looked { IfOk result (λ found. Looks (lookup (same_path (fold_path path.now)) self.old.entries) self.old path.now (D.state disk.old) found self.new (D.state disk.new)) }
+        ensures looked { IfOk result (λ found. Looks (lookup (same_path (fold_path path.now)) self.old.entries) self.old
+            path.now (D.state disk.old) found self.new (D.state disk.new)) }
         ensures folds { IfOk result (λ found. IfSome found (λ f. fold_path f.0 ≡ fold_path path.now)) }
         ensures err { OnErr result (self.new ≡ self.old) }
         ensures unasked { OnErr result (D.state disk.new ≡ D.state disk.old) }
@@ -123,7 +125,8 @@ impl Cache {
 
     /// The path that the key's entry tells.
     pub(crate) fn path_of(&self, key: &FoldedPath) -> Result<Option<FsPath>, NoMemory>
-        ensures value { IfOk result (λ found. found ≡ option_map (λ e. e.path) (lookup (same_path key.now) self.now.entries)) }
+        ensures value { IfOk result (λ found. found ≡ option_map (λ e. e.path)
+            (lookup (same_path key.now) self.now.entries)) }
         ensures folds { IfOk result (λ found. IfSome found (λ path. fold_path path ≡ key.now)) }
     {
         match self.entries.peek(key) {
@@ -134,7 +137,8 @@ impl Cache {
 
     /// Brings the key's entry to the front.
     pub(crate) fn promote(&mut self, key: &FoldedPath)
-        ensures { self.new ≡ record self.old { entries = entries.promoted key.now (lookup (same_path key.now) self.old.entries) self.old.entries } }
+        ensures { self.new ≡ record self.old
+            { entries = entries.promoted key.now (lookup (same_path key.now) self.old.entries) self.old.entries } }
     {
         no_key_stands_twice(&self.entries);
         self.entries.promote(key);
@@ -151,7 +155,8 @@ impl Cache {
     /// Puts an entry first.
     fn put(&mut self, key: FoldedPath, entry: PathEntry) -> Result<(), NoMemory>
         requires { key ≡ fold_path entry.path }
-        ensures ok { OnOk result (self.new ≡ record self.old { entries = entries.put self.old.size (same_path key) key entry self.old.entries }) }
+        ensures ok { OnOk result (self.new ≡ record self.old
+            { entries = entries.put self.old.size (same_path key) key entry self.old.entries }) }
         ensures err { OnErr result (self.new ≡ self.old) }
     {
         no_key_stands_twice(&self.entries);

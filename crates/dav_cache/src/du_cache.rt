@@ -84,7 +84,8 @@ impl DuCache {
 
     /// Whether the directory's entry stands with the number, and the name's entry doesn't.
     pub fn conclude(&self, dir: &DuKey, name: &DuKey, number: u64) -> bool
-        ensures { result ≡ (dots.stands self.now.entries dir.now number && not (dots.stands self.now.entries name.now number)) }
+        ensures { result ≡ (dots.stands self.now.entries dir.now number && not
+            (dots.stands self.now.entries name.now number)) }
     {
         self.stands(dir, number) && !self.stands(name, number)
     }
@@ -162,7 +163,9 @@ impl DuCache {
         name: &Text,
         disk: &mut D,
     ) -> Result<bool, NoMemory>
-        ensures denied { IfOk result (λ absent. calls.Denies (lookup (dots.same_key (dots.dir_key dir.now)) self.old.entries) self.old dir.now name.now (D.state disk.old) absent self.new (D.state disk.new)) }
+        ensures denied { IfOk result (λ absent. calls.Denies
+            (lookup (dots.same_key (dots.dir_key dir.now)) self.old.entries) self.old dir.now name.now
+            (D.state disk.old) absent self.new (D.state disk.new)) }
         ensures err { OnErr result (self.new ≡ self.old) }
         ensures unasked { OnErr result (D.state disk.new ≡ D.state disk.old) }
         ensures loan { D.loan disk.new ≡ D.loan disk.old }
@@ -298,7 +301,8 @@ fn drop_key(entries: &mut LruCache<DuKey, DuEntry>, key: &DuKey)
 
 // Puts an entry first, and answers whether memory was found.
 fn put_entry(entries: &mut LruCache<DuKey, DuEntry>, key: DuKey, entry: DuEntry) -> bool
-    ensures ok { IsTrue result → entries.new ≡ lru_cache (dots.put entries.old.cap (dots.same_key key) key entry entries.old.entries) entries.old.cap }
+    ensures ok { IsTrue result → entries.new ≡ lru_cache
+        (dots.put entries.old.cap (dots.same_key key) key entry entries.old.entries) entries.old.cap }
     ensures err { result ≡ false → entries.new ≡ entries.old }
 {
     no_key_stands_twice(entries);
@@ -322,7 +326,8 @@ fn put_name(
     name: &Text,
     entry: DuEntry,
 ) -> bool
-    ensures ok { IsTrue result → entries.new ≡ lru_cache (dots.put_name entries.old.cap (dots.listed_by dir.now entry) name.now entries.old.entries) entries.old.cap }
+    ensures ok { IsTrue result → entries.new ≡ lru_cache
+        (dots.put_name entries.old.cap (dots.listed_by dir.now entry) name.now entries.old.entries) entries.old.cap }
     ensures err { result ≡ false → entries.new ≡ entries.old }
 {
     let entry = DuEntry {
@@ -339,7 +344,8 @@ fn put_name(
 
 // Puts the directory of the listing that the entry is of, with the count of its names.
 fn put_dir(entries: &mut LruCache<DuKey, DuEntry>, dir: &DuKey, entry: DuEntry, count: u64) -> bool
-    ensures ok { IsTrue result → entries.new ≡ lru_cache (dots.put_dir entries.old.cap (dots.listed_by dir.now entry) count entries.old.entries) entries.old.cap }
+    ensures ok { IsTrue result → entries.new ≡ lru_cache
+        (dots.put_dir entries.old.cap (dots.listed_by dir.now entry) count entries.old.entries) entries.old.cap }
     ensures err { result ≡ false → entries.new ≡ entries.old }
 {
     let entry = DuEntry {
@@ -369,7 +375,8 @@ fn put_listing(
     names: &[Text],
     room: u64,
 ) -> u64
-    ensures puts { entries.new ≡ lru_cache (dots.some_put entries.old.cap (dots.listed_by dir.now entry) names.now result entries.old.entries) entries.old.cap }
+    ensures puts { entries.new ≡ lru_cache (dots.some_put entries.old.cap (dots.listed_by dir.now entry) names.now
+        result entries.old.entries) entries.old.cap }
     ensures room { result ≤ room }
     ensures all { result ≤ length names.now + 1 }
 {

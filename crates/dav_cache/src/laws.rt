@@ -3,7 +3,7 @@
 ghost use Rattle.std.specs.Prelude.{◌≡◌, ℕ, List, All, IsUtf8};
 ghost use Rattle.dav_cache.specs.Trees.{Tree as rows, fold_name, fold_path};
 ghost use Rattle.dav_cache.specs.Core.{Event, State, start};
-ghost use Rattle.dav_cache.specs.Transparency.{AbsentOnlyWhereAbsent, PathOnlyWhereThere, EntriesAreSound, ListingsAreRight, FactsAreKept, ChecksAreHeld, ListedStand, NeverBack, NoReturn, CanBeMet, GetsAreEvents, NegativesAreEvents, IsMisplacedExactly};
+ghost use Rattle.dav_cache.specs.Transparency.{AbsentOnlyWhereAbsent, PathOnlyWhereThere, EntriesAreSound, ListingsAreRight, FactsAreKept, PeeksAreHeld, ChecksAreHeld, ListedStand, NeverBack, NoReturn, CanBeMet, GetsAreEvents, NegativesAreEvents, IsMisplacedExactly};
 
 /// Folding what is folded changes nothing, of texts and of paths whose names are texts.
 pub fn folding()
@@ -18,11 +18,12 @@ pub fn transparency()
     ensures sound { (tree : rows) (callers paths dots : ℕ) → EntriesAreSound (start tree callers paths dots) }
     ensures listings { (tree : rows) (callers paths dots : ℕ) → ListingsAreRight (start tree callers paths dots) }
     ensures facts { (tree : rows) (callers paths dots : ℕ) → FactsAreKept (start tree callers paths dots) }
+    ensures peeks { (tree : rows) (callers paths dots : ℕ) → PeeksAreHeld (start tree callers paths dots) }
     ensures checks { (tree : rows) (callers paths dots : ℕ) → ChecksAreHeld (start tree callers paths dots) }
 {}
 
 /// On the premises of `transparency`: the one on times that come back follows from a plainer one, and there are events
-/// that meet both.
+/// that meet both, in which a directory leaves a time during a listing of it.
 pub fn premises()
     ensures no_return { (events : List Event) (s : State) → NeverBack events s → NoReturn events s }
     ensures met { CanBeMet }

@@ -28,6 +28,3 @@ pub use owned::Owned;
 pub use place::{Listing, Place};
 pub use remember::{Forget, Remember};
 pub use world::World;
-
-#[cfg(test)]
-mod tests;

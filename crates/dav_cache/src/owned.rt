@@ -27,7 +27,8 @@ impl Owned {
     pub fn new(alloc: Global, paths: usize, dots: usize) -> Result<Self, NoMemory>
         requires paths { 0 < paths }
         requires dots { 0 < dots }
-        ensures { IfOk result (λ memory. memory ≡ record { paths = record { entries = []; size = paths }; dots = record { entries = []; size = dots; next = 1 } }) }
+        ensures { IfOk result (λ memory. memory ≡ record
+            { paths = record { entries = []; size = paths }; dots = record { entries = []; size = dots; next = 1 } }) }
     {
         Ok(Owned {
             paths: Cache::new(alloc, paths)?,

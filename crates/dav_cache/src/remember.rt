@@ -1,4 +1,5 @@
-ghost use Rattle.std.specs.Prelude.{◌≡◌, ◌<◌, List, None, Option, true, IfOk, OnOk, OnErr};
+ghost use Rattle.std.specs.Prelude.{◌≡◌, ◌<◌, List, None, Ok, Option, false, true, IfOk, OnOk, OnErr};
+ghost use Rattle.dav_cache.specs.declared.du_cache.Sealed.{Sealed};
 ghost use Rattle.dav_cache.specs.Trees.{Name, Names, FileTime as Time};
 ghost use Rattle.dav_cache.specs.Entries.{are_sealable};
 ghost use Rattle.dav_cache.specs.Memory as memory;
@@ -17,7 +18,7 @@ pub trait Remember {
     /// What contracts see of the memory.
     ghost state: { Self → MemoryState };
 
-    /// Whether it may be sealed with these names for a directory path and a time.
+    /// Whether it may be sealed with these names for a directory path and a time. Each call keeps it.
     ghost may_seal: { Self → Names → Time → List Name → Type 0 } = { λ _ _ _ _. Unit {0} };
 
     /// Looks a path up, and asks the disk what stands where it was found.
@@ -27,15 +28,20 @@ pub trait Remember {
         path: &FsPath,
         disk: &mut D,
     ) -> Result<Option<(FsPath, Meta)>, NoMemory>
-        ensures done { IfOk result (λ found. memory.Gets (state self.old) path.now (D.state disk.old) found (state self.new) (D.state disk.new)) }
+        ensures done { IfOk result (λ found. memory.Gets (state self.old) path.now (D.state disk.old) found
+            (state self.new) (D.state disk.new)) }
         ensures err { OnErr result (self.new ≡ self.old) }
         ensures unasked { OnErr result (D.state disk.new ≡ D.state disk.old) }
-        ensures loan { D.loan disk.new ≡ D.loan disk.old };
+        ensures loan { D.loan disk.new ≡ D.loan disk.old }
+        ensures may { (dir : Names) (time : Time) (names : List Name) → may_seal self.old dir time names
+            → may_seal self.new dir time names };
 
     /// Remembers where a path is. A moment is in nanoseconds.
     fn insert(&mut self, alloc: Global, path: &FsPath, now: Moment) -> Result<(), NoMemory>
         ensures done { OnOk result (memory.Inserts (state self.old) path.now now (state self.new)) }
-        ensures err { OnErr result (self.new ≡ self.old) };
+        ensures err { OnErr result (self.new ≡ self.old) }
+        ensures may { (dir : Names) (time : Time) (names : List Name) → may_seal self.old dir time names
+            → may_seal self.new dir time names };
 
     /// Whether the name is known to be absent from the directory, as the disk has it now. To be asked of names that begin
     /// with `._`, since no others are sealed.
@@ -46,10 +52,13 @@ pub trait Remember {
         name: &Text,
         disk: &mut D,
     ) -> Result<bool, NoMemory>
-        ensures done { IfOk result (λ absent. memory.Negates (state self.old) dir.now name.now (D.state disk.old) absent (state self.new) (D.state disk.new)) }
+        ensures done { IfOk result (λ absent. memory.Negates (state self.old) dir.now name.now (D.state disk.old) absent
+            (state self.new) (D.state disk.new)) }
         ensures err { OnErr result (self.new ≡ self.old) }
         ensures unasked { OnErr result (D.state disk.new ≡ D.state disk.old) }
-        ensures loan { D.loan disk.new ≡ D.loan disk.old };
+        ensures loan { D.loan disk.new ≡ D.loan disk.old }
+        ensures may { (dir : Names) (time : Time) (names : List Name) → may_seal self.old dir time names
+            → may_seal self.new dir time names };
 
     /// Remembers the names of a directory that begin with `._`, as it had them at this time.
     fn seal(
@@ -63,11 +72,15 @@ pub trait Remember {
         requires dir { dir.now.name ≡ None }
         requires names { are_sealable names.now ≡ true }
         requires may { may_seal self.old dir.now.dir time names.now }
-        ensures { memory.SealsIn (state self.old) dir.now time names.now now result (state self.new) };
+        ensures done { memory.SealsIn (state self.old) dir.now time names.now now result (state self.new) }
+        ensures may { (dir : Names) (time : Time) (names : List Name) → may_seal self.old dir time names
+            → may_seal self.new dir time names };
 
     /// Forgets what is old.
     fn purge(&mut self, now: Moment)
-        ensures { memory.Purges (state self.old) now (state self.new) };
+        ensures done { memory.Purges (state self.old) now (state self.new) }
+        ensures may { (dir : Names) (time : Time) (names : List Name) → may_seal self.old dir time names
+            → may_seal self.new dir time names };
 }
 
 /// A memory that remembers nothing.
@@ -82,11 +95,16 @@ impl Remember for Forget {
         _alloc: Global,
         _path: &FsPath,
         _disk: &mut D,
-    ) -> Result<Option<(FsPath, Meta)>, NoMemory> {
+    ) -> Result<Option<(FsPath, Meta)>, NoMemory>
+        ensures nothing { result ≡ Ok None }
+        ensures unasked { _disk.new ≡ _disk.old }
+    {
         Ok(None)
     }
 
-    fn insert(&mut self, _alloc: Global, _path: &FsPath, _now: Moment) -> Result<(), NoMemory> {
+    fn insert(&mut self, _alloc: Global, _path: &FsPath, _now: Moment) -> Result<(), NoMemory>
+        ensures { result ≡ Ok tt }
+    {
         Ok(())
     }
 
@@ -96,7 +114,10 @@ impl Remember for Forget {
         _dir: &FsPath,
         _name: &Text,
         _disk: &mut D,
-    ) -> Result<bool, NoMemory> {
+    ) -> Result<bool, NoMemory>
+        ensures nothing { result ≡ Ok false }
+        ensures unasked { _disk.new ≡ _disk.old }
+    {
         Ok(false)
     }
 
@@ -107,7 +128,9 @@ impl Remember for Forget {
         _time: FileTime,
         _names: &[Text],
         _now: Moment,
-    ) -> Sealed {
+    ) -> Sealed
+        ensures { result ≡ Sealed.Done }
+    {
         Sealed::Done
     }
 

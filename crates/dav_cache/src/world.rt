@@ -27,7 +27,15 @@ impl Model for World {
 
     ghost Value = { State };
 
-    ghost view = { λ w. record { tree = w.tree; places = w.places.items; paths = w.paths.entries; paths_size = w.paths.size; dots = w.dots.entries; dots_size = w.dots.size; next = w.dots.next } };
+    ghost view = { λ w. record {
+      tree = w.tree;
+      places = w.places.items;
+      paths = w.paths.entries;
+      paths_size = w.paths.size;
+      dots = w.dots.entries;
+      dots_size = w.dots.size;
+      next = w.dots.next;
+    } };
 
     ghost invariant = { λ w. AllRise w.places.items };
 }
@@ -82,8 +90,10 @@ impl World {
     }
 
     fn ask(&mut self, caller: u32, dir: &FsPath, name: &Text) -> Result<Told, NoMemory>
-        ensures state { OnOk result (self.new ≡ (core.ask self.old caller dir.now name.now (slice_get self.old.places caller)).0) }
-        ensures told { IfOk result (λ told. told ≡ (core.ask self.old caller dir.now name.now (slice_get self.old.places caller)).1) }
+        ensures state { OnOk result (self.new
+            ≡ (core.ask self.old caller dir.now name.now (slice_get self.old.places caller)).0) }
+        ensures told { IfOk result (λ told. told
+            ≡ (core.ask self.old caller dir.now name.now (slice_get self.old.places caller)).1) }
         ensures err { OnErr result (self.new ≡ self.old) }
     {
         match self.places.get(caller as usize) {
@@ -129,8 +139,10 @@ impl World {
     }
 
     fn check(&mut self, caller: u32, refused: bool) -> Result<Told, NoMemory>
-        ensures state { OnOk result (self.new ≡ (core.check self.old caller refused (slice_get self.old.places caller)).0) }
-        ensures told { IfOk result (λ told. told ≡ (core.check self.old caller refused (slice_get self.old.places caller)).1) }
+        ensures state { OnOk result (self.new
+            ≡ (core.check self.old caller refused (slice_get self.old.places caller)).0) }
+        ensures told { IfOk result (λ told. told
+            ≡ (core.check self.old caller refused (slice_get self.old.places caller)).1) }
         ensures err { OnErr result (self.new ≡ self.old) }
     {
         match self.places.get(caller as usize) {
@@ -202,8 +214,10 @@ impl World {
     }
 
     fn begin(&mut self, caller: u32, dir: &FsPath) -> Result<Told, NoMemory>
-        ensures state { OnOk result (self.new ≡ (core.begin self.old caller dir.now (slice_get self.old.places caller)).0) }
-        ensures told { IfOk result (λ told. told ≡ (core.begin self.old caller dir.now (slice_get self.old.places caller)).1) }
+        ensures state { OnOk result (self.new
+            ≡ (core.begin self.old caller dir.now (slice_get self.old.places caller)).0) }
+        ensures told { IfOk result (λ told. told
+            ≡ (core.begin self.old caller dir.now (slice_get self.old.places caller)).1) }
         ensures err { OnErr result (self.new ≡ self.old) }
     {
         match self.places.get(caller as usize) {
@@ -219,8 +233,10 @@ impl World {
     }
 
     fn before(&mut self, caller: u32, refused: bool) -> Result<Told, NoMemory>
-        ensures state { OnOk result (self.new ≡ (core.before self.old caller refused (slice_get self.old.places caller)).0) }
-        ensures told { IfOk result (λ told. told ≡ (core.before self.old caller refused (slice_get self.old.places caller)).1) }
+        ensures state { OnOk result (self.new
+            ≡ (core.before self.old caller refused (slice_get self.old.places caller)).0) }
+        ensures told { IfOk result (λ told. told
+            ≡ (core.before self.old caller refused (slice_get self.old.places caller)).1) }
         ensures err { OnErr result (self.new ≡ self.old) }
     {
         match self.places.get(caller as usize) {
@@ -243,8 +259,10 @@ impl World {
     }
 
     fn find(&mut self, caller: u32, path: &FsPath) -> Result<Told, NoMemory>
-        ensures state { OnOk result (self.new ≡ (core.find self.old caller path.now (slice_get self.old.places caller)).0) }
-        ensures told { IfOk result (λ told. told ≡ (core.find self.old caller path.now (slice_get self.old.places caller)).1) }
+        ensures state { OnOk result (self.new
+            ≡ (core.find self.old caller path.now (slice_get self.old.places caller)).0) }
+        ensures told { IfOk result (λ told. told
+            ≡ (core.find self.old caller path.now (slice_get self.old.places caller)).1) }
         ensures err { OnErr result (self.new ≡ self.old) }
     {
         match self.places.get(caller as usize) {
@@ -260,8 +278,10 @@ impl World {
     }
 
     fn probe(&mut self, caller: u32, refused: bool) -> Result<Told, NoMemory>
-        ensures state { OnOk result (self.new ≡ (core.probe self.old caller refused (slice_get self.old.places caller)).0) }
-        ensures told { IfOk result (λ told. told ≡ (core.probe self.old caller refused (slice_get self.old.places caller)).1) }
+        ensures state { OnOk result (self.new
+            ≡ (core.probe self.old caller refused (slice_get self.old.places caller)).0) }
+        ensures told { IfOk result (λ told. told
+            ≡ (core.probe self.old caller refused (slice_get self.old.places caller)).1) }
         ensures err { OnErr result (self.new ≡ self.old) }
     {
         match self.places.get(caller as usize) {
@@ -283,8 +303,10 @@ impl World {
     }
 
     fn list_next(&mut self, caller: u32, refused: bool) -> Result<Told, NoMemory>
-        ensures state { OnOk result (self.new ≡ (core.list_next self.old caller refused (slice_get self.old.places caller)).0) }
-        ensures told { IfOk result (λ told. told ≡ (core.list_next self.old caller refused (slice_get self.old.places caller)).1) }
+        ensures state { OnOk result (self.new
+            ≡ (core.list_next self.old caller refused (slice_get self.old.places caller)).0) }
+        ensures told { IfOk result (λ told. told
+            ≡ (core.list_next self.old caller refused (slice_get self.old.places caller)).1) }
         ensures err { OnErr result (self.new ≡ self.old) }
     {
         match self.places.get(caller as usize) {
@@ -305,8 +327,10 @@ impl World {
     }
 
     fn after(&mut self, caller: u32, refused: bool) -> Result<Told, NoMemory>
-        ensures state { OnOk result (self.new ≡ (core.after self.old caller refused (slice_get self.old.places caller)).0) }
-        ensures told { IfOk result (λ told. told ≡ (core.after self.old caller refused (slice_get self.old.places caller)).1) }
+        ensures state { OnOk result (self.new
+            ≡ (core.after self.old caller refused (slice_get self.old.places caller)).0) }
+        ensures told { IfOk result (λ told. told
+            ≡ (core.after self.old caller refused (slice_get self.old.places caller)).1) }
         ensures err { OnErr result (self.new ≡ self.old) }
     {
         match self.places.get(caller as usize) {
@@ -324,8 +348,10 @@ impl World {
     }
 
     fn seal(&mut self, caller: u32, now: Moment, room: u64) -> Result<Told, NoMemory>
-        ensures state { OnOk result (self.new ≡ (core.seal self.old caller now room (slice_get self.old.places caller)).0) }
-        ensures told { IfOk result (λ told. told ≡ (core.seal self.old caller now room (slice_get self.old.places caller)).1) }
+        ensures state { OnOk result (self.new
+            ≡ (core.seal self.old caller now room (slice_get self.old.places caller)).0) }
+        ensures told { IfOk result (λ told. told
+            ≡ (core.seal self.old caller now room (slice_get self.old.places caller)).1) }
         ensures err { OnErr result (self.new ≡ self.old) }
     {
         match self.places.get(caller as usize) {
@@ -391,8 +417,10 @@ impl World {
     }
 
     fn insert(&mut self, caller: u32, path: &FsPath, now: Moment) -> Result<Told, NoMemory>
-        ensures state { OnOk result (self.new ≡ (core.insert self.old caller path.now now (slice_get self.old.places caller)).0) }
-        ensures told { IfOk result (λ told. told ≡ (core.insert self.old caller path.now now (slice_get self.old.places caller)).1) }
+        ensures state { OnOk result (self.new
+            ≡ (core.insert self.old caller path.now now (slice_get self.old.places caller)).0) }
+        ensures told { IfOk result (λ told. told
+            ≡ (core.insert self.old caller path.now now (slice_get self.old.places caller)).1) }
         ensures err { OnErr result (self.new ≡ self.old) }
     {
         match self.places.get(caller as usize) {
@@ -438,8 +466,10 @@ impl World {
         time: Option<FileTime>,
     ) -> Result<Option<DuCache>, NoMemory>
         requires { is_rising None l.now.names ≡ true }
-        ensures entries { IfOk result (λ dots. option_map (λ d. d.entries) dots ≡ core.new_dots self.now l.now now room time) }
-        ensures others { IfOk result (λ dots. IfSome dots (λ d. (d.size ≡ self.now.dots_size) × (d.next ≡ self.now.next + 1))) }
+        ensures entries { IfOk result (λ dots. option_map (λ d. d.entries) dots ≡ core.new_dots self.now l.now now room
+            time) }
+        ensures others { IfOk result (λ dots. IfSome dots
+            (λ d. (d.size ≡ self.now.dots_size) × (d.next ≡ self.now.next + 1))) }
     {
         let Some(time) = time else {
             return Ok(None);

@@ -1,2 +1,5 @@
 pub mod Entries
 pub mod Forests
+pub mod Weights
+pub mod Copies
+pub mod Waiting

@@ -1,5 +1,5 @@
 -- Element trees as contracts see them.
-use Rattle.std.specs.Prelude.{ℕ, suc, max, List, Option}
+use Rattle.std.specs.Prelude.{ℕ, suc, max, List, Option, Some, None}
 use Rattle.dav_lock.specs.Pairs.{Table}
 
 mutual
@@ -33,3 +33,11 @@ abbrev mutual
 abbrev pub joined : Forest → Forest → Forest
 joined bare g = g
 joined (then t ts) g = then t (joined ts g)
+
+-- the nodes in an element
+abbrev pub children_of : Tree → Option Forest
+children_of (element prefix namespace namespaces name attributes children) = Some children
+children_of (text t) = None
+children_of (comment t) = None
+children_of (cdata t) = None
+children_of (instruction t d) = None

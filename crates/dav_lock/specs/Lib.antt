@@ -6,3 +6,4 @@ pub mod ForestCodes
 pub mod Trees
 pub mod NodesAreLower
 pub mod Tokens
+pub mod Found

@@ -1,6 +1,7 @@
-ghost use Rattle.std.specs.Prelude.{◌≡◌, [], IfOk, OnOk, OnErr};
+ghost use Rattle.std.specs.Prelude.{◌≡◌, [], IfOk, OnOk, OnErr, option_map};
 
 use crate::Pairs;
+use crate::copying::{Found, copy_around, copy_leaf, copy_nodes};
 use dav_io::{NoMemory, Text};
 use std::alloc::Global;
 use std::marker::Model;
@@ -31,9 +32,24 @@ pub enum XmlNode {
 
 /// The nodes in an element, in their order. A contract sees them as a forest.
 #[cycle(trees)]
-#[derive(Drop)]
 pub struct Nodes {
     nodes: Vec<XmlNode>,
+}
+
+impl Drop for Nodes {
+    // The nodes in an element join those that wait, so how deep a tree nests takes no stack. Where memory for them is refused,
+    // they are let go by themselves.
+    #[cycle(drops)]
+    fn drop(self) {
+        let mut waiting = self.into_vec();
+        while let Some(node) = waiting.pop() {
+            let mut inner = match node.into_children() {
+                Some(inner) => inner,
+                None => continue,
+            };
+            let _ = waiting.append(&mut inner);
+        }
+    }
 }
 
 impl Model for Nodes {
@@ -86,7 +102,8 @@ impl Nodes {
     pub fn into_vec(self) -> Vec<XmlNode>
         ensures { forest_of result.items ≡ self }
     {
-        self.nodes
+        let Nodes { nodes } = self;
+        nodes
     }
 
     /// Adds a node after the others. Where memory is refused, nothing changes.
@@ -99,36 +116,35 @@ impl Nodes {
     }
 
     /// Equal nodes. They may be refused for want of memory.
-    #[cycle(copies)]
     pub fn try_clone(&self) -> Result<Self, NoMemory>
         ensures { IfOk result (λ copy. copy ≡ self.now) }
     {
-        let alloc: Global = *self.nodes.allocator();
-        let mut nodes = Vec::new(alloc);
-        for node in self.as_slice() {
-            nodes.push(node.try_clone()?)?;
-        }
-        Ok(Nodes { nodes })
+        copy_nodes(*self.nodes.allocator(), self.nodes.as_slice())
     }
 }
 
 impl XmlNode {
-    ghost use Rattle.dav_lock.specs.Trees.{tree_of};
+    ghost use Rattle.dav_lock.specs.Forests.{children_of};
+    ghost use Rattle.dav_lock.specs.Trees.{tree_of, forest_of};
 
     /// An equal node. It may be refused for want of memory.
-    #[cycle(copies)]
     pub fn try_clone(&self) -> Result<Self, NoMemory>
         ensures { IfOk result (λ copy. copy ≡ self.now) }
     {
+        match copy_leaf(self)? {
+            Found::Leaf(leaf) => Ok(leaf),
+            Found::Inner(inner) => Ok(XmlNode::Element(inner.try_clone()?)),
+        }
+    }
+
+    /// The nodes in an element. What else stands in a node is let go.
+    fn into_children(self) -> Option<Vec<XmlNode>>
+        ensures { option_map (λ nodes. forest_of nodes.items) result ≡ children_of (tree_of self) }
+    {
         match self {
-            XmlNode::Element(element) => Ok(XmlNode::Element(element.try_clone()?)),
-            XmlNode::Text(text) => Ok(XmlNode::Text(text.try_clone()?)),
-            XmlNode::Comment(text) => Ok(XmlNode::Comment(text.try_clone()?)),
-            XmlNode::CData(text) => Ok(XmlNode::CData(text.try_clone()?)),
-            XmlNode::ProcessingInstruction(target, data) => Ok(XmlNode::ProcessingInstruction(
-                target.try_clone()?,
-                copy_text(data)?,
-            )),
+            XmlNode::Element(element) => Some(element.children.into_vec()),
+            XmlNode::Text(_) | XmlNode::Comment(_) | XmlNode::CData(_) => None,
+            XmlNode::ProcessingInstruction(_, _) => None,
         }
     }
 }
@@ -159,24 +175,10 @@ impl Element {
     }
 
     /// An equal element. It may be refused for want of memory.
-    #[cycle(copies)]
     pub fn try_clone(&self) -> Result<Self, NoMemory>
         ensures { IfOk result (λ copy. copy ≡ self.now) }
     {
-        let prefix = copy_text(&self.prefix)?;
-        let namespace = copy_text(&self.namespace)?;
-        let namespaces = copy_pairs(&self.namespaces)?;
-        let name = self.name.try_clone()?;
-        let attributes = self.attributes.try_clone()?;
-        let children = self.children.try_clone()?;
-        Ok(Element {
-            prefix,
-            namespace,
-            namespaces,
-            name,
-            attributes,
-            children,
-        })
+        copy_around(self, self.children.try_clone()?)
     }
 }
 
@@ -191,7 +193,7 @@ pub fn copy_text(text: &Option<Text>) -> Result<Option<Text>, NoMemory>
 }
 
 /// A copy of pairs, where there are any.
-fn copy_pairs(pairs: &Option<Pairs>) -> Result<Option<Pairs>, NoMemory>
+pub(crate) fn copy_pairs(pairs: &Option<Pairs>) -> Result<Option<Pairs>, NoMemory>
     ensures { IfOk result (λ copy. copy ≡ pairs.now) }
 {
     match pairs {

@@ -1,6 +1,7 @@
 //! Element trees, as a reader of XML gives them, and the lock system of a server.
 #![tactic(auto)]
 
+mod copying;
 mod element;
 mod fakels;
 mod lease;
@@ -15,6 +16,3 @@ pub use lease::{Lease, end_of, grant};
 pub use lock::{DavLock, LockError};
 pub use locks::Locks;
 pub use pairs::Pairs;
-
-#[cfg(test)]
-mod tests;

@@ -1,34 +1,14 @@
 -- Filters of components: the definition over a forest, and each filter by itself.
-use Rattle.std.proofs.Common.{◌≡◌, ℕ, suc, ◌≤◌, Bool, true, false, cond, List, [], ◌∷◌, Option, Some, None, codes, refl, sym, subst, arith}
+use Rattle.std.proofs.Common.{◌≡◌, Bool, true, false, cond, List, [], ◌∷◌, Option, Some, None, codes, refl, sym, ap, ◌∙◌}
 use Rattle.std.specs.Option.{option_map}
 use Rattle.std.specs.Str.{bytes_eq}
-use Rattle.dav_lock.specs.Forests.{Forest, bare, then, Tree, element, text, comment, cdata, instruction, height, tree_height}
-use Rattle.dav_lock.specs.Trees.{tree_of}
+use Rattle.dav_lock.specs.Forests.{Forest, bare, then, element, text, comment, cdata, instruction}
 use Rattle.dav_lock.specs.declared.element.Element.{Element}
-use Rattle.dav_lock.specs.declared.element.XmlNode.{XmlNode}
-use Rattle.dav_report.specs.Children.{named, attribute, with_first, each}
-use Rattle.dav_report.specs.Filters.{Asked, Filters}
+use Rattle.dav_report.specs.Children.{with_first, each}
+use Rattle.dav_report.specs.Filters.{Asked, Filters, no_filters, and_filter}
 use Rattle.dav_report.specs.FilterLists.{filters_of}
-use Rattle.dav_report.specs.Requests.{is_not_defined}
-use Rattle.dav_report.specs.Calendars.{last_range, property_filters, asked, filter_then, component_filters, component_with, component_filter, outer_filters}
-use Rattle.dav_report.specs.declared.caldav.property_filter.PropertyFilter.{PropertyFilter}
+use Rattle.dav_report.specs.Calendars.{asked, filter_then, component_filters, component_with, component_filter, outer_filters}
 use Rattle.dav_report.specs.declared.caldav.component_filter.ComponentFilter.{ComponentFilter}
-
-kept_height : (b : Bool) (e f : Element) → f ∷ [] ≡ cond b (e ∷ []) [] → suc (height f.children) ≤ suc (height e.children)
-kept_height true e f h = let is : f ≡ e = cc in subst (λ (g : Element). suc (height g.children) ≤ suc (height e.children)) (sym is) (omega arith)
-kept_height false e f h = cc
-
-tree_element : (name : List ℕ) (t : Tree) (e : Element) → e ∷ [] ≡ named name (then t bare) → suc (height e.children) ≤ tree_height t
-tree_element name (element prefix namespace namespaces n attributes children) e h =
-    kept_height (bytes_eq n name) (record { prefix = prefix; namespace = namespace; namespaces = namespaces; name = n; attributes = attributes; children = children }) e h
-tree_element name (text t) e h = cc
-tree_element name (comment t) e h = cc
-tree_element name (cdata t) e h = cc
-tree_element name (instruction t d) e h = cc
-
--- an element's children are less high than it
-pub named_height : (name : List ℕ) (x : XmlNode) (e : Element) → e ∷ [] ≡ named name (then (tree_of x) bare) → suc (height e.children) ≤ tree_height (tree_of x)
-named_height name x e h = tree_element name (tree_of x) e h
 
 -- a filter and the others
 both_ways : (a : Option Asked) (inner : Option Filters) (others : Option (List ComponentFilter)) → filter_then a inner (option_map filters_of others) ≡ option_map filters_of (with_first (component_with a inner) others)
@@ -53,10 +33,27 @@ outer_is (then (comment t) rest) = outer_is rest
 outer_is (then (cdata t) rest) = outer_is rest
 outer_is (then (instruction t d) rest) = outer_is rest
 
--- a filter of which each part is right
-pub component_good : (e : Element) (name : List ℕ) (props : List PropertyFilter) (comps : List ComponentFilter) → attribute (codes "name") e ≡ Some name → property_filters e.children ≡ Some props → outer_filters e.children ≡ Some comps
-    → component_filter e ≡ Some (record { name = name; is_not_defined = is_not_defined e.children; time_range = last_range e.children; prop_filters = props; comp_filters = filters_of comps })
-component_good e name props comps n p o = rw (n, p, outer_is e.children, o) refl
+-- the list that filters come from
+abbrev pub list_of : Filters → List ComponentFilter
+list_of no_filters = []
+list_of (and_filter a inner others) = record { name = a.name; is_not_defined = a.is_not_defined; time_range = a.time_range; prop_filters = a.prop_filters; comp_filters = inner } ∷ list_of others
 
-pub component_faulty : (e : Element) (name : List ℕ) (props : List PropertyFilter) → attribute (codes "name") e ≡ Some name → property_filters e.children ≡ Some props → outer_filters e.children ≡ None → component_filter e ≡ None
-component_faulty e name props n p o = rw (n, p, outer_is e.children, o) refl
+list_of-filters_of : (fs : List ComponentFilter) → list_of (filters_of fs) ≡ fs
+list_of-filters_of [] = refl
+list_of-filters_of (f ∷ fs) = ap (λ gs. f ∷ gs) (list_of-filters_of fs)
+
+same_list : (o : Option (List ComponentFilter)) (fs : List ComponentFilter) → Some (filters_of fs) ≡ option_map filters_of o → Some fs ≡ o
+same_list None fs h = cc
+same_list (Some gs) fs h = let e : filters_of fs ≡ filters_of gs = cc in ap Some (sym (list_of-filters_of fs) ∙ ap list_of e ∙ list_of-filters_of gs)
+
+same_fault : (o : Option (List ComponentFilter)) → None ≡ option_map filters_of o → None ≡ o
+same_fault None h = refl
+same_fault (Some gs) h = cc
+
+-- filters that were read are the list of those of the `comp-filter` children
+pub outer_read : (f : Forest) (read : Filters) (fs : List ComponentFilter) → filters_of fs ≡ read → Some read ≡ component_filters f → Some fs ≡ outer_filters f
+outer_read f read fs e h = same_list (outer_filters f) fs (ap Some e ∙ h ∙ outer_is f)
+
+-- and there is no such list where one is at fault
+pub outer_faulty : (f : Forest) → None ≡ component_filters f → None ≡ outer_filters f
+outer_faulty f h = same_fault (outer_filters f) (h ∙ outer_is f)

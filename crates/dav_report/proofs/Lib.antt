@@ -5,3 +5,7 @@ pub mod Components
 pub mod Found
 pub mod Texts
 pub mod ComponentKinds
+pub mod FilterWeights
+pub mod FilterCopying
+pub mod FilterReading
+pub mod FilterWaiting

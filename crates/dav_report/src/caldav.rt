@@ -1,5 +1,6 @@
 //! Calendars (RFC 4791).
 mod component_filter;
+mod copying;
 mod makers;
 mod properties;
 mod property_filter;

@@ -1,6 +1,7 @@
 //! Reading a calendar request.
 ghost use Rattle.std.specs.Prelude.{◌≡◌, IfOk, option_map};
-ghost use Rattle.dav_report.specs.Calendars.{time_range, last_range, property_filter, property_filters, component_filter, outer_filters, calendar_query, free_busy};
+ghost use Rattle.dav_report.specs.Calendars.{time_range, last_range, property_filter, property_filters, asked, component_filters, outer_filters, calendar_query, free_busy};
+ghost use Rattle.dav_report.specs.FilterLists.{asked_by};
 
 use crate::ParameterFilters;
 use crate::caldav::{
@@ -11,7 +12,7 @@ use crate::filter_parts::{
     FromElement, Outer, kept_filter, read_each, read_last_match, read_properties,
 };
 use dav_io::NoMemory;
-use dav_lock::{Element, Nodes};
+use dav_lock::{Element, Nodes, XmlNode};
 use std::alloc::Global;
 
 fn read_range(element: &Element) -> Result<TimeRange, NoMemory>
@@ -77,20 +78,15 @@ fn read_property_filters(
     }
 }
 
-/// The filter of a component with those in it, or nothing where one is at fault.
-#[cycle(components)]
-fn read_component(alloc: Global, element: &Element) -> Result<Option<ComponentFilter>, NoMemory>
-    ensures { IfOk result (λ read. read ≡ component_filter element.now) }
+/// What a filter of a component asks, with no filters of components in it; or nothing where it is at fault.
+fn read_asked(alloc: Global, element: &Element) -> Result<Option<ComponentFilter>, NoMemory>
+    ensures { IfOk result (λ read. option_map asked_by read ≡ asked element.now) }
 {
     let name = match copy_attribute(element, "name")? {
         Some(name) => name,
         None => return Ok(None),
     };
     let prop_filters = match read_property_filters(alloc, &element.children)? {
-        Some(filters) => filters,
-        None => return Ok(None),
-    };
-    let comp_filters = match read_components(alloc, &element.children)? {
         Some(filters) => filters,
         None => return Ok(None),
     };
@@ -101,39 +97,74 @@ fn read_component(alloc: Global, element: &Element) -> Result<Option<ComponentFi
         is_not_defined,
         time_range,
         prop_filters,
-        comp_filters: ComponentFilters::new(comp_filters),
+        comp_filters: ComponentFilters::empty(alloc),
     }))
 }
 
-/// The filters of components with those in them, or nothing where one is at fault.
-#[cycle(components)]
-fn read_components(
-    alloc: Global,
-    children: &Nodes,
-) -> Result<Option<Vec<ComponentFilter>>, NoMemory>
-    ensures { IfOk result
-        (λ read. option_map (λ filters. filters.items) read ≡ outer_filters children.now) }
+/// A filter of a component of which the filters in it are being read.
+#[derive(Drop)]
+struct Open<'a> {
+    /// The filter, with none in it yet.
+    filter: ComponentFilter,
+    /// The filters before it.
+    before: ComponentFilters,
+    /// What stands behind it, which is still to be read.
+    behind: &'a [XmlNode],
+}
+
+/// The filters of components with those in them, or nothing where one is at fault. A loop reads them, so how deep they nest
+/// costs memory and no stack.
+fn read_components(alloc: Global, children: &Nodes) -> Result<Option<ComponentFilters>, NoMemory>
+    ensures { IfOk result (λ read. read ≡ component_filters children.now) }
 {
-    let mut filters = Vec::new(alloc);
-    for node in children.as_slice() {
-        let element = match element_named(node, "comp-filter") {
-            Some(element) => element,
-            None => continue,
-        };
-        let filter = match read_component(alloc, element)? {
-            Some(filter) => filter,
-            None => return Ok(None),
-        };
-        filters.push(filter)?;
+    let mut open: Vec<Open> = Vec::new(alloc);
+    let mut done = ComponentFilters::empty(alloc);
+    let mut left = children.as_slice();
+    loop {
+        match left.split_first() {
+            Some((node, behind)) => match element_named(node, "comp-filter") {
+                Some(element) => {
+                    let filter = match read_asked(alloc, element)? {
+                        Some(filter) => filter,
+                        None => return Ok(None),
+                    };
+                    open.push(Open {
+                        filter,
+                        before: done,
+                        behind,
+                    })?;
+                    done = ComponentFilters::empty(alloc);
+                    left = element.children.as_slice();
+                }
+                None => left = behind,
+            },
+            None => match open.pop() {
+                Some(
+                    Open {
+                        mut filter,
+                        before,
+                        behind,
+                    },
+                ) => {
+                    filter.comp_filters = done;
+                    done = before;
+                    done.push(filter)?;
+                    left = behind;
+                }
+                None => return Ok(Some(done)),
+            },
+        }
     }
-    Ok(Some(filters))
 }
 
 impl Outer for ComponentFilter {
     ghost outer = { outer_filters };
 
     fn read_all(alloc: Global, children: &Nodes) -> Result<Option<Vec<Self>>, NoMemory> {
-        read_components(alloc, children)
+        match read_components(alloc, children)? {
+            Some(filters) => Ok(Some(filters.into_vec())),
+            None => Ok(None),
+        }
     }
 }
 

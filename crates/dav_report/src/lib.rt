@@ -17,8 +17,6 @@ mod filters;
 mod makers;
 mod names;
 mod parse;
-#[cfg(test)]
-mod tests;
 
 pub use answer::{Record, Records, Report};
 pub use content::{

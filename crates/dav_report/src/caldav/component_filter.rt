@@ -1,4 +1,4 @@
-use crate::caldav::property_filter::copy_range;
+use crate::caldav::copying::{copy_around, copy_filters};
 use crate::caldav::{PropertyFilters, TimeRange};
 use dav_io::{NoMemory, Text};
 use std::alloc::Global;
@@ -18,9 +18,20 @@ pub struct ComponentFilter {
 
 /// Filters of components, in their order. A contract sees them as data of its own, since a filter holds others.
 #[cycle(filters)]
-#[derive(Drop)]
 pub struct ComponentFilters {
     filters: Vec<ComponentFilter>,
+}
+
+impl Drop for ComponentFilters {
+    // The filters in a filter join those that wait, so how deep filters nest takes no stack.
+    #[cycle(drops)]
+    fn drop(self) {
+        let mut waiting = self.into_vec();
+        while let Some(filter) = waiting.pop() {
+            let mut inner = filter.comp_filters.into_vec();
+            let _ = waiting.append(&mut inner);
+        }
+    }
 }
 
 impl Model for ComponentFilters {
@@ -74,7 +85,8 @@ impl ComponentFilters {
     pub fn into_vec(self) -> Vec<ComponentFilter>
         ensures { filters_of result.items ≡ self }
     {
-        self.filters
+        let ComponentFilters { filters } = self;
+        filters
     }
 
     /// Adds a filter after the others. Where memory is refused, nothing changes.
@@ -87,16 +99,10 @@ impl ComponentFilters {
     }
 
     /// Equal filters, with those in them. It may be refused for want of memory.
-    #[cycle(copies)]
     pub fn try_clone(&self) -> Result<Self, NoMemory>
         ensures { IfOk result (λ copy. copy ≡ self.now) }
     {
-        let alloc: Global = *self.filters.allocator();
-        let mut filters = Vec::new(alloc);
-        for filter in self.as_slice() {
-            filters.push(filter.try_clone()?)?;
-        }
-        Ok(ComponentFilters { filters })
+        copy_filters(*self.filters.allocator(), self.filters.as_slice())
     }
 }
 
@@ -104,20 +110,9 @@ impl ComponentFilter {
     ghost use Rattle.std.specs.Prelude.{◌≡◌, IfOk};
 
     /// An equal filter, with those in it. It may be refused for want of memory.
-    #[cycle(copies)]
     pub fn try_clone(&self) -> Result<Self, NoMemory>
         ensures { IfOk result (λ copy. copy ≡ self.now) }
     {
-        let name = self.name.try_clone()?;
-        let time_range = copy_range(&self.time_range)?;
-        let prop_filters = self.prop_filters.try_clone()?;
-        let comp_filters = self.comp_filters.try_clone()?;
-        Ok(ComponentFilter {
-            name,
-            is_not_defined: self.is_not_defined,
-            time_range,
-            prop_filters,
-            comp_filters,
-        })
+        copy_around(self, self.comp_filters.try_clone()?)
     }
 }

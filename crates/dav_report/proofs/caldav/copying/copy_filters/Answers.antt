@@ -1,0 +1,31 @@
+use Rattle.std.proofs.Common.{◌≡◌, refl}
+use Rattle.dav_report.specs.FilterLists.{asked_by, filters_of}
+use Rattle.dav_report.specs.declared.caldav.copying.Open.{Open}
+use Rattle.dav_report.proofs.FilterCopying.{open_step, close_step, all_done, opens_less, closes_less, none_left, none_open}
+use Rattle.dav_report.proofs.caldav.copying.copy_filters.Goals as goal
+
+pub loop-first-smaller-in-Some : goal.loop-first-smaller-in-Some
+loop-first-smaller-in-Some c =
+    let o : Open = record { filter = c.in_ok-filter-in-Some.filter; before = c.loop-first.done; behind = c.in-Some.behind } in
+    rw c.as_slice-left.ensures (opens_less c.loop-first.open.items c.push.new.self.items o c.loop-first.left.now c.in-Some.first.now c.in_ok-push-in-Some.ensures.items c.in-Some.ensures.cases.0)
+
+pub loop-first-preserved-in-Some : goal.loop-first-preserved-in-Some
+loop-first-preserved-in-Some c =
+    let o : Open = record { filter = c.in_ok-filter-in-Some.filter; before = c.loop-first.done; behind = c.in-Some.behind } in
+    let is : asked_by c.in-Some.first.now ≡ asked_by o.filter = rw c.in_ok-filter-in-Some.ensures refl in
+    rw (c.empty-done-in-Some.ensures, c.as_slice-left.ensures)
+    (open_step c.loop-first.open.items c.push.new.self.items o (filters_of c.args.filters.now) c.loop-first.left.now c.in-Some.first.now c.in_ok-push-in-Some.ensures.items c.in-Some.ensures.cases.0 is c.loop-first.invariant)
+
+pub loop-first-smaller : goal.loop-first-smaller
+loop-first-smaller c = closes_less c.pop.new.self.items c.loop-first.open.items c.in-Some-pop.field-0 c.loop-first.left.now c.in-Some-pop.ensures.items (none_left c.loop-first.left.now c.in-None.ensures.cases)
+
+pub loop-first-preserved : goal.loop-first-preserved
+loop-first-preserved c =
+    rw c.in_ok-push-in-Some-pop.ensures.ok
+    (close_step c.pop.new.self.items c.loop-first.open.items c.in-Some-pop.field-0 c.loop-first.done (filters_of c.args.filters.now) c.loop-first.left.now c.in-Some-pop.ensures.items (none_left c.loop-first.left.now c.in-None.ensures.cases)
+    c.loop-first.invariant)
+
+pub returns-in-None-pop : goal.returns-in-None-pop
+returns-in-None-pop c =
+    all_done c.loop-first.open.items c.loop-first.done (filters_of c.args.filters.now) c.loop-first.left.now
+    (none_open c.loop-first.open.items c.pop.new.self.items _ c.in-None-pop.ensures.cases.0 c.in-None-pop.ensures.rest c.in-None-pop.ensures.items) (none_left c.loop-first.left.now c.in-None.ensures.cases) c.loop-first.invariant
