@@ -1,11 +1,24 @@
-//! Plays rows of events over the core of the caches, and prints what is told, a row a line.
+//! Plays rows of events over the core of the caches, and rows of calls over the caches, and prints what is told, a row a line.
 //!
 //! A row is words with blanks between them. The first is `CALLERS:PATHS:DOTS`, the number of callers and the capacities
 //! of the two caches. Each other word is an event, as `words.rt` reads it. The tree at the start is the root alone.
+//!
+//! Or the first word is `calls:PATHS:DOTS`. Then each other word is a call, as `calls.rt` reads it:
+//!
+//!     insert:PATH:MOMENT, get:PATH    of the memory; `get` tells where the path was found, or `none`
+//!     negative:PATH:NAME              whether the name is denied: `absent` or `unknown`
+//!     purge:MOMENT                    of the memory
+//!     forget:PATH                     puts and gets a path in a memory that forgets all
+//!     list:PATH                       begins a listing
+//!     add:NAME, fault, finish:MOMENT  of that listing
+//!     many:COUNT                      adds so many names `._000001` .. to it, from the last to the first
+//!     paths, dots, asked              the numbers of entries, and of calls that the disk was asked
 #![tactic(auto)]
 
+mod calls;
 mod words;
 
+use crate::calls::Calls;
 use crate::words::{RowError, event, number};
 use dav_cache::{Told, World};
 use dav_core::{FsPath, Tree};
@@ -31,8 +44,8 @@ fn world(alloc: Global, word: &str) -> Result<World, RowError> {
     Ok(World::new(alloc, root(alloc)?, callers, paths, dots)?)
 }
 
-// Adds a path: its names, each behind a slash, and the root as a slash alone.
-fn tell_path(line: &mut String, path: &FsPath) -> Result<(), RowError> {
+/// Adds a path: its names, each behind a slash, and the root as a slash alone.
+pub fn tell_path(line: &mut String, path: &FsPath) -> Result<(), RowError> {
     if path.as_slice().is_empty() {
         line.push('/')?;
     }
@@ -57,16 +70,36 @@ fn tell(line: &mut String, told: &Told) -> Result<(), RowError> {
 }
 
 // What is told of a row's events, with a blank before each.
-fn play(alloc: Global, row: &str) -> Result<String, RowError> {
+fn play_events(alloc: Global, first: &str, row: &str) -> Result<String, RowError> {
     let mut told = String::new(alloc);
-    let mut cells = row.split(' ');
-    let mut world = world(alloc, cells.next().unwrap_or(""))?;
-    for word in cells {
+    let mut world = world(alloc, first)?;
+    for word in row.split(' ').skip(1) {
         let answer = world.step(&event(alloc, word)?)?;
         told.push(' ')?;
         tell(&mut told, &answer)?;
     }
     Ok(told)
+}
+
+// What a row's calls answer, with a blank before each.
+fn play_calls(alloc: Global, sizes: &str, row: &str) -> Result<String, RowError> {
+    let mut told = String::new(alloc);
+    let mut sizes = sizes.splitn(2, ':');
+    let paths = sizes.next().unwrap_or("");
+    let mut calls = Calls::new(alloc, paths, sizes.next().unwrap_or(""))?;
+    for word in row.split(' ').skip(1) {
+        told.push(' ')?;
+        calls.call(&mut told, word)?;
+    }
+    Ok(told)
+}
+
+fn play(alloc: Global, row: &str) -> Result<String, RowError> {
+    let first = row.split(' ').next().unwrap_or("");
+    match first.strip_prefix("calls:") {
+        Some(sizes) => play_calls(alloc, sizes, row),
+        None => play_events(alloc, first, row),
+    }
 }
 
 fn main(rt: HostRuntime) -> io::Result<()> {

@@ -40,11 +40,13 @@ pub fn number(cell: &str) -> Result<u32, RowError> {
     cell.parse::<u32>().map_err(|_| RowError::Word)
 }
 
-fn moment(cell: &str) -> Result<Moment, RowError> {
+/// A moment by its milliseconds.
+pub fn moment(cell: &str) -> Result<Moment, RowError> {
     Ok(Moment(u64::from(number(cell)?) * 1_000_000))
 }
 
-fn path(alloc: Global, cell: &str) -> Result<FsPath, RowError> {
+/// The path of a cell.
+pub fn path(alloc: Global, cell: &str) -> Result<FsPath, RowError> {
     let mut names = Vec::new(alloc);
     for name in cell.split('/') {
         if !name.is_empty() {

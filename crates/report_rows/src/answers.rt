@@ -1,10 +1,10 @@
 //! What each call answers, in words.
 //!
 //! The reading calls are `calendar TREE`, `addresses TREE`, and, of a text, `is-calendar`, `is-vcard`, `calendar-uid`,
-//! `vcard-uid` and `vcard-fn`. `making.rt` and `locks.rt` have the others.
+//! `vcard-uid` and `vcard-fn`. `making.rt`, `values.rt`, `levels.rt` and `locks.rt` have the others.
 
 use crate::texts::{read, tell, tell_maybe, word};
-use crate::{filters, locks, making, trees};
+use crate::{filters, levels, locks, making, trees, values};
 use dav_io::{NoMemory, Text};
 use dav_report::*;
 use std::alloc::Global;
@@ -17,9 +17,13 @@ pub fn answer(alloc: Global, row: &str) -> Result<String, NoMemory> {
         "addresses" => addresses(alloc, &mut line, row)?,
         "lock" => locks::lock(alloc, &mut line, row)?,
         "refresh" => locks::refresh(alloc, &mut line, row)?,
+        "let-go" => locks::let_go(alloc, &mut line, row)?,
+        "copy-levels" => levels::tell_copy(alloc, &mut line, row)?,
+        "filter-levels" => levels::tell_filter(alloc, &mut line, row)?,
         _ => {
             content(alloc, &mut line, row)?;
             making::make(alloc, &mut line, row)?;
+            values::make(alloc, &mut line, row)?;
         }
     }
     Ok(line)

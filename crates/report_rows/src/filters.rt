@@ -37,7 +37,8 @@ fn tell_maybe_range(line: &mut String, range: &Option<TimeRange>) -> Result<(), 
     }
 }
 
-fn tell_match(line: &mut String, asked: &Option<TextMatch>) -> Result<(), NoMemory> {
+/// Adds a comparison, where there is one.
+pub fn tell_match(line: &mut String, asked: &Option<TextMatch>) -> Result<(), NoMemory> {
     let asked = match asked {
         Some(asked) => asked,
         None => return Ok(()),

@@ -1,10 +1,11 @@
 //! Locks as `FakeLs` gives them: `lock SECONDS NANOSECONDS DEPTH SCOPE NOW` and `refresh TOKEN`. A lease of `-` seconds is
-//! none, a depth of `I` is deep, a scope of `S` is shared, and the moment is in nanoseconds.
+//! none, a depth of `I` is deep, a scope of `S` is shared, and the moment is in nanoseconds. `let-go PATH TOKEN` prints what
+//! the other calls answer.
 
 use crate::texts::{tell, word};
 use dav_core::DavPath;
 use dav_io::{Moment, NoMemory};
-use dav_lock::{DavLock, DavLockSystem, FakeLs, Lease};
+use dav_lock::{DavLock, DavLockSystem, FakeLs, Lease, LockError};
 use std::alloc::Global;
 use uuid::Uuid;
 
@@ -60,6 +61,38 @@ pub fn refresh(alloc: Global, line: &mut String, row: &str) -> Result<(), NoMemo
         Some(lock) => tell_lock(line, &lock),
         None => Ok(()),
     }
+}
+
+/// Adds what the calls answer that give no lock: those that let a lock go, the check of a path, and how many are found.
+pub fn let_go(alloc: Global, line: &mut String, row: &str) -> Result<(), NoMemory> {
+    let path = match DavPath::new(alloc, word(row, 1)) {
+        Ok(path) => path,
+        Err(_) => return Ok(()),
+    };
+    let locks = FakeLs::new();
+    tell_answer(line, "unlock", locks.unlock(&path, word(row, 2)))?;
+    tell_answer(line, " check", locks.check(&path, None, false, true, &[]))?;
+    tell_answer(line, " delete", locks.delete(&path))?;
+    match locks.discover(alloc, &path) {
+        Ok(found) => {
+            let count = found.try_clone()?.as_slice().len();
+            write!(line, " found {count}")?;
+            Ok(())
+        }
+        Err(_) => tell(line, "", " refused"),
+    }
+}
+
+fn tell_answer(
+    line: &mut String,
+    call: &str,
+    answer: Result<(), LockError>,
+) -> Result<(), NoMemory> {
+    tell(
+        line,
+        call,
+        if answer.is_ok() { " done" } else { " refused" },
+    )
 }
 
 fn tell_lock(line: &mut String, lock: &DavLock) -> Result<(), NoMemory> {

@@ -7,10 +7,12 @@
 
 mod answers;
 mod filters;
+mod levels;
 mod locks;
 mod making;
 mod texts;
 mod trees;
+mod values;
 
 use std::io;
 

@@ -4,28 +4,42 @@
 //! A row is a word and cells, with a blank between them. In a cell each `%XX` is a byte, and `N*TEXT` is so many copies of
 //! a text.
 //!
-//!     input MOST CELL..                         the requests of the bytes, which come so many a call, and how they end
+//!     input MOST,CALL.. CELL..                  the requests of the bytes, which come so many a call, and how they end; the
+//!                                               calls of the numbers fail
 //!     head STATUS ENDS FRAMING NAME:VALUE..     the head of an answer; ENDS is `closes` or `stays`
 //!     framing TAKES STATUS NAME:VALUE..         how the body of an answer is written; TAKES is `chunks` or `plain`
 //!     body FRAMING CELL..                       the bytes of a body of these pieces; FRAMING is `chunked` or `raw`
 //!     refusal                                   what answers a request that can't be read
+//!     says NAME:VALUE..                         whether an answer says itself that it closes
+//!     room ROOM MOST FRAMING CELL..             as `body`, into so much room by so many bytes a call, and whether all went
+//!     push ROOM MOST CELL..                     what reaches such a sink of these bytes
+//!     asked MOST CELL..                         what reaches a sink before the source is asked; four bytes wait each time
+//!     source MOST,CALL.. BYTES                  what a source gives (`outside.rt`, also for the rows below)
+//!     sink MOST,CALL.. ROOM
+//!     clock MOMENT MOMENT
+//!     texts TEXT TEXT
+//!     octets BYTES BYTES
+//!     fields NAME:VALUE..
+//!     errors
 //!     #                                         is written as it stands
 #![tactic(auto)]
 
 mod cells;
+mod outside;
 mod requests;
+mod sending;
 
 use anyhow::Result;
 use cells::{bytes_of, fields_of, shown};
 use dav_io::MemSink;
-use dav_wire::{Framing, Output, answer_head, bad_request_text, framing};
+use dav_wire::{Framing, Output, answer_head, bad_request_text, framing, says_close};
 use requests::requests;
 use std::alloc::Global;
 
 // Room for what a row writes.
 const ROOM: usize = 100_000;
 
-fn framing_of(cell: &str) -> Framing {
+pub fn framing_of(cell: &str) -> Framing {
     if cell == "chunked" {
         Framing::Chunked
     } else {
@@ -68,6 +82,11 @@ fn body(alloc: Global, row: &str) -> Result<String> {
     shown(alloc, sink.written())
 }
 
+fn says(alloc: Global, row: &str) -> Result<String> {
+    let closes = says_close(&fields_of(alloc, row, 1)?);
+    Ok(String::from_str(alloc, if closes { "closes" } else { "stays" })?)
+}
+
 fn answer(alloc: Global, row: &str) -> Result<String> {
     match row.split(' ').next().unwrap_or("") {
         "input" => requests(alloc, row),
@@ -75,6 +94,17 @@ fn answer(alloc: Global, row: &str) -> Result<String> {
         "framing" => way(alloc, row),
         "body" => body(alloc, row),
         "refusal" => shown(alloc, bad_request_text()),
+        "says" => says(alloc, row),
+        "room" => sending::room(alloc, row),
+        "push" => sending::push(alloc, row),
+        "asked" => sending::asked(alloc, row),
+        "source" => outside::source(alloc, row),
+        "sink" => outside::sink(alloc, row),
+        "clock" => outside::clock(alloc, row),
+        "texts" => outside::texts(alloc, row),
+        "octets" => outside::octets(alloc, row),
+        "fields" => outside::fields(alloc, row),
+        "errors" => outside::errors(alloc),
         _ => Ok(String::from_str(alloc, row)?),
     }
 }

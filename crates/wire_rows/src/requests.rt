@@ -1,5 +1,6 @@
 //! Requests of an input, one after the other.
 use crate::cells::{add_cell, show};
+use crate::outside::numbers;
 use anyhow::Result;
 use dav_io::{MemSource, Octets};
 use dav_wire::{Found, Input, ReadError, asks_close, into_request, is_old, takes_chunks};
@@ -110,17 +111,12 @@ fn show_request(alloc: Global, line: &mut String, parts: Parts) -> Result<()> {
 
 // The requests of the bytes of a row, and how they end.
 pub fn requests(alloc: Global, row: &str) -> Result<String> {
-    let most = row
-        .split(' ')
-        .nth(1)
-        .unwrap_or("")
-        .parse::<usize>()
-        .unwrap_or(1);
+    let (most, calls) = numbers(alloc, row.split(' ').nth(1).unwrap_or(""))?;
     let mut bytes = Vec::new(alloc);
     for cell in row.split(' ').skip(2) {
         add_cell(&mut bytes, cell)?;
     }
-    let mut source = MemSource::new(Octets::new(bytes), most.max(1), Vec::new(alloc));
+    let mut source = MemSource::new(Octets::new(bytes), most.max(1), calls);
     let mut input = Input::new(alloc)?;
     let mut line = String::new(alloc);
     for _ in 0..99 {
