@@ -1,9 +1,11 @@
 -- Hexadecimal digits, the last one apart.
-use Rattle.std.proofs.Common.{◌≡◌, ℕ, zero, suc, ◌/◌, ◌%◌, ◌^◌, ◌<◌, ◌≤◌, cond, false, ◌≢◌, List, [], ◌∷◌, ◌++◌, length, length-append, Option, None, Some, MatchOption, refl, sym, ap, ◌∙◌, ⊎_elim, append_assoc, eq-eqb, ne_eqb, arith}
-use Rattle.std.proofs.lemmas.Bool.{cases_lt as order}
+use Rattle.std.proofs.Common.{◌≡◌, ℕ, zero, suc, ◌+◌, ◌-◌, ◌/◌, ◌%◌, ◌^◌, ◌<◌, ◌≤◌, ltb, cond, false, ◌≢◌, List, [], ◌∷◌, ◌++◌, length, drop, slice_set, length-append, Option, None, Some, MatchOption, refl, sym, ap, ◌∙◌, ⊎_elim, append_assoc, eq-eqb, ne_eqb, arith}
+use Rattle.std.proofs.lemmas.Bool.{cases_lt as order, le-ltb, lt-ltb}
 use Rattle.std.proofs.lemmas.List.{append_cancel_right}
 use Rattle.std.specs.Fmt.{digit_glyph, digits_onto, digits}
 use Rattle.std.specs.Borrow.{Bor}
+use Rattle.std.proofs.lemmas.Grind.{common_steps, drop-set_at}
+use Rattle.std.proofs.Math.Nat.{pow-suc}
 use Rattle.dav_core.specs.Ends.{EndsOtherwise}
 use Rattle.dav_core.specs.Info.{hex}
 
@@ -108,3 +110,53 @@ other_dash text rest front end last b parts snoc other f e =
 pub whole_by_front : (text front start end : List ℕ) → text ≡ front ++ end → ((text ≡ start ++ end) → front ≡ start) × ((front ≡ start) → text ≡ start ++ end)
 whole_by_front text front start end parts =
     ((λ e. append_cancel_right front start end (sym parts ∙ e)), (λ e. parts ∙ ap (λ x. x ++ end) e))
+
+-- digits from the last one on
+
+-- the digits of a number before its last
+abbrev pub front : ℕ → List ℕ
+front n = cond (ltb n 16) [] (hex (n / 16))
+
+pub front_short : (n : ℕ) → n < 16 → front n ≡ []
+front_short n h = ap (λ b. cond b [] (hex (n / 16))) (lt-ltb n 16 h)
+
+front_long : (n : ℕ) → 16 ≤ n → front n ≡ hex (n / 16)
+front_long n h = ap (λ b. cond b [] (hex (n / 16))) (le-ltb n 16 h)
+
+pub front_last : (n : ℕ) → n < 2 ^ 64 → hex n ≡ front n ++ (last_digit n ∷ [])
+front_last n small = ⊎_elim
+    (λ l. hex_one n l ∙ ap (λ x. x ++ (last_digit n ∷ [])) (sym (front_short n l)))
+    (λ l. hex_more n l small ∙ ap (λ x. x ++ (last_digit n ∷ [])) (sym (front_long n l)))
+    (order n 16)
+
+-- one digit more is written
+pub front_moves : (n : ℕ) (digits behind : List ℕ) → 16 ≤ n → n < 2 ^ 64 → digits ≡ front n ++ behind → digits ≡ front (n / 16) ++ (last_digit (n / 16) ∷ behind)
+front_moves n digits behind large small e =
+    e ∙ ap (λ x. x ++ behind) (front_long n large ∙ front_last (n / 16) (omega arith)) ∙ append_assoc (front (n / 16)) (last_digit (n / 16) ∷ []) behind
+
+-- a number of two digits or more has a place before its last
+pub some_left : (at n : ℕ) → n < 16 ^ suc at → 16 ≤ n → 0 < at
+some_left zero n h large = absurd (omega arith)
+some_left (suc at) n h large = omega arith
+
+pub one_fewer : (at n : ℕ) → n < 16 ^ suc at → 16 ≤ n → n / 16 < 16 ^ suc (at - 1)
+one_fewer zero n h large = absurd (omega arith)
+one_fewer (suc at) n h large =
+    let same : suc at - 1 ≡ at = omega arith in
+    rw same (omega (arith, h, pow-suc 16 (suc at)))
+
+-- the last digit is written
+pub first_written : (n : ℕ) (into : List ℕ) (d : ℕ) → length into ≡ 16 → n < 2 ^ 64 → d ≡ last_digit n → hex n ≡ front n ++ drop 15 (slice_set into 15 d)
+first_written n into d len small same =
+    let written : drop 15 (slice_set into 15 d) ≡ d ∷ drop 16 into = drop-set_at into 15 15 d refl (omega arith) in
+    let none : drop 16 into ≡ [] = grind (arith, common_steps) in
+    front_last n small ∙ ap (λ x. front n ++ x) (ap (λ b. b ∷ []) (sym same) ∙ sym (written ∙ ap (λ x. d ∷ x) none))
+
+-- the digit before those that are written
+pub next_written : (at n : ℕ) (digits into : List ℕ) (d : ℕ) → length into ≡ 16 → 0 < at → at < 16 → 16 ≤ n → n < 2 ^ 64 → digits ≡ front n ++ drop at into
+    → d ≡ last_digit (n / 16) → digits ≡ front (n / 16) ++ drop (at - 1) (slice_set into (at - 1) d)
+next_written at n digits into d len some within large small e same =
+    let written : drop (at - 1) (slice_set into (at - 1) d) ≡ d ∷ drop (at - 1 + 1) into = drop-set_at into (at - 1) (at - 1) d refl (omega arith) in
+    let next : at - 1 + 1 ≡ at = omega arith in
+    front_moves n digits (drop at into) large small e
+    ∙ ap (λ x. front (n / 16) ++ x) (ap (λ b. b ∷ drop at into) (sym same) ∙ sym (written ∙ ap (λ k. d ∷ drop k into) next))

@@ -16,3 +16,4 @@ pub mod RefusedLemmas
 pub mod UnchangedLemmas
 pub mod TablesLemmas
 pub mod LookLemmas
+pub mod HeldStays

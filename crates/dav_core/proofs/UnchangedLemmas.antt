@@ -14,15 +14,24 @@ use Rattle.dav_core.specs.Disk.{Live, DiskState, Metas, FileMetas, Opens, Opened
 use Rattle.dav_core.specs.Unchanged.{SameBesidesOpens, SameOpen, SameListing, KeepsBut, Keeps}
 
 pub same_besides : (w : World) → SameBesidesOpens w w
-same_besides w = record { tree = refl; files = refl; greatest = refl; latest = refl; script = refl }
+same_besides w = record { tree = refl; files = λ number held. (held, refl); greatest = refl; latest = refl; script = refl }
 
 pub same_besides_then : (a b c : World) → SameBesidesOpens a b → SameBesidesOpens b c → SameBesidesOpens a c
-same_besides_then a b c p q = record { tree = q.tree ∙ p.tree; files = q.files ∙ p.files; greatest = q.greatest ∙ p.greatest; latest = q.latest ∙ p.latest; script = q.script ∙ p.script }
+same_besides_then a b c p q = record {
+  tree = q.tree ∙ p.tree;
+  files = λ number held.
+      (let (mid, later) = q.files number held in
+      let (first, before) = p.files number mid in
+      (first, later ∙ before));
+  greatest = q.greatest ∙ p.greatest;
+  latest = q.latest ∙ p.latest;
+  script = q.script ∙ p.script;
+}
 
-same_open_then : (h : ℕ) (a b c : World) → SameOpen h a b → SameOpen h b c → SameOpen h a c
+pub same_open_then : (h : ℕ) (a b c : World) → SameOpen h a b → SameOpen h b c → SameOpen h a c
 same_open_then h a b c p q = q ∙ p
 
-same_listing_then : (n : ℕ) (a b c : World) → SameListing n a b → SameListing n b c → SameListing n a c
+pub same_listing_then : (n : ℕ) (a b c : World) → SameListing n a b → SameListing n b c → SameListing n a c
 same_listing_then n a b c p q = q ∙ p
 
 pub put_same : {A : Type 0} (k : ℕ) (a : A) (f : ℕ → A) → put k a f k ≡ a

@@ -13,7 +13,7 @@ use Rattle.dav_core.specs.declared.handle.DiskError.{DiskError}
 use Rattle.dav_core.specs.declared.handle.DiskError.TheVariants.{NotFound, Exists, NotDir, IsDir, NotEmpty, Failed, NoMemory}
 use Rattle.dav_core.specs.Path.{Names}
 use Rattle.dav_core.specs.Tree.{look, is_linked, is_file}
-use Rattle.dav_core.specs.World.{World, OpenFile, put, bytes_of, time_of}
+use Rattle.dav_core.specs.World.{World, OpenFile, Holds, SameHeld, put, bytes_of, time_of}
 use Rattle.dav_core.specs.Changes.{turned}
 
 -- what every disk knows of a live handle: what stands behind it, and how it was opened
@@ -91,9 +91,9 @@ at_start number = record { number = number; place = 0 }
 abbrev pub with_opens : World → (ℕ → Option OpenFile) → World
 with_opens w opens = record w { opens = opens }
 
--- What is opened is what stands at the path, at its first byte.
+-- What is opened is what stands at the path, at its first byte. Also behind a link it is a file that somebody holds.
 abbrev pub OpenedIn : Names → Result Handle DiskError → Option Kind → World → World → Type 0
-OpenedIn path (Ok h) kind v w = (number : ℕ) × (w ≡ with_opens v (put h.0 (Some (at_start number)) v.opens))
+OpenedIn path (Ok h) kind v w = (number : ℕ) × (w ≡ with_opens v (put h.0 (Some (at_start number)) v.opens)) × Holds v number
     × (is_linked v.tree path ≡ false → (row : Row) × (look v.tree path ≡ Ok row) × (row.number ≡ number) × (kind ≡ Some row.kind))
 OpenedIn path (Err e) kind v w = (w ≡ v) × (is_linked v.tree path ≡ false → Refused e (look v.tree path))
 
@@ -182,8 +182,9 @@ pub record Reads (old : DiskState) (h : ℕ) (buffer : List ℕ) (result : Resul
   pub live : new.live ≡ old.live
   pub told : Both old.told new.told (ReadIn old.whole h buffer result)
 
+-- The handle has nothing open. The bytes of a file that nobody holds then may be forgotten.
 abbrev pub ClosedIn : ℕ → World → World → Type 0
-ClosedIn h v w = w ≡ with_opens v (put h None v.opens)
+ClosedIn h v w = SameHeld (with_opens v (put h None v.opens)) w
 
 pub record Closes (old : DiskState) (h : ℕ) (new : DiskState) : Type 0 where
   pub counts : new.faults ≡ old.faults
@@ -193,8 +194,9 @@ pub record Closes (old : DiskState) (h : ℕ) (new : DiskState) : Type 0 where
   pub live : new.live ≡ put h None old.live
   pub told : Both old.told new.told (ClosedIn h)
 
+-- The next batch is made. The bytes of a file that nobody holds then may be forgotten.
 abbrev pub TurnedIn : {E : Type 0} → Result Unit E → World → World → Type 0
-TurnedIn (Ok x) v w = w ≡ turned v
+TurnedIn (Ok x) v w = SameHeld (turned v) w
 TurnedIn (Err e) v w = w ≡ v
 
 pub record Turns {E : Type 0} (old : DiskState) (result : Result Unit E) (new : DiskState) : Type 0 where

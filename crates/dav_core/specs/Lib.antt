@@ -10,6 +10,7 @@ pub mod Listing
 pub mod Unchanged
 pub mod DavPath
 pub mod Info
+pub mod Members
 pub mod Ends
 pub mod ContentTypes
 pub mod Grammar

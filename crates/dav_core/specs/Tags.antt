@@ -26,6 +26,11 @@ abbrev pub HasTagBytes : Option (List ℕ) → Type 0
 HasTagBytes None = Unit {0}
 HasTagBytes (Some text) = IsTagText text
 
+-- Behind the bytes before there is the text of a tag, where there is one, and that is told.
+abbrev pub AppendsTag : Option (List ℕ) → List ℕ → List ℕ → Bool → Type 0
+AppendsTag None before after there = (there ≡ false) × (after ≡ before)
+AppendsTag (Some text) before after there = (there ≡ true) × (after ≡ before ++ text)
+
 -- a tag as a field writes it
 abbrev pub spelled : ETag → List ℕ
 spelled tag = weak_mark tag.weak ++ (34 ∷ (tag.tag ++ 34 ∷ []))

@@ -1,11 +1,12 @@
 -- All that a disk may tell of itself.
-use Rattle.std.specs.Prelude.{◌≡◌, ◌<◌, ◌≤◌, ◌≤ℤ◌, ◌==◌, ℕ, List, All, [], length, cond, true, Option, None, Some, slice_index_or}
+use Rattle.std.specs.Prelude.{◌≡◌, ◌<◌, ◌≤◌, ◌≤ℤ◌, ◌==◌, ◌⊎◌, ℕ, List, Bool, All, [], length, cond, true, Option, None, Some, slice_index_or}
+use Rattle.std.specs.List.{list_any}
 use Rattle.std.specs.Option.{option_map}
 use Rattle.dav_core.specs.declared.tree.Row.{Row}
 use Rattle.dav_core.specs.declared.tree.Kind.TheVariants.{File}
 use Rattle.dav_core.specs.declared.time.FileTime.{FileTime}
 use Rattle.dav_core.specs.declared.change.Change.{Change}
-use Rattle.dav_core.specs.Path.{Names}
+use Rattle.dav_core.specs.Path.{Names, all_plain}
 use Rattle.dav_core.specs.Tree.{is_tree}
 
 -- the bytes of a file, and the time of its last change
@@ -20,7 +21,7 @@ pub record OpenFile : Type 0 where
 
 pub record World : Type 0 where
   pub tree : List Row
-  -- The files by their numbers. A file that was removed stays here: its number is never given again.
+  -- The files by their numbers, which are never given again. One that was removed stays as long as it is open, and may stay.
   pub files : ℕ → Option Stored
   -- the open files by their handles
   pub opens : ℕ → Option OpenFile
@@ -52,6 +53,19 @@ time_of w number = option_map (λ s. s.time) (w.files number)
 abbrev pub number_of : World → ℕ → Option ℕ
 number_of w h = option_map (λ o. o.number) (w.opens h)
 
+-- a row has the number
+abbrev pub is_numbered : List Row → ℕ → Bool
+is_numbered tree number = list_any (λ row. number == row.number) tree
+
+-- A row of the tree or an open file has the number.
+abbrev pub Holds : World → ℕ → Type 0
+Holds w number = (is_numbered w.tree number ≡ true) ⊎ ((h : ℕ) × (number_of w h ≡ Some number))
+
+-- The same world, but that bytes and times of files that nobody holds may be others, or none.
+pub record SameHeld (v w : World) : Type 0 where
+  pub same : w ≡ record v { files = w.files }
+  pub files : (number : ℕ) → Holds w number → w.files number ≡ v.files number
+
 -- a time doesn't stand after another
 abbrev pub NotAfter : FileTime → FileTime → Type 0
 NotAfter a b = (a.secs ≤ℤ b.secs) × (a.secs ≡ b.secs → a.nanos ≤ b.nanos)
@@ -70,10 +84,18 @@ pub record AreGiven (tree : List Row) (stored : ℕ → Option Stored) (open_at 
   pub opens : (h : ℕ) (o : OpenFile) → open_at h ≡ Some o → o.number ≤ greatest
   pub nanos : latest.nanos < 1000000000
 
--- What holds of every world that is told: its rows are a tree, each file of the tree is stored with its row's time, and
--- the greatest number and the latest time bound all.
+-- Each name of a row's path is plain.
+abbrev pub IsPlain : Row → Type 0
+IsPlain row = all_plain row.path ≡ true
+
+abbrev pub ArePlain : List Row → Type 0
+ArePlain tree = All IsPlain tree
+
+-- What holds of every world that is told: its rows are a tree, whose names are plain, each file of the tree is stored
+-- with its row's time, and the greatest number and the latest time bound all.
 pub record IsWorld (w : World) : Type 0 where
   pub tree : is_tree w.tree ≡ true
+  pub plain : ArePlain w.tree
   pub stored : (k : ℕ) (d : Row) → k < length w.tree → (slice_index_or w.tree k d).kind ≡ File
       → time_of w (slice_index_or w.tree k d).number ≡ Some (slice_index_or w.tree k d).time
   pub given : AreGiven w.tree w.files w.opens w.greatest w.latest

@@ -1,8 +1,5 @@
-ghost use Rattle.std.specs.Prelude.{◌≡◌};
-
 use crate::FsPath;
-use dav_io::Octets;
-use std::marker::Model;
+use dav_io::{Items, Octets};
 
 /// A change of a told disk from outside. One that the tree doesn't allow is skipped.
 #[derive(Drop)]
@@ -19,31 +16,5 @@ pub enum Change {
     Rename(FsPath, FsPath),
 }
 
-/// Changes that are made together. A contract sees them as their list.
-#[derive(Drop)]
-pub struct Batch {
-    changes: Vec<Change>,
-}
-
-impl Model for Batch {
-    ghost use Rattle.std.specs.Prelude.{List};
-    ghost use Rattle.dav_core.specs.declared.change.Change.{Change};
-
-    ghost Value = { List Change };
-
-    ghost view = { λ b. b.changes.items };
-}
-
-impl Batch {
-    pub fn new(changes: Vec<Change>) -> Self
-        ensures { result ≡ changes.items }
-    {
-        Batch { changes }
-    }
-
-    pub fn as_slice(&self) -> &[Change]
-        ensures { result.now ≡ self.now }
-    {
-        self.changes.as_slice()
-    }
-}
+/// Changes that are made together.
+pub type Batch = Items<Change>;

@@ -96,6 +96,13 @@ impl DavPath {
         &self.names
     }
 
+    /// The names of the prefix.
+    pub fn prefix(&self) -> &FsPath
+        ensures { result.now ≡ self.now.prefix }
+    {
+        &self.prefix
+    }
+
     /// Whether it ends with a slash.
     pub fn is_collection(&self) -> bool
         ensures { result ≡ self.now.slash }

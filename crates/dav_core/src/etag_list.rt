@@ -4,38 +4,11 @@ ghost use Rattle.dav_core.specs.TagReading as reading;
 ghost use Rattle.dav_core.specs.Commas.{comma_place, Adds};
 
 use crate::{ETag, trimmed};
-use dav_io::NoMemory;
+use dav_io::{Items, NoMemory};
 use std::alloc::Global;
-use std::marker::Model;
 
-/// Entity tags in their order. A contract sees them as their list.
-#[derive(Drop)]
-pub struct Tags {
-    tags: Vec<ETag>,
-}
-
-impl Model for Tags {
-    ghost use Rattle.std.specs.Prelude.{List};
-    ghost use Rattle.dav_core.specs.declared.etag.ETag.{ETag};
-
-    ghost Value = { List ETag };
-
-    ghost view = { λ t. t.tags.items };
-}
-
-impl Tags {
-    pub fn new(tags: Vec<ETag>) -> Self
-        ensures { result ≡ tags.items }
-    {
-        Tags { tags }
-    }
-
-    pub fn as_slice(&self) -> &[ETag]
-        ensures { result.now ≡ self.now }
-    {
-        self.tags.as_slice()
-    }
-}
+/// Entity tags in their order.
+pub type Tags = Items<ETag>;
 
 /// The value of a field `if-match` or `if-none-match`.
 #[derive(Drop)]

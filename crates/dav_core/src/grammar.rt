@@ -163,7 +163,7 @@ fn decoded(alloc: Global, segment: &[u8]) -> Result<Text, ParseError>
     ensures ok { IfOk result (λ name. grammar.decoded segment.now ≡ Ok name) }
     ensures err { IfErr result (λ e. e ≢ ParseError.NoMemory → grammar.decoded segment.now ≡ Err e) }
 {
-    let mut bytes = Vec::new(alloc);
+    let mut bytes = Vec::with_capacity(alloc, segment.len())?;
     percent_decode(segment).append_to(&mut bytes)?;
     name_of(bytes)
 }

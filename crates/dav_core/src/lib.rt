@@ -16,6 +16,7 @@ mod grammar;
 mod handle;
 mod if_range;
 pub mod laws;
+mod member;
 mod meta;
 mod method;
 mod names;
@@ -41,6 +42,7 @@ pub use etag::ETag;
 pub use etag_list::{EtagList, Tags};
 pub use handle::{DiskError, Handle, Lister, Meta, OpenOptions};
 pub use if_range::{IfRange, date_secs};
+pub use member::Member;
 pub use meta::DavMetaData;
 pub use method::{DavMethod, DavMethodSet, dav_method};
 pub use parse_error::ParseError;
@@ -48,8 +50,4 @@ pub use path::FsPath;
 pub use plain_name::is_plain;
 pub use time::FileTime;
 pub use tree::{Kind, Row, Tree, has_dir, row_at};
-
-#[cfg(test)]
-mod tag_tests;
-#[cfg(test)]
-mod tests;
+pub use url::link_of;

@@ -1,5 +1,5 @@
 // The path that a text gives.
-ghost use Rattle.std.specs.Prelude.{◌≡◌, ◌≢◌, ◌||◌, ◌==◌, IfOk, IfErr, Ok, Err, map, option_map, true, take, drop, length};
+ghost use Rattle.std.specs.Prelude.{◌≡◌, ◌≢◌, ◌||◌, ◌==◌, ◌≤◌, IfOk, IfErr, Ok, Err, map, option_map, true, take, drop, length};
 ghost use Rattle.dav_core.specs.Grammar as grammar;
 ghost use Rattle.dav_core.specs.Path.{all_plain, is_dots as the_is_dots};
 
@@ -7,7 +7,7 @@ use crate::grammar::{before_query, is_readable, names_in, segments};
 use crate::plain_name::is_dots;
 use crate::prefix::{begins_with, prefix_names};
 use crate::{DavPath, FsPath, ParseError};
-use dav_io::Text;
+use dav_io::{NoMemory, Text};
 use std::alloc::Global;
 
 // Whether a segment at a text's end gives a path a final slash.
@@ -33,12 +33,24 @@ fn has_slash(segments: &[&[u8]], names: &[Text]) -> bool
     }
 }
 
+// The names behind so many. Where that is all of them they aren't moved.
+fn behind(mut names: Vec<Text>, count: usize) -> Result<Vec<Text>, NoMemory>
+    requires { count ≤ length names.items }
+    ensures { IfOk result (λ rest. rest.items ≡ drop count names.items) }
+{
+    if count == 0 {
+        return Ok(names);
+    }
+    let rest = names.split_off(count)?;
+    Ok(rest)
+}
+
 // The path of all names, the prefix's first.
 fn placed(
     alloc: Global,
     segments: &[&[u8]],
     prefix: Vec<Text>,
-    mut all: Vec<Text>,
+    all: Vec<Text>,
 ) -> Result<DavPath, ParseError>
     requires { all_plain all.items ≡ true }
     ensures ok { IfOk result (λ path. grammar.placed (map (λ s. s.now) segments.now) prefix.items all.items ≡ Ok path) }
@@ -48,7 +60,7 @@ fn placed(
     if !begins_with(all.as_slice(), prefix.as_slice()) {
         return Err(ParseError::PrefixMismatch);
     }
-    let names = all.split_off(prefix.len())?;
+    let names = behind(all, prefix.len())?;
     let slash = has_slash(segments, names.as_slice());
     Ok(DavPath::of_parts(alloc, FsPath::new(prefix), FsPath::new(names), slash))
 }

@@ -1,12 +1,13 @@
-ghost use Rattle.std.specs.Prelude.{◌≡◌, ◌↔◌, ◌∷◌, ◌==◌, IfOk, IsTrue, true, nat_eq};
+ghost use Rattle.std.specs.Prelude.{◌≡◌, ◌↔◌, ◌++◌, ◌∷◌, [], ◌==◌, IfOk, IsTrue, true, nat_eq};
 ghost use Rattle.std.specs.Hash as fed;
 ghost use Rattle.std.specs.Hash.{items_Alike};
 ghost use Rattle.std.specs.Cmp.Lexicographic.{pointwise, lists_equiv, nat_list_eq_equiv};
 ghost use Rattle.std.specs.Cmp.{partial_equiv_from_equiv};
 ghost use Rattle.std.specs.Cmp.Rules.{hashing};
 ghost use Rattle.std.proofs.Common.{rules};
-ghost use Rattle.dav_core.specs.Path.{all_plain};
+ghost use Rattle.dav_core.specs.Path.{all_plain, is_plain as is_plain_name};
 
+use crate::names::copied;
 use crate::plain_name::is_plain;
 use dav_io::{NoMemory, Text};
 use std::alloc::Global;
@@ -54,8 +55,25 @@ impl FsPath {
         self.names.as_slice()
     }
 
+    /// What its memory is taken from.
+    pub fn allocator(&self) -> Global {
+        *self.names.allocator()
+    }
+
+    /// The path of the member with this plain name in the directory at this path.
+    pub fn child(&self, name: &str) -> Result<Self, NoMemory>
+        requires { is_plain_name name.now ≡ true }
+        ensures { IfOk result (λ path. path ≡ self.now ++ name.now ∷ []) }
+    {
+        let alloc = self.allocator();
+        let mut names = copied(alloc, self.as_slice())?;
+        names.push(Text::copy(alloc, name)?)?;
+        Ok(FsPath::new(names))
+    }
+
     pub fn try_clone(&self) -> Result<Self, NoMemory>
-        ensures { IfOk result (λ copy. copy ≡ self.now) }
+        ensures copy { IfOk result (λ copy. copy ≡ self.now) }
+        ensures plain { all_plain self.now ≡ true }
     {
         let alloc: Global = *self.names.allocator();
         let mut copy = Vec::new(alloc);

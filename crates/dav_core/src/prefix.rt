@@ -33,6 +33,9 @@ fn segments(alloc: Global, prefix: &str) -> Result<Vec<&str>, NoMemory>
 pub fn prefix_names(alloc: Global, prefix: &str) -> Result<Vec<Text>, NoMemory>
     ensures { IfOk result (λ names. names.items ≡ grammar.prefix_names prefix.now) }
 {
+    if prefix.is_empty() {
+        return Ok(Vec::new(alloc));
+    }
     let all = segments(alloc, prefix)?;
     let mut names = Vec::new(alloc);
     for segment in all.as_slice() {

@@ -1,5 +1,5 @@
 // The text of the entity tag of a disk's metadata: written where memory is had, compared where none is.
-ghost use Rattle.std.specs.Prelude.{◌≡◌, ◌↔◌, ◌++◌, ◌<◌, true, false, IfOk, IsTrue, MatchOption, codes, length};
+ghost use Rattle.std.specs.Prelude.{◌≡◌, ◌↔◌, ◌++◌, ◌<◌, ◌≤◌, true, false, IfOk, IsTrue, MatchOption, OnOk, codes, drop, length};
 ghost use Rattle.std.specs.Fmt.{digit_glyph};
 ghost use Rattle.dav_core.specs.Ends.{EndsOtherwise};
 ghost use Rattle.dav_core.specs.Info.{hex, micros as the_micros, tag_at, is_in_years};
@@ -7,6 +7,9 @@ ghost use Rattle.dav_core.specs.Info.{hex, micros as the_micros, tag_at, is_in_y
 use crate::{FileTime, Kind, Meta};
 use dav_io::{NoMemory, Text};
 use std::alloc::Global;
+
+// The most digits of a number of 64 bits.
+const MOST_DIGITS: usize = 16;
 
 // Whole microseconds since 1970.
 fn micros(time: FileTime) -> u64
@@ -38,6 +41,53 @@ fn digit(n: u64) -> u8
     } else {
         b'a' + (n - 10) as u8
     }
+}
+
+// Writes the digits of a number at the end of an array, and answers where they begin.
+fn put_digits(into: &mut [u8; MOST_DIGITS], number: u64) -> usize
+    ensures begins { result ≤ 16 }
+    ensures digits { drop result into.new ≡ hex number }
+{
+    let mut at = MOST_DIGITS - 1;
+    let mut rest = number;
+    into[at] = digit(rest % 16);
+    while rest >= 16 {
+        rest /= 16;
+        at -= 1;
+        into[at] = digit(rest % 16);
+    }
+    at
+}
+
+// Appends the digits of a number.
+fn push_digits(text: &mut Vec<u8>, number: u64) -> Result<(), NoMemory>
+    ensures { OnOk result (text.new.items ≡ text.old.items ++ hex number) }
+{
+    let mut digits = [0; MOST_DIGITS];
+    let at = put_digits(&mut digits, number);
+    text.extend_from_slice(&digits[at..])?;
+    Ok(())
+}
+
+// Appends a dash and the digits of a number.
+fn push_part(text: &mut Vec<u8>, number: u64) -> Result<(), NoMemory>
+    ensures { OnOk result (text.new.items ≡ text.old.items ++ (codes "-" ++ hex number)) }
+{
+    text.push(b'-')?;
+    push_digits(text, number)
+}
+
+// Appends the text of the tag at a known time.
+pub fn push_text(text: &mut Vec<u8>, meta: &Meta, time: FileTime) -> Result<(), NoMemory>
+    requires { is_in_years time.secs ≡ true }
+    ensures { OnOk result (text.new.items ≡ text.old.items
+        ++ tag_at meta.now.kind meta.now.number meta.now.len time) }
+{
+    push_digits(text, meta.number)?;
+    if meta.kind == Kind::File {
+        push_part(text, meta.len)?;
+    }
+    push_part(text, micros(time))
 }
 
 // What stands before the digits of a number at the end of a text.

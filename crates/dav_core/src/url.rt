@@ -16,7 +16,8 @@ const LINK: AsciiSet = ascii_set!(
         .remove(b'/')
 );
 
-// The link of a text.
+/// The link to a path's text: every byte but ASCII letters, digits and `-._~/` is `%` and two upper-case hexadecimal
+/// digits.
 pub fn link_of(alloc: Global, text: &str) -> Result<Text, NoMemory>
     ensures { IfOk result (λ link. link ≡ the_link_of text.now) }
 {

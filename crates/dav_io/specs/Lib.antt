@@ -4,3 +4,5 @@ pub mod Outside
 pub mod Sure
 pub mod Appending
 pub mod Schedules
+pub mod FieldNames
+pub mod Texts

@@ -5,8 +5,9 @@ ghost use Rattle.std.specs.Cmp.Lexicographic.{pointwise, slice_cmp, nat_list_eq_
 ghost use Rattle.std.specs.Cmp.{partial_equiv_from_equiv};
 ghost use Rattle.std.specs.Cmp.Rules.{hashing};
 ghost use Rattle.std.proofs.Common.{rules};
+ghost use Rattle.dav_io.specs.FieldNames.{spelled};
 
-use crate::NoMemory;
+use crate::{FieldName, NoMemory};
 use std::alloc::Global;
 use std::cmp::Ordering;
 use std::hash::{Hash, Hasher};
@@ -15,15 +16,25 @@ use std::marker::Model;
 /// A text. A contract sees it as the list of its bytes, and texts are ordered by these.
 #[derive(Drop)]
 pub struct Text {
-    text: String,
+    characters: Characters,
+}
+
+// Where the characters of a text stand.
+#[derive(Drop)]
+enum Characters {
+    // In memory of its own.
+    Own(String),
+    // In the program.
+    Known(FieldName),
 }
 
 impl Model for Text {
-    ghost use Rattle.std.specs.Prelude.{ℕ, List, string_bytes};
+    ghost use Rattle.std.specs.Prelude.{ℕ, List};
+    ghost use Rattle.dav_io.specs.Texts.{bytes_of};
 
     ghost Value = { List ℕ };
 
-    ghost view = { λ t. string_bytes t.text };
+    ghost view = { λ t. bytes_of t.characters };
 }
 
 impl Text {
@@ -31,16 +42,25 @@ impl Text {
     pub fn new(text: String) -> Self
         ensures { result ≡ string_bytes text }
     {
-        Text { text }
+        Text {
+            characters: Characters::Own(text),
+        }
+    }
+
+    /// A name that is part of the program. It takes no memory.
+    pub fn known(name: FieldName) -> Self
+        ensures { result ≡ spelled name }
+    {
+        Text {
+            characters: Characters::Known(name),
+        }
     }
 
     /// A copy of these characters.
     pub fn copy(alloc: Global, text: &str) -> Result<Self, NoMemory>
         ensures { IfOk result (λ copy. copy ≡ text.now) }
     {
-        Ok(Text {
-            text: String::from_str(alloc, text)?,
-        })
+        Ok(Text::new(String::from_str(alloc, text)?))
     }
 
     /// Its characters.
@@ -48,7 +68,10 @@ impl Text {
         ensures value { result.now ≡ self.now }
         ensures utf8 { IsUtf8 self.now }
     {
-        self.text.as_str()
+        match &self.characters {
+            Characters::Own(text) => text.as_str(),
+            Characters::Known(name) => name.as_str(),
+        }
     }
 
     /// Its bytes in UTF-8.
@@ -63,9 +86,10 @@ impl Text {
     pub fn try_clone(&self) -> Result<Self, NoMemory>
         ensures { IfOk result (λ copy. copy ≡ self.now) }
     {
-        Ok(Text {
-            text: self.text.clone()?,
-        })
+        match &self.characters {
+            Characters::Own(text) => Ok(Text::new(text.clone()?)),
+            Characters::Known(name) => Ok(Text::known(*name)),
+        }
     }
 }
 

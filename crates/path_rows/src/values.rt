@@ -183,7 +183,8 @@ fn status(alloc: Global, word: &str) -> Result<String> {
 fn time(alloc: Global, time: Result<FileTime, FsError>) -> Result<String> {
     match time {
         Ok(time) => Ok(format!(in alloc; "{}.{}", time.secs, time.nanos)?),
-        Err(_) => said(alloc, "unknown"),
+        Err(FsError::NotImplemented) => said(alloc, "unknown"),
+        Err(_) => said(alloc, "fault"),
     }
 }
 
@@ -233,7 +234,7 @@ fn meta(alloc: Global, kind: &str, cells: &str) -> Result<String> {
     let accessed = time(alloc, meta.accessed())?;
     let changed = time(alloc, meta.status_changed())?;
     let (dir, file, link) = (meta.is_dir(), meta.is_file(), meta.is_symlink());
-    let exec = meta.executable().is_ok();
+    let exec = meta.executable() == Ok(true);
     let len = meta.len();
     let tag = tag_of(alloc, &meta)?;
     Ok(format!(in alloc;

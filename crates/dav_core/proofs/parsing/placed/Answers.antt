@@ -9,4 +9,4 @@ new-requires c =
     front_plain c.args.prefix.items c.args.all.items begins c.requires
 
 pub new-requires-2 : goal.new-requires-2
-new-requires-2 c = ap all_plain c.in_ok-names.ensures.tail ∙ plain_drop c.len.result c.args.all.items c.requires
+new-requires-2 c = ap all_plain c.in_ok-names.ensures ∙ plain_drop c.len.result c.args.all.items c.requires
