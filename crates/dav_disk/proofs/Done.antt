@@ -1,6 +1,7 @@
 -- What a call does to what is known is what the trait of disks asks, with the counts beside it.
-use Rattle.std.proofs.Common.{◌≡◌, ◌≤◌, ℕ, List, Bool, ◌↔◌, true, false, IsTrue, IsErrOf, Option, Some, Result, Ok, Err, inl, inr, refl, ap, ◌∙◌}
+use Rattle.std.proofs.Common.{◌≡◌, ◌≤◌, ◌==◌, ◌||◌, ◌∷◌, [], ℕ, List, Bool, arith, ◌↔◌, true, false, IsTrue, IsErrOf, Option, Some, Result, Ok, Err, inl, inr, refl, ap, ◌∙◌}
 use Rattle.std.specs.Option.{option_map}
+use Rattle.std.proofs.lemmas.Bool.Decides.{nat_tests}
 use Rattle.dav_io.specs.Counts.{one_more}
 use Rattle.dav_core.specs.declared.tree.Row.{Row}
 use Rattle.dav_core.specs.declared.handle.Meta.{Meta}
@@ -11,11 +12,14 @@ use Rattle.dav_core.specs.declared.handle.DiskError.TheVariants.{NotFound, Exist
 use Rattle.dav_core.specs.Path.{Names}
 use Rattle.dav_core.specs.Tree.{look, IsTreeRefusal}
 use Rattle.dav_core.proofs.LookLemmas.{look_err}
-use Rattle.dav_core.specs.World.{World, put}
+use Rattle.dav_core.specs.World.{World, is_numbered, put}
 use Rattle.dav_core.proofs.UnchangedLemmas.{put_same}
-use Rattle.dav_core.specs.Disk.{Live, IsCounted, Refused, Metas, MayRefuseMeta, Opens, MayRefuseOpen}
+use Rattle.dav_core.specs.Disk.{Live, IsCounted, Refused, Metas, MayRefuseMeta, Opens, MayRefuseOpen, Closes}
+use Rattle.dav_core.proofs.HeldStays.{same_held}
 use Rattle.dav_core.proofs.RefusedLemmas.{refused_of}
-use Rattle.dav_disk.specs.Calls.{Known, state_of, lengths, FindsMeta, RefusesBy, OpensAt}
+use Rattle.dav_disk.proofs.Changed.{look_in}
+use Rattle.dav_disk.proofs.Trees.{In}
+use Rattle.dav_disk.specs.Calls.{Known, state_of, lengths, FindsMeta, RefusesBy, OpensAt, with_closed}
 
 -- what a counted call makes of the counts, and of whether reads are whole
 pub record Counted (faults asked : ℕ) (whole : Bool) (met more : ℕ) (still : Bool) : Type 0 where
@@ -92,6 +96,19 @@ open_no_fault tree path NoMemory h f = cc
 kind_put : (live : ℕ → Option Live) (h : ℕ) (l : Live) (new : ℕ → Option Live) → new ≡ put h (Some l) live → option_map (λ l. l.kind) (new h) ≡ Some l.kind
 kind_put live h l new e = ap (λ (t : ℕ → Option Live). option_map (λ (l : Live). l.kind) (t h)) e ∙ ap (option_map (λ (l : Live). l.kind)) (put_same h (Some l) live)
 
+numbered_here : (m n : ℕ) (later : Bool) → m ≡ n → ((m == n) || later) ≡ true
+numbered_here m n later e = grind (arith, nat_tests)
+
+numbered_later : (b later : Bool) → later ≡ true → (b || later) ≡ true
+numbered_later true later e = refl
+numbered_later false later e = e
+
+-- the number of a row stands in the tree
+numbered_in : (rows : List Row) (r : Row) → In r rows → is_numbered rows r.number ≡ true
+numbered_in [] r i = absurd i
+numbered_in (x ∷ rows) r (inl e) = numbered_here r.number x.number (is_numbered rows r.number) (ap (λ (z : Row). z.number) e)
+numbered_in (x ∷ rows) r (inr i) = numbered_later (r.number == x.number) (is_numbered rows r.number) (numbered_in rows r i)
+
 pub open_done : (k n : Known) (f a : ℕ) (x : Bool) (g b : ℕ) (y : Bool) (path : Names) (how : OpenOptions) (result : Result Handle DiskError) → Counted f a x g b y → OpensAt k path how result n
     → Opens (state_of k f a x) path how result (state_of n g b y)
 open_done k n f a x g b y path how (Ok h) c (row, found, free, e) =
@@ -100,13 +117,23 @@ open_done k n f a x g b y path how (Ok h) c (row, found, free, e) =
       asks = record { counted = counted_ok h k n f a x g b y c; listers = ap (λ (n : Known). lengths n.world.listings) e };
       only = tt;
       live = (row.kind, free, live);
-      told = (row.number, ap (λ (n : Known). n.world) e, λ linked. (row, found, refl, kind_put k.live h.0 (record { kind = row.kind; how = how }) n.live live));
+      told = (row.number, ap (λ (n : Known). n.world) e, inl (numbered_in k.world.tree row (look_in k.world.tree path row found)), λ linked. (row, found, refl, kind_put k.live h.0 (record { kind = row.kind; how = how }) n.live live));
     }
 open_done k n f a x g b y path how (Err e) c (same, refuses) = record {
   asks = record { counted = counted_err e k n f a x g b y (open_no_fault k.world.tree path e refuses) c; listers = ap (λ (n : Known). lengths n.world.listings) same };
   only = may_open k.world.tree path e refuses;
   live = ap (λ (n : Known). n.live) same;
   told = (ap (λ (n : Known). n.world) same, λ linked. refused_by e (look k.world.tree path) refuses);
+}
+
+pub close_done : (k n : Known) (f a : ℕ) (x y : Bool) (h : ℕ) → (IsTrue x → IsTrue y) → n ≡ with_closed k h → Closes (state_of k f a x) h (state_of n f a y)
+close_done k n f a x y h keeps e = record {
+  counts = refl;
+  asked = refl;
+  whole = keeps;
+  listers = ap (λ (n : Known). lengths n.world.listings) e;
+  live = ap (λ (n : Known). n.live) e;
+  told = same_held (with_closed k h).world n.world (ap (λ (n : Known). n.world) e);
 }
 
 pub meta_no_fault : (w : World) (path : Names) (result : Result Meta DiskError) → FindsMeta w path result → IsErrOf result Failed → ⊥

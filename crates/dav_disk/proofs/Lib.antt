@@ -12,3 +12,4 @@ pub mod Times
 pub mod Renames
 pub mod Turned
 pub mod GivenStay
+pub mod PlainRows

@@ -2,7 +2,7 @@
 use Rattle.std.specs.Prelude.{◌≡◌, ℕ, length, Bool, Option, None, Some, true, refl}
 use Rattle.std.specs.Option.{option_map, is_some}
 use Rattle.dav_core.specs.Tree.{is_tree}
-use Rattle.dav_core.specs.World.{World, IsWorld, AreGiven}
+use Rattle.dav_core.specs.World.{World, IsWorld, AreGiven, ArePlain}
 use Rattle.dav_core.specs.Disk.{TellsLive}
 use Rattle.dav_core.specs.Tables.{at_key}
 use Rattle.dav_disk.specs.Files.{AreStored, open_of, live_of}
@@ -12,13 +12,14 @@ use Rattle.dav_disk.specs.Memory.{known_of}
 use Rattle.dav_disk.specs.declared.memory.Memory.{Memory}
 use Rattle.dav_disk.specs.declared.tables.Opened.{Opened}
 
-is_world : (v : World) → is_tree v.tree ≡ true → AreStored v.tree v.files → AreGiven v.tree v.files v.opens v.greatest v.latest → IsWorld v
-is_world v tree stored given = record { tree = tree; stored = stored; given = given }
+is_world : (v : World) → is_tree v.tree ≡ true → ArePlain v.tree → AreStored v.tree v.files → AreGiven v.tree v.files v.opens v.greatest v.latest
+    → IsWorld v
+is_world v tree plain stored given = record { tree = tree; plain = plain; stored = stored; given = given }
 
--- of a told world: its rows are a tree, its files are stored, and its numbers and times are given ones
-pub told_world : (v w : World) → is_tree v.tree ≡ true → AreStored v.tree v.files → AreGiven v.tree v.files v.opens v.greatest v.latest → Some v ≡ Some w
-    → IsWorld w
-told_world v w tree stored given e = let same : v ≡ w = cc in rw (← same) (is_world v tree stored given)
+-- of a told world: its rows are a tree with plain names, its files are stored, and its numbers and times are given ones
+pub told_world : (v w : World) → is_tree v.tree ≡ true → ArePlain v.tree → AreStored v.tree v.files → AreGiven v.tree v.files v.opens v.greatest v.latest
+    → Some v ≡ Some w → IsWorld w
+told_world v w tree plain stored given e = let same : v ≡ w = cc in rw (← same) (is_world v tree plain stored given)
 
 both_some : (o : Option Opened) → is_some (option_map open_of o) ≡ is_some (option_map live_of o)
 both_some None = refl

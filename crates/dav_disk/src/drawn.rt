@@ -1,5 +1,5 @@
 ghost use Rattle.std.specs.Prelude.{◌≡◌, ◌+◌, OnOk, IfOk, Some, ℕ};
-ghost use Rattle.dav_core.specs.World.{World, put, bytes_or_none};
+ghost use Rattle.dav_core.specs.World.{World, ArePlain, put, bytes_or_none};
 ghost use Rattle.dav_core.specs.Tree.{look as found};
 ghost use Rattle.dav_core.specs.Changes.{changed, all_changed, dir_added, file_added, cut_found, removed_found, renamed_found, resized};
 ghost use Rattle.dav_disk.specs.Files.{stored_at};
@@ -21,6 +21,7 @@ pub struct Drawn {
     pub files: BTreeMap<u64, StoredFile>,
     pub greatest: u64,
     pub latest: FileTime,
+    ghost plain: { ArePlain rows.items },
 }
 
 // A copy of rows.
@@ -72,6 +73,7 @@ impl Drawn {
         greatest: u64,
         latest: FileTime,
     ) -> Result<Drawn, NoMemory>
+        requires { ArePlain rows.now }
         ensures { IfOk result (λ d. (w : World)
             → drawn_in d w ≡ record w {
               tree = rows.now;

@@ -291,7 +291,7 @@ impl Disk for MemDisk {
         self.memory.turn()
     }
 
-    ghost world = { λ d w e. told_world (mem_world d) w d.memory.tree d.memory.stored d.memory.given e };
+    ghost world = { λ d w e. told_world (mem_world d) w d.memory.tree d.memory.plain d.memory.stored d.memory.given e };
 
     ghost tells_live = { λ d. told_live d.memory d.faults.met d.faults.asked (is_empty d.lens.items) };
 }

@@ -1,6 +1,6 @@
 ghost use Rattle.std.specs.Prelude.{◌≡◌, ◌<◌, ℕ, None, Some, Ok, Option, IfOk, OnOk, OnErr, IsSome, IfSome, true, option_map};
 ghost use Rattle.dav_core.specs.Tree.{is_tree, is_file};
-ghost use Rattle.dav_core.specs.World.{AreGiven, time_of};
+ghost use Rattle.dav_core.specs.World.{AreGiven, ArePlain, time_of};
 ghost use Rattle.dav_disk.specs.Files.{AreStored, SaysNoMore, open_at, stored_at};
 ghost use Rattle.dav_disk.specs.Rows.{root_row as the_root};
 
@@ -30,6 +30,7 @@ pub struct Memory {
     latest: FileTime,
     script: Vec<Batch>,
     ghost tree: { is_tree rows.items ≡ true },
+    ghost plain: { ArePlain rows.items },
     ghost stored: { AreStored rows.items (stored_at files) },
     ghost given: { AreGiven rows.items (stored_at files) (open_at opens) greatest latest },
 }

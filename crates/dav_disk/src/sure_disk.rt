@@ -153,7 +153,7 @@ impl Disk for SureDisk {
         self.memory.turn()
     }
 
-    ghost world = { λ d w e. told_world (sure_world d) w d.memory.tree d.memory.stored d.memory.given e };
+    ghost world = { λ d w e. told_world (sure_world d) w d.memory.tree d.memory.plain d.memory.stored d.memory.given e };
 
     ghost tells_live = { λ d. told_live d.memory 0 d.asked true };
 }

@@ -14,6 +14,3 @@ mod stream;
 pub use clock::SystemClock;
 pub use host::HostDisk;
 pub use stream::{StdSink, StdSource};
-
-#[cfg(test)]
-mod tests;

@@ -3,14 +3,16 @@ use Rattle.dav_disk.specs.Memory.{known_of}
 use Rattle.dav_disk.proofs.Added.{addable, dir_set, row_of}
 use Rattle.dav_disk.proofs.GivenStay.{dir_given}
 use Rattle.dav_core.specs.declared.tree.Kind.TheVariants.{Dir}
+use Rattle.dav_disk.proofs.PlainRows.{plain_more}
 use Rattle.dav_disk.proofs.memory.Memory.add_dir.Goals as goal
 
 pub invariant_of-self-2 : goal.invariant_of-self-2
 invariant_of-self-2 c =
     let t = dir_set (known_of c.args.self.now).world c.args.path.now c.in_ok-try_clone.field-0 c.args.number c.args.time c.push.new.self.items c.requires
-    c.args.self.now.tree c.args.self.now.stored c.in_ok-try_clone.ensures c.in_ok-push.ensures.items in
+    c.args.self.now.tree c.args.self.now.stored c.in_ok-try_clone.ensures.copy c.in_ok-push.ensures.items in
     record {
       tree = t.0;
+      plain = plain_more c.args.self.now.rows.items c.push.new.self.items _ c.args.self.now.plain c.in_ok-push.ensures.items (rw c.in_ok-try_clone.ensures.copy c.in_ok-try_clone.ensures.plain);
       stored = t.1;
       given = dir_given (known_of c.args.self.now).world (row_of c.in_ok-try_clone.field-0 Dir c.args.number c.args.time) (known_of c.args.self.now).world.tree c.push.new.self.items
           c.max-self.result c.later_of-latest.result c.second_past.result (addable (known_of c.args.self.now).world c.args.path.now c.args.number c.args.time c.requires).settable

@@ -22,6 +22,7 @@ invariant_of-self c =
     let found = sym (ap (λ rows. look rows c.as_slice.result.now) c.deref.ensures.value ∙ ap (look c.args.self.now.rows.items) c.as_slice.ensures.value) ∙ c.in-Ok.ensures.found in
     record {
       tree = c.args.self.now.tree;
+      plain = c.args.self.now.plain;
       stored = c.args.self.now.stored;
       given = insert_given (known_of c.args.self.now).world c.args.path.now c.in-Ok.row.now c.args.self.now.opens c.insert.new.self c.in-Some.handle _ c.insert.result
           c.args.self.now.given found refl c.insert.ensures.updates c.insert.ensures.err;

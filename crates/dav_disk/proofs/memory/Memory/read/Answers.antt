@@ -19,6 +19,7 @@ returns c =
 pub invariant_of-self : goal.invariant_of-self
 invariant_of-self c = record {
   tree = c.args.self.now.tree;
+  plain = c.args.self.now.plain;
   stored = c.args.self.now.stored;
   given = place_given (known_of c.args.self.now).world _ _ c.args.file.0 c.open_file-opened.result _ c.args.self.now.given c.open_file-opened.ensures c.set_place.ensures;
 }

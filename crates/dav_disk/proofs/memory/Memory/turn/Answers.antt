@@ -17,7 +17,7 @@ invariant_of-self-2 c =
     let made = turn_made old (drawn_in c.make.new.self w) (drawn_in c.in_ok-drawn.drawn w) c.deref.result.now c.remove.new.self.items c.as_slice.result.now c.index.result.now
     some c.index.ensures c.as_slice.ensures c.remove.ensures.items c.deref.ensures.value (c.in_ok-drawn.ensures w) (c.in_ok-make.ensures w) in
     let kept = kept_of (drawn_in c.make.new.self w) (turned old) made (turned_good old (good_of old c.args.self.now.tree c.args.self.now.stored c.args.self.now.given)) in
-    record { tree = kept.tree; stored = kept.stored; given = turned_given (drawn_in c.make.new.self w) old made c.args.self.now.given }
+    record { tree = kept.tree; plain = c.make.new.self.plain; stored = kept.stored; given = turned_given (drawn_in c.make.new.self w) old made c.args.self.now.given }
 
 pub returns-clause-ok : goal.returns-clause-ok
 returns-clause-ok c =

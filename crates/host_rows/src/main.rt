@@ -1,0 +1,62 @@
+//! Asks the machine: a row a line on standard input, and an answer a line on standard output. Rows are answered in order,
+//! below the folder that the program runs in, so a row may look for what a row before it made.
+//!
+//!     folder PATH             makes a folder, and those that it stands in
+//!     file PATH TEXT          writes a file
+//!     disk ROOT | CALL..      calls of a disk below a folder, with `|` between them
+//!     take PATH               what two reads of a stream from a file give
+//!     put PATH TEXT           what a stream into a new file took of a text
+//!     stuck PATH TEXT         the same of a file that is opened for reading alone
+//!     clock                   whether the clock shows a moment behind the year 2020, and no earlier one afterwards
+//!     #                       is written as it stands
+//!
+//! A disk's calls are `look PATH`, which tells what stands at a path; `read PATH PLACE`, which opens a file and reads at
+//! most four bytes; `list PATH`, which tells the first two names of a folder; and `turn`. What each answers stands before
+//! a `|`, and behind them how many calls met a fault. A name `COUNT*NAME` is so many copies of a name.
+#![tactic(auto)]
+
+mod calls;
+mod streams;
+
+use anyhow::Result;
+use std::alloc::Global;
+use std::{fs, io};
+
+/// A text of its own.
+pub fn said(alloc: Global, text: &str) -> Result<String> {
+    Ok(String::from_str(alloc, text)?)
+}
+
+fn answer(rt: &HostRuntime, row: &str) -> Result<String> {
+    let alloc = rt.alloc();
+    let mut words = row.splitn(3, ' ');
+    let word = words.next().unwrap_or("");
+    let path = words.next().unwrap_or("");
+    let text = words.next().unwrap_or("");
+    match word {
+        "folder" => {
+            fs::create_dir_all(rt, path)?;
+            said(alloc, "made")
+        }
+        "file" => {
+            fs::write(rt, path, text)?;
+            said(alloc, "made")
+        }
+        "disk" => calls::calls(rt, path, text),
+        "take" => streams::take(rt, path),
+        "put" => streams::put(rt, path, text),
+        "stuck" => streams::put_stuck(rt, path, text),
+        "clock" => streams::clock(rt),
+        _ => said(alloc, row),
+    }
+}
+
+fn main(rt: HostRuntime) -> io::Result<()> {
+    for line in rt.lines(rt.alloc()) {
+        match answer(&rt, line?.as_str()) {
+            Ok(text) => println!(rt; "{text}")?,
+            Err(error) => println!(rt; "{error}")?,
+        }
+    }
+    Ok(())
+}
