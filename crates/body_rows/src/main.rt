@@ -6,7 +6,9 @@
 //!     frames COUNT END POLLS  the frames of such a body, one after the other
 //!     bytes TEXT              what four polls give of a body of bytes; also `str`, `string` and `empty`
 //!     slot FIRST SECOND       what is left of two numbers that are sent into a slot
-//!     reader CALLS            the first frame of a reader that was called so often, and whose second call fails
+//!     reader CALLS            the first frame of a reader that was called so often; its second call fails, and those behind
+//!                             its fourth are at its end
+//!     lent CALLS              two pieces of such a reader that is lent, and the next one of the reader itself
 //!     #                       is written as it stands
 #![tactic(auto)]
 
@@ -87,22 +89,32 @@ fn slot(alloc: Global, row: &str) -> Result<String> {
     Ok(format!(in alloc; "{waits} {ready} {kept} {gone}")?)
 }
 
+// A reader that was called so often.
+fn reader_of(row: &str) -> Failing {
+    let cell = row.split(' ').nth(1).unwrap_or("");
+    Failing {
+        calls: cell.parse::<u64>().unwrap_or(0),
+        ended: false,
+    }
+}
+
+// Pieces of a reader that is lent, and of the reader itself.
+fn lent(alloc: Global, row: &str) -> Result<String> {
+    let mut reader = reader_of(row);
+    let mut line = String::from_str(alloc, "pieces")?;
+    seen::show_next(&mut line, &mut reader)?;
+    seen::show_next(&mut line, &mut reader)?;
+    seen::show_next(&mut line, reader)?;
+    Ok(line)
+}
+
 // The first frame of a reader.
 fn reader<R: Wait + RandomSource + AllocGlobal>(
     rt: &R,
     alloc: Global,
     row: &str,
 ) -> Result<String> {
-    let calls = row
-        .split(' ')
-        .nth(1)
-        .unwrap_or("")
-        .parse::<u64>()
-        .unwrap_or(0);
-    let mut body = StreamBody::new(Failing {
-        calls,
-        ended: false,
-    });
+    let mut body = StreamBody::new(reader_of(row));
     let got = block_on(rt, poll_fn(move |cx| body.poll_frame(cx)))?;
     let mut line = String::from_str(alloc, "frames")?;
     show_frame(&mut line, got)?;
@@ -146,6 +158,7 @@ fn answer<R: Wait + RandomSource + AllocGlobal>(
         "empty" => polls(alloc, Body::empty(), 4),
         "slot" => slot(alloc, row),
         "reader" => reader(rt, alloc, row),
+        "lent" => lent(alloc, row),
         _ => Ok(String::from_str(alloc, row)?),
     }
 }

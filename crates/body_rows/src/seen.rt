@@ -2,6 +2,8 @@
 use anyhow::Result;
 use bytes::Bytes;
 use dav_body::BodyFault;
+use dav_io::Failed;
+use dav_store::BodyReader;
 use futures::task::Poll;
 use http_body::Frame;
 use percent_encoding::{AsciiSet, CONTROLS, percent_encode};
@@ -57,6 +59,16 @@ pub fn show_frame<E: Drop>(line: &mut String, got: Option<Result<Frame<Bytes>, E
         Seen::Trailers => line.push_str(" trailers")?,
         Seen::Broken => line.push_str(" broken")?,
         Seen::End => line.push_str(" end")?,
+    }
+    Ok(())
+}
+
+/// Adds the next piece of a reader.
+pub fn show_next<B: BodyReader + Drop>(line: &mut String, mut reader: B) -> Result<()> {
+    match reader.next_piece() {
+        Ok(Some(piece)) => show_piece(line, &piece)?,
+        Ok(None) => line.push_str(" end")?,
+        Err(Failed) => line.push_str(" failed")?,
     }
     Ok(())
 }

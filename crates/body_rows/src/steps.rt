@@ -56,7 +56,7 @@ impl Steps<u32> for Digits {
     }
 }
 
-/// Gives letters, and fails at its second call.
+/// Gives letters, fails at its second call, and is at its end behind its fourth.
 #[derive(Drop)]
 pub struct Failing {
     pub calls: u64,
@@ -68,6 +68,10 @@ impl BodyReader for Failing {
 
     fn next_piece(&mut self) -> Result<Option<Bytes>, Failed> {
         self.calls = self.calls.saturating_add(1);
+        if self.calls > 4 {
+            self.ended = true;
+            return Ok(None);
+        }
         if self.calls == 2 {
             return Err(Failed);
         }

@@ -100,7 +100,7 @@ seen_opened w v h number (Some l) kind e k =
 
 opened_ok : (w v : World) (path : WebPath) (h : Handle) (s t : DiskState) → IsWorld w → path.slash ≡ false → is_linked w.tree path.names ≡ false → t.told ≡ Some v
     → OpenedIn path.names (Ok h) (kind_at t h.0) w v → OpensThere seen_by (looked w path) (Ok (record { handle = h })) t
-opened_ok w v path h s t is flat linked at (number, e, rows) =
+opened_ok w v path h s t is flat linked at (number, e, held, rows) =
     let (row, stands, same, kind) = rows linked in
     ok_row w v path h t row number is flat at e stands same kind
   where
@@ -144,7 +144,7 @@ pub record IsPlain {S C : Type 0} (view : View S C PlainFile) : Type 0 where
 
 module _ {S C : Type 0} (view : View S C PlainFile) (plain : IsPlain view) (s : S) (c : C) where
   -- looks leave the world
-  looked_told : (m : S) → Looked view s c m → (view.state m).told ≡ (view.state s).told
+  pub looked_told : (m : S) → Looked view s c m → (view.state m).told ≡ (view.state s).told
   looked_told m here = refl
   looked_told m (looks k l path r more look) = (plain.looks_so k c path r l look).1.world ∙ looked_told k more
   looked_told m (looks_at_link k l path r more look) = ap (λ x. x.told) (plain.links_so k c path r l look) ∙ looked_told k more

@@ -1,6 +1,5 @@
 -- What the plain store answers, by what its disk answers.
-use Rattle.std.specs.Prelude.{◌≡◌, ◌≢◌, ℕ, List, [], Bool, true, false, None, Some, Option, Result, Ok, Err, refl}
-use Rattle.dav_io.specs.Told.{Both}
+use Rattle.std.specs.Prelude.{◌≡◌, ◌≢◌, ℕ, List, [], Bool, true, false, Option, Result, Ok, Err}
 use Rattle.dav_core.specs.declared.error.FsError.{FsError}
 use Rattle.dav_core.specs.declared.error.FsError.TheVariants.{Forbidden, NotImplemented}
 use Rattle.dav_core.specs.declared.handle.DiskError.{DiskError}
@@ -8,17 +7,14 @@ use Rattle.dav_core.specs.declared.handle.Handle.{Handle}
 use Rattle.dav_core.specs.declared.handle.Meta.{Meta}
 use Rattle.dav_core.specs.declared.handle.OpenOptions.{OpenOptions}
 use Rattle.dav_core.specs.DavPath.{WebPath}
-use Rattle.dav_core.specs.Disk.{DiskState, Live, FileMetas, Metas, Opens, Reads, Seeks}
+use Rattle.dav_core.specs.Disk.{DiskState, FileMetas, Metas, Opens, Reads, Seeks}
 use Rattle.dav_core.specs.Errors.{fs_error_of}
 use Rattle.dav_core.specs.Info.{Info, info_of}
-use Rattle.dav_core.specs.Unchanged.{SameOpen}
 use Rattle.dav_core.specs.Options.{reading}
-use Rattle.dav_core.specs.World.{World, OpenFile}
-use Rattle.dav_store.specs.Files.{LeavesOpen, SameSeen}
 use Rattle.dav_store.specs.Standing.{Seen}
 use Rattle.dav_plain.specs.declared.file.PlainFile.{PlainFile}
 use Rattle.dav_plain.specs.declared.meta.PlainMeta.{PlainMeta}
-use Rattle.dav_plain.specs.Standing.{under_slash, seen_at, seen_with}
+use Rattle.dav_plain.specs.Standing.{under_slash, seen_at}
 
 -- refused, with nothing asked
 abbrev pub Refuses : {S T : Type 0} → FsError → S → Result T FsError → S → Type 0

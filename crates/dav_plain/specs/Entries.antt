@@ -1,9 +1,20 @@
--- What an entry of a listing answers: what the listing read, without the disk.
-use Rattle.std.specs.Prelude.{◌≡◌, Result, Ok}
+-- What an entry of a listing answers: what the listing read, without the disk, or what the disk says now.
+use Rattle.std.specs.Prelude.{◌≡◌, Result}
 use Rattle.dav_core.specs.declared.error.FsError.{FsError}
-use Rattle.dav_core.specs.Disk.{DiskState}
+use Rattle.dav_core.specs.declared.handle.DiskError.{DiskError}
+use Rattle.dav_core.specs.declared.handle.Meta.{Meta}
+use Rattle.dav_core.specs.Disk.{DiskState, Metas}
 use Rattle.dav_core.specs.Info.{Info, info_of}
+use Rattle.dav_store.specs.Standing.{info_in}
+use Rattle.dav_plain.specs.declared.entry.EntryMeta.{EntryMeta}
+use Rattle.dav_plain.specs.declared.entry.EntryMeta.TheVariants.{Read, At}
 use Rattle.dav_plain.specs.declared.meta.PlainMeta.{PlainMeta}
+use Rattle.dav_plain.specs.Calls.{said_by}
 
-abbrev pub Says : PlainMeta → DiskState → Result Info FsError → DiskState → Type 0
-Says meta s result t = (result ≡ Ok (info_of meta.0)) × (t ≡ s)
+-- what an answer of the plain store says
+abbrev pub said_info : Result PlainMeta FsError → Result Info FsError
+said_info answer = info_in (λ (m : PlainMeta). info_of m.0) answer
+
+abbrev pub Says : EntryMeta → DiskState → Result Info FsError → DiskState → Type 0
+Says (Read answer) s result t = (result ≡ said_info answer) × (t ≡ s)
+Says (At path) s result t = (answer : Result Meta DiskError) × Metas s path answer t × (result ≡ said_info (said_by answer))

@@ -1,4 +1,5 @@
 pub mod Standing
 pub mod Calls
+pub mod Listing
 pub mod Entries
 pub mod PlainStays

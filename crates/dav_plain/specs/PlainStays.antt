@@ -1,25 +1,13 @@
 -- What others do leaves the number and the place of an open file: a law that the plain file cites.
-use Rattle.std.specs.Prelude.{◌≡◌, ◌≢◌, ℕ, List, [], Bool, true, false, None, Some, Option, Result, Ok, Err, refl}
+use Rattle.std.specs.Prelude.{◌≡◌, ℕ, None, Some, Option, refl}
 use Rattle.dav_io.specs.Told.{Both}
-use Rattle.dav_core.specs.declared.error.FsError.{FsError}
-use Rattle.dav_core.specs.declared.error.FsError.TheVariants.{Forbidden, NotImplemented}
-use Rattle.dav_core.specs.declared.handle.DiskError.{DiskError}
-use Rattle.dav_core.specs.declared.handle.Handle.{Handle}
-use Rattle.dav_core.specs.declared.handle.Meta.{Meta}
-use Rattle.dav_core.specs.declared.handle.OpenOptions.{OpenOptions}
-use Rattle.dav_core.specs.DavPath.{WebPath}
-use Rattle.dav_core.specs.Disk.{DiskState, Live, FileMetas, Metas, Opens, Reads, Seeks}
-use Rattle.dav_core.specs.Errors.{fs_error_of}
-use Rattle.dav_core.specs.Info.{Info, info_of}
+use Rattle.dav_core.specs.Disk.{DiskState, Live}
 use Rattle.dav_core.specs.Unchanged.{SameOpen}
-use Rattle.dav_core.specs.Options.{reading}
 use Rattle.dav_core.specs.World.{World, OpenFile}
 use Rattle.dav_store.specs.Files.{LeavesOpen, SameSeen}
-use Rattle.dav_store.specs.Standing.{Seen}
 use Rattle.dav_plain.specs.declared.file.PlainFile.{PlainFile}
-use Rattle.dav_plain.specs.declared.meta.PlainMeta.{PlainMeta}
-use Rattle.dav_plain.specs.Standing.{under_slash, seen_at, seen_with}
-use Rattle.dav_plain.specs.Calls.{Refuses, looked_as, Looks, filed, IsOpening, said_by, AsksMeta, sought, AsksSeek, counted, AsksRead, Writes, seen_by}
+use Rattle.dav_plain.specs.Standing.{seen_with}
+use Rattle.dav_plain.specs.Calls.{seen_by}
 
 same_file : (v w : World) (l : Live) (h : ℕ) (a b : Option OpenFile) → v.opens h ≡ a → w.opens h ≡ b → b ≡ a → SameSeen (seen_with (Some v) (Some l) h) (seen_with (Some w) (Some l) h)
 same_file v w l h None b e f g = rw (e, f, g) tt

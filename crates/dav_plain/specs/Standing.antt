@@ -1,9 +1,11 @@
 -- What stands at a path of a world, as the plain store tells it.
-use Rattle.std.specs.Prelude.{◌&&◌, ℕ, List, Bool, not, length, None, Some, Option, Result, Ok, Err, if◌then◌else◌}
+use Rattle.std.specs.Prelude.{◌≡◌, ◌&&◌, ℕ, List, Bool, false, not, length, None, Some, Option, Result, Ok, Err, if◌then◌else◌}
+use Rattle.std.specs.List.{AllByRecursion, filter}
 use Rattle.std.specs.Option.{option_map}
 use Rattle.dav_core.specs.declared.error.FsError.{FsError}
 use Rattle.dav_core.specs.declared.error.FsError.TheVariants.{Forbidden}
 use Rattle.dav_core.specs.declared.handle.DiskError.{DiskError}
+use Rattle.dav_core.specs.declared.member.Member.{Member}
 use Rattle.dav_core.specs.declared.time.FileTime.{FileTime}
 use Rattle.dav_core.specs.declared.tree.Kind.{Kind}
 use Rattle.dav_core.specs.declared.tree.Row.{Row}
@@ -11,7 +13,10 @@ use Rattle.dav_core.specs.DavPath.{WebPath}
 use Rattle.dav_core.specs.Disk.{DiskState, Live}
 use Rattle.dav_core.specs.Errors.{fs_error_of}
 use Rattle.dav_core.specs.Info.{known, tag_of}
-use Rattle.dav_core.specs.Tree.{is_dir, look}
+use Rattle.dav_core.specs.Listing.{listable, stands_in}
+use Rattle.dav_core.specs.Members.{members}
+use Rattle.dav_core.specs.Path.{Names}
+use Rattle.dav_core.specs.Tree.{is_dir, is_linked, look}
 use Rattle.dav_core.specs.World.{World, OpenFile, bytes_of, time_of}
 use Rattle.dav_store.specs.Standing.{Standing, Seen}
 
@@ -58,3 +63,16 @@ seen_with (Some w) (Some l) h = option_map (seen_in w l.kind) (w.opens h)
 -- the open file of a handle, where it is told
 abbrev pub seen_at : DiskState → ℕ → Option Seen
 seen_at s h = seen_with s.told (s.live h) h
+
+abbrev pub members_of : World → Names → Result Row DiskError → Result (List Member) FsError
+members_of w dir (Ok row) = Ok (members w dir)
+members_of w dir (Err e) = Err (fs_error_of e)
+
+-- the members of the directory at a path, or why it can't be listed
+abbrev pub members_found : World → WebPath → Result (List Member) FsError
+members_found w path = members_of w path.names (listable (look w.tree path.names))
+
+-- No link stands on the way to a directory or at one of its members.
+pub record HasNoLinks (w : World) (dir : Names) : Type 0 where
+  pub way : is_linked w.tree dir ≡ false
+  pub rows : AllByRecursion (λ row. is_linked w.tree row.path ≡ false) (filter (stands_in dir) w.tree)

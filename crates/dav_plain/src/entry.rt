@@ -2,24 +2,39 @@ ghost use Rattle.std.specs.Prelude.{◌≡◌, true, ℕ, Result};
 ghost use Rattle.dav_core.specs.Path.{is_plain};
 
 use crate::PlainMeta;
-use dav_core::{Disk, FsError};
+use crate::meta::said;
+use dav_core::{Disk, FsError, FsPath, Lister};
 use dav_io::Text;
 use dav_store::DavDirEntry;
 
-/// A listing. It has no entries, since no disk lists so far.
-#[derive(Debug, Drop)]
-pub struct PlainDir;
+/// A listing: the disk's lister, the path of the directory, whether each entry's metadata is read with it, and whether
+/// it is over. Once over, it asks the disk nothing.
+#[derive(Drop)]
+pub struct PlainDir {
+    pub(crate) lister: Lister,
+    pub(crate) path: FsPath,
+    pub(crate) reads: bool,
+    pub(crate) over: bool,
+}
 
-/// An entry of a listing: its name, which is plain, and what the listing read of it.
+/// What is known of the metadata of an entry: what the listing read, or why it couldn't; or the path at which the disk
+/// is to be asked.
+#[derive(Drop)]
+pub enum EntryMeta {
+    Read(Result<PlainMeta, FsError>),
+    At(FsPath),
+}
+
+/// An entry of a listing: its name, which is plain, and what is known of its metadata.
 #[derive(Drop)]
 pub struct PlainEntry {
     name: Text,
-    meta: PlainMeta,
+    meta: EntryMeta,
     ghost plain: { is_plain name ≡ true },
 }
 
 impl PlainEntry {
-    pub fn new(name: Text, meta: PlainMeta) -> Self
+    pub fn new(name: Text, meta: EntryMeta) -> Self
         requires { is_plain name ≡ true }
         ensures name { result.name ≡ name }
         ensures meta { result.meta ≡ meta }
@@ -41,7 +56,10 @@ impl<D: Disk> DavDirEntry<D> for PlainEntry {
         self.name.as_str()
     }
 
-    fn metadata(&self, _disk: &mut D) -> Result<PlainMeta, FsError> {
-        Ok(self.meta)
+    fn metadata(&self, disk: &mut D) -> Result<PlainMeta, FsError> {
+        match &self.meta {
+            EntryMeta::Read(answer) => *answer,
+            EntryMeta::At(path) => said(disk.meta(path)),
+        }
     }
 }

@@ -1,9 +1,12 @@
-ghost use Rattle.std.specs.Prelude.{◌≡◌, ◌↔◌, ℕ, false, IsTrue, Option, None, Ok, Result, refl};
+ghost use Rattle.std.specs.Prelude.{◌≡◌, ◌↔◌, ℕ, true, false, IsTrue, Option, Some, Result, refl};
 ghost use Rattle.dav_core.specs.Options.{reading};
+ghost use Rattle.dav_core.specs.Path.{is_plain};
+ghost use Rattle.dav_plain.specs.Listing.{Begins, GivesEntry};
 
-use crate::{PlainDir, PlainEntry, PlainFile, PlainMeta};
-use dav_core::{DavPath, Disk, FsError, Kind, OpenOptions};
-use dav_io::Moment;
+use crate::meta::said;
+use crate::{EntryMeta, PlainDir, PlainEntry, PlainFile, PlainMeta};
+use dav_core::{DavPath, Disk, DiskError, FsError, FsPath, Kind, OpenOptions};
+use dav_io::{Moment, Text};
 use dav_store::{DavFileSystem, ReadDirMeta};
 
 /// A disk from its root on. It has no folding, no rules of an operating system and no memory. A call that needs a call
@@ -43,9 +46,46 @@ fn is_reading(options: OpenOptions) -> bool
     options == OpenOptions::read()
 }
 
+// Begins a listing. The memory for its path is taken before the disk is asked.
+fn begin<D: Disk>(disk: &mut D, path: &FsPath, reads: bool) -> Result<PlainDir, FsError>
+    ensures done { Begins (D.state disk.old) path.now reads result (D.state disk.new) }
+    ensures loan { D.loan disk.new ≡ D.loan disk.old }
+{
+    let Ok(names) = path.try_clone() else {
+        return Err(FsError::NoMemory);
+    };
+    match disk.list(path) {
+        Ok(lister) => Ok(PlainDir {
+            lister,
+            path: names,
+            reads,
+            over: false,
+        }),
+        Err(error) => Err(error.into()),
+    }
+}
+
+// The entry of a name that the disk gave.
+fn entry_of<D: Disk>(disk: &mut D, dir: &PlainDir, name: Text) -> Result<PlainEntry, FsError>
+    requires { is_plain name ≡ true }
+    ensures done { GivesEntry name dir.now (D.state disk.old) result (D.state disk.new) }
+    ensures loan { D.loan disk.new ≡ D.loan disk.old }
+{
+    let Ok(path) = dir.path.child(name.as_str()) else {
+        return Err(FsError::NoMemory);
+    };
+    if !dir.reads {
+        return Ok(PlainEntry::new(name, EntryMeta::At(path)));
+    }
+    let answer = said(disk.meta(&path));
+    Ok(PlainEntry::new(name, EntryMeta::Read(answer)))
+}
+
 impl<D: Disk> DavFileSystem for PlainFs<D> {
     ghost use Rattle.dav_core.specs.declared.error.FsError.TheVariants.{NotImplemented};
+    ghost use Rattle.dav_core.specs.Listing.{EndsListing};
     ghost use Rattle.dav_plain.specs.Calls.{IsOpening, Looks, Refuses};
+    ghost use Rattle.dav_plain.specs.Listing.{BeginsDir, NextEntry, to_come};
 
     type Disk = D;
 
@@ -73,15 +113,15 @@ impl<D: Disk> DavFileSystem for PlainFs<D> {
 
     ghost opens = { λ s path how result t. IsOpening (D.state s.disk) path how result (D.state t.disk) };
 
-    ghost lister = { λ _. None };
+    ghost lister = { λ d. Some d.lister.0 };
 
-    ghost to_come = { λ _ _. 0 };
+    ghost to_come = { to_come };
 
-    ghost lists = { λ s _ _ result t. Refuses NotImplemented s result t };
+    ghost lists = { λ s path wanted result t. BeginsDir (D.state s.disk) path wanted result (D.state t.disk) };
 
-    ghost lists_on = { λ s d result t e. (result ≡ Ok None) × (t ≡ s) × (e ≡ d) };
+    ghost lists_on = { λ s d result t e. NextEntry (D.state s.disk) d result (D.state t.disk) e };
 
-    ghost ends_list = { λ s _ t. t ≡ s };
+    ghost ends_list = { λ s d t. EndsListing (D.state s.disk) d.lister.0 (D.state t.disk) };
 
     ghost makes_dir = { λ s _ result t. Refuses NotImplemented s result t };
 
@@ -132,16 +172,37 @@ impl<D: Disk> DavFileSystem for PlainFs<D> {
         }
     }
 
-    fn read_dir(&mut self, _path: &DavPath, _meta: ReadDirMeta) -> Result<PlainDir, FsError> {
-        Err(FsError::NotImplemented)
+    fn read_dir(&mut self, path: &DavPath, meta: ReadDirMeta) -> Result<PlainDir, FsError> {
+        match meta {
+            ReadDirMeta::Data => begin(&mut self.disk, path.names(), true),
+            ReadDirMeta::DataSymlink => Err(FsError::NotImplemented),
+            ReadDirMeta::None => begin(&mut self.disk, path.names(), false),
+        }
     }
 
-    fn next_entry(&mut self, _dir: &mut PlainDir) -> Result<Option<PlainEntry>, FsError> {
-        Ok(None)
+    fn next_entry(&mut self, dir: &mut PlainDir) -> Result<Option<PlainEntry>, FsError> {
+        if dir.over {
+            return Ok(None);
+        }
+        match self.disk.list_next(dir.path.allocator(), dir.lister) {
+            Ok(Some(name)) => match entry_of(&mut self.disk, dir, name) {
+                Ok(entry) => Ok(Some(entry)),
+                Err(error) => Err(error),
+            },
+            Ok(None) => {
+                dir.over = true;
+                Ok(None)
+            }
+            Err(DiskError::NoMemory) => Err(FsError::NoMemory),
+            Err(error) => {
+                dir.over = true;
+                Err(error.into())
+            }
+        }
     }
 
     fn end_dir(&mut self, dir: PlainDir) {
-        let PlainDir = dir;
+        self.disk.end_list(dir.lister);
     }
 
     fn create_dir(&mut self, _path: &DavPath) -> Result<(), FsError> {

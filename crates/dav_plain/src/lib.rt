@@ -7,7 +7,7 @@ mod fs;
 pub mod laws;
 mod meta;
 
-pub use entry::{PlainDir, PlainEntry};
+pub use entry::{EntryMeta, PlainDir, PlainEntry};
 pub use file::PlainFile;
 pub use fs::PlainFs;
 pub use meta::PlainMeta;

@@ -1,16 +1,27 @@
-ghost use Rattle.std.specs.Prelude.{codes};
+ghost use Rattle.std.specs.Prelude.{◌≡◌, codes};
 ghost use Rattle.dav_core.specs.DavPath.{is_in_home};
 ghost use Rattle.dav_core.specs.Info.{info_of};
 ghost use Rattle.dav_core.specs.InfoInYears.{info_in_years};
 ghost use Rattle.dav_core.specs.TagBytes.{info_has_tag_bytes};
+ghost use Rattle.dav_plain.specs.Calls.{said_by};
 
-use dav_core::{DavMetaData, DavPath, FileTime, FsError, Meta};
+use dav_core::{DavMetaData, DavPath, DiskError, FileTime, FsError, Meta};
 use dav_io::{NoMemory, Text};
 use std::alloc::Global;
 
 /// What a disk says of what stands at a path, or of an open file.
 #[derive(Clone, Copy, Debug)]
 pub struct PlainMeta(pub Meta);
+
+// What a disk's answer says.
+pub fn said(answer: Result<Meta, DiskError>) -> Result<PlainMeta, FsError>
+    ensures { result ≡ said_by answer }
+{
+    match answer {
+        Ok(meta) => Ok(PlainMeta(meta)),
+        Err(error) => Err(error.into()),
+    }
+}
 
 impl DavMetaData for PlainMeta {
     ghost info = { λ m. info_of m.0 };
@@ -65,6 +76,10 @@ impl DavMetaData for PlainMeta {
 
     fn etag(&self, alloc: Global) -> Result<Option<Text>, NoMemory> {
         self.0.etag(alloc)
+    }
+
+    fn push_tag(&self, text: &mut Vec<u8>) -> Result<bool, NoMemory> {
+        self.0.push_tag(text)
     }
 
     fn has_tag(&self, tag: &[u8]) -> bool {

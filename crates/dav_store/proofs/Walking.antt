@@ -3,15 +3,8 @@ use Rattle.std.proofs.Common.{◌≡◌, ◌≢◌, ◌==◌, ℕ, Bool, true, f
 use Rattle.dav_io.proofs.ToldLemmas.{both_same, both_then}
 use Rattle.dav_core.specs.Disk.{DiskState}
 use Rattle.dav_core.specs.Unchanged.{Keeps, SameBesidesOpens, SameListing, SameOpen}
-use Rattle.dav_core.proofs.UnchangedLemmas.{equal_keys, other_keys, same_besides, same_besides_then}
-use Rattle.dav_core.specs.World.{World}
+use Rattle.dav_core.proofs.UnchangedLemmas.{equal_keys, other_keys, same_besides, same_besides_then, same_listing_then, same_open_then}
 use Rattle.dav_store.specs.Listings.{EndsList, HasNone, IsListed, KeepsButLister}
-
-same_open_then : (h : ℕ) (a b c : World) → SameOpen h a b → SameOpen h b c → SameOpen h a c
-same_open_then h a b c p q = q ∙ p
-
-same_listing_then : (n : ℕ) (a b c : World) → SameListing n a b → SameListing n b c → SameListing n a c
-same_listing_then n a b c p q = q ∙ p
 
 -- nothing was done
 pub walk_same : (own : Option ℕ) (s : DiskState) → KeepsButLister own s s

@@ -4,16 +4,18 @@ use Rattle.dav_io.specs.Told.{Both}
 use Rattle.dav_core.specs.declared.error.FsError.{FsError}
 use Rattle.dav_core.specs.declared.handle.OpenOptions.{OpenOptions}
 use Rattle.dav_core.specs.Disk.{DiskState, Live}
-use Rattle.dav_core.specs.Unchanged.{Keeps, KeepsBut, SameOpen}
+use Rattle.dav_core.specs.Unchanged.{Keeps, KeepsBut, SameListing, SameOpen}
 use Rattle.dav_core.specs.Options.{reading}
 use Rattle.dav_store.specs.Standing.{Seen}
 
--- The same handles and listers are live, and every open file has its number and its place. What stands may differ.
+-- The same handles and listers are live, every open file has its number and its place, and every open listing its names to
+-- come. What stands may differ.
 pub record KeepsOpen (s t : DiskState) : Type 0 where
   pub counts : s.faults ≤ t.faults
   pub asked : s.asked ≤ t.asked
   pub whole : IsTrue s.whole → IsTrue t.whole
   pub listers : t.listers ≡ s.listers
+  pub listings : (n k : ℕ) → s.listers n ≡ Some k → Both s.told t.told (SameListing n)
   pub live : (h : ℕ) → t.live h ≡ s.live h
   pub opens : (h : ℕ) (l : Live) → s.live h ≡ Some l → Both s.told t.told (SameOpen h)
 
@@ -23,6 +25,7 @@ pub record KeepsOpenBut (own : ℕ) (s t : DiskState) : Type 0 where
   pub asked : s.asked ≤ t.asked
   pub whole : IsTrue s.whole → IsTrue t.whole
   pub listers : t.listers ≡ s.listers
+  pub listings : (n k : ℕ) → s.listers n ≡ Some k → Both s.told t.told (SameListing n)
   pub live : (h : ℕ) → h ≢ own → t.live h ≡ s.live h
   pub opens : (h : ℕ) (l : Live) → h ≢ own → s.live h ≡ Some l → Both s.told t.told (SameOpen h)
 

@@ -5,3 +5,4 @@ pub mod Listings
 pub mod Bodies
 pub mod View
 pub mod Shows
+pub mod Members

@@ -7,7 +7,6 @@ use Rattle.dav_core.specs.declared.tree.Kind.{Kind}
 use Rattle.dav_core.specs.Disk.{DiskState, Live}
 use Rattle.dav_core.specs.Info.{Info}
 use Rattle.dav_core.specs.Unchanged.{Keeps, SameOpen, SameListing, SameBesidesOpens}
-use Rattle.dav_core.specs.World.{World}
 
 -- what a disk has of the lister that a listing holds, if it holds one
 abbrev pub left_of : DiskState → Option ℕ → Option ℕ

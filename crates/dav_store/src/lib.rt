@@ -6,6 +6,7 @@ mod body_reader;
 mod entry;
 mod file;
 mod guarded;
+mod members;
 mod through;
 mod unguarded;
 mod walk;
@@ -14,9 +15,7 @@ pub use body_reader::BodyReader;
 pub use entry::{DavDirEntry, ReadDirMeta};
 pub use file::DavFile;
 pub use guarded::GuardedFileSystem;
-pub use through::{file_close, file_metadata, file_read, file_seek};
+pub use members::read_members;
+pub use through::{entry_metadata, file_close, file_metadata, file_read, file_seek};
 pub use unguarded::DavFileSystem;
 pub use walk::count_entries;
-
-#[cfg(test)]
-mod tests;

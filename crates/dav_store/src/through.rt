@@ -1,9 +1,10 @@
 // Calls of a file on the disk inside its store.
 ghost use Rattle.std.specs.Prelude.{◌<◌, length, IsSome};
+ghost use Rattle.dav_core.specs.Unchanged.{Keeps};
 ghost use Rattle.dav_store.specs.Standing.{info_in};
-ghost use Rattle.dav_store.specs.View.{the_view, Says, Seeks, Reads, Closes};
+ghost use Rattle.dav_store.specs.View.{the_view, Lent, Says, Seeks, Reads, Closes};
 
-use crate::{DavFile, GuardedFileSystem};
+use crate::{DavDirEntry, DavFile, GuardedFileSystem};
 use dav_core::FsError;
 
 /// The file's metadata as it is now.
@@ -51,4 +52,19 @@ pub fn file_close<S: GuardedFileSystem<C>, C>(fs: &mut S, file: S::File)
     ensures { Closes (the_view S.GuardedFileSystem S.Disk.Disk S.File.DavFile) fs.old file fs.new }
 {
     file.close(fs.disk())
+}
+
+/// The metadata of an entry of a listing: what the listing read, or what the disk says now.
+pub fn entry_metadata<S: GuardedFileSystem<C>, C>(
+    fs: &mut S,
+    entry: &S::Entry,
+) -> Result<S::Meta, FsError>
+    requires { S.admits fs.old }
+    ensures says { S.Entry.says entry.now (S.Disk.state (S.inside fs.old)) (info_in S.Meta.info result)
+        (S.Disk.state (S.inside fs.new)) }
+    ensures lent { Lent (the_view S.GuardedFileSystem S.Disk.Disk S.File.DavFile) fs.old fs.new }
+    ensures keeps { Keeps (S.Disk.state (S.inside fs.old)) (S.Disk.state (S.inside fs.new)) }
+    ensures admits { S.admits fs.new }
+{
+    entry.metadata(fs.disk())
 }

@@ -1,0 +1,43 @@
+use Rattle.std.proofs.Common.{[], ◌++◌, ◌∷◌, refl, ◌∙◌}
+use Rattle.dav_store.specs.Members.{begun, goes}
+use Rattle.dav_store.proofs.Reading.{lister_kept, step_keeps, told_then}
+use Rattle.dav_store.proofs.Walking.{walk_same}
+use Rattle.dav_store.proofs.members.read_on.Goals as goal
+
+pub entries-init : goal.entries-init
+entries-init g c = record {
+  live = c.requires.live;
+  admits = c.requires.admits;
+  lister = refl;
+  keeps = walk_same _ _;
+  loan = refl;
+  walk = ([], begun, c.new-members.ensures.items);
+  plain = rw c.new-members.ensures.items tt;
+}
+
+pub entries-preserved : goal.entries-preserved
+entries-preserved g c =
+    let before = c.entries.invariant in
+    let added = c.in-Ok.ensures in
+    let answers = before.walk.0 in
+    let r = added.told.0 in
+    let name = g.S.Entry.DavDirEntry.called c.in-Ok-Some.entry in
+    record {
+      live = lister_kept (g.S.GuardedFileSystem.lister c.entries.dir) (g.S.GuardedFileSystem.lister c.next_entry.new.dir) (g.S.Disk.Disk.state (g.S.GuardedFileSystem.inside c.next_entry.new.self))
+          (g.S.Disk.Disk.state (g.S.GuardedFileSystem.inside c.add_member.new.fs)) c.next_entry.ensures.lister added.keeps.listers c.next_entry.ensures.goes_on.live;
+      admits = added.admits;
+      lister = c.next_entry.ensures.lister ∙ before.lister;
+      keeps = step_keeps _ _ _ _ _ _ before.lister before.keeps c.next_entry.ensures.goes_on.keeps added.keeps;
+      loan = added.loan ∙ (c.next_entry.ensures.loan ∙ before.loan);
+      walk = (
+        answers ++ record { name = name; meta = r } ∷ [],
+        goes answers c.entries.fs c.next_entry.new.self c.add_member.new.fs c.entries.dir c.next_entry.new.dir c.in-Ok-Some.entry r before.walk.1
+            (rw c.in-Ok-Some.field-0-is at c.in-Ok-Some.ensures.done) added.told.1 added.store added.keeps,
+        told_then answers name r c.entries.members.items c.add_member.new.members.items added.told.2 before.walk.2,
+      );
+      plain = added.plain before.plain;
+    }
+
+pub returns-in_default-clause-keeps : goal.returns-in_default-clause-keeps
+returns-in_default-clause-keeps g c =
+    step_keeps _ _ _ _ _ _ c.entries.invariant.lister c.entries.invariant.keeps c.next_entry.ensures.goes_on.keeps c.add_member.ensures.keeps

@@ -1,0 +1,140 @@
+//! The members of a directory, for any store.
+ghost use Rattle.std.specs.Prelude.{◌≡◌, ◌++◌, ◌⊎◌, Err, IfOk, IfErr, MatchResult, OnOk, Result, List};
+ghost use Rattle.std.specs.List.{AllByRecursion};
+ghost use Rattle.dav_core.specs.declared.error.FsError.{FsError};
+ghost use Rattle.dav_core.specs.declared.member.Member.{Member};
+ghost use Rattle.dav_core.specs.Info.{Info};
+ghost use Rattle.dav_core.specs.Unchanged.{Keeps};
+ghost use Rattle.dav_store.specs.Listings.{HasLister, KeepsButLister};
+ghost use Rattle.dav_store.specs.Members.{IsNamedPlain, ReadsThere, RefusesThere, ShowsMembers, WalksOut, WasListed, member_said, told_of};
+ghost use Rattle.dav_store.specs.View.{the_listings, the_view};
+ghost use Rattle.dav_store.specs.declared.entry.ReadDirMeta.TheVariants.{Data};
+
+use crate::through::entry_metadata;
+use crate::{DavDirEntry, GuardedFileSystem, ReadDirMeta};
+use dav_core::{DavMetaData, DavPath, FsError, Kind, Member};
+use dav_io::{NoMemory, Text};
+use std::alloc::Global;
+
+fn kind_of<M: DavMetaData>(meta: &M) -> Kind
+    ensures { result ≡ (M.info meta.now).kind }
+{
+    if meta.is_dir() {
+        Kind::Dir
+    } else if meta.is_file() {
+        Kind::File
+    } else {
+        Kind::Link
+    }
+}
+
+// The member that metadata tells of.
+fn member_of<M: DavMetaData>(name: Text, meta: &M) -> Member
+    ensures { result ≡ member_said name (M.info meta.now) }
+{
+    let modified = match meta.modified() {
+        Ok(time) => Some(time),
+        Err(_) => None,
+    };
+    Member {
+        name,
+        kind: kind_of(meta),
+        len: meta.len(),
+        modified,
+    }
+}
+
+// Asks an entry for its metadata, and adds the member that it tells of.
+fn add_member<S: GuardedFileSystem<C>, C>(
+    alloc: Global,
+    fs: &mut S,
+    entry: &S::Entry,
+    members: &mut Vec<Member>,
+) -> Result<(), NoMemory>
+    requires admits { S.admits fs.old }
+    ensures told { (r : Result Info FsError)
+        × S.Entry.says entry.now (S.Disk.state (S.inside fs.old)) r (S.Disk.state (S.inside fs.new))
+        × OnOk result (members.new.items ≡ members.old.items ++ told_of (S.Entry.called entry.now) r) }
+    ensures plain { AllByRecursion IsNamedPlain members.old.items → AllByRecursion IsNamedPlain members.new.items }
+    ensures store { fs.new ≡ S.with_disk fs.old (S.inside fs.new) }
+    ensures keeps { Keeps (S.Disk.state (S.inside fs.old)) (S.Disk.state (S.inside fs.new)) }
+    ensures admits { S.admits fs.new }
+    ensures loan { S.Disk.loan (S.inside fs.new) ≡ S.Disk.loan (S.inside fs.old) }
+{
+    let Ok(meta) = entry_metadata::<S, C>(fs, entry) else {
+        return Ok(());
+    };
+    let name = Text::copy(alloc, entry.name())?;
+    members.push(member_of(name, &meta))?;
+    Ok(())
+}
+
+#[tactic(auto, using(crate::proofs::Walking::walk_same, crate::proofs::Walking::walk_then, crate::proofs::Reading::keeps_lister))]
+// The members that a listing has to come, up to its end or a fault.
+fn read_on<S: GuardedFileSystem<C>, C>(
+    alloc: Global,
+    fs: &mut S,
+    dir: &mut S::Dir,
+) -> Result<Vec<Member>, FsError>
+    requires live { HasLister (S.Disk.state (S.inside fs.old)) (S.lister dir.old) }
+    requires admits { S.admits fs.old }
+    ensures walks { IfOk result (λ members. WalksOut (the_view S.GuardedFileSystem S.Disk.Disk S.File.DavFile)
+        (the_listings S.GuardedFileSystem S.Entry.DavDirEntry) fs.old dir.old members.items fs.new dir.new) }
+    ensures plain { IfOk result (λ members. AllByRecursion IsNamedPlain members.items) }
+    ensures live { HasLister (S.Disk.state (S.inside fs.new)) (S.lister dir.new) }
+    ensures admits { S.admits fs.new }
+    ensures lister { S.lister dir.new ≡ S.lister dir.old }
+    ensures keeps { KeepsButLister (S.lister dir.old) (S.Disk.state (S.inside fs.old)) (S.Disk.state (S.inside fs.new)) }
+    ensures error { IfErr result (λ e. e ≡ FsError.NoMemory) }
+    ensures loan { S.Disk.loan (S.inside fs.new) ≡ S.Disk.loan (S.inside fs.old) }
+{
+    let mut members = Vec::new(alloc);
+    'entries: loop {
+        match fs.next_entry(dir) {
+            Ok(None) => return Ok(members),
+            Ok(Some(entry)) => {
+                let Ok(()) = add_member::<S, C>(alloc, fs, &entry, &mut members) else {
+                    return Err(FsError::NoMemory);
+                };
+            }
+            Err(FsError::NoMemory) => return Err(FsError::NoMemory),
+            Err(_) => return Ok(members),
+        }
+    }
+}
+
+/// The members of the directory at a path whose metadata the store gives, in the order of its listing, up to the end or
+/// a fault. The listing is ended, and nothing is left open.
+///
+/// Errors: what the store refuses a listing with, and want of memory.
+pub fn read_members<S: GuardedFileSystem<C>, C>(
+    alloc: Global,
+    fs: &mut S,
+    path: &DavPath,
+    credentials: &C,
+) -> Result<Vec<Member>, FsError>
+    requires admits { S.admits fs.old }
+    ensures listed { IfOk result (λ members. WasListed (the_view S.GuardedFileSystem S.Disk.Disk S.File.DavFile)
+        (the_listings S.GuardedFileSystem S.Entry.DavDirEntry) fs.old credentials.now path.now members.items fs.new) }
+    ensures plain { IfOk result (λ members. AllByRecursion IsNamedPlain members.items) }
+    ensures refused { IfErr result (λ e. S.lists fs.old credentials.now path.now Data (Err e) fs.new
+        ⊎ (e ≡ FsError.NoMemory)) }
+    ensures shown { (found : Result (List Member) FsError)
+        → ShowsMembers (the_view S.GuardedFileSystem S.Disk.Disk S.File.DavFile)
+        (the_listings S.GuardedFileSystem S.Entry.DavDirEntry) fs.old credentials.now path.now found
+        → MatchResult result
+        (λ members. ReadsThere found (S.Disk.state (S.inside fs.old)).faults members.items
+        (S.Disk.state (S.inside fs.new)).faults)
+        (λ e. RefusesThere found (S.Disk.state (S.inside fs.old)) e (S.Disk.state (S.inside fs.new))) }
+    ensures keeps { Keeps (S.Disk.state (S.inside fs.old)) (S.Disk.state (S.inside fs.new)) }
+    ensures admits { S.admits fs.new }
+    ensures loan { S.Disk.loan (S.inside fs.new) ≡ S.Disk.loan (S.inside fs.old) }
+{
+    let mut dir = match fs.read_dir(path, ReadDirMeta::Data, credentials) {
+        Ok(dir) => dir,
+        Err(error) => return Err(error),
+    };
+    let members = read_on(alloc, fs, &mut dir);
+    fs.end_dir(dir);
+    members
+}
