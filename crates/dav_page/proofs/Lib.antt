@@ -4,6 +4,14 @@ pub mod Free
 pub mod Hundredths
 pub mod PageOnce
 mod PageRows
+pub mod Written
+pub mod Shown
+pub mod Whole
+pub mod Calendar
+pub mod RowsWritten
+pub mod Crumbs
+pub mod PageMade
+pub mod Inside
 pub mod Reader
 pub mod SizeForms
 pub mod Strips

@@ -22,7 +22,8 @@ use Rattle.htmlescape.specs.Names.{named, entities, latin, symbols, special}
 use Rattle.htmlescape.specs.Grammar.{Item}
 use Rattle.htmlescape.specs.Grammar.Item.{Plain, Name, Hexadecimal}
 use Rattle.dav_page.specs.declared.row.PageRow.{PageRow}
-use Rattle.dav_page.specs.Members.{Member, members}
+use Rattle.dav_core.specs.declared.member.Member.{Member}
+use Rattle.dav_core.specs.Members.{members}
 use Rattle.dav_page.specs.Pages.{Crumb, heading_text, is_date, is_link, IsName, IsPage, IsRow, Leads, Page, pieces_of, PageTexts, row_text, RowTexts}
 use Rattle.dav_page.specs.Sizes.{shown_size}
 use Rattle.dav_page.specs.Listed.{AreRows, crumbs_from, IsMinute, IsOf, is_visible, place_of}

@@ -1,5 +1,5 @@
 pub mod Pages
 pub mod Sizes
-pub mod Members
 pub mod Listed
+pub mod Index
 pub mod Cuts

@@ -8,11 +8,11 @@ use Rattle.httpdate.specs.Text.{two_digits, four_digits}
 use Rattle.jiff_core.specs.Calendar.{IsCivilDate, days_from_civil}
 use Rattle.dav_core.specs.declared.time.FileTime.{FileTime}
 use Rattle.dav_core.specs.DavPath.{WebPath, final_slash, last_name, link_of, shown, slashed}
-use Rattle.dav_core.specs.Info.{natural}
+use Rattle.dav_core.specs.Info.{known, natural}
 use Rattle.dav_core.specs.Path.{Names, is_plain}
 use Rattle.dav_core.specs.Tree.{is_dir, is_file}
 use Rattle.dav_page.specs.declared.row.PageRow.{PageRow}
-use Rattle.dav_page.specs.Members.{Member}
+use Rattle.dav_core.specs.declared.member.Member.{Member}
 use Rattle.dav_page.specs.Pages.{Page, Crumb, no_size}
 use Rattle.dav_page.specs.Sizes.{shown_size}
 
@@ -54,11 +54,11 @@ size_of m = cond (is_file m.kind) (shown_size m.len) no_size
 abbrev pub path_of : WebPath → Member → WebPath
 path_of dir m = record dir { names = dir.names ++ m.name ∷ []; slash = is_dir m.kind }
 
--- what a reader takes of a member
+-- What a reader takes of a member. A time before 1970 or after 9999 is unknown.
 pub record IsRowOf (dir : WebPath) (m : Member) (row : PageRow) : Type 0 where
   pub path : row.path ≡ shown (path_of dir m)
   pub name : row.name ≡ shown_name m
-  pub date : IsDateOf m.modified row.date
+  pub date : IsDateOf (known m.modified) row.date
   pub size : row.size ≡ size_of m
 
 -- The rows of a page of this directory: its visible members, each once, in order.
@@ -78,8 +78,11 @@ IsLeft (x ∷ xs) (y ∷ ys) = ((x ≡ y) × IsLeft xs ys) ⊎ IsLeft (x ∷ xs)
 abbrev pub AreSomeRows : WebPath → List Member → List PageRow → Type 0
 AreSomeRows dir all rows = (whole : List PageRow) × AreRows dir all whole × IsLeft rows whole
 
+abbrev pub has_plain_name : Member → Bool
+has_plain_name m = is_plain m.name
+
 abbrev pub HasPlainName : Member → Type 0
-HasPlainName m = is_plain m.name ≡ true
+HasPlainName m = has_plain_name m ≡ true
 
 -- What rows keep, whatever a disk tells: they are of some members with plain names.
 abbrev pub AreSound : WebPath → List PageRow → Type 0

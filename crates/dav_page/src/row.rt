@@ -1,7 +1,4 @@
-ghost use Rattle.std.specs.Prelude.{◌≡◌};
-
-use dav_io::Text;
-use std::marker::Model;
+use dav_io::{Items, Text};
 
 /// What a page says of an entry of its directory.
 #[derive(Drop)]
@@ -16,31 +13,5 @@ pub struct PageRow {
     pub size: Text,
 }
 
-/// The rows of a page, in order. A contract sees them as the list.
-#[derive(Drop)]
-pub struct Rows {
-    rows: Vec<PageRow>,
-}
-
-impl Model for Rows {
-    ghost use Rattle.std.specs.Prelude.{List};
-    ghost use Rattle.dav_page.specs.declared.row.PageRow.{PageRow};
-
-    ghost Value = { List PageRow };
-
-    ghost view = { λ r. r.rows.items };
-}
-
-impl Rows {
-    pub(crate) fn new(rows: Vec<PageRow>) -> Self
-        ensures { result ≡ rows.items }
-    {
-        Rows { rows }
-    }
-
-    pub fn as_slice(&self) -> &[PageRow]
-        ensures { result.now ≡ self.now }
-    {
-        self.rows.as_slice()
-    }
-}
+/// The rows of a page, in order.
+pub type Rows = Items<PageRow>;

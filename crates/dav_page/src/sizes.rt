@@ -1,4 +1,5 @@
 ghost use Rattle.std.specs.Prelude.{◌≡◌, ◌≤◌, ◌<◌, ◌^◌, IfOk, MatchOption, codes, string_bytes};
+ghost use Rattle.dav_page.specs.Pages.{IsAmount};
 ghost use Rattle.dav_page.specs.Sizes.{amount, hundredths, scale, scale_of, shown_size};
 
 use dav_io::{NoMemory, Text};
@@ -54,13 +55,22 @@ fn text_of(alloc: Global, hundredths: u64, unit: &str) -> Result<String, NoMemor
     }
 }
 
+// A size of which the byte is the greatest unit that isn't above it.
+fn in_bytes(alloc: Global, size: u64) -> Result<Text, NoMemory>
+    requires { scale_of size ≡ scale 1 (codes "B") }
+    ensures { IfOk result (λ text. text ≡ shown_size size) }
+{
+    Ok(Text::new(format!(in alloc; "{size} B")?))
+}
+
 /// A size in bytes as index pages show it: from 1024 to below 2^60 in the greatest of KiB, MiB, GiB, TiB and PiB that isn't
 /// above it, with up to two digits behind a point; else in bytes.
 pub fn display_size(alloc: Global, size: u64) -> Result<Text, NoMemory>
-    ensures { IfOk result (λ text. text ≡ shown_size size) }
+    ensures value { IfOk result (λ text. text ≡ shown_size size) }
+    ensures form { IfOk result IsAmount }
 {
     match unit_of(size) {
         Some((bytes, unit)) => Ok(Text::new(text_of(alloc, quotient(size, bytes), unit)?)),
-        None => Ok(Text::new(format!(in alloc; "{size} B")?)),
+        None => Ok(in_bytes(alloc, size)?),
     }
 }

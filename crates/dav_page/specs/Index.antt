@@ -1,0 +1,71 @@
+-- What is written as the index page of a directory, besides that it is a page.
+use Rattle.std.specs.Prelude.{◌≡◌, ℕ, List, [], ◌∷◌, ◌++◌, Option, Bool, true, false, encode_utf8_all, map, option_map}
+use Rattle.std.specs.List.{AllZip, flat_map}
+use Rattle.std.specs.Str.{chars, is_utf8}
+use Rattle.htmlescape.specs.declared.alphabet.Alphabet.TheVariants.{Minimal}
+use Rattle.htmlescape.specs.Escapes.{encoded}
+use Rattle.dav_core.specs.declared.member.Member.{Member}
+use Rattle.dav_core.specs.DavPath.{WebPath, last_name, link_of, final_slash, shown, slashed}
+use Rattle.dav_core.specs.Path.{Names, is_plain}
+use Rattle.dav_page.specs.declared.row.PageRow.{PageRow}
+use Rattle.dav_page.specs.Pages.{Crumb, CrumbTexts, IsCrumb, IsLast, IsPage, IsRow, IsTitle, NoCrumbsAtRoot, Page, RowTexts, before_heading, before_rows, before_title, heading_text, pieces_of, row_text}
+use Rattle.dav_page.specs.Listed.{IsOf, IsRowOf, all_names, crumbs_from}
+
+-- The texts joined are a page of this directory with such rows: its head, one text a row, and its end.
+pub record IsIndex (dir : WebPath) (Rows : List PageRow → Type 0) (texts : List (List ℕ)) : Type 0 where
+  pub page : Page
+  pub reads : IsPage (flat_map (λ t. t) texts) page
+  pub pieces : texts ≡ pieces_of reads.texts
+  pub of : IsOf dir page
+  pub rows : Rows page.rows
+
+-- The text of a row, from which a reader takes what is shown of this member.
+pub record IsRowText (dir : WebPath) (m : Member) (text : List ℕ) : Type 0 where
+  pub texts : RowTexts
+  pub row : PageRow
+  pub spells : text ≡ row_text texts
+  pub utf8 : is_utf8 text ≡ true
+  pub reads : IsRow texts row
+  pub of : IsRowOf dir m row
+
+-- the text of a name between tags
+abbrev pub name_text : List ℕ → List ℕ
+name_text name = encode_utf8_all (encoded Minimal (chars name))
+
+-- the texts of a link to a directory on the way
+abbrev pub written_crumb : Crumb → CrumbTexts
+written_crumb c = record { link = link_of c.path; name = name_text c.name }
+
+-- The heading of the path with these names, byte by byte.
+abbrev pub heading_of : Names → List ℕ
+heading_of names = heading_text (map written_crumb (crumbs_from [] names)) (option_map name_text (last_name names))
+
+-- each of the names, and the path to it
+abbrev pub crumbs_at : List ℕ → Names → List Crumb
+crumbs_at at [] = []
+crumbs_at at (name ∷ names) = record { path = at ++ slashed name; name = name } ∷ crumbs_at (at ++ slashed name) names
+
+-- A heading, from which a reader takes the names of a path and the links on the way there.
+pub record IsHeading (names : Names) (text : List ℕ) : Type 0 where
+  pub texts : List CrumbTexts
+  pub last : Option (List ℕ)
+  pub spells : text ≡ heading_text texts last
+  pub root : NoCrumbsAtRoot texts last
+  pub crumbs : AllZip IsCrumb texts (crumbs_from [] names)
+  pub ends : IsLast last (last_name names)
+
+-- What stands before the rows of a directory's page.
+pub record HasHead (dir : WebPath) (text : List ℕ) : Type 0 where
+  pub title : List ℕ
+  pub heading : List ℕ
+  pub spells : text ≡ before_title ++ (title ++ (before_heading ++ (heading ++ before_rows)))
+  pub utf8 : is_utf8 text ≡ true
+  pub names : IsTitle title (link_of (shown dir))
+  pub leads : IsHeading (all_names dir) heading
+
+-- A row leads to a plain name right below a directory, perhaps with a final slash.
+pub record LeadsInside (dir : WebPath) (row : PageRow) : Type 0 where
+  pub name : List ℕ
+  pub plain : is_plain name ≡ true
+  pub ends : Bool
+  pub path : row.path ≡ shown (record dir { slash = false }) ++ (slashed name ++ final_slash ends)
