@@ -3,31 +3,35 @@ use Rattle.std.proofs.Common.{◌≡◌, ◌≢◌, ◌≤◌, ◌<◌, ◌+◌,
 use Rattle.std.specs.Prelude.{codes}
 use Rattle.dav_io.specs.Counts.{one_more}
 use Rattle.dav_core.specs.declared.dav_error.DavError.{DavError}
-use Rattle.dav_core.specs.declared.dav_error.DavError.TheVariants.{NoMemory, Status, StatusClose}
+use Rattle.dav_core.specs.declared.dav_error.DavError.TheVariants.{NoMemory, Status}
 use Rattle.dav_core.specs.declared.error.FsError.{FsError}
 use Rattle.dav_core.specs.declared.error.FsError.TheVariants as fs
+use Rattle.dav_core.specs.declared.member.Member.{Member}
 use Rattle.dav_core.specs.Info.{Info}
 use Rattle.dav_core.specs.Statuses.{of_fs, status_of}
-use Rattle.dav_core.specs.Tree.{is_dir, is_file}
+use Rattle.dav_core.specs.DavPath.{WebPath}
+use Rattle.dav_core.specs.Tree.{is_file}
 use Rattle.dav_store.specs.Files.{AsksOnce}
-use Rattle.dav_store.specs.View.{View, Closes}
+use Rattle.dav_store.specs.View.{View, Listings, Closes}
 use Rattle.dav_model.specs.declared.outcome.Outcome.{Outcome}
 use Rattle.dav_model.specs.declared.ranges.Ranges.{Ranges}
 use Rattle.dav_model.specs.declared.ranges.Ranges.TheVariants.{Whole, Unsatisfiable, Parts}
 use Rattle.dav_model.specs.declared.ranges.Slice.{Slice}
 use Rattle.dav_model.specs.declared.sent.Sent.{Sent}
 use Rattle.dav_model.specs.declared.sent.Sent.TheVariants.{Unsatisfied}
-use Rattle.dav_model.specs.Calls.{AsksToGet, AsksUnlessKnown, more_by}
+use Rattle.dav_model.specs.Calls.{AsksToGet, AsksUnlessKnown, AsksUnlessPage, is_of_page, more_by}
 use Rattle.dav_model.specs.Conditions.{condition, first_bytes, ranges_are_heard, strong}
-use Rattle.dav_model.specs.Due.{Query}
-use Rattle.dav_model.specs.Head.{is_set, is_well_known, sent_by, sent_parts_of, sent_ranges, sent_status}
+use Rattle.dav_model.specs.Due.{Course, Query, course, directing, listing, opening, refusing}
+use Rattle.dav_model.specs.Head.{is_get, is_set, is_well_known, sent_by, sent_parts_of, sent_ranges, sent_status}
 use Rattle.dav_model.specs.Slices.{ranges}
+use Rattle.dav_model.proofs.Courses.{course_holds}
 use Rattle.dav_model.proofs.RightReplies.{Where, condition_where}
 use Rattle.dav_get.specs.declared.open_at.OpenAt.{OpenAt}
 use Rattle.dav_get.specs.declared.part.BodyPart.{BodyPart}
 use Rattle.dav_get.specs.declared.body.GetBody.{GetBody}
-use Rattle.dav_get.specs.Calls.{AsksByOne, AsksToOpen, status_given}
-use Rattle.dav_get.specs.Table.{AfterLook, AfterMeta, AfterOpen, AfterRedirect, Answer, ByFile, ByKind, ByRedirect, ByWellKnown, Gets, Given, Holds, IfMoved, Sends, SendsAway, SendsFile, first_place, sent_after, sent_for}
+use Rattle.dav_get.specs.Calls.{AsksByOne, AsksToOpen, fields_given, status_given}
+use Rattle.dav_get.specs.Lives.{OpenOnlyHeld, OpensOnly}
+use Rattle.dav_get.specs.Table.{AfterListing, AfterLook, AfterMeta, AfterOpen, AfterRedirect, Answer, ByCourse, ByFile, ByRedirect, ByWellKnown, Directs, Gets, Given, Holds, IfMoved, IsListing, Sends, SendsAway, SendsFile, asked_at, first_place, refused_as, sent_after, sent_for}
 use Rattle.dav_get.proofs.Sending.{some_start}
 
 -- ---- counts
@@ -54,18 +58,22 @@ before_move false n most = omega arith
 
 -- ---- statuses
 
-no_success : (e : FsError) → (status_of (of_fs e) ≢ 200) × (status_of (of_fs e) ≢ 206)
-no_success fs.NotFound = (λ e. omega arith, λ e. omega arith)
-no_success fs.Forbidden = (λ e. omega arith, λ e. omega arith)
-no_success fs.Exists = (λ e. omega arith, λ e. omega arith)
-no_success fs.GeneralFailure = (λ e. omega arith, λ e. omega arith)
-no_success fs.NotImplemented = (λ e. omega arith, λ e. omega arith)
-no_success fs.InsufficientStorage = (λ e. omega arith, λ e. omega arith)
-no_success fs.LoopDetected = (λ e. omega arith, λ e. omega arith)
-no_success fs.PathTooLong = (λ e. omega arith, λ e. omega arith)
-no_success fs.TooLarge = (λ e. omega arith, λ e. omega arith)
-no_success fs.IsRemote = (λ e. omega arith, λ e. omega arith)
-no_success fs.NoMemory = (λ e. omega arith, λ e. omega arith)
+-- a status of no file that is sent, and of no redirect
+abbrev IsOther : ℕ → Type 0
+IsOther status = (status ≢ 200) × (status ≢ 206) × (status ≢ 302)
+
+no_success : (e : FsError) → IsOther (status_of (of_fs e))
+no_success fs.NotFound = (λ e. omega arith, λ e. omega arith, λ e. omega arith)
+no_success fs.Forbidden = (λ e. omega arith, λ e. omega arith, λ e. omega arith)
+no_success fs.Exists = (λ e. omega arith, λ e. omega arith, λ e. omega arith)
+no_success fs.GeneralFailure = (λ e. omega arith, λ e. omega arith, λ e. omega arith)
+no_success fs.NotImplemented = (λ e. omega arith, λ e. omega arith, λ e. omega arith)
+no_success fs.InsufficientStorage = (λ e. omega arith, λ e. omega arith, λ e. omega arith)
+no_success fs.LoopDetected = (λ e. omega arith, λ e. omega arith, λ e. omega arith)
+no_success fs.PathTooLong = (λ e. omega arith, λ e. omega arith, λ e. omega arith)
+no_success fs.TooLarge = (λ e. omega arith, λ e. omega arith, λ e. omega arith)
+no_success fs.IsRemote = (λ e. omega arith, λ e. omega arith, λ e. omega arith)
+no_success fs.NoMemory = (λ e. omega arith, λ e. omega arith, λ e. omega arith)
 
 -- What is answered 206 has a first part.
 abbrev IsPlaced : Sent → Type 0
@@ -91,6 +99,27 @@ for_placed q info =
     sent_placed (condition q.method q.fields true (strong info.tag) info.modified) (ranges_are_heard q.fields (strong info.tag) info.modified) (first_bytes q.fields (codes "range")) info.len
     (condition_where (λ n. n ≢ 206) (λ e. omega arith) (λ e. omega arith) q.method q.fields (strong info.tag) info.modified)
 
+-- What is sent of a file is no redirect.
+parts_stay : (parts : List Slice) → sent_status (sent_parts_of parts) ≢ 302
+parts_stay [] e = omega (arith, e)
+parts_stay (a ∷ []) e = omega (arith, e)
+parts_stay (a ∷ b ∷ parts) e = omega (arith, e)
+
+ranges_stay : (r : Ranges) → sent_status (sent_ranges r) ≢ 302
+ranges_stay Whole e = omega (arith, e)
+ranges_stay Unsatisfiable e = omega (arith, e)
+ranges_stay (Parts parts) e = parts_stay parts e
+
+sent_stays : (status : Option ℕ) (on : Bool) (range : Option (List ℕ)) (len : ℕ) → Where (λ n. n ≢ 302) status → sent_status (sent_by status on range len) ≢ 302
+sent_stays (Some status) on range len ne e = ne e
+sent_stays None false range len ne e = omega (arith, e)
+sent_stays None true range len ne e = ranges_stay (ranges range len) e
+
+for_stays : (q : Query) (info : Info) → sent_status (sent_for q info) ≢ 302
+for_stays q info =
+    sent_stays (condition q.method q.fields true (strong info.tag) info.modified) (ranges_are_heard q.fields (strong info.tag) info.modified) (first_bytes q.fields (codes "range")) info.len
+    (condition_where (λ n. n ≢ 302) (λ e. omega arith) (λ e. omega arith) q.method q.fields (strong info.tag) info.modified)
+
 -- ---- the table
 
 module _ {S C F : Type 0} (view : View S C F) (q : Query) (b : ℕ) where
@@ -105,22 +134,23 @@ module _ {S C F : Type 0} (view : View S C F) (q : Query) (b : ℕ) where
   Done r result t = (result ≡ Err NoMemory) ⊎ AsksToGet r (status_given result) b (view.state t).asked
 
   -- no file is sent
-  unsent : (r : Bool) (n status : ℕ) (t : S) → Asked n t → 0 < n → n ≤ 4 → status ≢ 200 → status ≢ 206 → AsksToGet r status b (view.state t).asked
-  unsent r n status t was some most whole part = record {
+  unsent : (r : Bool) (n status : ℕ) (t : S) → Asked n t → 0 < n → n ≤ 4 → status ≢ 200 → status ≢ 206 → (r ≡ false → status ≢ 302) → AsksToGet r status b (view.state t).asked
+  unsent r n status t was some most whole part other = record {
     calls = n;
     are = was;
     some = some;
     most = within r n most;
     whole = λ no is. absurd (whole is);
     partial = λ no is. absurd (part is);
+    directed = λ no is. absurd (other no is);
   }
 
-  error : (r : Bool) (n : ℕ) (e : DavError) (result : Given F) (t : S) → Asked n t → 0 < n → n ≤ 4 → status_of e ≢ 200 → status_of e ≢ 206 → result ≡ Err e → Done r result t
-  error r n e result t was some most whole part is =
-      inr (subst (λ x. AsksToGet r (status_given {F = F} x) b (view.state t).asked) (sym is) (unsent r n (status_of e) t was some most whole part))
+  error : (r : Bool) (n : ℕ) (e : DavError) (result : Given F) (t : S) → Asked n t → 0 < n → n ≤ 4 → IsOther (status_of e) → result ≡ Err e → Done r result t
+  error r n e result t was some most (whole, part, other) is =
+      inr (subst (λ x. AsksToGet r (status_given {F = F} x) b (view.state t).asked) (sym is) (unsent r n (status_of e) t was some most whole part (λ no. other)))
 
   refused : (r : Bool) (n : ℕ) (e : FsError) (result : Given F) (t : S) → Asked n t → 0 < n → n ≤ 4 → result ≡ Err (of_fs e) → Done r result t
-  refused r n e result t was some most is = error r n (of_fs e) result t was some most (no_success e).0 (no_success e).1 is
+  refused r n e result t was some most is = error r n (of_fs e) result t was some most (no_success e) is
 
   closed_asks : (n : ℕ) (s : S) (file : F) (t : S) → Asked n s → Closes view s file t → Asked n t
   closed_asks n s file t was closed = closed.done.asked ∙ was
@@ -144,6 +174,7 @@ module _ {S C F : Type 0} (view : View S C F) (q : Query) (b : ℕ) where
         most = within_file r n most;
         whole = λ no is. (let e : 200 ≡ 206 = sym is ∙ status in let never : ⊥ = omega (arith, e) in absurd never);
         partial = λ no is. (let three : n ≡ 3 = exactly r n no some most in omega (arith, three));
+        directed = λ no is. (let e : 302 ≡ 206 = sym is ∙ status in let never : ⊥ = omega (arith, e) in absurd never);
       }
   moved_asks r n info sent (Err e) held s answer t part was some most row =
       let status : answer.0.status ≡ 416 = sends_status info Unsatisfied held s answer t row in
@@ -154,14 +185,15 @@ module _ {S C F : Type 0} (view : View S C F) (q : Query) (b : ℕ) where
         most = within_file r n most;
         whole = λ no is. (let f : 200 ≡ 416 = sym is ∙ status in let never : ⊥ = omega (arith, f) in absurd never);
         partial = λ no is. (let f : 206 ≡ 416 = sym is ∙ status in let never : ⊥ = omega (arith, f) in absurd never);
+        directed = λ no is. (let f : 302 ≡ 416 = sym is ∙ status in let never : ⊥ = omega (arith, f) in absurd never);
       }
 
   no_place : (start : ℕ) → ◌≡◌ {A = Option ℕ} None (Some start) → ⊥
   no_place start e = cc
 
-  sends_asks : (r : Bool) (n : ℕ) (info : Info) (sent : Sent) (place : Option ℕ) (file : F) (s : S) (answer : Answer F) (t : S) → IsPlaced sent → first_place sent ≡ place → Asked n s → 3 ≤ n → n ≤ cond r 4 3
+  sends_asks : (r : Bool) (n : ℕ) (info : Info) (sent : Sent) (place : Option ℕ) (file : F) (s : S) (answer : Answer F) (t : S) → IsPlaced sent → sent_status sent ≢ 302 → first_place sent ≡ place → Asked n s → 3 ≤ n → n ≤ cond r 4 3
       → IfMoved view place file s (λ sought held m. Sends view q info (sent_after sought sent) held m answer t) → AsksToGet r answer.0.status b (view.state t).asked
-  sends_asks r n info sent None file s answer t placed at was some most row = record {
+  sends_asks r n info sent None file s answer t placed stays at was some most row = record {
     calls = n;
     are = holds_asks row.parts (record { file = file; place = 0 }) s answer.1 t row.holds ∙ was;
     some = omega arith;
@@ -171,19 +203,20 @@ module _ {S C F : Type 0} (view : View S C F) (q : Query) (b : ℕ) where
         let (start, first) = placed (sym (sends_status info sent (record { file = file; place = 0 }) s answer t row) ∙ is) in
         absurd (no_place start (sym at ∙ first))
         );
+    directed = λ no is. absurd (stays (sym (sends_status info sent (record { file = file; place = 0 }) s answer t row) ∙ is));
   }
-  sends_asks r n info sent (Some start) file s answer t placed at was some most (sought, g, m, seeks, row) =
+  sends_asks r n info sent (Some start) file s answer t placed stays at was some most (sought, g, m, seeks, row) =
       moved_asks r n info sent sought (record { file = g; place = start }) m answer t (some_start sent start at) (once n s m was seeks.done.asked) some most row
 
   file_asks : (r : Bool) (n : ℕ) (info : Info) (file : F) (s : S) (result : Given F) (t : S) → Asked n s → 3 ≤ n → n ≤ cond r 4 3 → SendsFile view q info file s result t → Done r result t
   file_asks r n info file s (Err e) t was some most row = absurd row
-  file_asks r n info file s (Ok answer) t was some most row = inr (sends_asks r n info (sent_for q info) (first_place (sent_for q info)) file s answer t (for_placed q info) refl was some most row)
+  file_asks r n info file s (Ok answer) t was some most row = inr (sends_asks r n info (sent_for q info) (first_place (sent_for q info)) file s answer t (for_placed q info) (for_stays q info) refl was some most row)
 
   away_asks : (n : ℕ) (info : Info) (address : List ℕ) (file : F) (s : S) (result : Given F) (t : S) → Asked n s → 3 ≤ n → n ≤ 4 → SendsAway view info address file s result t → Done true result t
   away_asks n info address file s (Err e) t was some most row = absurd row
   away_asks n info address file s (Ok answer) t was some most ((date, dated, is), closed, empty) =
       let status : answer.0.status ≡ 302 = ap (λ (o : Outcome). o.status) is in
-      inr (subst (λ x. AsksToGet true x b (view.state t).asked) (sym status) (unsent true n 302 t (closed_asks n s file t was closed) (omega arith) most (λ e. omega arith) (λ e. omega arith)))
+      inr (subst (λ x. AsksToGet true x b (view.state t).asked) (sym status) (unsent true n 302 t (closed_asks n s file t was closed) (omega arith) most (λ e. omega arith) (λ e. omega arith) (λ no. absurd (true≢false no))))
 
   addressed : (said : Result (Option (List ℕ)) FsError) (n : ℕ) (info : Info) (file : F) (s : S) (result : Given F) (t : S) → Asked n s → 3 ≤ n → n ≤ 4 → AfterRedirect view said q info file s result t → Done true result t
   addressed (Err e) n info file s result t was some most (closed, is) = refused true n e result t (closed_asks n s file t was closed) (omega arith) most is
@@ -200,7 +233,7 @@ module _ {S C F : Type 0} (view : View S C F) (q : Query) (b : ℕ) where
   kind_asks : (regular : Bool) (info : Info) (file : F) (s : S) (result : Given F) (t : S) → Asked 3 s → ByFile view regular q info file s result t → Done (is_set q.settings.redirect) result t
   kind_asks true info file s result t was row = redirect_asks (is_set q.settings.redirect) info file s result t was row
   kind_asks false info file s result t was (closed, is) =
-      error (is_set q.settings.redirect) 3 (Status 405) result t (closed_asks 3 s file t was closed) (omega arith) (omega arith) (λ e. omega arith) (λ e. omega arith) is
+      error (is_set q.settings.redirect) 3 (Status 405) result t (closed_asks 3 s file t was closed) (omega arith) (omega arith) (λ e. omega arith, λ e. omega arith, λ e. omega arith) is
 
   meta_asks : (said : Result Info FsError) (file : F) (s : S) (result : Given F) (t : S) → Asked 3 s → AfterMeta view said q file s result t → Done (is_set q.settings.redirect) result t
   meta_asks (Err e) file s result t was (closed, is) = refused (is_set q.settings.redirect) 3 e result t (closed_asks 3 s file t was closed) (omega arith) (omega arith) is
@@ -214,25 +247,95 @@ module _ {S C F : Type 0} (view : View S C F) (q : Query) (b : ℕ) where
   open_asks (Ok file) s m result t was one (inr none) = inl none
   open_asks (Ok file) s m result t was one (inl (said, g, k, says, could, row)) = meta_asks said g k result t (once 2 m k (once 1 s m was one) says.done.asked) row
 
-  module _ (few : AsksByOne view) where
-    dir_asks : (dir : Bool) (c : C) (s : S) (result : Given F) (t : S) → Asked 1 s → ByKind view dir q c s result t → Done (is_set q.settings.redirect) result t
-    dir_asks true c s result t was (same, is) =
-        error (is_set q.settings.redirect) 1 (StatusClose 501) result t (ap (λ (x : S). (view.state x).asked) same ∙ was) (omega arith) (omega arith) (λ e. omega arith) (λ e. omega arith) is
-    dir_asks false c s result t was (opened, m, opens, one, row) = open_asks opened s m result t was (few.opens s m c q.path opened opens) row
+module _ {S C F L E : Type 0} (view : View S C F) (lists : Listings S C L E) (q : Query) (few : AsksByOne view lists) where
+  -- the status of each refusal without a store's error
+  abbrev IsRefusing : Course → Type 0
+  IsRefusing (refusing status close) = IsOther status
+  IsRefusing directing = Unit {0}
+  IsRefusing (opening path) = Unit {0}
+  IsRefusing listing = Unit {0}
 
-    look_asks : (look : Result Info FsError) (c : C) (s : S) (result : Given F) (t : S) → Asked 1 s → AfterLook view look q c s result t → Done (is_set q.settings.redirect) result t
-    look_asks (Err e) c s result t was (same, is) = refused (is_set q.settings.redirect) 1 e result t (ap (λ (x : S). (view.state x).asked) same ∙ was) (omega arith) (omega arith) is
-    look_asks (Ok info) c s result t was row = dir_asks (is_dir info.kind) c s result t was row
+  refusing_other : (info : Info) → IsRefusing (course q info.kind)
+  refusing_other info = course_holds q IsRefusing (record {
+    directs = tt;
+    lists = tt;
+    unlisted = (λ e. omega arith, λ e. omega arith, λ e. omega arith);
+    unnamed = (λ e. omega arith, λ e. omega arith, λ e. omega arith);
+    opens = record { path = tt; index = λ slash name set. tt };
+  }) info.kind
 
-module _ {S C F : Type 0} (view : View S C F) (q : Query) (few : AsksByOne view) where
-  known_asks : (known : Bool) (c : C) (s : S) (result : Given F) (t : S) → ByWellKnown view known q c s result t
-      → (result ≡ Err NoMemory) ⊎ AsksUnlessKnown known (is_set q.settings.redirect) (status_given result) (view.state s).asked (view.state t).asked
-  known_asks true c s result t (same, row) = inr (ap (λ (x : S). (view.state x).asked) same)
-  known_asks false c s result t (look, m, looks, keeps, row) =
-      look_asks view q (view.state s).asked few look c m result t (few.looks s m c q.path look looks) row
+  refused_status : (status : ℕ) (close : Bool) → status_of (refused_as status close) ≡ status
+  refused_status status true = refl
+  refused_status status false = refl
 
-  -- What the table answers asks few calls.
-  pub gets_asks : (c : C) (s : S) (result : Given F) (t : S) → Gets view q c s result t ⊎ (result ≡ Err NoMemory)
-      → (result ≡ Err NoMemory) ⊎ AsksUnlessKnown (is_well_known q.settings q.method q.path) (is_set q.settings.redirect) (status_given result) (view.state s).asked (view.state t).asked
-  gets_asks c s result t (inl row) = known_asks (is_well_known q.settings q.method q.path) c s result t row
-  gets_asks c s result t (inr none) = inl none
+  -- the client is sent to a path with a final slash
+  directed_asks : (r : Bool) (b : ℕ) (path : WebPath) (result : Given F) (t : S) → Asked view q b 1 t → Directs path result → Done view q b r result t
+  directed_asks r b path (Err e) t was directs = absurd directs
+  directed_asks r b path (Ok answer) t was (is, empty) =
+      let status : answer.0.status ≡ 302 = ap (λ (o : Outcome). o.status) is in
+      inr (subst (λ x. AsksToGet r x b (view.state t).asked) (sym status) (record {
+        calls = 1;
+        are = was;
+        some = omega arith;
+        most = within r 1 (omega arith);
+        whole = λ no e. (let never : ⊥ = omega (arith, e) in absurd never);
+        partial = λ no e. (let never : ⊥ = omega (arith, e) in absurd never);
+        directed = λ no e. refl;
+      }))
+
+  -- how often it asks, where it may give the page of a directory
+  abbrev Told : ℕ → Given F → S → Type 0
+  Told b result t = (result ≡ Err NoMemory) ⊎ AsksUnlessPage (is_of_page (fields_given result)) (is_set q.settings.redirect) (status_given result) b (view.state t).asked
+
+  unless_page : (p r : Bool) (status before after : ℕ) → before ≤ after → AsksToGet r status before after → AsksUnlessPage p r status before after
+  unless_page true r status before after le asks = le
+  unless_page false r status before after le asks = asks
+
+  told : (b : ℕ) (result : Given F) (t : S) → b ≤ (view.state t).asked → Done view q b (is_set q.settings.redirect) result t → Told b result t
+  told b result t le (inl none) = inl none
+  told b result t le (inr asks) = inr (unless_page (is_of_page (fields_given result)) (is_set q.settings.redirect) (status_given result) b (view.state t).asked le asks)
+
+  listing_asks : (b : ℕ) (answer : Result (List Member) FsError) (c : C) (s : S) (result : Given F) (t : S) → b ≤ (view.state t).asked → Asked view q b 1 s
+      → IsListing view lists (is_get q.method) c q.path s answer t → AfterListing answer q result → Told b result t
+  listing_asks b (Err e) c s result t le was refuses is = elim (few.refuses_list s t c q.path e refuses) [
+    | inl none ↦ told b result t le (refused view q b (is_set q.settings.redirect) 1 e result t (none ∙ was) (omega arith) (omega arith) is)
+    | inr one ↦ told b result t le (refused view q b (is_set q.settings.redirect) 2 e result t (once view q b 1 s t was one) (omega arith) (omega arith) is)
+  ]
+  listing_asks b (Ok members) c s (Err e) t le was read row = absurd row
+  listing_asks b (Ok members) c s (Ok r) t le was read (is, body) =
+      inr (subst (λ (o : Outcome). AsksUnlessPage (is_of_page o.fields) (is_set q.settings.redirect) o.status b (view.state t).asked) (sym is) le)
+
+  course_asks : (b : ℕ) (co : Course) (c : C) (s : S) (result : Given F) (t : S) → b ≤ (view.state t).asked → IsRefusing co → Asked view q b 1 s → ByCourse view lists co q c s result t → Told b result t
+  course_asks b (refusing status close) c s result t le other was (same, is) =
+      told b result t le (error view q b (is_set q.settings.redirect) 1 (refused_as status close) result t (ap (λ (x : S). (view.state x).asked) same ∙ was) (omega arith) (omega arith)
+      (subst IsOther (sym (refused_status status close)) other) is)
+  course_asks b directing c s result t le other was (same, directs) =
+      told b result t le (directed_asks (is_set q.settings.redirect) b q.path result t (ap (λ (x : S). (view.state x).asked) same ∙ was) directs)
+  course_asks b listing c s result t le other was (answer, listed, keeps, row) = listing_asks b answer c s result t le was listed row
+  course_asks b (opening path) c s result t le other was (opened, m, opens, one, row) =
+      told b result t le (open_asks view (asked_at q path) b opened s m result t was (few.opens s m c path opened opens) row)
+
+  look_asks : (b : ℕ) (look : Result Info FsError) (c : C) (s : S) (result : Given F) (t : S) → b ≤ (view.state t).asked → Asked view q b 1 s → AfterLook view lists look q c s result t → Told b result t
+  look_asks b (Err e) c s result t le was (same, is) =
+      told b result t le (refused view q b (is_set q.settings.redirect) 1 e result t (ap (λ (x : S). (view.state x).asked) same ∙ was) (omega arith) (omega arith) is)
+  look_asks b (Ok info) c s result t le was row = course_asks b (course q info.kind) c s result t le (refusing_other info) was row
+
+  known_asks : (known : Bool) (c : C) (s : S) (result : Given F) (t : S) → (view.state s).asked ≤ (view.state t).asked → ByWellKnown view lists known q c s result t
+      → (result ≡ Err NoMemory) ⊎ AsksUnlessKnown known (is_set q.settings.redirect) (status_given result) (fields_given result) (view.state s).asked (view.state t).asked
+  known_asks true c s result t le (same, row) = inr (ap (λ (x : S). (view.state x).asked) same)
+  known_asks false c s result t le (look, m, looks, keeps, row) =
+      look_asks (view.state s).asked look c m result t le (few.looks s m c q.path look looks) row
+
+  only_asked : (s t : S) (result : Given F) → OpenOnlyHeld view s result t → (view.state s).asked ≤ (view.state t).asked
+  only_asked s t (Err e) keeps = keeps.asked
+  only_asked s t (Ok r) life = by r.1.file life.1
+    where
+      by : (file : Option (OpenAt F)) → OpensOnly view.handle (view.state s) file (view.state t) → (view.state s).asked ≤ (view.state t).asked
+      by None keeps = keeps.asked
+      by (Some h) opens = opens.0.asked
+
+  -- What the table answers asks few calls, unless it is a page.
+  pub gets_asks : (c : C) (s : S) (result : Given F) (t : S) → OpenOnlyHeld view s result t → Gets view lists q c s result t ⊎ (result ≡ Err NoMemory)
+      → (result ≡ Err NoMemory) ⊎ AsksUnlessKnown (is_well_known q.settings q.method q.path) (is_set q.settings.redirect) (status_given result) (fields_given result) (view.state s).asked (view.state t).asked
+  gets_asks c s result t life (inl row) = known_asks (is_well_known q.settings q.method q.path) c s result t (only_asked s t result life) row
+  gets_asks c s result t life (inr none) = inl none

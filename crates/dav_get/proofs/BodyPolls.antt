@@ -1,19 +1,19 @@
 -- What a poll does with each kind of part.
-use Rattle.std.proofs.Common.{◌≡◌, ◌≤◌, ◌<◌, ◌+◌, ◌-◌, ◌==◌, ℕ, List, [], ◌∷◌, length, take, cond, Bool, true, false, Option, Some, refl, sym, ◌∙◌, inl, arith}
-use Rattle.std.specs.List.{list_all}
+use Rattle.std.proofs.Common.{◌≡◌, ◌≤◌, ◌<◌, ◌+◌, ◌-◌, ◌==◌, ℕ, List, [], ◌∷◌, length, take, cond, Bool, true, false, Option, None, Some, refl, sym, ap, ◌∙◌, inl, inr, arith}
+use Rattle.std.specs.List.{list_all, list_any}
 use Rattle.std.proofs.lemmas.Grind.{common_steps}
 use Rattle.std.proofs.lemmas.Bool.Decides.{nat_tests}
 use Rattle.dav_core.specs.Disk.{DiskState}
 use Rattle.dav_model.specs.declared.ranges.Slice.{Slice}
-use Rattle.dav_model.specs.declared.answer.Answer.TheVariants.{Piece}
+use Rattle.dav_model.specs.declared.answer.Answer.TheVariants.{Broken, Piece}
 use Rattle.dav_store.specs.Standing.{Seen}
 use Rattle.dav_get.specs.declared.part.BodyPart.{BodyPart}
 use Rattle.dav_get.specs.declared.part.BodyPart.TheVariants.{Text, Slice as SliceOf}
 use Rattle.dav_get.specs.declared.open_at.OpenAt.{OpenAt}
 use Rattle.dav_get.specs.declared.body.GetBody.{GetBody}
 use Rattle.dav_get.specs.OpenFiles.{Fills}
-use Rattle.dav_get.specs.Bodies.{left_of, is_part, has_room, IsHeld, Passes, passed, TouchesOwn, Polls}
-use Rattle.dav_get.proofs.Touching.{passes_ask, touches_then, passes_touch, held_then}
+use Rattle.dav_get.specs.Bodies.{left_of, is_part, is_slice, has_room, Closes, IsHeld, Passes, passed, TouchesOwn, Polls}
+use Rattle.dav_get.proofs.Touching.{closes_touch, passes_ask, touches_then, passes_touch, held_then}
 
 -- the parts that follow the first
 later_parts : (part : BodyPart) (parts : List BodyPart) → list_all is_part (part ∷ parts) ≡ true → (is_part part ≡ true) × (list_all is_part parts ≡ true)
@@ -34,6 +34,10 @@ moved_has_room false most room slice n parts e all = grind (arith, nat_tests)
 pub first_has_room : (most room : ℕ) (left : List BodyPart) (slice : Slice) (parts : List BodyPart) → left ≡ SliceOf slice ∷ parts → list_all (has_room most room) left ≡ true
     → has_room most room (SliceOf slice) ≡ true
 first_has_room most room left slice parts is all = let both : list_all (has_room most room) (SliceOf slice ∷ parts) ≡ true = rw is at all in grind (arith, common_steps)
+
+-- no slice is among no parts
+no_slice : {X : Type 0} (left : List BodyPart) → list_any is_slice left ≡ true → left ≡ [] → X
+no_slice left has over = let e : false ≡ true = sym (ap (list_any is_slice) over) ∙ has in cc
 
 module _ {F : Type 0} (handle : F → ℕ) (seen : F → DiskState → Option Seen) where
   pub text_polls : (s t : DiskState) (b c : GetBody F) (bytes : List ℕ) (rest : List BodyPart) → left_of b ≡ Text bytes ∷ rest → IsHeld handle seen s b
@@ -100,3 +104,25 @@ module _ {F : Type 0} (handle : F → ℕ) (seen : F → DiskState → Option Se
         most = cm ∙ dm;
         room = cr ∙ dr;
       }
+
+  -- the disk failed, and the file was closed
+  pub broken_polls : (s m t : DiskState) (b c : GetBody F) (slice : Slice) (rest : List BodyPart) (most : ℕ) (buffer : List ℕ) (h g : OpenAt F)
+      → left_of b ≡ SliceOf slice ∷ rest → Fills handle seen s h slice most buffer None m g → b.file ≡ Some h → Closes handle m (Some g) t
+      → left_of c ≡ [] → c.file ≡ None → c.most ≡ b.most → length c.buffer.items ≡ length b.buffer.items → Polls handle seen s b Broken t c
+  broken_polls s m t b c slice rest most buffer h g is fills before closes over none cm cr = record {
+    disk = touches_then handle seen s m t b.file (Some g) c.file (fill_touches s m b.file (Some g) slice most buffer None h g fills before refl)
+        (rw none (closes_touch handle seen m t (Some g) closes));
+    takes = rw is (inr (refl, over, rw closes.counts fills.answer));
+    asks = rw (is, before, closes.asked) fills.asks;
+    held = record {
+      parts = rw over refl;
+      needs = λ has. no_slice (left_of c) has over;
+      over = λ e. rw none refl;
+      some = λ has. no_slice (left_of c) has over;
+      room = rw over refl;
+      file = λ k e. (let f : None ≡ Some k = sym none ∙ e in cc);
+    };
+    bound = tt;
+    most = cm;
+    room = cr;
+  }

@@ -1,24 +1,32 @@
 -- What is heard of a store that refuses few things is right for something that could stand at the path.
 use Rattle.std.proofs.Common.{◌≡◌, ◌≤◌, ◌&&◌, ℕ, Bool, true, false, cond, List, Option, None, Result, Ok, Err, IfSome, refl, sym, ap, subst, ◌∙◌, arith, ◌⊎◌, inl, inr}
-use Rattle.std.specs.List.{list_all}
+use Rattle.std.specs.List.{AllByRecursion, list_all}
 use Rattle.dav_io.specs.Counts.{Rose}
 use Rattle.dav_core.specs.declared.error.FsError.{FsError}
 use Rattle.dav_core.specs.declared.error.FsError.TheVariants as fs
+use Rattle.dav_core.specs.declared.member.Member.{Member}
+use Rattle.dav_core.specs.DavPath.{WebPath}
+use Rattle.dav_core.specs.Errors.{CouldRefuse}
+use Rattle.dav_core.specs.Unchanged.{Keeps}
+use Rattle.dav_page.specs.Listed.{HasPlainName}
 use Rattle.dav_core.specs.Info.{Info}
 use Rattle.dav_core.specs.Options.{reading}
 use Rattle.dav_core.specs.Statuses.{fs_status}
-use Rattle.dav_core.specs.Tree.{is_dir, is_file}
+use Rattle.dav_core.specs.Tree.{is_file}
 use Rattle.dav_store.specs.Files.{Spoiled}
 use Rattle.dav_store.specs.Frames.{OpensOne}
-use Rattle.dav_store.specs.View.{View, Says as SaysOf}
-use Rattle.dav_model.specs.Due.{Due, Query, IsHead, IsSpoiled, due_kind, due_looked, due_opened, failure, known, refused, file as sends}
-use Rattle.dav_model.specs.Head.{Reply, Stood, is_set, is_well_known, refusal}
-use Rattle.dav_model.specs.Shown.{Could, CouldStand, Shown, is_printable}
-use Rattle.dav_get.specs.Heard.{Heard, HearsAddress, HearsFile, HearsLook, HearsMeta, HearsOpening, IsPlacedOr, IsUnplacedOf, IsRightForSome, RefusesFew, WasHad, looked_of, looked_stood, shown_alike, shown_heard, stood_heard}
-use Rattle.dav_get.specs.Right.{or_zero, reply_at}
-use Rattle.dav_get.specs.Table.{CouldSay, Given}
-use Rattle.dav_get.proofs.HeardIsRight.{rose_through}
-use Rattle.dav_get.proofs.TableIsHeard.{dir_due, opens_due}
+use Rattle.dav_store.specs.Shows.{LooksThere, Shows, here}
+use Rattle.dav_store.specs.Standing.{Standing}
+use Rattle.dav_store.specs.View.{View, Listings, Says as SaysOf}
+use Rattle.dav_model.specs.Due.{Course, Due, Query, IsHead, IsRight, IsSpoiled, course, directing, due_course, due_listed, due_looked, due_opened, failure, known, listing, opening, page, refused, refusing, to_slash, file as sends}
+use Rattle.dav_model.specs.Head.{Reply, Stood, is_get, is_set, is_well_known, refusal}
+use Rattle.dav_model.specs.Shown.{Could, CouldStand, is_printable}
+use Rattle.dav_get.specs.Heard.{Heard, HearsAddress, HearsCourse, HearsFile, HearsLook, HearsMeta, IsPlacedOr, IsUnplacedOf, IsRightForSome, RefusesFew, WasHad, looked_of, looked_stood, shown_alike, shown_heard, stood_heard}
+use Rattle.dav_get.specs.Right.{IsOfNumber, or_zero, reply_at}
+use Rattle.dav_get.specs.Table.{CouldSay, Given, IsListing, asked_at}
+use Rattle.dav_get.specs.Told.{stood_of}
+use Rattle.dav_get.proofs.HeardIsRight.{failed_looked, fit_at, rose_through}
+use Rattle.dav_get.proofs.TableIsHeard.{placed_at}
 
 -- what stands by its metadata could stand
 stood_could : (number : Option ℕ) (info : Info) (address : Option (List ℕ)) → CouldSay info
@@ -36,7 +44,9 @@ placed q d rose reply (inr (unplaced, risen)) = inr (spoiled d unplaced, risen)
     spoiled : (d : Due) → IsUnplacedOf q d reply → IsSpoiled q d reply
     spoiled known is = absurd is
     spoiled (refused status close) is = absurd is
+    spoiled (to_slash path) is = absurd is
     spoiled (sends path stood) is = inr is
+    spoiled (page dir members) is = absurd is
 
 module _ {S C F : Type 0} (view : View S C F) (q : Query) (s : S) (result : Given F) (t : S) where
   abbrev Risen : Type 0
@@ -44,6 +54,10 @@ module _ {S C F : Type 0} (view : View S C F) (q : Query) (s : S) (result : Give
 
   abbrev IsFor : Due → ℕ → Type 0
   IsFor d n = IsHead q d (reply_at {F = F} n result) ⊎ (IsSpoiled q d (reply_at {F = F} n result) × Risen)
+
+  -- what a store refuses an opening with, where nothing failed
+  abbrev OpensFew : Type 0
+  OpensFew = (a b : S) (c : C) (path : WebPath) (e : FsError) → view.opens a c path reading (Err e) b → CouldRefuse e ⊎ Spoiled {T = F} (view.state a) (Err e) (view.state b)
 
   -- what was opened, as it could be
   record Opened (number : Option ℕ) : Type 0 where
@@ -95,46 +109,78 @@ module _ {S C F : Type 0} (view : View S C F) (q : Query) (s : S) (result : Give
         let counts = says.done.keeps.counts in
         address_opened (is_file info.kind && is_set q.settings.redirect) info g m could (omega arith) heard
 
-    file_opened : RefusesFew view → (c : C) (answer : Result F FsError) (m x : S) → view.opens m c q.path reading answer x → (view.state s).faults ≤ (view.state m).faults
+    file_opened : OpensFew → (c : C) (answer : Result F FsError) (m x : S) → view.opens m c q.path reading answer x → (view.state s).faults ≤ (view.state m).faults
         → (view.state m).faults ≤ (view.state x).faults → HearsFile view q answer number x o t → Opened number
     file_opened few c (Ok file) m x opens before after (told, (said, g, l, says, heard)) = meta_opened said file g x l (omega arith) says heard
-    file_opened few c (Err e) m x opens before after (is, counts) = elim (few.opens m x c q.path e opens) [
+    file_opened few c (Err e) m x opens before after (is, counts) = elim (few m x c q.path e opens) [
       | inl could ↦ heard_opened (Err e) is could
       | inr spoiled ↦ spoiled_opened {T = F} number o e (Err e) m x is had refl spoiled before counts right
     ]
 
-  -- what was looked at and opened, as it could be
-  record Found (number : Option ℕ) : Type 0 where
-    looked : Result Stood FsError
-    opened : Result Stood FsError
-    look_could : Could CouldStand looked
-    open_could : Could CouldStand opened
-    right : IsFor (due_looked (shown_alike looked opened) q looked) (or_zero number)
+module _ {S C F L E : Type 0} (view : View S C F) (lists : Listings S C L E) (q : Query) (s : S) (result : Given F) (t : S) where
+  abbrev IsForDue : Due → ℕ → Type 0
+  IsForDue d n = IsFor view q s result t d n
 
-  kind_found : (few : RefusesFew view) (b : Bool) (info : Info) (c : C) (number : Option ℕ) (o : Result Stood FsError) (m : S) → is_dir info.kind ≡ b → WasHad o
+  abbrev Rises : Type 0
+  Rises = Rose (view.state s).faults (view.state t).faults
+
+  -- what was opened, or might have been, by the course that was taken
+  record Taken (number : Option ℕ) (co : Course) : Type 0 where
+    opened : Result Stood FsError
+    listed : Result (List Member) FsError
+    could : Could CouldStand opened
+    plain : Could (AllByRecursion HasPlainName) listed
+    -- whatever a look finds there
+    right : (looked : Result Stood FsError) → IsForDue (due_course (shown_alike looked opened listed) q.path co) (or_zero number)
+
+  abbrev nothing : Result Stood FsError
+  nothing = Err fs.NotFound
+
+  abbrev none_listed : Result (List Member) FsError
+  none_listed = Err fs.NotFound
+
+  -- a listing
+  listing_found : (few : RefusesFew view lists) (c : C) (number : Option ℕ) (l : Result (List Member) FsError) (m : S) → WasHad l → (view.state s).faults ≤ (view.state m).faults
+      → IsPlacedOr q (due_listed q.path l) Rises (reply_at {F = F} (or_zero number) result) → IsListing view lists (is_get q.method) c q.path m l t → Keeps (view.state m) (view.state t)
+      → Taken number listing
+  listing_found few c number (Ok members) m had le right (read, plain) kept = record {
+    opened = nothing;
+    listed = Ok members;
+    could = inl refl;
+    plain = plain;
+    right = λ looked. placed q (page q.path members) Rises _ right;
+  }
+  listing_found few c number (Err e) m had le right refuses kept = elim (few.begins m t c q.path e refuses) [
+    | inl could ↦ record { opened = nothing; listed = Err e; could = inl refl; plain = could; right = λ looked. placed q (refused (fs_status e) false) Rises _ right }
+    | inr (inl (is, rose)) ↦
+        let general : e ≡ fs.GeneralFailure = cc in
+        record { opened = nothing; listed = none_listed; could = inl refl; plain = inl refl; right = λ looked. failed e general (rose_through _ _ _ _ le rose (omega arith)) right }
+    | inr (inr none) ↦ absurd (had (ap Err (let f : e ≡ fs.NoMemory = cc in f)))
+  ]
+    where
+      failed : (e : FsError) → e ≡ fs.GeneralFailure → Rises → IsPlacedOr q (refused (fs_status e) false) Rises (reply_at {F = F} (or_zero number) result)
+          → IsForDue (refused (fs_status fs.NotFound) false) (or_zero number)
+      failed e is rose (inl head) = inr (head ∙ ap (λ x. refusal (fs_status x) false) is, rose)
+      failed e is rose (inr (none, risen)) = absurd none
+
+  course_found : (few : RefusesFew view lists) (co : Course) (c : C) (number : Option ℕ) (shown : Result Info FsError) (o : Result Stood FsError) (l : Result (List Member) FsError) (m : S) → WasHad o → WasHad l
       → (view.state s).faults ≤ (view.state m).faults
-      → IsPlacedOr q (due_kind (shown_heard (Ok info) o) q info.kind) Risen (reply_at {F = F} (or_zero number) result)
-      → HearsOpening view q b c number m o t → Found number
-  kind_found few true info c number o m dir had le right counts =
-      let shown : Shown = shown_alike (Ok (looked_stood info)) (Err fs.NotFound) in
-      let same : due_kind (shown_heard (Ok info) o) q info.kind ≡ due_kind shown q info.kind = dir_due info.kind (shown_heard (Ok info) o) q dir ∙ sym (dir_due info.kind shown q dir) in
+      → IsPlacedOr q (due_course (shown_heard shown o l) q.path co) Rises (reply_at {F = F} (or_zero number) result)
+      → HearsCourse view lists q co c number m o l t → Taken number co
+  course_found few (refusing status close) c number shown o l m had l_had le right counts =
+      record { opened = nothing; listed = none_listed; could = inl refl; plain = inl refl; right = λ looked. placed q (refused status close) Rises _ right }
+  course_found few directing c number shown o l m had l_had le right counts =
+      record { opened = nothing; listed = none_listed; could = inl refl; plain = inl refl; right = λ looked. placed q (to_slash q.path) Rises _ right }
+  course_found few listing c number shown o l m had l_had le right (lists', kept) = listing_found few c number l m l_had le right lists' kept
+  course_found few (opening path) c number shown o l m had l_had le right (answer, x, opens, one, heard) =
+      let right1 = placed_at (asked_at q path) q.path (due_opened path o) Rises (reply_at {F = F} (or_zero number) result) right in
+      let found = file_opened view (asked_at q path) s result t number o had right1 few.opens c answer m x opens le (opened_counts answer one) heard in
       record {
-        looked = Ok (looked_stood info);
-        opened = Err fs.NotFound;
-        look_could = looked_could info;
-        open_could = inl refl;
-        right = placed q (due_kind shown q info.kind) Risen _ (subst (λ d. IsPlacedOr q d Risen (reply_at {F = F} (or_zero number) result)) same right);
-      }
-  kind_found few false info c number o m dir had le right (answer, x, opens, one, heard) =
-      let right1 = subst (λ d. IsPlacedOr q d Risen (reply_at {F = F} (or_zero number) result)) (opens_due info.kind (shown_heard (Ok info) o) q dir) right in
-      let found = file_opened number o had right1 few c answer m x opens le (opened_counts answer one) heard in
-      let shown : Shown = shown_alike (Ok (looked_stood info)) found.opened in
-      record {
-        looked = Ok (looked_stood info);
         opened = found.opened;
-        look_could = looked_could info;
-        open_could = found.could;
-        right = subst (λ d. IsFor d (or_zero number)) (sym (opens_due info.kind shown q dir)) found.right;
+        listed = none_listed;
+        could = found.could;
+        plain = inl refl;
+        right = λ looked. fit_at q path (due_opened path found.opened) Rises (reply_at {F = F} (or_zero number) result) found.right;
       }
     where
       opened_counts : (answer : Result F FsError) → OpensOne view.handle view.seen reading (view.state m) answer (view.state x)
@@ -142,52 +188,158 @@ module _ {S C F : Type 0} (view : View S C F) (q : Query) (s : S) (result : Give
       opened_counts (Ok f) one = one.others.counts
       opened_counts (Err e) one = one.others.counts
 
-  look_found : (few : RefusesFew view) (r : Result Info FsError) (c : C) (number : Option ℕ) (o : Result Stood FsError) (m : S) → view.looks s c q.path r m → WasHad o
+  -- what was looked at and opened, as it could be
+  record Found (number : Option ℕ) : Type 0 where
+    looked : Result Stood FsError
+    opened : Result Stood FsError
+    listed : Result (List Member) FsError
+    look_could : Could CouldStand looked
+    open_could : Could CouldStand opened
+    list_could : Could (AllByRecursion HasPlainName) listed
+    right : IsForDue (due_looked (shown_alike looked opened listed) q looked) (or_zero number)
+
+  look_found : (few : RefusesFew view lists) (r : Result Info FsError) (c : C) (number : Option ℕ) (o : Result Stood FsError) (l : Result (List Member) FsError) (m : S) → view.looks s c q.path r m
+      → WasHad o → WasHad l
       → (view.state s).faults ≤ (view.state m).faults
-      → IsPlacedOr q (due_looked (shown_heard r o) q (looked_of r)) Risen (reply_at {F = F} (or_zero number) result)
-      → HearsLook view q r c number m o t → Found number
-  look_found few (Ok info) c number o m looks had le right heard = kind_found few (is_dir info.kind) info c number o m refl had le right heard
-  look_found few (Err e) c number o m looks had le (inr (none, risen)) counts = absurd none
-  look_found few (Err e) c number o m looks had le (inl head) counts = elim (few.looks s m c q.path e looks) [
-    | inl could ↦ record { looked = Err e; opened = Err fs.NotFound; look_could = could; open_could = inl refl; right = inl head }
+      → IsPlacedOr q (due_looked (shown_heard r o l) q (looked_of r)) Rises (reply_at {F = F} (or_zero number) result)
+      → HearsLook view lists q r c number m o l t → Found number
+  look_found few (Ok info) c number o l m looks had l_had le right heard =
+      let found = course_found few (course q info.kind) c number (Ok info) o l m had l_had le right heard in
+      record {
+        looked = Ok (looked_stood info);
+        opened = found.opened;
+        listed = found.listed;
+        look_could = looked_could info;
+        open_could = found.could;
+        list_could = found.plain;
+        right = found.right (Ok (looked_stood info));
+      }
+  look_found few (Err e) c number o l m looks had l_had le (inr (none, risen)) counts = absurd none
+  look_found few (Err e) c number o l m looks had l_had le (inl head) counts = elim (few.looks s m c q.path e looks) [
+    | inl could ↦ record { looked = Err e; opened = nothing; listed = none_listed; look_could = could; open_could = inl refl; list_could = inl refl; right = inl head }
     | inr fault ↦
         let general : e ≡ fs.GeneralFailure = (let f = fault.0 in cc) in
         let failed : reply_at {F = F} (or_zero number) result ≡ failure = head ∙ ap (λ x. refusal (fs_status x) false) general in
         record {
-          looked = Err fs.NotFound;
-          opened = Err fs.NotFound;
+          looked = nothing;
+          opened = nothing;
+          listed = none_listed;
           look_could = inl refl;
           open_could = inl refl;
+          list_could = inl refl;
           right = inr (failed, rose_through _ _ _ _ (omega arith) fault.1 counts);
         }
   ]
 
-  heard_found : (few : RefusesFew view) (b : Bool) (c : C) → is_well_known q.settings q.method q.path ≡ b → Heard view q c s result t → IsRightForSome view q s result t
+  heard_found : (few : RefusesFew view lists) (b : Bool) (c : C) → is_well_known q.settings q.method q.path ≡ b → Heard view lists q c s result t → IsRightForSome view q s result t
   heard_found few false c plain h =
       let (m, look, keeps, hears) = h.hears plain in
-      let right = subst (λ b. IsPlacedOr q (cond b known (due_looked (shown_heard h.looked h.opened) q (looked_of h.looked))) Risen (reply_at {F = F} (or_zero h.number) result)) plain h.right in
-      let found = look_found few h.looked c h.number h.opened m look h.opened_had keeps.counts right hears in
+      let right = subst (λ b. IsPlacedOr q (cond b known (due_looked (shown_heard h.looked h.opened h.listed) q (looked_of h.looked))) Rises (reply_at {F = F} (or_zero h.number) result)) plain h.right in
+      let found = look_found few h.looked c h.number h.opened h.listed m look h.opened_had h.listed_had keeps.counts right hears in
       record {
         looked = found.looked;
         opened = found.opened;
+        listed = found.listed;
         number = h.number;
         looked_could = found.look_could;
         opened_could = found.open_could;
-        right = subst (λ b. IsFor (cond b known (due_looked (shown_alike found.looked found.opened) q found.looked)) (or_zero h.number)) (sym plain) found.right;
+        listed_could = found.list_could;
+        right = subst (λ b. IsForDue (cond b known (due_looked (shown_alike found.looked found.opened found.listed) q found.looked)) (or_zero h.number)) (sym plain) found.right;
         file = h.file;
       }
-  heard_found few true c page h =
-      let right = subst (λ b. IsPlacedOr q (cond b known (due_looked (shown_heard h.looked h.opened) q (looked_of h.looked))) Risen (reply_at {F = F} (or_zero h.number) result)) page h.right in
+  heard_found few true c known_page h =
+      let right = subst (λ b. IsPlacedOr q (cond b known (due_looked (shown_heard h.looked h.opened h.listed) q (looked_of h.looked))) Rises (reply_at {F = F} (or_zero h.number) result)) known_page h.right in
       record {
-        looked = Err fs.NotFound;
-        opened = Err fs.NotFound;
+        looked = nothing;
+        opened = nothing;
+        listed = none_listed;
         number = h.number;
         looked_could = inl refl;
         opened_could = inl refl;
-        right = subst (λ b. IsFor (cond b known (due_looked (shown_alike (Err fs.NotFound) (Err fs.NotFound)) q (Err fs.NotFound))) (or_zero h.number)) (sym page) (placed q known Risen _ right);
+        listed_could = inl refl;
+        right = subst (λ b. IsForDue (cond b known (due_looked (shown_alike nothing nothing none_listed) q nothing)) (or_zero h.number)) (sym known_page) (placed q known Rises _ right);
         file = h.file;
       }
 
   -- Whatever the store tells, the answer is right for something that could stand at the path.
-  pub heard_could : RefusesFew view → (c : C) → Heard view q c s result t → IsRightForSome view q s result t
+  pub heard_could : RefusesFew view lists → (c : C) → Heard view lists q c s result t → IsRightForSome view q s result t
   heard_could few c h = heard_found few (is_well_known q.settings q.method q.path) c refl h
+
+  -- The answer is right for what stands at the path that is looked at, and for something that could be opened or listed.
+  pub record IsRightThere (there : Standing) : Type 0 where
+    pub opened : Result Stood FsError
+    pub listed : Result (List Member) FsError
+    pub number : Option ℕ
+    pub could : Could CouldStand opened
+    pub plain : Could (AllByRecursion HasPlainName) listed
+    pub right : IsRight q (shown_alike (Ok (stood_of there)) opened listed) Rises (reply_at {F = F} (or_zero number) result)
+    pub file : IsOfNumber view number t result
+
+  -- what was opened or listed for what stands there, as it could be
+  record FoundThere (there : Standing) (number : Option ℕ) : Type 0 where
+    opened : Result Stood FsError
+    listed : Result (List Member) FsError
+    could : Could CouldStand opened
+    plain : Could (AllByRecursion HasPlainName) listed
+    right : IsForDue (due_looked (shown_alike (Ok (stood_of there)) opened listed) q (Ok (stood_of there))) (or_zero number)
+
+  look_there : (few : RefusesFew view lists) (there : Standing) (r : Result Info FsError) (c : C) (number : Option ℕ) (o : Result Stood FsError) (l : Result (List Member) FsError) (m : S)
+      → LooksThere (Ok there) r ⊎ Spoiled (view.state s) r (view.state m) → WasHad r → WasHad o → WasHad l → (view.state s).faults ≤ (view.state m).faults
+      → IsPlacedOr q (due_looked (shown_heard r o l) q (looked_of r)) Rises (reply_at {F = F} (or_zero number) result)
+      → HearsLook view lists q r c number m o l t → FoundThere there number
+  look_there few there (Ok info) c number o l m (inl agrees) looked_had had l_had le right heard =
+      let found = course_found few (course q info.kind) c number (Ok info) o l m had l_had le right heard in
+      record {
+        opened = found.opened;
+        listed = found.listed;
+        could = found.could;
+        plain = found.plain;
+        right = subst (λ kind. IsForDue (due_course (shown_alike (Ok (stood_of there)) found.opened found.listed) q.path (course q kind)) (or_zero number)) agrees.kind
+            (found.right (Ok (stood_of there)));
+      }
+  look_there few there (Ok info) c number o l m (inr (inl (is, rose))) looked_had had l_had le right heard = cc
+  look_there few there (Ok info) c number o l m (inr (inr is)) looked_had had l_had le right heard = cc
+  look_there few there (Err e) c number o l m (inl shown) looked_had had l_had le right counts = absurd shown
+  look_there few there (Err e) c number o l m (inr (inr none)) looked_had had l_had le right counts = absurd (looked_had none)
+  look_there few there (Err e) c number o l m (inr (inl (is, rose))) looked_had had l_had le (inr (none, risen)) counts = absurd none
+  look_there few there (Err e) c number o l m (inr (inl (is, rose))) looked_had had l_had le (inl head) counts =
+      let general : e ≡ fs.GeneralFailure = cc in
+      let failed : reply_at {F = F} (or_zero number) result ≡ failure = head ∙ ap (λ x. refusal (fs_status x) false) general in
+      record {
+        opened = nothing;
+        listed = none_listed;
+        could = inl refl;
+        plain = inl refl;
+        right = inr (failed_looked view q (Ok (stood_of there)) (shown_alike (Ok (stood_of there)) nothing none_listed) _ failed, rose_through _ _ _ _ (omega arith) rose counts);
+      }
+
+  heard_by : (few : RefusesFew view lists) (b : Bool) (there : Standing) (other : Result Standing FsError) (c : C) → is_well_known q.settings q.method q.path ≡ b
+      → Shows view s c q.path (Ok there) other → Heard view lists q c s result t → IsRightThere there
+  heard_by few false there other c plain shows h =
+      let (m, look, keeps, hears) = h.hears plain in
+      let right = subst (λ b. IsPlacedOr q (cond b known (due_looked (shown_heard h.looked h.opened h.listed) q (looked_of h.looked))) Rises (reply_at {F = F} (or_zero h.number) result)) plain h.right in
+      let found = look_there few there h.looked c h.number h.opened h.listed m (shows.looks_there s m h.looked here look) h.looked_had h.opened_had h.listed_had keeps.counts right hears in
+      record {
+        opened = found.opened;
+        listed = found.listed;
+        number = h.number;
+        could = found.could;
+        plain = found.plain;
+        right = subst (λ b. IsForDue (cond b known (due_looked (shown_alike (Ok (stood_of there)) found.opened found.listed) q (Ok (stood_of there)))) (or_zero h.number)) (sym plain) found.right;
+        file = h.file;
+      }
+  heard_by few true there other c known_page shows h =
+      let right = subst (λ b. IsPlacedOr q (cond b known (due_looked (shown_heard h.looked h.opened h.listed) q (looked_of h.looked))) Rises (reply_at {F = F} (or_zero h.number) result)) known_page h.right in
+      record {
+        opened = nothing;
+        listed = none_listed;
+        number = h.number;
+        could = inl refl;
+        plain = inl refl;
+        right = subst (λ b. IsForDue (cond b known (due_looked (shown_alike (Ok (stood_of there)) nothing none_listed) q (Ok (stood_of there)))) (or_zero h.number)) (sym known_page) (placed q known Rises _ right);
+        file = h.file;
+      }
+
+  -- Where the store shows what stands at the path, the answer is right for that and for something that could be opened.
+  pub heard_there : RefusesFew view lists → (there : Standing) (other : Result Standing FsError) (c : C) → Shows view s c q.path (Ok there) other → Heard view lists q c s result t → IsRightThere there
+  heard_there few there other c shows h = heard_by few (is_well_known q.settings q.method q.path) there other c refl shows h

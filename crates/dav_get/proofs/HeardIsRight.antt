@@ -1,33 +1,43 @@
 -- What is heard over a store that shows what stands at the path is right for that.
-use Rattle.std.proofs.Common.{◌≡◌, ◌≤◌, ◌&&◌, ℕ, Bool, true, false, cond, List, [], ◌∷◌, Option, None, Some, Result, Ok, Err, refl, sym, ap, subst, ◌∙◌, arith, ◌⊎◌, inl, inr}
+use Rattle.std.proofs.Common.{◌≡◌, ◌≤◌, ◌&&◌, ℕ, Bool, true, false, cond, List, [], ◌∷◌, ◌++◌, append-nil, Option, None, Some, Result, Ok, Err, refl, sym, ap, subst, ◌∙◌, arith, ◌⊎◌, inl, inr}
 use Rattle.std.specs.Prelude.{is_some}
+use Rattle.std.specs.List.Sorted.{IsPermutation}
 use Rattle.dav_io.specs.Counts.{Rose}
 use Rattle.dav_core.specs.declared.error.FsError.{FsError}
 use Rattle.dav_core.specs.declared.error.FsError.TheVariants as fs
+use Rattle.dav_core.specs.declared.member.Member.{Member}
+use Rattle.dav_core.specs.Unchanged.{Keeps}
+use Rattle.dav_core.proofs.UnchangedLemmas.{keeps_then}
+use Rattle.dav_page.specs.Listed.{AreRows}
 use Rattle.dav_core.specs.declared.tree.Kind.{Kind}
 use Rattle.dav_core.specs.declared.tree.Kind.TheVariants.{Dir, File, Link}
 use Rattle.dav_core.specs.Info.{Info}
 use Rattle.dav_core.specs.Options.{reading}
 use Rattle.dav_core.specs.Statuses.{fs_status}
-use Rattle.dav_core.specs.Tree.{is_dir, is_file}
+use Rattle.dav_core.specs.DavPath.{WebPath}
+use Rattle.dav_core.specs.Tree.{is_file}
 use Rattle.dav_store.specs.Files.{Spoiled}
 use Rattle.dav_store.specs.Frames.{OpensOne}
-use Rattle.dav_store.specs.Shows.{Shows, here, looks, LooksThere, OpensThere, IsThere, seen_of}
+use Rattle.dav_store.specs.Shows.{here, looks, Looked, LooksThere, OpensThere, IsThere, seen_of}
 use Rattle.dav_store.specs.Standing.{Standing, Seen, Agrees, AgreesOpen}
-use Rattle.dav_store.specs.View.{View, seen_in, Says as SaysOf}
-use Rattle.dav_model.specs.Due.{Due, Query, IsHead, IsSpoiled, due_kind, due_looked, due_opened, due_sent, failure, known, refused, file as sends}
-use Rattle.dav_model.specs.Head.{IsFileHead, Reply, Stood, address_of, is_set, is_well_known, refusal, well_known}
+use Rattle.dav_store.specs.Members.{BeginsThere, ShowsMembers}
+use Rattle.dav_store.specs.View.{View, Listings, seen_in, Says as SaysOf}
+use Rattle.dav_model.specs.Due.{Course, Due, Query, IsHead, IsSpoiled, course, directing, due_course, due_kind, due_listed, due_looked, due_opened, due_sent, failure, known, listing, opening, page, refused, refusing, to_slash, file as sends}
+use Rattle.dav_model.specs.Indexes.{AreRowsOfSome, IsIndexReply}
+use Rattle.dav_model.specs.Head.{IsFileHead, Reply, Stood, address_of, directed, is_get, is_set, is_well_known, refusal, well_known}
 use Rattle.dav_model.specs.Shown.{Shown}
 use Rattle.dav_get.specs.declared.open_at.OpenAt.{OpenAt}
 use Rattle.dav_get.specs.declared.part.BodyPart.{BodyPart}
 use Rattle.dav_get.specs.Bodies.{left_of}
-use Rattle.dav_get.specs.Heard.{Heard, HearsAddress, HearsFile, HearsLook, HearsMeta, HearsOpening, IsPlacedOr, WasHad, looked_of, shown_heard, stood_heard}
+use Rattle.dav_get.specs.Heard.{Heard, HearsAddress, HearsCourse, HearsFile, HearsLook, HearsMeta, IsPlacedOr, WasHad, looked_of, shown_heard, stood_heard}
 use Rattle.dav_get.specs.Lives.{OpenOnlyHeld}
 use Rattle.dav_get.specs.Parts.{parts_of}
 use Rattle.dav_get.specs.Right.{IsOfNumber, number_told, or_zero, reply_at}
-use Rattle.dav_get.specs.Table.{Given}
-use Rattle.dav_get.specs.Told.{IsRightFor, found_as, number_in, shown_as, stood_of}
-use Rattle.dav_get.proofs.TableIsHeard.{dir_due, kind_file, no_file_due, opens_due}
+use Rattle.dav_get.specs.Table.{Given, IsListing, ReadsMembers, asked_at}
+use Rattle.dav_get.specs.Told.{IsRightFor, ShowsFor, found_as, number_by, number_for, number_in, number_looked, shown_as, stood_of}
+use Rattle.dav_get.proofs.PageMembers.{rows_alike, shows_later}
+use Rattle.dav_get.proofs.Pages.{index_renumbered, index_rows, no_file_kept}
+use Rattle.dav_get.proofs.TableIsHeard.{kind_file, no_file_due, placed_at}
 
 pub rose_through : (a b c d : ℕ) → a ≤ b → Rose b c → c ≤ d → Rose a d
 rose_through a b c d le rose more = grind arith
@@ -52,23 +62,28 @@ head_alike q (Some a) address stood reply head = head
 
 module _ {S C F : Type 0} (view : View S C F) (q : Query) where
   -- the failure of a disk may stand in the place of all but the page
-  failed_sent : (k : Kind) (stood : Stood) (reply : Reply) → reply ≡ failure → IsSpoiled q (due_sent k q.path stood) reply
-  failed_sent Dir stood reply is = is
-  failed_sent File stood reply is = inl is
-  failed_sent Link stood reply is = is
+  failed_sent : (k : Kind) (path : WebPath) (stood : Stood) (reply : Reply) → reply ≡ failure → IsSpoiled q (due_sent k path stood) reply
+  failed_sent Dir path stood reply is = is
+  failed_sent File path stood reply is = inl is
+  failed_sent Link path stood reply is = is
 
-  failed_opened : (opened : Result Stood FsError) (reply : Reply) → reply ≡ failure → IsSpoiled q (due_opened q.path opened) reply
-  failed_opened (Err e) reply is = is
-  failed_opened (Ok stood) reply is = failed_sent stood.kind stood reply is
+  failed_opened : (path : WebPath) (opened : Result Stood FsError) (reply : Reply) → reply ≡ failure → IsSpoiled q (due_opened path opened) reply
+  failed_opened path (Err e) reply is = is
+  failed_opened path (Ok stood) reply is = failed_sent stood.kind path stood reply is
 
-  failed_kind : (k : Kind) (shown : Shown) (reply : Reply) → reply ≡ failure → IsSpoiled q (due_kind shown q k) reply
-  failed_kind Dir shown reply is = is
-  failed_kind File shown reply is = failed_opened (shown.opened q.path) reply is
-  failed_kind Link shown reply is = failed_opened (shown.opened q.path) reply is
+  failed_listed : (path : WebPath) (found : Result (List Member) FsError) (reply : Reply) → reply ≡ failure → IsSpoiled q (due_listed path found) reply
+  failed_listed path (Err e) reply is = is
+  failed_listed path (Ok members) reply is = inl is
 
-  failed_looked : (looked : Result Stood FsError) (shown : Shown) (reply : Reply) → reply ≡ failure → IsSpoiled q (due_looked shown q looked) reply
+  failed_course : (co : Course) (shown : Shown) (path : WebPath) (reply : Reply) → reply ≡ failure → IsSpoiled q (due_course shown path co) reply
+  failed_course (refusing status close) shown path reply is = is
+  failed_course directing shown path reply is = is
+  failed_course (opening at) shown path reply is = failed_opened at (shown.opened at) reply is
+  failed_course listing shown path reply is = failed_listed path (shown.listed path) reply is
+
+  pub failed_looked : (looked : Result Stood FsError) (shown : Shown) (reply : Reply) → reply ≡ failure → IsSpoiled q (due_looked shown q looked) reply
   failed_looked (Err e) shown reply is = is
-  failed_looked (Ok stood) shown reply is = failed_kind stood.kind shown reply is
+  failed_looked (Ok stood) shown reply is = failed_course (course q stood.kind) shown q.path reply is
 
   module _ (s : S) (result : Given F) (t : S) (life : OpenOnlyHeld view s result t) (k : ℕ) where
     abbrev Risen : Type 0
@@ -177,7 +192,7 @@ module _ {S C F : Type 0} (view : View S C F) (q : Query) where
             alike_settled info address key told agrees regular (λ i. cond (is_set q.settings.redirect) (to i) None) is
         address_settled true info g m set told agrees regular seen le (Err e, h, l, asked, is, counts) =
             let spoiled : Spoiled {T = Option (List ℕ)} (view.state m) (Err e) (view.state l) = rw seen at asked.done.told in
-            spoiled_settled {T = Option (List ℕ)} DueThere (Err e) e o m l (or_zero number) (failed_opened (Ok (stood_of there))) refl spoiled is had le counts right
+            spoiled_settled {T = Option (List ℕ)} DueThere (Err e) e o m l (or_zero number) (failed_opened q.path (Ok (stood_of there))) refl spoiled is had le counts right
 
         kind_settled : (b : Bool) (info : Info) (f : Seen) (g : F) (m : S) → is_file there.kind ≡ b → number ≡ Some f.stands.number → IsThere there f → AgreesOpen info f.stands
             → seen_in view m g ≡ Some f → (view.state s).faults ≤ (view.state m).faults
@@ -191,7 +206,7 @@ module _ {S C F : Type 0} (view : View S C F) (q : Query) where
         meta_settled : (said : Result Info FsError) (f : Seen) (file g : F) (x m : S) → number ≡ Some f.stands.number → IsThere there f → seen_in view x file ≡ Some f
             → (view.state s).faults ≤ (view.state x).faults → SaysOf view x file said m g → HearsMeta view q said number g m o t → Settled DueThere
         meta_settled (Err e) f file g x m told is seen le says (at, counts) =
-            spoiled_settled {T = Info} DueThere (Err e) e o x m (or_zero number) (failed_opened (Ok (stood_of there))) refl (inl says.done.refused) at had le counts right
+            spoiled_settled {T = Info} DueThere (Err e) e o x m (or_zero number) (failed_opened q.path (Ok (stood_of there))) refl (inl says.done.refused) at had le counts right
         meta_settled (Ok info) f file g x m told is seen le says (could, heard) =
             let agrees : AgreesOpen info f.stands = rw seen at says.done.told in
             let kind : is_file info.kind ≡ is_file there.kind = ap is_file (agrees.kind ∙ is.kind) in
@@ -214,75 +229,183 @@ module _ {S C F : Type 0} (view : View S C F) (q : Query) where
     open_settled opened (Ok file) number o m x key (inr (inl (is, rose))) before after had named right heard = cc
     open_settled opened (Ok file) number o m x key (inr (inr is)) before after had named right heard = cc
     open_settled opened (Err f) number o m x key (inr spoiled) before after had named right (is, counts) =
-        spoiled_settled {T = F} (due_opened q.path (found_as opened)) (Err f) f o m x (or_zero number) (failed_opened (found_as opened)) refl spoiled is had before counts right
+        spoiled_settled {T = F} (due_opened q.path (found_as opened)) (Err f) f o m x (or_zero number) (failed_opened q.path (found_as opened)) refl spoiled is had before counts right
 
-    kinds_settled : (b : Bool) (c : C) (opened : Result Standing FsError) (kind : Kind) (number : Option ℕ) (o : Result Stood FsError) (shown heard : Shown) (m : S) → k ≡ number_in opened
-        → shown.opened q.path ≡ found_as opened → heard.opened q.path ≡ o → is_dir kind ≡ b
-        → ((answer : Result F FsError) (x : S) → view.opens m c q.path reading answer x → OpensThere view.seen opened answer (view.state x) ⊎ Spoiled (view.state m) answer (view.state x))
-        → (view.state s).faults ≤ (view.state m).faults
-        → WasHad o → IsOfNumber view number t result → IsPlacedOr q (due_kind heard q kind) Risen (reply_at (or_zero number) result)
-        → HearsOpening view q b c number m o t → Settled (due_kind shown q kind)
-    kinds_settled true c opened kind number o shown heard m key at was dir shows before had named right hears =
-        let right1 = subst (λ d. IsPlacedOr q d Risen (reply_at (or_zero number) result)) (dir_due kind heard q dir) right in
-        subst Settled (sym (dir_due kind shown q dir)) (at_dir right1)
+-- What is right over another path is right.
+pub fit_at : (q : Query) (path : WebPath) (d : Due) (rose : Type 0) (reply : Reply) → IsHead (asked_at q path) d reply ⊎ (IsSpoiled (asked_at q path) d reply × rose)
+    → IsHead q d reply ⊎ (IsSpoiled q d reply × rose)
+fit_at q path known rose reply is = is
+fit_at q path (refused status close) rose reply is = is
+fit_at q path (to_slash at) rose reply is = is
+fit_at q path (page dir members) rose reply is = is
+fit_at q path (sends at stood) rose reply (inl head) = inl head
+fit_at q path (sends at stood) rose reply (inr (inl failed, risen)) = inr (inl failed, risen)
+fit_at q path (sends at stood) rose reply (inr (inr is, risen)) = inr (inr (record { here = is.here; partial = is.partial; sent = is.sent }), risen)
+
+module _ {S C F L E : Type 0} (view : View S C F) (lists : Listings S C L E) (q : Query) where
+  module _ (s : S) (result : Given F) (t : S) (life : OpenOnlyHeld view s result t) (k : ℕ) where
+    abbrev SettledOf : Due → Type 0
+    SettledOf d = Settled view q s result t life k d
+
+    -- a reply without parts
+    alone_settled : (d : Due) (n : ℕ) (reply : Reply) → reply.parts ≡ [] → reply_at n result ≡ reply → (reply_at k result ≡ reply → IsHead q d (reply_at k result)) → SettledOf d
+    alone_settled d n reply none is head =
+        let at = renumbered n k result reply none is in
+        record { right = inl (head at); named = no_file view q s result t life k result life reply none at }
+
+    settled_at : (path : WebPath) (d : Due) → Settled view (asked_at q path) s result t life k d → SettledOf d
+    settled_at path d settled = record { right = fit_at q path d (Rose (view.state s).faults (view.state t).faults) (reply_at k result) settled.right; named = settled.named }
+
+    -- what is heard and shown of a path that is opened
+    abbrev OpensAs : (WebPath → Result Standing FsError) → C → S → WebPath → Type 0
+    OpensAs opened c m path = (answer : Result F FsError) (x : S) → view.opens m c path reading answer x
+        → OpensThere view.seen (opened path) answer (view.state x) ⊎ Spoiled (view.state m) answer (view.state x)
+
+    -- where nothing changed, a page has no file
+    page_named : (x : Given F) → OpenOnlyHeld view s x t → Keeps (view.state s) (view.state t) → IsOfNumber view (Some k) t x
+    page_named (Err e) only keeps = tt
+    page_named (Ok r) only keeps = λ h some. absurd (no_file_kept view s r t h only keeps some)
+
+    -- a page that was given, for members that the store shows
+    read_settled : (gives : Bool) (c : C) (found : Result (List Member) FsError) (members : List Member) (n : ℕ) (m : S) → is_get q.method ≡ gives
+        → ShowsMembers view lists m c q.path found → (view.state s).faults ≤ (view.state m).faults → Keeps (view.state s) (view.state t)
+        → ReadsMembers view lists gives c q.path m members t → IsIndexReply gives q.path (AreRows q.path members) (reply_at n result) → SettledOf (due_listed q.path found)
+    read_settled true c (Err e) members n m get shows before keeps (listed, by) reply = absurd (by (Err e) shows)
+    read_settled true c (Ok all) members n m get shows before keeps (listed, by) reply =
+        let (missing, parts, why) = by (Ok all) shows in
+        let given = index_renumbered n k true q.path (AreRows q.path members) result reply in
+        record { right = of_missing missing parts why given; named = page_named result life keeps }
       where
-        at_dir : IsPlacedOr q (refused 501 true) Risen (reply_at (or_zero number) result) → Settled (refused 501 true)
-        at_dir (inl head) = refused_settled 501 true (or_zero number) head
-        at_dir (inr (none, rose)) = absurd none
-    kinds_settled false c opened kind number o shown heard m key at was dir shows before had named right (answer, x, opens, one, hears) =
-        let right1 = subst (λ d. IsPlacedOr q d Risen (reply_at (or_zero number) result)) (opens_due kind heard q dir ∙ ap (due_opened q.path) was) right in
-        subst Settled (sym (opens_due kind shown q dir ∙ ap (due_opened q.path) at))
-        (open_settled opened answer number o m x key (shows answer x opens) before (opened_counts answer one) had named right1 hears)
+        of_missing : (missing : List Member) → IsPermutation all (members ++ missing) → (missing ≡ []) ⊎ Rose (view.state m).faults (view.state t).faults
+            → IsIndexReply true q.path (AreRows q.path members) (reply_at k result)
+            → IsHead q (page q.path all) (reply_at k result) ⊎ (IsSpoiled q (page q.path all) (reply_at k result) × Rose (view.state s).faults (view.state t).faults)
+        of_missing missing parts (inl none) given =
+            let same : IsPermutation all members = subst (IsPermutation all) (ap (λ xs. members ++ xs) none ∙ append-nil members) parts in
+            inl (subst (λ b. IsIndexReply b q.path (AreRows q.path all) (reply_at k result)) (sym get)
+            (index_rows k true q.path (AreRows q.path members) (AreRows q.path all) result (λ rows are. rows_alike q.path all members rows same are) given))
+        of_missing missing parts (inr rose) given =
+            inr (
+              inr (subst (λ b. IsIndexReply b q.path (AreRowsOfSome q.path all) (reply_at k result)) (sym get)
+                  (index_rows k true q.path (AreRows q.path members) (AreRowsOfSome q.path all) result (λ rows are. record { some = members; missing = missing; parts = parts; shown = are }) given)),
+              rose_through _ _ _ _ before rose (omega arith),
+            )
+    read_settled false c found members n m get shows before keeps (none, (lister, after, begins, ends)) reply =
+        let given = index_renumbered n k false q.path (AreRows q.path members) result reply in
+        of_found found (shows.begins m after (Ok lister) here_now begins) given
+      where
+        here_now : Looked view m c m
+        here_now = here
+
+        of_found : (found : Result (List Member) FsError) → BeginsThere found (Ok lister) ⊎ Spoiled (view.state m) (Ok lister) (view.state after)
+            → IsIndexReply false q.path (AreRows q.path members) (reply_at k result) → SettledOf (due_listed q.path found)
+        of_found (Ok all) (inl there) given = record {
+          right = inl (subst (λ b. IsIndexReply b q.path (AreRows q.path all) (reply_at k result)) (sym get) (record { status = given.status; fields = given.fields; parts = given.parts }));
+          named = page_named result life keeps;
+        }
+        of_found (Err e) (inl there) given = absurd there
+        of_found found (inr (inl (is, rose))) given = cc
+        of_found found (inr (inr is)) given = cc
+
+    -- a listing
+    listing_settled : (c : C) (found l : Result (List Member) FsError) (n : ℕ) (m : S) → ShowsMembers view lists m c q.path found
+        → (view.state s).faults ≤ (view.state m).faults → Keeps (view.state s) (view.state t) → WasHad l
+        → IsPlacedOr q (due_listed q.path l) (Rose (view.state s).faults (view.state t).faults) (reply_at n result)
+        → IsListing view lists (is_get q.method) c q.path m l t → SettledOf (due_listed q.path found)
+    listing_settled c found (Ok members) n m shows before keeps had (inr (none, rose)) hears = absurd none
+    listing_settled c found (Ok members) n m shows before keeps had (inl reply) (read, plain) =
+        read_settled (is_get q.method) c found members n m refl shows before keeps read reply
+    listing_settled c found (Err e) n m shows before keeps had (inr (none, rose)) hears = absurd none
+    listing_settled c found (Err e) n m shows before keeps had (inl head) hears = by found (shows.begins m t (Err e) here hears)
+      where
+        by : (found : Result (List Member) FsError) → BeginsThere {L = L} found (Err e) ⊎ Spoiled {T = L} (view.state m) (Err e) (view.state t) → SettledOf (due_listed q.path found)
+        by (Ok all) (inl never) = absurd never
+        by (Err f) (inl same) = subst (λ x. SettledOf (refused (fs_status x) false)) same (refused_settled view q s result t life k (fs_status e) false n head)
+        by found (inr (inl (is, rose))) =
+            fault_settled view q s result t life k (due_listed q.path found) e n (failed_listed view q q.path found) (let f : e ≡ fs.GeneralFailure = cc in f) head
+            (rose_through _ _ _ _ before rose (omega arith))
+        by found (inr (inr is)) = absurd (had (ap Err (let f : e ≡ fs.NoMemory = cc in f)))
+
+    course_settled : (co : Course) (r : Result Info FsError) (c : C) (looked opened : WebPath → Result Standing FsError) (listed : WebPath → Result (List Member) FsError) (number : Option ℕ)
+        (o : Result Stood FsError) (l : Result (List Member) FsError) (m : S)
+        → ((path : WebPath) → co ≡ opening path → k ≡ number_in (opened path)) → ((path : WebPath) → co ≡ opening path → OpensAs opened c m path)
+        → (co ≡ listing → ShowsMembers view lists m c q.path (listed q.path)) → Keeps (view.state s) (view.state m)
+        → WasHad o → WasHad l → IsOfNumber view number t result
+        → IsPlacedOr q (due_course (shown_heard r o l) q.path co) (Rose (view.state s).faults (view.state t).faults) (reply_at (or_zero number) result)
+        → HearsCourse view lists q co c number m o l t → SettledOf (due_course (shown_as looked opened listed) q.path co)
+    course_settled (refusing status close) r c looked opened listed number o l m key shows members before had l_had named (inl head) hears =
+        alone_settled (refused status close) (or_zero number) (refusal status close) refl head (λ at. at)
+    course_settled (refusing status close) r c looked opened listed number o l m key shows members before had l_had named (inr (none, rose)) hears = absurd none
+    course_settled directing r c looked opened listed number o l m key shows members before had l_had named (inl head) hears =
+        alone_settled (to_slash q.path) (or_zero number) (directed q.path) refl head (λ at. at)
+    course_settled directing r c looked opened listed number o l m key shows members before had l_had named (inr (none, rose)) hears = absurd none
+    course_settled listing r c looked opened listed number o l m key shows members before had l_had named right (hears, kept) =
+        listing_settled c (listed q.path) l (or_zero number) m (members refl) before.counts (keeps_then (view.state s) (view.state m) (view.state t) before kept) l_had right hears
+    course_settled (opening path) r c looked opened listed number o l m key shows members before had l_had named right (answer, x, opens, one, hears) =
+        settled_at path (due_opened path (found_as (opened path)))
+        (open_settled view (asked_at q path) s result t life k (opened path) answer number o m x (key path refl) (shows path refl answer x opens) before.counts (opened_counts answer one) had named
+        (placed_at (asked_at q path) q.path (due_opened path o) (Rose (view.state s).faults (view.state t).faults) (reply_at (or_zero number) result) right) hears)
       where
         opened_counts : (answer : Result F FsError) → OpensOne view.handle view.seen reading (view.state m) answer (view.state x)
             → (view.state m).faults ≤ (view.state x).faults
         opened_counts (Ok f) one = one.others.counts
         opened_counts (Err e) one = one.others.counts
 
-    look_settled : (looked opened : Result Standing FsError) (r : Result Info FsError) (c : C) (number : Option ℕ) (o : Result Stood FsError) (m : S) → k ≡ number_in opened
-        → LooksThere looked r ⊎ Spoiled (view.state s) r (view.state m)
-        → ((answer : Result F FsError) (x : S) → view.opens m c q.path reading answer x → OpensThere view.seen opened answer (view.state x) ⊎ Spoiled (view.state m) answer (view.state x))
-        → (view.state s).faults ≤ (view.state m).faults
-        → WasHad r → WasHad o → IsOfNumber view number t result
-        → IsPlacedOr q (due_looked (shown_heard r o) q (looked_of r)) Risen (reply_at (or_zero number) result)
-        → HearsLook view q r c number m o t → Settled (due_looked (shown_as looked opened) q (found_as looked))
-    look_settled (Ok there) opened (Ok info) c number o m key (inl agrees) shows before looked_had had named right hears =
-        subst (λ j. Settled (due_kind (shown_as (Ok there) opened) q j)) agrees.kind
-        (kinds_settled (is_dir info.kind) c opened info.kind number o (shown_as (Ok there) opened) (shown_heard (Ok info) o) m key refl refl refl shows before had named right hears)
-    look_settled (Ok there) opened (Err e) c number o m key (inl shown) shows before looked_had had named right hears = absurd shown
-    look_settled (Err e) opened (Ok info) c number o m key (inl shown) shows before looked_had had named right hears = absurd shown
-    look_settled (Err e) opened (Err f) c number o m key (inl same) shows before looked_had had named (inl head) hears =
-        subst (λ y. Settled (refused (fs_status y) false)) same (refused_settled (fs_status f) false (or_zero number) head)
-    look_settled (Err e) opened (Err f) c number o m key (inl same) shows before looked_had had named (inr (none, rose)) hears = absurd none
-    look_settled looked opened (Ok info) c number o m key (inr (inl (is, rose))) shows before looked_had had named right hears = cc
-    look_settled looked opened (Ok info) c number o m key (inr (inr is)) shows before looked_had had named right hears = cc
-    look_settled looked opened (Err f) c number o m key (inr (inl (is, rose))) shows before looked_had had named (inl head) counts =
-        fault_settled (due_looked (shown_as looked opened) q (found_as looked)) f (or_zero number) (failed_looked (found_as looked) (shown_as looked opened)) (let g : f ≡ fs.GeneralFailure = cc in g) head
-        (rose_through _ _ _ _ (omega arith) rose counts)
-    look_settled looked opened (Err f) c number o m key (inr (inl (is, rose))) shows before looked_had had named (inr (none, risen)) counts = absurd none
-    look_settled looked opened (Err f) c number o m key (inr (inr none)) shows before looked_had had named right counts = absurd (looked_had none)
+    -- P of each path that is opened for what stands where it is looked
+    abbrev ForOpened : Result Standing FsError → (WebPath → Type 0) → Type 0
+    ForOpened found P = (there : Standing) (path : WebPath) → found ≡ Ok there → course q there.kind ≡ opening path → P path
 
-    heard_settled : (b : Bool) (looked opened : Result Standing FsError) (c : C) → k ≡ number_in opened → is_well_known q.settings q.method q.path ≡ b → Shows view s c q.path looked opened
-        → Heard view q c s result t → Settled (cond b known (due_looked (shown_as looked opened) q (found_as looked)))
-    heard_settled false looked opened c key plain shows h =
+    -- P, where the directory that stands there is listed
+    abbrev ForListed : Result Standing FsError → Type 0 → Type 0
+    ForListed found P = (there : Standing) → found ≡ Ok there → course q there.kind ≡ listing → P
+
+    look_settled : (found : Result Standing FsError) (looked opened : WebPath → Result Standing FsError) (listed : WebPath → Result (List Member) FsError) (r : Result Info FsError) (c : C)
+        (number : Option ℕ) (o : Result Stood FsError) (l : Result (List Member) FsError) (m : S)
+        → ForOpened found (λ path. k ≡ number_in (opened path)) → LooksThere found r ⊎ Spoiled (view.state s) r (view.state m) → ForOpened found (OpensAs opened c m)
+        → ForListed found (ShowsMembers view lists m c q.path (listed q.path)) → Keeps (view.state s) (view.state m)
+        → WasHad r → WasHad o → WasHad l → IsOfNumber view number t result
+        → IsPlacedOr q (due_looked (shown_heard r o l) q (looked_of r)) (Rose (view.state s).faults (view.state t).faults) (reply_at (or_zero number) result)
+        → HearsLook view lists q r c number m o l t → SettledOf (due_looked (shown_as looked opened listed) q (found_as found))
+    look_settled (Ok there) looked opened listed (Ok info) c number o l m key (inl agrees) shows members before looked_had had l_had named right hears =
+        let same = ap (course q) agrees.kind in
+        subst (λ j. SettledOf (due_kind (shown_as looked opened listed) q j)) agrees.kind
+        (course_settled (course q info.kind) (Ok info) c looked opened listed number o l m (λ path e. key there path refl (sym same ∙ e)) (λ path e. shows there path refl (sym same ∙ e))
+        (λ e. members there refl (sym same ∙ e)) before had l_had named right hears)
+    look_settled (Ok there) looked opened listed (Err e) c number o l m key (inl shown) shows members before looked_had had l_had named right hears = absurd shown
+    look_settled (Err e) looked opened listed (Ok info) c number o l m key (inl shown) shows members before looked_had had l_had named right hears = absurd shown
+    look_settled (Err e) looked opened listed (Err f) c number o l m key (inl same) shows members before looked_had had l_had named (inl head) hears =
+        subst (λ y. SettledOf (refused (fs_status y) false)) same
+        (alone_settled (refused (fs_status f) false) (or_zero number) (refusal (fs_status f) false) refl head (λ at. at))
+    look_settled (Err e) looked opened listed (Err f) c number o l m key (inl same) shows members before looked_had had l_had named (inr (none, rose)) hears = absurd none
+    look_settled found looked opened listed (Ok info) c number o l m key (inr (inl (is, rose))) shows members before looked_had had l_had named right hears = cc
+    look_settled found looked opened listed (Ok info) c number o l m key (inr (inr is)) shows members before looked_had had l_had named right hears = cc
+    look_settled found looked opened listed (Err f) c number o l m key (inr (inl (is, rose))) shows members before looked_had had l_had named (inl head) counts =
+        let counts' = before.counts in
+        fault_settled view q s result t life k (due_looked (shown_as looked opened listed) q (found_as found)) f (or_zero number) (failed_looked view q (found_as found) (shown_as looked opened listed))
+        (let g : f ≡ fs.GeneralFailure = cc in g) head (rose_through _ _ _ _ (omega arith) rose counts)
+    look_settled found looked opened listed (Err f) c number o l m key (inr (inl (is, rose))) shows members before looked_had had l_had named (inr (none, risen)) counts = absurd none
+    look_settled found looked opened listed (Err f) c number o l m key (inr (inr none)) shows members before looked_had had l_had named right counts = absurd (looked_had none)
+
+    heard_settled : (b : Bool) (looked opened : WebPath → Result Standing FsError) (listed : WebPath → Result (List Member) FsError) (c : C)
+        → ForOpened (looked q.path) (λ path. k ≡ number_in (opened path)) → is_well_known q.settings q.method q.path ≡ b
+        → ShowsFor view lists s c q looked opened listed → Heard view lists q c s result t → SettledOf (cond b known (due_looked (shown_as looked opened listed) q (found_as (looked q.path))))
+    heard_settled false looked opened listed c key plain shows h =
         let (m, look, keeps, hears) = h.hears plain in
-        let right = subst (λ b. IsPlacedOr q (cond b known (due_looked (shown_heard h.looked h.opened) q (looked_of h.looked))) Risen (reply_at (or_zero h.number) result)) plain h.right in
-        look_settled looked opened h.looked c h.number h.opened m key (shows.looks_there s m h.looked here look)
-        (λ answer x opens. shows.opens_there m x answer (looks s m q.path h.looked here look) opens)
-        keeps.counts h.looked_had h.opened_had h.file right hears
-    heard_settled true looked opened c key page shows h =
-        at (subst (λ b. IsPlacedOr q (cond b known (due_looked (shown_heard h.looked h.opened) q (looked_of h.looked))) Risen (reply_at (or_zero h.number) result)) page h.right)
+        let right = subst (λ b. IsPlacedOr q (cond b known (due_looked (shown_heard h.looked h.opened h.listed) q (looked_of h.looked))) (Rose (view.state s).faults (view.state t).faults) (reply_at (or_zero h.number) result)) plain h.right in
+        look_settled (looked q.path) looked opened listed h.looked c h.number h.opened h.listed m key (shows.path.looks_there s m h.looked here look)
+        (λ there path is takes answer x opens. (shows.at there path is takes).opens_there m x answer (looks s m q.path h.looked here look) opens)
+        (λ there is takes. shows_later view lists s m c q.path (listed q.path) (looks s m q.path h.looked here look) (shows.members there is takes))
+        keeps h.looked_had h.opened_had h.listed_had h.file right hears
+    heard_settled true looked opened listed c key known_page shows h =
+        at (subst (λ b. IsPlacedOr q (cond b known (due_looked (shown_heard h.looked h.opened h.listed) q (looked_of h.looked))) (Rose (view.state s).faults (view.state t).faults) (reply_at (or_zero h.number) result)) known_page h.right)
       where
-        at : IsPlacedOr q known Risen (reply_at (or_zero h.number) result) → Settled known
+        at : IsPlacedOr q known (Rose (view.state s).faults (view.state t).faults) (reply_at (or_zero h.number) result) → SettledOf known
         at (inr (none, rose)) = absurd none
-        at (inl head) =
-            let is = renumbered (or_zero h.number) k result well_known refl head in
-            record { right = inl is; named = no_file result life well_known refl is }
+        at (inl head) = alone_settled known (or_zero h.number) well_known refl head (λ is. is)
 
   -- What is heard is right for what the store shows.
-  pub heard_right : (looked opened : Result Standing FsError) (c : C) (s : S) (result : Given F) (t : S) → Shows view s c q.path looked opened
-      → OpenOnlyHeld view s result t → Heard view q c s result t → IsRightFor view q looked opened s result t
-  heard_right looked opened c s result t shows life h =
-      let key = number_in opened in
-      let settled = heard_settled s result t life key (is_well_known q.settings q.method q.path) looked opened c refl refl shows h in
+  pub heard_right : (looked opened : WebPath → Result Standing FsError) (listed : WebPath → Result (List Member) FsError) (c : C) (s : S) (result : Given F) (t : S)
+      → ShowsFor view lists s c q looked opened listed → OpenOnlyHeld view s result t → Heard view lists q c s result t → IsRightFor view q looked opened listed s result t
+  heard_right looked opened listed c s result t shows life h =
+      let settled = heard_settled s result t life (number_for looked opened q) (is_well_known q.settings q.method q.path) looked opened listed c
+      (λ there path is takes. ap (number_looked opened q) is ∙ ap (number_by opened) takes) refl shows h in
       record { right = settled.right; file = settled.named }

@@ -18,3 +18,5 @@ pub mod TableIsHeard
 pub mod MetaAsked
 pub mod HeardIsRight
 pub mod HeardCouldStand
+pub mod Pages
+pub mod PageMembers

@@ -5,6 +5,7 @@ use Rattle.dav_io.specs.Counts.{Rose}
 use Rattle.dav_core.specs.declared.dav_error.DavError.TheVariants.{NoMemory}
 use Rattle.dav_core.specs.declared.error.FsError.{FsError}
 use Rattle.dav_core.specs.declared.error.FsError.TheVariants as fs
+use Rattle.dav_core.specs.declared.member.Member.{Member}
 use Rattle.dav_core.specs.declared.tree.Kind.{Kind}
 use Rattle.dav_core.specs.declared.tree.Kind.TheVariants.{Dir, File, Link}
 use Rattle.dav_core.specs.declared.handle.OpenOptions.{OpenOptions}
@@ -13,19 +14,19 @@ use Rattle.dav_core.specs.Disk.{Live, can_read}
 use Rattle.dav_core.specs.Info.{Info}
 use Rattle.dav_core.specs.Options.{reading}
 use Rattle.dav_core.specs.Statuses.{of_fs, status_of, closes, fs_status}
-use Rattle.dav_core.specs.Tree.{is_dir, is_file}
+use Rattle.dav_core.specs.Tree.{is_file}
 use Rattle.dav_core.specs.Unchanged.{Keeps}
 use Rattle.dav_store.specs.Frames.{OpensOne}
-use Rattle.dav_store.specs.View.{View, seen_in, Says as SaysOf, Closes}
+use Rattle.dav_store.specs.View.{View, Listings, seen_in, Says as SaysOf, Closes}
 use Rattle.dav_model.specs.declared.outcome.Outcome.{Outcome}
-use Rattle.dav_model.specs.Due.{Due, Query, IsHead, due, due_kind, due_looked, due_opened, due_sent, known, refused, file as sends}
-use Rattle.dav_model.specs.Head.{IsFileHead, Reply, Stood, address_of, is_set, is_well_known, redirected, refusal}
+use Rattle.dav_model.specs.Due.{Course, Due, Query, IsHead, course, directing, due, due_course, due_looked, due_opened, due_sent, known, listing, opening, page, refused, refusing, to_slash, file as sends}
+use Rattle.dav_model.specs.Head.{IsFileHead, Reply, Stood, address_of, directed, is_get, is_set, is_well_known, redirected, refusal}
 use Rattle.dav_model.specs.Shown.{Shown}
-use Rattle.dav_get.specs.declared.open_at.OpenAt.{OpenAt}
-use Rattle.dav_get.specs.Heard.{Heard, HearsAddress, HearsFile, HearsMeta, HearsOpening, IsPlacedOr, WasHad, shown_heard, stood_heard}
+use Rattle.dav_get.specs.Heard.{Heard, HearsAddress, HearsCourse, HearsFile, HearsMeta, IsPlacedOr, WasHad, shown_heard, stood_heard}
 use Rattle.dav_get.specs.Parts.{parts_of}
 use Rattle.dav_get.specs.Right.{IsOfNumber, number_told, or_zero, reply_at}
-use Rattle.dav_get.specs.Table.{AfterLook, AfterMeta, AfterOpen, AfterRedirect, ByFile, ByKind, ByRedirect, ByWellKnown, CouldSay, Gets, Given, Redirects, SendsAway, SendsFile}
+use Rattle.dav_get.specs.Table.{AfterListing, AfterLook, AfterMeta, AfterOpen, AfterRedirect, ByCourse, ByFile, ByRedirect, ByWellKnown, CouldSay, Gets, Given, IsListing, Redirects, SendsAway, SendsFile, asked_at, refused_as}
+use Rattle.dav_get.proofs.Pages.{page_given, page_numbers}
 use Rattle.dav_get.proofs.Sending.{placed_right}
 
 pub rose_before : (a b c : ℕ) → a ≤ b → Rose b c → Rose a c
@@ -79,15 +80,22 @@ no_file_due Dir path stood is = refl
 no_file_due File path stood is = cc
 no_file_due Link path stood is = refl
 
-pub opens_due : (k : Kind) (shown : Shown) (q : Query) → is_dir k ≡ false → due_kind shown q k ≡ due_opened q.path (shown.opened q.path)
-opens_due Dir shown q is = cc
-opens_due File shown q is = refl
-opens_due Link shown q is = refl
+-- A refusal is answered with its status, and closes where it is to.
+pub refused_reply : (status : ℕ) (close : Bool) → refusal (status_of (refused_as status close)) (closes (refused_as status close)) ≡ refusal status close
+refused_reply status true = refl
+refused_reply status false = refl
 
-pub dir_due : (k : Kind) (shown : Shown) (q : Query) → is_dir k ≡ true → due_kind shown q k ≡ refused 501 true
-dir_due Dir shown q is = refl
-dir_due File shown q is = cc
-dir_due Link shown q is = cc
+-- What was due of another path is due.
+pub placed_at : (q : Query) (path : WebPath) (d : Due) (rose : Type 0) (reply : Reply) → IsPlacedOr (asked_at q path) d rose reply → IsPlacedOr q d rose reply
+placed_at q path known rose reply is = is
+placed_at q path (refused status close) rose reply is = is
+placed_at q path (to_slash at) rose reply is = is
+placed_at q path (page dir members) rose reply is = is
+placed_at q path (sends at stood) rose reply (inl head) = inl head
+placed_at q path (sends at stood) rose reply (inr (is, risen)) = inr (record { here = is.here; partial = is.partial; sent = is.sent }, risen)
+
+none_some : {A : Type 0} (o : Option A) (a : A) → o ≡ None → o ≡ Some a → ⊥
+none_some o a e f = let x : None ≡ Some a = sym e ∙ f in cc
 
 module _ {S C F : Type 0} (view : View S C F) (q : Query) where
   closed_counts : (s : S) (g : F) (t : S) → Closes view s g t → (view.state s).faults ≤ (view.state t).faults
@@ -156,9 +164,6 @@ module _ {S C F : Type 0} (view : View S C F) (q : Query) where
           right = subst (λ k. IsPlacedOr q (due_sent k q.path stood) (Rose (view.state s).faults (view.state t).faults) (reply_at {F = F} (or_zero number) (Ok answer))) (sym (kind_file info.kind regular)) at;
           named = sent.file;
         })
-
-    none_some : (o : Option (OpenAt F)) (h : OpenAt F) → o ≡ None → o ≡ Some h → ⊥
-    none_some o h a b = let x : None ≡ Some h = sym a ∙ b in cc
 
     -- the client is sent to another address
     away_leads : (P : Result Stood FsError → Type 0) (address : List ℕ) (g : F) (s : S) (result : Given F) (t : S) → is_file info.kind ≡ true → is_set q.settings.redirect ≡ true
@@ -260,64 +265,91 @@ module _ {S C F : Type 0} (view : View S C F) (q : Query) where
       (λ opened h. (refl, (said, g, k, says, h)))
       (meta_leads said number file g m k result t refl one.live one.options says could row))
 
+module _ {S C F L E : Type 0} (view : View S C F) (lists : Listings S C L E) (q : Query) where
   module _ (c : C) (plain : is_well_known q.settings q.method q.path ≡ false) where
     -- where the tree is looked at
     at_due : (shown : Shown) (rose : Type 0) (reply : Reply) → IsPlacedOr q (due_looked shown q (shown.looked q.path)) rose reply → IsPlacedOr q (due shown q) rose reply
     at_due shown rose reply right = subst (λ b. IsPlacedOr q (cond b known (due_looked shown q (shown.looked q.path))) rose reply) (sym plain) right
 
     abbrev Hearing : S → Given F → S → Type 0
-    Hearing s result t = (result ≡ Err NoMemory) ⊎ Heard view q c s result t
+    Hearing s result t = (result ≡ Err NoMemory) ⊎ Heard view lists q c s result t
 
-    opened_heard : (info : Info) (answer : Result F FsError) (s m k : S) (result : Given F) (t : S) → is_dir info.kind ≡ false
-        → view.looks s c q.path (Ok info) m → Keeps (view.state s) (view.state m)
-        → view.opens m c q.path reading answer k → OpensOne view.handle view.seen reading (view.state m) answer (view.state k) → (view.state m).faults ≤ (view.state k).faults
-        → LeadsOn (λ number opened. HearsFile view q answer number k opened t) k result t → Hearing s result t
-    opened_heard info answer s m k result t file looks keeps opens one counts (inl none) = inl none
-    opened_heard info answer s m k result t file looks keeps opens one counts (inr (number, led)) =
-        let shown : Shown = shown_heard (Ok info) led.opened in
-        let reply : Reply = reply_at {F = F} (or_zero number) result in
-        let le = keeps.counts in
-        let right = right_before (due_opened q.path led.opened) s k t reply (omega arith) led.right in
-        let rose : Type 0 = Rose (view.state s).faults (view.state t).faults in
-        inr (record {
-          looked = Ok info;
-          opened = led.opened;
-          number = number;
-          hears = λ no. (m, looks, keeps, hears_opening (is_dir info.kind) file number led.opened led.hears);
-          looked_had = answer_had info;
-          opened_had = led.had;
-          right = at_due shown rose reply (subst (λ d. IsPlacedOr q d rose reply) (sym (opens_due info.kind shown q file)) right);
-          file = led.named;
-        })
-      where
-        hears_opening : (b : Bool) → b ≡ false → (number : Option ℕ) (opened : Result Stood FsError) → HearsFile view q answer number k opened t
-            → HearsOpening view q b c number m opened t
-        hears_opening true is number opened h = cc
-        hears_opening false is number opened h = (answer, k, opens, one, h)
-
-    -- A look told what stands there.
-    kind_heard : (b : Bool) (info : Info) (s m : S) (result : Given F) (t : S) → is_dir info.kind ≡ b
-        → view.looks s c q.path (Ok info) m → Keeps (view.state s) (view.state m) → ByKind view b q c m result t → Hearing s result t
-    kind_heard true info s m result t dir looks keeps (same, is) =
-        let shown : Shown = shown_heard (Ok info) (Err fs.NotFound) in
+    -- an answer that is given at once, after a look
+    at_once : (co : Course) (info : Info) (listed : Result (List Member) FsError) (s m : S) (result : Given F) (t : S) → WasHad listed → course q info.kind ≡ co → view.looks s c q.path (Ok info) m → Keeps (view.state s) (view.state m)
+        → HearsCourse view lists q co c None m (Err fs.NotFound) listed t
+        → IsHead q (due_course (shown_heard (Ok info) (Err fs.NotFound) listed) q.path co) (reply_at {F = F} 0 result) → IsOfNumber view None t result → Hearing s result t
+    at_once co info listed s m result t had is looks keeps hears head named =
+        let shown : Shown = shown_heard (Ok info) (Err fs.NotFound) listed in
         let reply : Reply = reply_at {F = F} 0 result in
         let rose : Type 0 = Rose (view.state s).faults (view.state t).faults in
         inr (record {
           looked = Ok info;
           opened = Err fs.NotFound;
+          listed = listed;
           number = None;
-          hears = λ no. (m, looks, keeps, none_opened (is_dir info.kind) dir);
+          hears = λ no. (m, looks, keeps, subst (λ x. HearsCourse view lists q x c None m (Err fs.NotFound) listed t) (sym is) hears);
           looked_had = answer_had info;
           opened_had = refusal_had fs.NotFound (λ is. cc);
-          right = at_due shown rose reply (inl (subst (λ d. IsHead q d reply) (sym (dir_due info.kind shown q dir)) (ap (reply_at {F = F} 0) is)));
-          file = subst (λ x. IsOfNumber view None t x) (sym is) tt;
+          listed_had = had;
+          right = at_due shown rose reply (inl (subst (λ x. IsHead q (due_course shown q.path x) reply) (sym is) head));
+          file = named;
         })
-      where
-        none_opened : (b : Bool) → b ≡ true → HearsOpening view q b c None m (Err fs.NotFound) t
-        none_opened true is = rw same (omega arith)
-        none_opened false is = cc
-    kind_heard false info s m result t file looks keeps (answer, k, opens, one, row) =
-        opened_heard info answer s m k result t file looks keeps opens one (opened_counts answer one) (file_leads answer m k result t one row)
+
+    opened_heard : (path : WebPath) (info : Info) (answer : Result F FsError) (s m k : S) (result : Given F) (t : S) → course q info.kind ≡ opening path
+        → view.looks s c q.path (Ok info) m → Keeps (view.state s) (view.state m)
+        → view.opens m c path reading answer k → OpensOne view.handle view.seen reading (view.state m) answer (view.state k) → (view.state m).faults ≤ (view.state k).faults
+        → LeadsOn view (asked_at q path) (λ number opened. HearsFile view (asked_at q path) answer number k opened t) k result t → Hearing s result t
+    opened_heard path info answer s m k result t is looks keeps opens one counts (inl none) = inl none
+    opened_heard path info answer s m k result t is looks keeps opens one counts (inr (number, led)) =
+        let shown : Shown = shown_heard (Ok info) led.opened (Err fs.NotFound) in
+        let reply : Reply = reply_at {F = F} (or_zero number) result in
+        let rose : Type 0 = Rose (view.state s).faults (view.state t).faults in
+        let le = keeps.counts in
+        let right : IsPlacedOr q (due_opened path led.opened) rose reply =
+        placed_at q path (due_opened path led.opened) rose reply (right_before view (asked_at q path) (due_opened path led.opened) s k t reply (omega arith) led.right) in
+        inr (record {
+          looked = Ok info;
+          opened = led.opened;
+          listed = Err fs.NotFound;
+          number = number;
+          hears = λ no. (m, looks, keeps, subst (λ x. HearsCourse view lists q x c number m led.opened (Err fs.NotFound) t) (sym is) (answer, k, opens, one, led.hears));
+          looked_had = answer_had info;
+          opened_had = led.had;
+          listed_had = refusal_had fs.NotFound (λ is. cc);
+          right = at_due shown rose reply (subst (λ x. IsPlacedOr q (due_course shown q.path x) rose reply) (sym is) right);
+          file = led.named;
+        })
+
+    nothing_had : WasHad {A = List Member} (Err fs.NotFound)
+    nothing_had = refusal_had fs.NotFound (λ is. cc)
+
+    -- A directory is listed.
+    listing_heard : (answer : Result (List Member) FsError) (info : Info) (s m : S) (result : Given F) (t : S) → course q info.kind ≡ listing
+        → view.looks s c q.path (Ok info) m → Keeps (view.state s) (view.state m) → IsListing view lists (is_get q.method) c q.path m answer t → Keeps (view.state m) (view.state t)
+        → AfterListing answer q result → Hearing s result t
+    listing_heard (Ok members) info s m result t is looks keeps lists' kept row =
+        at_once listing info (Ok members) s m result t (answer_had members) is looks keeps (lists', kept) (page_given q members 0 result row) (page_numbers view None q members result t row)
+    listing_heard (Err e) info s m result t is looks keeps lists' kept row = elim (refused_with e) [
+      | inl none ↦ inl (row ∙ ap Err none)
+      | inr r ↦ at_once listing info (Err e) s m result t (refusal_had e r.had) is looks keeps (lists', kept)
+          (ap (reply_at {F = F} 0) row ∙ (λ i. refusal (r.status i) (r.stays i))) (subst (λ x. IsOfNumber view None t x) (sym row) tt)
+    ]
+
+    -- A look told what stands there.
+    course_heard : (co : Course) (info : Info) (s m : S) (result : Given F) (t : S) → course q info.kind ≡ co
+        → view.looks s c q.path (Ok info) m → Keeps (view.state s) (view.state m) → ByCourse view lists co q c m result t → Hearing s result t
+    course_heard (refusing status close) info s m result t is looks keeps (same, fails) =
+        at_once (refusing status close) info (Err fs.NotFound) s m result t nothing_had is looks keeps (rw same (omega arith)) (ap (reply_at {F = F} 0) fails ∙ refused_reply status close)
+        (subst (λ x. IsOfNumber view None t x) (sym fails) tt)
+    course_heard directing info s m (Err e) t is looks keeps (same, directs) = absurd directs
+    course_heard directing info s m (Ok r) t is looks keeps (same, (outcome, (left, none))) =
+        let reply : reply_at {F = F} 0 (Ok r) ≡ directed q.path =
+        λ i. record { status = ap (λ (o : Outcome). o.status) outcome i; fields = ap (λ (o : Outcome). o.fields) outcome i; parts = ap (parts_of 0) left i } in
+        at_once directing info (Err fs.NotFound) s m (Ok r) t nothing_had is looks keeps (rw same (omega arith)) reply (λ h some. absurd (none_some r.1.file h none some))
+    course_heard listing info s m result t is looks keeps (answer, lists', kept, row) =
+        listing_heard answer info s m result t is looks keeps lists' kept row
+    course_heard (opening path) info s m result t is looks keeps (answer, k, opens, one, row) =
+        opened_heard path info answer s m k result t is looks keeps opens one (opened_counts answer one) (file_leads view (asked_at q path) answer m k result t one row)
       where
         opened_counts : (answer : Result F FsError) → OpensOne view.handle view.seen reading (view.state m) answer (view.state k)
             → (view.state m).faults ≤ (view.state k).faults
@@ -325,33 +357,35 @@ module _ {S C F : Type 0} (view : View S C F) (q : Query) where
         opened_counts (Err e) one = one.others.counts
 
     look_heard : (looked : Result Info FsError) (s m : S) (result : Given F) (t : S) → view.looks s c q.path looked m → Keeps (view.state s) (view.state m)
-        → AfterLook view looked q c m result t → Hearing s result t
-    look_heard (Ok info) s m result t looks keeps row = kind_heard (is_dir info.kind) info s m result t refl looks keeps row
+        → AfterLook view lists looked q c m result t → Hearing s result t
+    look_heard (Ok info) s m result t looks keeps row = course_heard (course q info.kind) info s m result t refl looks keeps row
     look_heard (Err e) s m result t looks keeps (same, is) = elim (refused_with e) [
       | inl none ↦ inl (is ∙ ap Err none)
       | inr r ↦
-          let shown : Shown = shown_heard (Err e) (Err fs.NotFound) in
+          let shown : Shown = shown_heard (Err e) (Err fs.NotFound) (Err fs.NotFound) in
           let reply : Reply = reply_at {F = F} 0 result in
           let rose : Type 0 = Rose (view.state s).faults (view.state t).faults in
           let head : IsHead q (refused (fs_status e) false) reply = ap (reply_at {F = F} 0) is ∙ (λ i. refusal (r.status i) (r.stays i)) in
           inr (record {
             looked = Err e;
             opened = Err fs.NotFound;
+            listed = Err fs.NotFound;
             number = None;
             hears = λ no. (m, looks, keeps, rw same (omega arith));
             looked_had = refusal_had e r.had;
             opened_had = refusal_had fs.NotFound (λ is. cc);
+            listed_had = nothing_had;
             right = at_due shown rose reply (inl head);
             file = subst (λ x. IsOfNumber view None t x) (sym is) tt;
           })
     ]
 
   well_known_heard : (b : Bool) (c : C) (s : S) (result : Given F) (t : S) → is_well_known q.settings q.method q.path ≡ b
-      → ByWellKnown view b q c s result t → (result ≡ Err NoMemory) ⊎ Heard view q c s result t
+      → ByWellKnown view lists b q c s result t → (result ≡ Err NoMemory) ⊎ Heard view lists q c s result t
   well_known_heard false c s result t plain (looked, m, looks, keeps, row) = look_heard c plain looked s m result t looks keeps row
-  well_known_heard true c s (Err e) t page (same, row) = absurd row
-  well_known_heard true c s (Ok r) t page (same, (is, (left, none))) =
-      let shown : Shown = shown_heard (Err fs.NotFound) (Err fs.NotFound) in
+  well_known_heard true c s (Err e) t known_page (same, row) = absurd row
+  well_known_heard true c s (Ok r) t known_page (same, (is, (left, none))) =
+      let shown : Shown = shown_heard (Err fs.NotFound) (Err fs.NotFound) (Err fs.NotFound) in
       let reply : Reply = reply_at {F = F} 0 (Ok r) in
       let rose : Type 0 = Rose (view.state s).faults (view.state t).faults in
       let head : IsHead q known reply =
@@ -359,19 +393,18 @@ module _ {S C F : Type 0} (view : View S C F) (q : Query) where
       inr (record {
         looked = Err fs.NotFound;
         opened = Err fs.NotFound;
+        listed = Err fs.NotFound;
         number = None;
-        hears = λ no. (let both : true ≡ false = sym page ∙ no in cc);
+        hears = λ no. (let both : true ≡ false = sym known_page ∙ no in cc);
         looked_had = refusal_had fs.NotFound (λ is. cc);
         opened_had = refusal_had fs.NotFound (λ is. cc);
-        right = inl (subst (λ b. IsHead q (cond b known (due_looked shown q (shown.looked q.path))) reply) (sym page) head);
-        file = λ h some. absurd (no_file r.1.file h none some);
+        listed_had = refusal_had fs.NotFound (λ is. cc);
+        right = inl (subst (λ b. IsHead q (cond b known (due_looked shown q (shown.looked q.path))) reply) (sym known_page) head);
+        file = λ h some. absurd (none_some r.1.file h none some);
       })
-    where
-      no_file : (o : Option (OpenAt F)) (h : OpenAt F) → o ≡ None → o ≡ Some h → ⊥
-      no_file o h a b = let x : None ≡ Some h = sym a ∙ b in cc
 
   -- What the table answers is heard, and right for it.
-  pub gets_heard : (c : C) (s : S) (result : Given F) (t : S) → Gets view q c s result t ⊎ (result ≡ Err NoMemory)
-      → (result ≡ Err NoMemory) ⊎ Heard view q c s result t
+  pub gets_heard : (c : C) (s : S) (result : Given F) (t : S) → Gets view lists q c s result t ⊎ (result ≡ Err NoMemory)
+      → (result ≡ Err NoMemory) ⊎ Heard view lists q c s result t
   gets_heard c s result t (inl row) = well_known_heard (is_well_known q.settings q.method q.path) c s result t refl row
   gets_heard c s result t (inr none) = inl none

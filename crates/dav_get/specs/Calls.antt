@@ -1,13 +1,16 @@
 -- How often a GET or HEAD asks the disk of a store.
-use Rattle.std.specs.Prelude.{ℕ, Result, Ok, Err}
+use Rattle.std.specs.Prelude.{ℕ, List, Result, Ok, Err}
+use Rattle.dav_io.specs.declared.fields.Field.{Field}
 use Rattle.dav_core.specs.declared.error.FsError.{FsError}
 use Rattle.dav_core.specs.DavPath.{WebPath}
 use Rattle.dav_core.specs.Disk.{DiskState}
 use Rattle.dav_core.specs.Info.{Info}
 use Rattle.dav_core.specs.Options.{reading}
-use Rattle.dav_core.specs.Statuses.{status_of}
+use Rattle.dav_core.specs.Statuses.{closes, status_of}
 use Rattle.dav_store.specs.Files.{AsksAtMostOnce, AsksOnce}
-use Rattle.dav_store.specs.View.{View}
+use Rattle.dav_store.specs.declared.entry.ReadDirMeta.TheVariants.{Data}
+use Rattle.dav_store.specs.View.{View, Listings}
+use Rattle.dav_model.specs.Head.{refusal}
 use Rattle.dav_get.specs.Table.{Given}
 
 -- A file is opened by one call. What isn't opened may be refused without one.
@@ -15,14 +18,21 @@ abbrev pub AsksToOpen : {F : Type 0} → Result F FsError → DiskState → Disk
 AsksToOpen (Ok file) s t = AsksOnce s t
 AsksToOpen (Err e) s t = AsksAtMostOnce s t
 
--- The store asks its disk once to look at a path, and at most once to open it.
-pub record AsksByOne {S C F : Type 0} (view : View S C F) : Type 0 where
+-- The store asks its disk once to look at a path, and at most once to open it; where it refuses a listing, at most once.
+pub record AsksByOne {S C F L E : Type 0} (view : View S C F) (lists : Listings S C L E) : Type 0 where
   pub looks : (s t : S) (c : C) (path : WebPath) (r : Result Info FsError) → view.looks s c path r t
       → AsksOnce (view.state s) (view.state t)
   pub opens : (s t : S) (c : C) (path : WebPath) (o : Result F FsError) → view.opens s c path reading o t
       → AsksToOpen o (view.state s) (view.state t)
+  pub refuses_list : (s t : S) (c : C) (path : WebPath) (e : FsError) → lists.lists s c path Data (Err e) t
+      → AsksAtMostOnce (view.state s) (view.state t)
 
 -- the status of an answer
 abbrev pub status_given : {F : Type 0} → Given F → ℕ
 status_given (Ok r) = r.0.status
 status_given (Err e) = status_of e
+
+-- its fields
+abbrev pub fields_given : {F : Type 0} → Given F → List Field
+fields_given (Ok r) = r.0.fields
+fields_given (Err e) = (refusal (status_of e) (closes e)).fields

@@ -1,30 +1,38 @@
 -- The table of GET and HEAD over the calls of a store: which calls are made one after the other, and what is answered
 -- by the answer of each.
-use Rattle.std.specs.Prelude.{◌≡◌, ◌⊎◌, ℕ, List, [], ◌∷◌, Bool, true, false, Option, None, Some, Result, Ok, Err, IfOk}
+use Rattle.std.specs.Prelude.{◌≡◌, ◌⊎◌, ℕ, List, [], ◌∷◌, Bool, true, false, map, Option, None, Some, Result, Ok, Err, IfOk}
+use Rattle.std.specs.List.{AllByRecursion}
 use Rattle.dav_core.specs.declared.dav_error.DavError.{DavError}
 use Rattle.dav_core.specs.declared.dav_error.DavError.TheVariants.{Status, StatusClose, NoMemory}
 use Rattle.dav_core.specs.declared.error.FsError.{FsError}
+use Rattle.dav_core.specs.declared.member.Member.{Member}
 use Rattle.dav_core.specs.declared.method.DavMethod.{DavMethod}
 use Rattle.dav_core.specs.DavPath.{WebPath, last_name, type_of_last}
 use Rattle.dav_core.specs.Info.{Info, AreInYears}
 use Rattle.dav_core.specs.Options.{reading}
 use Rattle.dav_core.specs.Statuses.{of_fs}
 use Rattle.dav_core.specs.Tags.{HasTagBytes}
-use Rattle.dav_core.specs.Tree.{is_dir, is_file}
+use Rattle.dav_core.specs.Tree.{is_file}
 use Rattle.dav_core.specs.Unchanged.{Keeps}
+use Rattle.dav_page.specs.Index.{IsIndex}
+use Rattle.dav_page.specs.Listed.{AreRows, HasPlainName}
+use Rattle.dav_store.specs.declared.entry.ReadDirMeta.TheVariants.{Data}
 use Rattle.dav_store.specs.Files.{FileRedirects}
 use Rattle.dav_store.specs.Frames.{OpensOne}
-use Rattle.dav_store.specs.View.{View, Lent, seen_in, Says, Seeks, Closes}
+use Rattle.dav_store.specs.Members.{ReadsThere, ShowsMembers, WasListed}
+use Rattle.dav_store.specs.View.{View, Listings, Lent, seen_in, Says, Seeks, Closes}
 use Rattle.dav_model.specs.declared.outcome.Outcome.{Outcome}
 use Rattle.dav_model.specs.declared.ranges.Slice.{Slice}
 use Rattle.dav_model.specs.declared.sent.Sent.{Sent}
 use Rattle.dav_model.specs.declared.sent.Sent.TheVariants.{All, Alone, Unsatisfied, One, Several}
-use Rattle.dav_model.specs.Due.{Query}
-use Rattle.dav_model.specs.Head.{Stood, is_get, is_set, is_well_known, redirected_fields, sent_fields, sent_of, sent_parts, sent_status, well_known}
+use Rattle.dav_model.specs.Due.{Course, Query, course, directing, listing, opening, refusing}
+use Rattle.dav_model.specs.Head.{Reply, Stood, directed, is_get, is_set, is_well_known, redirected_fields, sent_fields, sent_of, sent_parts, sent_status, well_known}
+use Rattle.dav_model.specs.Indexes.{page_fields}
 use Rattle.dav_model.specs.Times.{IsDate}
 use Rattle.dav_get.specs.declared.body.GetBody.{GetBody}
 use Rattle.dav_get.specs.declared.open_at.OpenAt.{OpenAt}
 use Rattle.dav_get.specs.declared.part.BodyPart.{BodyPart}
+use Rattle.dav_get.specs.declared.part.BodyPart.TheVariants.{Text}
 use Rattle.dav_get.specs.Bodies.{left_of}
 use Rattle.dav_get.specs.Parts.{parts_of}
 
@@ -90,9 +98,30 @@ GivesBody P (Err e) = ⊥
 abbrev pub IsEmpty : {F : Type 0} → GetBody F → Type 0
 IsEmpty body = (left_of body ≡ []) × (body.file ≡ None)
 
+-- status and fields of a reply
+abbrev pub outcome_of : Reply → Outcome
+outcome_of reply = record { status = reply.status; fields = reply.fields }
+
 -- the answer of the page that is there whatever stands in the tree
 abbrev pub well_known_outcome : Outcome
-well_known_outcome = record { status = 200; fields = well_known.fields }
+well_known_outcome = outcome_of well_known
+
+-- the answer that sends the client to this path with a final slash
+abbrev pub directed_outcome : WebPath → Outcome
+directed_outcome path = outcome_of (directed path)
+
+-- The client is sent to the path with a final slash.
+abbrev pub Directs : {F : Type 0} → WebPath → Given F → Type 0
+Directs path result = GivesBody (λ answer. (answer.0 ≡ directed_outcome path) × IsEmpty answer.1) result
+
+-- the error of a refusal
+abbrev pub refused_as : ℕ → Bool → DavError
+refused_as status true = StatusClose status
+refused_as status false = Status status
+
+-- the same asked of another path
+abbrev pub asked_at : Query → WebPath → Query
+asked_at q path = record q { path = path }
 
 -- what a query sends of a file with this metadata
 abbrev pub sent_for : Query → Info → Sent
@@ -175,15 +204,60 @@ module _ {S C F : Type 0} (view : View S C F) where
   AfterOpen (Err e) q s result t = (t ≡ s) × (result ≡ Err (of_fs e))
   AfterOpen (Ok file) q s result t = GetsFile q file s result t ⊎ (result ≡ Err NoMemory)
 
-  -- A directory's form isn't built.
-  abbrev pub ByKind : Bool → Query → C → S → Given F → S → Type 0
-  ByKind true q c s result t = (t ≡ s) × (result ≡ Err (StatusClose 501))
-  ByKind false q c s result t = (opened : Result F FsError) × (m : S) × view.opens s c q.path reading opened m
+  -- What is at the path is opened.
+  abbrev pub Opens : Query → C → S → Given F → S → Type 0
+  Opens q c s result t = (opened : Result F FsError) × (m : S) × view.opens s c q.path reading opened m
       × OpensOne view.handle view.seen reading (view.state s) opened (view.state m) × AfterOpen opened q m result t
+
+-- The body of a directory's page: its texts. HEAD has none.
+abbrev pub IsPageBody : {F : Type 0} → Bool → WebPath → List Member → GetBody F → Type 0
+IsPageBody true dir members body = (texts : List (List ℕ)) × IsIndex dir (AreRows dir members) texts
+    × (left_of body ≡ map Text texts) × (body.file ≡ None)
+IsPageBody false dir members body = IsEmpty body
+
+-- status and fields of a directory's page
+abbrev pub page_outcome : Outcome
+page_outcome = record { status = 200; fields = page_fields }
+
+-- The page of the directory with these members is given.
+abbrev pub GivesPage : {F : Type 0} → Query → List Member → Given F → Type 0
+GivesPage q members result = GivesBody (λ answer. (answer.0 ≡ page_outcome)
+    × IsPageBody (is_get q.method) q.path members answer.1) result
+
+abbrev pub AfterListing : {F : Type 0} → Result (List Member) FsError → Query → Given F → Type 0
+AfterListing (Err e) q result = result ≡ Err (of_fs e)
+AfterListing (Ok members) q result = GivesPage q members result
+
+module _ {S C F L E : Type 0} (view : View S C F) (lists : Listings S C L E) where
+  -- To a GET the members of a directory are read: where the store shows some, these. To a HEAD none is read.
+  abbrev pub ReadsMembers : Bool → C → WebPath → S → List Member → S → Type 0
+  ReadsMembers true c path s members t = WasListed view lists s c path members t
+      × ((found : Result (List Member) FsError) → ShowsMembers view lists s c path found
+      → ReadsThere found (view.state s).faults members (view.state t).faults)
+  ReadsMembers false c path s members t = (members ≡ []) × ((listing : L) × (m : S)
+      × lists.lists s c path Data (Ok listing) m × lists.ends_list m listing t)
+
+  -- A directory was listed, or refused.
+  abbrev pub IsListing : Bool → C → WebPath → S → Result (List Member) FsError → S → Type 0
+  IsListing gives c path s (Err e) t = lists.lists s c path Data (Err e) t
+  IsListing gives c path s (Ok members) t = ReadsMembers gives c path s members t
+      × AllByRecursion HasPlainName members
+
+  -- The directory is listed, and its page given.
+  abbrev pub Lists : Query → C → S → Given F → S → Type 0
+  Lists q c s result t = (answer : Result (List Member) FsError) × IsListing (is_get q.method) c q.path s answer t
+      × Keeps (view.state s) (view.state t) × AfterListing answer q result
+
+  -- The path of an index file is opened in place of the one that was looked at.
+  abbrev pub ByCourse : Course → Query → C → S → Given F → S → Type 0
+  ByCourse (refusing status close) q c s result t = (t ≡ s) × (result ≡ Err (refused_as status close))
+  ByCourse directing q c s result t = (t ≡ s) × Directs q.path result
+  ByCourse (opening path) q c s result t = Opens view (asked_at q path) c s result t
+  ByCourse listing q c s result t = Lists q c s result t
 
   abbrev pub AfterLook : Result Info FsError → Query → C → S → Given F → S → Type 0
   AfterLook (Err e) q c s result t = (t ≡ s) × (result ≡ Err (of_fs e))
-  AfterLook (Ok info) q c s result t = ByKind (is_dir info.kind) q c s result t
+  AfterLook (Ok info) q c s result t = ByCourse (course q info.kind) q c s result t
 
   abbrev pub ByWellKnown : Bool → Query → C → S → Given F → S → Type 0
   ByWellKnown true q c s result t =

@@ -1,38 +1,41 @@
 //! GET and HEAD over a store. There is one function for each line of the table from which a file is in hand, so that a
 //! file that was opened is always closed or given to a body.
-ghost use Rattle.std.specs.Prelude.{◌≡◌, ◌<◌, ◌⊎◌, ℕ, true, false, IsSome, Some, Result, Ok, Err};
+ghost use Rattle.std.specs.Prelude.{◌≡◌, ◌<◌, ◌⊎◌, ℕ, List, true, false, IsSome, Some, Result, Ok, Err};
 ghost use Rattle.dav_core.specs.declared.error.FsError.{FsError};
+ghost use Rattle.dav_core.specs.declared.member.Member.{Member};
+ghost use Rattle.dav_core.specs.DavPath.{WebPath};
 ghost use Rattle.dav_core.specs.Disk.{can_read, Live};
 ghost use Rattle.dav_core.specs.Options.{reading};
 ghost use Rattle.dav_model.specs.declared.sent.Sent.TheVariants.{Unsatisfied};
 ghost use Rattle.dav_model.specs.declared.target.Target.TheVariants.{At};
 ghost use Rattle.dav_model.specs.Announced.{HasSoundBody, IsFramed};
 ghost use Rattle.dav_model.specs.Calls.{AsksUnlessKnown};
-ghost use Rattle.dav_model.specs.Due.{query};
+ghost use Rattle.dav_model.specs.Due.{dir_course, index_course, query};
 ghost use Rattle.dav_model.specs.Head.{is_set, is_well_known as the_is_well_known};
 ghost use Rattle.dav_model.specs.Sizes.{read_size_of};
-ghost use Rattle.dav_store.specs.Shows.{Shows};
 ghost use Rattle.dav_store.specs.Standing.{Seen, Standing};
-ghost use Rattle.dav_store.specs.View.{the_view, Closes};
+ghost use Rattle.dav_store.specs.View.{the_listings, the_view, Closes};
 ghost use Rattle.dav_get.specs.Asked.{asked_of};
-ghost use Rattle.dav_get.specs.Calls.{AsksByOne, status_given};
+ghost use Rattle.dav_get.specs.Calls.{AsksByOne, fields_given, status_given};
 ghost use Rattle.dav_get.specs.Heard.{Heard};
 ghost use Rattle.dav_get.specs.Lives.{HeldOrClosed, HasMost, OpenOnlyHeld};
 ghost use Rattle.dav_get.specs.OpenFiles.{IsAt};
 ghost use Rattle.dav_get.specs.Prepared.{AreReady};
 ghost use Rattle.dav_get.specs.Right.{reply_at};
-ghost use Rattle.dav_get.specs.Table.{ByKind, ByRedirect, ByWellKnown, Gets, GetsFile, GivesBody, Holds, IsEmpty, Redirects, Sends, SendsAway, SendsFile, SendsFrom};
-ghost use Rattle.dav_get.specs.Told.{IsRightFor};
+ghost use Rattle.dav_get.specs.Table.{ByCourse, ByRedirect, ByWellKnown, Gets, GetsFile, GivesBody, Holds, IsEmpty, Opens, Redirects, Sends, SendsAway, SendsFile, SendsFrom};
+ghost use Rattle.dav_get.specs.Told.{IsRightFor, ShowsFor};
 ghost use Rattle.dav_get.specs.Within.{IsSentOf};
 
 use crate::asked::Asked;
+use crate::autoindex::get_page;
 use crate::body::GetBody;
 use crate::buffer::ReadBuffer;
 use crate::deciding::{decide, first_place};
+use crate::directories::{directed, index_path};
 use crate::headers::{redirected_fields, well_known_fields};
 use crate::open_at::OpenAt;
 use crate::prepared::{Prepared, is_get, prepare, prepare_unsatisfied};
-use dav_core::{DavError, DavMetaData, DavMethod, DavPath, FsError, OpenOptions};
+use dav_core::{DavError, DavMetaData, DavMethod, DavPath, FsError, OpenOptions, is_plain};
 use dav_io::Text;
 use dav_model::{Outcome, Sent, Settings};
 use dav_store::{DavFile, GuardedFileSystem, file_close, file_metadata, file_seek};
@@ -317,14 +320,14 @@ fn get_file<S: GuardedFileSystem<C>, C>(
     }
 }
 
-// Opens what isn't a directory, and gives it.
+// Opens what is at the path, and gives it.
 fn open_file<S: GuardedFileSystem<C>, C>(
     alloc: Global,
     fs: &mut S,
     credentials: &C,
     asked: &Asked<'_>,
 ) -> Given<S::File>
-    ensures table { ByKind (the_view S.GuardedFileSystem S.Disk.Disk S.File.DavFile) false
+    ensures table { Opens (the_view S.GuardedFileSystem S.Disk.Disk S.File.DavFile)
         (asked_of asked.now) credentials.now fs.old result fs.new }
     ensures life { OpenOnlyHeld (the_view S.GuardedFileSystem S.Disk.Disk S.File.DavFile) fs.old result fs.new }
     ensures most { HasMost (read_size_of asked.now.settings.now.read_buf_size) result }
@@ -336,6 +339,70 @@ fn open_file<S: GuardedFileSystem<C>, C>(
     }
 }
 
+// Gives the index file of a directory in its place. Under a name that isn't plain none stands.
+fn get_index<S: GuardedFileSystem<C>, C>(
+    alloc: Global,
+    fs: &mut S,
+    credentials: &C,
+    asked: &Asked<'_>,
+    name: &Text,
+) -> Given<S::File>
+    ensures table { ByCourse (the_view S.GuardedFileSystem S.Disk.Disk S.File.DavFile)
+        (the_listings S.GuardedFileSystem S.Entry.DavDirEntry)
+        (index_course (asked_of asked.now) (Some name.now)) (asked_of asked.now) credentials.now fs.old result fs.new
+        ⊎ (result ≡ Err DavError.NoMemory) }
+    ensures life { OpenOnlyHeld (the_view S.GuardedFileSystem S.Disk.Disk S.File.DavFile) fs.old result fs.new }
+    ensures most { HasMost (read_size_of asked.now.settings.now.read_buf_size) result }
+    ensures loan { S.Disk.loan (S.inside fs.new) ≡ S.Disk.loan (S.inside fs.old) }
+{
+    if !is_plain(name.as_slice()) {
+        return Err(DavError::Status(StatusCode::NOT_FOUND));
+    }
+    match index_path(asked.path, name) {
+        Ok(path) => {
+            let index = Asked {
+                settings: asked.settings,
+                method: asked.method,
+                path: &path,
+                fields: asked.fields,
+            };
+            open_file(alloc, fs, credentials, &index)
+        }
+        Err(_) => Err(DavError::NoMemory),
+    }
+}
+
+// Answers for a directory: where a slash ends its path, its index file stands for it, if one is set.
+fn get_dir<S: GuardedFileSystem<C>, C>(
+    alloc: Global,
+    fs: &mut S,
+    credentials: &C,
+    asked: &Asked<'_>,
+) -> Given<S::File>
+    requires admits { S.admits fs.old }
+    ensures table { ByCourse (the_view S.GuardedFileSystem S.Disk.Disk S.File.DavFile)
+        (the_listings S.GuardedFileSystem S.Entry.DavDirEntry)
+        (dir_course (asked_of asked.now) asked.now.path.now.slash) (asked_of asked.now) credentials.now fs.old result
+        fs.new ⊎ (result ≡ Err DavError.NoMemory) }
+    ensures life { OpenOnlyHeld (the_view S.GuardedFileSystem S.Disk.Disk S.File.DavFile) fs.old result fs.new }
+    ensures most { HasMost (read_size_of asked.now.settings.now.read_buf_size) result }
+    ensures loan { S.Disk.loan (S.inside fs.new) ≡ S.Disk.loan (S.inside fs.old) }
+{
+    if asked.path.is_collection() {
+        return match &asked.settings.indexfile {
+            Some(name) => get_index(alloc, fs, credentials, asked, name),
+            None => get_page(alloc, fs, credentials, asked),
+        };
+    }
+    match directed(alloc, asked.path) {
+        Ok(outcome) => Ok((
+            outcome,
+            GetBody::new(Vec::new(alloc), None, ReadBuffer::none(alloc)),
+        )),
+        Err(_) => Err(DavError::NoMemory),
+    }
+}
+
 // Looks at the path, and gives what stands there.
 fn look<S: GuardedFileSystem<C>, C>(
     alloc: Global,
@@ -343,8 +410,10 @@ fn look<S: GuardedFileSystem<C>, C>(
     credentials: &C,
     asked: &Asked<'_>,
 ) -> Given<S::File>
-    ensures table { ByWellKnown (the_view S.GuardedFileSystem S.Disk.Disk S.File.DavFile) false
-        (asked_of asked.now) credentials.now fs.old result fs.new }
+    requires admits { S.admits fs.old }
+    ensures table { ByWellKnown (the_view S.GuardedFileSystem S.Disk.Disk S.File.DavFile)
+        (the_listings S.GuardedFileSystem S.Entry.DavDirEntry) false
+        (asked_of asked.now) credentials.now fs.old result fs.new ⊎ (result ≡ Err DavError.NoMemory) }
     ensures life { OpenOnlyHeld (the_view S.GuardedFileSystem S.Disk.Disk S.File.DavFile) fs.old result fs.new }
     ensures most { HasMost (read_size_of asked.now.settings.now.read_buf_size) result }
     ensures loan { S.Disk.loan (S.inside fs.new) ≡ S.Disk.loan (S.inside fs.old) }
@@ -352,7 +421,7 @@ fn look<S: GuardedFileSystem<C>, C>(
     match fs.metadata(asked.path, credentials) {
         Ok(meta) => {
             if meta.is_dir() {
-                return Err(DavError::StatusClose(StatusCode::NOT_IMPLEMENTED));
+                return get_dir(alloc, fs, credentials, asked);
             }
             open_file(alloc, fs, credentials, asked)
         }
@@ -380,15 +449,18 @@ fn is_well_known(asked: &Asked<'_>) -> bool
 }
 
 /// Answers a GET or HEAD (RFC 9110, sections 9.3.1, 9.3.2, 13 and 14) over any store: preconditions, one range or
-/// several, and the body that gives them. An error is the store's refusal, 405 for what is neither a directory nor a
-/// regular file, or 501 with a close for a directory, whose form isn't built. A file that was opened is closed again,
-/// or held by the body.
+/// several, and the body that gives them. A directory whose path has no final slash is answered with that address;
+/// under one with a slash its index file stands for it, where one is set. An error is the store's refusal, 405 for what
+/// is neither a directory nor a regular file, 404 for an index file whose name isn't plain, or 405 with a close for a
+/// directory of which no page is permitted. Where one is, it is given. A file that was opened is closed again, or held by
+/// the body; a listing is ended.
 ///
 /// `table` tells which call of the store gave the answer. `framed` says that its field `content-length` is the length
 /// of the body, and that a HEAD and 304 have none. `sound` says that no part of the body is empty, and that 204 has
-/// none. `heard` says, of any store, that the answer is right for what its look and its opening answered; `right`, that
-/// it is right for what the store shows at the path, unless a fault was met. Either way memory may be refused. `asks`
-/// says, of a store that looks and opens by one call each, how many calls of the disk it takes.
+/// none. `heard` says, of any store, that the answer is right for what its look and its opening or listing answered;
+/// `right`, that it is right for what the store shows at the path, and at the one that is opened or listed for what
+/// stands there, unless a fault was met. Either way memory may be refused. `asks` says, of a store that looks and opens
+/// by one call each, how many calls of the disk it takes, where no page is given.
 pub fn handle_get<S: GuardedFileSystem<C>, C>(
     alloc: Global,
     settings: &Settings,
@@ -398,20 +470,26 @@ pub fn handle_get<S: GuardedFileSystem<C>, C>(
     path: &DavPath,
     fields: &HeaderMap,
 ) -> Given<S::File>
+    requires admits { S.admits fs.old }
     ensures table { Gets (the_view S.GuardedFileSystem S.Disk.Disk S.File.DavFile)
+        (the_listings S.GuardedFileSystem S.Entry.DavDirEntry)
         (query settings.now fields.now method path.now) credentials.now fs.old result fs.new
         ⊎ (result ≡ Err DavError.NoMemory) }
     ensures framed { (number : ℕ) → IsFramed (At method path.now) (reply_at number result) }
     ensures sound { (number : ℕ) → HasSoundBody (reply_at number result) }
     ensures heard { (result ≡ Err DavError.NoMemory) ⊎ Heard (the_view S.GuardedFileSystem S.Disk.Disk S.File.DavFile)
+        (the_listings S.GuardedFileSystem S.Entry.DavDirEntry)
         (query settings.now fields.now method path.now) credentials.now fs.old result fs.new }
-    ensures right { (looked opened : Result Standing FsError)
-        → Shows (the_view S.GuardedFileSystem S.Disk.Disk S.File.DavFile) fs.old credentials.now path.now looked opened
+    ensures right { (looked opened : WebPath → Result Standing FsError) (listed : WebPath → Result (List Member) FsError)
+        → ShowsFor (the_view S.GuardedFileSystem S.Disk.Disk S.File.DavFile)
+        (the_listings S.GuardedFileSystem S.Entry.DavDirEntry) fs.old credentials.now
+        (query settings.now fields.now method path.now) looked opened listed
         → (result ≡ Err DavError.NoMemory) ⊎ IsRightFor (the_view S.GuardedFileSystem S.Disk.Disk S.File.DavFile)
-        (query settings.now fields.now method path.now) looked opened fs.old result fs.new }
+        (query settings.now fields.now method path.now) looked opened listed fs.old result fs.new }
     ensures asks { AsksByOne (the_view S.GuardedFileSystem S.Disk.Disk S.File.DavFile)
+        (the_listings S.GuardedFileSystem S.Entry.DavDirEntry)
         → (result ≡ Err DavError.NoMemory) ⊎ AsksUnlessKnown (the_is_well_known settings.now method path.now)
-        (is_set settings.now.redirect) (status_given result) (S.Disk.state (S.inside fs.old)).asked
+        (is_set settings.now.redirect) (status_given result) (fields_given result) (S.Disk.state (S.inside fs.old)).asked
         (S.Disk.state (S.inside fs.new)).asked }
     ensures life { OpenOnlyHeld (the_view S.GuardedFileSystem S.Disk.Disk S.File.DavFile) fs.old result fs.new }
     ensures most { HasMost (read_size_of settings.now.read_buf_size) result }
@@ -433,7 +511,9 @@ fn get_once<S: GuardedFileSystem<C>, C>(
     credentials: &C,
     asked: &Asked<'_>,
 ) -> Given<S::File>
+    requires admits { S.admits fs.old }
     ensures table { Gets (the_view S.GuardedFileSystem S.Disk.Disk S.File.DavFile)
+        (the_listings S.GuardedFileSystem S.Entry.DavDirEntry)
         (asked_of asked.now) credentials.now fs.old result fs.new ⊎ (result ≡ Err DavError.NoMemory) }
     ensures life { OpenOnlyHeld (the_view S.GuardedFileSystem S.Disk.Disk S.File.DavFile) fs.old result fs.new }
     ensures most { HasMost (read_size_of asked.now.settings.now.read_buf_size) result }

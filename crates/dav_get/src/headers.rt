@@ -1,14 +1,15 @@
 // The header fields of answers.
-ghost use Rattle.std.specs.Prelude.{◌≡◌, ◌<◌, [], ◌++◌, ◌∷◌, List, ℕ, true, Option, None, Some, IfOk, OnOk, codes, decimal, string_bytes};
+ghost use Rattle.std.specs.Prelude.{◌≡◌, ◌<◌, [], ◌++◌, ◌∷◌, List, ℕ, true, Option, None, Some, IfOk, OnOk, codes, decimal};
+ghost use Rattle.dav_io.specs.FieldNames.{spelled};
 ghost use Rattle.dav_model.specs.Slices.{IsWithin};
 ghost use Rattle.dav_get.specs.Within.{IsSentOf};
 ghost use Rattle.std.specs.Option.{option_map};
 ghost use Rattle.dav_core.specs.Info.{is_in_years, natural};
 ghost use Rattle.dav_model.specs.Times.{IsDate};
-ghost use Rattle.dav_model.specs.Head.{field, field_where, quoted, quoted_where, sent_fields as the_sent_fields, sent_length as the_sent_length, sent_range as the_sent_range, sent_type as the_sent_type, span_text, redirected_fields as the_redirected_fields, well_known};
+ghost use Rattle.dav_model.specs.Head.{field, field_where, quoted_where, sent_fields as the_sent_fields, sent_length as the_sent_length, sent_range as the_sent_range, sent_type as the_sent_type, span_text, redirected_fields as the_redirected_fields, well_known};
 
 use dav_core::{DavMetaData, FileTime};
-use dav_io::{Field, Fields, NoMemory, Octets, Text};
+use dav_io::{Field, FieldName, Fields, NoMemory, Octets, Text};
 use dav_model::{Sent, Slice};
 use httpdate::HttpDate;
 use itoa::Buffer;
@@ -17,33 +18,45 @@ use std::alloc::Global;
 // The most fields of a file's answer.
 const MOST_FIELDS: usize = 6;
 
+// The most bytes of a tag that a disk's metadata makes, with its quotes: three numbers and two dashes.
+const MOST_TAG: usize = 52;
+
+// The most bytes of the value of `content-range`: a word, three numbers and what parts them.
+const MOST_RANGE: usize = 68;
+
 // Adds a field of this value.
-fn push(alloc: Global, fields: &mut Vec<Field>, name: &str, value: Octets) -> Result<(), NoMemory>
-    ensures { OnOk result (fields.new.items ≡ fields.old.items ++ field name.now value ∷ []) }
+fn push(fields: &mut Vec<Field>, name: FieldName, value: Octets) -> Result<(), NoMemory>
+    ensures { OnOk result (fields.new.items ≡ fields.old.items ++ field (spelled name) value ∷ []) }
 {
-    let name = Text::copy(alloc, name)?;
+    let name = Text::known(name);
     fields.push(Field { name, value })?;
     Ok(())
 }
 
-// Adds a field whose value is copied.
-fn add(alloc: Global, fields: &mut Vec<Field>, name: &str, value: &[u8]) -> Result<(), NoMemory>
-    ensures { OnOk result (fields.new.items ≡ fields.old.items ++ field name.now value.now ∷ []) }
+/// Adds a field whose value is copied.
+pub(crate) fn add(
+    alloc: Global,
+    fields: &mut Vec<Field>,
+    name: FieldName,
+    value: &[u8],
+) -> Result<(), NoMemory>
+    ensures { OnOk result (fields.new.items ≡ fields.old.items ++ field (spelled name) value.now ∷ []) }
 {
     let value = Octets::new(Vec::from_slice(alloc, value)?);
-    push(alloc, fields, name, value)
+    push(fields, name, value)
 }
 
-// A tag between its quotes.
-fn quote(alloc: Global, tag: &Text) -> Result<Octets, NoMemory>
-    ensures { IfOk result (λ value. value ≡ quoted tag.now) }
+// The entity tag between its quotes, where there is one.
+fn quoted_tag<M: DavMetaData>(alloc: Global, meta: &M) -> Result<Option<Octets>, NoMemory>
+    ensures { IfOk result (λ value. value ≡ quoted_where (M.info meta.now).tag) }
 {
-    let text = tag.as_slice();
-    let mut value = Vec::with_capacity(alloc, text.len() + 2)?;
-    value.extend_from_slice(b"\"")?;
-    value.extend_from_slice(text)?;
-    value.extend_from_slice(b"\"")?;
-    Ok(Octets::new(value))
+    let mut value = Vec::with_capacity(alloc, MOST_TAG)?;
+    value.push(b'"')?;
+    if !meta.push_tag(&mut value)? {
+        return Ok(None);
+    }
+    value.push(b'"')?;
+    Ok(Some(Octets::new(value)))
 }
 
 // Adds the entity tag, where there is one.
@@ -51,11 +64,10 @@ fn add_tag<M: DavMetaData>(alloc: Global, fields: &mut Vec<Field>, meta: &M) -> 
     ensures { OnOk result (fields.new.items ≡ fields.old.items ++ field_where (codes "etag")
         (quoted_where (M.info meta.now).tag)) }
 {
-    let Some(tag) = meta.etag(alloc)? else {
-        return Ok(());
-    };
-    let value = quote(alloc, &tag)?;
-    push(alloc, fields, "etag", value)
+    match quoted_tag(alloc, meta)? {
+        Some(value) => push(fields, FieldName::Etag, value),
+        None => Ok(()),
+    }
 }
 
 // The whole seconds of a known time, since 1970.
@@ -90,7 +102,7 @@ fn add_date<M: DavMetaData>(
     match meta.modified() {
         Ok(time) => {
             let date = date_of(time);
-            add(alloc, fields, "last-modified", &date)?;
+            add(alloc, fields, FieldName::LastModified, &date)?;
             Ok(())
         }
         Err(_) => Ok(()),
@@ -138,19 +150,30 @@ fn add_length(
     add(
         alloc,
         fields,
-        "content-length",
+        FieldName::ContentLength,
         text.format(number).as_bytes(),
     )
 }
 
-/// The first and the last byte of a slice, and the length of the file (RFC 9110, section 14.4).
-pub(crate) fn span(alloc: Global, len: u64, part: &Slice) -> Result<String, NoMemory>
-    requires { IsWithin len part.now }
-    ensures { IfOk result (λ text. string_bytes text ≡ span_text len part.now) }
+// Appends the digits of a number.
+fn push_number(text: &mut Vec<u8>, number: u64) -> Result<(), NoMemory>
+    ensures { OnOk result (text.new.items ≡ text.old.items ++ decimal number) }
 {
-    let first = part.start;
-    let last = part.start + (part.count - 1);
-    Ok(format!(in alloc; "{first}-{last}/{len}")?)
+    let mut digits = Buffer::new();
+    text.extend_from_slice(digits.format(number).as_bytes())?;
+    Ok(())
+}
+
+/// Appends the first and the last byte of a slice, and the length of the file (RFC 9110, section 14.4).
+pub(crate) fn push_span(text: &mut Vec<u8>, len: u64, part: &Slice) -> Result<(), NoMemory>
+    requires { IsWithin len part.now }
+    ensures { OnOk result (text.new.items ≡ text.old.items ++ span_text len part.now) }
+{
+    push_number(text, part.start)?;
+    text.push(b'-')?;
+    push_number(text, part.start + (part.count - 1))?;
+    text.push(b'/')?;
+    push_number(text, len)
 }
 
 // Adds `content-range`, where it stands.
@@ -162,23 +185,15 @@ fn add_range(alloc: Global, fields: &mut Vec<Field>, len: u64, sent: &Sent) -> R
     match sent {
         Sent::All | Sent::Alone(_) | Sent::Several(_) => Ok(()),
         Sent::Unsatisfied => {
-            let text = format!(in alloc; "bytes */{len}")?;
-            push(
-                alloc,
-                fields,
-                "content-range",
-                Octets::new(text.into_bytes()),
-            )
+            let mut text = Vec::from_slice(alloc, b"bytes */")?;
+            push_number(&mut text, len)?;
+            push(fields, FieldName::ContentRange, Octets::new(text))
         }
         Sent::One(part) => {
-            let span = span(alloc, len, part)?;
-            let text = format!(in alloc; "bytes {span}")?;
-            push(
-                alloc,
-                fields,
-                "content-range",
-                Octets::new(text.into_bytes()),
-            )
+            let mut text = Vec::with_capacity(alloc, MOST_RANGE)?;
+            text.extend_from_slice(b"bytes ")?;
+            push_span(&mut text, len, part)?;
+            push(fields, FieldName::ContentRange, Octets::new(text))
         }
     }
 }
@@ -207,11 +222,11 @@ pub(crate) fn sent_fields<M: DavMetaData>(
 {
     let len = meta.len();
     let mut fields = Vec::with_capacity(alloc, MOST_FIELDS)?;
-    add(alloc, &mut fields, "accept-ranges", b"bytes")?;
+    add(alloc, &mut fields, FieldName::AcceptRanges, b"bytes")?;
     add_length(alloc, &mut fields, gives, len, sent)?;
     add_range(alloc, &mut fields, len, sent)?;
     let kind = sent_type(kind, sent);
-    add(alloc, &mut fields, "content-type", kind.as_bytes())?;
+    add(alloc, &mut fields, FieldName::ContentType, kind.as_bytes())?;
     add_tag(alloc, &mut fields, meta)?;
     add_date(alloc, &mut fields, meta)?;
     Ok(Fields::new(fields))
@@ -227,10 +242,10 @@ pub(crate) fn redirected_fields<M: DavMetaData>(
         × (fields ≡ the_redirected_fields address.now (M.info meta.now).tag date)) }
 {
     let mut fields = Vec::new(alloc);
-    add(alloc, &mut fields, "content-length", b"0")?;
+    add(alloc, &mut fields, FieldName::ContentLength, b"0")?;
     add_tag(alloc, &mut fields, meta)?;
     add_date(alloc, &mut fields, meta)?;
-    add(alloc, &mut fields, "location", address.as_slice())?;
+    add(alloc, &mut fields, FieldName::Location, address.as_slice())?;
     Ok(Fields::new(fields))
 }
 
@@ -239,7 +254,7 @@ pub(crate) fn well_known_fields(alloc: Global) -> Result<Fields, NoMemory>
     ensures { IfOk result (λ fields. fields ≡ well_known.fields) }
 {
     let mut fields = Vec::new(alloc);
-    add(alloc, &mut fields, "accept-ranges", b"bytes")?;
-    add(alloc, &mut fields, "content-length", b"0")?;
+    add(alloc, &mut fields, FieldName::AcceptRanges, b"bytes")?;
+    add(alloc, &mut fields, FieldName::ContentLength, b"0")?;
     Ok(Fields::new(fields))
 }

@@ -1,12 +1,14 @@
-//! GET and HEAD of files, over any store.
+//! GET and HEAD over any store.
 #![tactic(auto)]
 
 mod asked;
+mod autoindex;
 mod body;
 pub mod body_laws;
 mod body_steps;
 mod buffer;
 mod deciding;
+mod directories;
 mod get;
 mod headers;
 mod open_at;

@@ -7,7 +7,7 @@ ghost use Rattle.dav_get.specs.Parts.{parts_of};
 ghost use Rattle.dav_model.specs.Slices.{IsWithin};
 ghost use Rattle.dav_get.specs.Within.{IsSentOf};
 
-use crate::headers::span;
+use crate::headers::push_span;
 use crate::part::BodyPart;
 use dav_io::{NoMemory, Octets};
 use dav_model::{Sent, Slice};
@@ -19,11 +19,12 @@ fn part_head(alloc: Global, kind: &str, len: u64, part: &Slice) -> Result<Octets
     ensures text { IfOk result (λ text. text ≡ the_part_head kind.now len part.now) }
     ensures some { IfOk result (λ text. 0 < length text) }
 {
-    let span = span(alloc, len, part)?;
-    let text = format!(in alloc;
-        "\n--BOUNDARY\nContent-Range: bytes {span}\nContent-Type: {kind}\n\n"
-    )?;
-    Ok(Octets::new(text.into_bytes()))
+    let mut text = Vec::from_slice(alloc, b"\n--BOUNDARY\nContent-Range: bytes ")?;
+    push_span(&mut text, len, part)?;
+    text.extend_from_slice(b"\nContent-Type: ")?;
+    text.extend_from_slice(kind.as_bytes())?;
+    text.extend_from_slice(b"\n\n")?;
+    Ok(Octets::new(text))
 }
 
 // Adds a slice of several, and the text before it.

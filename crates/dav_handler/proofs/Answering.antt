@@ -1,7 +1,7 @@
 -- What a request finds, from what the calls below it answered.
-use Rattle.std.proofs.Common.{◌≡◌, ◌⊎◌, inl, inr, ℕ, Bool, true, false, List, Option, None, Some, Result, Ok, Err, refl, sym, ap, subst, ◌∙◌}
+use Rattle.std.proofs.Common.{◌≡◌, ◌⊎◌, inl, inr, ◌&&◌, ℕ, Bool, true, false, not, List, [], ◌∷◌, Option, None, Some, Result, Ok, Err, refl, sym, ap, subst, ◌∙◌}
 use Rattle.std.specs.Prelude.{IfOk, is_some}
-use Rattle.std.specs.List.{list_any}
+use Rattle.std.specs.List.{AllByRecursion, filter, list_all, list_any}
 use Rattle.std.specs.Option.{option_map}
 use Rattle.dav_io.specs.declared.failure.NoMemory.{NoMemory}
 use Rattle.dav_core.specs.declared.dav_error.DavError.{DavError}
@@ -11,6 +11,10 @@ use Rattle.dav_core.specs.declared.method.DavMethod.{DavMethod}
 use Rattle.dav_core.specs.DavPath.{WebPath}
 use Rattle.dav_core.specs.Disk.{DiskState, Live, TellsLive}
 use Rattle.dav_core.specs.Statuses.{closes, lacks_memory, status_of}
+use Rattle.dav_core.specs.declared.member.Member.{Member}
+use Rattle.dav_core.specs.declared.tree.Row.{Row}
+use Rattle.dav_core.specs.Listing.{stands_in}
+use Rattle.dav_core.specs.Path.{Names}
 use Rattle.dav_core.specs.Tree.{is_linked}
 use Rattle.dav_core.specs.Unchanged.{Keeps}
 use Rattle.dav_core.specs.World.{World, IsWorld}
@@ -20,7 +24,8 @@ use Rattle.dav_model.specs.declared.settings.Settings.{Settings}
 use Rattle.dav_model.specs.declared.target.Target.TheVariants.{At, Refused}
 use Rattle.dav_model.specs.Calls.{AsksUnlessKnown}
 use Rattle.dav_model.specs.Conditions.{Fields}
-use Rattle.dav_model.specs.Due.{Query, IsRight, query}
+use Rattle.dav_model.specs.Due.{Course, Query, IsRight, course, directing, listing, opening, query, refusing}
+use Rattle.dav_model.specs.Finding.{is_clear}
 use Rattle.dav_model.specs.Head.{Reply, is_set, is_well_known, refusal}
 use Rattle.dav_model.specs.Play.{Reads}
 use Rattle.dav_model.specs.Rules.{nothing_known, plain_rules}
@@ -28,28 +33,32 @@ use Rattle.dav_model.specs.Sizes.{read_size_of}
 use Rattle.dav_io.specs.Counts.{Rose}
 use Rattle.dav_store.specs.Shows.{Shows}
 use Rattle.dav_store.specs.Standing.{Seen, Standing}
-use Rattle.dav_store.specs.View.{View}
+use Rattle.dav_store.specs.View.{View, Listings}
 use Rattle.dav_plain.specs.declared.file.PlainFile.{PlainFile}
 use Rattle.dav_plain.specs.Calls.{seen_by}
-use Rattle.dav_plain.specs.Standing.{looked, opened, seen_in, seen_with}
+use Rattle.dav_plain.specs.declared.entry.PlainDir.{PlainDir}
+use Rattle.dav_plain.specs.declared.entry.PlainEntry.{PlainEntry}
+use Rattle.dav_plain.specs.Standing.{HasNoLinks, looked, members_found, opened, seen_in, seen_with}
+use Rattle.dav_plain.proofs.MembersShown.{ListsPlain, members_shown}
 use Rattle.dav_plain.proofs.Showing.{IsPlain, plain_shows}
 use Rattle.dav_get.specs.declared.open_at.OpenAt.{OpenAt}
 use Rattle.dav_get.specs.declared.part.BodyPart.{BodyPart}
 use Rattle.dav_get.specs.Bodies.{IsHeld, left_of, is_slice}
 use Rattle.dav_get.specs.Calls.{AsksByOne}
-use Rattle.dav_get.specs.Heard.{Heard}
+use Rattle.dav_get.specs.Heard.{Heard, shown_alike}
 use Rattle.dav_get.specs.Lives.{HasMost, OpensOnly}
 use Rattle.dav_get.specs.Parts.{parts_of}
 use Rattle.dav_get.specs.Right.{IsOfNumber, number_told, or_zero, reply_at}
 use Rattle.dav_get.specs.Table.{Given}
-use Rattle.dav_get.specs.Told.{IsRightFor, number_in as number_opened, shown_as}
+use Rattle.dav_get.specs.Told.{IsRightFor, ShowsFor, number_for, shown_as, stood_of}
+use Rattle.dav_get.proofs.HeardCouldStand.{heard_there}
 use Rattle.dav_handler.specs.declared.found.Found.{Found}
 use Rattle.dav_handler.specs.Found.{Answers, Finds, Gives, HoldsOnly, IsRefused, IsRefusedBy, reply_of}
 use Rattle.dav_handler.specs.Held.{Body, IsOpen, handle_of, number_in, number_seen, parts_in}
 use Rattle.dav_handler.proofs.Frames.{no_slices, texts_any}
-use Rattle.dav_handler.proofs.HeardShown.{heard_rightly}
+use Rattle.dav_handler.proofs.HeardShown.{heard_rightly, refuses_few}
 use Rattle.dav_handler.proofs.PlainAsks.{plain_asks}
-use Rattle.dav_handler.proofs.PlainShown.{reads_heard, reads_told}
+use Rattle.dav_handler.proofs.PlainShown.{ListsClear, OpensClear, reads_heard, reads_there, reads_told}
 
 -- a refusal is answered as it is
 reply_refused : (t : DiskState) (status : ℕ) (close : Bool) (found : Found) → IsRefused (refusal status close) found → reply_of t found ≡ refusal status close
@@ -58,7 +67,7 @@ reply_refused t status close found is = rw (is.status, is.fields, is.body) refl
 -- What the gates refuse.
 pub gate_answers : (settings : Settings) (s : DiskState) (fields : Fields) (status : ℕ) (close : Bool) (result : Result Found NoMemory) → IfOk result (IsRefused (refusal status close))
     → Finds settings s fields (Refused status close) result s
-gate_answers settings s fields status close (Err x) is = keeps_same s
+gate_answers settings s fields status close (Err x) is = (keeps_same s, refl)
 gate_answers settings s fields status close (Ok found) is = record {
   holds = subst (λ b. HoldsOnly (read_size_of settings.read_buf_size) s b s) (sym is.body) (keeps_same s);
   right = reply_refused s status close found is;
@@ -108,24 +117,84 @@ lacks_none e memory is = let f : true ≡ false = sym (ap lacks_memory is) ∙ m
 
 -- ---- a GET or HEAD over the plain store
 
-module _ {S C : Type 0} (view : View S C PlainFile) (plain : IsPlain view) (q : Query) (c : C) (s m : S) where
+clear_parts : (linked rows : Bool) → (not linked && rows) ≡ true → (linked ≡ false) × (rows ≡ true)
+clear_parts false true e = (refl, refl)
+clear_parts false false e = cc
+clear_parts true rows e = cc
+
+unlinked_rows : (tree rows : List Row) → list_all (λ row. not (is_linked tree row.path)) rows ≡ true → AllByRecursion (λ row. is_linked tree row.path ≡ false) rows
+unlinked_rows tree [] e = tt
+unlinked_rows tree (row ∷ rows) e = let parts = clear_parts (is_linked tree row.path) (list_all (λ row. not (is_linked tree row.path)) rows) e in (parts.0, unlinked_rows tree rows parts.1)
+
+-- Where no link is met at a directory or in it, none stands on the way to its members.
+no_links : (w : World) (dir : Names) → is_clear w.tree dir ≡ true → HasNoLinks w dir
+no_links w dir e =
+    let parts = clear_parts (is_linked w.tree dir) (list_all (λ row. not (is_linked w.tree row.path)) (filter (stands_in dir) w.tree)) e in
+    record { way = parts.0; rows = unlinked_rows w.tree (filter (stands_in dir) w.tree) parts.1 }
+
+module _ {S C : Type 0} (view : View S C PlainFile) (lists : Listings S C PlainDir PlainEntry) (plain : IsPlain view) (lists_plain : ListsPlain view lists) (q : Query) (c : C) (s m : S) where
   -- The reply is right for what the store could show, in every run.
-  reads_of : ((w : World) → (view.state s).told ≡ Some w → IsWorld w) → (result : Given PlainFile) (reply : Reply) → Heard view q c s result m
-      → ((looked opened : Result Standing FsError) → Shows view s c q.path looked opened → IsRightFor view q looked opened s result m)
+  reads_of : ((w : World) → (view.state s).told ≡ Some w → IsWorld w) → (result : Given PlainFile) (reply : Reply) → Heard view lists q c s result m
+      → ((looked opened : WebPath → Result Standing FsError) (listed : WebPath → Result (List Member) FsError) → ShowsFor view lists s c q looked opened listed
+      → IsRightFor view q looked opened listed s result m)
       → ((number : Option ℕ) → IsOfNumber view number m result → reply_at (or_zero number) result ≡ reply)
       → Reads (plain_rules q.settings) nothing_known (view.state s) (view.state m) q reply
   reads_of worlds result reply hears right same = by_told (view.state s).told refl
     where
       heard_here : ((w : World) → (view.state s).told ≡ Some w → is_linked w.tree q.path.names ≡ true) → Reads (plain_rules q.settings) nothing_known (view.state s) (view.state m) q reply
-      heard_here linked = reads_heard q (view.state s) (view.state m) reply linked (heard_rightly view plain q c s m result reply hears same)
+      heard_here linked = reads_heard q (view.state s) (view.state m) reply worlds linked (heard_rightly view lists plain lists_plain q c s m result reply hears same)
+
+      right_here : (w : World) → (view.state s).told ≡ Some w → is_linked w.tree q.path.names ≡ false → OpensClear q w → ListsClear q w
+          → Reads (plain_rules q.settings) nothing_known (view.state s) (view.state m) q reply
+      right_here w told clear opens listed =
+          let for' = right (looked w) (opened w) (members_found w) (record {
+            path = plain_shows view plain s c q.path w told (worlds w told) clear;
+            at = λ there path found takes. plain_shows view plain s c path w told (worlds w told) (opens there path found takes);
+            members = λ there found takes. members_shown view lists plain lists_plain s c q.path w told (worlds w told) (no_links w q.path.names (listed there found takes));
+          }) in
+          reads_told q (view.state s) (view.state m) reply w worlds told clear opens listed
+          (subst (IsRight q (shown_as (looked w) (opened w) (members_found w)) (Rose (view.state s).faults (view.state m).faults))
+          (same (Some (number_for (looked w) (opened w) q)) for'.file) for'.right)
+
+      -- A link may be met at what is opened or listed alone.
+      heard_there_here : (w : World) (there : Standing) → (view.state s).told ≡ Some w → is_linked w.tree q.path.names ≡ false → looked w q.path ≡ Ok there
+          → ((at : WebPath) → course q there.kind ≡ opening at → is_linked w.tree at.names ≡ true) → (course q there.kind ≡ listing → is_clear w.tree q.path.names ≡ false)
+          → Reads (plain_rules q.settings) nothing_known (view.state s) (view.state m) q reply
+      heard_there_here w there told clear found opens listed =
+          let shows = subst (λ f. Shows view s c q.path f (opened w q.path)) found (plain_shows view plain s c q.path w told (worlds w told) clear) in
+          let h = heard_there view lists q s result m (refuses_few view lists plain lists_plain) there (opened w q.path) c shows hears in
+          reads_there q (view.state s) (view.state m) reply w there h.opened h.listed worlds told clear found opens listed h.could h.plain
+          (subst (IsRight q (shown_alike (Ok (stood_of there)) h.opened h.listed) (Rose (view.state s).faults (view.state m).faults)) (same h.number h.file) h.right)
+
+      by_opened : (w : World) (there : Standing) (path : WebPath) (b : Bool) → (view.state s).told ≡ Some w → is_linked w.tree q.path.names ≡ false
+          → looked w q.path ≡ Ok there → course q there.kind ≡ opening path → is_linked w.tree path.names ≡ b → Reads (plain_rules q.settings) nothing_known (view.state s) (view.state m) q reply
+      by_opened w there path false told clear found takes none =
+          right_here w told clear
+          (λ other at stands opens. (let same_path : path ≡ at = cc in subst (λ (x : WebPath). is_linked w.tree x.names ≡ false) same_path none))
+          (λ other stands listed. cc)
+      by_opened w there path true told clear found takes link =
+          heard_there_here w there told clear found (λ at opens. (let same_path : path ≡ at = cc in subst (λ (x : WebPath). is_linked w.tree x.names ≡ true) same_path link)) (λ listed. cc)
+
+      by_listed : (w : World) (there : Standing) (b : Bool) → (view.state s).told ≡ Some w → is_linked w.tree q.path.names ≡ false
+          → looked w q.path ≡ Ok there → course q there.kind ≡ listing → is_clear w.tree q.path.names ≡ b → Reads (plain_rules q.settings) nothing_known (view.state s) (view.state m) q reply
+      by_listed w there true told clear found takes none = right_here w told clear (λ other at stands opens. cc) (λ other stands listed. none)
+      by_listed w there false told clear found takes link = heard_there_here w there told clear found (λ at opens. cc) (λ listed. link)
+
+      by_course : (w : World) (there : Standing) (co : Course) → (view.state s).told ≡ Some w → is_linked w.tree q.path.names ≡ false
+          → looked w q.path ≡ Ok there → course q there.kind ≡ co → Reads (plain_rules q.settings) nothing_known (view.state s) (view.state m) q reply
+      by_course w there (refusing status close) told clear found takes = right_here w told clear (λ other at stands opens. cc) (λ other stands listed. cc)
+      by_course w there directing told clear found takes = right_here w told clear (λ other at stands opens. cc) (λ other stands listed. cc)
+      by_course w there (opening path) told clear found takes = by_opened w there path (is_linked w.tree path.names) told clear found takes refl
+      by_course w there listing told clear found takes = by_listed w there (is_clear w.tree q.path.names) told clear found takes refl
+
+      by_found : (w : World) (found : Result Standing FsError) → (view.state s).told ≡ Some w → is_linked w.tree q.path.names ≡ false
+          → looked w q.path ≡ found → Reads (plain_rules q.settings) nothing_known (view.state s) (view.state m) q reply
+      by_found w (Err e) told clear is = right_here w told clear (λ there at stands opens. cc) (λ there stands listed. cc)
+      by_found w (Ok there) told clear is = by_course w there (course q there.kind) told clear is refl
 
       by_link : (w : World) (b : Bool) → (view.state s).told ≡ Some w → is_linked w.tree q.path.names ≡ b → Reads (plain_rules q.settings) nothing_known (view.state s) (view.state m) q reply
       by_link w true told link = heard_here (λ v e. (let same_world : w ≡ v = cc in subst (λ (x : World). is_linked x.tree q.path.names ≡ true) same_world link))
-      by_link w false told clear =
-          let for' = right (looked w q.path) (opened w q.path) (plain_shows view plain s c q.path w told (worlds w told) clear) in
-          reads_told q (view.state s) (view.state m) reply w told clear
-          (subst (IsRight q (shown_as (looked w q.path) (opened w q.path)) (Rose (view.state s).faults (view.state m).faults))
-          (same (Some (number_opened (opened w q.path))) for'.file) for'.right)
+      by_link w false told clear = by_found w (looked w q.path) told clear refl
 
       by_told : (told : Option World) → (view.state s).told ≡ told → Reads (plain_rules q.settings) nothing_known (view.state s) (view.state m) q reply
       by_told None e = heard_here (λ w f. (let no : None ≡ Some w = sym e ∙ f in cc))
@@ -155,41 +224,44 @@ given_heard r (inr x) = x
 given_heard r (inl none) = let no : Ok r ≡ Err OutOfMemory = none in cc
 
 -- An answer with a status and fields, and a body or none.
-pub given_answers : {S C : Type 0} (view : View S C PlainFile) (plain : IsPlain view) (settings : Settings) (s m : S) (c : C) (method : DavMethod) (path : WebPath) (fields : Fields)
+pub given_answers : {S C : Type 0} (view : View S C PlainFile) (lists : Listings S C PlainDir PlainEntry) (plain : IsPlain view) (lists_plain : ListsPlain view lists) (settings : Settings) (s m : S) (c : C) (method : DavMethod) (path : WebPath) (fields : Fields)
     → ((w : World) → (view.state s).told ≡ Some w → IsWorld w) → TellsLive (view.state m) → (r : Outcome × Body) (t : DiskState) (found : Found)
-    → Heard view (query settings fields method path) c s (Ok r) m
-    → ((looked opened : Result Standing FsError) → Shows view s c path looked opened → IsRightFor view (query settings fields method path) looked opened s (Ok r) m)
-    → (AsksByOne view → (◌≡◌ {A = Given PlainFile} (Ok r) (Err OutOfMemory)) ⊎ AsksUnlessKnown (is_well_known settings method path) (is_set settings.redirect) r.0.status (view.state s).asked (view.state m).asked)
+    → Heard view lists (query settings fields method path) c s (Ok r) m
+    → ((looked opened : WebPath → Result Standing FsError) (listed : WebPath → Result (List Member) FsError) → ShowsFor view lists s c (query settings fields method path) looked opened listed
+    → IsRightFor view (query settings fields method path) looked opened listed s (Ok r) m)
+    → (AsksByOne view lists → (◌≡◌ {A = Given PlainFile} (Ok r) (Err OutOfMemory)) ⊎ AsksUnlessKnown (is_well_known settings method path) (is_set settings.redirect) r.0.status r.0.fields (view.state s).asked (view.state m).asked)
     → IsHeld handle_of seen_by (view.state m) r.1 → OpensOnly handle_of (view.state s) r.1.file (view.state m) → HasMost (read_size_of settings.read_buf_size) (Ok r)
     → found.outcome ≡ r.0 → Gives (view.state m) r.1 found.body t → Answers settings (view.state s) fields (At method path) found t
-given_answers view plain settings s m c method path fields worlds tells r t found hears right asks held opens size outcome gives =
+given_answers view lists plain lists_plain settings s m c method path fields worlds tells r t found hears right asks held opens size outcome gives =
     let same = given_state (view.state m) t r.1 found.body gives in
     let gives' : Gives (view.state m) r.1 found.body (view.state m) = subst (Gives (view.state m) r.1 found.body) same gives in
     subst (λ x. Answers settings (view.state s) fields (At method path) found x) (sym same) (record {
-      holds = holds_given view plain (query settings fields method path) c s m (read_size_of settings.read_buf_size) r found.body gives' held opens size tells;
-      right = reads_of view plain (query settings fields method path) c s m worlds (Ok r) (reply_of (view.state m) found) hears right
-          (same_given view plain (query settings fields method path) c s m r found outcome gives' held);
-      asks = λ folds macos. subst (λ n. AsksUnlessKnown (is_well_known settings method path) (is_set settings.redirect) n (view.state s).asked (view.state m).asked)
-          (ap (λ (o : Outcome). o.status) (sym outcome)) (given_heard r (asks (plain_asks view plain)));
+      holds = holds_given view lists plain lists_plain (query settings fields method path) c s m (read_size_of settings.read_buf_size) r found.body gives' held opens size tells;
+      right = reads_of view lists plain lists_plain (query settings fields method path) c s m worlds (Ok r) (reply_of (view.state m) found) hears right
+          (same_given view lists plain lists_plain (query settings fields method path) c s m r found outcome gives' held);
+      asks = λ folds macos. subst (λ (o : Outcome). AsksUnlessKnown (is_well_known settings method path) (is_set settings.redirect) o.status o.fields (view.state s).asked (view.state m).asked)
+          (sym outcome) (given_heard r (asks (plain_asks view lists plain lists_plain)));
     })
 
 -- An answer that is a refusal.
-pub refused_answers : {S C : Type 0} (view : View S C PlainFile) (plain : IsPlain view) (settings : Settings) (s m : S) (c : C) (method : DavMethod) (path : WebPath) (fields : Fields)
+pub refused_answers : {S C : Type 0} (view : View S C PlainFile) (lists : Listings S C PlainDir PlainEntry) (plain : IsPlain view) (lists_plain : ListsPlain view lists) (settings : Settings) (s m : S) (c : C) (method : DavMethod) (path : WebPath) (fields : Fields)
     → ((w : World) → (view.state s).told ≡ Some w → IsWorld w) → (e : DavError) (result : Result Found NoMemory)
-    → (◌≡◌ {A = Given PlainFile} (Err e) (Err OutOfMemory)) ⊎ Heard view (query settings fields method path) c s (Err e) m → Keeps (view.state s) (view.state m)
-    → ((looked opened : Result Standing FsError) → Shows view s c path looked opened
-    → (◌≡◌ {A = Given PlainFile} (Err e) (Err OutOfMemory)) ⊎ IsRightFor view (query settings fields method path) looked opened s (Err e) m)
-    → (AsksByOne view → (◌≡◌ {A = Given PlainFile} (Err e) (Err OutOfMemory)) ⊎ AsksUnlessKnown (is_well_known settings method path) (is_set settings.redirect) (status_of e) (view.state s).asked (view.state m).asked)
+    → (◌≡◌ {A = Given PlainFile} (Err e) (Err OutOfMemory)) ⊎ Heard view lists (query settings fields method path) c s (Err e) m → Keeps (view.state s) (view.state m)
+    → ((looked opened : WebPath → Result Standing FsError) (listed : WebPath → Result (List Member) FsError) → ShowsFor view lists s c (query settings fields method path) looked opened listed
+    → (◌≡◌ {A = Given PlainFile} (Err e) (Err OutOfMemory)) ⊎ IsRightFor view (query settings fields method path) looked opened listed s (Err e) m)
+    → (AsksByOne view lists → (◌≡◌ {A = Given PlainFile} (Err e) (Err OutOfMemory)) ⊎ AsksUnlessKnown (is_well_known settings method path) (is_set settings.redirect) (status_of e) (refusal (status_of e) (closes e)).fields (view.state s).asked (view.state m).asked)
     → IfOk result (IsRefusedBy e) → Finds settings (view.state s) fields (At method path) result (view.state m)
-refused_answers view plain settings s m c method path fields worlds e (Err x) hears keeps right asks is = keeps
-refused_answers view plain settings s m c method path fields worlds e (Ok found) hears keeps right asks is =
+refused_answers view lists plain lists_plain settings s m c method path fields worlds e (Err x) hears keeps right asks is = (keeps, tt)
+refused_answers view lists plain lists_plain settings s m c method path fields worlds e (Ok found) hears keeps right asks is =
     let same : refusal (status_of e) (closes e) ≡ reply_of (view.state m) found = sym (reply_refused (view.state m) (status_of e) (closes e) found is.refused) in
     record {
       holds = subst (λ b. HoldsOnly (read_size_of settings.read_buf_size) (view.state s) b (view.state m)) (sym is.refused.body) keeps;
-      right = reads_of view plain (query settings fields method path) c s m worlds (Err e) (reply_of (view.state m) found) (had hears)
-          (λ looked opened shows. had (right looked opened shows)) (λ number file. same);
-      asks = λ folds macos. subst (λ n. AsksUnlessKnown (is_well_known settings method path) (is_set settings.redirect) n (view.state s).asked (view.state m).asked)
-          (sym is.refused.status) (had (asks (plain_asks view plain)));
+      right = reads_of view lists plain lists_plain (query settings fields method path) c s m worlds (Err e) (reply_of (view.state m) found) (had hears)
+          (λ looked opened listed shows. had (right looked opened listed shows)) (λ number file. same);
+      asks = λ folds macos. subst (λ n. AsksUnlessKnown (is_well_known settings method path) (is_set settings.redirect) n found.outcome.fields (view.state s).asked (view.state m).asked)
+          (sym is.refused.status)
+          (subst (λ fs. AsksUnlessKnown (is_well_known settings method path) (is_set settings.redirect) (status_of e) fs (view.state s).asked (view.state m).asked)
+          (sym is.refused.fields) (had (asks (plain_asks view lists plain lists_plain))));
     }
   where
     had : {X : Type 0} → (◌≡◌ {A = Given PlainFile} (Err e) (Err OutOfMemory)) ⊎ X → X

@@ -38,7 +38,7 @@ pub but_leaves : (own : ℕ) (s t : DiskState) (h : ℕ) → KeepsBut own s t �
 but_leaves own s t h keeps ne live = let (l, is) = live_is (s.live h) live in record { opened = keeps.opens h l ne is; live = keeps.live h ne }
 
 turned_open : {E : Type 0} (result : Result Unit E) (h : ℕ) (v w : World) → TurnedIn result v w → SameOpen h v w
-turned_open (Ok x) h v w e = rw e (ap (λ opens. opens h) (turned_opens v))
+turned_open (Ok x) h v w same = ap (λ (z : World). z.opens h) same.same ∙ ap (λ opens. opens h) (turned_opens v)
 turned_open (Err x) h v w e = rw e refl
 
 pub turn_leaves : {E : Type 0} (s t : DiskState) (result : Result Unit E) (h : ℕ) → Turns s result t → LeavesOpen h s t

@@ -7,3 +7,5 @@ pub mod Stepping
 pub mod Handles
 pub mod HeardShown
 pub mod PlainShown
+pub mod Names
+pub mod ListsRefuse

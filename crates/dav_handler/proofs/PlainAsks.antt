@@ -6,10 +6,17 @@ use Rattle.dav_core.specs.declared.handle.Handle.{Handle}
 use Rattle.dav_core.specs.DavPath.{WebPath}
 use Rattle.dav_core.specs.Disk.{DiskState}
 use Rattle.dav_core.specs.Options.{reading}
-use Rattle.dav_store.specs.Files.{AsksOnce}
-use Rattle.dav_store.specs.View.{View}
+use Rattle.dav_core.specs.declared.handle.Lister.{Lister}
+use Rattle.dav_core.specs.Listing.{Lists}
+use Rattle.dav_core.specs.Path.{Names}
+use Rattle.dav_store.specs.Files.{AsksAtMostOnce, AsksOnce}
+use Rattle.dav_store.specs.View.{View, Listings}
 use Rattle.dav_plain.specs.declared.file.PlainFile.{PlainFile}
 use Rattle.dav_plain.specs.Calls.{IsOpening, filed}
+use Rattle.dav_plain.specs.declared.entry.PlainDir.{PlainDir}
+use Rattle.dav_plain.specs.declared.entry.PlainEntry.{PlainEntry}
+use Rattle.dav_plain.specs.Listing.{Begins}
+use Rattle.dav_plain.proofs.MembersShown.{ListsPlain}
 use Rattle.dav_plain.proofs.Showing.{IsPlain}
 use Rattle.dav_get.specs.Calls.{AsksByOne, AsksToOpen}
 
@@ -23,8 +30,16 @@ opens_asks true path o s t e opening =
 opens_asks false path o s t e opening =
     let (answer, opens, is) = opening.asked e refl in subst (λ x. AsksToOpen x s t) (sym is) (filed_asks answer s t opens.asks.asked)
 
-pub plain_asks : {S C : Type 0} (view : View S C PlainFile) → IsPlain view → AsksByOne view
-plain_asks view plain = record {
+refuses_asks : (answer : Result Lister DiskError) (path : Names) (e : FsError) (s t : DiskState) → Lists s path answer t → AsksAtMostOnce s t
+refuses_asks answer path e s t lists = inr lists.counted.asked
+
+begins_asks : (path : Names) (e : FsError) (s t : DiskState) → Begins s path true (Err e) t → AsksAtMostOnce s t
+begins_asks path e s t (inl (is, same)) = inl (ap (λ (d : DiskState). d.asked) same)
+begins_asks path e s t (inr (answer, lists, is)) = refuses_asks answer path e s t lists
+
+pub plain_asks : {S C : Type 0} (view : View S C PlainFile) (lists : Listings S C PlainDir PlainEntry) → IsPlain view → ListsPlain view lists → AsksByOne view lists
+plain_asks view lists plain lists_plain = record {
   looks = λ s t c path r h. (let (answer, metas, is) = plain.looks_so s c path r t h in metas.asks.asked);
   opens = λ s t c path o h. opens_asks path.slash path o (view.state s) (view.state t) refl (plain.opens_so s c path reading o t h);
+  refuses_list = λ s t c path e h. begins_asks path.names e (view.state s) (view.state t) (lists_plain.lists_so s c path (Err e) t h);
 }

@@ -9,13 +9,17 @@ use Rattle.dav_core.specs.World.{World, put}
 use Rattle.dav_core.specs.Changes.{turned}
 use Rattle.dav_core.specs.Disk.{DiskState, Turns, TurnedIn}
 use Rattle.dav_core.specs.Unchanged.{Keeps, KeepsBut, SameBesidesOpens}
+use Rattle.dav_core.proofs.HeldStays.{held_besides}
 use Rattle.dav_core.proofs.UnchangedLemmas.{keeps_same, same_besides}
 use Rattle.dav_model.specs.declared.settings.Settings.{Settings}
 use Rattle.dav_model.specs.declared.step.Step.TheVariants.{Request, Poll, Abandon, Purge, Turn}
 use Rattle.dav_model.specs.declared.answer.Answer.TheVariants.{Reply as Replied, End, Done}
 use Rattle.dav_model.specs.Requests.{Asked, fields_of}
 use Rattle.dav_model.specs.Bodies.{Part, Polls}
-use Rattle.dav_model.specs.Calls.{AsksToPoll}
+use Rattle.dav_io.specs.declared.fields.Field.{Field}
+use Rattle.dav_model.specs.Calls.{AsksAtGate, AsksToPoll, AsksToReply}
+use Rattle.dav_model.specs.declared.target.Target.{Target}
+use Rattle.dav_model.specs.declared.target.Target.TheVariants.{At, Refused}
 use Rattle.dav_model.specs.Play.{Gets, Lets, Quiet, Refuses, Stage, StaysOpen, Stepped, has_slice}
 use Rattle.dav_model.specs.Rules.{nothing_known, plain_rules}
 use Rattle.dav_model.specs.Sizes.{read_size_of}
@@ -118,9 +122,10 @@ pub held_joined : (at new : ℕ → Option Body) (k : ℕ) (body : Option Body) 
 held_joined at new k body o e is = ap held_in is ∙ held_put at k (Some o) ∙ ap (λ x. put k x (held_in at)) (sym (ap held_by e))
 
 -- a request that was refused memory
-pub refused : (settings : Settings) (s t : DiskState) (request : Asked) (now : Moment) (replies : ℕ) (at : ℕ → Option Body) (e : _) → Keeps s t → IsPlaying (read_size_of settings.read_buf_size) s at replies
+pub refused : (settings : Settings) (s t : DiskState) (request : Asked) (now : Moment) (replies : ℕ) (at : ℕ → Option Body) (e : _) → Keeps s t
+    → AsksAtGate (target_of (plain_rules settings) request) s.asked t.asked → IsPlaying (read_size_of settings.read_buf_size) s at replies
     → Stepped (staged settings s replies at) (Request request now) (Err e) (staged settings t replies at)
-refused settings s t request now replies at e keeps p = record {
+refused settings s t request now replies at e keeps asks p = record {
   goes = keeps_goes s t keeps;
   leaves = keeps.world;
   knows = nothing_known;
@@ -128,6 +133,7 @@ refused settings s t request now replies at e keeps p = record {
   live = keeps_live s t keeps;
   is = ap (λ left. plain_playing settings replies left (held_in at)) (left_all s t at (holds_every (read_size_of settings.read_buf_size) s t None at replies keeps p));
   held = stays_open (read_size_of settings.read_buf_size) t at settings replies replies (playing_kept (read_size_of settings.read_buf_size) s t at replies keeps p);
+  asks = asks;
 }
 
 -- closing a body meets no fault and asks nothing
@@ -185,9 +191,6 @@ polled_end settings s at replies body p none = (
 same_world : {E : Type 0} (x : E) (v w : World) → TurnedIn (Err x) v w → SameBesidesOpens v w
 same_world x v w e = rw e (same_besides v)
 
-turned_world : (v w : World) → w ≡ turned v → SameBesidesOpens (turned v) w
-turned_world v w e = rw e (same_besides (turned v))
-
 turns_goes : {E : Type 0} (s t : DiskState) (result : Result Unit E) → Turns s result t → Goes s t
 turns_goes s t result turns = record { faults = rw turns.counts (omega arith); asked = rw turns.asked (omega arith); whole = turns.whole; listers = turns.listers }
 
@@ -197,7 +200,7 @@ pub turned_steps : (settings : Settings) (s t : DiskState) (at : ℕ → Option 
 turned_steps settings s t at replies p turns = (
   (
     record { goes = turns_goes s t (Ok tt) turns; is = refl; faults = turns.counts; asked = turns.asked },
-    both_map s.told t.told (TurnedIn {E = NoMemory} (Ok tt)) (λ v w. SameBesidesOpens (turned v) w) turned_world turns.told,
+    both_map s.told t.told (TurnedIn {E = NoMemory} (Ok tt)) (λ v w. SameBesidesOpens (turned v) w) (λ v w same. held_besides (turned v) w same) turns.told,
     turns.live,
     ap (λ left. plain_playing settings replies left (held_in at)) (left_all s t at (turn_every s t (Ok tt) at turns)),
   ),
@@ -214,15 +217,28 @@ turn_refused settings s t at replies e p turns = record {
   live = turns.live;
   is = ap (λ left. plain_playing settings replies left (held_in at)) (left_all s t at (turn_every s t (Err e) at turns));
   held = stays_open (read_size_of settings.read_buf_size) t at settings replies replies p;
+  asks = turns.asked;
 }
 
+-- the body of an answer was closed again
+undone_asks : (settings : Settings) (target : Target) (status : ℕ) (fields : List Field) (s m t : DiskState) (c : Body) → AsksToReply target (plain_rules settings) status fields s.asked m.asked
+    → Closes handle_of m c.file t → AsksAtGate target s.asked t.asked
+undone_asks settings (At method path) status fields s m t c asks closes = tt
+undone_asks settings (Refused gate close) status fields s m t c asks closes = closed_asks m t c.file closes ∙ asks
+  where
+    closed_asks : (m t : DiskState) (file : Option (OpenAt PlainFile)) → Closes handle_of m file t → t.asked ≡ m.asked
+    closed_asks m t None e = ap (λ (x : DiskState). x.asked) e
+    closed_asks m t (Some h) closes = closes.asked
+
 -- there was no room for the body of an answer
-pub undone_steps : (settings : Settings) (s m t : DiskState) (request : Asked) (now : Moment) (replies : ℕ) (at new : ℕ → Option Body) (body : Option Body) (o c : Body) (e : NoMemory)
-    → IsPlaying (read_size_of settings.read_buf_size) s at replies → HoldsOnly (read_size_of settings.read_buf_size) s body m → body ≡ Some o → c ≡ o → Closes handle_of m c.file t → new ≡ at
+pub undone_steps : (status : ℕ) (fields : List Field) (settings : Settings) (s m t : DiskState) (request : Asked) (now : Moment) (replies : ℕ) (at new : ℕ → Option Body) (body : Option Body) (o c : Body) (e : NoMemory)
+    → IsPlaying (read_size_of settings.read_buf_size) s at replies → HoldsOnly (read_size_of settings.read_buf_size) s body m
+    → AsksToReply (target_of (plain_rules settings) request) (plain_rules settings) status fields s.asked m.asked → body ≡ Some o → c ≡ o → Closes handle_of m c.file t → new ≡ at
     → Stepped (staged settings s replies at) (Request request now) (Err e) (staged settings t replies new)
-undone_steps settings s m t request now replies at new body o c e p holds is same closes unchanged =
+undone_steps status fields settings s m t request now replies at new body o c e p holds asks is same closes unchanged =
     subst (λ z. Stepped (staged settings s replies at) (Request request now) (Err e) (staged settings t replies z)) (sym unchanged)
-    (refused settings s t request now replies at e (held_undone (read_size_of settings.read_buf_size) s m t body o c holds is same closes) p)
+    (refused settings s t request now replies at e (held_undone (read_size_of settings.read_buf_size) s m t body o c holds is same closes)
+    (undone_asks settings (target_of (plain_rules settings) request) status fields s m t c asks closes) p)
 
 -- A purge leaves the disk as it was, and a plain store has no memory of which anything could go.
 pub purged : (settings : Settings) (s : DiskState) (now : Moment) (replies : ℕ) (at : ℕ → Option Body) → IsPlaying (read_size_of settings.read_buf_size) s at replies

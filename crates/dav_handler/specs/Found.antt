@@ -10,7 +10,7 @@ use Rattle.dav_core.specs.World.{World}
 use Rattle.dav_model.specs.declared.settings.Settings.{Settings}
 use Rattle.dav_model.specs.declared.target.Target.{Target}
 use Rattle.dav_model.specs.declared.target.Target.TheVariants.{At, Refused}
-use Rattle.dav_model.specs.Calls.{AsksToReply}
+use Rattle.dav_model.specs.Calls.{AsksAtGate, AsksToReply}
 use Rattle.dav_model.specs.Conditions.{Fields}
 use Rattle.dav_model.specs.Head.{Reply, refusal}
 use Rattle.dav_model.specs.Sizes.{read_size_of}
@@ -34,11 +34,11 @@ HoldsOnly most s (Some b) t = OpensOnly handle_of s b.file t × IsOpen most t b
 pub record Answers (settings : Settings) (s : DiskState) (fields : Fields) (target : Target) (found : Found) (t : DiskState) : Type 0 where
   pub holds : HoldsOnly (read_size_of settings.read_buf_size) s found.body t
   pub right : Replies target (plain_rules settings) nothing_known s t fields (reply_of t found)
-  pub asks : AsksToReply target (plain_rules settings) found.outcome.status s.asked t.asked
+  pub asks : AsksToReply target (plain_rules settings) found.outcome.status found.outcome.fields s.asked t.asked
 
 abbrev pub Finds : Settings → DiskState → Fields → Target → Result Found NoMemory → DiskState → Type 0
 Finds settings s fields target (Ok found) t = Answers settings s fields target found t
-Finds settings s fields target (Err e) t = Keeps s t
+Finds settings s fields target (Err e) t = Keeps s t × AsksAtGate target s.asked t.asked
 
 -- A refusal. It has no body.
 pub record IsRefused (reply : Reply) (found : Found) : Type 0 where

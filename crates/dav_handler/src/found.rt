@@ -1,6 +1,7 @@
 // What a request finds over the store.
 ghost use Rattle.std.specs.Prelude.{◌≡◌, ◌++◌, ◌∷◌, [], IfOk, OnOk, None};
 ghost use Rattle.dav_core.specs.Statuses.{lacks_memory as the_lacks_memory};
+ghost use Rattle.dav_io.specs.FieldNames.{spelled};
 ghost use Rattle.dav_get.specs.Bodies.{IsHeld};
 ghost use Rattle.dav_model.specs.Head.{field, refusal as the_refusal};
 ghost use Rattle.dav_model.specs.Requests.{fields_of};
@@ -14,7 +15,7 @@ ghost use Rattle.dav_handler.specs.Held.{handle_of};
 use crate::gates::target;
 use dav_core::{DavError, DavMethod, DavPath, Disk, FsError, ParseError};
 use dav_get::{GetBody, handle_get};
-use dav_io::{Field, Fields, NoMemory, Octets, Text};
+use dav_io::{Field, FieldName, Fields, NoMemory, Octets, Text};
 use dav_model::{Outcome, Settings, Target};
 use dav_plain::{PlainFile, PlainFs};
 use dav_store::DavFileSystem;
@@ -29,10 +30,15 @@ pub struct Found {
 }
 
 // Adds a field.
-fn add(alloc: Global, fields: &mut Vec<Field>, name: &str, value: &[u8]) -> Result<(), NoMemory>
-    ensures { OnOk result (fields.new.items ≡ fields.old.items ++ field name.now value.now ∷ []) }
+fn add(
+    alloc: Global,
+    fields: &mut Vec<Field>,
+    name: FieldName,
+    value: &[u8],
+) -> Result<(), NoMemory>
+    ensures { OnOk result (fields.new.items ≡ fields.old.items ++ field (spelled name) value.now ∷ []) }
 {
-    let name = Text::copy(alloc, name)?;
+    let name = Text::known(name);
     let value = Octets::new(Vec::from_slice(alloc, value)?);
     fields.push(Field { name, value })?;
     Ok(())
@@ -44,9 +50,9 @@ fn refusal(alloc: Global, status: u16, close: bool) -> Result<Found, NoMemory>
 {
     let mut fields = Vec::new(alloc);
     if close {
-        add(alloc, &mut fields, "connection", b"close")?;
+        add(alloc, &mut fields, FieldName::Connection, b"close")?;
     }
-    add(alloc, &mut fields, "content-length", b"0")?;
+    add(alloc, &mut fields, FieldName::ContentLength, b"0")?;
     Ok(Found {
         outcome: Outcome {
             status,

@@ -1,5 +1,7 @@
 // The gates: what a request asks for, before the disk is asked.
-ghost use Rattle.std.specs.Prelude.{◌≡◌, IfOk, true, false};
+ghost use Rattle.std.specs.Prelude.{◌≡◌, IfOk, codes, true, false};
+ghost use Rattle.std.specs.List.{list_any};
+ghost use Rattle.http_header.specs.HeaderMap.{keys};
 ghost use Rattle.http.specs.Request.{head_of, body_of};
 ghost use Rattle.http_uri.specs.Uri.{uri_path};
 ghost use Rattle.dav_core.specs.Grammar.{parsed};
@@ -8,6 +10,7 @@ ghost use Rattle.dav_model.specs.Conditions.{reads as the_reads};
 ghost use Rattle.dav_model.specs.Gates.{admitted as the_admitted, announces_body as the_announces_body, bulk_of, has_field as the_has_field, in_allowed, is_built as the_is_built, of_body as the_of_body, takes_much as the_takes_much, takes_some as the_takes_some, weighed as the_weighed, with_path as the_with_path};
 ghost use Rattle.dav_model.specs.Rules.{plain_rules};
 ghost use Rattle.dav_model.specs.Trail.{target_of};
+ghost use Rattle.dav_handler.specs.Names.{is_as_long as the_is_as_long, is_short as the_is_short};
 ghost use Rattle.dav_model.specs.declared.target.Target.TheVariants.{Refused};
 
 use dav_core::{DavMethod, DavMethodSet, DavPath, ParseError, dav_method};
@@ -33,11 +36,54 @@ fn has_field(fields: &HeaderMap, name: &HeaderName) -> bool
     fields.get(name).is_some()
 }
 
+// Whether a name is as long as one of those that announce a body.
+fn is_as_long(name: &HeaderName) -> bool
+    ensures { result ≡ the_is_as_long name.now }
+{
+    matches!(name.as_str().len(), 14 | 17)
+}
+
+// Whether there may be a field that announces a body. Most requests have none, and the lengths of their names tell so.
+fn may_announce(fields: &HeaderMap) -> bool
+    ensures { result ≡ list_any the_is_as_long (keys fields.now) }
+{
+    fields.keys().any(|name| is_as_long(name))
+}
+
+// Whether a name has two bytes, as `if`.
+fn is_short(name: &HeaderName) -> bool
+    ensures { result ≡ the_is_short name.now }
+{
+    name.as_str().len() == 2
+}
+
+// Whether there may be a field `if`.
+fn may_have_if(fields: &HeaderMap) -> bool
+    ensures { result ≡ list_any the_is_short (keys fields.now) }
+{
+    fields.keys().any(|name| is_short(name))
+}
+
+// Whether there is a field `if`.
+#[tactic(auto, using(crate::proofs::Names::no_if))]
+fn has_if(fields: &HeaderMap) -> bool
+    ensures { result ≡ the_has_field fields.now (codes "if") }
+{
+    if !may_have_if(fields) {
+        return false;
+    }
+    fields.get("if").is_some()
+}
+
 /// Whether the fields of a request announce a body (RFC 9112, section 6.3). Who doesn't read the body can't know where
 /// the next request begins.
+#[tactic(auto, using(crate::proofs::Names::none_announced))]
 pub fn announces_body(fields: &HeaderMap) -> bool
     ensures { result ≡ the_announces_body fields.now }
 {
+    if !may_announce(fields) {
+        return false;
+    }
     if has_field(fields, &CONTENT_LENGTH) {
         return true;
     }
@@ -61,7 +107,7 @@ fn is_built(fields: &HeaderMap, method: DavMethod) -> bool
     if !reads(method) {
         return false;
     }
-    if fields.get("if").is_some() {
+    if has_if(fields) {
         return false;
     }
     !announces_body(fields)

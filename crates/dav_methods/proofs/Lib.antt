@@ -1,1 +1,2 @@
 mod OwnTags
+mod Unconditional

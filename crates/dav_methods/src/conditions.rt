@@ -2,7 +2,7 @@ ghost use Rattle.std.specs.Prelude.{◌≡◌, IfOk, codes, option_copied, optio
 ghost use Rattle.dav_model.specs.Conditions as conditions;
 ghost use Rattle.dav_methods.specs.Standing.{stands, tag_of, time_of};
 
-use crate::fields::{date_in, first_value, list_in};
+use crate::fields::{date_in, first_value, list_in, may_hold_conditions};
 use crate::standing::{is_at, is_unmodified, matches_strongly, matches_weakly};
 use dav_core::{DavMetaData, DavMethod, ETag, FileTime, IfRange};
 use dav_io::NoMemory;
@@ -69,7 +69,7 @@ fn repeated<M: DavMetaData>(
 ///
 /// A field whose value isn't readable counts as absent. Of `if-match` and `if-none-match` all values count, of the two
 /// dates the first. Where the time of the last change is unknown, `if-unmodified-since` gives 412.
-#[tactic(auto, using(crate::proofs::OwnTags::conditions_by_standing))]
+#[tactic(auto, using(crate::proofs::OwnTags::conditions_by_standing, crate::proofs::Unconditional::unconditional))]
 pub fn if_match<M: DavMetaData>(
     alloc: Global,
     method: DavMethod,
@@ -79,6 +79,9 @@ pub fn if_match<M: DavMetaData>(
     ensures { IfOk result (λ status. status ≡ conditions.condition_of method fields.now
         (option_map (λ m. M.info m.now) meta.entry)) }
 {
+    if !may_hold_conditions(fields) {
+        return Ok(None);
+    }
     if is_refused(alloc, fields, meta)? {
         return Ok(Some(StatusCode::PRECONDITION_FAILED));
     }

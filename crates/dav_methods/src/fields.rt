@@ -1,12 +1,32 @@
 // The values of the fields that carry preconditions.
 ghost use Rattle.std.specs.Prelude.{◌≡◌, IfOk, option_copied};
+ghost use Rattle.std.specs.List.{list_any};
+ghost use Rattle.http_header.specs.HeaderMap.{keys};
 ghost use Rattle.dav_model.specs.Conditions as conditions;
+ghost use Rattle.dav_methods.specs.Names.{begins_with_if as the_begins_with_if};
 
 use dav_core::{EtagList, date_secs};
 use dav_io::{NoMemory, Octets};
 use http::HeaderMap;
 use http::header::HeaderName;
 use std::alloc::Global;
+
+// Whether a name begins as those of preconditions do.
+fn begins_with_if(name: &HeaderName) -> bool
+    ensures { result ≡ the_begins_with_if name.now }
+{
+    match name.as_str().as_bytes() {
+        [a, b, c, ..] => *a == b'i' && *b == b'f' && *c == b'-',
+        _ => false,
+    }
+}
+
+// Whether a precondition may be among fields. Most requests have none, and one look at the names tells so.
+pub fn may_hold_conditions(fields: &HeaderMap) -> bool
+    ensures { result ≡ list_any the_begins_with_if (keys fields.now) }
+{
+    fields.keys().any(|name| begins_with_if(name))
+}
 
 /// The first value of a name.
 pub fn first_value<'a>(fields: &'a HeaderMap, name: &HeaderName) -> Option<&'a [u8]>

@@ -1,5 +1,5 @@
 -- The values of the fields of replies are field values: lengths in decimal, dates, tags, types and addresses.
-use Rattle.std.proofs.Common.{◌≡◌, ◌≤◌, ◌<◌, ◌+◌, ◌-◌, ◌/◌, ◌%◌, ◌==◌, ◌&&◌, ◌++◌, ℕ, zero, suc, List, [], ◌∷◌, Bool, true, false, cond, codes, decimal, find, slice_index_or, Option, None, Some, refl, sym, subst, ◌∙◌, append_assoc, arith}
+use Rattle.std.proofs.Common.{◌≡◌, ◌≤◌, ◌<◌, ◌+◌, ◌-◌, ◌/◌, ◌%◌, ◌==◌, ◌&&◌, ◌++◌, ℕ, zero, suc, List, [], ◌∷◌, Bool, true, false, cond, codes, decimal, find, if◌then◌else◌, slice_index_or, Option, None, Some, refl, sym, subst, ◌∙◌, append_assoc, arith}
 use Rattle.std.specs.Fmt.{digits, digits_onto, digit_glyph}
 use Rattle.std.specs.List.{list_all}
 use Rattle.std.specs.Str.{str_eq_ignore_ascii_case}
@@ -12,9 +12,10 @@ use Rattle.httpdate.specs.Date.{date_text}
 use Rattle.httpdate.specs.Text.{day_name, four_digits, imf_fixdate, month_name, time_of_day, two_digits}
 use Rattle.httpdate.specs.declared.date.HttpDate.{HttpDate}
 use Rattle.httpdate.specs.declared.parts.Parts.{Parts}
+use Rattle.percent_encoding.specs.Percent.{percent_encode_byte}
 use Rattle.dav_core.specs.declared.time.FileTime.{FileTime}
 use Rattle.dav_core.specs.ContentTypes.{Row, after_dot, type_in, type_of_part, types}
-use Rattle.dav_core.specs.DavPath.{type_of_last}
+use Rattle.dav_core.specs.DavPath.{link_byte, link_of, stays, type_of_last}
 use Rattle.dav_core.specs.Tags.{HasTagBytes, is_tag_byte}
 use Rattle.dav_model.specs.declared.ranges.Slice.{Slice}
 use Rattle.dav_model.specs.declared.sent.Sent.{Sent}
@@ -128,6 +129,30 @@ printable_byte b e = grind (arith, nat_tests)
 
 pub address_fits : (address : List ℕ) → list_all is_printable address ≡ true → Fits address
 address_fits address all = of_kind is_printable printable_byte address all
+
+-- ---- links
+
+escaped_fits : (b : ℕ) → Fits (percent_encode_byte b)
+unfolding percent_encode_byte
+escaped_fits b = more 37 _ refl (more (digit_glyph true (b / 16 % 16)) _ (capital (b / 16 % 16) (omega arith)) (more (digit_glyph true (b % 16)) [] (capital (b % 16) (omega arith)) (record { all = refl })))
+  where
+    capital : (d : ℕ) → d < 16 → is_value_byte (digit_glyph true d) ≡ true
+    capital d small = grind (arith, nat_tests)
+
+link_byte_fits : (b : ℕ) → Fits (link_byte b)
+link_byte_fits b = by_stay (stays b) refl
+  where
+    kept : stays b ≡ true → is_value_byte b ≡ true
+    kept is = grind (arith, nat_tests)
+
+    by_stay : (t : Bool) → stays b ≡ t → Fits (if t then (b ∷ []) else percent_encode_byte b)
+    by_stay true is = more b [] (kept is) (record { all = refl })
+    by_stay false is = escaped_fits b
+
+-- a link of any bytes
+pub link_fits : (bytes : List ℕ) → Fits (link_of bytes)
+link_fits [] = record { all = refl }
+link_fits (b ∷ bytes) = joined (link_byte b) (link_of bytes) (link_byte_fits b) (link_fits bytes)
 
 -- ---- dates
 

@@ -1,25 +1,20 @@
 -- A right answer is framed: its `content-length` is that of its body.
-use Rattle.std.proofs.Common.{◌≡◌, ◌&&◌, ◌==◌, ◌+◌, ◌<◌, ℕ, Bool, true, false, not, cond, List, [], ◌∷◌, length, Option, None, Some, Result, Ok, Err, refl, sym, ap, subst, ◌∙◌, arith}
+use Rattle.std.proofs.Common.{◌≡◌, ◌&&◌, ◌==◌, ◌+◌, ℕ, Bool, true, false, not, cond, List, [], ◌∷◌, Option, None, Some, refl, sym, ap, subst, ◌∙◌, arith}
 use Rattle.std.specs.Prelude.{codes, decimal}
 use Rattle.std.proofs.lemmas.Bool.{eqb-true}
 use Rattle.std.proofs.lemmas.Fmt.{decimal_digit}
-use Rattle.dav_core.specs.World.{World}
 use Rattle.dav_core.specs.DavPath.{WebPath, last_name, type_of_last}
-use Rattle.dav_core.specs.declared.error.FsError.{FsError}
-use Rattle.dav_core.specs.Statuses.{fs_status}
 use Rattle.dav_core.specs.declared.method.DavMethod.{DavMethod}
-use Rattle.dav_core.specs.declared.tree.Kind.{Kind}
-use Rattle.dav_core.specs.declared.tree.Kind.TheVariants.{Dir, File, Link}
 use Rattle.dav_model.specs.declared.answer.Answer.TheVariants.{Piece, End}
 use Rattle.dav_model.specs.declared.sent.Sent.{Sent}
 use Rattle.dav_model.specs.declared.sent.Sent.TheVariants.{All, Alone, Unsatisfied, One, Several}
-use Rattle.dav_model.specs.declared.settings.Settings.{Settings}
 use Rattle.dav_model.specs.declared.target.Target.{Target}
-use Rattle.dav_model.specs.declared.target.Target.TheVariants.{At, Refused}
+use Rattle.dav_model.specs.declared.target.Target.TheVariants.{At}
+use Rattle.dav_page.specs.declared.row.PageRow.{PageRow}
 use Rattle.dav_model.specs.Announced.{IsFramed, IsFramedBy, PolledToEnd, bytes_in, length_is_own, value_of}
 use Rattle.dav_model.specs.Bodies.{Part, bytes_left, slice}
-use Rattle.dav_model.specs.Conditions.{Fields}
-use Rattle.dav_model.specs.Head.{Reply, Stood, IsSent, is_get, redirected, refusal, sent_reply, sent_status, well_known}
+use Rattle.dav_model.specs.Head.{Reply, Stood, IsSent, directed, is_get, redirected, refusal, sent_reply, sent_status, well_known}
+use Rattle.dav_model.specs.Indexes.{IsIndexBody, IsIndexReply}
 use Rattle.dav_model.proofs.Announcing.{polled_bytes}
 
 -- what has no parts, and announces none
@@ -80,6 +75,18 @@ sent_framed method path stood sent reply (date, dated, is) =
 -- and so are the other answers
 pub refused_framed : (target : Target) (reply : Reply) (status : ℕ) (close : Bool) → reply ≡ refusal status close → IsFramed target reply
 refused_framed target reply status close is = subst (λ (r : Reply). IsFramed target r) (sym is) (framed_refusal (length_is_own target status) status close)
+
+pub directed_framed : (target : Target) (path : WebPath) → IsFramed target (directed path)
+directed_framed target path = framed_empty (length_is_own target 302) (directed path) refl refl
+
+-- A page of a directory announces no length, and a HEAD of it has no body.
+pub index_framed : (method : DavMethod) (path dir : WebPath) (Rows : List PageRow → Type 0) (reply : Reply) → IsIndexReply (is_get method) dir Rows reply → IsFramed (At method path) reply
+index_framed method path dir Rows reply is =
+    subst (λ n. IsFramedBy (is_get method && not (n == 304)) reply) (sym is.status) (by (is_get method) is.parts)
+  where
+    by : (gives : Bool) → IsIndexBody gives dir Rows reply.parts → IsFramedBy (gives && not (200 == 304)) reply
+    by true parts = λ value says. (let f : None ≡ Some value = sym (ap (value_of (codes "content-length")) is.fields) ∙ says in cc)
+    by false none = none
 
 -- a body gives as many bytes as are announced
 pub given_length : (target : Target) (reply : Reply) (value : List ℕ) (pieces : List (List ℕ)) → IsFramed target reply → length_is_own target reply.status ≡ true

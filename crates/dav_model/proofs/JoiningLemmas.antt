@@ -11,14 +11,17 @@ use Rattle.dav_core.specs.Path.{Names}
 use Rattle.dav_core.specs.World.{World}
 use Rattle.dav_model.specs.declared.step.Step.{Step}
 use Rattle.dav_model.specs.declared.step.Step.TheVariants.{Request, Poll, Abandon, Purge, Turn}
+use Rattle.dav_model.specs.declared.target.Target.{Target}
+use Rattle.dav_model.specs.declared.target.Target.TheVariants.{At, Refused}
+use Rattle.dav_model.specs.Calls.{AsksAtGate}
 use Rattle.dav_model.specs.declared.answer.Answer.{Answer}
 use Rattle.dav_model.specs.Bodies.{Polls}
 use Rattle.dav_model.specs.Sizes.{read_size_of}
 use Rattle.dav_model.specs.Folds.{Name, has_name}
 use Rattle.dav_model.specs.Rules.{Rules, Knowledge, Learns, Forgets, WasKnown, HasNames, SameDots}
-use Rattle.dav_model.specs.Trail.{Point, Move, Goes, Leaves, step_leaves, last_of, steps_of, answers_of, points_of}
+use Rattle.dav_model.specs.Trail.{Point, Move, Goes, Leaves, step_leaves, target_of, last_of, steps_of, answers_of, points_of}
 use Rattle.dav_model.specs.Valid.{Valid, Occurs}
-use Rattle.dav_model.specs.Play.{AreFull, Playing, Refuses, Stage, Stands, Stepped, StaysOpen, Plays, Ends, Played, Learned}
+use Rattle.dav_model.specs.Play.{AreFull, AsksUnanswered, Playing, Refuses, Stage, Stands, Stepped, StaysOpen, Plays, Ends, Played, Learned}
 
 -- ---- lists
 
@@ -292,6 +295,18 @@ refused_played xs a m b steps step later old new e x refuses = by_rest x.rest x.
 stays_goes : (s : Point) → Goes s s
 stays_goes s = record { faults = omega arith; asked = omega arith; whole = λ w. w; listers = refl }
 
+-- a gate that asked nothing
+pub gate_none : (target : Target) (n : ℕ) → AsksAtGate target n n
+gate_none (Refused status close) n = refl
+gate_none (At method path) n = tt
+
+asks_none : (rules : Rules) (step : Step) (n : ℕ) → AsksUnanswered rules step n n
+asks_none rules (Request request now) n = gate_none (target_of rules request) n
+asks_none rules (Poll body) n = refl
+asks_none rules (Abandon body) n = refl
+asks_none rules (Purge now) n = refl
+asks_none rules Turn n = refl
+
 -- a step that was not begun leaves all as it was
 pub not_begun : (m : Stage) (step : Step) (e : NoMemory) → StaysOpen m.at m.playing → Stepped m step (Err e) m
 not_begun m step e held = record {
@@ -302,6 +317,7 @@ not_begun m step e held = record {
   learns = learns_same m.at.told m.playing.knows m.playing.knows refl;
   is = refl;
   held = held;
+  asks = asks_none m.playing.rules step m.at.asked;
 }
 
 -- the steps, cut at one

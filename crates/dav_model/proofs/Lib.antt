@@ -5,6 +5,7 @@ pub mod Framing
 pub mod Nonempty
 pub mod PollsShrink
 pub mod JoiningLemmas
+pub mod Courses
 pub mod LooseWalks
 pub mod Headline
 pub mod Denied
@@ -15,3 +16,4 @@ pub mod FieldValues
 pub mod WellFormedReplies
 pub mod GateStatuses
 pub mod WellFormedRuns
+pub mod NoneUnder

@@ -1,5 +1,5 @@
 -- No part of a body that is answered is empty, and no piece that a poll of it gives.
-use Rattle.std.proofs.Common.{◌≡◌, ◌<◌, ◌+◌, ◌-◌, ◌==◌, ◌++◌, ℕ, List, [], ◌∷◌, Bool, true, false, cond, Option, None, Some, length, length-append, codes, refl, sym, ap, subst, ◌∙◌, inl, inr, arith, zero, suc, true≢false}
+use Rattle.std.proofs.Common.{◌≡◌, ◌<◌, ◌+◌, ◌-◌, ◌==◌, ◌++◌, ℕ, List, [], ◌∷◌, Bool, true, false, cond, Option, None, Some, length, length-append, map, codes, refl, sym, ap, subst, ◌∙◌, inl, inr, arith, zero, suc, true≢false}
 use Rattle.std.specs.List.{AllByRecursion}
 use Rattle.dav_core.specs.DavPath.{WebPath, last_name, type_of_last}
 use Rattle.dav_core.specs.World.{World}
@@ -10,10 +10,13 @@ use Rattle.dav_model.specs.declared.ranges.Ranges.{Ranges}
 use Rattle.dav_model.specs.declared.ranges.Ranges.TheVariants.{Whole, Unsatisfiable, Parts}
 use Rattle.dav_model.specs.declared.sent.Sent.{Sent}
 use Rattle.dav_model.specs.declared.sent.Sent.TheVariants.{All, Alone, Unsatisfied, One, Several}
+use Rattle.dav_page.specs.declared.row.PageRow.{PageRow}
+use Rattle.dav_page.specs.Pages.{PageTexts, RowTexts, after_rows, head_text, pieces_of, row_text}
 use Rattle.dav_model.specs.Announced.{HasSoundBody}
 use Rattle.dav_model.specs.Bodies.{NoneEmpty, Part, Polls, slice, text}
 use Rattle.dav_model.specs.Conditions.{Fields, condition, first_bytes, ranges_are_heard, strong}
 use Rattle.dav_model.specs.Head.{Reply, Stood, IsSent, given_parts, is_get, last_boundary, part_head, refusal, sent_by, sent_of, sent_parts, sent_parts_of, sent_ranges, sent_status, several_parts, span_text}
+use Rattle.dav_model.specs.Indexes.{IsIndexBody, IsIndexReply}
 use Rattle.dav_model.specs.Slices.{AreWithin, IsWithin, ranges}
 use Rattle.dav_model.proofs.Within.{ranges_within}
 
@@ -135,3 +138,27 @@ by_have None true range len = ranges_have len (ranges range len) (ranges_within 
 pub sent_has : (method : DavMethod) (fields : Fields) (stood : Stood) → HasSlices (sent_of method fields stood)
 sent_has method fields stood =
     by_have (condition method fields true (strong stood.tag) stood.modified) (ranges_are_heard fields (strong stood.tag) stood.modified) (first_bytes fields (codes "range")) stood.len
+
+-- ---- pages of directories
+
+begins : (b : ℕ) (rest xs : List ℕ) → xs ≡ b ∷ rest → IsNonempty xs
+begins b rest xs e = subst IsNonempty (sym e) (omega arith)
+
+rows_full : (rows : List RowTexts) → AllByRecursion IsNonempty (map row_text rows ++ after_rows ∷ [])
+rows_full [] = (begins _ _ after_rows refl, tt)
+rows_full (row ∷ rows) = (begins _ _ (row_text row) refl, rows_full rows)
+
+-- No piece of a page is empty.
+pub pieces_full : (p : PageTexts) → AllByRecursion IsNonempty (pieces_of p)
+pieces_full p = (begins _ _ (head_text p) refl, rows_full p.rows)
+
+texts_full : (texts : List (List ℕ)) → AllByRecursion IsNonempty texts → NoneEmpty (map text texts)
+texts_full [] all = tt
+texts_full (first ∷ texts) all = (all.0, texts_full texts all.1)
+
+pub index_sound : (gives : Bool) (dir : WebPath) (Rows : List PageRow → Type 0) (reply : Reply) → IsIndexReply gives dir Rows reply → HasSoundBody reply
+index_sound gives dir Rows reply is = record { full = by gives is.parts; bodiless = λ e. (let never : ⊥ = omega (arith, sym is.status ∙ e) in absurd never) }
+  where
+    by : (gives : Bool) → IsIndexBody gives dir Rows reply.parts → NoneEmpty reply.parts
+    by true (texts, are, index) = subst NoneEmpty (sym are) (texts_full texts (subst (AllByRecursion IsNonempty) (sym index.pieces) (pieces_full index.reads.texts)))
+    by false none = subst NoneEmpty (sym none) tt

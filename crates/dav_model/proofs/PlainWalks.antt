@@ -1,7 +1,8 @@
 -- Over a plain store each path is found as it is written, and where no link is met no link stands.
-use Rattle.std.proofs.Common.{◌≡◌, inl, inr, ◌||◌, ◌&&◌, Bool, true, false, cond, List, [], ◌∷◌, ◌++◌, length, take, Option, None, Some, Result, Ok, Err, refl, sym, ap, subst, ◌∙◌, append_assoc, append-nil}
+use Rattle.std.proofs.Common.{◌≡◌, inl, inr, ◌||◌, ◌&&◌, Bool, true, false, cond, List, [], ◌∷◌, ◌++◌, length, take, drop, Option, None, Some, Result, Ok, Err, refl, sym, ap, subst, ◌∙◌, append_assoc, append-nil}
 use Rattle.std.specs.List.{find, list_any}
 use Rattle.std.proofs.Math.Seq.{take-append_seam}
+use Rattle.std.proofs.lemmas.List.{take-append-drop}
 use Rattle.dav_core.specs.declared.handle.DiskError.{DiskError}
 use Rattle.dav_core.specs.declared.tree.Row.{Row}
 use Rattle.dav_core.specs.declared.tree.Kind.{Kind}
@@ -98,3 +99,26 @@ pub unlinked_row : (tree : List Row) (path : Names) (row : Row) → look tree pa
 unlinked_row tree path row e clear =
     let (same, of) = find_row (λ r. same_names path r.path) tree row (row_there tree [] path row e) in
     not_link (is_link row.kind) (λ link. linked_of tree row path of link (sym (names_same path row.path same)) clear)
+
+-- What a path begins with, each path below it begins with.
+front_below : (a b c : Names) → is_front a b ≡ true → is_front a (b ++ c) ≡ true
+front_below a b c begins =
+    let front = names_same a (take (length a) b) begins in
+    let whole : b ≡ a ++ drop (length a) b = sym (take-append-drop (length a) b) ∙ ap (λ x. x ++ drop (length a) b) (sym front) in
+    let longer : b ++ c ≡ a ++ (drop (length a) b ++ c) = ap (λ x. x ++ c) whole ∙ append_assoc a (drop (length a) b) c in
+    names_equal a (take (length a) (b ++ c)) (sym (ap (take (length a)) longer ∙ take-append_seam a (drop (length a) b ++ c)))
+
+-- A link on the way to a path stands on the way to each path below it.
+pub linked_below : (tree : List Row) (path below : Names) → is_linked tree path ≡ true → is_linked tree (path ++ below) ≡ true
+linked_below [] path below e = e
+linked_below (row ∷ rows) path below e = by_link (is_link row.kind) (is_front row.path path) refl (linked_below rows path below) e
+  where
+    further : (b : Bool) → is_linked rows (path ++ below) ≡ true → (b || is_linked rows (path ++ below)) ≡ true
+    further true f = refl
+    further false f = f
+
+    by_link : (l f : Bool) → is_front row.path path ≡ f → (is_linked rows path ≡ true → is_linked rows (path ++ below) ≡ true) → ((l && f) || is_linked rows path) ≡ true
+        → ((l && is_front row.path (path ++ below)) || is_linked rows (path ++ below)) ≡ true
+    by_link true true front rest g = ap (λ b. b || is_linked rows (path ++ below)) (front_below row.path path below front)
+    by_link true false front rest g = further (is_front row.path (path ++ below)) (rest g)
+    by_link false f front rest g = rest g

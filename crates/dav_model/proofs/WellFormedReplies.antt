@@ -13,6 +13,7 @@ use Rattle.http_header.specs.Token.{IsToken, is_token_byte, is_value_byte}
 use Rattle.dav_io.specs.declared.fields.Field.{Field}
 use Rattle.dav_model.specs.declared.sent.Sent.{Sent}
 use Rattle.dav_model.specs.Head.{field, field_where, quoted_where, redirected_fields, refusal, sent_fields, sent_length, sent_range, sent_type, well_known}
+use Rattle.dav_model.specs.Indexes.{page_fields}
 use Rattle.dav_model.specs.WellFormed.{Ascend, IsReplyField, reply_names}
 use Rattle.dav_model.proofs.FieldValues.{Fits, FitsWhere, length_fits, range_fits, sent_type_fits}
 
@@ -201,3 +202,9 @@ sent_some gives type len tag date sent fits tagged dated =
     (next (codes "content-type") (sent_type type sent) from_tag tags refl (sent_type_fits type sent fits)
     (perhaps (codes "etag") (quoted_where tag) from_modified times refl tagged
     (perhaps_last (codes "last-modified") date (codes "location" ∷ []) refl dated))))))
+
+pub page_some : HasSome reply_names page_fields
+page_some =
+    skip (codes "accept-ranges") from_connection page_fields (skip (codes "connection") from_length page_fields
+    (skip (codes "content-length") from_range page_fields (skip (codes "content-range") from_type page_fields
+    (next (codes "content-type") (codes "text/html; charset=utf-8") from_tag [] refl (record { all = refl }) tt))))

@@ -7,10 +7,11 @@ use Rattle.dav_io.specs.Counts.{Rose}
 use Rattle.dav_io.specs.declared.failure.NoMemory.{NoMemory}
 use Rattle.dav_io.specs.declared.fields.Field.{Field}
 use Rattle.dav_core.specs.declared.error.FsError.{FsError}
+use Rattle.dav_core.specs.declared.member.Member.{Member}
 use Rattle.dav_core.specs.declared.tree.Kind.{Kind}
 use Rattle.dav_core.specs.declared.tree.Kind.TheVariants.{Dir, File, Link}
 use Rattle.dav_core.specs.declared.method.DavMethod.{DavMethod}
-use Rattle.dav_core.specs.DavPath.{WebPath, last_name, type_of_last}
+use Rattle.dav_core.specs.DavPath.{WebPath, last_name, link_of, shown as shown_text, type_of_last}
 use Rattle.dav_core.specs.World.{World}
 use Rattle.dav_model.specs.declared.answer.Answer.{Answer}
 use Rattle.dav_model.specs.declared.answer.Answer.TheVariants.{Done}
@@ -21,18 +22,19 @@ use Rattle.dav_model.specs.declared.step.Step.TheVariants.{Request, Poll, Abando
 use Rattle.dav_model.specs.declared.target.Target.{Target}
 use Rattle.dav_model.specs.declared.target.Target.TheVariants.{At, Refused}
 use Rattle.dav_model.specs.Bodies.{Part, Polls}
-use Rattle.dav_model.specs.Due.{Due, Query, IsHead, IsRight, IsSpoiled, due, due_kind, due_looked, due_opened, due_sent, file, known, query, refused}
-use Rattle.dav_model.specs.Head.{IsFileHead, IsSent, Reply, Stood, address_of, is_get, is_set, is_well_known, redirected, refusal, sent_of, well_known}
+use Rattle.dav_model.specs.Due.{Due, Query, IsHead, IsRight, IsSpoiled, due, due_course, due_kind, due_listed, due_looked, due_opened, due_sent, file, index_path, known, page, query, refused, to_slash}
+use Rattle.dav_model.specs.Head.{IsFileHead, IsSent, Reply, Stood, address_of, directed, is_get, is_set, is_well_known, redirected, refusal, sent_of, well_known, with_slash}
 use Rattle.dav_model.specs.Play.{Playing, PlayedOn, Plays, Replies, Stage, Stands}
 use Rattle.dav_model.specs.Requests.{Asked, fields_of}
 use Rattle.dav_model.specs.Rules.{Knowledge, Rules}
 use Rattle.dav_model.specs.Shown.{Could, CouldShow, CouldStand, Shown, is_printable}
 use Rattle.dav_model.specs.Trail.{Move, Point, answers_of, target_of}
 use Rattle.dav_model.specs.WellFormed.{IsWellFormed, IsWellFormedAnswer, gate_statuses, is_among, reply_names, reply_statuses, right_statuses}
-use Rattle.dav_model.proofs.FieldValues.{address_fits, date_fits, tag_fits, type_fits}
+use Rattle.dav_model.proofs.Courses.{course_holds}
+use Rattle.dav_model.proofs.FieldValues.{address_fits, date_fits, link_fits, tag_fits, type_fits}
 use Rattle.dav_model.proofs.GateStatuses.{gate_listed}
 use Rattle.dav_model.proofs.RightReplies.{right_listed}
-use Rattle.dav_model.proofs.WellFormedReplies.{HasSome, ascend_some, each_some, known_some, redirect_some, refusal_some, sent_some}
+use Rattle.dav_model.proofs.WellFormedReplies.{HasSome, ascend_some, each_some, known_some, page_some, redirect_some, refusal_some, sent_some}
 
 -- ---- statuses
 
@@ -49,7 +51,7 @@ abbrev IsListed : ℕ → Type 0
 IsListed status = is_among status reply_statuses ≡ true
 
 right_is_listed : (status : ℕ) → is_among status right_statuses ≡ true → IsListed status
-right_is_listed status e = among_all IsListed right_statuses (refl, (refl, (refl, (refl, (refl, (refl, (refl, (refl, (refl, (refl, tt)))))))))) status e
+right_is_listed status e = among_all IsListed right_statuses (refl, (refl, (refl, (refl, (refl, (refl, (refl, (refl, (refl, tt))))))))) status e
 
 gate_is_listed : (status : ℕ) → is_among status gate_statuses ≡ true → IsListed status
 gate_is_listed status e = among_all IsListed gate_statuses (refl, (refl, (refl, (refl, (refl, (refl, (refl, tt))))))) status e
@@ -79,7 +81,9 @@ address_printable false address printable = tt
 abbrev IsFit : Due → Type 0
 IsFit known = Unit {0}
 IsFit (refused status close) = Unit {0}
+IsFit (to_slash path) = Unit {0}
 IsFit (file path stood) = CouldStand stood
+IsFit (page dir members) = Unit {0}
 
 opened_fit : (path : WebPath) (found : Result Stood FsError) → Could CouldStand found → IsFit (due_opened path found)
 opened_fit path (Err e) could = tt
@@ -90,10 +94,22 @@ opened_fit path (Ok stood) could = by_kind stood.kind
     by_kind File = could
     by_kind Link = tt
 
+listed_fit : (path : WebPath) (found : Result (List Member) FsError) → IsFit (due_listed path found)
+listed_fit path (Err e) = tt
+listed_fit path (Ok members) = tt
+
 kind_fit : (shown : Shown) (q : Query) (kind : Kind) → CouldShow shown → IsFit (due_kind shown q kind)
-kind_fit shown q Dir could = tt
-kind_fit shown q File could = opened_fit q.path (shown.opened q.path) (could.opened q.path)
-kind_fit shown q Link could = opened_fit q.path (shown.opened q.path) (could.opened q.path)
+kind_fit shown q kind could =
+    course_holds q (λ c. IsFit (due_course shown q.path c)) (record {
+      directs = tt;
+      lists = listed_fit q.path (shown.listed q.path);
+      unlisted = tt;
+      unnamed = tt;
+      opens = record { path = at q.path; index = λ slash name set. at (index_path q.path name) };
+    }) kind
+  where
+    at : (path : WebPath) → IsFit (due_opened path (shown.opened path))
+    at path = opened_fit path (shown.opened path) (could.opened path)
 
 looked_fit : (shown : Shown) (q : Query) (found : Result Stood FsError) → CouldShow shown → IsFit (due_looked shown q found)
 looked_fit shown q (Err e) could = tt
@@ -113,6 +129,8 @@ refusal_fits reply status close is = of_reply reply (refusal status close) is (r
 head_fits : (q : Query) (d : Due) (reply : Reply) → IsFit d → IsHead q d reply → InOrder reply
 head_fits q known reply fit is = of_reply reply well_known is known_some
 head_fits q (refused status close) reply fit is = refusal_fits reply status close is
+head_fits q (to_slash path) reply fit is = of_reply reply (directed path) is
+    (redirect_some (link_of (shown_text (with_slash path))) None None (link_fits (shown_text (with_slash path))) tt tt)
 head_fits q (file path stood) reply could is =
     by_address (address_of q.settings stood) (address_printable (is_set q.settings.redirect) stood.address could.address) is
   where
@@ -120,12 +138,16 @@ head_fits q (file path stood) reply could is =
     by_address (Some address) printable (date, dated, is) = of_reply reply (redirected address stood.tag date) is
         (redirect_some address stood.tag date (address_fits address printable) (tag_fits stood.tag could.tag) (date_fits stood.modified date dated))
     by_address None printable is = sent_fits q.method path stood (sent_of q.method q.fields stood) reply could is
+head_fits q (page dir members) reply fit is = subst (HasSome reply_names) (sym is.fields) page_some
 
 spoiled_fits : (q : Query) (d : Due) (reply : Reply) → IsFit d → IsSpoiled q d reply → InOrder reply
 spoiled_fits q known reply fit is = absurd is
 spoiled_fits q (refused status close) reply fit is = refusal_fits reply 500 false is
+spoiled_fits q (to_slash path) reply fit is = refusal_fits reply 500 false is
 spoiled_fits q (file path stood) reply could (inl is) = refusal_fits reply 500 false is
 spoiled_fits q (file path stood) reply could (inr is) = sent_fits q.method path stood Unsatisfied reply could is.sent
+spoiled_fits q (page dir members) reply fit (inl is) = refusal_fits reply 500 false is
+spoiled_fits q (page dir members) reply fit (inr is) = subst (HasSome reply_names) (sym is.fields) page_some
 
 right_fits : (q : Query) (shown : Shown) (rose : Type 0) (reply : Reply) → CouldShow shown → IsRight q shown rose reply → InOrder reply
 right_fits q shown rose reply could (inl is) = head_fits q (due shown q) reply (due_fit shown q could) is

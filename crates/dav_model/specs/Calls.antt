@@ -1,7 +1,9 @@
 -- How often a step asks the disk. A count of calls stops at the greatest u64.
-use Rattle.std.specs.Prelude.{◌≡◌, ◌≢◌, ◌<◌, ◌≤◌, ◌+◌, ◌⊎◌, ℕ, min, List, [], ◌∷◌, Bool, true, false, cond, Option, None, Some}
+use Rattle.std.specs.Prelude.{◌≡◌, ◌≢◌, ◌<◌, ◌≤◌, ◌+◌, ◌⊎◌, ℕ, min, List, [], ◌∷◌, Bool, true, false, codes, cond, Option, None, Some}
 use Rattle.std.specs.Option.{option_map}
+use Rattle.std.specs.Str.{bytes_eq}
 use Rattle.dav_io.specs.Counts.{greatest, one_more}
+use Rattle.dav_io.specs.declared.fields.Field.{Field}
 use Rattle.dav_core.specs.World.{World}
 use Rattle.dav_model.specs.declared.answer.Answer.{Answer}
 use Rattle.dav_model.specs.declared.answer.Answer.TheVariants.{Piece}
@@ -53,7 +55,7 @@ AsksToPoll told held (slice number start count ∷ parts) answer before after = 
 abbrev pub more_by : ℕ → ℕ → ℕ
 more_by calls before = min (before + calls) greatest
 
--- The calls of a GET or HEAD by the status of its answer: a look, and then at most an opening, the metadata of what was
+-- The calls of a GET or HEAD that gives no page of a directory, by the status of its answer: a look, and then at most an opening, the metadata of what was
 -- opened, its address where clients may be sent there, and a move to the first part.
 pub record AsksToGet (redirects : Bool) (status before after : ℕ) : Type 0 where
   pub calls : ℕ
@@ -64,15 +66,34 @@ pub record AsksToGet (redirects : Bool) (status before after : ℕ) : Type 0 whe
   pub whole : redirects ≡ false → status ≡ 200 → calls ≡ 3
   -- one part or several
   pub partial : redirects ≡ false → status ≡ 206 → calls ≡ 4
+  -- the client is sent to the path of a directory with a final slash
+  pub directed : redirects ≡ false → status ≡ 302 → calls ≡ 1
+
+-- whether the fields are those of a directory's page: its type stands first, and no other answer's does
+abbrev pub is_of_page : List Field → Bool
+is_of_page [] = false
+is_of_page (field ∷ fields) = bytes_eq field.name (codes "content-type")
+
+-- The page of a directory asks as often as its members call for, of which nothing more is said.
+abbrev pub AsksUnlessPage : Bool → Bool → ℕ → ℕ → ℕ → Type 0
+AsksUnlessPage true redirects status before after = before ≤ after
+AsksUnlessPage false redirects status before after = AsksToGet redirects status before after
 
 -- The page of a well-known server is given without a call.
-abbrev pub AsksUnlessKnown : Bool → Bool → ℕ → ℕ → ℕ → Type 0
-AsksUnlessKnown true redirects status before after = after ≡ before
-AsksUnlessKnown false redirects status before after = AsksToGet redirects status before after
+abbrev pub AsksUnlessKnown : Bool → Bool → ℕ → List Field → ℕ → ℕ → Type 0
+AsksUnlessKnown true redirects status fields before after = after ≡ before
+AsksUnlessKnown false redirects status fields before after = AsksUnlessPage (is_of_page fields) redirects status before after
 
 -- A request that a gate refuses asks nothing. Of a store that finds names that fold alike, or has the rules of macOS, nothing
 -- is said.
-abbrev pub AsksToReply : Target → Rules → ℕ → ℕ → ℕ → Type 0
-AsksToReply (Refused gate close) rules status before after = after ≡ before
-AsksToReply (At method path) rules status before after = rules.folds ≡ false → rules.macos ≡ false
-    → AsksUnlessKnown (is_well_known rules.settings method path) (is_set rules.settings.redirect) status before after
+abbrev pub AsksToReply : Target → Rules → ℕ → List Field → ℕ → ℕ → Type 0
+AsksToReply (Refused gate close) rules status fields before after = after ≡ before
+AsksToReply (At method path) rules status fields before after = rules.folds ≡ false → rules.macos ≡ false
+    → AsksUnlessKnown (is_well_known rules.settings method path) (is_set rules.settings.redirect) status fields before after
+
+-- ---- want of memory
+
+-- A request that was refused memory: a gate asks nothing. Of a GET or HEAD that asked the store nothing more is said.
+abbrev pub AsksAtGate : Target → ℕ → ℕ → Type 0
+AsksAtGate (Refused gate close) before after = after ≡ before
+AsksAtGate (At method path) before after = Unit {0}

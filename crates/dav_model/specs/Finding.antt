@@ -1,24 +1,26 @@
 -- Where a path is found in a tree, and what is shown there.
 use Rattle.std.specs.Prelude.{◌≡◌, ◌⊎◌, ◌&&◌, ◌||◌, ℕ, pos, List, [], ◌∷◌, ◌++◌, Bool, true, false, cond, not, codes, Option, None, Some, Result, Ok, Err}
-use Rattle.std.specs.List.{find, filter_map, list_any}
+use Rattle.std.specs.List.{filter, find, list_all, list_any}
 use Rattle.std.specs.Option.{option_map}
 use Rattle.std.specs.Str.{bytes_eq}
 use Rattle.dav_core.specs.declared.error.FsError.{FsError}
 use Rattle.dav_core.specs.declared.error.FsError.TheVariants.{NotFound, Forbidden}
 use Rattle.dav_core.specs.declared.handle.DiskError.{DiskError}
+use Rattle.dav_core.specs.declared.member.Member.{Member}
 use Rattle.dav_core.specs.declared.time.FileTime.{FileTime}
 use Rattle.dav_core.specs.declared.tree.Row.{Row}
-use Rattle.dav_core.specs.declared.tree.Kind.{Kind}
-use Rattle.dav_core.specs.declared.tree.Kind.TheVariants.{Dir, File, Link}
+use Rattle.dav_core.specs.declared.tree.Kind.TheVariants.{File}
 use Rattle.dav_core.specs.DavPath.{WebPath, last_name}
 use Rattle.dav_core.specs.Errors.{fs_error_of}
+use Rattle.dav_core.specs.Listing.{listable, stands_in}
+use Rattle.dav_core.specs.Members.{members}
 use Rattle.dav_core.specs.Path.{Names, same_names, parent_of}
-use Rattle.dav_core.specs.Tree.{row_at, look, is_file, is_link, is_linked}
+use Rattle.dav_core.specs.Tree.{row_at, look, is_file, is_linked}
 use Rattle.dav_core.specs.World.{World}
 use Rattle.dav_model.specs.Head.{Stood, stood_in}
-use Rattle.dav_model.specs.Folds.{Name, folds_like, is_dot, member_name, dir_time}
+use Rattle.dav_model.specs.Folds.{Name, folds_like, is_dot, dir_time}
 use Rattle.dav_model.specs.Rules.{Rules, Knowledge, MayDeny}
-use Rattle.dav_model.specs.Shown.{Shown, Entry}
+use Rattle.dav_model.specs.Shown.{Shown}
 
 -- ---- where a path is found
 
@@ -141,25 +143,20 @@ abbrev pub opened_at : Rules → World → Finding → WebPath → Result Stood 
 opened_at rules w f path = cond (is_forbidden rules path
     || has_slash rules.alone path) (Err Forbidden) (stood_at false w (look w.tree (f.opens path.names)))
 
-abbrev pub entry_of : World → Names → Row → Option Entry
-entry_of w dir row = option_map (λ name. record { name = name; stood = stood_in w row }) (member_name dir row.path)
+abbrev pub members_or : World → Names → Result Row DiskError → Result (List Member) FsError
+members_or w dir (Err e) = Err (fs_error_of e)
+members_or w dir (Ok row) = Ok (members w dir)
 
-abbrev pub entries_in : World → Names → Kind → Result (List Entry) FsError
-entries_in w dir Dir = Ok (filter_map (entry_of w dir) w.tree)
-entries_in w dir File = Err Forbidden
-entries_in w dir Link = Err Forbidden
-
--- Every name of a directory is listed.
-abbrev pub listed_in : World → Result Row DiskError → Result (List Entry) FsError
-listed_in w (Err e) = Err (fs_error_of e)
-listed_in w (Ok row) = entries_in w row.path row.kind
+-- Every member of a directory is listed.
+abbrev pub listed_in : World → Names → Result (List Member) FsError
+listed_in w dir = members_or w dir (listable (look w.tree dir))
 
 -- What the store shows of a world, by what it makes of paths.
 abbrev pub shown_by : Rules → World → Finding → Shown
 shown_by rules w f = record {
   looked = looked_at rules w f;
   opened = opened_at rules w f;
-  listed = λ path. listed_in w (look w.tree (f.lists path.names));
+  listed = λ path. listed_in w (f.lists path.names);
 }
 
 -- what it shows in a valid run
@@ -169,9 +166,9 @@ shown_in rules w = shown_by rules w (exactly rules w.tree)
 -- ---- links
 
 -- Where a link stands on the way to a path or at it (`is_linked`) nothing is said of it. Of a listing nothing is said where one
--- stands directly in the directory, too.
+-- stands in the directory, too.
 abbrev pub is_clear : List Row → Names → Bool
-is_clear tree path = not (is_linked tree path) && not (list_any (λ row. is_link row.kind && same_names (parent_of row.path) path) tree)
+is_clear tree dir = not (is_linked tree dir) && list_all (λ row. not (is_linked tree row.path)) (filter (stands_in dir) tree)
 
 -- What a store may show of a world in any run: by some finding, where no link is met.
 pub record MayShowOf (rules : Rules) (k : Knowledge) (w : World) (shown : Shown) : Type 0 where
@@ -182,7 +179,7 @@ pub record MayShowOf (rules : Rules) (k : Knowledge) (w : World) (shown : Shown)
   pub opened : (path : WebPath) → is_linked w.tree (finding.opens path.names) ≡ false
       → shown.opened path ≡ opened_at rules w finding path
   pub listed : (path : WebPath) → is_clear w.tree (finding.lists path.names) ≡ true
-      → shown.listed path ≡ listed_in w (look w.tree (finding.lists path.names))
+      → shown.listed path ≡ listed_in w (finding.lists path.names)
 
 -- in any run, over a disk that tells or doesn't
 abbrev pub MayShow : Rules → Knowledge → Option World → Shown → Type 0

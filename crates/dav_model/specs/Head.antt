@@ -1,24 +1,17 @@
 -- The head of a file's answer, and of the answers without a file: status, header fields and parts.
-use Rattle.std.specs.Prelude.{◌≡◌, ◌==◌, ◌&&◌, ◌⊎◌, ◌+◌, ◌-◌, ℕ, List, [], ◌∷◌, ◌++◌, Bool, true, false, cond, not, length, codes, decimal, Option, None, Some, Result, Ok, Err}
+use Rattle.std.specs.Prelude.{◌≡◌, ◌==◌, ◌&&◌, ◌+◌, ◌-◌, ℕ, List, [], ◌∷◌, ◌++◌, Bool, true, false, cond, not, length, codes, decimal, Option, None, Some}
 use Rattle.std.specs.Option.{option_map}
 use Rattle.std.specs.List.{flat_map}
 use Rattle.dav_io.specs.declared.fields.Field.{Field}
 use Rattle.dav_core.specs.declared.tree.Row.{Row}
 use Rattle.dav_core.specs.declared.tree.Kind.{Kind}
-use Rattle.dav_core.specs.declared.tree.Kind.TheVariants.{Dir, File, Link}
 use Rattle.dav_core.specs.declared.time.FileTime.{FileTime}
-use Rattle.dav_core.specs.declared.handle.DiskError.{DiskError}
-use Rattle.dav_core.specs.declared.error.FsError.{FsError}
-use Rattle.dav_core.specs.declared.error.FsError.TheVariants.{Forbidden}
 use Rattle.dav_core.specs.declared.method.DavMethod.{DavMethod}
 use Rattle.dav_core.specs.declared.method.DavMethod.TheVariants.{Get}
-use Rattle.dav_core.specs.DavPath.{WebPath, last_name, type_of_last}
-use Rattle.dav_core.specs.Errors.{fs_error_of}
+use Rattle.dav_core.specs.DavPath.{WebPath, last_name, link_of, shown as shown_text, type_of_last}
 use Rattle.dav_core.specs.Info.{known_time, tag_of}
 use Rattle.dav_core.specs.Methods.{same_method}
 use Rattle.dav_core.specs.Path.{same_names}
-use Rattle.dav_core.specs.Statuses.{fs_status}
-use Rattle.dav_core.specs.Tree.{look, is_file}
 use Rattle.dav_core.specs.World.{World, bytes_of}
 use Rattle.dav_model.specs.declared.settings.Settings.{Settings}
 use Rattle.dav_model.specs.declared.ranges.Slice.{Slice}
@@ -26,8 +19,6 @@ use Rattle.dav_model.specs.declared.ranges.Ranges.{Ranges}
 use Rattle.dav_model.specs.declared.ranges.Ranges.TheVariants.{Whole, Unsatisfiable, Parts}
 use Rattle.dav_model.specs.declared.sent.Sent.{Sent}
 use Rattle.dav_model.specs.declared.sent.Sent.TheVariants.{All, Alone, Unsatisfied, One, Several}
-use Rattle.dav_model.specs.declared.target.Target.{Target}
-use Rattle.dav_model.specs.declared.target.Target.TheVariants.{At, Refused}
 use Rattle.dav_model.specs.Bodies.{Part, text, slice}
 use Rattle.dav_model.specs.Conditions.{Fields, condition, first_bytes, ranges_are_heard, strong}
 use Rattle.dav_model.specs.Slices.{ranges}
@@ -187,6 +178,13 @@ redirected_fields address tag date = field (codes "content-length") (codes "0") 
 -- the client is sent to another address
 abbrev pub redirected : List ℕ → Option (List ℕ) → Option (List ℕ) → Reply
 redirected address tag date = record { status = 302; fields = redirected_fields address tag date; parts = [] }
+
+abbrev pub with_slash : WebPath → WebPath
+with_slash path = record path { slash = true }
+
+-- The client is sent to the same path with a final slash, so that the links of what stands there lead on from it.
+abbrev pub directed : WebPath → Reply
+directed path = redirected (link_of (shown_text (with_slash path))) None None
 
 abbrev pub is_set : Option Bool → Bool
 is_set None = false

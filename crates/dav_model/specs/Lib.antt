@@ -15,6 +15,7 @@ pub mod Rules
 pub mod Shown
 pub mod Finding
 pub mod Gates
+pub mod Indexes
 pub mod Due
 pub mod Valid
 pub mod WellFormed

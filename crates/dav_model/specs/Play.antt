@@ -5,7 +5,7 @@ use Rattle.dav_io.specs.Counts.{Rose}
 use Rattle.dav_io.specs.Told.{Both}
 use Rattle.dav_io.specs.declared.failure.NoMemory.{NoMemory}
 use Rattle.dav_core.specs.declared.time.FileTime.{FileTime}
-use Rattle.dav_core.specs.declared.tree.Kind.TheVariants.{File}
+use Rattle.dav_core.specs.declared.tree.Kind.TheVariants.{Dir, File}
 use Rattle.dav_core.specs.Changes.{turned}
 use Rattle.dav_core.specs.Disk.{Live}
 use Rattle.dav_core.specs.Options.{reading}
@@ -20,10 +20,10 @@ use Rattle.dav_model.specs.declared.answer.Answer.TheVariants.{Reply as Replied,
 use Rattle.dav_model.specs.declared.target.Target.{Target}
 use Rattle.dav_model.specs.declared.target.Target.TheVariants.{At, Refused}
 use Rattle.dav_model.specs.Bodies.{NoneEmpty, Part, text, slice, Polls}
-use Rattle.dav_model.specs.Calls.{AsksToPoll, AsksToReply}
+use Rattle.dav_model.specs.Calls.{AsksAtGate, AsksToPoll, AsksToReply}
 use Rattle.dav_model.specs.Conditions.{Fields}
-use Rattle.dav_model.specs.Due.{Query, query, IsRight}
-use Rattle.dav_model.specs.Finding.{MayShow, resolved, shown_in}
+use Rattle.dav_model.specs.Due.{OfItsPaths, Query, course, listing, query, IsRight}
+use Rattle.dav_model.specs.Finding.{MayShow, is_clear, resolved, shown_in}
 use Rattle.dav_model.specs.Folds.{Name}
 use Rattle.dav_model.specs.Head.{Reply, refusal}
 use Rattle.dav_model.specs.Requests.{Asked, fields_of}
@@ -120,7 +120,7 @@ pub record Answered (p : Playing) (s t : Point) (request : Asked) (answer : Answ
   pub live : Takes gets.file s.live t.live
   pub right : Replies (target_of p.rules request) p.rules p.knows s t (fields_of request) reply
   -- how many calls of the disk it asks
-  pub asks : AsksToReply (target_of p.rules request) p.rules reply.status s.asked t.asked
+  pub asks : AsksToReply (target_of p.rules request) p.rules reply.status reply.fields s.asked t.asked
 
 pub record Polled (p : Playing) (s t : Point) (body : ℕ) (answer : Answer) (q : Playing) : Type 0 where
   pub goes : Goes s t
@@ -151,8 +151,17 @@ Stands p s t (Abandon body) answer q = Quiet answer s t × Leaves s t × Lets (p
 Stands p s t (Purge now) answer q = (answer ≡ Done) × (t ≡ s) × ((k : Knowledge) × (q ≡ record p { knows = k }) × Forgets p.knows k)
 Stands p s t Turn answer q = Quiet answer s t × Turned s t × (t.live ≡ s.live) × (q ≡ p)
 
+-- What a step asked that was refused memory: nothing where it is no request, as a poll's memory is taken before the disk is
+-- asked.
+abbrev pub AsksUnanswered : Rules → Step → ℕ → ℕ → Type 0
+AsksUnanswered rules (Request request now) before after = AsksAtGate (target_of rules request) before after
+AsksUnanswered rules (Poll body) before after = after ≡ before
+AsksUnanswered rules (Abandon body) before after = after ≡ before
+AsksUnanswered rules (Purge now) before after = after ≡ before
+AsksUnanswered rules Turn before after = after ≡ before
+
 -- A step that was refused memory: the player is as it was, but for what its memory knows, and nothing else is live.
-pub record Refuses (p : Playing) (s t : Point) (q : Playing) : Type 0 where
+pub record Refuses (p : Playing) (s t : Point) (step : Step) (q : Playing) : Type 0 where
   pub goes : Goes s t
   pub leaves : Leaves s t
   pub live : t.live ≡ s.live
@@ -160,6 +169,7 @@ pub record Refuses (p : Playing) (s t : Point) (q : Playing) : Type 0 where
   pub learns : Learns s.told p.knows knows
   pub is : q ≡ record p { knows = knows }
   pub held : StaysOpen t q
+  pub asks : AsksUnanswered p.rules step s.asked t.asked
 
 -- ---- runs
 
@@ -176,7 +186,7 @@ pub record Stage : Type 0 where
 -- How a run ends after the steps that were answered: with none left, or at a step that was refused memory.
 abbrev pub Ends : Result Unit NoMemory → List Step → Stage → Stage → Type 0
 Ends (Ok x) [] m b = b ≡ m
-Ends (Err e) (step ∷ steps) m b = Refuses m.playing m.at b.at b.playing
+Ends (Err e) (step ∷ steps) m b = Refuses m.playing m.at b.at step b.playing
 Ends result rest m b = ⊥
 
 -- The answers that were added stand to this trail, from entry to exit.
@@ -193,7 +203,7 @@ pub record Played (trail : List Move) (a : Stage) (steps : List Step) (old new :
 -- One step by itself.
 abbrev pub Stepped : Stage → Step → Result Answer NoMemory → Stage → Type 0
 Stepped a step (Ok answer) b = Stands a.playing a.at b.at step answer b.playing × StaysOpen b.at b.playing
-Stepped a step (Err e) b = Refuses a.playing a.at b.at b.playing
+Stepped a step (Err e) b = Refuses a.playing a.at b.at step b.playing
 
 -- What is known at exit was known at entry, or a world of the trail has it. It is the same trail in both.
 pub record Learned (points : List Point) (k l : Knowledge) : Type 0 where
@@ -203,9 +213,11 @@ pub record Learned (points : List Point) (k l : Knowledge) : Type 0 where
 
 -- ---- the headline
 
--- No link is met on the way to the path or at it.
-abbrev pub MeetsNoLink : Rules → World → Query → Type 0
-MeetsNoLink rules w q = is_linked w.tree (resolved rules w.tree q.path.names) ≡ false
+-- No link is met on the way to the path or at it, nor to the index file where one may stand for it. Where the directory at
+-- the path may be listed, none stands in it.
+pub record MeetsNoLink (rules : Rules) (w : World) (q : Query) : Type 0 where
+  pub paths : OfItsPaths q (λ path. is_linked w.tree (resolved rules w.tree path.names) ≡ false)
+  pub members : course q Dir ≡ listing → is_clear w.tree (resolved rules w.tree q.path.names) ≡ true
 
 -- The reply to a GET or HEAD is the one right answer for what the tree has where the rules find the path, as if there were no
 -- memory; or what may stand in its place where the count of faults rose.

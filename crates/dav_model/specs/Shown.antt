@@ -2,17 +2,13 @@
 use Rattle.std.specs.Prelude.{◌≡◌, ◌&&◌, ℕ, nat_le, List, Bool, true, Result, Ok, Err, IfSome}
 use Rattle.std.specs.List.{list_all, AllByRecursion}
 use Rattle.dav_core.specs.declared.error.FsError.{FsError}
+use Rattle.dav_core.specs.declared.member.Member.{Member}
 use Rattle.dav_core.specs.DavPath.{WebPath}
 use Rattle.dav_core.specs.Info.{IsInYears}
 use Rattle.dav_core.specs.Errors.{CouldRefuse}
 use Rattle.dav_core.specs.Tags.{HasTagBytes}
+use Rattle.dav_page.specs.Listed.{HasPlainName}
 use Rattle.dav_model.specs.Head.{Stood}
-use Rattle.dav_model.specs.Folds.{Name}
-
--- a name in a directory, and what stands there
-pub record Entry : Type 0 where
-  pub name : Name
-  pub stood : Stood
 
 -- What a look at a path gives, what opening it for reading gives, and what a listing of it gives. These are functions apart:
 -- a name may be looked at and forbidden to open, and a store that finds names by a memory may find two of its calls at two
@@ -20,7 +16,7 @@ pub record Entry : Type 0 where
 pub record Shown : Type 0 where
   pub looked : WebPath → Result Stood FsError
   pub opened : WebPath → Result Stood FsError
-  pub listed : WebPath → Result (List Entry) FsError
+  pub listed : WebPath → Result (List Member) FsError
 
 abbrev pub is_printable : ℕ → Bool
 is_printable b = nat_le 32 b && nat_le b 126
@@ -36,8 +32,8 @@ abbrev pub Could : {A : Type 0} → (A → Type 0) → Result A FsError → Type
 Could P (Ok a) = P a
 Could P (Err e) = CouldRefuse e
 
--- What the store of a disk could show, whatever its disk holds.
+-- What the store of a disk could show, whatever its disk holds. Members have plain names.
 pub record CouldShow (shown : Shown) : Type 0 where
   pub looked : (path : WebPath) → Could CouldStand (shown.looked path)
   pub opened : (path : WebPath) → Could CouldStand (shown.opened path)
-  pub listed : (path : WebPath) → Could (AllByRecursion (λ (e : Entry). CouldStand e.stood)) (shown.listed path)
+  pub listed : (path : WebPath) → Could (AllByRecursion HasPlainName) (shown.listed path)

@@ -12,7 +12,7 @@ use Rattle.dav_model.specs.declared.answer.Answer.TheVariants.{Reply as Replied,
 
 -- the statuses of right replies, where nothing failed
 abbrev pub right_statuses : List ℕ
-right_statuses = 200 ∷ 206 ∷ 302 ∷ 304 ∷ 403 ∷ 404 ∷ 405 ∷ 412 ∷ 416 ∷ 501 ∷ []
+right_statuses = 200 ∷ 206 ∷ 302 ∷ 304 ∷ 403 ∷ 404 ∷ 405 ∷ 412 ∷ 416 ∷ []
 
 -- the statuses of what the gates refuse
 abbrev pub gate_statuses : List ℕ

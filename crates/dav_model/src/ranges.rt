@@ -1,6 +1,4 @@
-ghost use Rattle.std.specs.Prelude.{◌≡◌};
-
-use std::marker::Model;
+use dav_io::Items;
 
 /// Bytes of a file one after another: the place of the first, and how many they are.
 #[derive(Clone, Copy, Debug, PartialEq, Eq)]
@@ -9,34 +7,8 @@ pub struct Slice {
     pub count: u64,
 }
 
-/// Slices in their order. A contract sees them as their list.
-#[derive(Drop)]
-pub struct Slices {
-    slices: Vec<Slice>,
-}
-
-impl Model for Slices {
-    ghost use Rattle.std.specs.Prelude.{List};
-    ghost use Rattle.dav_model.specs.declared.ranges.Slice.{Slice};
-
-    ghost Value = { List Slice };
-
-    ghost view = { λ s. s.slices.items };
-}
-
-impl Slices {
-    pub fn new(slices: Vec<Slice>) -> Self
-        ensures { result ≡ slices.items }
-    {
-        Slices { slices }
-    }
-
-    pub fn as_slice(&self) -> &[Slice]
-        ensures { result.now ≡ self.now }
-    {
-        self.slices.as_slice()
-    }
-}
+/// Slices in their order.
+pub type Slices = Items<Slice>;
 
 /// What a field `range` asks of a file.
 #[derive(Drop)]

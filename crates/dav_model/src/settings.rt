@@ -15,9 +15,10 @@ pub struct Settings {
     /// Who asks.
     pub principal: Option<Text>,
     pub hide_symlinks: Option<bool>,
-    /// Whether a directory is answered with a page of its entries.
+    /// Whether a directory is answered with a page of its entries. Where it isn't set, it is where PROPFIND is among the
+    /// methods of `allow`.
     pub autoindex: Option<bool>,
-    /// The name of the file that stands for its directory.
+    /// The name of the file that stands for its directory. Under a name that isn't plain none stands.
     pub indexfile: Option<Text>,
     /// The most bytes of a file in one piece of a body; 0 is the default, 16,384.
     pub read_buf_size: Option<usize>,

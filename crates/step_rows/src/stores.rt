@@ -9,24 +9,32 @@
 //!     read PATH PLACE         four bytes from a place on, and the file's length
 //!     give PATH COUNT         so many bytes at once, where the file sends a client, and a writing of nothing
 //!     write PATH BYTES        writes bytes twice, as a slice and as a buffer
+//!     list PATH WORD          the entries of a listing to its end, each with its metadata; WORD is `data`, `link` or `none`
+//!     members PATH            how many members are read, and each with kind, length and time
 //!     rest PATH               the calls that no disk has so far
 //!
 //! A row begins with `store`, and sets its disk as `scene.rt` says. What a call answers stands before a `|`.
+ghost use Rattle.std.specs.Prelude.{◌≡◌};
+ghost use Rattle.dav_store.specs.Listings.{HasLister};
+
 use crate::cells::{bytes_of, number, show};
 use crate::scene::set_disk;
 use anyhow::{Result, bail};
 use bytes::Bytes;
-use dav_core::{DavMetaData, DavPath, FileTime, FsError, OpenOptions};
+use dav_core::{DavMetaData, DavPath, FileTime, FsError, Kind, OpenOptions};
 use dav_disk::MemDisk;
 use dav_io::Moment;
-use dav_plain::{PlainDir, PlainEntry, PlainFs, PlainMeta};
+use dav_plain::{EntryMeta, PlainEntry, PlainFs, PlainMeta};
 use dav_store::{
     DavDirEntry, DavFile, DavFileSystem, GuardedFileSystem, ReadDirMeta, file_close, file_metadata,
-    file_read, file_seek,
+    file_read, file_seek, read_members,
 };
 use std::alloc::Global;
 
 type Store = PlainFs<MemDisk>;
+
+// The most calls of a listing.
+const MOST_ENTRIES: u32 = 100;
 
 fn kind_word<M: DavMetaData>(meta: &M) -> &'static str {
     if meta.is_dir() {
@@ -88,7 +96,7 @@ fn entry(alloc: Global, store: &mut Store, path: &DavPath) -> Result<String> {
     let Some(name) = path.names().as_slice().last() else {
         bail!("no name");
     };
-    let entry = PlainEntry::new(name.try_clone()?, meta);
+    let entry = PlainEntry::new(name.try_clone()?, EntryMeta::Read(Ok(meta)));
     let disk = DavFileSystem::disk(store);
     let len = entry.metadata(disk)?.len();
     let kinds = [
@@ -176,11 +184,88 @@ fn write(alloc: Global, store: &mut Store, path: &DavPath, bytes: Vec<u8>) -> Re
     Ok(format!(in alloc; "{once}, {again}")?)
 }
 
+// Asks a listing for its entries, to its end. A fault is shown, and the listing asked on.
+fn list_on<S: GuardedFileSystem<()>>(
+    alloc: Global,
+    store: &mut S,
+    dir: &mut S::Dir,
+    entries: &mut Vec<S::Entry>,
+    line: &mut String,
+) -> Result<()>
+    requires live { HasLister (S.Disk.state (S.inside store.old)) (S.lister dir.old) }
+    requires admits { S.admits store.old }
+    ensures live { HasLister (S.Disk.state (S.inside store.new)) (S.lister dir.new) }
+    ensures lister { S.lister dir.new ≡ S.lister dir.old }
+{
+    'entries: for _ in 0..MOST_ENTRIES {
+        match store.next_entry(dir) {
+            Ok(Some(entry)) => entries.push(entry)?,
+            Ok(None) => {
+                line.push_str("end")?;
+                return Ok(());
+            }
+            Err(error) => line.push_str(format!(in alloc; "{error}, ")?.as_str())?,
+        }
+    }
+    Ok(())
+}
+
+fn show_entry(
+    alloc: Global,
+    disk: &mut MemDisk,
+    entry: &PlainEntry,
+    line: &mut String,
+) -> Result<()> {
+    let answer = entry.metadata(disk);
+    let name = DavDirEntry::<MemDisk>::name(entry);
+    let text = match answer {
+        Ok(meta) => format!(in alloc; ", {name} {} {}", kind_word(&meta), meta.len())?,
+        Err(error) => format!(in alloc; ", {name} {error}")?,
+    };
+    Ok(line.push_str(text.as_str())?)
+}
+
+fn list(alloc: Global, store: &mut Store, path: &DavPath, word: &str) -> Result<String> {
+    let wanted = match word {
+        "none" => ReadDirMeta::None,
+        "link" => ReadDirMeta::DataSymlink,
+        _ => ReadDirMeta::Data,
+    };
+    let mut dir = DavFileSystem::read_dir(store, path, wanted)?;
+    let (mut entries, mut line) = (Vec::new(alloc), String::new(alloc));
+    let listed = list_on(alloc, store, &mut dir, &mut entries, &mut line);
+    DavFileSystem::end_dir(store, dir);
+    listed?;
+    let disk = DavFileSystem::disk(store);
+    for entry in entries {
+        show_entry(alloc, disk, &entry, &mut line)?;
+    }
+    Ok(line)
+}
+
+fn members(alloc: Global, store: &mut Store, path: &DavPath) -> Result<String> {
+    let members = read_members(alloc, store, path, &())?;
+    let mut line = format!(in alloc; "{}", members.len())?;
+    for member in &members {
+        let kind = match member.kind {
+            Kind::Dir => "dir",
+            Kind::File => "file",
+            Kind::Link => "link",
+        };
+        let text = match member.modified {
+            Some(time) => format!(in alloc; "{}.{}", time.secs, time.nanos)?,
+            None => String::from_str(alloc, "none")?,
+        };
+        let (name, time) = (member.name.as_str(), text.as_str());
+        line.push_str(format!(in alloc; ", {name} {kind} {} {time}", member.len)?.as_str())?;
+    }
+    Ok(line)
+}
+
 // What the calls answer that no disk has so far.
-fn unbuilt(store: &mut Store, path: &DavPath) -> [Result<(), FsError>; 7] {
+fn unbuilt(store: &mut Store, path: &DavPath) -> [Result<(), FsError>; 6] {
     [
         GuardedFileSystem::symlink_metadata(store, path, &()).map(|_| ()),
-        GuardedFileSystem::read_dir(store, path, ReadDirMeta::None, &()).map(|_| ()),
         GuardedFileSystem::create_dir(store, path, &()),
         GuardedFileSystem::remove_dir(store, path, &()),
         GuardedFileSystem::remove_file(store, path, &()),
@@ -196,14 +281,6 @@ fn rest(alloc: Global, store: &mut Store, path: &DavPath) -> Result<String> {
         line.push_str(", ")?;
     }
     GuardedFileSystem::<()>::set_now(store, Moment(5));
-    let mut dir = PlainDir;
-    let entry = GuardedFileSystem::<()>::next_entry(store, &mut dir)?;
-    GuardedFileSystem::<()>::end_dir(store, dir);
-    line.push_str(if entry.is_some() {
-        "an entry, "
-    } else {
-        "no entry, "
-    })?;
     let void = GuardedFileSystem::<()>::is_void(store);
     let folds = GuardedFileSystem::<()>::folds(store);
     line.push_str(format!(in alloc; "void {void}, folds {folds}")?.as_str())?;
@@ -226,6 +303,8 @@ fn call(alloc: Global, store: &mut Store, part: &str) -> Result<String> {
         "read" => read(alloc, store, &path, number(third)?),
         "give" => give(alloc, store, &path, number(third)?),
         "write" => write(alloc, store, &path, bytes_of(alloc, third)?),
+        "list" => list(alloc, store, &path, third),
+        "members" => members(alloc, store, &path),
         "rest" => rest(alloc, store, &path),
         _ => bail!("no call of a store: {part}"),
     }

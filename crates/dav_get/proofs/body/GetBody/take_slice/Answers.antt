@@ -1,7 +1,7 @@
 use Rattle.std.proofs.Common.{Some, ap, length, take, refl, sym, ◌∙◌}
 use Rattle.std.specs.Vec.{with_items}
 use Rattle.std.proofs.lemmas.List.{with_items_is}
-use Rattle.dav_get.proofs.BodyPolls.{first_has_room, slice_polls}
+use Rattle.dav_get.proofs.BodyPolls.{broken_polls, first_has_room, slice_polls}
 use Rattle.dav_get.proofs.body.GetBody.take_slice.Goals as goal
 
 pub fill-requires-clause-at : goal.fill-requires-clause-at
@@ -20,3 +20,11 @@ returns-clause-done g c =
     c.requires.slice c.requires.held refl c.in-Some-fill.ensures.done c.in-Some.is refl refl refl (ap length items ∙ long) long
     c.advance.ensures.left c.advance.ensures.done c.advance.ensures.most (ap (λ v. length v.items) c.advance.ensures.buffer)
     _ (c.in-Ok.ensures ∙ ap (take c.in-Some-fill.count) (c.deref.ensures.value ∙ items))
+
+pub returns-in_default-fill-clause-done : goal.returns-in_default-fill-clause-done
+returns-in_default-fill-clause-done g c =
+    let long = c.fill.auto.into ∙ ap length c.deref_mut.ensures.value in
+    let items = with_items_is c.args.self.now.buffer c.fill.new.into (long ∙ sym c.args.self.now.buffer.ok.0) in
+    broken_polls g.F.DavFile.handle g.F.DavFile.seen _ _ _ c.args.self.now c.give_up.new.self c.args.slice _ _ c.fill.new.into c.in-Some.open c.fill.new.self
+    c.requires.slice c.in_default-fill.ensures.done c.in-Some.is c.give_up.ensures.done c.give_up.ensures.left c.give_up.ensures.file c.give_up.ensures.most
+    (ap (λ v. length v.items) c.give_up.ensures.buffer ∙ (ap length items ∙ long))

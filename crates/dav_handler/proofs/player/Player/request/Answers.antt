@@ -6,10 +6,10 @@ use Rattle.dav_handler.proofs.Stepping.{held_joined, held_replied, left_joined, 
 use Rattle.dav_handler.proofs.player.Player.request.Goals as goal
 
 pub invariant_of-self : goal.invariant_of-self
-invariant_of-self g c = record { ok = playing_kept _ _ _ _ _ c.in-Err.ensures.done c.args.self.now.ok }
+invariant_of-self g c = record { ok = playing_kept _ _ _ _ _ c.in-Err.ensures.done.0 c.args.self.now.ok }
 
 pub returns-in-Err-clause-done : goal.returns-in-Err-clause-done
-returns-in-Err-clause-done g c = refused _ _ _ c.args.request.now c.args.now _ (body_at c.args.self.now.bodies) c.in-Err.error c.in-Err.ensures.done c.args.self.now.ok
+returns-in-Err-clause-done g c = refused _ _ _ c.args.request.now c.args.now _ (body_at c.args.self.now.bodies) c.in-Err.error c.in-Err.ensures.done.0 c.in-Err.ensures.done.1 c.args.self.now.ok
 
 pub invariant_of-self-in-None : goal.invariant_of-self-in-None
 invariant_of-self-in-None g c = record { ok = playing_kept_more _ _ _ _ _ _ c.in-Ok.ensures.done.holds c.args.self.now.ok }
@@ -44,5 +44,5 @@ invariant_of-self-in-Err-insert g c = record {
 }
 
 pub returns-in-Err-insert-clause-done : goal.returns-in-Err-insert-clause-done
-returns-in-Err-insert-clause-done g c = undone_steps _ _ (g.D.Disk.state c.find_for.new.store.disk) _ c.args.request.now c.args.now _ (body_at c.args.self.now.bodies) _ _ c.in-Some.open _ _ c.args.self.now.ok c.in-Ok.ensures.done.holds c.in-Some.is
+returns-in-Err-insert-clause-done g c = undone_steps _ _ _ _ (g.D.Disk.state c.find_for.new.store.disk) _ c.args.request.now c.args.now _ (body_at c.args.self.now.bodies) _ _ c.in-Some.open _ _ c.args.self.now.ok c.in-Ok.ensures.done.holds c.in-Ok.ensures.done.asks c.in-Some.is
     (ap (λ p. p.1) c.in-Err-insert.ensures.value_returned) (rw c.disk.ensures.value at c.close.ensures.done) (unchanged_same c.args.self.now.bodies c.insert.new.self c.in-Err-insert.ensures.err)

@@ -1,0 +1,180 @@
+// The page of a directory.
+ghost use Rattle.std.specs.Prelude.{◌≡◌, ◌⊎◌, IfOk, MatchResult, Ok, Err, map};
+ghost use Rattle.std.specs.List.{AllByRecursion};
+ghost use Rattle.dav_core.specs.Unchanged.{Keeps};
+ghost use Rattle.dav_model.specs.Due.{page_course};
+ghost use Rattle.dav_model.specs.Head.{is_get as the_is_get};
+ghost use Rattle.dav_model.specs.Indexes.{page_fields as the_page_fields};
+ghost use Rattle.dav_model.specs.Sizes.{read_size_of};
+ghost use Rattle.dav_page.specs.Listed.{HasPlainName};
+ghost use Rattle.dav_store.specs.View.{the_listings, the_view};
+ghost use Rattle.dav_get.specs.declared.part.BodyPart.TheVariants.{Text as TextPart};
+ghost use Rattle.dav_get.specs.Asked.{asked_of};
+ghost use Rattle.dav_get.specs.Lives.{HasMost, OpenOnlyHeld};
+ghost use Rattle.dav_get.specs.Table.{ByCourse, GivesPage, IsListing, IsPageBody, Lists, page_outcome};
+
+use crate::asked::Asked;
+use crate::body::GetBody;
+use crate::buffer::ReadBuffer;
+use crate::directories::may_list;
+use crate::headers::add;
+use crate::part::BodyPart;
+use crate::prepared::is_get;
+use dav_core::{DavError, FsError, Member};
+use dav_io::{FieldName, Fields, NoMemory, Octets, Text};
+use dav_model::Outcome;
+use dav_page::index_page;
+use dav_store::{GuardedFileSystem, ReadDirMeta, read_members};
+use http::StatusCode;
+use std::alloc::Global;
+
+/// What a GET or HEAD is answered with.
+type Given<F> = Result<(Outcome, GetBody<F>), DavError>;
+
+// Lists the directory. To a GET its members are read; a HEAD reads none.
+fn list<S: GuardedFileSystem<C>, C>(
+    alloc: Global,
+    fs: &mut S,
+    credentials: &C,
+    asked: &Asked<'_>,
+) -> Result<Vec<Member>, FsError>
+    requires admits { S.admits fs.old }
+    ensures listed { MatchResult result
+        (λ members. IsListing (the_view S.GuardedFileSystem S.Disk.Disk S.File.DavFile)
+        (the_listings S.GuardedFileSystem S.Entry.DavDirEntry) (the_is_get asked.now.method) credentials.now asked.now.path.now
+        fs.old (Ok members.items) fs.new)
+        (λ e. IsListing (the_view S.GuardedFileSystem S.Disk.Disk S.File.DavFile)
+        (the_listings S.GuardedFileSystem S.Entry.DavDirEntry) (the_is_get asked.now.method) credentials.now asked.now.path.now
+        fs.old (Err e) fs.new ⊎ (e ≡ FsError.NoMemory)) }
+    ensures keeps { Keeps (S.Disk.state (S.inside fs.old)) (S.Disk.state (S.inside fs.new)) }
+    ensures loan { S.Disk.loan (S.inside fs.new) ≡ S.Disk.loan (S.inside fs.old) }
+{
+    if is_get(asked.method) {
+        return read_members(alloc, fs, asked.path, credentials);
+    }
+    match fs.read_dir(asked.path, ReadDirMeta::Data, credentials) {
+        Ok(dir) => {
+            fs.end_dir(dir);
+            Ok(Vec::new(alloc))
+        }
+        Err(error) => Err(error),
+    }
+}
+
+// The fields of a page's answer.
+fn page_fields(alloc: Global) -> Result<Fields, NoMemory>
+    ensures { IfOk result (λ fields. fields ≡ the_page_fields) }
+{
+    let mut fields = Vec::new(alloc);
+    add(
+        alloc,
+        &mut fields,
+        FieldName::ContentType,
+        b"text/html; charset=utf-8",
+    )?;
+    Ok(Fields::new(fields))
+}
+
+// The parts of a body of these texts.
+fn text_parts(alloc: Global, texts: &[Text]) -> Result<Vec<BodyPart>, NoMemory>
+    ensures { IfOk result (λ parts. parts.items ≡ map TextPart texts.now) }
+{
+    let mut parts = Vec::new(alloc);
+    for text in texts {
+        let bytes = Octets::new(Vec::from_slice(alloc, text.as_slice())?);
+        parts.push(BodyPart::Text(bytes))?;
+    }
+    Ok(parts)
+}
+
+// The body of a page. HEAD has none.
+fn page_body<F>(
+    alloc: Global,
+    asked: &Asked<'_>,
+    members: Vec<Member>,
+) -> Result<GetBody<F>, NoMemory>
+    requires plain { AllByRecursion HasPlainName members.items }
+    ensures { IfOk result (IsPageBody (the_is_get asked.now.method) asked.now.path.now members.items) }
+{
+    if !is_get(asked.method) {
+        return Ok(GetBody::new(Vec::new(alloc), None, ReadBuffer::none(alloc)));
+    }
+    let texts = index_page(alloc, asked.path, members)?;
+    let parts = text_parts(alloc, texts.as_slice())?;
+    Ok(GetBody::new(parts, None, ReadBuffer::none(alloc)))
+}
+
+// The answer with the page of a directory with these members.
+fn page<F>(
+    alloc: Global,
+    asked: &Asked<'_>,
+    members: Vec<Member>,
+) -> Result<(Outcome, GetBody<F>), NoMemory>
+    requires plain { AllByRecursion HasPlainName members.items }
+    ensures outcome { IfOk result (λ answer. answer.0 ≡ page_outcome) }
+    ensures body { IfOk result (λ answer. IsPageBody (the_is_get asked.now.method) asked.now.path.now members.items
+        answer.1) }
+{
+    let fields = page_fields(alloc)?;
+    let body = page_body(alloc, asked, members)?;
+    let outcome = Outcome {
+        status: 200,
+        fields,
+    };
+    Ok((outcome, body))
+}
+
+// Gives the page of a directory with these members.
+fn give_page<F>(alloc: Global, asked: &Asked<'_>, members: Vec<Member>) -> Given<F>
+    requires plain { AllByRecursion HasPlainName members.items }
+    ensures { GivesPage (asked_of asked.now) members.items result ⊎ (result ≡ Err DavError.NoMemory) }
+{
+    match page(alloc, asked, members) {
+        Ok(answer) => Ok(answer),
+        Err(_) => Err(DavError::NoMemory),
+    }
+}
+
+/// Lists the directory that is asked for, and gives its page: status 200, its type, and to a GET the texts of the page,
+/// of the members whose metadata the store gives, up to the end of the listing or a fault. The listing is ended, and
+/// nothing is left open. An error is the store's refusal.
+fn handle_autoindex<S: GuardedFileSystem<C>, C>(
+    alloc: Global,
+    fs: &mut S,
+    credentials: &C,
+    asked: &Asked<'_>,
+) -> Given<S::File>
+    requires admits { S.admits fs.old }
+    ensures table { Lists (the_view S.GuardedFileSystem S.Disk.Disk S.File.DavFile)
+        (the_listings S.GuardedFileSystem S.Entry.DavDirEntry) (asked_of asked.now) credentials.now fs.old result fs.new
+        ⊎ (result ≡ Err DavError.NoMemory) }
+    ensures life { OpenOnlyHeld (the_view S.GuardedFileSystem S.Disk.Disk S.File.DavFile) fs.old result fs.new }
+    ensures most { HasMost (read_size_of asked.now.settings.now.read_buf_size) result }
+    ensures loan { S.Disk.loan (S.inside fs.new) ≡ S.Disk.loan (S.inside fs.old) }
+{
+    match list(alloc, fs, credentials, asked) {
+        Ok(members) => give_page(alloc, asked, members),
+        Err(error) => Err(DavError::from(error)),
+    }
+}
+
+/// Answers for a directory of which a page is asked.
+pub(crate) fn get_page<S: GuardedFileSystem<C>, C>(
+    alloc: Global,
+    fs: &mut S,
+    credentials: &C,
+    asked: &Asked<'_>,
+) -> Given<S::File>
+    requires admits { S.admits fs.old }
+    ensures table { ByCourse (the_view S.GuardedFileSystem S.Disk.Disk S.File.DavFile)
+        (the_listings S.GuardedFileSystem S.Entry.DavDirEntry) (page_course asked.now.settings.now) (asked_of asked.now)
+        credentials.now fs.old result fs.new ⊎ (result ≡ Err DavError.NoMemory) }
+    ensures life { OpenOnlyHeld (the_view S.GuardedFileSystem S.Disk.Disk S.File.DavFile) fs.old result fs.new }
+    ensures most { HasMost (read_size_of asked.now.settings.now.read_buf_size) result }
+    ensures loan { S.Disk.loan (S.inside fs.new) ≡ S.Disk.loan (S.inside fs.old) }
+{
+    if may_list(asked.settings) {
+        return handle_autoindex(alloc, fs, credentials, asked);
+    }
+    Err(DavError::StatusClose(StatusCode::METHOD_NOT_ALLOWED))
+}
