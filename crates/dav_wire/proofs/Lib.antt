@@ -9,3 +9,4 @@ pub mod RequestLemmas
 pub mod Holding
 pub mod Pushing
 pub mod Waiting
+pub mod Fronts

@@ -35,9 +35,7 @@ fn is_bodiless(status: u16) -> bool
 fn has_length(fields: &[Field]) -> bool
     ensures { result ≡ length_given fields.now }
 {
-    fields
-        .iter()
-        .any(|field| field.name.as_str() == "content-length")
+    fields.iter().any(|field| field.name.as_slice() == b"content-length".as_slice())
 }
 
 /// The head of an answer. `connection: close` is put in its place where the answer closes and the fields don't say so,

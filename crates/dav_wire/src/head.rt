@@ -5,20 +5,21 @@ ghost use Rattle.http_header.specs.FieldValue.{IsFieldValue, plain_value};
 ghost use Rattle.http_header.specs.HeaderMap.{append, append_all, value_count};
 ghost use Rattle.http_header.specs.Token.{IsToken, lowercase};
 ghost use Rattle.http_uri.specs.Uri.{Spells, SpellsNone};
-ghost use Rattle.httparse.specs.Spans.{IsHeaderWithin, header_bytes, IsRequestWithin, IsRequestOf};
+ghost use Rattle.httparse.specs.Spans.{IsHeaderWithin, IsWithin, header_bytes, span_bytes, IsRequestWithin, IsRequestOf};
 ghost use Rattle.dav_wire.specs.Heads.{IsReadAt, IsField, kept_span, version_of};
 ghost use Rattle.dav_wire.specs.Parsing.{Parses};
 ghost use Rattle.dav_wire.specs.Requests.{Refusal};
 ghost use Rattle.dav_wire.specs.declared.head.PartError.TheVariants.{Refused};
 
+use bytes::Bytes;
 use dav_io::NoMemory;
-use http::header::{HeaderMapError, HeaderName, HeaderNameError, HeaderValue, HeaderValueError};
+use http::header::{HeaderMapError, HeaderName, HeaderNameError, HeaderValue};
 use http::method::MethodError;
 use http::request::Parts;
 use http::{HeaderMap, Method, Uri, Version};
 use http_uri::UriError;
 use httparse::Status;
-use httparse::spans::{HeaderSpan, RequestSpans, parse_request};
+use httparse::spans::{HeaderSpan, RequestSpans, Span, parse_request};
 use std::alloc::Global;
 
 // A head, and how many bytes it takes.
@@ -80,7 +81,8 @@ fn read_parts(
     let Ok(method) = read_method(alloc, head.method.of(buf)) else {
         return Err(PartError::NoMemory);
     };
-    let Ok(headers) = read_fields(alloc, buf, &spans[..head.headers]) else {
+    let front = &buf[..head.len];
+    let Ok(headers) = read_fields(alloc, front, &spans[..head.headers]) else {
         return Err(PartError::NoMemory);
     };
     let version = version(head.version);
@@ -125,40 +127,71 @@ fn version(minor: u8) -> Version
     }
 }
 
+// A part of a copy, which shares its memory.
+fn part_of(whole: &Bytes, span: Span) -> Result<Bytes, NoMemory>
+    requires { IsWithin (length whole.now) span }
+    ensures { IfOk result (λ part. part ≡ span_bytes whole.now span) }
+{
+    let part = whole.slice(span.start..span.end)?;
+    Ok(part)
+}
+
+// The fields of a head. Their values share one copy of it.
 fn read_fields(alloc: Global, buf: &[u8], spans: &[HeaderSpan]) -> Result<HeaderMap, NoMemory>
     requires few { length spans.now ≤ 256 }
     requires within { All (IsHeaderWithin (length buf.now)) spans.now }
     requires fields { All (λ span. IsField (header_bytes buf.now span)) spans.now }
     ensures { IfOk result (λ headers. headers ≡ append_all [] (map (kept_span buf.now) spans.now)) }
 {
-    let mut headers = HeaderMap::new(alloc);
+    let Ok(mut headers) = HeaderMap::with_capacity(alloc, spans.len()) else {
+        return Err(NoMemory);
+    };
+    let whole = Bytes::copy_from_slice(alloc, buf)?;
     for span in spans {
-        add_field(alloc, &mut headers, span.name.of(buf), span.value.of(buf))?;
+        add_span(alloc, &mut headers, buf, &whole, *span)?;
     }
     Ok(headers)
+}
+
+// Adds the field that two spans cover. Its value is a part of the copy.
+fn add_span(
+    alloc: Global,
+    headers: &mut HeaderMap,
+    buf: &[u8],
+    whole: &Bytes,
+    span: HeaderSpan,
+) -> Result<(), NoMemory>
+    requires copied { whole.now ≡ buf.now }
+    requires within { IsHeaderWithin (length buf.now) span }
+    requires field { IsField (header_bytes buf.now span) }
+    requires names { length headers.old < 256 }
+    requires values { value_count headers.old < 256 }
+    ensures { OnOk result (headers.new ≡ append headers.old (kept_span buf.now span).0 (kept_span buf.now span).1) }
+{
+    let value = part_of(whole, span.value)?;
+    add_field(alloc, headers, span.name.of(buf), value)
 }
 
 fn add_field(
     alloc: Global,
     headers: &mut HeaderMap,
     name: &[u8],
-    value: &[u8],
+    value: Bytes,
 ) -> Result<(), NoMemory>
     requires name { IsFieldName name.now }
-    requires value { IsFieldValue value.now }
+    requires value { IsFieldValue value }
     requires names { length headers.old < 256 }
     requires values { value_count headers.old < 256 }
-    ensures { OnOk result (headers.new ≡ append headers.old (lowercase name.now) (plain_value value.now)) }
+    ensures { OnOk result (headers.new ≡ append headers.old (lowercase name.now) (plain_value value)) }
 {
     let name = match HeaderName::from_bytes(alloc, name) {
         Ok(name) => name,
         Err(HeaderNameError::Invalid) => unreachable!("the name was read as one"),
         Err(HeaderNameError::OutOfMemory) => return Err(NoMemory),
     };
-    let value = match HeaderValue::from_bytes(alloc, value) {
+    let value = match HeaderValue::from_shared(value) {
         Ok(value) => value,
-        Err(HeaderValueError::Invalid) => unreachable!("the value was read as one"),
-        Err(HeaderValueError::OutOfMemory) => return Err(NoMemory),
+        Err(_) => unreachable!("the value was read as one"),
     };
     match headers.append(name, value) {
         Ok(_) => Ok(()),

@@ -69,16 +69,21 @@ fn way(alloc: Global, row: &str) -> Result<String> {
     Ok(String::from_str(alloc, word)?)
 }
 
-fn body(alloc: Global, row: &str) -> Result<String> {
+fn give(alloc: Global, row: &str, output: &mut Output, sink: &mut MemSink) -> Result<()> {
     let way = framing_of(row.split(' ').nth(1).unwrap_or(""));
-    let mut output = Output::new(alloc)?;
-    let mut sink = MemSink::new(alloc, ROOM, 7, Vec::new(alloc))?;
     for cell in row.split(' ').skip(2) {
         let piece = bytes_of(alloc, cell)?;
-        output.push_piece(&mut sink, way, piece.as_slice())?;
+        output.push_piece(sink, way, piece.as_slice())?;
     }
-    output.push_end(&mut sink, way)?;
-    output.flush(&mut sink)?;
+    output.push_end(sink, way)?;
+    output.flush(sink)?;
+    Ok(())
+}
+
+fn body(alloc: Global, row: &str) -> Result<String> {
+    let mut output = Output::new(alloc)?;
+    let mut sink = MemSink::new(alloc, ROOM, 7, Vec::new(alloc))?;
+    give(alloc, row, &mut output, &mut sink)?;
     shown(alloc, sink.written())
 }
 

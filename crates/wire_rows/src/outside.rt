@@ -2,8 +2,8 @@
 use crate::cells::{bytes_of, fields_of, show};
 use anyhow::Result;
 use dav_io::{
-    Clock, Failed, Fields, MemSink, MemSource, Moment, NoMemory, Octets, SetClock, Sink, Source,
-    SureSink, SureSource, Text,
+    Clock, Failed, Field, Fields, MemSink, MemSource, Moment, NoMemory, Octets, SetClock, Sink,
+    Source, SureSink, SureSource, Text, TryClone,
 };
 use std::alloc::Global;
 use std::cmp::Ordering;
@@ -64,26 +64,33 @@ fn put<K: Sink>(alloc: Global, line: &mut String, sink: &mut K) -> Result<()> {
     Ok(())
 }
 
+fn taken_by_sure(alloc: Global, sure: &mut SureSink) -> Result<String> {
+    let mut line = String::from_str(alloc, "takes")?;
+    let mut lent = &mut *sure;
+    put(alloc, &mut line, &mut lent)?;
+    line.push_str(" has ")?;
+    show(&mut line, sure.written())?;
+    Ok(line)
+}
+
+fn taken_by(alloc: Global, sink: &mut MemSink) -> Result<String> {
+    let mut line = String::from_str(alloc, "takes")?;
+    put(alloc, &mut line, sink)?;
+    line.push_str(" has ")?;
+    show(&mut line, sink.written())?;
+    Ok(line)
+}
+
 /// What a sink takes with so much room: MOST bytes a call, and the calls of the numbers fail. One without MOST is sure.
 pub fn sink(alloc: Global, row: &str) -> Result<String> {
     let mut cells = row.split(' ').skip(1);
     let cell = cells.next().unwrap_or("");
     let room = cells.next().unwrap_or("").parse::<usize>().unwrap_or(0);
-    let mut line = String::from_str(alloc, "takes")?;
     if cell == "sure" {
-        let mut sure = SureSink::new(alloc, room)?;
-        let mut lent = &mut sure;
-        put(alloc, &mut line, &mut lent)?;
-        line.push_str(" has ")?;
-        show(&mut line, sure.written())?;
-        return Ok(line);
+        return taken_by_sure(alloc, &mut SureSink::new(alloc, room)?);
     }
     let (most, calls) = numbers(alloc, cell)?;
-    let mut sink = MemSink::new(alloc, room, most.max(1), calls)?;
-    put(alloc, &mut line, &mut sink)?;
-    line.push_str(" has ")?;
-    show(&mut line, sink.written())?;
-    Ok(line)
+    taken_by(alloc, &mut MemSink::new(alloc, room, most.max(1), calls)?)
 }
 
 // What a clock shows at two looks.
@@ -153,9 +160,12 @@ pub fn fields(alloc: Global, row: &str) -> Result<String> {
     for field in &fields_of(alloc, row, 1)? {
         list.push(field.try_clone()?)?;
     }
-    let copy = Fields::new(list).try_clone()?;
+    told(alloc, Fields::new(list).try_clone()?.as_slice())
+}
+
+fn told(alloc: Global, fields: &[Field]) -> Result<String> {
     let mut line = String::from_str(alloc, "fields")?;
-    for field in copy.as_slice() {
+    for field in fields {
         line.push(' ')?;
         line.push_str(field.name.as_str())?;
         line.push(':')?;

@@ -4,8 +4,8 @@ use crate::outside::numbers;
 use anyhow::Result;
 use dav_io::{MemSource, Octets};
 use dav_wire::{Found, Input, ReadError, asks_close, into_request, is_old, takes_chunks};
-use http::HeaderMap;
 use http::request::Parts;
+use http::{HeaderMap, Request};
 use std::alloc::Global;
 
 // More calls of a source than any row makes.
@@ -98,15 +98,41 @@ fn show_all_fields(alloc: Global, line: &mut String, fields: &HeaderMap) -> Resu
 }
 
 // A request: its method and path, what it asks, and its fields.
-fn show_request(alloc: Global, line: &mut String, parts: Parts) -> Result<()> {
-    let asked = asked_words(&parts);
-    let request = into_request(alloc, parts);
+fn show_asked(
+    alloc: Global,
+    line: &mut String,
+    request: &Request<Octets>,
+    asked: &[&str],
+) -> Result<()> {
     line.push_str(request.method().as_str())?;
     show_words(line, &[request.uri().path()])?;
-    show_words(line, &asked)?;
+    show_words(line, asked)?;
     show_all_fields(alloc, line, request.headers())?;
     line.push_str("; ")?;
     Ok(())
+}
+
+// No call that may fail stands beside a request that is owned: each would let go of all its parts.
+fn show_request(alloc: Global, line: &mut String, parts: Parts) -> Result<()> {
+    let asked = asked_words(&parts);
+    let request = into_request(alloc, parts);
+    show_asked(alloc, line, &request, &asked)
+}
+
+// The requests of a source, and how they end.
+fn requests_of(alloc: Global, source: &mut MemSource) -> Result<String> {
+    let mut input = Input::new(alloc)?;
+    let mut line = String::new(alloc);
+    for _ in 0..99 {
+        match next(alloc, &mut input, source)? {
+            Seen::Request(parts) => show_request(alloc, &mut line, parts)?,
+            Seen::Over(word) => {
+                line.push_str(word)?;
+                return Ok(line);
+            }
+        }
+    }
+    Ok(line)
 }
 
 // The requests of the bytes of a row, and how they end.
@@ -116,17 +142,8 @@ pub fn requests(alloc: Global, row: &str) -> Result<String> {
     for cell in row.split(' ').skip(2) {
         add_cell(&mut bytes, cell)?;
     }
-    let mut source = MemSource::new(Octets::new(bytes), most.max(1), calls);
-    let mut input = Input::new(alloc)?;
-    let mut line = String::new(alloc);
-    for _ in 0..99 {
-        match next(alloc, &mut input, &mut source)? {
-            Seen::Request(parts) => show_request(alloc, &mut line, parts)?,
-            Seen::Over(word) => {
-                line.push_str(word)?;
-                return Ok(line);
-            }
-        }
-    }
-    Ok(line)
+    requests_of(
+        alloc,
+        &mut MemSource::new(Octets::new(bytes), most.max(1), calls),
+    )
 }

@@ -55,6 +55,30 @@ pub fn push(alloc: Global, row: &str) -> Result<String> {
     shown(alloc, sink.written())
 }
 
+// Pushes, and asks the source where the input has no whole head.
+fn ask(
+    alloc: Global,
+    input: &mut Input,
+    source: &mut MemSource,
+    output: &mut Output,
+    sink: &mut MemSink,
+) -> Result<()> {
+    let _ = output.push(sink, b"wait");
+    if let Found::More = input.next_head(alloc)? {
+        let _ = fill_flushing(input, source, output, sink);
+    }
+    Ok(())
+}
+
+fn ask_thrice(alloc: Global, source: &mut MemSource, sink: &mut MemSink) -> Result<()> {
+    let mut input = Input::new(alloc)?;
+    let mut output = Output::new(alloc)?;
+    for _ in 0..3u8 {
+        ask(alloc, &mut input, source, &mut output, sink)?;
+    }
+    Ok(())
+}
+
 /// What reached a sink before the source was asked, at three heads.
 pub fn asked(alloc: Global, row: &str) -> Result<String> {
     let mut cells = row.split(' ').skip(1);
@@ -62,13 +86,6 @@ pub fn asked(alloc: Global, row: &str) -> Result<String> {
     let bytes = Octets::new(bytes_of(alloc, cells.next().unwrap_or(""))?);
     let mut source = MemSource::new(bytes, most.max(1), Vec::new(alloc));
     let mut sink = MemSink::new(alloc, 100, 3, Vec::new(alloc))?;
-    let mut input = Input::new(alloc)?;
-    let mut output = Output::new(alloc)?;
-    for _ in 0..3u8 {
-        let _ = output.push(&mut sink, b"wait");
-        if let Found::More = input.next_head(alloc)? {
-            let _ = fill_flushing(&mut input, &mut source, &mut output, &mut sink);
-        }
-    }
+    ask_thrice(alloc, &mut source, &mut sink)?;
     shown(alloc, sink.written())
 }

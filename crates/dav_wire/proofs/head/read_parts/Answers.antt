@@ -3,6 +3,7 @@ use Rattle.http_uri.specs.Uri.{Spells, SpellsNone}
 use Rattle.http_header.specs.HeaderMap.{append_all}
 use Rattle.http_header.specs.Token.{IsToken}
 use Rattle.dav_wire.proofs.HeadLemmas.{token_same, fields_taken, kept_alike, few_fields}
+use Rattle.dav_wire.proofs.Fronts.{front_same}
 use Rattle.dav_wire.specs.Requests.{target}
 use Rattle.dav_wire.proofs.head.read_parts.Goals as goal
 
@@ -16,7 +17,7 @@ read_fields-requires-clause-fields c =
     let head = c.requires.complete.0 in
     let at = c.requires.complete.1 in
     let within = c.requires.within.section.len_fits in
-    fields_taken head c.args.buf.now _ at.reads.0 (omega (arith, at.len, c.requires.short)) at.fields
+    fields_taken head _ _ at.reads.0 (omega (arith, at.len, c.requires.short)) (front_same c.args.buf.now _ _ c.requires.within.section.headers_fit ∙ at.fields)
 
 pub returns-in-Err-clause-refused : goal.returns-in-Err-clause-refused
 returns-in-Err-clause-refused c = λ same.
@@ -36,6 +37,6 @@ returns-clause-ok c =
         method = c.in-Ok-read_method.ensures ∙ c.of-2.ensures ∙ at.method;
         uri = subst (λ (text : List ℕ). Spells text c.in-Ok.uri) (c.of.ensures ∙ at.path) c.in-Ok.ensures.ok;
         version = rw (← at.version) c.version-version.ensures;
-        headers = c.in-Ok-read_fields.ensures ∙ ap (append_all []) (kept_alike c.args.buf.now _ _ at.fields);
+        headers = c.in-Ok-read_fields.ensures ∙ ap (append_all []) (kept_alike _ _ _ (front_same c.args.buf.now _ _ c.requires.within.section.headers_fit ∙ at.fields));
       };
     }
