@@ -1,23 +1,14 @@
 //! The program: it serves a folder to the requests on standard input, and writes the answers to standard output.
 #![tactic(auto)]
 
-mod ending;
-mod exchange;
-mod laws;
-mod run;
-mod serving;
-#[cfg(test)]
-mod tests;
-mod turns;
-mod words;
-
 use dav_host::{HostDisk, StdSink, StdSource, SystemClock};
 use dav_io::NoMemory;
+use dav_serve::run::run;
 use std::io::ErrorKind;
 use std::process::ExitCode;
 use std::{env, io};
 
-const USAGE: &str = "usage: davserve ROOT serve [--bufsize N]";
+const USAGE: &str = "usage: davserve ROOT serve [--autoindex] [--indexfile NAME] [--bufsize N]";
 
 // What stands in the words behind the program's name.
 enum Arguments {
@@ -62,7 +53,7 @@ fn serve(rt: &HostRuntime, words: &[String]) -> Result<u8, NoMemory> {
     let mut source = StdSource::new(rt.reader());
     let mut sink = StdSink::new(io::writer(rt));
     let mut clock = SystemClock::new(rt);
-    run::run(
+    run(
         rt.alloc(),
         words,
         &mut source,
@@ -75,7 +66,8 @@ fn serve(rt: &HostRuntime, words: &[String]) -> Result<u8, NoMemory> {
 // What a status says, in a line.
 fn line_of(status: u8) -> &'static str {
     match status {
-        2 => "davserve: the words are not understood; usage: davserve ROOT serve [--bufsize N]",
+        2 =>
+            "davserve: the words are not understood; usage: davserve ROOT serve [--autoindex] [--indexfile NAME] [--bufsize N]",
         3 => "davserve: reading the requests failed",
         4 => "davserve: writing the answers failed",
         5 => "davserve: the disk failed in the middle of a body",

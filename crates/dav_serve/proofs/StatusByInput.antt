@@ -1,0 +1,239 @@
+-- With which status a run ends where no fault ends it.
+use Rattle.dav_model.specs.Play.{Stage}
+use Rattle.std.proofs.Common.{◌≡◌, ◌<◌, ◌+◌, ◌^◌, ◌++◌, ◌||◌, ◌⊎◌, ℕ, zero, suc, List, [], ◌∷◌, Bool, true, false, IsTrue, Option, Some, None, length, get_or, sym, ap, subst, ◌∙◌, refl, inl, inr, arith, append-nil, length-append, true≢false, Result, Ok, Err, IfOk}
+use Rattle.std.specs.List.{AllByRecursion}
+use Rattle.std.proofs.lemmas.Str.{IsUtf8-from_ascii}
+use Rattle.httparse.specs.Grammar.{is_token_byte, is_uri_byte, lf, RequestHead, IsRequestHead, print_request, ReadsRequest}
+use Rattle.dav_io.specs.Counts.{Rose, RefusedNothing}
+use Rattle.dav_io.specs.Told.{Both}
+use Rattle.dav_io.proofs.ToldLemmas.{told_after}
+use Rattle.dav_io.specs.declared.failure.NoMemory.{NoMemory}
+use Rattle.dav_model.specs.Trail.{Point}
+use Rattle.http.specs.Request.{head_of}
+use Rattle.dav_wire.specs.Answers.{has_close_field}
+use Rattle.dav_wire.specs.Requests.{IsRequest, Requests, Refusal, never, long, many, target, HasNone}
+use Rattle.dav_wire.proofs.RequestLemmas.{request_is_one, refusal_has_none, unfinished_none, requests_are_one, end_has_none}
+use Rattle.dav_serve.specs.declared.ending.Ending.{Ending}
+use Rattle.dav_serve.specs.declared.ending.Ending.TheVariants.{Over, Closed, Refused, Unfinished, SourceFailed, SinkFailed, DiskFailed, TooMuch}
+use Rattle.dav_serve.specs.Exchange.{Exchange, is_closed}
+use Rattle.dav_serve.specs.Serving.{Setup, Chain, Alike, IsOpen, ServedAll, ServedClosing, ServedRefusing, ServedUnfinished, EndsBy, ServeEnds, ready, status_of}
+use Rattle.dav_serve.specs.Stages.{Outside}
+use Rattle.dav_serve.specs.Completing.{Faultless, Closes, LastByHead, IsLeft, IsValid, IsInvalid, IsStopped, StatusIs}
+use Rattle.dav_serve.proofs.RequestsAreSome.{head_some}
+
+-- the shortest head of the grammar
+shortest : RequestHead
+shortest = record { blank = []; method = 65 ∷ []; target = 47 ∷ []; minor = 1; line_end = lf; fields = []; last = lf }
+
+token_at : (k d : ℕ) → k < 1 → IsTrue (is_token_byte (get_or (65 ∷ []) k d))
+unfolding is_token_byte
+token_at zero d l = refl
+token_at (suc k) d l = absurd (omega arith)
+
+uri_at : (k d : ℕ) → k < 1 → IsTrue (is_uri_byte (get_or (47 ∷ []) k d))
+uri_at zero d l = refl
+uri_at (suc k) d l = absurd (omega arith)
+
+slash_at : (k : ℕ) → get_or (47 ∷ []) k 0 < 128
+slash_at zero = omega arith
+slash_at (suc k) = omega arith
+
+shortest_is : IsRequestHead shortest
+unfolding shortest
+shortest_is = record {
+  method = (omega arith, token_at);
+  target = (omega arith, uri_at);
+  target_text = IsUtf8-from_ascii (47 ∷ []) slash_at;
+  minor = omega arith;
+  fields = λ k d l. absurd (omega arith);
+}
+
+shortest_reads : ReadsRequest ([] ++ print_request shortest) shortest []
+shortest_reads = (shortest_is, sym (append-nil (print_request shortest)))
+
+fieldless : length shortest.fields ≡ 0
+unfolding shortest
+fieldless = refl
+
+-- where nothing stands, nothing is refused
+nothing_refused : (left : List ℕ) → left ≡ [] → Refusal left → ⊥
+nothing_refused left e (never none) =
+    none (print_request shortest) shortest [] (subst (λ z. ReadsRequest (z ++ print_request shortest) shortest []) (sym e) shortest_reads)
+nothing_refused left e (long past none) = let l = ap (length {A = ℕ}) e in absurd (omega arith)
+nothing_refused left e (many exceeds overflows) =
+    let more = overflows (print_request shortest) shortest [] (subst (λ z. ReadsRequest (z ++ print_request shortest) shortest []) (sym e) shortest_reads) in
+    let few = fieldless in
+    absurd (omega arith)
+nothing_refused left e (target head rest reads none) =
+    let some = head_some head reads.0 in
+    let whole = ap (length {A = ℕ}) (sym e ∙ reads.1) ∙ length-append (print_request head) rest in
+    absurd (omega arith)
+
+-- the requests up to where none stands begin with any others
+compare : (a rest left : List ℕ) (heads others : List RequestHead) → Requests a heads rest → Requests a others left → HasNone left
+    → (more : List RequestHead) × (others ≡ heads ++ more) × Requests rest more left
+compare a rest left [] others first second none = (others, refl, subst (λ z. Requests z others left) (sym first) second)
+compare a rest left (head ∷ heads) [] (after, is, later) second none = absurd (none head after (subst (λ z. IsRequest z head after) (sym second) is))
+compare a rest left (head ∷ heads) (other ∷ others) (after, is, later) (behind, stands, further) none =
+    let same = request_is_one a head other after behind is stands in
+    let found = compare behind rest left heads others (subst (λ z. Requests z heads rest) same.1 later) further none in
+    (found.0, ap (λ z. z ∷ others) (sym same.0) ∙ ap (λ z. head ∷ z) found.1, found.2)
+
+-- the exchanges of the first requests
+record Front (setup : Setup) (a : Stage) (heads : List RequestHead) : Type 0 where
+  exchanges : List Exchange
+  last : Stage
+  played : Chain setup.rules a exchanges last
+  alike : Alike setup heads exchanges
+  are_open : AllByRecursion IsOpen exchanges
+
+front_of : (setup : Setup) (a b : Stage) (heads more : List RequestHead) (xs : List Exchange) → Chain setup.rules a xs b → Alike setup (heads ++ more) xs → AllByRecursion IsOpen xs
+    → Front setup a heads
+front_of setup a b [] more xs chain alike o = record { exchanges = []; last = a; played = refl; alike = tt; are_open = tt }
+front_of setup a b (head ∷ heads) more [] chain alike o = absurd alike
+front_of setup a b (head ∷ heads) more (x ∷ xs) (m, played, chain) (is, alike) (first, others) =
+    let f = front_of setup (ready setup.rules m.at) b heads more xs chain alike others in
+    record { exchanges = x ∷ f.exchanges; last = f.last; played = (m, played, f.played); alike = (is, f.alike); are_open = (first, f.are_open) }
+
+nothing_more : (rest left : List ℕ) (more : List RequestHead) → rest ≡ [] → Requests rest more left → left ≡ []
+nothing_more rest left [] e r = r ∙ e
+nothing_more rest left (head ∷ more) e (after, is, later) = absurd (end_has_none head after (subst (λ z. IsRequest z head after) e is))
+
+-- a valid input has no place where no request stands
+no_place : (setup : Setup) (s : Point) (last : Stage) (a rest left : List ℕ) (heads others : List RequestHead) (xs : List Exchange) → Requests a heads rest
+    → (rest ≡ []) ⊎ Closes setup s heads → Requests a others left → HasNone left → (left ≡ [] → ⊥) → Chain setup.rules (ready setup.rules s) xs last → Alike setup others xs
+    → AllByRecursion IsOpen xs → ⊥
+no_place setup s last a rest left heads others xs first (inl over) second none some chain alike o =
+    let c = compare a rest left heads others first second none in
+    some (nothing_more rest left c.0 over c.2)
+no_place setup s last a rest left heads others xs first (inr closes) second none some chain alike o =
+    let c = compare a rest left heads others first second none in
+    let f = front_of setup (ready setup.rules s) last heads c.0 xs chain (subst (λ z. Alike setup z xs) c.1 alike) o in
+    closes f.exchanges f.last f.played f.alike f.are_open
+
+both_and : {A : Type 0} (old new : Option A) (P Q : A → A → Type 0) → Both old new P → Both old new Q → Both old new (λ a b. P a b × Q a b)
+both_and None None P Q p q = tt
+both_and None (Some b) P Q p q = absurd p
+both_and (Some a) None P Q p q = absurd p
+both_and (Some a) (Some b) P Q p q = (p, q)
+
+some_left : (held b : List ℕ) → 0 < length held → held ++ b ≡ [] → ⊥
+some_left held b some e =
+    let whole = sym (length-append held b) ∙ ap (length {A = ℕ}) e in
+    absurd (omega arith)
+
+closed_by : (closing other : Bool) → IsTrue closing → closing || other ≡ false → ⊥
+closed_by true other t e = absurd (true≢false e)
+closed_by false other t e = absurd (true≢false (sym t))
+
+-- a request that asks for it closes
+asks_closes : (setup : Setup) (a : Stage) (heads : List RequestHead) (last : RequestHead) → LastByHead last → (xs : List Exchange) (b : Stage) → Chain setup.rules a xs b
+    → Alike setup (heads ++ last ∷ []) xs → AllByRecursion IsOpen xs → ⊥
+asks_closes setup a [] last asks [] b chain alike o = absurd alike
+asks_closes setup a [] last asks (x ∷ xs) b chain (is, alike) o = closed_by x.closing (has_close_field x.fields) (is.closing.1 (asks (head_of x.request) is.parts)) o.0
+asks_closes setup a (head ∷ heads) last asks [] b chain alike o = absurd alike
+asks_closes setup a (head ∷ heads) last asks (x ∷ xs) b (m, played, chain) (is, alike) o = asks_closes setup (ready setup.rules m.at) heads last asks xs b chain alike o.1
+
+asked_closes : (setup : Setup) (s : Point) (heads : List RequestHead) (last : RequestHead) → LastByHead last → Closes setup s (heads ++ last ∷ [])
+asked_closes setup s heads last asks xs b chain alike o = asks_closes setup (ready setup.rules s) heads last asks xs b chain alike o
+
+left_valid : (setup : Setup) (s : Point) (a : List ℕ) → IsLeft a → IsValid setup s a
+left_valid setup s a left = record { heads = left.heads ++ left.last ∷ []; rest = left.rest; requests = left.requests; ends = inr (asked_closes setup s left.heads left.last left.asks) }
+
+module _ (setup : Setup) (before after : Outside) (a : List ℕ) (told : before.source.bytes ≡ Some a) where
+  valid_not_refused : IsValid setup before.disk a → ServedRefusing setup before after → ⊥
+  valid_not_refused valid v =
+      let both = told_after before.source.bytes after.source.bytes _ a (both_and before.source.bytes after.source.bytes _ _ v.serving.requests v.refused) told in
+      let left = v.held ++ both.0 in
+      no_place setup before.disk _ a valid.rest left valid.heads v.serving.heads v.exchanges valid.requests valid.ends both.2.0
+      (subst HasNone (append-nil left) (refusal_has_none left [] both.2.1)) (λ e. nothing_refused left e both.2.1) v.serving.played v.serving.alike v.serving.follow
+
+  valid_not_unfinished : IsValid setup before.disk a → ServedUnfinished setup before after → ⊥
+  valid_not_unfinished valid v =
+      let both = told_after before.source.bytes after.source.bytes _ a (both_and before.source.bytes after.source.bytes _ _ v.serving.requests v.over) told in
+      let left = v.held ++ both.0 in
+      let same : left ≡ v.held = ap (λ z. v.held ++ z) both.2.1 ∙ append-nil v.held in
+      no_place setup before.disk _ a valid.rest left valid.heads v.serving.heads v.exchanges valid.requests valid.ends both.2.0
+      (subst HasNone (sym same) (unfinished_none v.held v.unfinished)) (some_left v.held both.0 v.unfinished.some) v.serving.played v.serving.alike v.serving.follow
+
+  invalid_not_all : IsInvalid setup before.disk a → ServedAll setup before after → ⊥
+  invalid_not_all invalid v =
+      let both = told_after before.source.bytes after.source.bytes _ a (both_and before.source.bytes after.source.bytes _ _ v.serving.requests v.over) told in
+      let ends : Requests a v.serving.heads [] = subst (λ z. Requests a v.serving.heads z) both.2.1 both.2.0 in
+      let same = requests_are_one a invalid.rest [] invalid.heads v.serving.heads invalid.requests invalid.none ends end_has_none in
+      let l = ap (length {A = ℕ}) same.1 in
+      let some = invalid.some in
+      absurd (omega arith)
+
+  last_open : (ys : List Exchange) (y : Exchange) → AllByRecursion IsOpen (ys ++ y ∷ []) → is_closed y ≡ false
+  last_open [] y o = o.0
+  last_open (x ∷ ys) y o = last_open ys y o.1
+
+  invalid_not_closing : IsInvalid setup before.disk a → ServedClosing setup before after → ⊥
+  invalid_not_closing invalid v =
+      let both = told_after before.source.bytes after.source.bytes _ a v.serving.requests told in
+      let c = compare a (v.held ++ both.0) invalid.rest v.serving.heads invalid.heads both.2 invalid.requests invalid.none in
+      let o = invalid.stay v.serving.heads c.0 c.1 v.exchanges _ v.serving.played v.serving.alike in
+      let (ys, y, are, others, closed) = v.serving.follow in
+      absurd (true≢false (sym closed ∙ last_open ys y (subst (λ z. AllByRecursion IsOpen z) are o)))
+
+well_not_rose : (n m : ℕ) → RefusedNothing n m → Rose n m → ⊥
+well_not_rose n m w (inl less) = let e = w.same in absurd (omega arith)
+well_not_rose n m w (inr most) = let e = w.room in absurd (omega arith)
+
+not_stopped : (n : ℕ) → (n ≡ 0) ⊎ (n ≡ 6) → IsStopped n → ⊥
+not_stopped n (inl zero') (inl three) = absurd (omega arith)
+not_stopped n (inl zero') (inr (inl four)) = absurd (omega arith)
+not_stopped n (inl zero') (inr (inr (inl five))) = absurd (omega arith)
+not_stopped n (inl zero') (inr (inr (inr seven))) = absurd (omega arith)
+not_stopped n (inr six) (inl three) = absurd (omega arith)
+not_stopped n (inr six) (inr (inl four)) = absurd (omega arith)
+not_stopped n (inr six) (inr (inr (inl five))) = absurd (omega arith)
+not_stopped n (inr six) (inr (inr (inr seven))) = absurd (omega arith)
+
+-- by the end
+module _ (setup : Setup) (before after : Outside) (a : List ℕ) (told : before.source.bytes ≡ Some a) where
+  valid_by : (end : Ending) → EndsBy setup before after end → IsValid setup before.disk a → (status_of end ≡ 0) ⊎ IsStopped (status_of end)
+  valid_by Over v valid = inl refl
+  valid_by Closed v valid = inl refl
+  valid_by SourceFailed v valid = inr (inl refl)
+  valid_by SinkFailed v valid = inr (inr (inl refl))
+  valid_by DiskFailed v valid = inr (inr (inr (inl refl)))
+  valid_by TooMuch v valid = inr (inr (inr (inr refl)))
+  valid_by Refused v valid = absurd (valid_not_refused setup before after a told valid v)
+  valid_by Unfinished v valid = absurd (valid_not_unfinished setup before after a told valid v)
+
+  invalid_by : (end : Ending) → EndsBy setup before after end → IsInvalid setup before.disk a → (status_of end ≡ 6) ⊎ IsStopped (status_of end)
+  invalid_by Over v invalid = absurd (invalid_not_all setup before after a told invalid v)
+  invalid_by Closed v invalid = absurd (invalid_not_closing setup before after a told invalid v)
+  invalid_by SourceFailed v invalid = inr (inl refl)
+  invalid_by SinkFailed v invalid = inr (inr (inl refl))
+  invalid_by DiskFailed v invalid = inr (inr (inr (inl refl)))
+  invalid_by TooMuch v invalid = inr (inr (inr (inr refl)))
+  invalid_by Refused v invalid = inl refl
+  invalid_by Unfinished v invalid = inl refl
+
+  stopped_by : (end : Ending) → EndsBy setup before after end → length a < 2 ^ 60 → Faultless before after → IsStopped (status_of end) → ⊥
+  stopped_by Over v few well stopped = not_stopped 0 (inl refl) stopped
+  stopped_by Closed v few well stopped = not_stopped 0 (inl refl) stopped
+  stopped_by Refused v few well stopped = not_stopped 6 (inr refl) stopped
+  stopped_by Unfinished v few well stopped = not_stopped 6 (inr refl) stopped
+  stopped_by SourceFailed v few well stopped = well_not_rose before.source.faults after.source.faults well.by_source v.0
+  stopped_by SinkFailed v few well stopped = well_not_rose before.sink.faults after.sink.faults well.by_sink v.0
+  stopped_by DiskFailed v few well stopped = well_not_rose before.disk.faults after.disk.faults well.by_disk v.0
+  stopped_by TooMuch v few well stopped =
+      let took = told_after before.source.bytes after.source.bytes (λ x y. length x ≡ 2 ^ 60 + length y) a v.0 told in
+      let n = took.2 in
+      absurd (omega arith)
+
+status_by : (setup : Setup) (before after : Outside) (end : Ending) → EndsBy setup before after end → StatusIs setup before after (status_of end)
+status_by setup before after end v = record {
+  valid = λ a told valid. valid_by setup before after a told end v valid;
+  left = λ a told left. valid_by setup before after a told end v (left_valid setup before.disk a left);
+  invalid = λ a told invalid. invalid_by setup before after a told end v invalid;
+  goes_on = λ a told few well stopped. stopped_by setup before after a told end v few well stopped;
+}
+
+-- by the end of a run
+pub completes : (setup : Setup) (before after : Outside) (status : ℕ) (end : Ending) → status ≡ status_of end → EndsBy setup before after end → StatusIs setup before after status
+completes setup before after status end same v = subst (λ z. StatusIs setup before after z) (sym same) (status_by setup before after end v)

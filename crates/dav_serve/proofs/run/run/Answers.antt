@@ -1,0 +1,14 @@
+use Rattle.std.proofs.Common.{◌≡◌, ◌∙◌, Option, Some, option_map, IfSome, sym, ap, subst, refl}
+use Rattle.dav_serve.proofs.StatusByInput.{completes}
+use Rattle.dav_serve.proofs.run.run.Goals as goal
+
+-- what the words set, by what was read of them
+said_as : {A B : Type 0} (f : A → B) (read : Option A) (said : Option B) → option_map f read ≡ said → (x : A) → read ≡ Some x → said ≡ Some (f x)
+said_as f read said e x is = sym e ∙ ap (option_map f) is
+
+for_said : {B : Type 0} (P : B → Type 0) (said : Option B) (x : B) → said ≡ Some x → P x → IfSome said P
+for_said P said x e p = subst (λ z. IfSome z P) (sym e) p
+
+pub returns-in-Ok-clause-complete : goal.returns-in-Ok-clause-complete
+returns-in-Ok-clause-complete g c =
+    for_said _ _ _ (said_as _ _ _ c.options_said.ensures _ c.in-Some.is) (completes _ _ _ _ c.in-Ok.ending c.status.ensures c.in-Ok.ensures.ends)

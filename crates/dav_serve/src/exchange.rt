@@ -1,0 +1,153 @@
+// One request, and all that is answered to it.
+ghost use Rattle.std.specs.Prelude.{◌≡◌, ◌+◌, ◌<◌, ◌^◌, IfOk, OnErr};
+ghost use Rattle.http.specs.Request.{head_of};
+ghost use Rattle.dav_handler.specs.Player.{stage_of};
+ghost use Rattle.dav_wire.specs.Framing.{takes_chunks as the_takes_chunks};
+ghost use Rattle.dav_serve.specs.Exchange.{ClosesAfter};
+ghost use Rattle.dav_serve.specs.Ends.{EndsBody, Exchanges, IsAt, MemoryStopped, ended_by};
+ghost use Rattle.dav_serve.specs.Stages.{outlet_of, work_of};
+
+use crate::turns::{poll_turn, request_turn};
+use dav_core::Disk;
+use dav_handler::{Answer, Player, announces_body};
+use dav_io::{Field, Moment, NoMemory, Octets, Sink};
+use dav_wire::{
+    Framing, Output, answer_head, asks_close, framing, is_old, says_close, takes_chunks,
+};
+use http::Request;
+use http::request::Parts;
+use std::alloc::Global;
+
+/// How an exchange ended.
+#[derive(Clone, Copy, Debug, PartialEq, Eq)]
+pub enum Ended {
+    /// All is written, and another request may follow.
+    Open,
+    /// All is written, and nothing more is read.
+    Closed,
+    /// The sink failed.
+    SinkFailed,
+    /// The body broke.
+    Broke,
+}
+
+/// How a request is answered, by its head.
+#[derive(Clone, Copy, Debug, PartialEq, Eq)]
+pub struct Manner {
+    /// Whether the connection closes behind the answer.
+    pub closing: bool,
+    /// Whether a body without a length is written in chunks.
+    pub chunks: bool,
+}
+
+/// How a request with this head is answered.
+pub fn manner_of(parts: &Parts) -> Manner
+    ensures closing { ClosesAfter parts.now result.closing }
+    ensures chunks { result.chunks ≡ the_takes_chunks parts.now }
+{
+    Manner {
+        closing: closes_after(parts),
+        chunks: takes_chunks(parts),
+    }
+}
+
+// Whether the connection closes behind the answer, whatever that is.
+fn closes_after(parts: &Parts) -> bool
+    ensures { ClosesAfter parts.now result }
+{
+    if is_old(parts.version) {
+        return true;
+    }
+    if announces_body(&parts.headers) {
+        return true;
+    }
+    asks_close(&parts.headers)
+}
+
+/// Answers one request, and gives the answer to the output as it comes. What the output holds then is for the caller to
+/// flush.
+pub fn exchange<K: Sink, D: Disk>(
+    alloc: Global,
+    player: &mut Player<D>,
+    output: &mut Output,
+    sink: &mut K,
+    now: Moment,
+    manner: Manner,
+    request: Request<Octets>,
+) -> Result<Ended, NoMemory>
+    requires replies { player.old.replies + 4 < 2 ^ 32 }
+    requires chunks { manner.chunks ≡ the_takes_chunks (head_of request) }
+    ensures loan { D.loan player.new.store.disk ≡ D.loan player.old.store.disk }
+    ensures ends { IfOk result (λ ended. Exchanges (IsAt request now manner.closing)
+        (work_of (K.stream sink.old) output.old (stage_of player.old)) ended
+        (work_of (K.stream sink.new) output.new (stage_of player.new))) }
+    ensures memory { OnErr result (MemoryStopped (IsAt request now manner.closing)
+        (work_of (K.stream sink.old) output.old (stage_of player.old))
+        (outlet_of (K.stream sink.new) output.new) (stage_of player.new).at) }
+{
+    let reply = match request_turn(player, now, request) {
+        Ok(reply) => reply,
+        Err(error) => return Err(error),
+    };
+    let way = framing(manner.chunks, reply.status, reply.headers.as_slice());
+    let head = match answer_head(
+        alloc,
+        reply.status,
+        reply.headers.as_slice(),
+        manner.closing,
+        way,
+    ) {
+        Ok(head) => head,
+        Err(error) => return Err(error),
+    };
+    match output.push(sink, head.as_slice()) {
+        Ok(()) => {}
+        Err(_) => return Ok(Ended::SinkFailed),
+    }
+    'pieces: loop {
+        let answer = match poll_turn(player, reply.body) {
+            Ok(answer) => answer,
+            Err(error) => return Err(error),
+        };
+        match answer {
+            Answer::Piece(piece) => match output.push_piece(sink, way, piece.as_slice()) {
+                Ok(()) => {}
+                Err(_) => return Ok(Ended::SinkFailed),
+            },
+            Answer::End => {
+                return Ok(ends_body(output, sink, way, manner.closing, reply.headers.as_slice()));
+            }
+            _ => return Ok(Ended::Broke),
+        }
+    }
+}
+
+// Writes what ends a body, and tells whether another request may follow.
+fn ends_body<K: Sink>(
+    output: &mut Output,
+    sink: &mut K,
+    way: Framing,
+    closing: bool,
+    fields: &[Field],
+) -> Ended
+    ensures { EndsBody way closing fields.now (outlet_of (K.stream sink.old) output.old) result
+        (outlet_of (K.stream sink.new) output.new) }
+{
+    match output.push_end(sink, way) {
+        Ok(()) => what_follows(closing, fields),
+        Err(_) => Ended::SinkFailed,
+    }
+}
+
+// Whether another request may follow an answer.
+fn what_follows(closing: bool, fields: &[Field]) -> Ended
+    ensures { result ≡ ended_by closing fields.now }
+{
+    if closing {
+        return Ended::Closed;
+    }
+    if says_close(fields) {
+        return Ended::Closed;
+    }
+    Ended::Open
+}

@@ -1,0 +1,96 @@
+//! Laws over the exchanges that `run` answers: of their heads, of their bodies, and where these end. Each function does
+//! nothing; its contract is the law.
+ghost use Rattle.dav_model.specs.Play.{Stage};
+ghost use Rattle.std.specs.Prelude.{◌≡◌, ◌++◌, ℕ, Bool, List, [], ◌∷◌, All, true, false, codes, decimal, Option, Result, Ok, length};
+ghost use Rattle.std.specs.List.{AllByRecursion, concat, flat_map};
+ghost use Rattle.httparse.specs.Grammar.{RequestHead};
+ghost use Rattle.dav_io.specs.Outside.{Stream};
+ghost use Rattle.dav_io.specs.declared.clock.Moment.{Moment};
+ghost use Rattle.dav_io.specs.declared.failure.NoMemory.{NoMemory};
+ghost use Rattle.dav_model.specs.declared.answer.Answer.{Answer};
+ghost use Rattle.dav_model.specs.declared.answer.Answer.TheVariants.{Broken, Done};
+ghost use Rattle.dav_model.specs.declared.step.Step.{Step};
+ghost use Rattle.dav_model.specs.Announced.{bytes_in, length_is_own};
+ghost use Rattle.dav_model.specs.Trail.{target_of};
+ghost use Rattle.dav_wire.specs.AnswerHeads.{ReadsAnswer};
+ghost use Rattle.dav_wire.specs.Answers.{bad_request_text, close_field, head_text};
+ghost use Rattle.dav_wire.specs.Chunks.{written, ending, HasBody};
+ghost use Rattle.dav_wire.specs.declared.chunks.Framing.TheVariants.{Raw, Chunked};
+ghost use Rattle.dav_serve.specs.Bodies.{Announces, AnnouncesMore, GivesAnnounced, IsBodiless, IsHeadAlone, IsNonempty, IsShort, TellsEnd};
+ghost use Rattle.dav_serve.specs.Exchange.{Exchange, IsOf, begun_answers, framing_of, steps_of, answers_of, wire_of};
+ghost use Rattle.dav_serve.specs.Heads.{HasHead};
+ghost use Rattle.dav_serve.specs.Serving.{Setup, Serving, ServedSoFar, Owes};
+ghost use Rattle.dav_serve.specs.Stages.{Outside, PlayedOn};
+
+/// Where the field `content-length` of an answer speaks of the body that is sent, its value is the number of the bytes
+/// behind the head, whatever happens to the files meanwhile, and whether the disk tells of them or not. To a HEAD, and
+/// with 304, it speaks of a body that isn't sent, and there are no pieces (RFC 9110, section 8.6).
+pub fn answers_have_the_announced_length()
+    ensures length { (a b : Stage) (x : Exchange) (value : List ℕ) → PlayedOn a (steps_of x) (answers_of x) (Ok tt) b
+        → length_is_own (target_of a.playing.rules x.request) x.status ≡ true → Announces x value → value ≡ decimal (bytes_in x.pieces) }
+    ensures none { (a b : Stage) (x : Exchange) → PlayedOn a (steps_of x) (answers_of x) (Ok tt) b
+        → length_is_own (target_of a.playing.rules x.request) x.status ≡ false → x.pieces ≡ [] }
+    ensures written { (x : Exchange) (value : List ℕ) → Announces x value
+        → wire_of x ≡ head_text x.status x.fields x.closing Raw ++ concat x.pieces }
+    ensures counted { (x : Exchange) → bytes_in x.pieces ≡ length (concat x.pieces) }
+{}
+
+/// A body that broke has fewer bytes than are announced, so that a client sees that it isn't whole, and takes nothing of it
+/// for another answer. None breaks where the field speaks of a body that isn't sent.
+pub fn broken_answers_are_no_longer()
+    ensures shorter { (a b : Stage) (x : Exchange) (value : List ℕ) → PlayedOn a (steps_of x) (begun_answers x ++ Done ∷ Broken ∷ []) (Ok tt) b
+        → length_is_own (target_of a.playing.rules x.request) x.status ≡ true → Announces x value → AnnouncesMore value (bytes_in x.pieces) }
+    ensures never { (a b : Stage) (x : Exchange) → PlayedOn a (steps_of x) (begun_answers x ++ Done ∷ Broken ∷ []) (Ok tt) b
+        → length_is_own (target_of a.playing.rules x.request) x.status ≡ false → ⊥ }
+{}
+
+/// The body of an answer in chunks, as it is written, is read back as the bytes of its pieces, whatever follows, and one
+/// that isn't in chunks is these bytes. No piece is empty, whether the disk tells or not, and whatever comes behind the
+/// pieces (`full`): an empty chunk would end the body.
+///
+/// That a piece is short holds of all that stands in memory.
+pub fn answers_in_chunks_are_read_back()
+    ensures chunked { (a b : Stage) (x : Exchange) (behind : List ℕ) → PlayedOn a (steps_of x) (answers_of x) (Ok tt) b
+        → framing_of x ≡ Chunked → All IsShort x.pieces
+        → HasBody (flat_map (written (framing_of x)) x.pieces ++ (ending (framing_of x) ++ behind)) (concat x.pieces) behind }
+    ensures full { (a b : Stage) (x : Exchange) (last : Answer) → PlayedOn a (steps_of x) (begun_answers x ++ Done ∷ last ∷ []) (Ok tt) b
+        → All IsNonempty x.pieces }
+    ensures raw { (x : Exchange) (behind : List ℕ) → framing_of x ≡ Raw
+        → flat_map (written (framing_of x)) x.pieces ++ (ending (framing_of x) ++ behind) ≡ concat x.pieces ++ behind }
+{}
+
+/// Each answer tells its end: a client expects no body, or it is in chunks, or it says its length, or the version is 1.0
+/// and the connection closes behind it (RFC 9112, section 6.3). The answer to a HEAD, and one with 204 or 304, is its head
+/// alone.
+pub fn framed_answers_end()
+    ensures tells { (shown : Option Moment) (head : RequestHead) (x : Exchange) → IsOf shown head x → TellsEnd x }
+    ensures alone { (a b : Stage) (x : Exchange) → PlayedOn a (steps_of x) (answers_of x) (Ok tt) b
+        → IsBodiless x → IsHeadAlone x }
+{}
+
+/// All exchanges that a run answered give what they announce, and tell their end. None has an empty piece, and bodies in
+/// chunks are read back.
+pub fn served_answers_give_what_they_announce()
+    ensures { (setup : Setup) (closed : Bool) (before : Outside) (source : Stream) (held : List ℕ) (xs : List Exchange) (last : Stage)
+        → Serving setup closed before source held xs last → AllByRecursion (GivesAnnounced setup.rules) xs }
+{}
+
+/// The head of each answer that a run writes is read back as one response head, whatever follows: with exactly its status
+/// and its fields, in order and none of them twice, and behind it stands its body (`served`). The same holds of an answer
+/// whose body breaks, or behind whose reply memory is refused (`begun`), and of the refusal of what is no request. So
+/// nothing that a disk tells splits an answer or brings a field into it; by `answer_heads_are_one` of `dav_wire` nothing
+/// else is read there.
+pub fn heads_are_read_back()
+    ensures served { (setup : Setup) (closed : Bool) (before : Outside) (source : Stream) (held : List ℕ) (xs : List Exchange) (last : Stage)
+        → Serving setup closed before source held xs last → AllByRecursion HasHead xs }
+    ensures begun { (a b : Stage) (x : Exchange) (steps : List Step) (behind : List Answer) (result : Result Unit NoMemory)
+        → PlayedOn a steps (begun_answers x ++ behind) result b → HasHead x }
+    ensures refusal { (behind : List ℕ) → ReadsAnswer (bad_request_text ++ behind) 400
+        (close_field ∷ record { name = codes "content-length"; value = codes "0" } ∷ []) behind }
+{}
+
+/// A client that waits for its answer isn't asked meanwhile: where a whole request was taken, and nothing was written, not
+/// all is served that may be. So a client may be one that is asked only where something was written since its first request.
+pub fn an_owed_answer_is_not_so_far()
+    ensures { (setup : Setup) (before now : Outside) → Owes before now → ServedSoFar setup before now → ⊥ }
+{}

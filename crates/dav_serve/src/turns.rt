@@ -1,0 +1,88 @@
+// Steps of the player, a few at a time.
+ghost use Rattle.std.specs.Prelude.{◌≡◌, ◌+◌, ◌<◌, ◌≤◌, ◌^◌, ◌∷◌, [], IfOk, OnOk, OnErr, Ok};
+ghost use Rattle.dav_handler.specs.Player.{stage_of};
+ghost use Rattle.dav_serve.specs.Exchange.{IsReply};
+ghost use Rattle.dav_serve.specs.Stages.{PlayedOn, RefusedAt};
+ghost use Rattle.dav_model.specs.declared.step.Step.TheVariants.{Poll, Purge, Request as Asks, Turn};
+ghost use Rattle.dav_model.specs.declared.answer.Answer.TheVariants.{Done, Reply as Replied};
+
+use dav_core::Disk;
+use dav_handler::{Answer, Player, Step};
+use dav_io::{Fields, Moment, NoMemory, Octets};
+use http::Request;
+
+/// A reply: its status, its fields and the number of its body.
+#[derive(Drop)]
+pub struct Reply {
+    pub status: u16,
+    pub headers: Fields,
+    pub body: u32,
+}
+
+/// A turn of the outside and a poll.
+pub fn poll_turn<D: Disk>(player: &mut Player<D>, body: u32) -> Result<Answer, NoMemory>
+    requires { player.old.replies + 2 < 2 ^ 32 }
+    ensures loan { D.loan player.new.store.disk ≡ D.loan player.old.store.disk }
+    ensures replies { OnOk result (player.new.replies ≤ player.old.replies) }
+    ensures played { IfOk result (λ a. PlayedOn (stage_of player.old)
+        (Turn ∷ Poll body ∷ []) (Done ∷ a ∷ []) (Ok tt) (stage_of player.new)) }
+    ensures refused { OnErr result (RefusedAt (stage_of player.old)
+        (Turn ∷ Poll body ∷ []) (stage_of player.new)) }
+{
+    match player.step(&Step::Turn) {
+        Ok(_) => {}
+        Err(error) => return Err(error),
+    }
+    match player.step(&Step::Poll(body)) {
+        Ok(answer) => Ok(answer),
+        Err(error) => Err(error),
+    }
+}
+
+/// A turn of the outside, a purge and a request.
+pub fn request_turn<D: Disk>(
+    player: &mut Player<D>,
+    now: Moment,
+    request: Request<Octets>,
+) -> Result<Reply, NoMemory>
+    requires { player.old.replies + 3 < 2 ^ 32 }
+    ensures loan { D.loan player.new.store.disk ≡ D.loan player.old.store.disk }
+    ensures replies { OnOk result (player.new.replies ≤ player.old.replies + 1) }
+    ensures played { IfOk result (λ r. PlayedOn (stage_of player.old)
+        (Turn ∷ Purge now ∷ Asks request now ∷ []) (Done ∷ Done ∷ Replied r.status r.headers r.body ∷ []) (Ok tt)
+        (stage_of player.new)) }
+    ensures refused { OnErr result (RefusedAt (stage_of player.old)
+        (Turn ∷ Purge now ∷ Asks request now ∷ []) (stage_of player.new)) }
+{
+    match player.step(&Step::Turn) {
+        Ok(_) => {}
+        Err(error) => return Err(error),
+    }
+    match player.step(&Step::Purge(now)) {
+        Ok(_) => {}
+        Err(error) => return Err(error),
+    }
+    match player.step(&Step::Request { request, now }) {
+        Ok(answer) => Ok(into_reply(answer)),
+        Err(error) => Err(error),
+    }
+}
+
+// The reply that an answer is.
+fn into_reply(answer: Answer) -> Reply
+    requires { IsReply answer }
+    ensures { answer ≡ Replied result.status result.headers result.body }
+{
+    match answer {
+        Answer::Reply {
+            status,
+            headers,
+            body,
+        } => Reply {
+            status,
+            headers,
+            body,
+        },
+        _ => unreachable!(),
+    }
+}

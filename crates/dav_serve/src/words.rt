@@ -1,0 +1,164 @@
+// The words of the command line.
+ghost use Rattle.std.specs.Prelude.{◌≡◌, IfOk, None, map, option_map, string_bytes};
+ghost use Rattle.dav_model.specs.Unset.{nothing_set};
+ghost use Rattle.dav_serve.specs.Words.{is_pages as the_is_pages, options_set, set_by, settings_said as the_settings_said, size_said as the_size_said, with_buffer as the_with_buffer, with_index as the_with_index, with_pages as the_with_pages, with_value as the_with_value};
+ghost use Rattle.std.specs.Option.{option_and_then};
+ghost use Rattle.dav_serve.specs.Words.{name_said};
+
+use dav_core::is_plain;
+use dav_handler::Settings;
+use dav_io::{NoMemory, Text};
+use std::alloc::Global;
+
+// The most bytes that a read buffer may have.
+const MOST_BUFFER: usize = 1_048_576;
+
+/// What the options of the command line set.
+#[derive(Clone, Copy)]
+pub struct Options<'a> {
+    /// A directory is answered with a page of its entries.
+    pub autoindex: bool,
+    /// The name of the file that stands for its directory.
+    pub indexfile: Option<&'a str>,
+    /// The most bytes of a file in one piece of a body; 0 is the default, as is none.
+    pub bufsize: Option<usize>,
+}
+
+impl Options<'_> {
+    /// The settings that they make.
+    pub fn settings(&self, alloc: Global) -> Result<Settings, NoMemory>
+        ensures { IfOk result (λ settings. settings ≡ set_by self.now) }
+    {
+        let mut settings = Settings::defaults(alloc);
+        if self.autoindex {
+            settings.autoindex = Some(true);
+        }
+        if let Some(name) = self.indexfile {
+            settings.indexfile = Some(Text::copy(alloc, name)?);
+        }
+        settings.read_buf_size = self.bufsize;
+        Ok(settings)
+    }
+}
+
+/// What the words behind the program's name set, which are `ROOT serve` with a root that isn't empty, and options. None
+/// where they aren't understood.
+pub fn options_said(words: &[String]) -> Option<Options<'_>>
+    ensures { option_map set_by result ≡ the_settings_said words.now }
+{
+    match words {
+        [root, verb, options @ ..] => {
+            if root.as_str().is_empty() {
+                return None;
+            }
+            if verb.as_str() != "serve" {
+                return None;
+            }
+            let none = Options {
+                autoindex: false,
+                indexfile: None,
+                bufsize: None,
+            };
+            options_behind(&none, options)
+        }
+        _ => None,
+    }
+}
+
+// What options set besides. Each call sets something that wasn't set, so few calls stand in one another.
+fn options_behind<'a>(options: &Options<'a>, words: &'a [String]) -> Option<Options<'a>>
+    ensures { option_map set_by result ≡ options_set (set_by options.now) None (map string_bytes words.now) }
+{
+    let Some((word, behind)) = words.split_first() else {
+        return Some(*options);
+    };
+    if word.as_str() == "--autoindex" {
+        let options = with_pages(options)?;
+        return options_behind(&options, behind);
+    }
+    let Some((value, rest)) = behind.split_first() else {
+        return None;
+    };
+    let options = with_value(options, word.as_str(), value.as_str())?;
+    options_behind(&options, rest)
+}
+
+// Index pages besides, where they weren't asked for before.
+fn with_pages<'a>(options: &Options<'a>) -> Option<Options<'a>>
+    ensures { option_map set_by result ≡ the_with_pages (set_by options.now) }
+{
+    if options.autoindex {
+        return None;
+    }
+    Some(Options {
+        autoindex: true,
+        indexfile: options.indexfile,
+        bufsize: options.bufsize,
+    })
+}
+
+// What an option sets besides, by the value behind it.
+fn with_value<'a>(options: &Options<'a>, option: &str, value: &'a str) -> Option<Options<'a>>
+    ensures { option_map set_by result ≡ the_with_value (set_by options.now) option.now value.now }
+{
+    if option == "--indexfile" {
+        return with_index(options, value);
+    }
+    if option == "--bufsize" {
+        return with_buffer(options, value);
+    }
+    None
+}
+
+// A plain name for the index file besides, where none was said before.
+fn with_index<'a>(options: &Options<'a>, name: &'a str) -> Option<Options<'a>>
+    ensures { option_map set_by result ≡ option_and_then (the_with_index (set_by options.now)) (name_said name.now) }
+{
+    if !is_plain(name.as_bytes()) {
+        return None;
+    }
+    if options.indexfile.is_some() {
+        return None;
+    }
+    Some(Options {
+        autoindex: options.autoindex,
+        indexfile: Some(name),
+        bufsize: options.bufsize,
+    })
+}
+
+// A size of the read buffer besides, where none was said before.
+fn with_buffer<'a>(options: &Options<'a>, word: &str) -> Option<Options<'a>>
+    ensures { option_map set_by result ≡ option_and_then (the_with_buffer (set_by options.now)) (the_size_said word.now) }
+{
+    let size = size_said(word)?;
+    if options.bufsize.is_some() {
+        return None;
+    }
+    Some(Options {
+        autoindex: options.autoindex,
+        indexfile: options.indexfile,
+        bufsize: Some(size),
+    })
+}
+
+// The size that a word says, in decimal digits without sign and leading zeros.
+fn size_said(word: &str) -> Option<usize>
+    ensures { result ≡ the_size_said word.now }
+{
+    let bytes = word.as_bytes();
+    if bytes.is_empty() {
+        return None;
+    }
+    // `parse` takes a sign and leading zeros, too.
+    if bytes[0] == b'+' {
+        return None;
+    }
+    if bytes[0] == b'0' && bytes.len() > 1 {
+        return None;
+    }
+    match word.parse::<usize>() {
+        Ok(size) if size <= MOST_BUFFER => Some(size),
+        _ => None,
+    }
+}
