@@ -1,6 +1,8 @@
-use crate::Names;
 use dav_core::{FileTime, FsPath};
-use dav_io::Text;
+use dav_io::{Items, Text};
+
+/// Names in their order.
+pub type Names = Items<Text>;
 
 /// A listing from its Before to its Seal.
 #[derive(Drop)]

@@ -1,10 +1,9 @@
 //! What calendar and address book filters share.
-ghost use Rattle.std.specs.Prelude.{◌≡◌, [], ◌∷◌, ◌++◌, IfOk, OnOk, OnErr, false};
+ghost use Rattle.std.specs.Prelude.{◌≡◌, [], IfOk, false};
 
-use dav_io::{NoMemory, Text};
+use dav_io::{Items, NoMemory, Text, TryClone};
 use dav_lock::copy_text;
 use std::alloc::Global;
-use std::marker::Model;
 
 /// The text that a property or a parameter is compared with (RFC 4791 section 9.7.5, RFC 6352 section 10.5.4).
 #[derive(Drop)]
@@ -79,9 +78,10 @@ impl ParameterFilter {
             text_match: None,
         })
     }
+}
 
-    /// An equal filter. It may be refused for want of memory.
-    pub fn try_clone(&self) -> Result<Self, NoMemory>
+impl TryClone for ParameterFilter {
+    fn try_clone(&self) -> Result<Self, NoMemory>
         ensures { IfOk result (λ copy. copy ≡ self.now) }
     {
         let name = self.name.try_clone()?;
@@ -94,63 +94,5 @@ impl ParameterFilter {
     }
 }
 
-/// Filters of parameters, in their order. A contract sees their list.
-#[derive(Drop)]
-pub struct ParameterFilters {
-    filters: Vec<ParameterFilter>,
-}
-
-impl Model for ParameterFilters {
-    ghost use Rattle.std.specs.Prelude.{List};
-    ghost use Rattle.dav_report.specs.declared.filters.ParameterFilter.{ParameterFilter};
-
-    ghost Value = { List ParameterFilter };
-
-    ghost view = { λ f. f.filters.items };
-}
-
-impl ParameterFilters {
-    /// These filters, in this order.
-    pub fn new(filters: Vec<ParameterFilter>) -> Self
-        ensures { result ≡ filters.items }
-    {
-        ParameterFilters { filters }
-    }
-
-    /// No filters yet, from this allocator on.
-    pub fn empty(alloc: Global) -> Self
-        ensures { result ≡ [] }
-    {
-        ParameterFilters {
-            filters: Vec::new(alloc),
-        }
-    }
-
-    /// The filters in their order.
-    pub fn as_slice(&self) -> &[ParameterFilter]
-        ensures { result.now ≡ self.now }
-    {
-        self.filters.as_slice()
-    }
-
-    /// Adds a filter after the others. Where memory is refused, nothing changes.
-    pub fn push(&mut self, filter: ParameterFilter) -> Result<(), NoMemory>
-        ensures ok { OnOk result (self.new ≡ self.old ++ filter ∷ []) }
-        ensures err { OnErr result (self.new ≡ self.old) }
-    {
-        self.filters.push(filter)?;
-        Ok(())
-    }
-
-    /// An equal list of filters. It may be refused for want of memory.
-    pub fn try_clone(&self) -> Result<Self, NoMemory>
-        ensures { IfOk result (λ copy. copy ≡ self.now) }
-    {
-        let alloc: Global = *self.filters.allocator();
-        let mut filters = Vec::new(alloc);
-        for filter in self.as_slice() {
-            filters.push(filter.try_clone()?)?;
-        }
-        Ok(ParameterFilters { filters })
-    }
-}
+/// Filters of parameters, in their order.
+pub type ParameterFilters = Items<ParameterFilter>;

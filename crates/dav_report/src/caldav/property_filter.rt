@@ -1,11 +1,9 @@
-ghost use Rattle.std.specs.Prelude.{◌≡◌, [], ◌∷◌, ◌++◌, IfOk, OnOk, OnErr};
+ghost use Rattle.std.specs.Prelude.{◌≡◌, IfOk};
 
 use crate::filters::copy_match;
 use crate::{ParameterFilters, TextMatch};
-use dav_io::{NoMemory, Text};
+use dav_io::{Items, NoMemory, Text, TryClone};
 use dav_lock::copy_text;
-use std::alloc::Global;
-use std::marker::Model;
 
 /// The times between two dates, in the form of RFC 4791 section 9.9. A side that isn't given is open.
 #[derive(Drop)]
@@ -46,9 +44,8 @@ pub struct PropertyFilter {
     pub param_filters: ParameterFilters,
 }
 
-impl PropertyFilter {
-    /// An equal filter. It may be refused for want of memory.
-    pub fn try_clone(&self) -> Result<Self, NoMemory>
+impl TryClone for PropertyFilter {
+    fn try_clone(&self) -> Result<Self, NoMemory>
         ensures { IfOk result (λ copy. copy ≡ self.now) }
     {
         let name = self.name.try_clone()?;
@@ -65,63 +62,5 @@ impl PropertyFilter {
     }
 }
 
-/// Filters of properties, in their order. A contract sees their list.
-#[derive(Drop)]
-pub struct PropertyFilters {
-    filters: Vec<PropertyFilter>,
-}
-
-impl Model for PropertyFilters {
-    ghost use Rattle.std.specs.Prelude.{List};
-    ghost use Rattle.dav_report.specs.declared.caldav.property_filter.PropertyFilter.{PropertyFilter};
-
-    ghost Value = { List PropertyFilter };
-
-    ghost view = { λ f. f.filters.items };
-}
-
-impl PropertyFilters {
-    /// These filters, in this order.
-    pub fn new(filters: Vec<PropertyFilter>) -> Self
-        ensures { result ≡ filters.items }
-    {
-        PropertyFilters { filters }
-    }
-
-    /// No filters yet, from this allocator on.
-    pub fn empty(alloc: Global) -> Self
-        ensures { result ≡ [] }
-    {
-        PropertyFilters {
-            filters: Vec::new(alloc),
-        }
-    }
-
-    /// The filters in their order.
-    pub fn as_slice(&self) -> &[PropertyFilter]
-        ensures { result.now ≡ self.now }
-    {
-        self.filters.as_slice()
-    }
-
-    /// Adds a filter after the others. Where memory is refused, nothing changes.
-    pub fn push(&mut self, filter: PropertyFilter) -> Result<(), NoMemory>
-        ensures ok { OnOk result (self.new ≡ self.old ++ filter ∷ []) }
-        ensures err { OnErr result (self.new ≡ self.old) }
-    {
-        self.filters.push(filter)?;
-        Ok(())
-    }
-
-    /// An equal list of filters. It may be refused for want of memory.
-    pub fn try_clone(&self) -> Result<Self, NoMemory>
-        ensures { IfOk result (λ copy. copy ≡ self.now) }
-    {
-        let alloc: Global = *self.filters.allocator();
-        let mut filters = Vec::new(alloc);
-        for filter in self.as_slice() {
-            filters.push(filter.try_clone()?)?;
-        }
-        Ok(PropertyFilters { filters })
-    }
-}
+/// Filters of properties, in their order.
+pub type PropertyFilters = Items<PropertyFilter>;

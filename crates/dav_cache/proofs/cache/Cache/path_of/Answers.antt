@@ -5,4 +5,4 @@ use Rattle.dav_cache.proofs.cache.Cache.path_of.Goals as goal
 
 pub returns-in_ok-try_clone-in-Some-clause-folds : goal.returns-in_ok-try_clone-in-Some-clause-folds
 returns-in_ok-try_clone-in-Some-clause-folds c =
-    looked-folds c.args.key.now _ c.self.inside.entries.entries c.self.invariant (ap Some c.in_ok-try_clone-in-Some.ensures ∙ ap (option_map (λ (e : PathEntry). e.path)) c.in-Some.ensures)
+    looked-folds c.args.key.now _ c.self.inside.entries.entries c.self.invariant (ap Some c.in_ok-try_clone-in-Some.ensures.copy ∙ ap (option_map (λ (e : PathEntry). e.path)) c.in-Some.ensures)
