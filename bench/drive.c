@@ -1,8 +1,8 @@
 /* Gives a program the same request many times over pipes, so many in flight, and reads the answers. It prints the
  * program's processor time in seconds and its peak memory in KiB.
- *   drive COUNT FLIGHT TARGET http|part|echo|all PROGRAM WORDS..
+ *   drive COUNT FLIGHT TARGET http|part|page|echo|all PROGRAM WORDS..
  * http: an answer is a head and as many bytes as its content-length says, and all are alike. part: so with 4 KiB from
- * the middle of 256 MiB. echo: it is the request.
+ * the middle of 256 MiB. page: it ends with the last chunk. echo: it is the request.
  * all: nothing is asked, and what the program writes is read to its end. */
 #define _GNU_SOURCE
 #include <stdio.h>
@@ -42,6 +42,22 @@ static long long take(void) {
   return taken;
 }
 
+/* Makes one request, and answers how many bytes its answer in chunks has. */
+static long long first_page(void) {
+  static const char last[] = "\r\n0\r\n\r\n";
+  char held[sizeof last - 1] = "";
+  long long got = 0;
+  send_requests(1);
+  while (memcmp(held, last, sizeof held) != 0) {
+    size_t count = (size_t)take();
+    got += (long long)count;
+    size_t fresh = count < sizeof held ? count : sizeof held;
+    memmove(held, held + fresh, sizeof held - fresh);
+    memcpy(held + sizeof held - fresh, in + count - fresh, fresh);
+  }
+  return got;
+}
+
 /* Makes one request, and answers how many bytes its answer has. */
 static long long first_answer(int is_echo) {
   char head[8192];
@@ -65,8 +81,8 @@ static long long first_answer(int is_echo) {
   return size;
 }
 
-static void serve_requests(long all, long flight, int is_echo) {
-  long long size = first_answer(is_echo), got = 0;
+static void serve_requests(long all, long flight, const char *kind) {
+  long long size = strcmp(kind, "page") == 0 ? first_page() : first_answer(strcmp(kind, "echo") == 0), got = 0;
   long sent = 0;
   while (got < size * (all - 1)) {
     long room = flight - (sent - (long)(got / size)), left = all - 1 - sent;
@@ -98,7 +114,7 @@ int main(int count, char **words) {
   if (strcmp(words[4], "all") == 0) {
     while (read(from, in, sizeof in) > 0) {}
   } else {
-    serve_requests(all, flight, strcmp(words[4], "echo") == 0);
+    serve_requests(all, flight, words[4]);
   }
   close(to);
   if (wait4(child, &status, 0, &used) < 0) fail("wait");

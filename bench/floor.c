@@ -1,7 +1,9 @@
 #define _GNU_SOURCE
-/* What serving a file over standard input and output costs by itself: GET of a regular file or of one range, nothing checked.
- * One buffer of 16 KiB; the head and the first bytes leave in one write. It is a yardstick and no server.
+/* What serving files over standard input and output costs by itself: GET of a regular file, of one range or of the page of a
+ * directory, nothing checked. One buffer of 16 KiB; the head and the first bytes leave in one write. It is a yardstick and
+ * no server.
  *   floor ROOT */
+#include <dirent.h>
 #include <fcntl.h>
 #include <stdio.h>
 #include <stdlib.h>
@@ -37,12 +39,68 @@ static size_t head_of(char *into, const struct stat *meta, long long first, long
       (long)(meta->st_mtim.tv_sec * 1000000 + meta->st_mtim.tv_nsec / 1000), date);
 }
 
+struct entry {
+  char *name;
+  long long size;
+  time_t time;
+};
+
+static int by_name(const void *one, const void *other) {
+  return strcmp(((const struct entry *)one)->name, ((const struct entry *)other)->name);
+}
+
+/* What waits to be written of a page. */
+static char page[PIECE + HEAD];
+static size_t waiting;
+
+static void give(const char *bytes, size_t count) {
+  memcpy(page + waiting, bytes, count);
+  waiting += count;
+  if (waiting > PIECE) write_all(page, waiting), waiting = 0;
+}
+
+/* The entries of a directory in order of their names, a chunk each. */
+static void list(int file, const char *target, int length) {
+  static const char head[] = "HTTP/1.1 200 OK\r\ncontent-type: text/html; charset=utf-8\r\ntransfer-encoding: chunked\r\n\r\n";
+  DIR *open_dir = fdopendir(file);
+  struct entry *entries = NULL;
+  size_t count = 0, room = 0;
+  for (struct dirent *found; (found = readdir(open_dir)) != NULL;) {
+    struct stat meta;
+    if (found->d_name[0] == '.' || fstatat(file, found->d_name, &meta, 0) != 0) continue;
+    if (count == room) entries = realloc(entries, (room = room * 2 + 64) * sizeof *entries);
+    entries[count++] = (struct entry){strdup(found->d_name), meta.st_size, meta.st_mtime};
+  }
+  qsort(entries, count, sizeof *entries, by_name);
+  give(head, sizeof head - 1);
+  for (size_t i = 0; i < count; i++) {
+    struct tm time;
+    char row[HEAD - 16], chunk[HEAD];
+    gmtime_r(&entries[i].time, &time);
+    int bytes = snprintf(row, sizeof row,
+        "<tr><td><a href=\"%.*s%s\">%s</a></td><td class=\"mono\">%04d-%02d-%02d %02d:%02d</td>"
+        "<td class=\"mono\" align=\"right\">%lld B</td></tr>",
+        length, target, entries[i].name, entries[i].name, time.tm_year + 1900, time.tm_mon + 1, time.tm_mday, time.tm_hour,
+        time.tm_min, entries[i].size);
+    give(chunk, (size_t)snprintf(chunk, sizeof chunk, "%x\r\n%s\r\n", (unsigned)bytes, row));
+    free(entries[i].name);
+  }
+  give("0\r\n\r\n", 5);
+  write_all(page, waiting), waiting = 0;
+  free(entries);
+  closedir(open_dir);
+}
+
 static void answer(const char *root, const char *target, int length, const char *range) {
   static char path[4096], out[HEAD + PIECE];
   struct stat meta;
   snprintf(path, sizeof path, "%s%.*s", root, length, target);
   int file = open(path, O_RDONLY);
   if (file < 0 || fstat(file, &meta) != 0) exit(5);
+  if (S_ISDIR(meta.st_mode)) {
+    list(file, target, length);
+    return;
+  }
   long long first = 0, last = meta.st_size - 1;
   if (range != NULL) {
     char *dash;
