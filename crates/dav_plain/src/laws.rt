@@ -16,7 +16,8 @@ use dav_store::{DavDirEntry, DavFile, GuardedFileSystem};
 /// world.
 pub fn shows_what_stands<D: Disk>(_fs: &PlainFs<D>, _path: &DavPath)
     ensures { (w : World) → (D.state _fs.now.disk).told ≡ Some w → is_linked w.tree _path.now.names ≡ false
-        → Shows (the_view ⟦<PlainFs<D> as GuardedFileSystem<()>>⟧ D.Disk ⟦<PlainFile as DavFile<D>>⟧) _fs.now tt _path.now (looked w _path.now) (opened w _path.now) }
+        → Shows (the_view ⟦<PlainFs<D> as GuardedFileSystem<()>>⟧ D.Disk ⟦<PlainFile as DavFile<D>>⟧) _fs.now tt
+        _path.now (looked w _path.now) (opened w _path.now) }
 {}
 
 /// Where the disk tells its world, and no link stands on the way to a directory or at one of its members, the store shows
@@ -30,6 +31,6 @@ pub fn shows_the_members<D: Disk>(_fs: &PlainFs<D>, _path: &DavPath)
 
 /// Where the disk tells its world, an open file has the bytes that stand under its number.
 pub fn files_have_their_bytes<D: Disk>(_disk: &D, _file: &PlainFile)
-    ensures { (w : World) (f : Seen) → (D.state _disk.now).told ≡ Some w → seen_at (D.state _disk.now) _file.now.handle.0 ≡ Some f
-        → f.stands.bytes ≡ bytes_of w f.stands.number }
+    ensures { (w : World) (f : Seen) → (D.state _disk.now).told ≡ Some w
+        → seen_at (D.state _disk.now) _file.now.handle.0 ≡ Some f → f.stands.bytes ≡ bytes_of w f.stands.number }
 {}

@@ -6,3 +6,5 @@ pub mod Bodies
 pub mod View
 pub mod Shows
 pub mod Members
+pub mod Void
+pub mod OneBody

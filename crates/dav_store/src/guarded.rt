@@ -5,7 +5,8 @@ ghost use Rattle.dav_core.specs.declared.error.FsError.{FsError};
 ghost use Rattle.dav_core.specs.declared.handle.OpenOptions.{OpenOptions};
 ghost use Rattle.dav_core.specs.DavPath.{WebPath};
 ghost use Rattle.dav_core.specs.Info.{Info};
-ghost use Rattle.dav_core.specs.Unchanged.{Keeps};
+ghost use Rattle.dav_core.specs.Unchanged.{Keeps, SameBesidesOpens};
+ghost use Rattle.dav_io.specs.Told.{Both};
 ghost use Rattle.dav_store.specs.Standing.{info_in};
 ghost use Rattle.dav_store.specs.Frames.{KeepsOpen, OpensOne};
 ghost use Rattle.dav_store.specs.Listings.{EndsList, GoesOn, HasLister, ListsOne, Nearer, left_of};
@@ -91,6 +92,7 @@ pub trait GuardedFileSystem<C> {
     /// Sets the moment by which its memory judges what is too old.
     fn set_now(&mut self, now: Moment)
         ensures done { self.new ≡ with_now self.old now }
+        ensures admits { admits self.old → admits self.new }
         ensures disk { inside self.new ≡ inside self.old };
 
     /// Whether names that fold alike are one.
@@ -200,7 +202,8 @@ pub trait GuardedFileSystem<C> {
     /// Putting inside what is inside changes nothing.
     ghost puts_back: { (s : Self) → with_disk s (inside s) ≡ s };
 
-    /// A disk put inside that has the same tree keeps what the store may remember.
-    ghost admits_lent: { (s : Self) (d : Self.Disk) → Keeps (Self.Disk.state (inside s)) (Self.Disk.state d)
+    /// A disk put inside whose told world has the same tree, script and bytes keeps what the store may remember.
+    ghost admits_lent: { (s : Self) (d : Self.Disk)
+        → Both (Self.Disk.state (inside s)).told (Self.Disk.state d).told SameBesidesOpens
         → admits s → admits (with_disk s d) };
 }

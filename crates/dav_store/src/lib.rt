@@ -3,19 +3,27 @@
 #![tactic(auto)]
 
 mod body_reader;
+mod empty_meta;
 mod entry;
 mod file;
 mod guarded;
 mod members;
+mod no_disk;
+mod one_body;
 mod through;
 mod unguarded;
-mod walk;
+mod void_fs;
+mod void_parts;
 
 pub use body_reader::BodyReader;
+pub use empty_meta::EmptyMetaData;
 pub use entry::{DavDirEntry, ReadDirMeta};
 pub use file::DavFile;
 pub use guarded::GuardedFileSystem;
 pub use members::read_members;
+pub use no_disk::NoDisk;
+pub use one_body::OneBody;
 pub use through::{entry_metadata, file_close, file_metadata, file_read, file_seek};
 pub use unguarded::DavFileSystem;
-pub use walk::count_entries;
+pub use void_fs::{VoidFs, is_voidfs};
+pub use void_parts::{VoidDir, VoidEntry, VoidFile};

@@ -84,7 +84,8 @@ fn read_on<S: GuardedFileSystem<C>, C>(
     ensures live { HasLister (S.Disk.state (S.inside fs.new)) (S.lister dir.new) }
     ensures admits { S.admits fs.new }
     ensures lister { S.lister dir.new ≡ S.lister dir.old }
-    ensures keeps { KeepsButLister (S.lister dir.old) (S.Disk.state (S.inside fs.old)) (S.Disk.state (S.inside fs.new)) }
+    ensures keeps { KeepsButLister (S.lister dir.old) (S.Disk.state (S.inside fs.old))
+        (S.Disk.state (S.inside fs.new)) }
     ensures error { IfErr result (λ e. e ≡ FsError.NoMemory) }
     ensures loan { S.Disk.loan (S.inside fs.new) ≡ S.Disk.loan (S.inside fs.old) }
 {
