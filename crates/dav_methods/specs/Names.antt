@@ -1,5 +1,5 @@
 -- The names of the fields that carry preconditions.
-use Rattle.std.specs.Prelude.{◌==◌, ◌&&◌, ℕ, Bool, false, List, [], ◌∷◌}
+use Rattle.std.specs.Prelude.{◌==◌, ◌&&◌, ℕ, Bool, false, List, ◌∷◌}
 
 -- `if-` stands before each of them
 abbrev pub begins_with_if : List ℕ → Bool

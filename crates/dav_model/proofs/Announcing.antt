@@ -1,5 +1,6 @@
 -- Of the laws on what a head announces.
 use Rattle.std.proofs.Common.{Bool, true, false, refl, sym, ap, subst, ◌∙◌, inl, inr, arith}
+use Rattle.dav_io.specs.Counts.{Rose}
 use Rattle.std.specs.Prelude.{Option, Some, None, ◌⊎◌, ◌≡◌, ◌≤◌, ◌+◌, ◌-◌, ◌==◌, ◌&&◌, not, ℕ, List, [], ◌∷◌, ◌++◌, length, cond, codes, decimal}
 use Rattle.std.specs.Option.{option_map}
 use Rattle.std.proofs.lemmas.Bool.{eqb-true}
@@ -17,7 +18,7 @@ use Rattle.dav_model.specs.declared.sent.Sent.TheVariants.{All, Alone, Unsatisfi
 use Rattle.dav_model.specs.Announced.{PolledToEnd, bytes_in, bare}
 use Rattle.dav_model.specs.Bodies.{Part, bytes_left, text, slice, Polls}
 use Rattle.dav_model.specs.Conditions.{Fields, condition, repeated, is_refused, list_in, date_in, first_bytes, ranges_are_heard, strong}
-use Rattle.dav_model.specs.Head.{Reply, Stood, IsSent, field, field_where, given_parts, quoted_where, sent_by, sent_length, sent_of, sent_range, sent_ranges, sent_reply, sent_status, sent_type}
+use Rattle.dav_model.specs.Head.{Reply, Stood, IsSent, field, field_where, quoted_where, sent_by, sent_length, sent_of, sent_range, sent_ranges, sent_reply, sent_status, sent_type}
 use Rattle.dav_model.specs.Slices.{ranges}
 
 moved_left : (b : Bool) (number start count n : ℕ) (parts : List Part) → ((count - n == 0) ≡ b) → n ≤ count
@@ -32,13 +33,13 @@ same_piece a b e = cc
 
 -- a body that has something left isn't at its end
 unended : (part : Part) (parts : List Part) (rest : List Part) (told : Option World) (whole : Bool) (most before after : ℕ)
-    → Polls told whole most before after (part ∷ parts) End rest → ⊥
+    → Polls told whole most (Rose before after) (part ∷ parts) End rest → ⊥
 unended part parts rest told whole most before after (inl (p, e, gives)) = let f : End ≡ Piece p = e in cc
 unended part parts rest told whole most before after (inr (e, none, rose)) = let f : End ≡ Broken = e in cc
 
 -- a poll gives what is left less
 poll_bytes : (part : Part) (parts : List Part) (piece : List ℕ) (rest : List Part) (told : Option World) (whole : Bool) (most before after : ℕ)
-    → Polls told whole most before after (part ∷ parts) (Piece piece) rest → length piece + bytes_left rest ≡ bytes_left (part ∷ parts)
+    → Polls told whole most (Rose before after) (part ∷ parts) (Piece piece) rest → length piece + bytes_left rest ≡ bytes_left (part ∷ parts)
 poll_bytes part parts piece rest told whole most before after (inr (e, none, rose)) = let f : Piece piece ≡ Broken = e in cc
 poll_bytes (text bytes) parts piece rest told whole most before after (inl (p, e, (is, are))) =
     rw are (ap (λ x. length x + bytes_left parts) (same_piece piece p e ∙ is))

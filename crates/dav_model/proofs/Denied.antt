@@ -21,10 +21,9 @@ use Rattle.dav_io.specs.Counts.{Rose}
 use Rattle.dav_model.specs.Head.{Reply}
 use Rattle.dav_model.specs.Finding.{shown_in}
 use Rattle.dav_model.specs.Due.{Query, IsRight}
-use Rattle.std.specs.List.{AllByRecursion}
 use Rattle.std.specs.Prelude.{is_some}
-use Rattle.dav_model.specs.Trail.{Point, Move, last_of, points_of}
-use Rattle.dav_model.proofs.JoiningLemmas.{all_split, maps_join, valid_back, learned_on, rules_stay}
+use Rattle.dav_model.specs.Trail.{Point, Move, points_of}
+use Rattle.dav_model.proofs.JoiningLemmas.{all_split, valid_back, learned_on}
 use Rattle.dav_model.specs.Valid.{Valid, Twinless}
 use Rattle.dav_model.specs.declared.step.Step.{Step}
 use Rattle.dav_model.specs.declared.step.Step.TheVariants.{Request, Poll, Abandon, Purge, Turn}
@@ -34,7 +33,7 @@ use Rattle.dav_model.specs.declared.target.Target.TheVariants.{At, Refused}
 use Rattle.dav_io.specs.declared.failure.NoMemory.{NoMemory}
 use Rattle.dav_model.specs.Conditions.{Fields}
 use Rattle.dav_model.specs.Due.{query}
-use Rattle.dav_model.specs.Requests.{Asked, fields_of}
+use Rattle.dav_model.specs.Requests.{fields_of}
 use Rattle.dav_model.specs.Trail.{target_of}
 use Rattle.dav_model.specs.Play.{Playing, Played, PlayedOn, Plays, Reads, Replies, RepliesByTree, Stage, Stands, StepByTree, EachByTree, MeetsNoLink}
 use Rattle.dav_model.proofs.JoiningLemmas.{step_rules}

@@ -13,7 +13,8 @@ use Rattle.dav_model.specs.declared.target.Target.TheVariants.{At}
 use Rattle.dav_page.specs.declared.row.PageRow.{PageRow}
 use Rattle.dav_model.specs.Announced.{IsFramed, IsFramedBy, PolledToEnd, bytes_in, length_is_own, value_of}
 use Rattle.dav_model.specs.Bodies.{Part, bytes_left, slice}
-use Rattle.dav_model.specs.Head.{Reply, Stood, IsSent, directed, is_get, redirected, refusal, sent_reply, sent_status, well_known}
+use Rattle.dav_model.specs.Conditions.{Fields}
+use Rattle.dav_model.specs.Head.{Reply, Stood, IsSent, directed, is_get, is_uncached, redirected, refusal, refused_with, sent_reply, sent_status, well_known}
 use Rattle.dav_model.specs.Indexes.{IsIndexBody, IsIndexReply}
 use Rattle.dav_model.proofs.Announcing.{polled_bytes}
 
@@ -24,9 +25,11 @@ framed_empty true reply none zero = λ value is.
     same ∙ (sym (decimal_digit 0 (omega arith)) ∙ ap (λ p. decimal (bytes_left p)) (sym none))
 framed_empty false reply none zero = none
 
-pub framed_refusal : (b : Bool) (status : ℕ) (close : Bool) → IsFramedBy b (refusal status close)
-framed_refusal b status true = framed_empty b (refusal status true) refl refl
-framed_refusal b status false = framed_empty b (refusal status false) refl refl
+framed_refused : (b uncached : Bool) (status : ℕ) (close : Bool) → IsFramedBy b (refused_with uncached status close)
+framed_refused b true status true = framed_empty b (refused_with true status true) refl refl
+framed_refused b true status false = framed_empty b (refused_with true status false) refl refl
+framed_refused b false status true = framed_empty b (refused_with false status true) refl refl
+framed_refused b false status false = framed_empty b (refused_with false status false) refl refl
 
 pub framed_redirect : (b : Bool) (address : List ℕ) (tag date : Option (List ℕ)) → IsFramedBy b (redirected address tag date)
 framed_redirect b address tag date = framed_empty b (redirected address tag date) refl refl
@@ -73,8 +76,9 @@ sent_framed method path stood sent reply (date, dated, is) =
     subst (λ (r : Reply). IsFramed (At method path) r) (sym is) (framed_sent (is_get method) (type_of_last (last_name path.names)) stood date sent)
 
 -- and so are the other answers
-pub refused_framed : (target : Target) (reply : Reply) (status : ℕ) (close : Bool) → reply ≡ refusal status close → IsFramed target reply
-refused_framed target reply status close is = subst (λ (r : Reply). IsFramed target r) (sym is) (framed_refusal (length_is_own target status) status close)
+pub refused_framed : (target : Target) (reply : Reply) (fields : Fields) (status : ℕ) (close : Bool) → reply ≡ refusal fields status close → IsFramed target reply
+refused_framed target reply fields status close is =
+    subst (λ (r : Reply). IsFramed target r) (sym is) (framed_refused (length_is_own target status) (is_uncached fields status) status close)
 
 pub directed_framed : (target : Target) (path : WebPath) → IsFramed target (directed path)
 directed_framed target path = framed_empty (length_is_own target 302) (directed path) refl refl

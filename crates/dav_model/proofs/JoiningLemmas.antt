@@ -1,5 +1,6 @@
 -- Joining: a run from where another ends is one run with it; and a list of steps that read keeps the tree and the bytes.
 use Rattle.std.proofs.Common.{◌≡◌, ◌≤◌, ◌<◌, ◌+◌, ◌⊎◌, inl, inr, ℕ, Bool, true, List, [], ◌∷◌, ◌++◌, map, length, take, drop, get_or, Option, None, Some, is_some, Result, Ok, Err, refl, sym, ap, subst, ◌∙◌, arith, append_assoc, append-nil, add-one, drop-cons}
+use Rattle.dav_io.specs.Counts.{Rose}
 use Rattle.std.proofs.lemmas.List.{take-append-drop, take_more}
 use Rattle.std.specs.List.{AllByRecursion}
 use Rattle.dav_io.proofs.ToldLemmas.{both_then, both_same}
@@ -21,7 +22,7 @@ use Rattle.dav_model.specs.Folds.{Name, has_name}
 use Rattle.dav_model.specs.Rules.{Rules, Knowledge, Learns, Forgets, WasKnown, HasNames, SameDots}
 use Rattle.dav_model.specs.Trail.{Point, Move, Goes, Leaves, step_leaves, target_of, last_of, steps_of, answers_of, points_of}
 use Rattle.dav_model.specs.Valid.{Valid, Occurs}
-use Rattle.dav_model.specs.Play.{AreFull, AsksUnanswered, Playing, Refuses, Stage, Stands, Stepped, StaysOpen, Plays, Ends, Played, Learned}
+use Rattle.dav_model.specs.Play.{AreFull, AsksUnanswered, Playing, Stage, Stands, Stepped, StaysOpen, Plays, Ends, Played, Learned}
 
 -- ---- lists
 
@@ -422,7 +423,7 @@ two_steps trail a x y first second b played =
 pub record PollSays (a : Stage) (body : ℕ) (answer : Answer) (b : Stage) : Type 0 where
   pub mid : Point
   pub counts : a.at.faults ≤ mid.faults
-  pub polls : Polls mid.told mid.whole (read_size_of a.playing.rules.settings.read_buf_size) mid.faults b.at.faults (a.playing.left body) answer (b.playing.left body)
+  pub polls : Polls mid.told mid.whole (read_size_of a.playing.rules.settings.read_buf_size) (Rose mid.faults b.at.faults) (a.playing.left body) answer (b.playing.left body)
 
 pub poll_says : (trail : List Move) (a : Stage) (body : ℕ) (first second : Answer) (b : Stage) → Played trail a (Turn ∷ Poll body ∷ []) [] (first ∷ second ∷ []) (Ok tt) b → PollSays a body second b
 poll_says trail a body first second b played =
@@ -432,5 +433,5 @@ poll_says trail a body first second b played =
     record {
       mid = two.mid.at;
       counts = two.counts;
-      polls = rw left (subst (λ (z : Playing). Polls two.mid.at.told two.mid.at.whole (read_size_of z.rules.settings.read_buf_size) two.mid.at.faults b.at.faults (z.left body) second polled.rest) two.one.3 polled.gives);
+      polls = rw left (subst (λ (z : Playing). Polls two.mid.at.told two.mid.at.whole (read_size_of z.rules.settings.read_buf_size) (Rose two.mid.at.faults b.at.faults) (z.left body) second polled.rest) two.one.3 polled.gives);
     }

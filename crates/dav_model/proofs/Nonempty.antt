@@ -1,5 +1,6 @@
 -- No part of a body that is answered is empty, and no piece that a poll of it gives.
 use Rattle.std.proofs.Common.{◌≡◌, ◌<◌, ◌+◌, ◌-◌, ◌==◌, ◌++◌, ℕ, List, [], ◌∷◌, Bool, true, false, cond, Option, None, Some, length, length-append, map, codes, refl, sym, ap, subst, ◌∙◌, inl, inr, arith, zero, suc, true≢false}
+use Rattle.dav_io.specs.Counts.{Rose}
 use Rattle.std.specs.List.{AllByRecursion}
 use Rattle.dav_core.specs.DavPath.{WebPath, last_name, type_of_last}
 use Rattle.dav_core.specs.World.{World}
@@ -25,7 +26,7 @@ IsNonempty piece = 0 < length piece
 
 -- A poll gives a piece that isn't empty.
 pub piece_some : (left : List Part) (piece : List ℕ) (rest : List Part) (told : Option World) (whole : Bool) (most before after : ℕ)
-    → NoneEmpty left → Polls told whole most before after left (Piece piece) rest → IsNonempty piece
+    → NoneEmpty left → Polls told whole most (Rose before after) left (Piece piece) rest → IsNonempty piece
 piece_some [] piece rest told whole most before after full (e, none) = let f : Piece piece ≡ End = e in cc
 piece_some (part ∷ parts) piece rest told whole most before after full (inr (e, none, rose)) = let f : Piece piece ≡ Broken = e in cc
 piece_some (text bytes ∷ parts) piece rest told whole most before after full (inl (p, e, (is, are))) =
@@ -43,7 +44,7 @@ moved_full false number start count parts e full = (some_count count e, full)
 
 -- It leaves no part empty.
 pub rest_full : (left : List Part) (piece : List ℕ) (rest : List Part) (told : Option World) (whole : Bool) (most before after : ℕ)
-    → NoneEmpty left → Polls told whole most before after left (Piece piece) rest → NoneEmpty rest
+    → NoneEmpty left → Polls told whole most (Rose before after) left (Piece piece) rest → NoneEmpty rest
 rest_full [] piece rest told whole most before after full (e, none) = let f : Piece piece ≡ End = e in cc
 rest_full (part ∷ parts) piece rest told whole most before after full (inr (e, none, rose)) = let f : Piece piece ≡ Broken = e in cc
 rest_full (text bytes ∷ parts) piece rest told whole most before after full (inl (p, e, (is, are))) = subst NoneEmpty (sym are) full.1
@@ -54,8 +55,8 @@ rest_full (slice number start count ∷ parts) piece rest told whole most before
 pub sound_empty : (reply : Reply) → reply.parts ≡ [] → HasSoundBody reply
 sound_empty reply none = record { full = subst NoneEmpty (sym none) tt; bodiless = λ e. none }
 
-pub sound_refused : (reply : Reply) (status : ℕ) (close : Bool) → reply ≡ refusal status close → HasSoundBody reply
-sound_refused reply status close is = sound_empty reply (ap (λ (r : Reply). r.parts) is)
+pub sound_refused : (reply : Reply) (fields : Fields) (status : ℕ) (close : Bool) → reply ≡ refusal fields status close → HasSoundBody reply
+sound_refused reply fields status close is = sound_empty reply (ap (λ (r : Reply). r.parts) is)
 
 where_full : (b : Bool) (number start count : ℕ) → ((count == 0) ≡ b) → NoneEmpty (cond b [] (slice number start count ∷ []))
 where_full true number start count e = tt

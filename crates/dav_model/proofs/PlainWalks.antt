@@ -1,18 +1,18 @@
 -- Over a plain store each path is found as it is written, and where no link is met no link stands.
-use Rattle.std.proofs.Common.{◌≡◌, inl, inr, ◌||◌, ◌&&◌, Bool, true, false, cond, List, [], ◌∷◌, ◌++◌, length, take, drop, Option, None, Some, Result, Ok, Err, refl, sym, ap, subst, ◌∙◌, append_assoc, append-nil}
-use Rattle.std.specs.List.{find, list_any}
+use Rattle.std.proofs.Common.{◌≡◌, inl, inr, ◌||◌, ◌&&◌, Bool, true, false, List, [], ◌∷◌, ◌++◌, length, take, drop, Option, None, Some, Result, Ok, refl, sym, ap, subst, ◌∙◌, append_assoc, append-nil}
+use Rattle.std.specs.List.{find}
 use Rattle.std.proofs.Math.Seq.{take-append_seam}
 use Rattle.std.proofs.lemmas.List.{take-append-drop}
 use Rattle.dav_core.specs.declared.handle.DiskError.{DiskError}
 use Rattle.dav_core.specs.declared.tree.Row.{Row}
 use Rattle.dav_core.specs.declared.tree.Kind.{Kind}
 use Rattle.dav_core.specs.declared.tree.Kind.TheVariants.{Dir, File, Link}
-use Rattle.dav_core.specs.Path.{Names, is_front, same_names, parent_of}
+use Rattle.dav_core.specs.Path.{Names, is_front, same_names}
 use Rattle.dav_core.specs.Tree.{below, below_kind, is_link, is_linked, look, look_from, row_at, standing}
 use Rattle.dav_core.proofs.Plain.{names_same}
 use Rattle.dav_model.specs.declared.settings.Settings.{Settings}
 use Rattle.dav_model.specs.Finding.{IsOf, is_alike, member, member_or, on_from, resolved, resolved_from}
-use Rattle.dav_model.specs.Folds.{Name, folds_like}
+use Rattle.dav_model.specs.Folds.{Name}
 use Rattle.dav_model.specs.Rules.{plain_rules}
 use Rattle.dav_model.proofs.LooseWalks.{find_row, names_equal}
 

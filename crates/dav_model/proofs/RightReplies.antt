@@ -48,7 +48,7 @@ use Rattle.dav_model.specs.WellFormed.{is_among, right_statuses}
 
 head_framed : (q : Query) (d : Due) (reply : Reply) → IsHead q d reply → IsFramed (At q.method q.path) reply
 head_framed q known reply is = subst (IsFramed (At q.method q.path)) (sym is) (framed_well_known (length_is_own (At q.method q.path) 200))
-head_framed q (refused status close) reply is = refused_framed (At q.method q.path) reply status close is
+head_framed q (refused status close) reply is = refused_framed (At q.method q.path) reply q.fields status close is
 head_framed q (to_slash path) reply is = subst (IsFramed (At q.method q.path)) (sym is) (directed_framed (At q.method q.path) path)
 head_framed q (file path stood) reply is = by_address (address_of q.settings stood) is
   where
@@ -59,11 +59,11 @@ head_framed q (page dir members) reply is = index_framed q.method q.path dir (Ar
 
 spoiled_framed : (q : Query) (d : Due) (reply : Reply) → IsSpoiled q d reply → IsFramed (At q.method q.path) reply
 spoiled_framed q known reply is = absurd is
-spoiled_framed q (refused status close) reply is = refused_framed (At q.method q.path) reply 500 false is
-spoiled_framed q (to_slash path) reply is = refused_framed (At q.method q.path) reply 500 false is
-spoiled_framed q (file path stood) reply (inl is) = refused_framed (At q.method q.path) reply 500 false is
+spoiled_framed q (refused status close) reply is = refused_framed (At q.method q.path) reply q.fields 500 false is
+spoiled_framed q (to_slash path) reply is = refused_framed (At q.method q.path) reply q.fields 500 false is
+spoiled_framed q (file path stood) reply (inl is) = refused_framed (At q.method q.path) reply q.fields 500 false is
 spoiled_framed q (file path stood) reply (inr is) = sent_framed q.method path stood Unsatisfied reply is.sent
-spoiled_framed q (page dir members) reply (inl is) = refused_framed (At q.method q.path) reply 500 false is
+spoiled_framed q (page dir members) reply (inl is) = refused_framed (At q.method q.path) reply q.fields 500 false is
 spoiled_framed q (page dir members) reply (inr is) = index_framed q.method q.path dir (AreRowsOfSome dir members) reply is
 
 pub right_framed : (q : Query) (shown : Shown) (rose : Type 0) (reply : Reply) → IsRight q shown rose reply → IsFramed (At q.method q.path) reply
@@ -72,12 +72,12 @@ right_framed q shown rose reply (inr (is, r)) = spoiled_framed q (due shown q) r
 
 -- ---- no part is empty
 
-refusal_sound : (status : ℕ) (close : Bool) (reply : Reply) → reply ≡ refusal status close → HasSoundBody reply
-refusal_sound status close reply is = sound_empty reply (ap (λ (r : Reply). r.parts) is)
+refusal_sound : (fields : Fields) (status : ℕ) (close : Bool) (reply : Reply) → reply ≡ refusal fields status close → HasSoundBody reply
+refusal_sound fields status close reply is = sound_empty reply (ap (λ (r : Reply). r.parts) is)
 
 head_sound : (q : Query) (d : Due) (reply : Reply) → IsHead q d reply → HasSoundBody reply
 head_sound q known reply is = sound_empty reply (ap (λ (r : Reply). r.parts) is)
-head_sound q (refused status close) reply is = refusal_sound status close reply is
+head_sound q (refused status close) reply is = refusal_sound q.fields status close reply is
 head_sound q (to_slash path) reply is = sound_empty reply (ap (λ (r : Reply). r.parts) is)
 head_sound q (file path stood) reply is = by_address (address_of q.settings stood) is
   where
@@ -88,11 +88,11 @@ head_sound q (page dir members) reply is = index_sound (is_get q.method) dir (Ar
 
 spoiled_sound : (q : Query) (d : Due) (reply : Reply) → IsSpoiled q d reply → HasSoundBody reply
 spoiled_sound q known reply is = absurd is
-spoiled_sound q (refused status close) reply is = refusal_sound 500 false reply is
-spoiled_sound q (to_slash path) reply is = refusal_sound 500 false reply is
-spoiled_sound q (file path stood) reply (inl is) = refusal_sound 500 false reply is
+spoiled_sound q (refused status close) reply is = refusal_sound q.fields 500 false reply is
+spoiled_sound q (to_slash path) reply is = refusal_sound q.fields 500 false reply is
+spoiled_sound q (file path stood) reply (inl is) = refusal_sound q.fields 500 false reply is
 spoiled_sound q (file path stood) reply (inr is) = sent_sound q.method path stood Unsatisfied reply tt is.sent
-spoiled_sound q (page dir members) reply (inl is) = refusal_sound 500 false reply is
+spoiled_sound q (page dir members) reply (inl is) = refusal_sound q.fields 500 false reply is
 spoiled_sound q (page dir members) reply (inr is) = index_sound (is_get q.method) dir (AreRowsOfSome dir members) reply is
 
 pub right_sound : (q : Query) (shown : Shown) (rose : Type 0) (reply : Reply) → IsRight q shown rose reply → HasSoundBody reply
@@ -202,7 +202,7 @@ status_of reply other is listed = subst (λ (r : Reply). IsListed r.status) (sym
 
 head_listed : (q : Query) (d : Due) (reply : Reply) → IsListedDue d → IsHead q d reply → IsListed reply.status
 head_listed q known reply listed is = status_of reply well_known is refl
-head_listed q (refused status close) reply listed is = status_of reply (refusal status close) is listed
+head_listed q (refused status close) reply listed is = status_of reply (refusal q.fields status close) is listed
 head_listed q (to_slash path) reply listed is = status_of reply (directed path) is refl
 head_listed q (file path stood) reply listed is = by_address (address_of q.settings stood) is
   where
@@ -241,12 +241,12 @@ failed_by_fault q shown rose reply could right e = by_list (right_listed q shown
 
 -- what the gates refuse, or the right reply to what they let through, announces the length of its body
 pub replies_framed : (target : Target) (rules : Rules) (k : Knowledge) (s t : Point) (fields : Fields) (reply : Reply) → Replies target rules k s t fields reply → IsFramed target reply
-replies_framed (Refused status close) rules k s t fields reply is = refused_framed (Refused status close) reply status close is
+replies_framed (Refused status close) rules k s t fields reply is = refused_framed (Refused status close) reply fields status close is
 replies_framed (At method path) rules k s t fields reply reads =
     right_framed (query rules.settings fields method path) reads.shown (Rose s.faults t.faults) reply reads.right
 
 pub replies_sound : (target : Target) (rules : Rules) (k : Knowledge) (s t : Point) (fields : Fields) (reply : Reply) → Replies target rules k s t fields reply → HasSoundBody reply
-replies_sound (Refused status close) rules k s t fields reply is = refusal_sound status close reply is
+replies_sound (Refused status close) rules k s t fields reply is = refusal_sound fields status close reply is
 replies_sound (At method path) rules k s t fields reply reads =
     right_sound (query rules.settings fields method path) reads.shown (Rose s.faults t.faults) reply reads.right
 

@@ -12,7 +12,8 @@ use Rattle.std.proofs.lemmas.List.Sums.{AllPass-from_list_all}
 use Rattle.http_header.specs.Token.{IsToken, is_token_byte, is_value_byte}
 use Rattle.dav_io.specs.declared.fields.Field.{Field}
 use Rattle.dav_model.specs.declared.sent.Sent.{Sent}
-use Rattle.dav_model.specs.Head.{field, field_where, quoted_where, redirected_fields, refusal, sent_fields, sent_length, sent_range, sent_type, well_known}
+use Rattle.dav_model.specs.Conditions.{Fields}
+use Rattle.dav_model.specs.Head.{closing, field, field_where, is_uncached, quoted_where, redirected_fields, refusal, refused_fields, sent_fields, sent_length, sent_range, sent_type, uncached_last, well_known}
 use Rattle.dav_model.specs.Indexes.{page_fields}
 use Rattle.dav_model.specs.WellFormed.{Ascend, IsReplyField, reply_names}
 use Rattle.dav_model.proofs.FieldValues.{Fits, FitsWhere, length_fits, range_fits, sent_type_fits}
@@ -72,20 +73,32 @@ unfolding is_token_byte
 known_names = (
   known (codes "accept-ranges") (omega arith, AllPass-from_list_all is_token_byte (codes "accept-ranges") refl) (0, omega arith, refl),
   (
-    known (codes "connection") (omega arith, AllPass-from_list_all is_token_byte (codes "connection") refl) (1, omega arith, refl),
+    known (codes "cache-control") (omega arith, AllPass-from_list_all is_token_byte (codes "cache-control") refl) (1, omega arith, refl),
     (
-      known (codes "content-length") (omega arith, AllPass-from_list_all is_token_byte (codes "content-length") refl) (2, omega arith, refl),
+      known (codes "connection") (omega arith, AllPass-from_list_all is_token_byte (codes "connection") refl) (2, omega arith, refl),
       (
-        known (codes "content-range") (omega arith, AllPass-from_list_all is_token_byte (codes "content-range") refl) (3, omega arith, refl),
+        known (codes "content-length") (omega arith, AllPass-from_list_all is_token_byte (codes "content-length") refl) (3, omega arith, refl),
         (
-          known (codes "content-type") (omega arith, AllPass-from_list_all is_token_byte (codes "content-type") refl) (4, omega arith, refl),
+          known (codes "content-range") (omega arith, AllPass-from_list_all is_token_byte (codes "content-range") refl) (4, omega arith, refl),
           (
-            known (codes "etag") (omega arith, AllPass-from_list_all is_token_byte (codes "etag") refl) (5, omega arith, refl),
+            known (codes "content-type") (omega arith, AllPass-from_list_all is_token_byte (codes "content-type") refl) (5, omega arith, refl),
             (
-              known (codes "last-modified") (omega arith, AllPass-from_list_all is_token_byte (codes "last-modified") refl) (6, omega arith, refl),
+              known (codes "etag") (omega arith, AllPass-from_list_all is_token_byte (codes "etag") refl) (6, omega arith, refl),
               (
-                known (codes "location") (omega arith, AllPass-from_list_all is_token_byte (codes "location") refl) (7, omega arith, refl),
-                tt,
+                known (codes "expires") (omega arith, AllPass-from_list_all is_token_byte (codes "expires") refl) (7, omega arith, refl),
+                (
+                  known (codes "last-modified") (omega arith, AllPass-from_list_all is_token_byte (codes "last-modified") refl) (8, omega arith, refl),
+                  (
+                    known (codes "location") (omega arith, AllPass-from_list_all is_token_byte (codes "location") refl) (9, omega arith, refl),
+                    (
+                      known (codes "pragma") (omega arith, AllPass-from_list_all is_token_byte (codes "pragma") refl) (10, omega arith, refl),
+                      (
+                        known (codes "vary") (omega arith, AllPass-from_list_all is_token_byte (codes "vary") refl) (11, omega arith, refl),
+                        tt,
+                      ),
+                    ),
+                  ),
+                ),
               ),
             ),
           ),
@@ -139,11 +152,23 @@ perhaps_last name None names other fits = tt
 perhaps_last name (Some value) names other fits = next name value names [] other fits tt
 
 -- the names from each on
+abbrev from_vary : List (List ℕ)
+from_vary = codes "vary" ∷ []
+
+abbrev from_pragma : List (List ℕ)
+from_pragma = codes "pragma" ∷ from_vary
+
+abbrev from_location : List (List ℕ)
+from_location = codes "location" ∷ from_pragma
+
 abbrev from_modified : List (List ℕ)
-from_modified = codes "last-modified" ∷ codes "location" ∷ []
+from_modified = codes "last-modified" ∷ from_location
+
+abbrev from_expires : List (List ℕ)
+from_expires = codes "expires" ∷ from_modified
 
 abbrev from_tag : List (List ℕ)
-from_tag = codes "etag" ∷ from_modified
+from_tag = codes "etag" ∷ from_expires
 
 abbrev from_type : List (List ℕ)
 from_type = codes "content-type" ∷ from_tag
@@ -157,6 +182,9 @@ from_length = codes "content-length" ∷ from_range
 abbrev from_connection : List (List ℕ)
 from_connection = codes "connection" ∷ from_length
 
+abbrev from_cache : List (List ℕ)
+from_cache = codes "cache-control" ∷ from_connection
+
 -- no body, and its length
 abbrev zero_length : List Field
 zero_length = field (codes "content-length") (codes "0") ∷ []
@@ -164,15 +192,46 @@ zero_length = field (codes "content-length") (codes "0") ∷ []
 zero_some : HasSome from_length zero_length
 zero_some = next (codes "content-length") (codes "0") from_range [] refl (record { all = refl }) tt
 
-pub refusal_some : (status : ℕ) (close : Bool) → HasSome reply_names (refusal status close).fields
-refusal_some status true =
-    skip (codes "accept-ranges") from_connection (field (codes "connection") (codes "close") ∷ zero_length)
-    (inl (refl, (record { all = refl }, λ e. refl), zero_some))
-refusal_some status false = skip (codes "accept-ranges") from_connection zero_length (skip (codes "connection") from_length zero_length zero_some)
+-- what tells caches to keep nothing, behind the length
+uncached_some : (uncached : Bool) → HasSome from_range (uncached_last uncached)
+uncached_some true =
+    let vary : List Field = field (codes "vary") (codes "*") ∷ [] in
+    let pragma : List Field = field (codes "pragma") (codes "no-cache") ∷ vary in
+    let all : List Field = field (codes "expires") (codes "0") ∷ pragma in
+    skip (codes "content-range") from_type all (skip (codes "content-type") from_tag all (skip (codes "etag") from_expires all
+    (next (codes "expires") (codes "0") from_modified pragma refl (record { all = refl })
+    (skip (codes "last-modified") from_location pragma (skip (codes "location") from_pragma pragma
+    (next (codes "pragma") (codes "no-cache") from_vary vary refl (record { all = refl })
+    (next (codes "vary") (codes "*") [] [] refl (record { all = refl }) tt)))))))
+uncached_some false = tt
+
+-- the length of a refusal, and what stands behind it
+abbrev refused_length : Bool → List Field
+refused_length uncached = field (codes "content-length") (codes "0") ∷ uncached_last uncached
+
+refused_length_some : (uncached : Bool) → HasSome from_length (refused_length uncached)
+refused_length_some uncached = next (codes "content-length") (codes "0") from_range (uncached_last uncached) refl (record { all = refl }) (uncached_some uncached)
+
+closing_some : (uncached close : Bool) → HasSome from_connection (closing close ++ refused_length uncached)
+closing_some uncached true = inl (refl, (record { all = refl }, λ e. refl), refused_length_some uncached)
+closing_some uncached false = skip (codes "connection") from_length (refused_length uncached) (refused_length_some uncached)
+
+refused_some : (uncached close : Bool) → HasSome reply_names (refused_fields uncached close)
+refused_some true close =
+    let rest : List Field = closing close ++ refused_length true in
+    let all : List Field = field (codes "cache-control") (codes "no-store, no-cache, must-revalidate") ∷ rest in
+    skip (codes "accept-ranges") from_cache all (next (codes "cache-control") (codes "no-store, no-cache, must-revalidate") from_connection rest refl (record { all = refl }) (closing_some true close))
+refused_some false close =
+    let rest : List Field = closing close ++ refused_length false in
+    skip (codes "accept-ranges") from_cache rest (skip (codes "cache-control") from_connection rest (closing_some false close))
+
+pub refusal_some : (fields : Fields) (status : ℕ) (close : Bool) → HasSome reply_names (refusal fields status close).fields
+refusal_some fields status close = refused_some (is_uncached fields status) close
 
 pub known_some : HasSome reply_names well_known.fields
 known_some =
-    next (codes "accept-ranges") (codes "bytes") from_connection zero_length refl (record { all = refl }) (skip (codes "connection") from_length zero_length zero_some)
+    next (codes "accept-ranges") (codes "bytes") from_cache zero_length refl (record { all = refl })
+    (skip (codes "cache-control") from_connection zero_length (skip (codes "connection") from_length zero_length zero_some))
 
 pub redirect_some : (address : List ℕ) (tag date : Option (List ℕ)) → Fits address → FitsWhere (quoted_where tag) → FitsWhere date → HasSome reply_names (redirected_fields address tag date)
 redirect_some address tag date fits tagged dated =
@@ -180,12 +239,13 @@ redirect_some address tag date fits tagged dated =
     let times : List Field = field_where (codes "last-modified") date ++ last in
     let rest : List Field = field_where (codes "etag") (quoted_where tag) ++ times in
     let all : List Field = field (codes "content-length") (codes "0") ∷ rest in
-    skip (codes "accept-ranges") from_connection all (skip (codes "connection") from_length all
+    skip (codes "accept-ranges") from_cache all (skip (codes "cache-control") from_connection all (skip (codes "connection") from_length all
     (next (codes "content-length") (codes "0") from_range rest refl (record { all = refl })
     (skip (codes "content-range") from_type rest (skip (codes "content-type") from_tag rest
-    (perhaps (codes "etag") (quoted_where tag) from_modified times refl tagged
-    (perhaps (codes "last-modified") date (codes "location" ∷ []) last refl dated
-    (next (codes "location") address [] [] refl fits tt)))))))
+    (perhaps (codes "etag") (quoted_where tag) from_expires times refl tagged
+    (skip (codes "expires") from_modified times
+    (perhaps (codes "last-modified") date from_location last refl dated
+    (next (codes "location") address from_pragma [] refl fits tt)))))))))
 
 pub sent_some : (gives : Bool) (type : List ℕ) (len : ℕ) (tag date : Option (List ℕ)) (sent : Sent) → Fits type → FitsWhere (quoted_where tag) → FitsWhere date
     → HasSome reply_names (sent_fields gives type len tag date sent)
@@ -195,16 +255,17 @@ sent_some gives type len tag date sent fits tagged dated =
     let types : List Field = field (codes "content-type") (sent_type type sent) ∷ tags in
     let ranges : List Field = field_where (codes "content-range") (sent_range len sent) ++ types in
     let lengths : List Field = field_where (codes "content-length") (option_map decimal (sent_length gives len sent)) ++ ranges in
-    next (codes "accept-ranges") (codes "bytes") from_connection lengths refl (record { all = refl })
-    (skip (codes "connection") from_length lengths
+    next (codes "accept-ranges") (codes "bytes") from_cache lengths refl (record { all = refl })
+    (skip (codes "cache-control") from_connection lengths (skip (codes "connection") from_length lengths
     (perhaps (codes "content-length") (option_map decimal (sent_length gives len sent)) from_range ranges refl (length_fits gives len sent)
     (perhaps (codes "content-range") (sent_range len sent) from_type types refl (range_fits len sent)
     (next (codes "content-type") (sent_type type sent) from_tag tags refl (sent_type_fits type sent fits)
-    (perhaps (codes "etag") (quoted_where tag) from_modified times refl tagged
-    (perhaps_last (codes "last-modified") date (codes "location" ∷ []) refl dated))))))
+    (perhaps (codes "etag") (quoted_where tag) from_expires times refl tagged
+    (skip (codes "expires") from_modified times
+    (perhaps_last (codes "last-modified") date from_location refl dated))))))))
 
 pub page_some : HasSome reply_names page_fields
 page_some =
-    skip (codes "accept-ranges") from_connection page_fields (skip (codes "connection") from_length page_fields
+    skip (codes "accept-ranges") from_cache page_fields (skip (codes "cache-control") from_connection page_fields (skip (codes "connection") from_length page_fields
     (skip (codes "content-length") from_range page_fields (skip (codes "content-range") from_type page_fields
-    (next (codes "content-type") (codes "text/html; charset=utf-8") from_tag [] refl (record { all = refl }) tt))))
+    (next (codes "content-type") (codes "text/html; charset=utf-8") from_tag [] refl (record { all = refl }) tt)))))

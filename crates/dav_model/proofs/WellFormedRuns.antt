@@ -22,6 +22,7 @@ use Rattle.dav_model.specs.declared.step.Step.TheVariants.{Request, Poll, Abando
 use Rattle.dav_model.specs.declared.target.Target.{Target}
 use Rattle.dav_model.specs.declared.target.Target.TheVariants.{At, Refused}
 use Rattle.dav_model.specs.Bodies.{Part, Polls}
+use Rattle.dav_model.specs.Conditions.{Fields}
 use Rattle.dav_model.specs.Due.{Due, Query, IsHead, IsRight, IsSpoiled, due, due_course, due_kind, due_listed, due_looked, due_opened, due_sent, file, index_path, known, page, query, refused, to_slash}
 use Rattle.dav_model.specs.Head.{IsFileHead, IsSent, Reply, Stood, address_of, directed, is_get, is_set, is_well_known, redirected, refusal, sent_of, well_known, with_slash}
 use Rattle.dav_model.specs.Play.{Playing, PlayedOn, Plays, Replies, Stage, Stands}
@@ -123,12 +124,12 @@ due_fit : (shown : Shown) (q : Query) → CouldShow shown → IsFit (due shown q
 due_fit shown q could =
     if_fit (is_well_known q.settings q.method q.path) known (due_looked shown q (shown.looked q.path)) tt (looked_fit shown q (shown.looked q.path) could)
 
-refusal_fits : (reply : Reply) (status : ℕ) (close : Bool) → reply ≡ refusal status close → InOrder reply
-refusal_fits reply status close is = of_reply reply (refusal status close) is (refusal_some status close)
+refusal_fits : (reply : Reply) (fields : Fields) (status : ℕ) (close : Bool) → reply ≡ refusal fields status close → InOrder reply
+refusal_fits reply fields status close is = of_reply reply (refusal fields status close) is (refusal_some fields status close)
 
 head_fits : (q : Query) (d : Due) (reply : Reply) → IsFit d → IsHead q d reply → InOrder reply
 head_fits q known reply fit is = of_reply reply well_known is known_some
-head_fits q (refused status close) reply fit is = refusal_fits reply status close is
+head_fits q (refused status close) reply fit is = refusal_fits reply q.fields status close is
 head_fits q (to_slash path) reply fit is = of_reply reply (directed path) is
     (redirect_some (link_of (shown_text (with_slash path))) None None (link_fits (shown_text (with_slash path))) tt tt)
 head_fits q (file path stood) reply could is =
@@ -142,11 +143,11 @@ head_fits q (page dir members) reply fit is = subst (HasSome reply_names) (sym i
 
 spoiled_fits : (q : Query) (d : Due) (reply : Reply) → IsFit d → IsSpoiled q d reply → InOrder reply
 spoiled_fits q known reply fit is = absurd is
-spoiled_fits q (refused status close) reply fit is = refusal_fits reply 500 false is
-spoiled_fits q (to_slash path) reply fit is = refusal_fits reply 500 false is
-spoiled_fits q (file path stood) reply could (inl is) = refusal_fits reply 500 false is
+spoiled_fits q (refused status close) reply fit is = refusal_fits reply q.fields 500 false is
+spoiled_fits q (to_slash path) reply fit is = refusal_fits reply q.fields 500 false is
+spoiled_fits q (file path stood) reply could (inl is) = refusal_fits reply q.fields 500 false is
 spoiled_fits q (file path stood) reply could (inr is) = sent_fits q.method path stood Unsatisfied reply could is.sent
-spoiled_fits q (page dir members) reply fit (inl is) = refusal_fits reply 500 false is
+spoiled_fits q (page dir members) reply fit (inl is) = refusal_fits reply q.fields 500 false is
 spoiled_fits q (page dir members) reply fit (inr is) = subst (HasSome reply_names) (sym is.fields) page_some
 
 right_fits : (q : Query) (shown : Shown) (rose : Type 0) (reply : Reply) → CouldShow shown → IsRight q shown rose reply → InOrder reply
@@ -168,10 +169,10 @@ right_well_formed q shown rose reply could right =
 
 -- what the gates refuse
 pub gate_well_formed : (rules : Rules) (request : Asked) (status : ℕ) (close : Bool) → target_of rules request ≡ Refused status close
-    → (is_among status gate_statuses ≡ true) × IsWellFormed status (refusal status close).fields
+    → (is_among status gate_statuses ≡ true) × IsWellFormed status (refusal (fields_of request) status close).fields
 gate_well_formed rules request status close is =
     let listed = gate_listed rules.settings true (head_of request) (body_of request) status close is in
-    (listed, well_formed status (refusal status close).fields (gate_is_listed status listed) (refusal_some status close))
+    (listed, well_formed status (refusal (fields_of request) status close).fields (gate_is_listed status listed) (refusal_some (fields_of request) status close))
 
 replies_well_formed : (rules : Rules) (request : Asked) (k : Knowledge) (s t : Point) (reply : Reply) → Replies (target_of rules request) rules k s t (fields_of request) reply
     → IsWellFormed reply.status reply.fields
@@ -189,7 +190,7 @@ done_well answer is = subst IsWellFormedAnswer (sym is) tt
 
 -- A poll is answered by no reply.
 poll_well : (told : Option World) (whole : Bool) (most before after : ℕ) (left : List Part) (answer : Answer) (rest : List Part)
-    → Polls told whole most before after left answer rest → IsWellFormedAnswer answer
+    → Polls told whole most (Rose before after) left answer rest → IsWellFormedAnswer answer
 poll_well told whole most before after [] answer rest (is, none) = subst IsWellFormedAnswer (sym is) tt
 poll_well told whole most before after (part ∷ parts) answer rest (inl (piece, is, gives)) = subst IsWellFormedAnswer (sym is) tt
 poll_well told whole most before after (part ∷ parts) answer rest (inr (is, none, rose)) = subst IsWellFormedAnswer (sym is) tt

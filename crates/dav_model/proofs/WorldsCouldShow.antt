@@ -1,5 +1,5 @@
 -- What the rules show of a world could stand anywhere.
-use Rattle.std.proofs.Common.{◌≡◌, ◌∙◌, refl, sym, ap, subst, inl, inr, ◌&&◌, ◌||◌, ◌==◌, ◌<◌, ◌+◌, ◌-◌, Bool, true, false, cond, ℕ, zero, suc, List, [], ◌∷◌, length, map, arith, Option, None, Some, Result, Ok, Err}
+use Rattle.std.proofs.Common.{◌≡◌, refl, ap, subst, inl, inr, ◌&&◌, ◌||◌, ◌==◌, ◌<◌, ◌+◌, ◌-◌, Bool, true, false, cond, ℕ, zero, suc, List, [], ◌∷◌, length, map, arith, None, Some, Result, Ok, Err}
 use Rattle.std.specs.Prelude.{pos, slice_get}
 use Rattle.std.specs.List.{AllByRecursion, filter}
 use Rattle.std.proofs.lemmas.Bool.{and_parts, eqb-true}
@@ -22,7 +22,7 @@ use Rattle.dav_core.specs.Path.{Names, all_plain, is_front, is_plain}
 use Rattle.dav_core.specs.TagBytes.{info_has_tag_bytes}
 use Rattle.dav_core.specs.Tree.{IsTreeRefusal, below_kind, is_file, look}
 use Rattle.dav_core.proofs.LookLemmas.{look_err}
-use Rattle.dav_core.specs.World.{IsPlain, IsWorld, World, bytes_of}
+use Rattle.dav_core.specs.World.{IsPlain, IsWorld, World}
 use Rattle.dav_page.specs.Listed.{HasPlainName}
 use Rattle.dav_model.specs.Finding.{Finding, empty_file, has_slash, is_forbidden, is_localized, is_virtual, looked_at, members_or, opened_at, shown_by, stood_at}
 use Rattle.dav_model.specs.Head.{Stood, stood_in}

@@ -1,5 +1,6 @@
 -- What a head announces: of a body its length, and of a HEAD the fields of the GET.
 use Rattle.std.specs.Prelude.{◌≡◌, ◌==◌, ◌&&◌, ◌+◌, ℕ, Bool, true, false, not, cond, List, [], ◌∷◌, length, bytes_eq, codes, decimal, Option, None, Some}
+use Rattle.dav_io.specs.Counts.{Rose}
 use Rattle.dav_io.specs.declared.fields.Field.{Field}
 use Rattle.dav_core.specs.World.{World}
 use Rattle.dav_model.specs.declared.answer.Answer.{Answer}
@@ -40,7 +41,7 @@ pub record IsPoll (left : List Part) (answer : Answer) (rest : List Part) : Type
   pub most : ℕ
   pub before : ℕ
   pub after : ℕ
-  pub polls : Polls told whole most before after left answer rest
+  pub polls : Polls told whole most (Rose before after) left answer rest
 
 -- A body was polled to its end without a break, and gave these pieces. Between two polls anything may happen to the files.
 abbrev pub PolledToEnd : List Part → List (List ℕ) → Type 0

@@ -1,10 +1,8 @@
 -- What a body has left, and what a poll of it gives (the remaining body).
-use Rattle.std.proofs.Common.{suc, Bool, true, false, refl, sym, ◌∙◌, inl, inr, arith}
+use Rattle.std.proofs.Common.{Bool}
 use Rattle.std.specs.Prelude.{Option, Some, ◌⊎◌, ◌≡◌, ◌≤◌, ◌<◌, ◌+◌, ◌-◌, ◌==◌, ℕ, List, [], ◌∷◌, length, take, drop, min, replicate, cond, IsTrue}
 use Rattle.std.specs.List.{AllByRecursion}
 use Rattle.dav_core.specs.World.{World, bytes_of}
-use Rattle.dav_io.specs.Counts.{Rose}
-use Rattle.dav_model.specs.declared.settings.Settings.{Settings}
 use Rattle.dav_model.specs.Sizes.{zeros_size}
 use Rattle.dav_model.specs.declared.answer.Answer.{Answer}
 use Rattle.dav_model.specs.declared.answer.Answer.TheVariants.{Piece, End, Broken}
@@ -45,16 +43,17 @@ Gives told whole most (text bytes) parts piece rest = (piece ≡ bytes) × (rest
 Gives told whole most (slice number start count) parts piece rest = (0 < length piece) × (length piece ≤ count) × (rest ≡ moved number start count (length piece) parts)
     × ((w : World) → told ≡ Some w → PieceOf whole most (standing_from w number start) count piece)
 
--- A text doesn't break. A slice breaks only where the count of faults rose.
-abbrev pub Breaks : Part → ℕ → ℕ → Type 0
-Breaks (text bytes) before after = ⊥
-Breaks (slice number start count) before after = Rose before after
+-- A text doesn't break. A slice breaks only where there is a cause.
+abbrev pub Breaks : Part → Type 0 → Type 0
+Breaks (text bytes) cause = ⊥
+Breaks (slice number start count) cause = cause
 
--- A poll of a body with these parts left gives this answer, and leaves those. Where it breaks, nothing is left.
-abbrev pub Polls : Option World → Bool → ℕ → ℕ → ℕ → List Part → Answer → List Part → Type 0
-Polls told whole most before after [] answer rest = (answer ≡ End) × (rest ≡ [])
-Polls told whole most before after (part ∷ parts) answer rest = ((piece : List ℕ) × (answer ≡ Piece piece) × Gives told whole most part parts piece rest)
-    ⊎ ((answer ≡ Broken) × (rest ≡ []) × Breaks part before after)
+-- A poll of a body with these parts left gives this answer, and leaves those. Where it breaks, nothing is left. The cause
+-- of a break is that the count of faults rose.
+abbrev pub Polls : Option World → Bool → ℕ → Type 0 → List Part → Answer → List Part → Type 0
+Polls told whole most cause [] answer rest = (answer ≡ End) × (rest ≡ [])
+Polls told whole most cause (part ∷ parts) answer rest = ((piece : List ℕ) × (answer ≡ Piece piece) × Gives told whole most part parts piece rest)
+    ⊎ ((answer ≡ Broken) × (rest ≡ []) × Breaks part cause)
 
 -- how many bytes a body has left
 abbrev pub bytes_left : List Part → ℕ

@@ -16,7 +16,7 @@ use Rattle.dav_page.specs.Listed.{AreRows}
 use Rattle.dav_model.specs.declared.settings.Settings.{Settings}
 use Rattle.dav_model.specs.declared.sent.Sent.TheVariants.{Unsatisfied}
 use Rattle.dav_model.specs.Conditions.{Fields}
-use Rattle.dav_model.specs.Head.{Reply, Stood, refusal, directed, is_get, is_well_known, well_known, address_of, IsFileHead, IsSent, sent_of, sent_status}
+use Rattle.dav_model.specs.Head.{Reply, Stood, refusal, refused_with, directed, is_get, is_well_known, well_known, address_of, IsFileHead, IsSent, sent_of, sent_status}
 use Rattle.dav_model.specs.Indexes.{AreRowsOfSome, IsIndexReply}
 use Rattle.dav_model.specs.Shown.{Shown}
 
@@ -121,7 +121,7 @@ due shown q = cond (is_well_known q.settings q.method q.path) known (due_looked 
 -- the one right answer
 abbrev pub IsHead : Query → Due → Reply → Type 0
 IsHead q known reply = reply ≡ well_known
-IsHead q (refused status close) reply = reply ≡ refusal status close
+IsHead q (refused status close) reply = reply ≡ refusal q.fields status close
 IsHead q (to_slash path) reply = reply ≡ directed path
 IsHead q (file path stood) reply = IsFileHead (address_of q.settings stood) q.method q.fields path stood reply
 IsHead q (page dir members) reply = IsIndexReply (is_get q.method) dir (AreRows dir members) reply
@@ -134,7 +134,7 @@ pub record IsUnplaced (q : Query) (path : WebPath) (stood : Stood) (reply : Repl
 
 -- the answer where the disk failed
 abbrev pub failure : Reply
-failure = refusal 500 false
+failure = refused_with false 500 false
 
 -- what may stand in its place where the disk failed
 abbrev pub IsSpoiled : Query → Due → Reply → Type 0

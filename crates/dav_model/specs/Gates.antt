@@ -69,16 +69,16 @@ of_body method some = unless (takes_some method) 415 false
 of_body method much = cond (takes_much method) None (Some (Refused 413 false))
 of_body method broken = Some (Refused 500 false)
 
--- Gates 7 and 8, of the head again: a form that isn't built. Methods that write aren't, nor is the field `if`, nor a body
--- that the fields announce, since it isn't read.
+-- Gates 7 and 8, of the head again: a form that isn't built. Methods that write aren't, nor is the field `if`.
 abbrev pub has_field : Fields → List ℕ → Bool
 has_field fields name = is_some (get fields name)
 
+abbrev pub is_built : Fields → DavMethod → Bool
+is_built fields method = reads method && not (has_field fields (codes "if"))
+
+-- fields that announce a body (RFC 9112, section 6.3)
 abbrev pub announces_body : Fields → Bool
 announces_body fields = has_field fields (codes "content-length") || has_field fields (codes "transfer-encoding")
-
-abbrev pub is_built : Fields → DavMethod → Bool
-is_built fields method = reads method && (not (has_field fields (codes "if")) && not (announces_body fields))
 
 abbrev pub or_refused : Option Target → Option Target → Target → Target
 or_refused None None target = target

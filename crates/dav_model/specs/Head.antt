@@ -20,6 +20,7 @@ use Rattle.dav_model.specs.declared.ranges.Ranges.TheVariants.{Whole, Unsatisfia
 use Rattle.dav_model.specs.declared.sent.Sent.{Sent}
 use Rattle.dav_model.specs.declared.sent.Sent.TheVariants.{All, Alone, Unsatisfied, One, Several}
 use Rattle.dav_model.specs.Bodies.{Part, text, slice}
+use Rattle.dav_model.specs.Clients.{is_from_microsoft}
 use Rattle.dav_model.specs.Conditions.{Fields, condition, first_bytes, ranges_are_heard, strong}
 use Rattle.dav_model.specs.Slices.{ranges}
 use Rattle.dav_model.specs.Times.{IsDate}
@@ -42,9 +43,27 @@ field_where name (Some value) = field name value ∷ []
 abbrev pub closing : Bool → List Field
 closing close = cond close (field (codes "connection") (codes "close") ∷ []) []
 
+-- What tells caches to keep nothing stands before the field of the connection, and behind the length.
+abbrev pub uncached_first : Bool → List Field
+uncached_first uncached = cond uncached (field (codes "cache-control") (codes "no-store, no-cache, must-revalidate") ∷ []) []
+
+abbrev pub uncached_last : Bool → List Field
+uncached_last uncached = cond uncached (field (codes "expires") (codes "0") ∷ field (codes "pragma") (codes "no-cache") ∷ field (codes "vary") (codes "*") ∷ []) []
+
+abbrev pub refused_fields : Bool → Bool → List Field
+refused_fields uncached close = uncached_first uncached ++ (closing close ++ field (codes "content-length") (codes "0") ∷ uncached_last uncached)
+
 -- A refusal has no body.
-abbrev pub refusal : ℕ → Bool → Reply
-refusal status close = record { status = status; fields = closing close ++ field (codes "content-length") (codes "0") ∷ []; parts = [] }
+abbrev pub refused_with : Bool → ℕ → Bool → Reply
+refused_with uncached status close = record { status = status; fields = refused_fields uncached close; parts = [] }
+
+-- Clients by Microsoft would keep in mind that nothing stands at a path.
+abbrev pub is_uncached : Fields → ℕ → Bool
+is_uncached fields status = status == 404 && is_from_microsoft fields
+
+-- what a request with these fields is refused with
+abbrev pub refusal : Fields → ℕ → Bool → Reply
+refusal fields status close = refused_with (is_uncached fields status) status close
 
 abbrev pub quoted : List ℕ → List ℕ
 quoted tag = 34 ∷ (tag ++ 34 ∷ [])

@@ -6,6 +6,7 @@ pub mod Times
 pub mod Requests
 pub mod Slices
 pub mod Conditions
+pub mod Clients
 pub mod Head
 pub mod Announced
 pub mod Trail

@@ -104,7 +104,7 @@ pub record Reads (rules : Rules) (k : Knowledge) (s t : Point) (q : Query) (repl
 
 -- The reply to a request with these fields between two points, by what it asks for.
 abbrev pub Replies : Target → Rules → Knowledge → Point → Point → Fields → Reply → Type 0
-Replies (Refused status close) rules k s t fields reply = reply ≡ refusal status close
+Replies (Refused status close) rules k s t fields reply = reply ≡ refusal fields status close
 Replies (At method path) rules k s t fields reply = Reads rules k s t (query rules.settings fields method path) reply
 
 -- ---- steps
@@ -126,7 +126,7 @@ pub record Polled (p : Playing) (s t : Point) (body : ℕ) (answer : Answer) (q 
   pub goes : Goes s t
   pub leaves : Leaves s t
   pub rest : List Part
-  pub gives : Polls s.told s.whole (read_size_of p.rules.settings.read_buf_size) s.faults t.faults (p.left body) answer rest
+  pub gives : Polls s.told s.whole (read_size_of p.rules.settings.read_buf_size) (Rose s.faults t.faults) (p.left body) answer rest
   pub gets : Gets body rest p q
   pub live : Lets (p.held body) gets.file s.live t.live
   -- how many calls of the disk it asks
@@ -226,7 +226,7 @@ IsOfTree rules s t q reply = (w : World) → s.told ≡ Some w → MeetsNoLink r
     → IsRight q (shown_in rules w) (Rose s.faults t.faults) reply
 
 abbrev pub RepliesByTree : Target → Rules → Point → Point → Fields → Reply → Type 0
-RepliesByTree (Refused status close) rules s t fields reply = reply ≡ refusal status close
+RepliesByTree (Refused status close) rules s t fields reply = reply ≡ refusal fields status close
 RepliesByTree (At method path) rules s t fields reply = IsOfTree rules s t (query rules.settings fields method path) reply
 
 -- The same of a step that was answered, if it is a request.

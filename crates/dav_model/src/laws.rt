@@ -15,7 +15,7 @@ ghost use Rattle.dav_model.specs.Conditions.{Fields};
 ghost use Rattle.dav_model.specs.Due.{IsHead, IsRight, Query, due, query};
 ghost use Rattle.dav_model.specs.Head.{Reply, is_well_known, refusal};
 ghost use Rattle.dav_model.specs.Play.{EachByTree, Learned, Played, PlayedOn, Playing, Plays, Stage, points_from};
-ghost use Rattle.dav_model.specs.Requests.{Asked};
+ghost use Rattle.dav_model.specs.Requests.{Asked, fields_of};
 ghost use Rattle.dav_model.specs.Rules.{Rules};
 ghost use Rattle.dav_model.specs.Shown.{CouldShow, Shown};
 ghost use Rattle.dav_model.specs.Trail.{Leaves, Move, Point, last_of, points_of, step_leaves, target_of};
@@ -26,16 +26,20 @@ ghost use Rattle.dav_model.specs.WellFormed.{IsWellFormed, IsWellFormedAnswer, g
 /// trail, whether the second's answers are a list of their own or go on from those of the first. The first had no want of
 /// memory.
 pub fn runs_join()
-    ensures goes_on { (xs ys : List Move) (a m b : Stage) (steps more : List Step) (old mid new : List Answer) (result : Result Unit NoMemory)
-        → Played xs a steps old mid (Ok tt) m → Played ys m more mid new result b → Played (xs ++ ys) a (steps ++ more) old new result b }
-    ensures joined { (xs ys : List Move) (a m b : Stage) (steps more : List Step) (old new added : List Answer) (result : Result Unit NoMemory)
+    ensures goes_on { (xs ys : List Move) (a m b : Stage) (steps more : List Step) (old mid new : List Answer)
+        (result : Result Unit NoMemory)
+        → Played xs a steps old mid (Ok tt) m → Played ys m more mid new result b
+        → Played (xs ++ ys) a (steps ++ more) old new result b }
+    ensures joined { (xs ys : List Move) (a m b : Stage) (steps more : List Step) (old new added : List Answer)
+        (result : Result Unit NoMemory)
         → Played xs a steps old new (Ok tt) m → Played ys m more [] added result b
         → Played (xs ++ ys) a (steps ++ more) old (new ++ added) result b }
 {}
 
 /// Reading changes no file: steps of which none is a turn of the outside leave the tree, the bytes and the script.
 pub fn reading_changes_no_file()
-    ensures { (p q : Playing) (s : Point) (moves : List Move) → AllByRecursion (λ move. step_leaves move.step ≡ true) moves
+    ensures { (p q : Playing) (s : Point) (moves : List Move)
+        → AllByRecursion (λ move. step_leaves move.step ≡ true) moves
         → Plays p s moves q → Leaves s (last_of s moves) }
 {}
 
@@ -48,8 +52,10 @@ pub fn each_reply_is_that_of_the_tree()
 
 /// What the memory knows at the exit of a run was known at its entry, or a world of its trail has it.
 pub fn what_is_known_was_told()
-    ensures { (trail : List Move) (a b : Stage) (steps : List Step) (old new : List Answer) (result : Result Unit NoMemory)
-        → Played trail a steps old new result b → AllByRecursion (λ point. is_some point.told ≡ true) (points_from a trail)
+    ensures { (trail : List Move) (a b : Stage) (steps : List Step) (old new : List Answer)
+        (result : Result Unit NoMemory)
+        → Played trail a steps old new result b → AllByRecursion (λ point. is_some point.told ≡ true)
+        (points_from a trail)
         → Learned (points_from a trail) a.playing.knows b.playing.knows }
 {}
 
@@ -58,10 +64,12 @@ pub fn what_is_known_was_told()
 /// field speaks of a body that isn't sent (RFC 9110, section 8.6).
 pub fn bodies_have_the_announced_length()
     ensures length { (target : Target) (reply : Reply) (value : List ℕ) (pieces : List (List ℕ))
-        → IsFramed target reply → length_is_own target reply.status ≡ true → value_of (codes "content-length") reply.fields ≡ Some value
+        → IsFramed target reply → length_is_own target reply.status ≡ true
+        → value_of (codes "content-length") reply.fields ≡ Some value
         → PolledToEnd reply.parts pieces → value ≡ decimal (bytes_in pieces) }
     ensures none { (target : Target) (reply : Reply) (pieces : List (List ℕ))
-        → IsFramed target reply → length_is_own target reply.status ≡ false → PolledToEnd reply.parts pieces → pieces ≡ [] }
+        → IsFramed target reply → length_is_own target reply.status ≡ false → PolledToEnd reply.parts pieces
+        → pieces ≡ [] }
 {}
 
 /// Of each right reply, and of what may stand in its place: `content-length` is the length of its body, no part of the body
@@ -88,8 +96,10 @@ pub fn right_replies_are_well_formed()
     ensures status { (q : Query) (shown : Shown) (before after : ℕ) (reply : Reply)
         → CouldShow shown → IsRight q shown (Rose before after) reply
         → (is_among reply.status right_statuses ≡ true) ⊎ ((reply.status ≡ 500) × Rose before after) }
-    ensures refused { (rules : Rules) (request : Asked) (status : ℕ) (close : Bool) → target_of rules request ≡ Refused status close
-        → (is_among status gate_statuses ≡ true) × IsWellFormed status (refusal status close).fields }
+    ensures refused { (rules : Rules) (request : Asked) (status : ℕ) (close : Bool)
+        → target_of rules request ≡ Refused status close
+        → (is_among status gate_statuses ≡ true)
+        × IsWellFormed status (refusal (fields_of request) status close).fields }
     ensures run { (a b : Stage) (steps : List Step) (old added : List Answer) (result : Result Unit NoMemory)
         → PlayedOn a steps old (old ++ added) result b → AllByRecursion IsWellFormedAnswer added }
 {}
@@ -98,7 +108,8 @@ pub fn right_replies_are_well_formed()
 /// answered by the same reply without its body (RFC 9110, section 9.3.2). Apart stand 412 and 416, at which `content-length`
 /// is that of the whole file for a HEAD, and 0 for a GET, and the one page that is there for GET alone.
 pub fn heads_are_gets_without_bodies()
-    ensures { (shown : Shown) (settings : Settings) (fields : Fields) (path : WebPath) (reply : Reply) → is_well_known settings Get path ≡ false
+    ensures { (shown : Shown) (settings : Settings) (fields : Fields) (path : WebPath) (reply : Reply)
+        → is_well_known settings Get path ≡ false
         → IsHead (query settings fields Get path) (due shown (query settings fields Get path)) reply
         → (reply.status ≡ 412 → ⊥) → (reply.status ≡ 416 → ⊥)
         → IsHead (query settings fields Head path) (due shown (query settings fields Head path)) (bare reply) }
