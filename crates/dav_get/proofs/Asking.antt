@@ -285,7 +285,7 @@ module _ {S C F L E : Type 0} (view : View S C F) (lists : Listings S C L E) (q 
 
   -- how often it asks, where it may give the page of a directory
   abbrev Told : ℕ → Given F → S → Type 0
-  Told b result t = (result ≡ Err NoMemory) ⊎ AsksUnlessPage (is_of_page (fields_given result)) (is_set q.settings.redirect) (status_given result) b (view.state t).asked
+  Told b result t = (result ≡ Err NoMemory) ⊎ AsksUnlessPage (is_of_page (fields_given q.fields result)) (is_set q.settings.redirect) (status_given result) b (view.state t).asked
 
   unless_page : (p r : Bool) (status before after : ℕ) → before ≤ after → AsksToGet r status before after → AsksUnlessPage p r status before after
   unless_page true r status before after le asks = le
@@ -293,7 +293,7 @@ module _ {S C F L E : Type 0} (view : View S C F) (lists : Listings S C L E) (q 
 
   told : (b : ℕ) (result : Given F) (t : S) → b ≤ (view.state t).asked → Done view q b (is_set q.settings.redirect) result t → Told b result t
   told b result t le (inl none) = inl none
-  told b result t le (inr asks) = inr (unless_page (is_of_page (fields_given result)) (is_set q.settings.redirect) (status_given result) b (view.state t).asked le asks)
+  told b result t le (inr asks) = inr (unless_page (is_of_page (fields_given q.fields result)) (is_set q.settings.redirect) (status_given result) b (view.state t).asked le asks)
 
   listing_asks : (b : ℕ) (answer : Result (List Member) FsError) (c : C) (s : S) (result : Given F) (t : S) → b ≤ (view.state t).asked → Asked view q b 1 s
       → IsListing view lists (is_get q.method) c q.path s answer t → AfterListing answer q result → Told b result t
@@ -321,7 +321,7 @@ module _ {S C F L E : Type 0} (view : View S C F) (lists : Listings S C L E) (q 
   look_asks b (Ok info) c s result t le was row = course_asks b (course q info.kind) c s result t le (refusing_other info) was row
 
   known_asks : (known : Bool) (c : C) (s : S) (result : Given F) (t : S) → (view.state s).asked ≤ (view.state t).asked → ByWellKnown view lists known q c s result t
-      → (result ≡ Err NoMemory) ⊎ AsksUnlessKnown known (is_set q.settings.redirect) (status_given result) (fields_given result) (view.state s).asked (view.state t).asked
+      → (result ≡ Err NoMemory) ⊎ AsksUnlessKnown known (is_set q.settings.redirect) (status_given result) (fields_given q.fields result) (view.state s).asked (view.state t).asked
   known_asks true c s result t le (same, row) = inr (ap (λ (x : S). (view.state x).asked) same)
   known_asks false c s result t le (look, m, looks, keeps, row) =
       look_asks (view.state s).asked look c m result t le (few.looks s m c q.path look looks) row
@@ -336,6 +336,6 @@ module _ {S C F L E : Type 0} (view : View S C F) (lists : Listings S C L E) (q 
 
   -- What the table answers asks few calls, unless it is a page.
   pub gets_asks : (c : C) (s : S) (result : Given F) (t : S) → OpenOnlyHeld view s result t → Gets view lists q c s result t ⊎ (result ≡ Err NoMemory)
-      → (result ≡ Err NoMemory) ⊎ AsksUnlessKnown (is_well_known q.settings q.method q.path) (is_set q.settings.redirect) (status_given result) (fields_given result) (view.state s).asked (view.state t).asked
+      → (result ≡ Err NoMemory) ⊎ AsksUnlessKnown (is_well_known q.settings q.method q.path) (is_set q.settings.redirect) (status_given result) (fields_given q.fields result) (view.state s).asked (view.state t).asked
   gets_asks c s result t life (inl row) = known_asks (is_well_known q.settings q.method q.path) c s result t (only_asked s t result life) row
   gets_asks c s result t life (inr none) = inl none

@@ -50,7 +50,7 @@ module _ {F : Type 0} (handle : F → ℕ) (seen : F → DiskState → Option Se
   pub takes_right : (s t : DiskState) (b : GetBody F) (left : List BodyPart) (answer : Answer) (rest : List BodyPart) (told : Option World) (number : ℕ)
       → (list_any is_slice left ≡ true → is_some b.file ≡ true) → StandsIn seen s told b.file → HasNumber seen s b.file number
       → Takes seen s b (Rose s.faults t.faults) left answer rest
-      → PollsParts told s.whole b.most s.faults t.faults (parts_of number left) answer (parts_of number rest)
+      → PollsParts told s.whole b.most (Rose s.faults t.faults) (parts_of number left) answer (parts_of number rest)
   takes_right s t b [] answer rest told number needs stands has (end, none) = (end, ap (parts_of number) none)
   takes_right s t b (Text bytes ∷ parts) answer rest told number needs stands has (is, left) = inl (bytes, is, (refl, ap (parts_of number) left))
   takes_right s t b (SliceOf part ∷ parts) answer rest told number needs stands has (inr (is, none, rose)) = inr (is, ap (parts_of number) none, rose)

@@ -12,6 +12,7 @@ use Rattle.dav_core.specs.Statuses.{closes, of_fs, status_of}
 use Rattle.dav_core.specs.Tree.{is_file}
 use Rattle.dav_page.specs.Listed.{AreRows}
 use Rattle.dav_store.specs.View.{View, Listings}
+use Rattle.dav_model.specs.Conditions.{Fields}
 use Rattle.dav_model.specs.declared.outcome.Outcome.{Outcome}
 use Rattle.dav_model.specs.declared.sent.Sent.{Sent}
 use Rattle.dav_model.specs.declared.target.Target.TheVariants.{At}
@@ -31,7 +32,7 @@ use Rattle.dav_get.proofs.Sending.{sends_right}
 
 -- what holds of all that the table may answer: of a refusal, a redirect, the page of a well-known server, and of what is sent
 record HoldsOfAll (method : DavMethod) (P : Reply → Type 0) : Type 0 where
-  refusals : (status : ℕ) (close : Bool) → P (refusal status close)
+  refusals : (fields : Fields) (status : ℕ) (close : Bool) → P (refusal fields status close)
   redirects : (address : List ℕ) (tag date : Option (List ℕ)) → P (redirected address tag date)
   slashes : (path : WebPath) → P (directed path)
   page : P well_known
@@ -41,10 +42,10 @@ record HoldsOfAll (method : DavMethod) (P : Reply → Type 0) : Type 0 where
 module _ {S C F : Type 0} (view : View S C F) (q : Query) (c : C) (number : ℕ) (P : Reply → Type 0) (all : HoldsOfAll q.method P) where
   -- the reply, with slices of the file of any number
   abbrev Holding : Given F → Type 0
-  Holding result = P (reply_at {F = F} number result)
+  Holding result = P (reply_at {F = F} q.fields number result)
 
   refused : (e : DavError) (result : Given F) → result ≡ Err e → Holding result
-  refused e result is = subst P (sym (ap (reply_at {F = F} number) is)) (all.refusals (status_of e) (closes e))
+  refused e result is = subst P (sym (ap (reply_at {F = F} q.fields number) is)) (all.refusals q.fields (status_of e) (closes e))
 
   sends : (info : Info) (sent : Sent) (held : OpenAt F) (s : S) (answer : Answer F) (t : S) → HasSlices sent
       → Sends view q info sent held s answer t → Holding (Ok answer)
@@ -71,7 +72,7 @@ module _ {S C F : Type 0} (view : View S C F) (q : Query) (c : C) (number : ℕ)
   after_redirect (Ok None) info file s result t row = sends_file info file s result t row
   after_redirect (Ok (Some address)) info file s (Err e) t row = absurd row
   after_redirect (Ok (Some address)) info file s (Ok r) t ((date, dated, is), closed, (left, none)) =
-      let reply : reply_at {F = F} number (Ok r) ≡ redirected address info.tag date =
+      let reply : reply_at {F = F} q.fields number (Ok r) ≡ redirected address info.tag date =
       λ i. record { status = ap (λ (o : Outcome). o.status) is i; fields = ap (λ (o : Outcome). o.fields) is i; parts = ap (parts_of number) left i } in
       subst P (sym reply) (all.redirects address info.tag date)
 
@@ -94,41 +95,41 @@ module _ {S C F : Type 0} (view : View S C F) (q : Query) (c : C) (number : ℕ)
 
 module _ {S C F L E : Type 0} (view : View S C F) (lists : Listings S C L E) (q : Query) (c : C) (number : ℕ) (P : Reply → Type 0) (all : HoldsOfAll q.method P) where
   -- an answer without a file
-  alone : (r : Answer F) (reply : Reply) → r.0 ≡ outcome_of reply → IsEmpty r.1 → reply.parts ≡ [] → P reply → P (reply_at {F = F} number (Ok r))
+  alone : (r : Answer F) (reply : Reply) → r.0 ≡ outcome_of reply → IsEmpty r.1 → reply.parts ≡ [] → P reply → P (reply_at {F = F} q.fields number (Ok r))
   alone r reply is (left, none) empty holds =
-      let same : reply_at {F = F} number (Ok r) ≡ reply =
+      let same : reply_at {F = F} q.fields number (Ok r) ≡ reply =
       λ i. record { status = ap (λ (o : Outcome). o.status) is i; fields = ap (λ (o : Outcome). o.fields) is i; parts = (ap (parts_of number) left ∙ sym empty) i } in
       subst P (sym same) holds
 
-  by_listing : (answer : Result (List Member) FsError) (result : Given F) → AfterListing answer q result → P (reply_at {F = F} number result)
+  by_listing : (answer : Result (List Member) FsError) (result : Given F) → AfterListing answer q result → P (reply_at {F = F} q.fields number result)
   by_listing (Err e) result is = refused view q c number P all (of_fs e) result is
-  by_listing (Ok members) result row = all.pages q.path members (reply_at {F = F} number result) (page_given q members number result row)
+  by_listing (Ok members) result row = all.pages q.path members (reply_at {F = F} q.fields number result) (page_given q members number result row)
 
-  by_course : (co : Course) (s : S) (result : Given F) (t : S) → ByCourse view lists co q c s result t → P (reply_at {F = F} number result)
+  by_course : (co : Course) (s : S) (result : Given F) (t : S) → ByCourse view lists co q c s result t → P (reply_at {F = F} q.fields number result)
   by_course (refusing status close) s result t (same, is) = refused view q c number P all (refused_as status close) result is
   by_course directing s (Err e) t (same, directs) = absurd directs
   by_course directing s (Ok r) t (same, (is, empty)) = alone r (directed q.path) is empty refl (all.slashes q.path)
   by_course listing s result t (answer, listed, keeps, row) = by_listing answer result row
   by_course (opening path) s result t (opened, m, opens, one, row) = after_open view (asked_at q path) c number P all opened m result t row
 
-  after_look : (looked : Result Info FsError) (s : S) (result : Given F) (t : S) → AfterLook view lists looked q c s result t → P (reply_at {F = F} number result)
+  after_look : (looked : Result Info FsError) (s : S) (result : Given F) (t : S) → AfterLook view lists looked q c s result t → P (reply_at {F = F} q.fields number result)
   after_look (Err e) s result t (same, is) = refused view q c number P all (of_fs e) result is
   after_look (Ok info) s result t row = by_course (course q info.kind) s result t row
 
-  by_well_known : (known : Bool) (s : S) (result : Given F) (t : S) → ByWellKnown view lists known q c s result t → P (reply_at {F = F} number result)
+  by_well_known : (known : Bool) (s : S) (result : Given F) (t : S) → ByWellKnown view lists known q c s result t → P (reply_at {F = F} q.fields number result)
   by_well_known true s (Err e) t (same, row) = absurd row
   by_well_known true s (Ok r) t (same, (is, empty)) = alone r well_known is empty refl all.page
   by_well_known false s result t (looked, m, looks, keeps, row) = after_look looked m result t row
 
   -- what the table answers, or want of memory
-  gets_hold : (s : S) (result : Given F) (t : S) → Gets view lists q c s result t ⊎ (result ≡ Err NoMemory) → P (reply_at {F = F} number result)
+  gets_hold : (s : S) (result : Given F) (t : S) → Gets view lists q c s result t ⊎ (result ≡ Err NoMemory) → P (reply_at {F = F} q.fields number result)
   gets_hold s result t (inl row) = by_well_known (is_well_known q.settings q.method q.path) s result t row
   gets_hold s result t (inr is) = refused view q c number P all NoMemory result is
 
 -- `content-length` is that of the body, whichever path is asked.
 framed_all : (method : DavMethod) (path : WebPath) → HoldsOfAll method (λ (x : Reply). IsFramed (At method path) x)
 framed_all method path = record {
-  refusals = λ status close. refused_framed (At method path) (refusal status close) status close refl;
+  refusals = λ fields status close. refused_framed (At method path) (refusal fields status close) fields status close refl;
   redirects = framed_redirect (length_is_own (At method path) 302);
   slashes = directed_framed (At method path);
   page = framed_well_known (length_is_own (At method path) 200);
@@ -138,7 +139,7 @@ framed_all method path = record {
 
 sound_all : (method : DavMethod) → HoldsOfAll method HasSoundBody
 sound_all method = record {
-  refusals = λ status close. sound_empty (refusal status close) refl;
+  refusals = λ fields status close. sound_empty (refusal fields status close) refl;
   redirects = λ address tag date. sound_empty (redirected address tag date) refl;
   slashes = λ path. sound_empty (directed path) refl;
   page = sound_empty well_known refl;
@@ -148,8 +149,8 @@ sound_all method = record {
 
 module _ {S C F L E : Type 0} (view : View S C F) (lists : Listings S C L E) (q : Query) (c : C) (number : ℕ) where
   pub gets_framed : (s : S) (result : Given F) (t : S) → Gets view lists q c s result t ⊎ (result ≡ Err NoMemory)
-      → IsFramed (At q.method q.path) (reply_at {F = F} number result)
+      → IsFramed (At q.method q.path) (reply_at {F = F} q.fields number result)
   gets_framed = gets_hold view lists q c number (λ (x : Reply). IsFramed (At q.method q.path) x) (framed_all q.method q.path)
 
-  pub gets_sound : (s : S) (result : Given F) (t : S) → Gets view lists q c s result t ⊎ (result ≡ Err NoMemory) → HasSoundBody (reply_at {F = F} number result)
+  pub gets_sound : (s : S) (result : Given F) (t : S) → Gets view lists q c s result t ⊎ (result ≡ Err NoMemory) → HasSoundBody (reply_at {F = F} q.fields number result)
   gets_sound = gets_hold view lists q c number HasSoundBody (sound_all q.method)

@@ -53,7 +53,7 @@ module _ {S C F : Type 0} (view : View S C F) (q : Query) (s : S) (result : Give
   Risen = Rose (view.state s).faults (view.state t).faults
 
   abbrev IsFor : Due → ℕ → Type 0
-  IsFor d n = IsHead q d (reply_at {F = F} n result) ⊎ (IsSpoiled q d (reply_at {F = F} n result) × Risen)
+  IsFor d n = IsHead q d (reply_at {F = F} q.fields n result) ⊎ (IsSpoiled q d (reply_at {F = F} q.fields n result) × Risen)
 
   -- what a store refuses an opening with, where nothing failed
   abbrev OpensFew : Type 0
@@ -67,31 +67,31 @@ module _ {S C F : Type 0} (view : View S C F) (q : Query) (s : S) (result : Give
 
   -- a call that was refused because of a fault: maybe nothing stood there
   fault_opened : (number : Option ℕ) (o : Result Stood FsError) (e : FsError) → o ≡ Err e → e ≡ fs.GeneralFailure → Risen
-      → IsPlacedOr q (due_opened q.path o) Risen (reply_at {F = F} (or_zero number) result) → Opened number
+      → IsPlacedOr q (due_opened q.path o) Risen (reply_at {F = F} q.fields (or_zero number) result) → Opened number
   fault_opened number o e is fault rose right = record {
     opened = Err fs.NotFound;
     could = inl refl;
-    right = at (subst (λ x. IsPlacedOr q (due_opened q.path x) Risen (reply_at {F = F} (or_zero number) result)) (is ∙ ap Err fault) right);
+    right = at (subst (λ x. IsPlacedOr q (due_opened q.path x) Risen (reply_at {F = F} q.fields (or_zero number) result)) (is ∙ ap Err fault) right);
   }
     where
-      at : IsPlacedOr q (refused (fs_status fs.GeneralFailure) false) Risen (reply_at {F = F} (or_zero number) result) → IsFor (refused (fs_status fs.NotFound) false) (or_zero number)
+      at : IsPlacedOr q (refused (fs_status fs.GeneralFailure) false) Risen (reply_at {F = F} q.fields (or_zero number) result) → IsFor (refused (fs_status fs.NotFound) false) (or_zero number)
       at (inl head) = inr (head, rose)
       at (inr (none, risen)) = absurd none
 
   spoiled_opened : {T : Type 0} (number : Option ℕ) (o : Result Stood FsError) (e : FsError) (r : Result T FsError) (x y : S) → o ≡ Err e → WasHad o → r ≡ Err e
       → Spoiled (view.state x) r (view.state y) → (view.state s).faults ≤ (view.state x).faults → (view.state y).faults ≤ (view.state t).faults
-      → IsPlacedOr q (due_opened q.path o) Risen (reply_at {F = F} (or_zero number) result) → Opened number
+      → IsPlacedOr q (due_opened q.path o) Risen (reply_at {F = F} q.fields (or_zero number) result) → Opened number
   spoiled_opened number o e r x y is had same (inl (fault, rose)) before after right =
       let general : e ≡ fs.GeneralFailure = cc in fault_opened number o e is general (rose_through _ _ _ _ before rose after) right
   spoiled_opened number o e r x y is had same (inr none) before after right = absurd (had (let f : o ≡ Err fs.NoMemory = cc in f))
 
-  module _ (number : Option ℕ) (o : Result Stood FsError) (had : WasHad o) (right : IsPlacedOr q (due_opened q.path o) Risen (reply_at {F = F} (or_zero number) result)) where
+  module _ (number : Option ℕ) (o : Result Stood FsError) (had : WasHad o) (right : IsPlacedOr q (due_opened q.path o) Risen (reply_at {F = F} q.fields (or_zero number) result)) where
     -- what was heard could stand there
     heard_opened : (given : Result Stood FsError) → o ≡ given → Could CouldStand given → Opened number
     heard_opened given is could = record {
       opened = given;
       could = could;
-      right = placed q (due_opened q.path given) Risen _ (subst (λ x. IsPlacedOr q (due_opened q.path x) Risen (reply_at {F = F} (or_zero number) result)) is right);
+      right = placed q (due_opened q.path given) Risen _ (subst (λ x. IsPlacedOr q (due_opened q.path x) Risen (reply_at {F = F} q.fields (or_zero number) result)) is right);
     }
 
     address_opened : (b : Bool) (info : Info) (g : F) (m : S) → CouldSay info → (view.state s).faults ≤ (view.state m).faults
@@ -141,7 +141,7 @@ module _ {S C F L E : Type 0} (view : View S C F) (lists : Listings S C L E) (q 
 
   -- a listing
   listing_found : (few : RefusesFew view lists) (c : C) (number : Option ℕ) (l : Result (List Member) FsError) (m : S) → WasHad l → (view.state s).faults ≤ (view.state m).faults
-      → IsPlacedOr q (due_listed q.path l) Rises (reply_at {F = F} (or_zero number) result) → IsListing view lists (is_get q.method) c q.path m l t → Keeps (view.state m) (view.state t)
+      → IsPlacedOr q (due_listed q.path l) Rises (reply_at {F = F} q.fields (or_zero number) result) → IsListing view lists (is_get q.method) c q.path m l t → Keeps (view.state m) (view.state t)
       → Taken number listing
   listing_found few c number (Ok members) m had le right (read, plain) kept = record {
     opened = nothing;
@@ -158,14 +158,14 @@ module _ {S C F L E : Type 0} (view : View S C F) (lists : Listings S C L E) (q 
     | inr (inr none) ↦ absurd (had (ap Err (let f : e ≡ fs.NoMemory = cc in f)))
   ]
     where
-      failed : (e : FsError) → e ≡ fs.GeneralFailure → Rises → IsPlacedOr q (refused (fs_status e) false) Rises (reply_at {F = F} (or_zero number) result)
+      failed : (e : FsError) → e ≡ fs.GeneralFailure → Rises → IsPlacedOr q (refused (fs_status e) false) Rises (reply_at {F = F} q.fields (or_zero number) result)
           → IsForDue (refused (fs_status fs.NotFound) false) (or_zero number)
-      failed e is rose (inl head) = inr (head ∙ ap (λ x. refusal (fs_status x) false) is, rose)
+      failed e is rose (inl head) = inr (head ∙ ap (λ x. refusal q.fields (fs_status x) false) is, rose)
       failed e is rose (inr (none, risen)) = absurd none
 
   course_found : (few : RefusesFew view lists) (co : Course) (c : C) (number : Option ℕ) (shown : Result Info FsError) (o : Result Stood FsError) (l : Result (List Member) FsError) (m : S) → WasHad o → WasHad l
       → (view.state s).faults ≤ (view.state m).faults
-      → IsPlacedOr q (due_course (shown_heard shown o l) q.path co) Rises (reply_at {F = F} (or_zero number) result)
+      → IsPlacedOr q (due_course (shown_heard shown o l) q.path co) Rises (reply_at {F = F} q.fields (or_zero number) result)
       → HearsCourse view lists q co c number m o l t → Taken number co
   course_found few (refusing status close) c number shown o l m had l_had le right counts =
       record { opened = nothing; listed = none_listed; could = inl refl; plain = inl refl; right = λ looked. placed q (refused status close) Rises _ right }
@@ -173,14 +173,14 @@ module _ {S C F L E : Type 0} (view : View S C F) (lists : Listings S C L E) (q 
       record { opened = nothing; listed = none_listed; could = inl refl; plain = inl refl; right = λ looked. placed q (to_slash q.path) Rises _ right }
   course_found few listing c number shown o l m had l_had le right (lists', kept) = listing_found few c number l m l_had le right lists' kept
   course_found few (opening path) c number shown o l m had l_had le right (answer, x, opens, one, heard) =
-      let right1 = placed_at (asked_at q path) q.path (due_opened path o) Rises (reply_at {F = F} (or_zero number) result) right in
+      let right1 = placed_at (asked_at q path) q.path (due_opened path o) Rises (reply_at {F = F} q.fields (or_zero number) result) right in
       let found = file_opened view (asked_at q path) s result t number o had right1 few.opens c answer m x opens le (opened_counts answer one) heard in
       record {
         opened = found.opened;
         listed = none_listed;
         could = found.could;
         plain = inl refl;
-        right = λ looked. fit_at q path (due_opened path found.opened) Rises (reply_at {F = F} (or_zero number) result) found.right;
+        right = λ looked. fit_at q path (due_opened path found.opened) Rises (reply_at {F = F} q.fields (or_zero number) result) found.right;
       }
     where
       opened_counts : (answer : Result F FsError) → OpensOne view.handle view.seen reading (view.state m) answer (view.state x)
@@ -201,7 +201,7 @@ module _ {S C F L E : Type 0} (view : View S C F) (lists : Listings S C L E) (q 
   look_found : (few : RefusesFew view lists) (r : Result Info FsError) (c : C) (number : Option ℕ) (o : Result Stood FsError) (l : Result (List Member) FsError) (m : S) → view.looks s c q.path r m
       → WasHad o → WasHad l
       → (view.state s).faults ≤ (view.state m).faults
-      → IsPlacedOr q (due_looked (shown_heard r o l) q (looked_of r)) Rises (reply_at {F = F} (or_zero number) result)
+      → IsPlacedOr q (due_looked (shown_heard r o l) q (looked_of r)) Rises (reply_at {F = F} q.fields (or_zero number) result)
       → HearsLook view lists q r c number m o l t → Found number
   look_found few (Ok info) c number o l m looks had l_had le right heard =
       let found = course_found few (course q info.kind) c number (Ok info) o l m had l_had le right heard in
@@ -219,7 +219,7 @@ module _ {S C F L E : Type 0} (view : View S C F) (lists : Listings S C L E) (q 
     | inl could ↦ record { looked = Err e; opened = nothing; listed = none_listed; look_could = could; open_could = inl refl; list_could = inl refl; right = inl head }
     | inr fault ↦
         let general : e ≡ fs.GeneralFailure = (let f = fault.0 in cc) in
-        let failed : reply_at {F = F} (or_zero number) result ≡ failure = head ∙ ap (λ x. refusal (fs_status x) false) general in
+        let failed : reply_at {F = F} q.fields (or_zero number) result ≡ failure = head ∙ ap (λ x. refusal q.fields (fs_status x) false) general in
         record {
           looked = nothing;
           opened = nothing;
@@ -234,7 +234,7 @@ module _ {S C F L E : Type 0} (view : View S C F) (lists : Listings S C L E) (q 
   heard_found : (few : RefusesFew view lists) (b : Bool) (c : C) → is_well_known q.settings q.method q.path ≡ b → Heard view lists q c s result t → IsRightForSome view q s result t
   heard_found few false c plain h =
       let (m, look, keeps, hears) = h.hears plain in
-      let right = subst (λ b. IsPlacedOr q (cond b known (due_looked (shown_heard h.looked h.opened h.listed) q (looked_of h.looked))) Rises (reply_at {F = F} (or_zero h.number) result)) plain h.right in
+      let right = subst (λ b. IsPlacedOr q (cond b known (due_looked (shown_heard h.looked h.opened h.listed) q (looked_of h.looked))) Rises (reply_at {F = F} q.fields (or_zero h.number) result)) plain h.right in
       let found = look_found few h.looked c h.number h.opened h.listed m look h.opened_had h.listed_had keeps.counts right hears in
       record {
         looked = found.looked;
@@ -248,7 +248,7 @@ module _ {S C F L E : Type 0} (view : View S C F) (lists : Listings S C L E) (q 
         file = h.file;
       }
   heard_found few true c known_page h =
-      let right = subst (λ b. IsPlacedOr q (cond b known (due_looked (shown_heard h.looked h.opened h.listed) q (looked_of h.looked))) Rises (reply_at {F = F} (or_zero h.number) result)) known_page h.right in
+      let right = subst (λ b. IsPlacedOr q (cond b known (due_looked (shown_heard h.looked h.opened h.listed) q (looked_of h.looked))) Rises (reply_at {F = F} q.fields (or_zero h.number) result)) known_page h.right in
       record {
         looked = nothing;
         opened = nothing;
@@ -272,7 +272,7 @@ module _ {S C F L E : Type 0} (view : View S C F) (lists : Listings S C L E) (q 
     pub number : Option ℕ
     pub could : Could CouldStand opened
     pub plain : Could (AllByRecursion HasPlainName) listed
-    pub right : IsRight q (shown_alike (Ok (stood_of there)) opened listed) Rises (reply_at {F = F} (or_zero number) result)
+    pub right : IsRight q (shown_alike (Ok (stood_of there)) opened listed) Rises (reply_at {F = F} q.fields (or_zero number) result)
     pub file : IsOfNumber view number t result
 
   -- what was opened or listed for what stands there, as it could be
@@ -285,7 +285,7 @@ module _ {S C F L E : Type 0} (view : View S C F) (lists : Listings S C L E) (q 
 
   look_there : (few : RefusesFew view lists) (there : Standing) (r : Result Info FsError) (c : C) (number : Option ℕ) (o : Result Stood FsError) (l : Result (List Member) FsError) (m : S)
       → LooksThere (Ok there) r ⊎ Spoiled (view.state s) r (view.state m) → WasHad r → WasHad o → WasHad l → (view.state s).faults ≤ (view.state m).faults
-      → IsPlacedOr q (due_looked (shown_heard r o l) q (looked_of r)) Rises (reply_at {F = F} (or_zero number) result)
+      → IsPlacedOr q (due_looked (shown_heard r o l) q (looked_of r)) Rises (reply_at {F = F} q.fields (or_zero number) result)
       → HearsLook view lists q r c number m o l t → FoundThere there number
   look_there few there (Ok info) c number o l m (inl agrees) looked_had had l_had le right heard =
       let found = course_found few (course q info.kind) c number (Ok info) o l m had l_had le right heard in
@@ -304,7 +304,7 @@ module _ {S C F L E : Type 0} (view : View S C F) (lists : Listings S C L E) (q 
   look_there few there (Err e) c number o l m (inr (inl (is, rose))) looked_had had l_had le (inr (none, risen)) counts = absurd none
   look_there few there (Err e) c number o l m (inr (inl (is, rose))) looked_had had l_had le (inl head) counts =
       let general : e ≡ fs.GeneralFailure = cc in
-      let failed : reply_at {F = F} (or_zero number) result ≡ failure = head ∙ ap (λ x. refusal (fs_status x) false) general in
+      let failed : reply_at {F = F} q.fields (or_zero number) result ≡ failure = head ∙ ap (λ x. refusal q.fields (fs_status x) false) general in
       record {
         opened = nothing;
         listed = none_listed;
@@ -317,7 +317,7 @@ module _ {S C F L E : Type 0} (view : View S C F) (lists : Listings S C L E) (q 
       → Shows view s c q.path (Ok there) other → Heard view lists q c s result t → IsRightThere there
   heard_by few false there other c plain shows h =
       let (m, look, keeps, hears) = h.hears plain in
-      let right = subst (λ b. IsPlacedOr q (cond b known (due_looked (shown_heard h.looked h.opened h.listed) q (looked_of h.looked))) Rises (reply_at {F = F} (or_zero h.number) result)) plain h.right in
+      let right = subst (λ b. IsPlacedOr q (cond b known (due_looked (shown_heard h.looked h.opened h.listed) q (looked_of h.looked))) Rises (reply_at {F = F} q.fields (or_zero h.number) result)) plain h.right in
       let found = look_there few there h.looked c h.number h.opened h.listed m (shows.looks_there s m h.looked here look) h.looked_had h.opened_had h.listed_had keeps.counts right hears in
       record {
         opened = found.opened;
@@ -329,7 +329,7 @@ module _ {S C F L E : Type 0} (view : View S C F) (lists : Listings S C L E) (q 
         file = h.file;
       }
   heard_by few true there other c known_page shows h =
-      let right = subst (λ b. IsPlacedOr q (cond b known (due_looked (shown_heard h.looked h.opened h.listed) q (looked_of h.looked))) Rises (reply_at {F = F} (or_zero h.number) result)) known_page h.right in
+      let right = subst (λ b. IsPlacedOr q (cond b known (due_looked (shown_heard h.looked h.opened h.listed) q (looked_of h.looked))) Rises (reply_at {F = F} q.fields (or_zero h.number) result)) known_page h.right in
       record {
         opened = nothing;
         listed = none_listed;

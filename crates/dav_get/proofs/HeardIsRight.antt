@@ -22,6 +22,7 @@ use Rattle.dav_store.specs.Shows.{here, looks, Looked, LooksThere, OpensThere, I
 use Rattle.dav_store.specs.Standing.{Standing, Seen, Agrees, AgreesOpen}
 use Rattle.dav_store.specs.Members.{BeginsThere, ShowsMembers}
 use Rattle.dav_store.specs.View.{View, Listings, seen_in, Says as SaysOf}
+use Rattle.dav_model.specs.Conditions.{Fields}
 use Rattle.dav_model.specs.Due.{Course, Due, Query, IsHead, IsSpoiled, course, directing, due_course, due_kind, due_listed, due_looked, due_opened, due_sent, failure, known, listing, opening, page, refused, refusing, to_slash, file as sends}
 use Rattle.dav_model.specs.Indexes.{AreRowsOfSome, IsIndexReply}
 use Rattle.dav_model.specs.Head.{IsFileHead, Reply, Stood, address_of, directed, is_get, is_set, is_well_known, refusal, well_known}
@@ -47,9 +48,9 @@ none_left n [] is = refl
 none_left n (part ∷ parts) is = cc
 
 -- A reply without parts is the same under any number.
-renumbered : {F : Type 0} (n k : ℕ) (result : Given F) (reply : Reply) → reply.parts ≡ [] → reply_at n result ≡ reply → reply_at k result ≡ reply
-renumbered n k (Err e) reply none is = is
-renumbered n k (Ok r) reply none is =
+renumbered : {F : Type 0} (fields : Fields) (n k : ℕ) (result : Given F) (reply : Reply) → reply.parts ≡ [] → reply_at fields n result ≡ reply → reply_at fields k result ≡ reply
+renumbered fields n k (Err e) reply none is = is
+renumbered fields n k (Ok r) reply none is =
     let left : left_of r.1 ≡ [] = none_left n (left_of r.1) (ap (λ (x : Reply). x.parts) is ∙ none) in
     let parts : parts_of k (left_of r.1) ≡ reply.parts = ap (parts_of k) left ∙ sym none in
     λ i. record { status = ap (λ (x : Reply). x.status) is i; fields = ap (λ (x : Reply). x.fields) is i; parts = parts i }
@@ -90,7 +91,7 @@ module _ {S C F : Type 0} (view : View S C F) (q : Query) where
     Risen = Rose (view.state s).faults (view.state t).faults
 
     abbrev TheReply : Reply
-    TheReply = reply_at {F = F} k result
+    TheReply = reply_at {F = F} q.fields k result
 
     -- right for what is due, and the body's file is told under this number
     record Settled (d : Due) : Type 0 where
@@ -98,7 +99,7 @@ module _ {S C F : Type 0} (view : View S C F) (q : Query) where
       named : IsOfNumber view (Some k) t result
 
     -- A body of a reply without parts has no file.
-    no_file : (x : Given F) → OpenOnlyHeld view s x t → (reply : Reply) → reply.parts ≡ [] → reply_at k x ≡ reply → IsOfNumber view (Some k) t x
+    no_file : (x : Given F) → OpenOnlyHeld view s x t → (reply : Reply) → reply.parts ≡ [] → reply_at q.fields k x ≡ reply → IsOfNumber view (Some k) t x
     no_file (Err e) only reply none is = tt
     no_file (Ok r) only reply none is =
         let left = none_left k (left_of r.1) (ap (λ (x : Reply). x.parts) is ∙ none) in
@@ -108,38 +109,38 @@ module _ {S C F : Type 0} (view : View S C F) (q : Query) where
         both None h over some = cc
         both (Some g) h over some = cc
 
-    refused_settled : (status : ℕ) (close : Bool) (n : ℕ) → reply_at n result ≡ refusal status close → Settled (refused status close)
+    refused_settled : (status : ℕ) (close : Bool) (n : ℕ) → reply_at q.fields n result ≡ refusal q.fields status close → Settled (refused status close)
     refused_settled status close n is =
-        let at = renumbered n k result (refusal status close) refl is in
-        record { right = inl at; named = no_file result life (refusal status close) refl at }
+        let at = renumbered q.fields n k result (refusal q.fields status close) refl is in
+        record { right = inl at; named = no_file result life (refusal q.fields status close) refl at }
 
     -- a call that was refused because of a fault
-    fault_settled : (d : Due) (e : FsError) (n : ℕ) → ((reply : Reply) → reply ≡ failure → IsSpoiled q d reply) → e ≡ fs.GeneralFailure → reply_at n result ≡ refusal (fs_status e) false
+    fault_settled : (d : Due) (e : FsError) (n : ℕ) → ((reply : Reply) → reply ≡ failure → IsSpoiled q d reply) → e ≡ fs.GeneralFailure → reply_at q.fields n result ≡ refusal q.fields (fs_status e) false
         → Risen → Settled d
     fault_settled d e n may fault is rose =
-        let failed : reply_at n result ≡ failure = is ∙ ap (λ x. refusal (fs_status x) false) fault in
-        let at = renumbered n k result failure refl failed in
-        record { right = inr (may (reply_at k result) at, rose); named = no_file result life failure refl at }
+        let failed : reply_at q.fields n result ≡ failure = is ∙ ap (λ x. refusal q.fields (fs_status x) false) fault in
+        let at = renumbered q.fields n k result failure refl failed in
+        record { right = inr (may (reply_at q.fields k result) at, rose); named = no_file result life failure refl at }
 
     -- what is heard of a refused opening
-    heard_refused : (o : Result Stood FsError) (e : FsError) (n : ℕ) → o ≡ Err e → IsPlacedOr q (due_opened q.path o) Risen (reply_at n result)
-        → reply_at n result ≡ refusal (fs_status e) false
-    heard_refused o e n is right = at (subst (λ x. IsPlacedOr q (due_opened q.path x) Risen (reply_at n result)) is right)
+    heard_refused : (o : Result Stood FsError) (e : FsError) (n : ℕ) → o ≡ Err e → IsPlacedOr q (due_opened q.path o) Risen (reply_at q.fields n result)
+        → reply_at q.fields n result ≡ refusal q.fields (fs_status e) false
+    heard_refused o e n is right = at (subst (λ x. IsPlacedOr q (due_opened q.path x) Risen (reply_at q.fields n result)) is right)
       where
-        at : IsPlacedOr q (refused (fs_status e) false) Risen (reply_at n result) → reply_at n result ≡ refusal (fs_status e) false
+        at : IsPlacedOr q (refused (fs_status e) false) Risen (reply_at q.fields n result) → reply_at q.fields n result ≡ refusal q.fields (fs_status e) false
         at (inl head) = head
         at (inr (none, rose)) = absurd none
 
     spoiled_settled : {T : Type 0} (d : Due) (r : Result T FsError) (e : FsError) (o : Result Stood FsError) (x y : S) (n : ℕ) → ((reply : Reply) → reply ≡ failure → IsSpoiled q d reply)
         → r ≡ Err e → Spoiled (view.state x) r (view.state y) → o ≡ Err e → WasHad o
         → (view.state s).faults ≤ (view.state x).faults → (view.state y).faults ≤ (view.state t).faults
-        → IsPlacedOr q (due_opened q.path o) Risen (reply_at n result) → Settled d
+        → IsPlacedOr q (due_opened q.path o) Risen (reply_at q.fields n result) → Settled d
     spoiled_settled d r e o x y n may is (inl (fault, rose)) same had before after right =
         fault_settled d e n may (let f : e ≡ fs.GeneralFailure = cc in f) (heard_refused o e n same right) (rose_through _ _ _ _ before rose after)
     spoiled_settled d r e o x y n may is (inr none) same had before after right = absurd (had (let f : o ≡ Err fs.NoMemory = cc in f))
 
     module _ (there : Standing) (number : Option ℕ) (o : Result Stood FsError) (had : WasHad o) (named : IsOfNumber view number t result)
-        (right : IsPlacedOr q (due_opened q.path o) Risen (reply_at (or_zero number) result)) where
+        (right : IsPlacedOr q (due_opened q.path o) Risen (reply_at q.fields (or_zero number) result)) where
       abbrev DueThere : Due
       DueThere = due_opened q.path (Ok (stood_of there))
 
@@ -152,9 +153,9 @@ module _ {S C F : Type 0} (view : View S C F) (q : Query) where
           let other : Stood = record (stood_of there) { address = address } in
           let same : stood ≡ other = λ i. record { kind = agrees.kind i; number = or_zero (told i); len = agrees.len i; modified = agrees.modified i; tag = agrees.tag i; address = address } in
           let numbered : or_zero number ≡ k = ap or_zero told ∙ sym key in
-          let right1 = subst (λ x. IsPlacedOr q (due_opened q.path x) Risen (reply_at (or_zero number) result)) (is ∙ ap Ok same) right in
-          let right2 = subst (λ j. IsPlacedOr q (due_sent j q.path other) Risen (reply_at (or_zero number) result)) (kind_file there.kind regular) right1 in
-          let right3 = subst (λ n. IsPlacedOr q (sends q.path other) Risen (reply_at n result)) numbered right2 in
+          let right1 = subst (λ x. IsPlacedOr q (due_opened q.path x) Risen (reply_at q.fields (or_zero number) result)) (is ∙ ap Ok same) right in
+          let right2 = subst (λ j. IsPlacedOr q (due_sent j q.path other) Risen (reply_at q.fields (or_zero number) result)) (kind_file there.kind regular) right1 in
+          let right3 = subst (λ n. IsPlacedOr q (sends q.path other) Risen (reply_at q.fields n result)) numbered right2 in
           let where' : address_of q.settings other ≡ address_of q.settings (stood_of there) = sym (ap (address_of q.settings) same) ∙ to in
           let at : IsHead q (sends q.path (stood_of there)) TheReply ⊎ (IsSpoiled q (sends q.path (stood_of there)) TheReply × Risen) =
           elim right3 [
@@ -170,12 +171,12 @@ module _ {S C F : Type 0} (view : View S C F) (q : Query) where
       other_settled : (info : Info) (address : Option (List ℕ)) → info.kind ≡ there.kind → is_file there.kind ≡ false
           → o ≡ Ok (stood_heard number info address) → Settled DueThere
       other_settled info address kind other is =
-          let right1 = subst (λ x. IsPlacedOr q (due_opened q.path x) Risen (reply_at (or_zero number) result)) is right in
+          let right1 = subst (λ x. IsPlacedOr q (due_opened q.path x) Risen (reply_at q.fields (or_zero number) result)) is right in
           let none : is_file info.kind ≡ false = ap is_file kind ∙ other in
-          let right2 = subst (λ d. IsPlacedOr q d Risen (reply_at (or_zero number) result)) (no_file_due info.kind q.path (stood_heard number info address) none) right1 in
+          let right2 = subst (λ d. IsPlacedOr q d Risen (reply_at q.fields (or_zero number) result)) (no_file_due info.kind q.path (stood_heard number info address) none) right1 in
           subst Settled (sym (no_file_due there.kind q.path (stood_of there) other)) (at right2)
         where
-          at : IsPlacedOr q (refused 405 false) Risen (reply_at (or_zero number) result) → Settled (refused 405 false)
+          at : IsPlacedOr q (refused 405 false) Risen (reply_at q.fields (or_zero number) result) → Settled (refused 405 false)
           at (inl head) = refused_settled 405 false (or_zero number) head
           at (inr (none, rose)) = absurd none
 
@@ -218,7 +219,7 @@ module _ {S C F : Type 0} (view : View S C F) (q : Query) where
     open_settled : (opened : Result Standing FsError) (answer : Result F FsError) (number : Option ℕ) (o : Result Stood FsError) (m x : S) → k ≡ number_in opened
         → OpensThere view.seen opened answer (view.state x) ⊎ Spoiled (view.state m) answer (view.state x)
         → (view.state s).faults ≤ (view.state m).faults → (view.state m).faults ≤ (view.state x).faults
-        → WasHad o → IsOfNumber view number t result → IsPlacedOr q (due_opened q.path o) Risen (reply_at (or_zero number) result)
+        → WasHad o → IsOfNumber view number t result → IsPlacedOr q (due_opened q.path o) Risen (reply_at q.fields (or_zero number) result)
         → HearsFile view q answer number x o t → Settled (due_opened q.path (found_as opened))
     open_settled (Ok there) (Ok file) number o m x key (inl (f, seen, is)) before after had named right (told, (said, g, l, says, heard)) =
         meta_settled there number o had named right key said f file g x l (told ∙ ap number_told seen) is seen (omega arith) says heard
@@ -248,13 +249,13 @@ module _ {S C F L E : Type 0} (view : View S C F) (lists : Listings S C L E) (q 
     SettledOf d = Settled view q s result t life k d
 
     -- a reply without parts
-    alone_settled : (d : Due) (n : ℕ) (reply : Reply) → reply.parts ≡ [] → reply_at n result ≡ reply → (reply_at k result ≡ reply → IsHead q d (reply_at k result)) → SettledOf d
+    alone_settled : (d : Due) (n : ℕ) (reply : Reply) → reply.parts ≡ [] → reply_at q.fields n result ≡ reply → (reply_at q.fields k result ≡ reply → IsHead q d (reply_at q.fields k result)) → SettledOf d
     alone_settled d n reply none is head =
-        let at = renumbered n k result reply none is in
+        let at = renumbered q.fields n k result reply none is in
         record { right = inl (head at); named = no_file view q s result t life k result life reply none at }
 
     settled_at : (path : WebPath) (d : Due) → Settled view (asked_at q path) s result t life k d → SettledOf d
-    settled_at path d settled = record { right = fit_at q path d (Rose (view.state s).faults (view.state t).faults) (reply_at k result) settled.right; named = settled.named }
+    settled_at path d settled = record { right = fit_at q path d (Rose (view.state s).faults (view.state t).faults) (reply_at q.fields k result) settled.right; named = settled.named }
 
     -- what is heard and shown of a path that is opened
     abbrev OpensAs : (WebPath → Result Standing FsError) → C → S → WebPath → Type 0
@@ -269,37 +270,37 @@ module _ {S C F L E : Type 0} (view : View S C F) (lists : Listings S C L E) (q 
     -- a page that was given, for members that the store shows
     read_settled : (gives : Bool) (c : C) (found : Result (List Member) FsError) (members : List Member) (n : ℕ) (m : S) → is_get q.method ≡ gives
         → ShowsMembers view lists m c q.path found → (view.state s).faults ≤ (view.state m).faults → Keeps (view.state s) (view.state t)
-        → ReadsMembers view lists gives c q.path m members t → IsIndexReply gives q.path (AreRows q.path members) (reply_at n result) → SettledOf (due_listed q.path found)
+        → ReadsMembers view lists gives c q.path m members t → IsIndexReply gives q.path (AreRows q.path members) (reply_at q.fields n result) → SettledOf (due_listed q.path found)
     read_settled true c (Err e) members n m get shows before keeps (listed, by) reply = absurd (by (Err e) shows)
     read_settled true c (Ok all) members n m get shows before keeps (listed, by) reply =
         let (missing, parts, why) = by (Ok all) shows in
-        let given = index_renumbered n k true q.path (AreRows q.path members) result reply in
+        let given = index_renumbered q.fields n k true q.path (AreRows q.path members) result reply in
         record { right = of_missing missing parts why given; named = page_named result life keeps }
       where
         of_missing : (missing : List Member) → IsPermutation all (members ++ missing) → (missing ≡ []) ⊎ Rose (view.state m).faults (view.state t).faults
-            → IsIndexReply true q.path (AreRows q.path members) (reply_at k result)
-            → IsHead q (page q.path all) (reply_at k result) ⊎ (IsSpoiled q (page q.path all) (reply_at k result) × Rose (view.state s).faults (view.state t).faults)
+            → IsIndexReply true q.path (AreRows q.path members) (reply_at q.fields k result)
+            → IsHead q (page q.path all) (reply_at q.fields k result) ⊎ (IsSpoiled q (page q.path all) (reply_at q.fields k result) × Rose (view.state s).faults (view.state t).faults)
         of_missing missing parts (inl none) given =
             let same : IsPermutation all members = subst (IsPermutation all) (ap (λ xs. members ++ xs) none ∙ append-nil members) parts in
-            inl (subst (λ b. IsIndexReply b q.path (AreRows q.path all) (reply_at k result)) (sym get)
-            (index_rows k true q.path (AreRows q.path members) (AreRows q.path all) result (λ rows are. rows_alike q.path all members rows same are) given))
+            inl (subst (λ b. IsIndexReply b q.path (AreRows q.path all) (reply_at q.fields k result)) (sym get)
+            (index_rows q.fields k true q.path (AreRows q.path members) (AreRows q.path all) result (λ rows are. rows_alike q.path all members rows same are) given))
         of_missing missing parts (inr rose) given =
             inr (
-              inr (subst (λ b. IsIndexReply b q.path (AreRowsOfSome q.path all) (reply_at k result)) (sym get)
-                  (index_rows k true q.path (AreRows q.path members) (AreRowsOfSome q.path all) result (λ rows are. record { some = members; missing = missing; parts = parts; shown = are }) given)),
+              inr (subst (λ b. IsIndexReply b q.path (AreRowsOfSome q.path all) (reply_at q.fields k result)) (sym get)
+                  (index_rows q.fields k true q.path (AreRows q.path members) (AreRowsOfSome q.path all) result (λ rows are. record { some = members; missing = missing; parts = parts; shown = are }) given)),
               rose_through _ _ _ _ before rose (omega arith),
             )
     read_settled false c found members n m get shows before keeps (none, (lister, after, begins, ends)) reply =
-        let given = index_renumbered n k false q.path (AreRows q.path members) result reply in
+        let given = index_renumbered q.fields n k false q.path (AreRows q.path members) result reply in
         of_found found (shows.begins m after (Ok lister) here_now begins) given
       where
         here_now : Looked view m c m
         here_now = here
 
         of_found : (found : Result (List Member) FsError) → BeginsThere found (Ok lister) ⊎ Spoiled (view.state m) (Ok lister) (view.state after)
-            → IsIndexReply false q.path (AreRows q.path members) (reply_at k result) → SettledOf (due_listed q.path found)
+            → IsIndexReply false q.path (AreRows q.path members) (reply_at q.fields k result) → SettledOf (due_listed q.path found)
         of_found (Ok all) (inl there) given = record {
-          right = inl (subst (λ b. IsIndexReply b q.path (AreRows q.path all) (reply_at k result)) (sym get) (record { status = given.status; fields = given.fields; parts = given.parts }));
+          right = inl (subst (λ b. IsIndexReply b q.path (AreRows q.path all) (reply_at q.fields k result)) (sym get) (record { status = given.status; fields = given.fields; parts = given.parts }));
           named = page_named result life keeps;
         }
         of_found (Err e) (inl there) given = absurd there
@@ -309,7 +310,7 @@ module _ {S C F L E : Type 0} (view : View S C F) (lists : Listings S C L E) (q 
     -- a listing
     listing_settled : (c : C) (found l : Result (List Member) FsError) (n : ℕ) (m : S) → ShowsMembers view lists m c q.path found
         → (view.state s).faults ≤ (view.state m).faults → Keeps (view.state s) (view.state t) → WasHad l
-        → IsPlacedOr q (due_listed q.path l) (Rose (view.state s).faults (view.state t).faults) (reply_at n result)
+        → IsPlacedOr q (due_listed q.path l) (Rose (view.state s).faults (view.state t).faults) (reply_at q.fields n result)
         → IsListing view lists (is_get q.method) c q.path m l t → SettledOf (due_listed q.path found)
     listing_settled c found (Ok members) n m shows before keeps had (inr (none, rose)) hears = absurd none
     listing_settled c found (Ok members) n m shows before keeps had (inl reply) (read, plain) =
@@ -330,10 +331,10 @@ module _ {S C F L E : Type 0} (view : View S C F) (lists : Listings S C L E) (q 
         → ((path : WebPath) → co ≡ opening path → k ≡ number_in (opened path)) → ((path : WebPath) → co ≡ opening path → OpensAs opened c m path)
         → (co ≡ listing → ShowsMembers view lists m c q.path (listed q.path)) → Keeps (view.state s) (view.state m)
         → WasHad o → WasHad l → IsOfNumber view number t result
-        → IsPlacedOr q (due_course (shown_heard r o l) q.path co) (Rose (view.state s).faults (view.state t).faults) (reply_at (or_zero number) result)
+        → IsPlacedOr q (due_course (shown_heard r o l) q.path co) (Rose (view.state s).faults (view.state t).faults) (reply_at q.fields (or_zero number) result)
         → HearsCourse view lists q co c number m o l t → SettledOf (due_course (shown_as looked opened listed) q.path co)
     course_settled (refusing status close) r c looked opened listed number o l m key shows members before had l_had named (inl head) hears =
-        alone_settled (refused status close) (or_zero number) (refusal status close) refl head (λ at. at)
+        alone_settled (refused status close) (or_zero number) (refusal q.fields status close) refl head (λ at. at)
     course_settled (refusing status close) r c looked opened listed number o l m key shows members before had l_had named (inr (none, rose)) hears = absurd none
     course_settled directing r c looked opened listed number o l m key shows members before had l_had named (inl head) hears =
         alone_settled (to_slash q.path) (or_zero number) (directed q.path) refl head (λ at. at)
@@ -343,7 +344,7 @@ module _ {S C F L E : Type 0} (view : View S C F) (lists : Listings S C L E) (q 
     course_settled (opening path) r c looked opened listed number o l m key shows members before had l_had named right (answer, x, opens, one, hears) =
         settled_at path (due_opened path (found_as (opened path)))
         (open_settled view (asked_at q path) s result t life k (opened path) answer number o m x (key path refl) (shows path refl answer x opens) before.counts (opened_counts answer one) had named
-        (placed_at (asked_at q path) q.path (due_opened path o) (Rose (view.state s).faults (view.state t).faults) (reply_at (or_zero number) result) right) hears)
+        (placed_at (asked_at q path) q.path (due_opened path o) (Rose (view.state s).faults (view.state t).faults) (reply_at q.fields (or_zero number) result) right) hears)
       where
         opened_counts : (answer : Result F FsError) → OpensOne view.handle view.seen reading (view.state m) answer (view.state x)
             → (view.state m).faults ≤ (view.state x).faults
@@ -363,7 +364,7 @@ module _ {S C F L E : Type 0} (view : View S C F) (lists : Listings S C L E) (q 
         → ForOpened found (λ path. k ≡ number_in (opened path)) → LooksThere found r ⊎ Spoiled (view.state s) r (view.state m) → ForOpened found (OpensAs opened c m)
         → ForListed found (ShowsMembers view lists m c q.path (listed q.path)) → Keeps (view.state s) (view.state m)
         → WasHad r → WasHad o → WasHad l → IsOfNumber view number t result
-        → IsPlacedOr q (due_looked (shown_heard r o l) q (looked_of r)) (Rose (view.state s).faults (view.state t).faults) (reply_at (or_zero number) result)
+        → IsPlacedOr q (due_looked (shown_heard r o l) q (looked_of r)) (Rose (view.state s).faults (view.state t).faults) (reply_at q.fields (or_zero number) result)
         → HearsLook view lists q r c number m o l t → SettledOf (due_looked (shown_as looked opened listed) q (found_as found))
     look_settled (Ok there) looked opened listed (Ok info) c number o l m key (inl agrees) shows members before looked_had had l_had named right hears =
         let same = ap (course q) agrees.kind in
@@ -374,7 +375,7 @@ module _ {S C F L E : Type 0} (view : View S C F) (lists : Listings S C L E) (q 
     look_settled (Err e) looked opened listed (Ok info) c number o l m key (inl shown) shows members before looked_had had l_had named right hears = absurd shown
     look_settled (Err e) looked opened listed (Err f) c number o l m key (inl same) shows members before looked_had had l_had named (inl head) hears =
         subst (λ y. SettledOf (refused (fs_status y) false)) same
-        (alone_settled (refused (fs_status f) false) (or_zero number) (refusal (fs_status f) false) refl head (λ at. at))
+        (alone_settled (refused (fs_status f) false) (or_zero number) (refusal q.fields (fs_status f) false) refl head (λ at. at))
     look_settled (Err e) looked opened listed (Err f) c number o l m key (inl same) shows members before looked_had had l_had named (inr (none, rose)) hears = absurd none
     look_settled found looked opened listed (Ok info) c number o l m key (inr (inl (is, rose))) shows members before looked_had had l_had named right hears = cc
     look_settled found looked opened listed (Ok info) c number o l m key (inr (inr is)) shows members before looked_had had l_had named right hears = cc
@@ -390,15 +391,15 @@ module _ {S C F L E : Type 0} (view : View S C F) (lists : Listings S C L E) (q 
         → ShowsFor view lists s c q looked opened listed → Heard view lists q c s result t → SettledOf (cond b known (due_looked (shown_as looked opened listed) q (found_as (looked q.path))))
     heard_settled false looked opened listed c key plain shows h =
         let (m, look, keeps, hears) = h.hears plain in
-        let right = subst (λ b. IsPlacedOr q (cond b known (due_looked (shown_heard h.looked h.opened h.listed) q (looked_of h.looked))) (Rose (view.state s).faults (view.state t).faults) (reply_at (or_zero h.number) result)) plain h.right in
+        let right = subst (λ b. IsPlacedOr q (cond b known (due_looked (shown_heard h.looked h.opened h.listed) q (looked_of h.looked))) (Rose (view.state s).faults (view.state t).faults) (reply_at q.fields (or_zero h.number) result)) plain h.right in
         look_settled (looked q.path) looked opened listed h.looked c h.number h.opened h.listed m key (shows.path.looks_there s m h.looked here look)
         (λ there path is takes answer x opens. (shows.at there path is takes).opens_there m x answer (looks s m q.path h.looked here look) opens)
         (λ there is takes. shows_later view lists s m c q.path (listed q.path) (looks s m q.path h.looked here look) (shows.members there is takes))
         keeps h.looked_had h.opened_had h.listed_had h.file right hears
     heard_settled true looked opened listed c key known_page shows h =
-        at (subst (λ b. IsPlacedOr q (cond b known (due_looked (shown_heard h.looked h.opened h.listed) q (looked_of h.looked))) (Rose (view.state s).faults (view.state t).faults) (reply_at (or_zero h.number) result)) known_page h.right)
+        at (subst (λ b. IsPlacedOr q (cond b known (due_looked (shown_heard h.looked h.opened h.listed) q (looked_of h.looked))) (Rose (view.state s).faults (view.state t).faults) (reply_at q.fields (or_zero h.number) result)) known_page h.right)
       where
-        at : IsPlacedOr q known (Rose (view.state s).faults (view.state t).faults) (reply_at (or_zero h.number) result) → SettledOf known
+        at : IsPlacedOr q known (Rose (view.state s).faults (view.state t).faults) (reply_at q.fields (or_zero h.number) result) → SettledOf known
         at (inr (none, rose)) = absurd none
         at (inl head) = alone_settled known (or_zero h.number) well_known refl head (λ is. is)
 

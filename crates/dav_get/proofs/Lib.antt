@@ -20,3 +20,4 @@ pub mod HeardIsRight
 pub mod HeardCouldStand
 pub mod Pages
 pub mod PageMembers
+pub mod SoundPages

@@ -1,5 +1,5 @@
 -- The page of a directory, as an answer.
-use Rattle.std.proofs.Common.{◌≡◌, ◌<◌, ℕ, Bool, true, false, List, [], ◌∷◌, length, map, Option, None, Some, Ok, Err, refl, sym, ap, subst, ◌∙◌, lt-ltb, true≢false}
+use Rattle.std.proofs.Common.{◌≡◌, ℕ, Bool, true, false, List, [], ◌∷◌, length, map, Option, None, Some, Ok, Err, refl, sym, ap, subst, ◌∙◌, lt-ltb, true≢false}
 use Rattle.std.specs.Prelude.{is_some}
 use Rattle.std.specs.List.{AllByRecursion, list_all, list_any}
 use Rattle.std.proofs.lemmas.Bool.{and_from}
@@ -8,12 +8,12 @@ use Rattle.dav_core.specs.DavPath.{WebPath}
 use Rattle.dav_core.specs.Disk.{DiskState}
 use Rattle.dav_core.specs.Unchanged.{Keeps}
 use Rattle.dav_page.specs.declared.row.PageRow.{PageRow}
-use Rattle.dav_page.specs.Index.{IsIndex}
 use Rattle.dav_page.specs.Listed.{AreRows}
 use Rattle.dav_store.specs.Standing.{Seen}
 use Rattle.dav_store.specs.View.{View}
+use Rattle.dav_model.specs.Conditions.{Fields}
 use Rattle.dav_model.specs.declared.outcome.Outcome.{Outcome}
-use Rattle.dav_model.specs.Bodies.{Part, text}
+use Rattle.dav_model.specs.Bodies.{text}
 use Rattle.dav_model.specs.Due.{Query}
 use Rattle.dav_model.specs.Head.{is_get}
 use Rattle.dav_model.specs.Indexes.{IsIndexBody, IsIndexReply}
@@ -63,19 +63,19 @@ texts_room most room (first ∷ texts) = texts_room most room texts
 
 -- ---- replies
 
-pub index_rows : {F : Type 0} (n : ℕ) (gives : Bool) (dir : WebPath) (P Q : List PageRow → Type 0) (result : Given F) → ((rows : List PageRow) → P rows → Q rows)
-    → IsIndexReply gives dir P (reply_at n result) → IsIndexReply gives dir Q (reply_at n result)
-index_rows n gives dir P Q result to is = record { status = is.status; fields = is.fields; parts = by gives is.parts }
+pub index_rows : {F : Type 0} (fields : Fields) (n : ℕ) (gives : Bool) (dir : WebPath) (P Q : List PageRow → Type 0) (result : Given F) → ((rows : List PageRow) → P rows → Q rows)
+    → IsIndexReply gives dir P (reply_at fields n result) → IsIndexReply gives dir Q (reply_at fields n result)
+index_rows fields n gives dir P Q result to is = record { status = is.status; fields = is.fields; parts = by gives is.parts }
   where
-    by : (gives : Bool) → IsIndexBody gives dir P (reply_at n result).parts → IsIndexBody gives dir Q (reply_at n result).parts
+    by : (gives : Bool) → IsIndexBody gives dir P (reply_at fields n result).parts → IsIndexBody gives dir Q (reply_at fields n result).parts
     by true (texts, are, index) = (texts, are, record { page = index.page; reads = index.reads; pieces = index.pieces; of = index.of; rows = to index.page.rows index.rows })
     by false none = none
 
 -- A page is the same under any number.
-pub index_renumbered : {F : Type 0} (n k : ℕ) (gives : Bool) (dir : WebPath) (P : List PageRow → Type 0) (result : Given F)
-    → IsIndexReply gives dir P (reply_at n result) → IsIndexReply gives dir P (reply_at k result)
-index_renumbered n k gives dir P (Err e) is = is
-index_renumbered n k gives dir P (Ok r) is = record { status = is.status; fields = is.fields; parts = by gives is.parts }
+pub index_renumbered : {F : Type 0} (fields : Fields) (n k : ℕ) (gives : Bool) (dir : WebPath) (P : List PageRow → Type 0) (result : Given F)
+    → IsIndexReply gives dir P (reply_at fields n result) → IsIndexReply gives dir P (reply_at fields k result)
+index_renumbered fields n k gives dir P (Err e) is = is
+index_renumbered fields n k gives dir P (Ok r) is = record { status = is.status; fields = is.fields; parts = by gives is.parts }
   where
     by : (gives : Bool) → IsIndexBody gives dir P (parts_of n (left_of r.1)) → IsIndexBody gives dir P (parts_of k (left_of r.1))
     by true (texts, are, index) = (texts, texts_alone n k (left_of r.1) texts are, index)
@@ -83,7 +83,7 @@ index_renumbered n k gives dir P (Ok r) is = record { status = is.status; fields
 
 -- What is given as a page is a page.
 pub page_given : {F : Type 0} (q : Query) (members : List Member) (n : ℕ) (result : Given F) → GivesPage q members result
-    → IsIndexReply (is_get q.method) q.path (AreRows q.path members) (reply_at n result)
+    → IsIndexReply (is_get q.method) q.path (AreRows q.path members) (reply_at q.fields n result)
 page_given q members n (Err e) row = absurd row
 page_given q members n (Ok r) (is, body) = record { status = ap (λ (o : Outcome). o.status) is; fields = ap (λ (o : Outcome). o.fields) is; parts = by (is_get q.method) body }
   where

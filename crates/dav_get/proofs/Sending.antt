@@ -61,7 +61,7 @@ module _ {S C F : Type 0} (view : View S C F) where
   module _ (q : Query) (info : Info) where
     -- A row that sends is right, with slices of any number.
     pub sends_right : (number : Option ℕ) (sent : Sent) (held : OpenAt F) (s : S) (answer : Answer F) (t : S) → Sends view q info sent held s answer t
-        → IsSent q.method q.path (stood_heard number info None) sent (reply_at {F = F} (or_zero number) (Ok answer))
+        → IsSent q.method q.path (stood_heard number info None) sent (reply_at {F = F} q.fields (or_zero number) (Ok answer))
     sends_right number sent held s answer t row =
         let (date, dated, is) = row.outcome_is in
         let parts : parts_of (or_zero number) (left_of answer.1) ≡ sent_parts (is_get q.method) (type_of q.path) (or_zero number) info.len sent =
@@ -82,8 +82,8 @@ module _ {S C F : Type 0} (view : View S C F) where
 
     -- what is right of what is sent of a file of this number
     pub record Right (number : Option ℕ) (s : S) (answer : Answer F) (t : S) : Type 0 where
-      pub right : IsSent q.method q.path (stood_heard number info None) (sent_for q info) (reply_at {F = F} (or_zero number) (Ok answer))
-          ⊎ ((sent_status (sent_for q info) ≡ 206) × IsSent q.method q.path (stood_heard number info None) Unsatisfied (reply_at {F = F} (or_zero number) (Ok answer))
+      pub right : IsSent q.method q.path (stood_heard number info None) (sent_for q info) (reply_at {F = F} q.fields (or_zero number) (Ok answer))
+          ⊎ ((sent_status (sent_for q info) ≡ 206) × IsSent q.method q.path (stood_heard number info None) Unsatisfied (reply_at {F = F} q.fields (or_zero number) (Ok answer))
           × Rose (view.state s).faults (view.state t).faults)
       pub counts : (view.state s).faults ≤ (view.state t).faults
       pub file : IsOfNumber view number t (Ok answer)

@@ -18,6 +18,7 @@ use Rattle.dav_core.specs.Tree.{is_file}
 use Rattle.dav_core.specs.Unchanged.{Keeps}
 use Rattle.dav_store.specs.Frames.{OpensOne}
 use Rattle.dav_store.specs.View.{View, Listings, seen_in, Says as SaysOf, Closes}
+use Rattle.dav_model.specs.Conditions.{Fields}
 use Rattle.dav_model.specs.declared.outcome.Outcome.{Outcome}
 use Rattle.dav_model.specs.Due.{Course, Due, Query, IsHead, course, directing, due, due_course, due_looked, due_opened, due_sent, known, listing, opening, page, refused, refusing, to_slash, file as sends}
 use Rattle.dav_model.specs.Head.{IsFileHead, Reply, Stood, address_of, directed, is_get, is_set, is_well_known, redirected, refusal}
@@ -81,9 +82,9 @@ no_file_due File path stood is = cc
 no_file_due Link path stood is = refl
 
 -- A refusal is answered with its status, and closes where it is to.
-pub refused_reply : (status : ℕ) (close : Bool) → refusal (status_of (refused_as status close)) (closes (refused_as status close)) ≡ refusal status close
-refused_reply status true = refl
-refused_reply status false = refl
+pub refused_reply : (fields : Fields) (status : ℕ) (close : Bool) → refusal fields (status_of (refused_as status close)) (closes (refused_as status close)) ≡ refusal fields status close
+refused_reply fields status true = refl
+refused_reply fields status false = refl
 
 -- What was due of another path is due.
 pub placed_at : (q : Query) (path : WebPath) (d : Due) (rose : Type 0) (reply : Reply) → IsPlacedOr (asked_at q path) d rose reply → IsPlacedOr q d rose reply
@@ -106,7 +107,7 @@ module _ {S C F : Type 0} (view : View S C F) (q : Query) where
     opened : Result Stood FsError
     hears : P opened
     had : WasHad opened
-    right : IsPlacedOr q (due_opened q.path opened) (Rose (view.state s).faults (view.state t).faults) (reply_at {F = F} (or_zero number) result)
+    right : IsPlacedOr q (due_opened q.path opened) (Rose (view.state s).faults (view.state t).faults) (reply_at {F = F} q.fields (or_zero number) result)
     named : IsOfNumber view number t result
 
   abbrev Leading : Option ℕ → (Result Stood FsError → Type 0) → S → Given F → S → Type 0
@@ -136,7 +137,7 @@ module _ {S C F : Type 0} (view : View S C F) (q : Query) where
       opened = Err e;
       hears = hears;
       had = refusal_had e r.had;
-      right = inl (ap (reply_at {F = F} (or_zero number)) is ∙ (λ i. refusal (r.status i) (r.stays i)));
+      right = inl (ap (reply_at {F = F} q.fields (or_zero number)) is ∙ (λ i. refusal q.fields (r.status i) (r.stays i)));
       named = subst (λ x. IsOfNumber view number t x) (sym is) tt;
     })
   ]
@@ -152,16 +153,16 @@ module _ {S C F : Type 0} (view : View S C F) (q : Query) where
         let sent = placed_right view q info number g s answer t told live row in
         let stood : Stood = stood_heard number info None in
         let none : address_of q.settings stood ≡ None = no_address (is_set q.settings.redirect) None in
-        let at : IsPlacedOr q (sends q.path stood) (Rose (view.state s).faults (view.state t).faults) (reply_at {F = F} (or_zero number) (Ok answer)) =
+        let at : IsPlacedOr q (sends q.path stood) (Rose (view.state s).faults (view.state t).faults) (reply_at {F = F} q.fields (or_zero number) (Ok answer)) =
         elim sent.right [
-          | inl right ↦ inl (subst (λ a. IsFileHead a q.method q.fields q.path stood (reply_at {F = F} (or_zero number) (Ok answer))) (sym none) right)
+          | inl right ↦ inl (subst (λ a. IsFileHead a q.method q.fields q.path stood (reply_at {F = F} q.fields (or_zero number) (Ok answer))) (sym none) right)
           | inr unplaced ↦ inr (record { here = none; partial = unplaced.0; sent = unplaced.1 }, unplaced.2)
         ] in
         inr (record {
           opened = Ok stood;
           hears = hears sent.counts;
           had = answer_had stood;
-          right = subst (λ k. IsPlacedOr q (due_sent k q.path stood) (Rose (view.state s).faults (view.state t).faults) (reply_at {F = F} (or_zero number) (Ok answer))) (sym (kind_file info.kind regular)) at;
+          right = subst (λ k. IsPlacedOr q (due_sent k q.path stood) (Rose (view.state s).faults (view.state t).faults) (reply_at {F = F} q.fields (or_zero number) (Ok answer))) (sym (kind_file info.kind regular)) at;
           named = sent.file;
         })
 
@@ -173,16 +174,16 @@ module _ {S C F : Type 0} (view : View S C F) (q : Query) where
     away_leads P address g s (Ok answer) t regular set hears ((date, dated, is), closed, (left, none)) =
         let stood : Stood = stood_heard number info (Some address) in
         let to : address_of q.settings stood ≡ Some address = ap (λ b. cond b (Some address) None) set in
-        let reply : reply_at {F = F} (or_zero number) (Ok answer) ≡ redirected address info.tag date =
+        let reply : reply_at {F = F} q.fields (or_zero number) (Ok answer) ≡ redirected address info.tag date =
         λ i. record { status = ap (λ (o : Outcome). o.status) is i; fields = ap (λ (o : Outcome). o.fields) is i; parts = ap (parts_of (or_zero number)) left i } in
-        let head : IsFileHead (Some address) q.method q.fields q.path stood (reply_at {F = F} (or_zero number) (Ok answer)) = (date, dated, reply) in
-        let at : IsHead q (sends q.path stood) (reply_at {F = F} (or_zero number) (Ok answer)) =
-        subst (λ a. IsFileHead a q.method q.fields q.path stood (reply_at {F = F} (or_zero number) (Ok answer))) (sym to) head in
+        let head : IsFileHead (Some address) q.method q.fields q.path stood (reply_at {F = F} q.fields (or_zero number) (Ok answer)) = (date, dated, reply) in
+        let at : IsHead q (sends q.path stood) (reply_at {F = F} q.fields (or_zero number) (Ok answer)) =
+        subst (λ a. IsFileHead a q.method q.fields q.path stood (reply_at {F = F} q.fields (or_zero number) (Ok answer))) (sym to) head in
         inr (record {
           opened = Ok stood;
           hears = hears (closed_counts s g t closed);
           had = answer_had stood;
-          right = inl (subst (λ k. IsHead q (due_sent k q.path stood) (reply_at {F = F} (or_zero number) (Ok answer))) (sym (kind_file info.kind regular)) at);
+          right = inl (subst (λ k. IsHead q (due_sent k q.path stood) (reply_at {F = F} q.fields (or_zero number) (Ok answer))) (sym (kind_file info.kind regular)) at);
           named = λ h some. absurd (none_some answer.1.file h none some);
         })
 
@@ -224,7 +225,7 @@ module _ {S C F : Type 0} (view : View S C F) (q : Query) where
           opened = Ok stood;
           hears = (refl, closed_counts s file t closed);
           had = answer_had stood;
-          right = inl (subst (λ d. IsHead q d (reply_at {F = F} (or_zero number) result)) (sym (no_file_due info.kind q.path stood other)) (ap (reply_at {F = F} (or_zero number)) is));
+          right = inl (subst (λ d. IsHead q d (reply_at {F = F} q.fields (or_zero number) result)) (sym (no_file_due info.kind q.path stood other)) (ap (reply_at {F = F} q.fields (or_zero number)) is));
           named = subst (λ x. IsOfNumber view number t x) (sym is) tt;
         })
 
@@ -277,10 +278,10 @@ module _ {S C F L E : Type 0} (view : View S C F) (lists : Listings S C L E) (q 
     -- an answer that is given at once, after a look
     at_once : (co : Course) (info : Info) (listed : Result (List Member) FsError) (s m : S) (result : Given F) (t : S) → WasHad listed → course q info.kind ≡ co → view.looks s c q.path (Ok info) m → Keeps (view.state s) (view.state m)
         → HearsCourse view lists q co c None m (Err fs.NotFound) listed t
-        → IsHead q (due_course (shown_heard (Ok info) (Err fs.NotFound) listed) q.path co) (reply_at {F = F} 0 result) → IsOfNumber view None t result → Hearing s result t
+        → IsHead q (due_course (shown_heard (Ok info) (Err fs.NotFound) listed) q.path co) (reply_at {F = F} q.fields 0 result) → IsOfNumber view None t result → Hearing s result t
     at_once co info listed s m result t had is looks keeps hears head named =
         let shown : Shown = shown_heard (Ok info) (Err fs.NotFound) listed in
-        let reply : Reply = reply_at {F = F} 0 result in
+        let reply : Reply = reply_at {F = F} q.fields 0 result in
         let rose : Type 0 = Rose (view.state s).faults (view.state t).faults in
         inr (record {
           looked = Ok info;
@@ -302,7 +303,7 @@ module _ {S C F L E : Type 0} (view : View S C F) (lists : Listings S C L E) (q 
     opened_heard path info answer s m k result t is looks keeps opens one counts (inl none) = inl none
     opened_heard path info answer s m k result t is looks keeps opens one counts (inr (number, led)) =
         let shown : Shown = shown_heard (Ok info) led.opened (Err fs.NotFound) in
-        let reply : Reply = reply_at {F = F} (or_zero number) result in
+        let reply : Reply = reply_at {F = F} q.fields (or_zero number) result in
         let rose : Type 0 = Rose (view.state s).faults (view.state t).faults in
         let le = keeps.counts in
         let right : IsPlacedOr q (due_opened path led.opened) rose reply =
@@ -332,18 +333,18 @@ module _ {S C F L E : Type 0} (view : View S C F) (lists : Listings S C L E) (q 
     listing_heard (Err e) info s m result t is looks keeps lists' kept row = elim (refused_with e) [
       | inl none ↦ inl (row ∙ ap Err none)
       | inr r ↦ at_once listing info (Err e) s m result t (refusal_had e r.had) is looks keeps (lists', kept)
-          (ap (reply_at {F = F} 0) row ∙ (λ i. refusal (r.status i) (r.stays i))) (subst (λ x. IsOfNumber view None t x) (sym row) tt)
+          (ap (reply_at {F = F} q.fields 0) row ∙ (λ i. refusal q.fields (r.status i) (r.stays i))) (subst (λ x. IsOfNumber view None t x) (sym row) tt)
     ]
 
     -- A look told what stands there.
     course_heard : (co : Course) (info : Info) (s m : S) (result : Given F) (t : S) → course q info.kind ≡ co
         → view.looks s c q.path (Ok info) m → Keeps (view.state s) (view.state m) → ByCourse view lists co q c m result t → Hearing s result t
     course_heard (refusing status close) info s m result t is looks keeps (same, fails) =
-        at_once (refusing status close) info (Err fs.NotFound) s m result t nothing_had is looks keeps (rw same (omega arith)) (ap (reply_at {F = F} 0) fails ∙ refused_reply status close)
+        at_once (refusing status close) info (Err fs.NotFound) s m result t nothing_had is looks keeps (rw same (omega arith)) (ap (reply_at {F = F} q.fields 0) fails ∙ refused_reply q.fields status close)
         (subst (λ x. IsOfNumber view None t x) (sym fails) tt)
     course_heard directing info s m (Err e) t is looks keeps (same, directs) = absurd directs
     course_heard directing info s m (Ok r) t is looks keeps (same, (outcome, (left, none))) =
-        let reply : reply_at {F = F} 0 (Ok r) ≡ directed q.path =
+        let reply : reply_at {F = F} q.fields 0 (Ok r) ≡ directed q.path =
         λ i. record { status = ap (λ (o : Outcome). o.status) outcome i; fields = ap (λ (o : Outcome). o.fields) outcome i; parts = ap (parts_of 0) left i } in
         at_once directing info (Err fs.NotFound) s m (Ok r) t nothing_had is looks keeps (rw same (omega arith)) reply (λ h some. absurd (none_some r.1.file h none some))
     course_heard listing info s m result t is looks keeps (answer, lists', kept, row) =
@@ -363,9 +364,9 @@ module _ {S C F L E : Type 0} (view : View S C F) (lists : Listings S C L E) (q 
       | inl none ↦ inl (is ∙ ap Err none)
       | inr r ↦
           let shown : Shown = shown_heard (Err e) (Err fs.NotFound) (Err fs.NotFound) in
-          let reply : Reply = reply_at {F = F} 0 result in
+          let reply : Reply = reply_at {F = F} q.fields 0 result in
           let rose : Type 0 = Rose (view.state s).faults (view.state t).faults in
-          let head : IsHead q (refused (fs_status e) false) reply = ap (reply_at {F = F} 0) is ∙ (λ i. refusal (r.status i) (r.stays i)) in
+          let head : IsHead q (refused (fs_status e) false) reply = ap (reply_at {F = F} q.fields 0) is ∙ (λ i. refusal q.fields (r.status i) (r.stays i)) in
           inr (record {
             looked = Err e;
             opened = Err fs.NotFound;
@@ -386,7 +387,7 @@ module _ {S C F L E : Type 0} (view : View S C F) (lists : Listings S C L E) (q 
   well_known_heard true c s (Err e) t known_page (same, row) = absurd row
   well_known_heard true c s (Ok r) t known_page (same, (is, (left, none))) =
       let shown : Shown = shown_heard (Err fs.NotFound) (Err fs.NotFound) (Err fs.NotFound) in
-      let reply : Reply = reply_at {F = F} 0 (Ok r) in
+      let reply : Reply = reply_at {F = F} q.fields 0 (Ok r) in
       let rose : Type 0 = Rose (view.state s).faults (view.state t).faults in
       let head : IsHead q known reply =
       λ i. record { status = ap (λ (o : Outcome). o.status) is i; fields = ap (λ (o : Outcome). o.fields) is i; parts = ap (parts_of 0) left i } in

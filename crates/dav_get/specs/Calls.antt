@@ -10,6 +10,7 @@ use Rattle.dav_core.specs.Statuses.{closes, status_of}
 use Rattle.dav_store.specs.Files.{AsksAtMostOnce, AsksOnce}
 use Rattle.dav_store.specs.declared.entry.ReadDirMeta.TheVariants.{Data}
 use Rattle.dav_store.specs.View.{View, Listings}
+use Rattle.dav_model.specs.Conditions.{Fields}
 use Rattle.dav_model.specs.Head.{refusal}
 use Rattle.dav_get.specs.Table.{Given}
 
@@ -32,7 +33,7 @@ abbrev pub status_given : {F : Type 0} → Given F → ℕ
 status_given (Ok r) = r.0.status
 status_given (Err e) = status_of e
 
--- its fields
-abbrev pub fields_given : {F : Type 0} → Given F → List Field
-fields_given (Ok r) = r.0.fields
-fields_given (Err e) = (refusal (status_of e) (closes e)).fields
+-- the fields of an answer to a request with these
+abbrev pub fields_given : {F : Type 0} → Fields → Given F → List Field
+fields_given fields (Ok r) = r.0.fields
+fields_given fields (Err e) = (refusal fields (status_of e) (closes e)).fields

@@ -122,7 +122,7 @@ module _ {S C F L E : Type 0} (view : View S C F) (lists : Listings S C L E) (q 
     pub opened_had : WasHad opened
     pub listed_had : WasHad listed
     pub right : IsPlacedOr q (due (shown_heard looked opened listed) q) (Rose (view.state s).faults (view.state t).faults)
-        (reply_at (or_zero number) result)
+        (reply_at q.fields (or_zero number) result)
     pub file : IsOfNumber view number t result
 
 -- ---- what was heard, as what could be shown
@@ -151,5 +151,5 @@ pub record IsRightForSome {S C F : Type 0} (view : View S C F) (q : Query) (s : 
   pub opened_could : Could CouldStand opened
   pub listed_could : Could (AllByRecursion HasPlainName) listed
   pub right : IsRight q (shown_alike looked opened listed) (Rose (view.state s).faults (view.state t).faults)
-      (reply_at (or_zero number) result)
+      (reply_at q.fields (or_zero number) result)
   pub file : IsOfNumber view number t result

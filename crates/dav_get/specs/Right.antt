@@ -2,6 +2,7 @@
 use Rattle.std.specs.Prelude.{◌≡◌, ℕ, Option, None, Some, Ok, Err}
 use Rattle.std.specs.Option.{option_map}
 use Rattle.dav_core.specs.Statuses.{status_of, closes}
+use Rattle.dav_model.specs.Conditions.{Fields}
 use Rattle.dav_model.specs.Head.{Reply, refusal}
 use Rattle.dav_store.specs.Standing.{Seen}
 use Rattle.dav_store.specs.View.{View, seen_in}
@@ -10,10 +11,10 @@ use Rattle.dav_get.specs.Bodies.{left_of}
 use Rattle.dav_get.specs.Parts.{parts_of}
 use Rattle.dav_get.specs.Table.{Given}
 
--- What is answered, with slices of the file of this number. An error is a refusal.
-abbrev pub reply_at : {F : Type 0} → ℕ → Given F → Reply
-reply_at number (Ok r) = record { status = r.0.status; fields = r.0.fields; parts = parts_of number (left_of r.1) }
-reply_at number (Err e) = refusal (status_of e) (closes e)
+-- What is answered to a request with these fields, with slices of the file of this number. An error is a refusal.
+abbrev pub reply_at : {F : Type 0} → Fields → ℕ → Given F → Reply
+reply_at fields number (Ok r) = record { status = r.0.status; fields = r.0.fields; parts = parts_of number (left_of r.1) }
+reply_at fields number (Err e) = refusal fields (status_of e) (closes e)
 
 -- the number of an open file, where it is told
 abbrev pub number_told : Option Seen → Option ℕ

@@ -7,6 +7,7 @@ use Rattle.dav_core.specs.declared.dav_error.DavError.TheVariants.{Status, Statu
 use Rattle.dav_core.specs.declared.error.FsError.{FsError}
 use Rattle.dav_core.specs.declared.member.Member.{Member}
 use Rattle.dav_core.specs.declared.method.DavMethod.{DavMethod}
+use Rattle.dav_core.specs.declared.method.DavMethod.TheVariants.{Get, Head}
 use Rattle.dav_core.specs.DavPath.{WebPath, last_name, type_of_last}
 use Rattle.dav_core.specs.Info.{Info, AreInYears}
 use Rattle.dav_core.specs.Options.{reading}
@@ -218,6 +219,11 @@ IsPageBody false dir members body = IsEmpty body
 -- status and fields of a directory's page
 abbrev pub page_outcome : Outcome
 page_outcome = record { status = 200; fields = page_fields }
+
+-- the method of which a page is asked
+abbrev pub method_for : Bool → DavMethod
+method_for true = Head
+method_for false = Get
 
 -- The page of the directory with these members is given.
 abbrev pub GivesPage : {F : Type 0} → Query → List Member → Given F → Type 0

@@ -72,5 +72,5 @@ pub record IsRightFor {S C F : Type 0} (view : View S C F) (q : Query)
     (looked opened : WebPath → Result Standing FsError) (listed : WebPath → Result (List Member) FsError) (s : S)
     (result : Given F) (t : S) : Type 0 where
   pub right : IsRight q (shown_as looked opened listed) (Rose (view.state s).faults (view.state t).faults)
-      (reply_at (number_for looked opened q) result)
+      (reply_at q.fields (number_for looked opened q) result)
   pub file : IsOfNumber view (Some (number_for looked opened q)) t result

@@ -1,17 +1,18 @@
 // The page of a directory.
-ghost use Rattle.std.specs.Prelude.{◌≡◌, ◌⊎◌, IfOk, MatchResult, Ok, Err, map};
+ghost use Rattle.std.specs.Prelude.{◌≡◌, ◌⊎◌, ℕ, [], IfOk, MatchResult, Ok, OnOk, Err, map, not};
 ghost use Rattle.std.specs.List.{AllByRecursion};
 ghost use Rattle.dav_core.specs.Unchanged.{Keeps};
-ghost use Rattle.dav_model.specs.Due.{page_course};
+ghost use Rattle.dav_model.specs.Due.{page_course, query};
 ghost use Rattle.dav_model.specs.Head.{is_get as the_is_get};
-ghost use Rattle.dav_model.specs.Indexes.{page_fields as the_page_fields};
+ghost use Rattle.dav_model.specs.Indexes.{IsIndexReply, page_fields as the_page_fields};
 ghost use Rattle.dav_model.specs.Sizes.{read_size_of};
-ghost use Rattle.dav_page.specs.Listed.{HasPlainName};
+ghost use Rattle.dav_page.specs.Listed.{AreSound, HasPlainName};
 ghost use Rattle.dav_store.specs.View.{the_listings, the_view};
 ghost use Rattle.dav_get.specs.declared.part.BodyPart.TheVariants.{Text as TextPart};
 ghost use Rattle.dav_get.specs.Asked.{asked_of};
 ghost use Rattle.dav_get.specs.Lives.{HasMost, OpenOnlyHeld};
-ghost use Rattle.dav_get.specs.Table.{ByCourse, GivesPage, IsListing, IsPageBody, Lists, page_outcome};
+ghost use Rattle.dav_get.specs.Right.{reply_at};
+ghost use Rattle.dav_get.specs.Table.{ByCourse, GivesPage, IsListing, IsPageBody, Lists, method_for as the_method_for, page_outcome};
 
 use crate::asked::Asked;
 use crate::body::GetBody;
@@ -20,12 +21,12 @@ use crate::directories::may_list;
 use crate::headers::add;
 use crate::part::BodyPart;
 use crate::prepared::is_get;
-use dav_core::{DavError, FsError, Member};
+use dav_core::{DavError, DavMethod, DavPath, FsError, Member};
 use dav_io::{FieldName, Fields, NoMemory, Octets, Text};
-use dav_model::Outcome;
+use dav_model::{Outcome, Settings};
 use dav_page::index_page;
 use dav_store::{GuardedFileSystem, ReadDirMeta, read_members};
-use http::StatusCode;
+use http::{HeaderMap, StatusCode};
 use std::alloc::Global;
 
 /// What a GET or HEAD is answered with.
@@ -41,13 +42,14 @@ fn list<S: GuardedFileSystem<C>, C>(
     requires admits { S.admits fs.old }
     ensures listed { MatchResult result
         (λ members. IsListing (the_view S.GuardedFileSystem S.Disk.Disk S.File.DavFile)
-        (the_listings S.GuardedFileSystem S.Entry.DavDirEntry) (the_is_get asked.now.method) credentials.now asked.now.path.now
-        fs.old (Ok members.items) fs.new)
+        (the_listings S.GuardedFileSystem S.Entry.DavDirEntry) (the_is_get asked.now.method) credentials.now
+        asked.now.path.now fs.old (Ok members.items) fs.new)
         (λ e. IsListing (the_view S.GuardedFileSystem S.Disk.Disk S.File.DavFile)
-        (the_listings S.GuardedFileSystem S.Entry.DavDirEntry) (the_is_get asked.now.method) credentials.now asked.now.path.now
-        fs.old (Err e) fs.new ⊎ (e ≡ FsError.NoMemory)) }
+        (the_listings S.GuardedFileSystem S.Entry.DavDirEntry) (the_is_get asked.now.method) credentials.now
+        asked.now.path.now fs.old (Err e) fs.new ⊎ (e ≡ FsError.NoMemory)) }
     ensures keeps { Keeps (S.Disk.state (S.inside fs.old)) (S.Disk.state (S.inside fs.new)) }
     ensures loan { S.Disk.loan (S.inside fs.new) ≡ S.Disk.loan (S.inside fs.old) }
+    ensures admits { S.admits fs.new }
 {
     if is_get(asked.method) {
         return read_members(alloc, fs, asked.path, credentials);
@@ -135,10 +137,8 @@ fn give_page<F>(alloc: Global, asked: &Asked<'_>, members: Vec<Member>) -> Given
     }
 }
 
-/// Lists the directory that is asked for, and gives its page: status 200, its type, and to a GET the texts of the page,
-/// of the members whose metadata the store gives, up to the end of the listing or a fault. The listing is ended, and
-/// nothing is left open. An error is the store's refusal.
-fn handle_autoindex<S: GuardedFileSystem<C>, C>(
+// Lists the directory that is asked for, and gives its page.
+fn list_page<S: GuardedFileSystem<C>, C>(
     alloc: Global,
     fs: &mut S,
     credentials: &C,
@@ -151,6 +151,7 @@ fn handle_autoindex<S: GuardedFileSystem<C>, C>(
     ensures life { OpenOnlyHeld (the_view S.GuardedFileSystem S.Disk.Disk S.File.DavFile) fs.old result fs.new }
     ensures most { HasMost (read_size_of asked.now.settings.now.read_buf_size) result }
     ensures loan { S.Disk.loan (S.inside fs.new) ≡ S.Disk.loan (S.inside fs.old) }
+    ensures admits { S.admits fs.new }
 {
     match list(alloc, fs, credentials, asked) {
         Ok(members) => give_page(alloc, asked, members),
@@ -172,9 +173,56 @@ pub(crate) fn get_page<S: GuardedFileSystem<C>, C>(
     ensures life { OpenOnlyHeld (the_view S.GuardedFileSystem S.Disk.Disk S.File.DavFile) fs.old result fs.new }
     ensures most { HasMost (read_size_of asked.now.settings.now.read_buf_size) result }
     ensures loan { S.Disk.loan (S.inside fs.new) ≡ S.Disk.loan (S.inside fs.old) }
+    ensures admits { S.admits fs.new }
 {
     if may_list(asked.settings) {
-        return handle_autoindex(alloc, fs, credentials, asked);
+        return list_page(alloc, fs, credentials, asked);
     }
     Err(DavError::StatusClose(StatusCode::METHOD_NOT_ALLOWED))
+}
+
+// The method of which a page is asked.
+fn method_for(head: bool) -> DavMethod
+    ensures { result ≡ the_method_for head }
+{
+    if head {
+        return DavMethod::Head;
+    }
+    DavMethod::Get
+}
+
+/// Lists the directory at the path, and gives its page: status 200, its type, and to a GET the texts of the page, of the
+/// members whose metadata the store gives, up to the end of the listing or a fault. Where `head` is set, no entry is read
+/// and no text given. The listing is ended, and nothing is left open. An error is 405 with a close where the settings
+/// permit no page, or the store's refusal.
+///
+/// `table` tells which call of the store gave the answer. `page` says that the texts, joined, are a page of this
+/// directory whose rows are those of some members with plain names, in order, whatever the store says.
+pub fn handle_autoindex<S: GuardedFileSystem<C>, C>(
+    alloc: Global,
+    settings: &Settings,
+    fs: &mut S,
+    credentials: &C,
+    path: &DavPath,
+    head: bool,
+) -> Given<S::File>
+    requires admits { S.admits fs.old }
+    ensures table { ByCourse (the_view S.GuardedFileSystem S.Disk.Disk S.File.DavFile)
+        (the_listings S.GuardedFileSystem S.Entry.DavDirEntry) (page_course settings.now)
+        (query settings.now [] (the_method_for head) path.now) credentials.now fs.old result fs.new
+        ⊎ (result ≡ Err DavError.NoMemory) }
+    ensures page { (number : ℕ) → OnOk result (IsIndexReply (not head) path.now (AreSound path.now)
+        (reply_at [] number result)) }
+    ensures life { OpenOnlyHeld (the_view S.GuardedFileSystem S.Disk.Disk S.File.DavFile) fs.old result fs.new }
+    ensures admits { S.admits fs.new }
+    ensures loan { S.Disk.loan (S.inside fs.new) ≡ S.Disk.loan (S.inside fs.old) }
+{
+    let fields = HeaderMap::new(alloc);
+    let asked = Asked {
+        settings,
+        method: method_for(head),
+        path,
+        fields: &fields,
+    };
+    get_page(alloc, fs, credentials, &asked)
 }

@@ -53,6 +53,7 @@ fn give_up<S: GuardedFileSystem<C>, C>(fs: &mut S, file: S::File, error: DavErro
     ensures life { HeldOrClosed (the_view S.GuardedFileSystem S.Disk.Disk S.File.DavFile)
         (S.File.handle file) fs.old result fs.new }
     ensures loan { S.Disk.loan (S.inside fs.new) ≡ S.Disk.loan (S.inside fs.old) }
+    ensures store { fs.new ≡ S.with_disk fs.old (S.inside fs.new) }
 {
     file_close(fs, file);
     Err(error)
@@ -71,6 +72,7 @@ fn answer_alone<S: GuardedFileSystem<C>, C>(
     ensures life { HeldOrClosed (the_view S.GuardedFileSystem S.Disk.Disk S.File.DavFile)
         (S.File.handle file) fs.old result fs.new }
     ensures loan { S.Disk.loan (S.inside fs.new) ≡ S.Disk.loan (S.inside fs.old) }
+    ensures store { fs.new ≡ S.with_disk fs.old (S.inside fs.new) }
 {
     file_close(fs, file);
     Ok((
@@ -96,6 +98,7 @@ fn hold<S: GuardedFileSystem<C>, C>(
         (S.File.handle held.file) fs.old (Ok result) fs.new }
     ensures most { HasMost size (Ok result) }
     ensures loan { S.Disk.loan (S.inside fs.new) ≡ S.Disk.loan (S.inside fs.old) }
+    ensures store { fs.new ≡ S.with_disk fs.old (S.inside fs.new) }
 {
     let Prepared {
         outcome,
@@ -127,6 +130,7 @@ fn send<S: GuardedFileSystem<C>, C>(
         (S.File.handle held.file) fs.old result fs.new }
     ensures most { HasMost (read_size_of asked.now.settings.now.read_buf_size) result }
     ensures loan { S.Disk.loan (S.inside fs.new) ≡ S.Disk.loan (S.inside fs.old) }
+    ensures store { fs.new ≡ S.with_disk fs.old (S.inside fs.new) }
 {
     match prepare(alloc, asked.settings, asked.method, asked.path, meta, sent) {
         Ok(prepared) => Ok(hold(fs, held, prepared, asked.settings.read_size())),
@@ -154,6 +158,7 @@ fn send_from<S: GuardedFileSystem<C>, C>(
         (S.File.handle file) fs.old result fs.new }
     ensures most { HasMost (read_size_of asked.now.settings.now.read_buf_size) result }
     ensures loan { S.Disk.loan (S.inside fs.new) ≡ S.Disk.loan (S.inside fs.old) }
+    ensures store { fs.new ≡ S.with_disk fs.old (S.inside fs.new) }
 {
     let Some(start) = first_place(sent) else {
         return send(alloc, fs, OpenAt { file, place: 0 }, asked, meta, sent);
@@ -181,6 +186,7 @@ fn send_unplaced<S: GuardedFileSystem<C>, C>(
         (S.File.handle held.file) fs.old result fs.new }
     ensures most { HasMost (read_size_of asked.now.settings.now.read_buf_size) result }
     ensures loan { S.Disk.loan (S.inside fs.new) ≡ S.Disk.loan (S.inside fs.old) }
+    ensures store { fs.new ≡ S.with_disk fs.old (S.inside fs.new) }
 {
     match prepare_unsatisfied(alloc, asked.method, asked.path, meta) {
         Ok(outcome) => answer_alone(alloc, fs, held.file, outcome),
@@ -217,6 +223,7 @@ fn send_file<S: GuardedFileSystem<C>, C>(
         (S.File.handle file) fs.old result fs.new }
     ensures most { HasMost (read_size_of asked.now.settings.now.read_buf_size) result }
     ensures loan { S.Disk.loan (S.inside fs.new) ≡ S.Disk.loan (S.inside fs.old) }
+    ensures store { fs.new ≡ S.with_disk fs.old (S.inside fs.new) }
 {
     match decide(alloc, asked.method, asked.fields, meta) {
         Ok(sent) => send_from(alloc, fs, file, asked, meta, &sent),
@@ -238,6 +245,7 @@ fn send_away<S: GuardedFileSystem<C>, C>(
     ensures life { HeldOrClosed (the_view S.GuardedFileSystem S.Disk.Disk S.File.DavFile)
         (S.File.handle file) fs.old result fs.new }
     ensures loan { S.Disk.loan (S.inside fs.new) ≡ S.Disk.loan (S.inside fs.old) }
+    ensures store { fs.new ≡ S.with_disk fs.old (S.inside fs.new) }
 {
     match redirected_fields(alloc, address, meta) {
         Ok(fields) => {
@@ -268,6 +276,7 @@ fn give_file<S: GuardedFileSystem<C>, C>(
         (S.File.handle file) fs.old result fs.new }
     ensures most { HasMost (read_size_of asked.now.settings.now.read_buf_size) result }
     ensures loan { S.Disk.loan (S.inside fs.new) ≡ S.Disk.loan (S.inside fs.old) }
+    ensures store { fs.new ≡ S.with_disk fs.old (S.inside fs.new) }
 {
     if !is_on(asked.settings.redirect) {
         return send_file(alloc, fs, file, asked, meta);
@@ -307,6 +316,7 @@ fn get_file<S: GuardedFileSystem<C>, C>(
         (S.File.handle file) fs.old result fs.new }
     ensures most { HasMost (read_size_of asked.now.settings.now.read_buf_size) result }
     ensures loan { S.Disk.loan (S.inside fs.new) ≡ S.Disk.loan (S.inside fs.old) }
+    ensures store { fs.new ≡ S.with_disk fs.old (S.inside fs.new) }
 {
     let mut file = file;
     match file_metadata(fs, &mut file) {
@@ -332,6 +342,7 @@ fn open_file<S: GuardedFileSystem<C>, C>(
     ensures life { OpenOnlyHeld (the_view S.GuardedFileSystem S.Disk.Disk S.File.DavFile) fs.old result fs.new }
     ensures most { HasMost (read_size_of asked.now.settings.now.read_buf_size) result }
     ensures loan { S.Disk.loan (S.inside fs.new) ≡ S.Disk.loan (S.inside fs.old) }
+    ensures admits { S.admits fs.old → S.admits fs.new }
 {
     match fs.open(asked.path, OpenOptions::read(), credentials) {
         Ok(file) => get_file(alloc, fs, file, asked),
@@ -354,6 +365,7 @@ fn get_index<S: GuardedFileSystem<C>, C>(
     ensures life { OpenOnlyHeld (the_view S.GuardedFileSystem S.Disk.Disk S.File.DavFile) fs.old result fs.new }
     ensures most { HasMost (read_size_of asked.now.settings.now.read_buf_size) result }
     ensures loan { S.Disk.loan (S.inside fs.new) ≡ S.Disk.loan (S.inside fs.old) }
+    ensures admits { S.admits fs.old → S.admits fs.new }
 {
     if !is_plain(name.as_slice()) {
         return Err(DavError::Status(StatusCode::NOT_FOUND));
@@ -387,6 +399,7 @@ fn get_dir<S: GuardedFileSystem<C>, C>(
     ensures life { OpenOnlyHeld (the_view S.GuardedFileSystem S.Disk.Disk S.File.DavFile) fs.old result fs.new }
     ensures most { HasMost (read_size_of asked.now.settings.now.read_buf_size) result }
     ensures loan { S.Disk.loan (S.inside fs.new) ≡ S.Disk.loan (S.inside fs.old) }
+    ensures admits { S.admits fs.new }
 {
     if asked.path.is_collection() {
         return match &asked.settings.indexfile {
@@ -417,6 +430,7 @@ fn look<S: GuardedFileSystem<C>, C>(
     ensures life { OpenOnlyHeld (the_view S.GuardedFileSystem S.Disk.Disk S.File.DavFile) fs.old result fs.new }
     ensures most { HasMost (read_size_of asked.now.settings.now.read_buf_size) result }
     ensures loan { S.Disk.loan (S.inside fs.new) ≡ S.Disk.loan (S.inside fs.old) }
+    ensures admits { S.admits fs.new }
 {
     match fs.metadata(asked.path, credentials) {
         Ok(meta) => {
@@ -475,13 +489,13 @@ pub fn handle_get<S: GuardedFileSystem<C>, C>(
         (the_listings S.GuardedFileSystem S.Entry.DavDirEntry)
         (query settings.now fields.now method path.now) credentials.now fs.old result fs.new
         ⊎ (result ≡ Err DavError.NoMemory) }
-    ensures framed { (number : ℕ) → IsFramed (At method path.now) (reply_at number result) }
-    ensures sound { (number : ℕ) → HasSoundBody (reply_at number result) }
+    ensures framed { (number : ℕ) → IsFramed (At method path.now) (reply_at fields.now number result) }
+    ensures sound { (number : ℕ) → HasSoundBody (reply_at fields.now number result) }
     ensures heard { (result ≡ Err DavError.NoMemory) ⊎ Heard (the_view S.GuardedFileSystem S.Disk.Disk S.File.DavFile)
         (the_listings S.GuardedFileSystem S.Entry.DavDirEntry)
         (query settings.now fields.now method path.now) credentials.now fs.old result fs.new }
-    ensures right { (looked opened : WebPath → Result Standing FsError) (listed : WebPath → Result (List Member) FsError)
-        → ShowsFor (the_view S.GuardedFileSystem S.Disk.Disk S.File.DavFile)
+    ensures right { (looked opened : WebPath → Result Standing FsError)
+        (listed : WebPath → Result (List Member) FsError) → ShowsFor (the_view S.GuardedFileSystem S.Disk.Disk S.File.DavFile)
         (the_listings S.GuardedFileSystem S.Entry.DavDirEntry) fs.old credentials.now
         (query settings.now fields.now method path.now) looked opened listed
         → (result ≡ Err DavError.NoMemory) ⊎ IsRightFor (the_view S.GuardedFileSystem S.Disk.Disk S.File.DavFile)
@@ -489,11 +503,12 @@ pub fn handle_get<S: GuardedFileSystem<C>, C>(
     ensures asks { AsksByOne (the_view S.GuardedFileSystem S.Disk.Disk S.File.DavFile)
         (the_listings S.GuardedFileSystem S.Entry.DavDirEntry)
         → (result ≡ Err DavError.NoMemory) ⊎ AsksUnlessKnown (the_is_well_known settings.now method path.now)
-        (is_set settings.now.redirect) (status_given result) (fields_given result) (S.Disk.state (S.inside fs.old)).asked
-        (S.Disk.state (S.inside fs.new)).asked }
+        (is_set settings.now.redirect) (status_given result) (fields_given fields.now result)
+        (S.Disk.state (S.inside fs.old)).asked (S.Disk.state (S.inside fs.new)).asked }
     ensures life { OpenOnlyHeld (the_view S.GuardedFileSystem S.Disk.Disk S.File.DavFile) fs.old result fs.new }
     ensures most { HasMost (read_size_of settings.now.read_buf_size) result }
     ensures loan { S.Disk.loan (S.inside fs.new) ≡ S.Disk.loan (S.inside fs.old) }
+    ensures admits { S.admits fs.new }
 {
     let asked = Asked {
         settings,
@@ -518,6 +533,7 @@ fn get_once<S: GuardedFileSystem<C>, C>(
     ensures life { OpenOnlyHeld (the_view S.GuardedFileSystem S.Disk.Disk S.File.DavFile) fs.old result fs.new }
     ensures most { HasMost (read_size_of asked.now.settings.now.read_buf_size) result }
     ensures loan { S.Disk.loan (S.inside fs.new) ≡ S.Disk.loan (S.inside fs.old) }
+    ensures admits { S.admits fs.new }
 {
     if !is_well_known(asked) {
         return look(alloc, fs, credentials, asked);

@@ -17,6 +17,7 @@ mod parts;
 mod prepared;
 mod ranges;
 
+pub use autoindex::handle_autoindex;
 pub use body::{GetBody, Polled};
 pub use buffer::ReadBuffer;
 pub use get::handle_get;

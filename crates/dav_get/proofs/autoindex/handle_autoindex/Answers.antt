@@ -1,23 +1,20 @@
-use Rattle.std.proofs.Common.{Err, ap}
+use Rattle.std.proofs.Common.{[], Bool, ap, subst, ◌∙◌}
+use Rattle.std.specs.Prelude.{OnOk}
+use Rattle.dav_page.specs.Listed.{AreSound}
 use Rattle.dav_store.specs.View.{the_listings, the_view}
-use Rattle.dav_get.specs.Asked.{asked_of}
-use Rattle.dav_get.proofs.PageMembers.{listing_given, listing_life, listing_most, listing_refused}
+use Rattle.dav_model.specs.Conditions.{Fields}
+use Rattle.dav_model.specs.Due.{query}
+use Rattle.dav_model.specs.Head.{is_get}
+use Rattle.dav_model.specs.Indexes.{IsIndexReply}
+use Rattle.dav_get.specs.Right.{reply_at}
+use Rattle.dav_get.proofs.SoundPages.{method_is, page_sound}
 use Rattle.dav_get.proofs.autoindex.handle_autoindex.Goals as goal
 
-pub returns-in-Ok-clause-table : goal.returns-in-Ok-clause-table
-returns-in-Ok-clause-table g c =
-    listing_given (the_view g.S.GuardedFileSystem g.S.Disk.Disk g.S.File.DavFile) (the_listings g.S.GuardedFileSystem g.S.Entry.DavDirEntry) (asked_of c.args.asked.now)
-    c.args.credentials.now c.in-Ok.members.items c.args.fs.now c.give_page.result c.list.new.fs c.in-Ok.ensures.listed c.list.ensures.keeps c.give_page.ensures
-
-pub returns-in-Ok-clause-life : goal.returns-in-Ok-clause-life
-returns-in-Ok-clause-life g c =
-    listing_life (the_view g.S.GuardedFileSystem g.S.Disk.Disk g.S.File.DavFile) (the_listings g.S.GuardedFileSystem g.S.Entry.DavDirEntry) (asked_of c.args.asked.now)
-    c.in-Ok.members.items c.args.fs.now c.give_page.result c.list.new.fs c.list.ensures.keeps c.give_page.ensures
-
-pub returns-in-Ok-clause-most : goal.returns-in-Ok-clause-most
-returns-in-Ok-clause-most g c = listing_most (asked_of c.args.asked.now) c.in-Ok.members.items _ c.give_page.result c.give_page.ensures
-
-pub returns-in-Err-clause-table : goal.returns-in-Err-clause-table
-returns-in-Err-clause-table g c =
-    listing_refused (the_view g.S.GuardedFileSystem g.S.Disk.Disk g.S.File.DavFile) (the_listings g.S.GuardedFileSystem g.S.Entry.DavDirEntry) (asked_of c.args.asked.now)
-    c.args.credentials.now c.in-Err.error c.args.fs.now (Err c.from.result) c.list.new.fs c.in-Err.ensures.listed c.list.ensures.keeps (ap Err c.from.ensures)
+pub returns-clause-page : goal.returns-clause-page
+returns-clause-page g c number =
+    subst (λ (gives : Bool). OnOk c.get_page.result (IsIndexReply gives c.args.path.now (AreSound c.args.path.now) (reply_at [] number c.get_page.result)))
+    (ap is_get c.method_for.ensures ∙ method_is c.args.head)
+    (subst (λ (fields : Fields). OnOk c.get_page.result (IsIndexReply (is_get c.method_for.result) c.args.path.now (AreSound c.args.path.now) (reply_at fields number c.get_page.result)))
+    c.new-fields.ensures
+    (page_sound (the_view g.S.GuardedFileSystem g.S.Disk.Disk g.S.File.DavFile) (the_listings g.S.GuardedFileSystem g.S.Entry.DavDirEntry)
+    (query c.args.settings.now c.new-fields.result c.method_for.result c.args.path.now) c.args.credentials.now number c.get_page.result c.args.fs.now c.get_page.new.fs c.get_page.ensures.table))

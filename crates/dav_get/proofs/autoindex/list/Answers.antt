@@ -1,4 +1,4 @@
-use Rattle.std.proofs.Common.{◌∙◌, sym, inl}
+use Rattle.std.proofs.Common.{◌∙◌, sym}
 use Rattle.dav_store.specs.View.{the_listings, the_view}
 use Rattle.dav_store.proofs.Walking.{walk_leaves, walk_same}
 use Rattle.dav_get.proofs.PageMembers.{listed_by, listed_none}
