@@ -12,7 +12,7 @@ use Rattle.dav_wire.specs.Chunks.{line_end, chunk, last_chunk, written, ending, 
 use Rattle.dav_wire.proofs.Sizes.{digits_are_size}
 
 -- What of a text is in front of the first byte without a property is determined, and so is what stands behind it.
-split_once : (P : ℕ → Type 0) (front other : List ℕ) (x y : ℕ) (rest behind : List ℕ) → AllByRecursion P front → AllByRecursion P other
+pub split_once : (P : ℕ → Type 0) (front other : List ℕ) (x y : ℕ) (rest behind : List ℕ) → AllByRecursion P front → AllByRecursion P other
     → (P x → ⊥) → (P y → ⊥) → front ++ x ∷ rest ≡ other ++ y ∷ behind → (front ≡ other) × (x ∷ rest ≡ y ∷ behind)
 split_once P [] [] x y rest behind all none not_x not_y e = (refl, e)
 split_once P [] (c ∷ other) x y rest behind all (is, more) not_x not_y e =
@@ -25,41 +25,41 @@ split_once P (c ∷ front) (d ∷ other) x y rest behind (is, more) (too, all) n
     let split = split_once P front other x y rest behind more all not_x not_y later in
     (ap₂ (λ (b : ℕ) (bs : List ℕ). b ∷ bs) first split.0, split.1)
 
-abbrev IsDigit : ℕ → Type 0
+abbrev pub IsDigit : ℕ → Type 0
 IsDigit c = digit_value c < 16
 
-digits_each : (text : List ℕ) → AllDigits 16 text → AllByRecursion IsDigit text
+pub digits_each : (text : List ℕ) → AllDigits 16 text → AllByRecursion IsDigit text
 digits_each [] all = tt
 digits_each (c ∷ text) all = (all.0, digits_each text all.1)
 
-abbrev IsNoReturn : ℕ → Type 0
+abbrev pub IsNoReturn : ℕ → Type 0
 IsNoReturn c = c ≢ 13
 
-no_returns : (bytes : List ℕ) → All IsWithinLine bytes → AllByRecursion IsNoReturn bytes
+pub no_returns : (bytes : List ℕ) → All IsWithinLine bytes → AllByRecursion IsNoReturn bytes
 no_returns [] all = tt
 no_returns (b ∷ bytes) all = ((All-head IsWithinLine b bytes all).0, no_returns bytes (All-tail IsWithinLine b bytes all))
 
 -- an extension ends before the end of its line
-extension_each : (extension : List ℕ) → IsExtension extension → AllByRecursion IsNoReturn extension
+pub extension_each : (extension : List ℕ) → IsExtension extension → AllByRecursion IsNoReturn extension
 extension_each [] is = tt
 extension_each (b ∷ bytes) is = (λ e. let no : 59 ≡ 13 = sym is.0 ∙ e in absurd (omega (arith, no)), no_returns bytes is.2)
 
 -- what stands behind a size begins with no digit
-abbrev BeginsWithoutDigit : List ℕ → Type 0
+abbrev pub BeginsWithoutDigit : List ℕ → Type 0
 BeginsWithoutDigit text = (x : ℕ) × (rest : List ℕ) × (text ≡ x ∷ rest) × (IsDigit x → ⊥)
 
-behind_size : (extension rest : List ℕ) → IsExtension extension → BeginsWithoutDigit (extension ++ (line_end ++ rest))
+pub behind_size : (extension rest : List ℕ) → IsExtension extension → BeginsWithoutDigit (extension ++ (line_end ++ rest))
 behind_size [] rest is = (13, 10 ∷ rest, refl, λ h. absurd (omega (arith, h)))
 behind_size (b ∷ bytes) rest is = (b, bytes ++ (line_end ++ rest), refl, λ h. let no : IsDigit 59 = subst IsDigit is.0 h in absurd (omega (arith, no)))
 
-line_once : (extension other rest behind : List ℕ) → IsExtension extension → IsExtension other
+pub line_once : (extension other rest behind : List ℕ) → IsExtension extension → IsExtension other
     → extension ++ (line_end ++ rest) ≡ other ++ (line_end ++ behind) → rest ≡ behind
 line_once extension other rest behind is too e =
     let split = split_once IsNoReturn extension other 13 13 (10 ∷ rest) (10 ∷ behind) (extension_each extension is) (extension_each other too) (λ h. h refl) (λ h. h refl) e in
     append_cancel_left line_end rest behind split.1
 
 -- at most one line with a size stands at the front
-size_once : (text : List ℕ) (size other : ℕ) (rest behind : List ℕ) → HasSize text size rest → HasSize text other behind → (size ≡ other) × (rest ≡ behind)
+pub size_once : (text : List ℕ) (size other : ℕ) (rest behind : List ℕ) → HasSize text size rest → HasSize text other behind → (size ≡ other) × (rest ≡ behind)
 size_once text size other rest behind a b =
     let first = behind_size a.extension rest a.extension_is in
     let second = behind_size b.extension behind b.extension_is in
@@ -71,7 +71,7 @@ size_once text size other rest behind a b =
     )
 
 -- two texts of one length in front of others
-front_once : (piece other rest behind : List ℕ) → length piece ≡ length other → piece ++ rest ≡ other ++ behind → (piece ≡ other) × (rest ≡ behind)
+pub front_once : (piece other rest behind : List ℕ) → length piece ≡ length other → piece ++ rest ≡ other ++ behind → (piece ≡ other) × (rest ≡ behind)
 front_once piece other rest behind long e = (
   sym (take-append_seam piece rest) ∙ ap (take (length piece)) e ∙ ap (λ n. take n (other ++ behind)) long ∙ take-append_seam other behind,
   sym (drop-append_seam piece rest) ∙ ap (drop (length piece)) e ∙ ap (λ n. drop n (other ++ behind)) long ∙ drop-append_seam other behind,
@@ -97,7 +97,7 @@ body_once text body other rest behind a b =
     let same = chunks_once text a.pieces b.pieces rest behind a.chunks b.chunks in
     (sym a.joined ∙ ap concat same.0 ∙ b.joined, same.1)
 
-size_stays : (text : List ℕ) (size : ℕ) (rest more : List ℕ) → HasSize text size rest → HasSize (text ++ more) size (rest ++ more)
+pub size_stays : (text : List ℕ) (size : ℕ) (rest more : List ℕ) → HasSize text size rest → HasSize (text ++ more) size (rest ++ more)
 size_stays text size rest more has = record {
   number = has.number;
   extension = has.extension;

@@ -10,3 +10,10 @@ pub mod Holding
 pub mod Pushing
 pub mod Waiting
 pub mod Fronts
+pub mod SizeReading
+pub mod BodyLemmas
+pub mod BodyStepping
+pub mod BodyProgress
+pub mod BodyLaws
+pub mod MessageLemmas
+pub mod BodyDecided

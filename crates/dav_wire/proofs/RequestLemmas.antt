@@ -47,7 +47,7 @@ take_past n xs ys fits =
     let e : n ≡ length xs + (n - length xs) = omega arith in
     ap (λ k. take k (xs ++ ys)) e ∙ take-append-add xs ys (n - length xs)
 
-refused_none : (left : List ℕ) → Refusal left → HasNone left
+pub refused_none : (left : List ℕ) → Refusal left → HasNone left
 refused_none left (never none) head rest request =
     none [] head (rest ++ []) (ReadsRequest-append left head rest [] request.reads)
 refused_none left (long past none) head rest request =

@@ -6,6 +6,8 @@ use Rattle.std.specs.Cmp.Lexicographic.{slice_cmp}
 use Rattle.dav_io.specs.declared.fields.Field.{Field}
 use Rattle.dav_wire.specs.declared.chunks.Framing.{Framing}
 use Rattle.dav_wire.specs.declared.chunks.Framing.TheVariants.{Raw, Chunked}
+use Rattle.dav_wire.specs.declared.next.Flaw.{Flaw}
+use Rattle.dav_wire.specs.declared.next.Flaw.TheVariants.{Malformed, TooLarge}
 
 -- the phrase of a status; another number has none
 unfoldable pub phrase : ℕ → List ℕ
@@ -92,3 +94,12 @@ head_text status fields closing framing = status_line status ++ (field_lines (wr
 -- what answers a request that can't be read
 abbrev pub bad_request_text : List ℕ
 bad_request_text = codes "HTTP/1.1 400 Bad Request\r\nconnection: close\r\ncontent-length: 0\r\n\r\n"
+
+-- what answers a request whose body is too long
+abbrev pub too_large_text : List ℕ
+too_large_text = codes "HTTP/1.1 413 Payload Too Large\r\nconnection: close\r\ncontent-length: 0\r\n\r\n"
+
+-- what answers a request that can't be one
+abbrev pub refusal_text : Flaw → List ℕ
+refusal_text Malformed = bad_request_text
+refusal_text TooLarge = too_large_text

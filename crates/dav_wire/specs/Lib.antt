@@ -10,3 +10,10 @@ pub mod Parsing
 pub mod Taking
 pub mod Fields
 pub mod Reading
+pub mod Announced
+pub mod Bodies
+pub mod Messages
+pub mod BodyReading
+pub mod SizeLines
+pub mod BodySteps
+pub mod BodyStarts

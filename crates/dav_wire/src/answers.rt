@@ -1,9 +1,10 @@
 //! The bytes of answers.
 ghost use Rattle.std.specs.Prelude.{◌≡◌, ◌+◌, ◌%◌, ◌++◌, ◌≤◌, length, IfOk, OnOk};
-ghost use Rattle.dav_wire.specs.Answers.{phrase, three_digits, status_line, field_line, field_lines, has_close_field, is_close_field, place as the_place, with_framing, written_fields, head_text, bad_request_text as refusal};
+ghost use Rattle.dav_wire.specs.Answers.{phrase, three_digits, status_line, field_line, field_lines, has_close_field, is_close_field, place as the_place, with_framing, written_fields, head_text, bad_request_text as refusal, refusal_text as the_refusal_text};
 ghost use Rattle.dav_wire.specs.Framing.{framing as the_framing, has_length as length_given, is_bodiless as bodiless};
 
 use crate::chunks::Framing;
+use crate::next::Flaw;
 use dav_io::{Field, NoMemory, Octets};
 use std::alloc::Global;
 use std::cmp::Ordering;
@@ -13,6 +14,18 @@ pub fn bad_request_text() -> &'static [u8]
     ensures { result.now ≡ refusal }
 {
     b"HTTP/1.1 400 Bad Request\r\nconnection: close\r\ncontent-length: 0\r\n\r\n"
+}
+
+/// The answer to a request that can't be one.
+pub fn refusal_text(flaw: Flaw) -> &'static [u8]
+    ensures { result.now ≡ the_refusal_text flaw }
+{
+    match flaw {
+        Flaw::Malformed => bad_request_text(),
+        Flaw::TooLarge => {
+            b"HTTP/1.1 413 Payload Too Large\r\nconnection: close\r\ncontent-length: 0\r\n\r\n"
+        }
+    }
 }
 
 /// How the body of an answer is written. `chunks`: whether the request takes chunks.

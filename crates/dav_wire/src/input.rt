@@ -1,5 +1,5 @@
 //! The bytes of an input that were taken from its source and not yet passed.
-ghost use Rattle.std.specs.Prelude.{◌≡◌, ◌≤◌, [], drop, length, IfOk};
+ghost use Rattle.std.specs.Prelude.{◌≡◌, ◌≤◌, ◌^◌, [], drop, length, IfOk};
 ghost use Rattle.dav_io.specs.Outside.{Stream};
 ghost use Rattle.dav_wire.specs.Reading.{Finds, Fills};
 
@@ -66,6 +66,15 @@ impl Input {
         &self.buffer[self.start..self.end]
     }
 
+    /// Passes bytes that are held.
+    pub fn pass(&mut self, count: usize)
+        requires { count ≤ length self.old.bytes }
+        ensures bytes { self.new.bytes ≡ drop count self.old.bytes }
+        ensures taken { self.new.taken ≡ self.old.taken }
+    {
+        self.start += count;
+    }
+
     /// Takes more bytes, in one call of the source, and answers how many. 0 is the end of the input.
     pub fn fill<S: Source>(&mut self, source: &mut S) -> Result<usize, ReadError>
         requires { length self.old.bytes ≤ 65536 }
@@ -123,6 +132,7 @@ impl Input {
     pub fn next_head(&mut self, alloc: Global) -> Result<Found, NoMemory>
         ensures finds { Finds self.old.bytes result self.new.bytes }
         ensures taken { self.new.taken ≡ self.old.taken }
+        ensures within { self.old.taken ≤ 2 ^ 60 }
     {
         let len = (self.end - self.start).min(LONGEST);
         let front = &self.buffer[self.start..self.start + len];

@@ -4,6 +4,7 @@ ghost use Rattle.dav_io.specs.declared.failure.NoMemory.{NoMemory as OutOfMemory
 ghost use Rattle.dav_wire.specs.declared.next.ReadError.{ReadError};
 ghost use Rattle.dav_wire.specs.declared.next.ReadError.TheVariants.{NoMemory as WithoutMemory};
 
+use dav_io::Octets;
 use http::request::Parts;
 use thiserror::Error;
 
@@ -16,6 +17,26 @@ pub enum Found {
     Refused,
     /// More bytes are wanted.
     More,
+}
+
+/// Why a request can't be one, by the status that is owed.
+#[derive(Clone, Copy, Debug, PartialEq, Eq)]
+pub enum Flaw {
+    /// 400: its head, the fields that announce its body, or a chunk of the body break the rules.
+    Malformed,
+    /// 413: its body has more than 1,073,741,824 bytes.
+    TooLarge,
+}
+
+/// What came of reading a body.
+#[derive(Drop)]
+pub enum BodyRead {
+    /// A whole body, which was passed.
+    Whole(Octets),
+    /// No body can stand there: this is owed.
+    Refused(Flaw),
+    /// The input ended inside the body.
+    Ended,
 }
 
 /// Why nothing was read.

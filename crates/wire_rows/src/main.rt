@@ -6,10 +6,13 @@
 //!
 //!     input MOST,CALL.. CELL..                  the requests of the bytes, which come so many a call, and how they end; the
 //!                                               calls of the numbers fail
+//!     messages MOST,CALL.. CELL..               as `input`: method and path of each request, and the bytes of its body; and
+//!                                               how they end, with 400 or 413 where a body is refused
 //!     head STATUS ENDS FRAMING NAME:VALUE..     the head of an answer; ENDS is `closes` or `stays`
 //!     framing TAKES STATUS NAME:VALUE..         how the body of an answer is written; TAKES is `chunks` or `plain`
 //!     body FRAMING CELL..                       the bytes of a body of these pieces; FRAMING is `chunked` or `raw`
 //!     refusal                                   what answers a request that can't be read
+//!     large                                     what answers a request whose body is too long
 //!     says NAME:VALUE..                         whether an answer says itself that it closes
 //!     room ROOM MOST FRAMING CELL..             as `body`, into so much room by so many bytes a call, and whether all went
 //!     push ROOM MOST CELL..                     what reaches such a sink of these bytes
@@ -25,6 +28,7 @@
 #![tactic(auto)]
 
 mod cells;
+mod messages;
 mod outside;
 mod requests;
 mod sending;
@@ -32,7 +36,9 @@ mod sending;
 use anyhow::Result;
 use cells::{bytes_of, fields_of, shown};
 use dav_io::MemSink;
-use dav_wire::{Framing, Output, answer_head, bad_request_text, framing, says_close};
+use dav_wire::{
+    Flaw, Framing, Output, answer_head, bad_request_text, framing, refusal_text, says_close,
+};
 use requests::requests;
 use std::alloc::Global;
 
@@ -95,10 +101,12 @@ fn says(alloc: Global, row: &str) -> Result<String> {
 fn answer(alloc: Global, row: &str) -> Result<String> {
     match row.split(' ').next().unwrap_or("") {
         "input" => requests(alloc, row),
+        "messages" => messages::messages(alloc, row),
         "head" => head(alloc, row),
         "framing" => way(alloc, row),
         "body" => body(alloc, row),
         "refusal" => shown(alloc, bad_request_text()),
+        "large" => shown(alloc, refusal_text(Flaw::TooLarge)),
         "says" => says(alloc, row),
         "room" => sending::room(alloc, row),
         "push" => sending::push(alloc, row),

@@ -13,12 +13,12 @@ const CALLS: usize = 100_000;
 
 // What stands next in an input.
 #[derive(Drop)]
-enum Seen {
+pub enum Seen {
     Request(Parts),
     Over(&'static str),
 }
 
-fn error_word(error: ReadError) -> &'static str {
+pub fn error_word(error: ReadError) -> &'static str {
     match error {
         ReadError::Failed => "failed",
         ReadError::TooMuch => "too much",
@@ -27,7 +27,8 @@ fn error_word(error: ReadError) -> &'static str {
     }
 }
 
-fn next(alloc: Global, input: &mut Input, source: &mut MemSource) -> Result<Seen> {
+// The next head of an input.
+pub fn next(alloc: Global, input: &mut Input, source: &mut MemSource) -> Result<Seen> {
     for _ in 0..CALLS {
         match input.next_head(alloc)? {
             Found::Whole(parts) => return Ok(Seen::Request(parts)),
