@@ -4,7 +4,7 @@ ghost use Rattle.dav_lock.specs.Trees.{forest_of};
 ghost use Rattle.dav_lock.specs.Found.{node_found};
 
 use crate::element::copy_pairs;
-use crate::{Element, Nodes, XmlNode, copy_text};
+use crate::{Element, Nodes, XmlNode, both, copy_text};
 use dav_io::NoMemory;
 use std::alloc::Global;
 
@@ -58,19 +58,22 @@ pub(crate) fn copy_around(element: &Element, children: Nodes) -> Result<Element,
           children = children;
         }) }
 {
-    let prefix = copy_text(&element.prefix)?;
-    let namespace = copy_text(&element.namespace)?;
-    let namespaces = copy_pairs(&element.namespaces)?;
-    let name = element.name.try_clone()?;
-    let attributes = element.attributes.try_clone()?;
-    Ok(Element {
-        prefix,
-        namespace,
-        namespaces,
-        name,
-        attributes,
-        children,
-    })
+    let spaces = both(
+        copy_text(&element.namespace),
+        copy_pairs(&element.namespaces),
+    );
+    let named = both(copy_text(&element.prefix), element.name.try_clone());
+    match both(both(named, spaces), element.attributes.try_clone()) {
+        Ok((((prefix, name), (namespace, namespaces)), attributes)) => Ok(Element {
+            prefix,
+            namespace,
+            namespaces,
+            name,
+            attributes,
+            children,
+        }),
+        Err(error) => Err(error),
+    }
 }
 
 /// Equal nodes. They may be refused for want of memory.

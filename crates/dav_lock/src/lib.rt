@@ -4,6 +4,7 @@
 mod copying;
 mod element;
 mod fakels;
+mod granting;
 mod lease;
 mod lock;
 mod locks;
@@ -12,6 +13,7 @@ mod token;
 
 pub use element::{Element, Nodes, XmlNode, copy_text};
 pub use fakels::{DavLockSystem, FakeLs};
+pub use granting::both;
 pub use lease::{Lease, end_of, grant};
 pub use lock::{DavLock, LockError};
 pub use locks::Locks;

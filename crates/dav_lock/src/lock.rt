@@ -1,6 +1,6 @@
 ghost use Rattle.std.specs.Prelude.{◌≡◌, IfOk};
 
-use crate::{Element, Lease, copy_text};
+use crate::{Element, Lease, both, copy_text};
 use dav_core::DavPath;
 use dav_io::{Moment, NoMemory, Text};
 use thiserror::Error;
@@ -38,20 +38,21 @@ impl DavLock {
     pub fn try_clone(&self) -> Result<Self, NoMemory>
         ensures { IfOk result (λ copy. copy ≡ self.now) }
     {
-        let token = self.token.try_clone()?;
-        let path = self.path.try_clone()?;
-        let principal = copy_text(&self.principal)?;
-        let owner = copy_owner(&self.owner)?;
-        Ok(DavLock {
-            token,
-            path,
-            principal,
-            owner,
-            timeout_at: self.timeout_at,
-            timeout: self.timeout,
-            shared: self.shared,
-            deep: self.deep,
-        })
+        let place = both(self.token.try_clone(), self.path.try_clone());
+        let holder = both(copy_text(&self.principal), copy_owner(&self.owner));
+        match both(place, holder) {
+            Ok(((token, path), (principal, owner))) => Ok(DavLock {
+                token,
+                path,
+                principal,
+                owner,
+                timeout_at: self.timeout_at,
+                timeout: self.timeout,
+                shared: self.shared,
+                deep: self.deep,
+            }),
+            Err(error) => Err(error),
+        }
     }
 }
 

@@ -11,7 +11,7 @@ use crate::filter_parts::{
     FromElement, Outer, kept_filter, read_each, read_last_match, read_parameters, read_properties,
 };
 use dav_io::{NoMemory, Text};
-use dav_lock::{Element, Nodes};
+use dav_lock::{Element, Nodes, both};
 use std::alloc::Global;
 
 impl FromElement for PropertyFilter {
@@ -27,13 +27,15 @@ impl FromElement for PropertyFilter {
             None => return Ok(None),
         };
         let is_not_defined = has_named(&element.children, "is-not-defined");
-        let text_match = read_last_match(alloc, &element.children)?;
-        Ok(Some(PropertyFilter {
-            name,
-            is_not_defined,
-            text_match,
-            param_filters,
-        }))
+        match read_last_match(alloc, &element.children) {
+            Ok(text_match) => Ok(Some(PropertyFilter {
+                name,
+                is_not_defined,
+                text_match,
+                param_filters,
+            })),
+            Err(error) => Err(error),
+        }
     }
 }
 
@@ -106,16 +108,18 @@ pub(crate) fn read_address_query(
 ) -> Result<Option<AddressBookQuery>, NoMemory>
     ensures { IfOk result (λ read. read ≡ address_query children.now) }
 {
-    match kept_filter(alloc, children)? {
-        Some(prop_filter) => {
-            let properties = read_properties(alloc, children)?;
-            let limit = read_limit(children);
-            Ok(Some(AddressBookQuery {
+    match both(
+        kept_filter(alloc, children),
+        read_properties(alloc, children),
+    ) {
+        Ok((kept, properties)) => match kept {
+            Some(prop_filter) => Ok(Some(AddressBookQuery {
                 prop_filter,
                 properties,
-                limit,
-            }))
-        }
-        None => Ok(None),
+                limit: read_limit(children),
+            })),
+            None => Ok(None),
+        },
+        Err(error) => Err(error),
     }
 }

@@ -4,6 +4,7 @@ ghost use Rattle.std.specs.Prelude.{◌≡◌, IfOk};
 use crate::Names;
 use dav_core::DavPath;
 use dav_io::{Items, NoMemory, Text, TryClone};
+use dav_lock::both;
 
 /// A resource that a report selected.
 #[derive(Drop)]
@@ -19,10 +20,11 @@ impl TryClone for Record {
     fn try_clone(&self) -> Result<Self, NoMemory>
         ensures { IfOk result (λ copy. copy ≡ self.now) }
     {
-        let path = self.path.try_clone()?;
-        let etag = self.etag.try_clone()?;
-        let text = self.text.try_clone()?;
-        Ok(Record { path, etag, text })
+        let texts = both(self.etag.try_clone(), self.text.try_clone());
+        match both(self.path.try_clone(), texts) {
+            Ok((path, (etag, text))) => Ok(Record { path, etag, text }),
+            Err(error) => Err(error),
+        }
     }
 }
 
@@ -41,8 +43,9 @@ impl Report {
     pub fn try_clone(&self) -> Result<Self, NoMemory>
         ensures { IfOk result (λ copy. copy ≡ self.now) }
     {
-        let records = self.records.try_clone()?;
-        let missing = self.missing.try_clone()?;
-        Ok(Report { records, missing })
+        match both(self.records.try_clone(), self.missing.try_clone()) {
+            Ok((records, missing)) => Ok(Report { records, missing }),
+            Err(error) => Err(error),
+        }
     }
 }

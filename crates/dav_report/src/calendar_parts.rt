@@ -12,15 +12,19 @@ use crate::filter_parts::{
     FromElement, Outer, kept_filter, read_each, read_last_match, read_properties,
 };
 use dav_io::NoMemory;
-use dav_lock::{Element, Nodes, XmlNode};
+use dav_lock::{Element, Nodes, XmlNode, both};
 use std::alloc::Global;
 
 fn read_range(element: &Element) -> Result<TimeRange, NoMemory>
     ensures { IfOk result (λ read. read ≡ time_range element.now) }
 {
-    let start = copy_attribute(element, "start")?;
-    let end = copy_attribute(element, "end")?;
-    Ok(TimeRange { start, end })
+    match both(
+        copy_attribute(element, "start"),
+        copy_attribute(element, "end"),
+    ) {
+        Ok((start, end)) => Ok(TimeRange { start, end }),
+        Err(error) => Err(error),
+    }
 }
 
 /// The range of the last `time-range`.
@@ -50,15 +54,17 @@ impl FromElement for PropertyFilter {
         match copy_attribute(element, "name")? {
             Some(name) => {
                 let is_not_defined = has_named(&element.children, "is-not-defined");
-                let text_match = read_last_match(alloc, &element.children)?;
-                let time_range = read_last_range(&element.children)?;
-                Ok(Some(PropertyFilter {
-                    name,
-                    is_not_defined,
-                    text_match,
-                    time_range,
-                    param_filters: ParameterFilters::empty(alloc),
-                }))
+                let text_match = read_last_match(alloc, &element.children);
+                match both(text_match, read_last_range(&element.children)) {
+                    Ok((text_match, time_range)) => Ok(Some(PropertyFilter {
+                        name,
+                        is_not_defined,
+                        text_match,
+                        time_range,
+                        param_filters: ParameterFilters::empty(alloc),
+                    })),
+                    Err(error) => Err(error),
+                }
             }
             None => Ok(None),
         }
@@ -91,14 +97,16 @@ fn read_asked(alloc: Global, element: &Element) -> Result<Option<ComponentFilter
         None => return Ok(None),
     };
     let is_not_defined = has_named(&element.children, "is-not-defined");
-    let time_range = read_last_range(&element.children)?;
-    Ok(Some(ComponentFilter {
-        name,
-        is_not_defined,
-        time_range,
-        prop_filters,
-        comp_filters: ComponentFilters::empty(alloc),
-    }))
+    match read_last_range(&element.children) {
+        Ok(time_range) => Ok(Some(ComponentFilter {
+            name,
+            is_not_defined,
+            time_range,
+            prop_filters,
+            comp_filters: ComponentFilters::empty(alloc),
+        })),
+        Err(error) => Err(error),
+    }
 }
 
 /// A filter of a component of which the filters in it are being read.
@@ -175,15 +183,18 @@ pub(crate) fn read_calendar_query(
 ) -> Result<Option<CalendarQuery>, NoMemory>
     ensures { IfOk result (λ read. read ≡ calendar_query children.now) }
 {
-    match kept_filter(alloc, children)? {
-        Some(comp_filter) => {
-            let properties = read_properties(alloc, children)?;
-            Ok(Some(CalendarQuery {
+    match both(
+        kept_filter(alloc, children),
+        read_properties(alloc, children),
+    ) {
+        Ok((kept, properties)) => match kept {
+            Some(comp_filter) => Ok(Some(CalendarQuery {
                 comp_filter,
                 time_range: None,
                 properties,
-            }))
-        }
-        None => Ok(None),
+            })),
+            None => Ok(None),
+        },
+        Err(error) => Err(error),
     }
 }

@@ -1,4 +1,7 @@
-ghost use Rattle.std.specs.Prelude.{◌≡◌, IfOk, OnOk, OnErr, is_some, unwrap_or, []};
+ghost use Rattle.std.specs.Prelude.{◌≡◌, IfOk, OnOk, OnErr, Some, is_some, unwrap_or, []};
+ghost use Rattle.std.specs.BTreeMap.{insert_entry};
+ghost use Rattle.dav_lock.specs.Forests.{bare, then, text, joined};
+ghost use Rattle.dav_lock.specs.Pairs.{text_order};
 ghost use Rattle.dav_lock.specs.declared.element.Element.{Element as ElementValue};
 ghost use Rattle.dav_report.specs.Children.{elements, first_of};
 ghost use Rattle.dav_report.specs.Iterators.{left, left_into};
@@ -7,9 +10,11 @@ ghost use Rattle.dav_lock.specs.Trees.{tree_of};
 
 use crate::content::cut_at;
 use crate::element_iters::{Elements, ElementsInto};
+use crate::makers::put_copies;
 use dav_io::{NoMemory, Text};
-use dav_lock::{Element, Nodes, Pairs, XmlNode};
+use dav_lock::{Element, Nodes, Pairs, XmlNode, both};
 use std::alloc::Global;
+use std::mem;
 
 /// What makes and takes apart elements.
 pub trait ElementExt: Sized {
@@ -57,10 +62,17 @@ impl ElementExt for Element {
     fn new2(alloc: Global, n: &str) -> Result<Self, NoMemory> {
         match cut_at(n, ':') {
             Some((prefix, name)) => {
-                let prefix = Text::copy(alloc, prefix)?;
-                let mut element = Element::new(alloc, Text::copy(alloc, name)?);
-                element.prefix = Some(prefix);
-                Ok(element)
+                match both(Text::copy(alloc, prefix), Text::copy(alloc, name)) {
+                    Ok((prefix, name)) => Ok(Element {
+                        prefix: Some(prefix),
+                        namespace: None,
+                        namespaces: None,
+                        name,
+                        attributes: Pairs::empty(alloc),
+                        children: Nodes::empty(alloc),
+                    }),
+                    Err(error) => Err(error),
+                }
             }
             None => Ok(Element::new(alloc, Text::copy(alloc, n)?)),
         }
@@ -68,18 +80,18 @@ impl ElementExt for Element {
 
     fn ns(self, alloc: Global, prefix: &str, namespace: &str) -> Result<Self, NoMemory> {
         let mut element = self;
-        let mut namespaces = declared(alloc, element.namespaces);
-        namespaces.put(Text::copy(alloc, prefix)?, Text::copy(alloc, namespace)?)?;
-        element.namespaces = Some(namespaces);
-        Ok(element)
+        match declare(alloc, &mut element.namespaces, prefix, namespace) {
+            Ok(()) => Ok(element),
+            Err(error) => Err(error),
+        }
     }
 
     fn text(self, alloc: Global, t: &str) -> Result<Self, NoMemory> {
         let mut element = self;
-        let mut children = drop_texts(element.children);
-        children.push(XmlNode::Text(Text::copy(alloc, t)?))?;
-        element.children = children;
-        Ok(element)
+        match replace_texts(alloc, &mut element.children, t) {
+            Ok(()) => Ok(element),
+            Err(error) => Err(error),
+        }
     }
 
     fn push_element(&mut self, _alloc: Global, e: Element) -> Result<(), NoMemory> {
@@ -95,15 +107,32 @@ impl ElementExt for Element {
     }
 
     fn take_child_elems(self, alloc: Global) -> Result<Vec<Element>, NoMemory> {
-        let mut elements = Vec::new(alloc);
-        for element in ElementsInto::over(self.children.into_vec()) {
-            elements.push(element)?;
-        }
-        Ok(elements)
+        Ok(self.child_elems_into_iter().collect(alloc)?)
     }
 
     fn has_child_elems(&self) -> bool {
         Elements::over(self.children.as_slice()).next().is_some()
+    }
+}
+
+/// Declares a namespace, in place of one of the same prefix.
+fn declare(
+    alloc: Global,
+    namespaces: &mut Option<Pairs>,
+    prefix: &str,
+    namespace: &str,
+) -> Result<(), NoMemory>
+    ensures { OnOk result
+        (namespaces.new
+        ≡ Some (insert_entry text_order (unwrap_or namespaces.old []) prefix.now namespace.now)) }
+{
+    let mut pairs = declared(alloc, namespaces.take());
+    match put_copies(alloc, &mut pairs, prefix, namespace) {
+        Ok(()) => {
+            *namespaces = Some(pairs);
+            Ok(())
+        }
+        Err(error) => Err(error),
     }
 }
 
@@ -124,6 +153,16 @@ fn is_text(node: &XmlNode) -> bool
         XmlNode::Text(_) => true,
         _ => false,
     }
+}
+
+/// Lets the texts go, and adds this one behind what is left.
+fn replace_texts(alloc: Global, nodes: &mut Nodes, t: &str) -> Result<(), NoMemory>
+    ensures { OnOk result (nodes.new ≡ joined (without_texts nodes.old) (then (text t.now) bare)) }
+{
+    let added = Text::copy(alloc, t)?;
+    let old = mem::replace(nodes, Nodes::empty(alloc));
+    *nodes = drop_texts(old);
+    nodes.push(XmlNode::Text(added))
 }
 
 /// The nodes that are no texts. It takes no memory.

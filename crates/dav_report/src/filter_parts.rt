@@ -1,10 +1,10 @@
 //! Reading what calendar and address book filters share.
-ghost use Rattle.std.specs.Prelude.{◌≡◌, ◌++◌, IfOk, List, OnOk, Option, codes, map, option_map};
+ghost use Rattle.std.specs.Prelude.{◌≡◌, [], ◌++◌, IfOk, List, OnOk, Option, codes, map, option_map, unwrap_or};
 ghost use Rattle.std.specs.List.{flat_map};
 ghost use Rattle.std.specs.Option.{option_or};
 ghost use Rattle.dav_lock.specs.Forests.{Forest};
 ghost use Rattle.dav_lock.specs.declared.element.Element.{Element as ElementValue};
-ghost use Rattle.dav_report.specs.Children.{attribute, each, elements, named, texts, last_of};
+ghost use Rattle.dav_report.specs.Children.{attribute, each, elements, first_of, last_of, named, texts};
 ghost use Rattle.dav_report.specs.Requests.{is_yes, text_match, last_match, parameter_filter, parameter_filters, properties, hrefs};
 
 use crate::children::{
@@ -12,7 +12,7 @@ use crate::children::{
 };
 use crate::{Names, ParameterFilter, ParameterFilters, TextMatch};
 use dav_io::{NoMemory, Text};
-use dav_lock::{Element, Nodes};
+use dav_lock::{Element, Nodes, both};
 use std::alloc::Global;
 
 /// Whether the comparison of a `text-match` is negated.
@@ -29,19 +29,27 @@ fn is_negated(element: &Element) -> bool
 fn read_match(alloc: Global, element: &Element) -> Result<TextMatch, NoMemory>
     ensures { IfOk result (λ read. read ≡ text_match element.now) }
 {
-    let text = match first_text(&element.children) {
-        Some(text) => text.try_clone()?,
-        None => Text::copy(alloc, "")?,
-    };
-    let collation = copy_attribute(element, "collation")?;
-    let negate_condition = is_negated(element);
-    let match_type = copy_attribute(element, "match-type")?;
-    Ok(TextMatch {
-        text,
-        collation,
-        negate_condition,
-        match_type,
-    })
+    let collation = copy_attribute(element, "collation");
+    let kinds = both(collation, copy_attribute(element, "match-type"));
+    match both(read_text(alloc, &element.children), kinds) {
+        Ok((text, (collation, match_type))) => Ok(TextMatch {
+            text,
+            collation,
+            negate_condition: is_negated(element),
+            match_type,
+        }),
+        Err(error) => Err(error),
+    }
+}
+
+/// A copy of the first text, or no character where there is none.
+fn read_text(alloc: Global, children: &Nodes) -> Result<Text, NoMemory>
+    ensures { IfOk result (λ read. read ≡ unwrap_or (first_of (texts children.now)) []) }
+{
+    match first_text(children) {
+        Some(text) => text.try_clone(),
+        None => Text::copy(alloc, ""),
+    }
 }
 
 /// The comparison of the last `text-match`.
@@ -133,12 +141,14 @@ impl FromElement for ParameterFilter {
         match copy_attribute(element, "name")? {
             Some(name) => {
                 let is_not_defined = has_named(&element.children, "is-not-defined");
-                let text_match = read_last_match(alloc, &element.children)?;
-                Ok(Some(ParameterFilter {
-                    name,
-                    is_not_defined,
-                    text_match,
-                }))
+                match read_last_match(alloc, &element.children) {
+                    Ok(text_match) => Ok(Some(ParameterFilter {
+                        name,
+                        is_not_defined,
+                        text_match,
+                    })),
+                    Err(error) => Err(error),
+                }
             }
             None => Ok(None),
         }

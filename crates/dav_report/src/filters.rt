@@ -2,7 +2,7 @@
 ghost use Rattle.std.specs.Prelude.{◌≡◌, [], IfOk, false};
 
 use dav_io::{Items, NoMemory, Text, TryClone};
-use dav_lock::copy_text;
+use dav_lock::{both, copy_text};
 use std::alloc::Global;
 
 /// The text that a property or a parameter is compared with (RFC 4791 section 9.7.5, RFC 6352 section 10.5.4).
@@ -35,15 +35,16 @@ impl TextMatch {
     pub fn try_clone(&self) -> Result<Self, NoMemory>
         ensures { IfOk result (λ copy. copy ≡ self.now) }
     {
-        let text = self.text.try_clone()?;
-        let collation = copy_text(&self.collation)?;
-        let match_type = copy_text(&self.match_type)?;
-        Ok(TextMatch {
-            text,
-            collation,
-            negate_condition: self.negate_condition,
-            match_type,
-        })
+        let kinds = both(copy_text(&self.collation), copy_text(&self.match_type));
+        match both(self.text.try_clone(), kinds) {
+            Ok((text, (collation, match_type))) => Ok(TextMatch {
+                text,
+                collation,
+                negate_condition: self.negate_condition,
+                match_type,
+            }),
+            Err(error) => Err(error),
+        }
     }
 }
 
@@ -84,13 +85,14 @@ impl TryClone for ParameterFilter {
     fn try_clone(&self) -> Result<Self, NoMemory>
         ensures { IfOk result (λ copy. copy ≡ self.now) }
     {
-        let name = self.name.try_clone()?;
-        let text_match = copy_match(&self.text_match)?;
-        Ok(ParameterFilter {
-            name,
-            is_not_defined: self.is_not_defined,
-            text_match,
-        })
+        match both(self.name.try_clone(), copy_match(&self.text_match)) {
+            Ok((name, text_match)) => Ok(ParameterFilter {
+                name,
+                is_not_defined: self.is_not_defined,
+                text_match,
+            }),
+            Err(error) => Err(error),
+        }
     }
 }
 

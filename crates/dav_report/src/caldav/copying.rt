@@ -5,6 +5,7 @@ ghost use Rattle.dav_report.specs.FilterLists.{filters_of};
 use crate::caldav::property_filter::copy_range;
 use crate::caldav::{ComponentFilter, ComponentFilters};
 use dav_io::NoMemory;
+use dav_lock::both;
 use std::alloc::Global;
 
 /// A filter of which the filters in it are being copied.
@@ -33,16 +34,20 @@ pub(crate) fn copy_around(
           comp_filters = comp_filters;
         }) }
 {
-    let name = filter.name.try_clone()?;
-    let time_range = copy_range(&filter.time_range)?;
-    let prop_filters = filter.prop_filters.try_clone()?;
-    Ok(ComponentFilter {
-        name,
-        is_not_defined: filter.is_not_defined,
-        time_range,
-        prop_filters,
-        comp_filters,
-    })
+    let asked = both(
+        copy_range(&filter.time_range),
+        filter.prop_filters.try_clone(),
+    );
+    match both(filter.name.try_clone(), asked) {
+        Ok((name, (time_range, prop_filters))) => Ok(ComponentFilter {
+            name,
+            is_not_defined: filter.is_not_defined,
+            time_range,
+            prop_filters,
+            comp_filters,
+        }),
+        Err(error) => Err(error),
+    }
 }
 
 /// Equal filters. They may be refused for want of memory.

@@ -2,21 +2,20 @@ ghost use Rattle.std.specs.Prelude.{◌≡◌, IfOk, codes, map};
 ghost use Rattle.dav_report.specs.Making.{component, component_set, calendar_data, home, caldav, holding, collection_types, is_in, is_calendar, has_calendar};
 
 use crate::caldav::{CalendarComponentType, NS_CALDAV_URI};
-use crate::makers::{make, make_content, make_home, make_types};
-use dav_io::{NoMemory, Text};
-use dav_lock::{Element, Nodes, XmlNode};
+use crate::makers::{add_node, make, make_content, make_home, make_types, make_with, put_copies};
+use dav_io::NoMemory;
+use dav_lock::{Element, Nodes, Pairs, XmlNode, both};
 use std::alloc::Global;
 
 /// The element of a kind of component (RFC 4791 section 9.6.1).
 fn make_component(alloc: Global, kind: CalendarComponentType) -> Result<Element, NoMemory>
     ensures { IfOk result (λ e. e ≡ component kind) }
 {
-    let mut element = make(alloc, NS_CALDAV_URI, "C:comp")?;
-    element.attributes.put(
-        Text::copy(alloc, "name")?,
-        Text::copy(alloc, kind.as_str())?,
-    )?;
-    Ok(element)
+    let mut pairs = Pairs::empty(alloc);
+    match put_copies(alloc, &mut pairs, "name", kind.as_str()) {
+        Ok(()) => make_with(alloc, NS_CALDAV_URI, "C:comp", pairs),
+        Err(error) => Err(error),
+    }
 }
 
 fn make_components(alloc: Global, components: &[CalendarComponentType]) -> Result<Nodes, NoMemory>
@@ -36,10 +35,14 @@ pub fn create_supported_calendar_component_set(
 ) -> Result<Element, NoMemory>
     ensures { IfOk result (λ e. e ≡ component_set components.now) }
 {
-    let nodes = make_components(alloc, components)?;
-    let mut element = make(alloc, NS_CALDAV_URI, "C:supported-calendar-component-set")?;
-    element.children = nodes;
-    Ok(element)
+    let element = make(alloc, NS_CALDAV_URI, "C:supported-calendar-component-set");
+    match both(element, make_components(alloc, components)) {
+        Ok((mut element, nodes)) => {
+            element.children = nodes;
+            Ok(element)
+        }
+        Err(error) => Err(error),
+    }
 }
 
 /// The content that a collection takes (RFC 4791 section 5.2.4).
@@ -52,10 +55,12 @@ pub fn create_supported_calendar_data(alloc: Global) -> Result<Element, NoMemory
         "C:calendar-data",
         "text/calendar",
         "2.0",
-    )?;
-    let mut element = make(alloc, NS_CALDAV_URI, "C:supported-calendar-data")?;
-    element.children.push(XmlNode::Element(kind))?;
-    Ok(element)
+    );
+    let element = make(alloc, NS_CALDAV_URI, "C:supported-calendar-data");
+    match both(element, kind) {
+        Ok((element, kind)) => add_node(element, XmlNode::Element(kind)),
+        Err(error) => Err(error),
+    }
 }
 
 /// Where an owner's calendars stand (RFC 4791 section 6.2.1).

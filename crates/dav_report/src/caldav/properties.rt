@@ -2,7 +2,7 @@ ghost use Rattle.std.specs.Prelude.{◌≡◌, [], ◌∷◌, IfOk};
 
 use super::CalendarComponentType;
 use dav_io::{NoMemory, Text};
-use dav_lock::copy_text;
+use dav_lock::{both, copy_text};
 use std::alloc::Global;
 use std::marker::Model;
 
@@ -96,18 +96,20 @@ impl CalendarProperties {
     pub fn try_clone(&self) -> Result<Self, NoMemory>
         ensures { IfOk result (λ copy. copy ≡ self.now) }
     {
-        let description = copy_text(&self.description)?;
-        let timezone = copy_text(&self.timezone)?;
-        let supported_components = self.supported_components.try_clone()?;
-        let color = copy_text(&self.color)?;
-        let display_name = copy_text(&self.display_name)?;
-        Ok(CalendarProperties {
-            description,
-            timezone,
-            supported_components,
-            max_resource_size: self.max_resource_size,
-            color,
-            display_name,
-        })
+        let told = both(copy_text(&self.description), copy_text(&self.timezone));
+        let shown = both(copy_text(&self.color), copy_text(&self.display_name));
+        match both(both(told, shown), self.supported_components.try_clone()) {
+            Ok((((description, timezone), (color, display_name)), supported_components)) => {
+                Ok(CalendarProperties {
+                    description,
+                    timezone,
+                    supported_components,
+                    max_resource_size: self.max_resource_size,
+                    color,
+                    display_name,
+                })
+            }
+            Err(error) => Err(error),
+        }
     }
 }

@@ -3,7 +3,7 @@ ghost use Rattle.std.specs.Prelude.{◌≡◌, IfOk};
 use crate::filters::copy_match;
 use crate::{ParameterFilters, TextMatch};
 use dav_io::{Items, NoMemory, Text, TryClone};
-use dav_lock::copy_text;
+use dav_lock::{both, copy_text};
 
 /// The times between two dates, in the form of RFC 4791 section 9.9. A side that isn't given is open.
 #[derive(Drop)]
@@ -17,9 +17,10 @@ impl TimeRange {
     pub fn try_clone(&self) -> Result<Self, NoMemory>
         ensures { IfOk result (λ copy. copy ≡ self.now) }
     {
-        let start = copy_text(&self.start)?;
-        let end = copy_text(&self.end)?;
-        Ok(TimeRange { start, end })
+        match both(copy_text(&self.start), copy_text(&self.end)) {
+            Ok((start, end)) => Ok(TimeRange { start, end }),
+            Err(error) => Err(error),
+        }
     }
 }
 
@@ -48,17 +49,18 @@ impl TryClone for PropertyFilter {
     fn try_clone(&self) -> Result<Self, NoMemory>
         ensures { IfOk result (λ copy. copy ≡ self.now) }
     {
-        let name = self.name.try_clone()?;
-        let text_match = copy_match(&self.text_match)?;
-        let time_range = copy_range(&self.time_range)?;
-        let param_filters = self.param_filters.try_clone()?;
-        Ok(PropertyFilter {
-            name,
-            is_not_defined: self.is_not_defined,
-            text_match,
-            time_range,
-            param_filters,
-        })
+        let named = both(self.name.try_clone(), self.param_filters.try_clone());
+        let asked = both(copy_match(&self.text_match), copy_range(&self.time_range));
+        match both(named, asked) {
+            Ok(((name, param_filters), (text_match, time_range))) => Ok(PropertyFilter {
+                name,
+                is_not_defined: self.is_not_defined,
+                text_match,
+                time_range,
+                param_filters,
+            }),
+            Err(error) => Err(error),
+        }
     }
 }
 

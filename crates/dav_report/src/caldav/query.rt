@@ -4,6 +4,7 @@ use crate::Names;
 use crate::caldav::property_filter::copy_range;
 use crate::caldav::{ComponentFilter, TimeRange};
 use dav_io::NoMemory;
+use dav_lock::both;
 
 /// Which calendar resources are asked for, and which of their properties (RFC 4791 section 7.8).
 #[derive(Drop)]
@@ -18,14 +19,15 @@ impl CalendarQuery {
     pub fn try_clone(&self) -> Result<Self, NoMemory>
         ensures { IfOk result (λ copy. copy ≡ self.now) }
     {
-        let comp_filter = copy_filter(&self.comp_filter)?;
-        let time_range = copy_range(&self.time_range)?;
-        let properties = self.properties.try_clone()?;
-        Ok(CalendarQuery {
-            comp_filter,
-            time_range,
-            properties,
-        })
+        let asked = both(copy_filter(&self.comp_filter), copy_range(&self.time_range));
+        match both(asked, self.properties.try_clone()) {
+            Ok(((comp_filter, time_range), properties)) => Ok(CalendarQuery {
+                comp_filter,
+                time_range,
+                properties,
+            }),
+            Err(error) => Err(error),
+        }
     }
 }
 

@@ -2,7 +2,7 @@ ghost use Rattle.std.specs.Prelude.{◌≡◌, IfOk};
 
 use crate::carddav::DEFAULT_MAX_RESOURCE_SIZE;
 use dav_io::{NoMemory, Text};
-use dav_lock::copy_text;
+use dav_lock::{both, copy_text};
 use std::alloc::Global;
 
 /// The properties of an address book collection (RFC 6352 section 6.2). Sizes are in bytes.
@@ -30,12 +30,13 @@ impl AddressBookProperties {
     pub fn try_clone(&self) -> Result<Self, NoMemory>
         ensures { IfOk result (λ copy. copy ≡ self.now) }
     {
-        let description = copy_text(&self.description)?;
-        let display_name = copy_text(&self.display_name)?;
-        Ok(AddressBookProperties {
-            description,
-            max_resource_size: self.max_resource_size,
-            display_name,
-        })
+        match both(copy_text(&self.description), copy_text(&self.display_name)) {
+            Ok((description, display_name)) => Ok(AddressBookProperties {
+                description,
+                max_resource_size: self.max_resource_size,
+                display_name,
+            }),
+            Err(error) => Err(error),
+        }
     }
 }

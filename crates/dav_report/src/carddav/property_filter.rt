@@ -3,6 +3,7 @@ ghost use Rattle.std.specs.Prelude.{◌≡◌, IfOk};
 use crate::filters::copy_match;
 use crate::{ParameterFilters, TextMatch};
 use dav_io::{NoMemory, Text};
+use dav_lock::both;
 
 /// What is asked of a property of a vCard (RFC 6352 section 10.5.1).
 #[derive(Drop)]
@@ -19,14 +20,15 @@ impl PropertyFilter {
     pub fn try_clone(&self) -> Result<Self, NoMemory>
         ensures { IfOk result (λ copy. copy ≡ self.now) }
     {
-        let name = self.name.try_clone()?;
-        let text_match = copy_match(&self.text_match)?;
-        let param_filters = self.param_filters.try_clone()?;
-        Ok(PropertyFilter {
-            name,
-            is_not_defined: self.is_not_defined,
-            text_match,
-            param_filters,
-        })
+        let asked = both(copy_match(&self.text_match), self.param_filters.try_clone());
+        match both(self.name.try_clone(), asked) {
+            Ok((name, (text_match, param_filters))) => Ok(PropertyFilter {
+                name,
+                is_not_defined: self.is_not_defined,
+                text_match,
+                param_filters,
+            }),
+            Err(error) => Err(error),
+        }
     }
 }

@@ -3,6 +3,7 @@ ghost use Rattle.std.specs.Prelude.{◌≡◌, IfOk};
 use crate::Names;
 use crate::carddav::PropertyFilter;
 use dav_io::NoMemory;
+use dav_lock::both;
 
 /// Which vCards are asked for, which of their properties, and how many (RFC 6352 section 8.6).
 #[derive(Drop)]
@@ -17,13 +18,14 @@ impl AddressBookQuery {
     pub fn try_clone(&self) -> Result<Self, NoMemory>
         ensures { IfOk result (λ copy. copy ≡ self.now) }
     {
-        let prop_filter = copy_filter(&self.prop_filter)?;
-        let properties = self.properties.try_clone()?;
-        Ok(AddressBookQuery {
-            prop_filter,
-            properties,
-            limit: self.limit,
-        })
+        match both(copy_filter(&self.prop_filter), self.properties.try_clone()) {
+            Ok((prop_filter, properties)) => Ok(AddressBookQuery {
+                prop_filter,
+                properties,
+                limit: self.limit,
+            }),
+            Err(error) => Err(error),
+        }
     }
 }
 
