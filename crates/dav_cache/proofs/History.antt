@@ -9,7 +9,7 @@ use Rattle.dav_cache.specs.Core.{Event, Moment, State, Place, Told, goes, settle
 use Rattle.dav_cache.specs.declared.event.Event.TheVariants.{Ask, Peek, Check, Conclude, DropDir, Begin, Before, ListNext, After, Seal, Find, Get, Probe, Drop, Insert, Purge, Change}
 use Rattle.dav_cache.specs.declared.place.Place.TheVariants.{Idle, Asked, Peeked, Passed, Failed, Begun, Lists, Ended, Finding, Got, Missed}
 use Rattle.dav_cache.specs.declared.event.Told.TheVariants.{Nothing, Absent, Path, Misplaced}
-use Rattle.dav_cache.specs.Transparency.{is_caller, is_misplaced, is_own, own, Checked, Noted, IsNoted, PeeksAreHeld}
+use Rattle.dav_cache.specs.Transparency.{is_caller, is_misplaced, is_own, own, Checked, Held, holding, Noted, IsNoted, PeeksAreHeld}
 use Rattle.dav_cache.proofs.Steps.{is_time_at}
 use Rattle.dav_cache.proofs.Runs.{get-replicate}
 
@@ -42,8 +42,8 @@ module _ (s0 : State) where
   abbrev pub Tells : List Event → ℕ → Place → Type 0
   Tells done c Idle = Unit {0}
   Tells done c (Asked dir name) = EndsWith (own c s0 done) (Ask c dir name ∷ [])
-  Tells done c (Peeked dir name number time) = EndsWith (own c s0 done) (Ask c dir name ∷ Peek c ∷ []) × Noted s0 done c dir name number time []
-  Tells done c (Passed dir name number time) = Checked s0 done c dir name time × Noted s0 done c dir name number time (Check c false ∷ [])
+  Tells done c (Peeked dir name number time) = EndsWith (own c s0 done) (Ask c dir name ∷ Peek c ∷ []) × Noted s0 done c (holding dir name number time) []
+  Tells done c (Passed dir name number time) = Checked s0 done c dir name time × Noted s0 done c (holding dir name number time) (Check c false ∷ [])
   Tells done c (Failed dir) = Unit {0}
   Tells done c (Begun dir) = Unit {0}
   Tells done c (Lists l) = Unit {0}
@@ -74,9 +74,9 @@ module _ (s0 : State) where
       }
 
   -- what a caller noted at its Peek, with one more event
-  noted_with : (done : List Event) (c : ℕ) (e : Event) (dir : Names) (name : Name) (number : ℕ) (time : FileTime) (since since' : List Event) → (h : Noted s0 done c dir name number time since)
-      → own c (run s0 (h.before ++ Peek c ∷ [])) (h.between ++ e ∷ []) ≡ since' → Noted s0 (done ++ e ∷ []) c dir name number time since'
-  noted_with done c e dir name number time since since' h waited = record {
+  noted_with : (done : List Event) (c : ℕ) (e : Event) (held : Held) (since since' : List Event) → (h : Noted s0 done c held since)
+      → own c (run s0 (h.before ++ Peek c ∷ [])) (h.between ++ e ∷ []) ≡ since' → Noted s0 (done ++ e ∷ []) c held since'
+  noted_with done c e held since since' h waited = record {
     earlier = h.earlier;
     before = h.before;
     between = h.between ++ e ∷ [];
@@ -89,33 +89,33 @@ module _ (s0 : State) where
     same_time = h.same_time;
   }
 
-  noted_now : (done : List Event) (c : ℕ) (dir : Names) (name : Name) (number : ℕ) (time : FileTime) (since : List Event) → (h : Noted s0 done c dir name number time since)
+  noted_now : (done : List Event) (c : ℕ) (held : Held) (since : List Event) → (h : Noted s0 done c held since)
       → run s0 done ≡ run (run s0 (h.before ++ Peek c ∷ [])) h.between
-  noted_now done c dir name number time since h =
+  noted_now done c held since h =
       let first = h.before ++ Peek c ∷ [] in
       let whole : first ++ h.between ≡ h.before ++ Peek c ∷ h.between = append_assoc h.before (Peek c ∷ []) h.between in
       ap (run s0) (h.parts ∙ sym whole) ∙ run-append s0 first h.between
 
-  noted_still : (done : List Event) (c : ℕ) (e : Event) (dir : Names) (name : Name) (number : ℕ) (time : FileTime) (since : List Event) → is_own c (run s0 done) e ≡ false
-      → Noted s0 done c dir name number time since → Noted s0 (done ++ e ∷ []) c dir name number time since
-  noted_still done c e dir name number time since not_own h =
-      let now = noted_now done c dir name number time since h in
-      noted_with done c e dir name number time since since h
+  noted_still : (done : List Event) (c : ℕ) (e : Event) (held : Held) (since : List Event) → is_own c (run s0 done) e ≡ false
+      → Noted s0 done c held since → Noted s0 (done ++ e ∷ []) c held since
+  noted_still done c e held since not_own h =
+      let now = noted_now done c held since h in
+      noted_with done c e held since since h
       (own-other c (run s0 (h.before ++ Peek c ∷ [])) h.between e (subst (λ w. is_own c w e ≡ false) now not_own) ∙ h.waited)
 
-  noted_more : (done : List Event) (c : ℕ) (e : Event) (dir : Names) (name : Name) (number : ℕ) (time : FileTime) (since : List Event) → is_own c (run s0 done) e ≡ true
-      → Noted s0 done c dir name number time since → Noted s0 (done ++ e ∷ []) c dir name number time (since ++ e ∷ [])
-  noted_more done c e dir name number time since is h =
-      let now = noted_now done c dir name number time since h in
-      noted_with done c e dir name number time since (since ++ e ∷ []) h
+  noted_more : (done : List Event) (c : ℕ) (e : Event) (held : Held) (since : List Event) → is_own c (run s0 done) e ≡ true
+      → Noted s0 done c held since → Noted s0 (done ++ e ∷ []) c held (since ++ e ∷ [])
+  noted_more done c e held since is h =
+      let now = noted_now done c held since h in
+      noted_with done c e held since (since ++ e ∷ []) h
       (own-more c (run s0 (h.before ++ Peek c ∷ [])) h.between e (subst (λ w. is_own c w e ≡ true) now is) ∙ ap (λ l. l ++ e ∷ []) h.waited)
 
   -- what is not the caller's own leaves it
   tells_still : (done : List Event) (c : ℕ) (e : Event) (p : Place) → is_own c (run s0 done) e ≡ false → Tells done c p → Tells (done ++ e ∷ []) c p
   tells_still done c e Idle n h = tt
   tells_still done c e (Asked dir name) n h = ends_still done c e (Ask c dir name ∷ []) n h
-  tells_still done c e (Peeked dir name number time) n h = (ends_still done c e (Ask c dir name ∷ Peek c ∷ []) n h.0, noted_still done c e dir name number time [] n h.1)
-  tells_still done c e (Passed dir name number time) n h = (checked_still done c e dir name time n h.0, noted_still done c e dir name number time (Check c false ∷ []) n h.1)
+  tells_still done c e (Peeked dir name number time) n h = (ends_still done c e (Ask c dir name ∷ Peek c ∷ []) n h.0, noted_still done c e (holding dir name number time) [] n h.1)
+  tells_still done c e (Passed dir name number time) n h = (checked_still done c e dir name time n h.0, noted_still done c e (holding dir name number time) (Check c false ∷ []) n h.1)
   tells_still done c e (Failed dir) n h = tt
   tells_still done c e (Begun dir) n h = tt
   tells_still done c e (Lists l) n h = tt
@@ -220,7 +220,7 @@ module _ (s0 : State) (done : List Event) (all : AllTell s0 done (run s0 done)) 
   -- a Check that was refused finds no time
   passed_tells : (c : ℕ) (refused : Bool) (dir : Names) (name : Name) (number : ℕ) (t : FileTime) → slice_get here.places c ≡ Some (Peeked dir name number t)
       → is_time t (time_told refused here.tree dir) ≡ true
-      → Checked s0 (done ++ Check c refused ∷ []) c dir name t × Noted s0 (done ++ Check c refused ∷ []) c dir name number t (Check c false ∷ [])
+      → Checked s0 (done ++ Check c refused ∷ []) c dir name t × Noted s0 (done ++ Check c refused ∷ []) c (holding dir name number t) (Check c false ∷ [])
   passed_tells c true dir name number t h is = absurd (false≢true is)
   passed_tells c false dir name number t h is =
       let was = all c (Peeked dir name number t) h in (
@@ -233,7 +233,7 @@ module _ (s0 : State) (done : List Event) (all : AllTell s0 done (run s0 done)) 
           waited = refl;
           found = is_time_at t (time_of here.tree dir) is;
         },
-        noted_more s0 done c (Check c false) dir name number t [] (mine c (Check c false) Nothing (same_caller c) (ap (λ o. (check here c false o).1) h) refl) was.1,
+        noted_more s0 done c (Check c false) (holding dir name number t) [] (mine c (Check c false) Nothing (same_caller c) (ap (λ o. (check here c false o).1) h) refl) was.1,
       )
 
   check_hist : (c : ℕ) (refused : Bool) (o : Option Place) → slice_get here.places c ≡ o → Then (Check c refused) (check here c refused o).0

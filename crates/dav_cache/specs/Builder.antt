@@ -32,7 +32,8 @@ started dir before = record { dir = dir; before = before; names = []; faulted = 
 
 -- the directory's time is asked
 abbrev pub Starts : DiskState → Names → BuilderState → DiskState → Type 0
-Starts before dir b after = (answer : Result Meta DiskError) × Metas before dir answer after × (b ≡ started dir (time_found answer))
+Starts before dir b after =
+    (answer : Result Meta DiskError) × Metas before dir answer after × (b ≡ started dir (time_found answer))
 
 -- with one more name, where it begins with `._`
 abbrev pub with_name : Name → BuilderState → BuilderState
@@ -48,14 +49,26 @@ TellsSealed Done result = IsOk result
 TellsSealed Last result = IsOk result
 TellsSealed NoMemory result = IsErr result
 
+-- what the end of a listing works on: the listing, its disk, and the memory that it is sealed into
+pub record Site (M : Type 0) : Type 0 where
+  pub builder : BuilderState
+  pub disk : DiskState
+  pub memory : M
+
 module _ {M E : Type 0} (state : M → MemoryState) where
   -- what the memory is told of a listing, by the time that is settled
   abbrev pub Settles : Option FileTime → BuilderState → Moment → M → Result Unit E → M → Type 0
   Settles None b now old result new = IsOk result × (new ≡ old)
-  Settles (Some time) b now old result new = (sealed : Sealed) × SealsIn (state old) (dir_key b.dir) time b.names now sealed (state new) × TellsSealed sealed result
+  Settles (Some time) b now old result new =
+      (sealed : Sealed) × SealsIn (state old) (dir_key b.dir) time b.names now sealed (state new)
+      × TellsSealed sealed result
 
-  -- The first end asks the directory's time again, and seals where both times are known and equal and no fault was noted. A second does nothing.
-  abbrev pub Finishes : Bool → BuilderState → DiskState → Moment → M → Result Unit E → BuilderState → DiskState → M → Type 0
-  Finishes true b before now old result c after new = IsOk result × (c ≡ b) × (after ≡ before) × (new ≡ old)
-  Finishes false b before now old result c after new =
-      (answer : Result Meta DiskError) × Metas before b.dir answer after × (c ≡ record b { finished = true }) × Settles (one_time (may_settle b) (time_found answer)) b now old result new
+  -- The first end asks the directory's time again, and seals where both times are known and equal and no fault was
+  -- noted. A second does nothing.
+  abbrev pub Finishes : Bool → Site M → Moment → Result Unit E → Site M → Type 0
+  Finishes true old now result new =
+      IsOk result × (new.builder ≡ old.builder) × (new.disk ≡ old.disk) × (new.memory ≡ old.memory)
+  Finishes false old now result new =
+      (answer : Result Meta DiskError) × Metas old.disk old.builder.dir answer new.disk
+      × (new.builder ≡ record old.builder { finished = true })
+      × Settles (one_time (may_settle old.builder) (time_found answer)) old.builder now old.memory result new.memory

@@ -22,7 +22,8 @@ found_by path (Ok meta) = Some (path, meta)
 found_by path (Err e) = None
 
 -- a look-up of a path whose entry is given
-abbrev pub Looks : Option PathEntry → PathCache → Names → DiskState → Option (Names × Meta) → PathCache → DiskState → Type 0
+abbrev pub Looks : Option PathEntry → PathCache → Names → DiskState → Option (Names × Meta) → PathCache → DiskState
+    → Type 0
 Looks None old asked before found new after = (found ≡ None) × (new ≡ old) × (after ≡ before)
 Looks (Some e) old asked before found new after =
     (answer : Result Meta DiskError) × Metas before e.path answer after × (found ≡ found_by e.path answer)
@@ -43,7 +44,8 @@ dropped dir old = record old { entries = without (same_key (dir_key dir)) old.en
 abbrev pub Denies : Option DuEntry → DotCache → Names → Name → DiskState → Bool → DotCache → DiskState → Type 0
 Denies None old dir name before absent new after = (absent ≡ false) × (new ≡ old) × (after ≡ before)
 Denies (Some e) old dir name before absent new after =
-    (answer : Result Meta DiskError) × Metas before dir answer after × (absent ≡ (has_time e.time answer && concludes old.entries dir name e.number))
+    (answer : Result Meta DiskError) × Metas before dir answer after
+    × (absent ≡ (has_time e.time answer && concludes old.entries dir name e.number))
     × (new ≡ (if has_time e.time answer then old else dropped dir old))
 
 -- ---- sealing a listing
@@ -51,13 +53,16 @@ Denies (Some e) old dir name before absent new after =
 -- a seal of which so many puts find memory
 abbrev pub sealed_within : DotCache → DuKey → FileTime → Moment → List Name → ℕ → DotCache
 sealed_within old dir time now names room = record {
-  entries = sealed old.size (record { dir = dir.dir; time = time; moment = now; number = old.next }) names room old.entries;
+  entries =
+      sealed old.size (record { dir = dir.dir; time = time; moment = now; number = old.next }) names room old.entries;
   size = old.size;
   next = old.next + 1;
 }
 
 -- At the greatest number nothing more is remembered. Where memory was refused a put was not made
 abbrev pub Seals : DotCache → DuKey → FileTime → Moment → List Name → Sealed → DotCache → Type 0
-Seals old dir time now names Done new = (old.next < greatest) × (new ≡ sealed_within old dir time now names (length names + 1))
+Seals old dir time now names Done new =
+    (old.next < greatest) × (new ≡ sealed_within old dir time now names (length names + 1))
 Seals old dir time now names Last new = (greatest ≤ old.next) × (new ≡ old)
-Seals old dir time now names NoMemory new = (old.next < greatest) × (room : ℕ) × (room ≤ length names) × (new ≡ sealed_within old dir time now names room)
+Seals old dir time now names NoMemory new =
+    (old.next < greatest) × (room : ℕ) × (room ≤ length names) × (new ≡ sealed_within old dir time now names room)

@@ -28,7 +28,16 @@ pub record State : Type 0 where
   pub next : ℕ
 
 abbrev pub start : Tree → ℕ → ℕ → ℕ → State
-start tree callers paths dots = record { tree = tree; places = replicate callers Idle; paths = []; paths_size = paths; dots = []; dots_size = dots; next = 1 }
+start tree callers paths dots =
+    record {
+      tree = tree;
+      places = replicate callers Idle;
+      paths = [];
+      paths_size = paths;
+      dots = [];
+      dots_size = dots;
+      next = 1;
+    }
 
 -- the next state, and what the caller is told
 abbrev pub Turn : Type 0
@@ -65,7 +74,8 @@ conclude s c (Some (Passed dir name number time)) = goes s c Idle (Absent (concl
 conclude s c _ = (s, Misplaced)
 
 abbrev pub drop_dir : State → ℕ → Option Place → Turn
-drop_dir s c (Some (Failed dir)) = goes (record s { dots = without (same_key (dir_key dir)) s.dots }) c Idle (Absent false)
+drop_dir s c (Some (Failed dir)) =
+    goes (record s { dots = without (same_key (dir_key dir)) s.dots }) c Idle (Absent false)
 drop_dir s c _ = (s, Misplaced)
 
 -- ---- listing a directory
@@ -76,18 +86,33 @@ begin s c dir _ = (s, Misplaced)
 
 abbrev pub before : State → ℕ → Bool → Option Place → Turn
 before s c refused (Some (Begun dir)) =
-    goes s c (Lists (record { dir = dir; before = time_told refused s.tree dir; last = None; names = []; ended = false; whole = true })) Nothing
+    goes s c (Lists (record {
+      dir = dir;
+      before = time_told refused s.tree dir;
+      last = None;
+      names = [];
+      ended = false;
+      whole = true;
+    })) Nothing
 before s c refused _ = (s, Misplaced)
 
 -- a name, or the end
 abbrev pub given : Listing → Option Name → Listing
 given l None = record { dir = l.dir; before = l.before; last = l.last; names = l.names; ended = true; whole = l.whole }
 given l (Some name) =
-    record { dir = l.dir; before = l.before; last = Some name; names = if is_dot name then l.names ++ name ∷ [] else l.names; ended = false; whole = l.whole }
+    record {
+      dir = l.dir;
+      before = l.before;
+      last = Some name;
+      names = if is_dot name then l.names ++ name ∷ [] else l.names;
+      ended = false;
+      whole = l.whole;
+    }
 
 -- a listing of what is no directory now counts as refused
 abbrev pub lists_next : Tree → Listing → Option FileTime → Listing
-lists_next tree l None = record { dir = l.dir; before = l.before; last = l.last; names = l.names; ended = true; whole = false }
+lists_next tree l None =
+    record { dir = l.dir; before = l.before; last = l.last; names = l.names; ended = true; whole = false }
 lists_next tree l (Some time) = given l (next_name tree l.dir l.last)
 
 abbrev pub list_next : State → ℕ → Bool → Option Place → Turn
@@ -96,7 +121,8 @@ list_next s c refused (Some (Lists l)) =
 list_next s c refused _ = (s, Misplaced)
 
 abbrev pub after : State → ℕ → Bool → Option Place → Turn
-after s c refused (Some (Lists l)) = if l.ended then goes s c (Ended l (time_told refused s.tree l.dir)) Nothing else (s, Misplaced)
+after s c refused (Some (Lists l)) =
+    if l.ended then goes s c (Ended l (time_told refused s.tree l.dir)) Nothing else (s, Misplaced)
 after s c refused _ = (s, Misplaced)
 
 -- the time that was found before and after
@@ -112,12 +138,22 @@ settled l after = if l.whole then one_time l.before after else None
 unfoldable pub new_dots : State → Listing → Moment → ℕ → Option FileTime → Option Dots
 new_dots s l now room None = None
 new_dots s l now room (Some time) =
-    if nat_lt s.next (2 ^ 64 - 1) then Some (sealed s.dots_size (record { dir = l.dir; time = time; moment = now; number = s.next }) l.names room s.dots) else None
+    if nat_lt s.next (2 ^ 64 - 1)
+    then Some (sealed s.dots_size (record { dir = l.dir; time = time; moment = now; number = s.next }) l.names room s.dots)
+    else None
 
 abbrev pub with_dots : State → Option Dots → State
 with_dots s None = s
 with_dots s (Some dots) =
-    record { tree = s.tree; places = s.places; paths = s.paths; paths_size = s.paths_size; dots = dots; dots_size = s.dots_size; next = s.next + 1 }
+    record {
+      tree = s.tree;
+      places = s.places;
+      paths = s.paths;
+      paths_size = s.paths_size;
+      dots = dots;
+      dots_size = s.dots_size;
+      next = s.next + 1;
+    }
 
 abbrev pub seal : State → ℕ → Moment → ℕ → Option Place → Turn
 seal s c now room (Some (Ended l after)) = goes (with_dots s (new_dots s l now room (settled l after))) c Idle Nothing
@@ -131,7 +167,8 @@ find s c path _ = (s, Misplaced)
 
 abbrev pub got : State → ℕ → Names → Option PathEntry → Turn
 got s c asked None = goes s c Idle (Path None)
-got s c asked (Some e) = goes (record s { paths = promoted (fold_path asked) (Some e) s.paths }) c (Got asked e.path) Nothing
+got s c asked (Some e) =
+    goes (record s { paths = promoted (fold_path asked) (Some e) s.paths }) c (Got asked e.path) Nothing
 
 abbrev pub get : State → ℕ → Option Place → Turn
 get s c (Some (Finding asked)) = got s c asked (lookup (same_path (fold_path asked)) s.paths)
@@ -143,7 +180,8 @@ probe s c refused (Some (Got asked path)) =
 probe s c refused _ = (s, Misplaced)
 
 abbrev pub drop : State → ℕ → Option Place → Turn
-drop s c (Some (Missed asked)) = goes (record s { paths = without (same_path (fold_path asked)) s.paths }) c Idle (Path None)
+drop s c (Some (Missed asked)) =
+    goes (record s { paths = without (same_path (fold_path asked)) s.paths }) c Idle (Path None)
 drop s c _ = (s, Misplaced)
 
 abbrev pub insert : State → ℕ → Names → Moment → Option Place → Turn
@@ -191,7 +229,8 @@ run s (event ∷ events) = run (step s event) events
 
 -- The `._` names of a listing rise, and none comes after the last name given.
 abbrev pub Rises : Place → Type 0
-Rises (Lists l) = (is_rising None l.names ≡ true) × ((x : Name) → list_any (same_name x) l.names ≡ true → is_after l.last x ≡ false)
+Rises (Lists l) =
+    (is_rising None l.names ≡ true) × ((x : Name) → list_any (same_name x) l.names ≡ true → is_after l.last x ≡ false)
 Rises (Ended l after) = is_rising None l.names ≡ true
 Rises _ = Unit {0}
 

@@ -49,7 +49,8 @@ is_old_path now e = nat_le (e.secs + 900) (whole_seconds now.0)
 
 -- the path's entry first
 abbrev pub inserted : ℕ → Names → Moment → Paths → Paths
-inserted size path now entries = put size (same_path (fold_path path)) (fold_path path) (record { path = path; secs = whole_seconds now.0 }) entries
+inserted size path now entries =
+    put size (same_path (fold_path path)) (fold_path path) (record { path = path; secs = whole_seconds now.0 }) entries
 
 -- the entry of the key comes to the front
 abbrev pub promoted : Names → Option PathEntry → Paths → Paths
@@ -104,10 +105,14 @@ pub record Listed : Type 0 where
   pub number : ℕ
 
 abbrev pub put_name : ℕ → Listed → Name → Dots → Dots
-put_name size l name dots = put size (same_key (name_key l.dir name)) (name_key l.dir name) (record { moment = l.moment; time = l.time; number = l.number; count = None }) dots
+put_name size l name dots =
+    put size (same_key (name_key l.dir name)) (name_key l.dir name)
+    (record { moment = l.moment; time = l.time; number = l.number; count = None }) dots
 
 abbrev pub put_dir : ℕ → Listed → ℕ → Dots → Dots
-put_dir size l count dots = put size (same_key (dir_key l.dir)) (dir_key l.dir) (record { moment = l.moment; time = l.time; number = l.number; count = Some count }) dots
+put_dir size l count dots =
+    put size (same_key (dir_key l.dir)) (dir_key l.dir)
+    (record { moment = l.moment; time = l.time; number = l.number; count = Some count }) dots
 
 -- what the listing is sealed with whose directory has this key, by an entry of it
 abbrev pub listed_by : DuKey → DuEntry → Listed
@@ -149,7 +154,9 @@ AllUnder dir number (e ∷ es) = (e.1.number ≡ number → e.0.dir ≡ dir) × 
 
 -- the count of a directory's entry is the number of name entries with its number, and they are under that directory
 abbrev pub IsCounted : Dots → Names → Type 0
-IsCounted dots dir = (e : DuEntry) → lookup (same_key (dir_key dir)) dots ≡ Some e → (e.count ≡ Some (named e.number dots)) × AllUnder dir e.number dots
+IsCounted dots dir =
+    (e : DuEntry) → lookup (same_key (dir_key dir)) dots ≡ Some e → (e.count ≡ Some (named e.number dots))
+    × AllUnder dir e.number dots
 
 -- the numbers of these entries are below n
 abbrev pub AllBelow : ℕ → Dots → Type 0
@@ -161,13 +168,15 @@ abbrev pub Falling : Dots → Type 0
 Falling [] = Unit {0}
 Falling (e ∷ es) = (e.0.name ≡ None → AllBelow e.1.number es) × Falling es
 
--- What holds of the entries of every dot-underscore cache. By `falling` the names that `counted` counts are more recent than their directory's entry
+-- What holds of the entries of every dot-underscore cache. By `falling` the names that `counted` counts are more recent
+-- than their directory's entry
 pub record AreCounted (next : ℕ) (dots : Dots) : Type 0 where
   pub below : AllBelow next dots
   pub falling : Falling dots
   pub counted : (dir : Names) → IsCounted dots dir
 
--- a dot-underscore cache as contracts see it: its entries, the most recently used first, how many it may have, and the number of the next listing
+-- a dot-underscore cache as contracts see it: its entries, the most recently used first, how many it may have, and the
+-- number of the next listing
 pub record DotCache : Type 0 where
   pub entries : Dots
   pub size : ℕ
@@ -187,7 +196,9 @@ are_sealable names = list_all is_dot names && is_rising None names
 -- a name among names that rise, in its place and once
 abbrev pub kept : Name → List Name → List Name
 kept name [] = name ∷ []
-kept name (other ∷ names) = if is_less name other then name ∷ other ∷ names else (if is_less other name then other ∷ kept name names else other ∷ names)
+kept name (other ∷ names) =
+    if is_less name other then name ∷ other ∷ names
+    else (if is_less other name then other ∷ kept name names else other ∷ names)
 
 -- names in order, and each once
 abbrev pub in_order : List Name → List Name

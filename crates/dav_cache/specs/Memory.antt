@@ -34,25 +34,30 @@ WasKnown old dir time has = (had : Name → Bool) × (old.knows dir time ≡ Som
 
 -- What is known after a call was known before it, and for no other path and time is it open.
 pub record LearnsNothing (old new : MemoryState) : Type 0 where
-  pub known : (dir : Names) (time : FileTime) (has : Name → Bool) → new.knows dir time ≡ Some has → WasKnown old dir time has
+  pub known : (dir : Names) (time : FileTime) (has : Name → Bool) → new.knows dir time ≡ Some has
+      → WasKnown old dir time has
   pub same_open : (dir : Names) (time : FileTime) → new.is_open dir time ≡ old.is_open dir time
 
 -- it knows names for the path and the time, without this one, or is open
 abbrev pub MayDeny : MemoryState → Names → FileTime → Name → Type 0
-MayDeny m dir time name = ((has : Name → Bool) × (m.knows dir time ≡ Some has) × (has name ≡ false)) ⊎ (m.is_open dir time ≡ true)
+MayDeny m dir time name =
+    ((has : Name → Bool) × (m.knows dir time ≡ Some has) × (has name ≡ false)) ⊎ (m.is_open dir time ≡ true)
 
 -- ---- the calls
 
 -- the disk was asked at most one `meta`, and nothing else
 abbrev pub AsksMeta : DiskState → DiskState → Type 0
-AsksMeta before after = (after ≡ before) ⊎ ((path : Names) × (answer : Result Meta DiskError) × Metas before path answer after)
+AsksMeta before after =
+    (after ≡ before) ⊎ ((path : Names) × (answer : Result Meta DiskError) × Metas before path answer after)
 
 -- A path is found only where something stood there in this call, and it folds like the one asked.
-pub record Gets (old : MemoryState) (path : Names) (before : DiskState) (found : Option (Names × Meta)) (new : MemoryState) (after : DiskState) : Type 0 where
+pub record Gets (old : MemoryState) (path : Names) (before : DiskState) (found : Option (Names × Meta))
+    (new : MemoryState) (after : DiskState) : Type 0 where
   pub asks : AsksMeta before after
   pub stood : IfSome found (λ f. Metas before f.0 (Ok f.1) after)
   pub folds : IfSome found (λ f. fold_path f.0 ≡ fold_path path)
-  pub paths : Both old.paths new.paths (λ a b. Looks (lookup (same_path (fold_path path)) a.entries) a path before found b after)
+  pub paths : Both old.paths new.paths
+      (λ a b. Looks (lookup (same_path (fold_path path)) a.entries) a path before found b after)
   pub dots : new.dots ≡ old.dots
   pub learns : LearnsNothing old new
 
@@ -63,20 +68,26 @@ pub record Inserts (old : MemoryState) (path : Names) (now : Moment) (new : Memo
 
 -- the disk found the directory with a time for which the memory knew names without this one, or was open
 abbrev pub Denied : MemoryState → Names → Name → DiskState → DiskState → Type 0
-Denied old dir name before after = (meta : Meta) × (time : FileTime) × Metas before dir (Ok meta) after × (is_dir meta.kind ≡ true) × (meta.modified ≡ Some time) × MayDeny old dir time name
+Denied old dir name before after =
+    (meta : Meta) × (time : FileTime) × Metas before dir (Ok meta) after × (is_dir meta.kind ≡ true)
+    × (meta.modified ≡ Some time) × MayDeny old dir time name
 
-pub record Negates (old : MemoryState) (dir : Names) (name : Name) (before : DiskState) (absent : Bool) (new : MemoryState) (after : DiskState) : Type 0 where
+pub record Negates (old : MemoryState) (dir : Names) (name : Name) (before : DiskState) (absent : Bool)
+    (new : MemoryState) (after : DiskState) : Type 0 where
   pub asks : AsksMeta before after
   pub denied : IsTrue absent → Denied old dir name before after
-  pub dots : Both old.dots new.dots (λ a b. Denies (lookup (same_key (dir_key dir)) a.entries) a dir name before absent b after)
+  pub dots : Both old.dots new.dots
+      (λ a b. Denies (lookup (same_key (dir_key dir)) a.entries) a dir name before absent b after)
   pub paths : new.paths ≡ old.paths
   pub learns : LearnsNothing old new
 
 -- What is known after a seal was known before it, or is the sealed names.
-pub record SealsIn (old : MemoryState) (dir : DuKey) (time : FileTime) (names : List Name) (now : Moment) (result : Sealed) (new : MemoryState) : Type 0 where
+pub record SealsIn (old : MemoryState) (dir : DuKey) (time : FileTime) (names : List Name) (now : Moment)
+    (result : Sealed) (new : MemoryState) : Type 0 where
   pub dots : Both old.dots new.dots (λ a b. Seals a dir time now names result b)
   pub paths : new.paths ≡ old.paths
-  pub known : (d : Names) (t : FileTime) (has : Name → Bool) → new.knows d t ≡ Some has → WasKnown old d t has ⊎ ((d ≡ dir.dir) × (t ≡ time) × ((x : Name) → has x ≡ list_any (same_name x) names))
+  pub known : (d : Names) (t : FileTime) (has : Name → Bool) → new.knows d t ≡ Some has
+      → WasKnown old d t has ⊎ ((d ≡ dir.dir) × (t ≡ time) × ((x : Name) → has x ≡ list_any (same_name x) names))
   pub same_open : (d : Names) (t : FileTime) → new.is_open d t ≡ old.is_open d t
 
 pub record Purges (old : MemoryState) (now : Moment) (new : MemoryState) : Type 0 where
@@ -89,7 +100,8 @@ pub record Purges (old : MemoryState) (now : Moment) (new : MemoryState) : Type 
 -- the names that stand with the number of the directory's entry, where the entry has the time
 abbrev pub known_at : Dots → Names → FileTime → Option DuEntry → Known
 known_at dots dir time None = None
-known_at dots dir time (Some e) = if same_time e.time time then Some (λ x. stands dots (name_key dir x) e.number) else None
+known_at dots dir time (Some e) =
+    if same_time e.time time then Some (λ x. stands dots (name_key dir x) e.number) else None
 
 abbrev pub known_by : Dots → Names → FileTime → Known
 known_by dots dir time = known_at dots dir time (lookup (same_key (dir_key dir)) dots)
@@ -100,7 +112,8 @@ pub record OwnedState : Type 0 where
 
 -- it tells both caches, and is never open
 abbrev pub memory_of : OwnedState → MemoryState
-memory_of o = record { paths = Some o.paths; dots = Some o.dots; knows = known_by o.dots.entries; is_open = λ dir time. false }
+memory_of o =
+    record { paths = Some o.paths; dots = Some o.dots; knows = known_by o.dots.entries; is_open = λ dir time. false }
 
 -- it tells nothing, and knows nothing
 abbrev pub nothing_kept : MemoryState

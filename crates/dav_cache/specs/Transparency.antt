@@ -29,7 +29,8 @@ trees_of s events = s.tree ∷ changes events
 -- one time of a directory means the same names
 abbrev pub SameNames : List Tree → Type 0
 SameNames trees =
-    (a b : Tree) → Contains trees a → Contains trees b → (dir : Names) (time : FileTime) → time_of a dir ≡ Some time → time_of b dir ≡ Some time
+    (a b : Tree) → Contains trees a → Contains trees b → (dir : Names) (time : FileTime) → time_of a dir ≡ Some time
+    → time_of b dir ≡ Some time
     → (name : Name) → has_name a dir name ≡ has_name b dir name
 
 -- the caller's listing of the directory is between Before and After
@@ -40,7 +41,8 @@ IsListing s caller dir = (l : Listing) × (slice_get s.places caller ≡ Some (L
 abbrev pub moment : List Event → State → ℕ → State
 moment events s n = run s (take n events)
 
--- from moment i to moment k the caller's listing goes on, and the directory has the time at both: then it has it at each moment j between.
+-- from moment i to moment k the caller's listing goes on, and the directory has the time at both: then it has it at
+-- each moment j between.
 -- So a time that the directory left doesn't come back while the listing goes on
 abbrev pub NoReturn : List Event → State → Type 0
 NoReturn events s =
@@ -49,7 +51,8 @@ NoReturn events s =
     → time_of (moment events s i).tree dir ≡ Some time → time_of (moment events s k).tree dir ≡ Some time
     → time_of (moment events s j).tree dir ≡ Some time
 
--- a plainer premise, which implies it: a time that the directory left doesn't come back to it at a moment at which a listing of it goes on
+-- a plainer premise, which implies it: a time that the directory left doesn't come back to it at a moment at which a
+-- listing of it goes on
 abbrev pub NeverBack : List Event → State → Type 0
 NeverBack events s =
     (caller : ℕ) (dir : Names) (time : FileTime) (i j k : ℕ) → i ≤ j → j ≤ k → k ≤ length events
@@ -61,10 +64,12 @@ pub record IsFair (events : List Event) (s : State) : Type 0 where
   pub same_names : SameNames (trees_of s events)
   pub no_return : NoReturn events s
 
--- where a directory's entry stands, its `._` names are those that stand with the entry's number, in each tree that has the directory with the entry's time
+-- where a directory's entry stands, its `._` names are those that stand with the entry's number, in each tree that has
+-- the directory with the entry's time
 abbrev pub SoundAt : List Tree → List (DuKey × DuEntry) → Names → Type 0
 SoundAt trees dots dir =
-    (e : DuEntry) → lookup (same_key (dir_key dir)) dots ≡ Some e → (tree : Tree) → Contains trees tree → time_of tree dir ≡ Some e.time
+    (e : DuEntry) → lookup (same_key (dir_key dir)) dots ≡ Some e → (tree : Tree) → Contains trees tree
+    → time_of tree dir ≡ Some e.time
     → (name : Name) → IsTrue (is_dot name) → has_name tree dir name ≡ stands dots (name_key dir name) e.number
 
 -- at two moments of one listing the directory has the time at the first, and not at the second
@@ -80,10 +85,13 @@ pub record LeavesDuring (events : List Event) (s : State) : Type 0 where
   pub has : time_of (moment events s i).tree dir ≡ Some time
   pub left : time_of (moment events s k).tree dir ≡ Some time → ⊥
 
--- A tree and events that meet both premises, in which a directory leaves a time during a listing of it, and after which a name is denied
+-- A tree and events that meet both premises, in which a directory leaves a time during a listing of it, and after which
+-- a name is denied
 abbrev pub CanBeMet : Type 0
 CanBeMet =
-    (now : Moment) → (tree : Tree) × (events : List Event) × IsFair events (start tree 1 2 3) × LeavesDuring events (start tree 1 2 3)
+    (now : Moment)
+    → (tree : Tree) × (events : List Event) × IsFair events (start tree 1 2 3)
+    × LeavesDuring events (start tree 1 2 3)
     × (told (run (start tree 1 2 3) events) (Conclude 0) ≡ Absent true)
 
 -- ---- whose events they are
@@ -119,11 +127,13 @@ is_own caller s event = is_caller caller event && not (is_misplaced (told s even
 -- the caller's events in a run from s, save those that were Misplaced
 abbrev pub own : ℕ → State → List Event → List Event
 own caller s [] = []
-own caller s (event ∷ events) = if is_own caller s event then event ∷ own caller (step s event) events else own caller (step s event) events
+own caller s (event ∷ events) =
+    if is_own caller s event then event ∷ own caller (step s event) events else own caller (step s event) events
 
 -- ---- the items, for a run from s and what is told next
 
--- it is told at the end of the caller's Ask, Peek, Check and Conclude, and at the Check the name wasn't in the directory
+-- it is told at the end of the caller's Ask, Peek, Check and Conclude, and at the Check the name wasn't in the
+-- directory
 pub record WasAbsent (s : State) (events : List Event) (event : Event) : Type 0 where
   pub caller : ℕ
   pub is_conclude : event ≡ Conclude caller
@@ -137,7 +147,8 @@ pub record WasAbsent (s : State) (events : List Event) (event : Event) : Type 0 
   pub waited : own caller (run s (before ++ Check caller false ∷ [])) between ≡ []
   pub absent : IsTrue (is_dot name) → has_name (run s before).tree dir name ≡ false
 
--- it is told at the end of the caller's Find, Get and Probe, and at the Probe a row stood at the path, which folds like the path asked
+-- it is told at the end of the caller's Find, Get and Probe, and at the Probe a row stood at the path, which folds like
+-- the path asked
 pub record WasThere (s : State) (events : List Event) (event : Event) (path : Names) : Type 0 where
   pub caller : ℕ
   pub is_probe : event ≡ Probe caller false
@@ -148,13 +159,19 @@ pub record WasThere (s : State) (events : List Event) (event : Event) (path : Na
   pub folds : fold_path path ≡ fold_path asked
 
 abbrev pub AbsentOnlyWhereAbsent : State → Type 0
-AbsentOnlyWhereAbsent s = (events : List Event) (event : Event) → IsFair events s → told (run s events) event ≡ Absent true → WasAbsent s events event
+AbsentOnlyWhereAbsent s =
+    (events : List Event) (event : Event) → IsFair events s → told (run s events) event ≡ Absent true
+    → WasAbsent s events event
 
 abbrev pub PathOnlyWhereThere : State → Type 0
-PathOnlyWhereThere s = (events : List Event) (event : Event) (path : Names) → told (run s events) event ≡ Path (Some path) → WasThere s events event path
+PathOnlyWhereThere s =
+    (events : List Event) (event : Event) (path : Names) → told (run s events) event ≡ Path (Some path)
+    → WasThere s events event path
 
 abbrev pub EntriesAreSound : State → Type 0
-EntriesAreSound s = (before after : List Event) → IsFair (before ++ after) s → (dir : Names) → SoundAt (trees_of s (before ++ after)) (run s before).dots dir
+EntriesAreSound s =
+    (before after : List Event) → IsFair (before ++ after) s → (dir : Names)
+    → SoundAt (trees_of s (before ++ after)) (run s before).dots dir
 
 -- ---- the facts that each event keeps
 
@@ -173,7 +190,8 @@ HoldsNumber table next (Peeked dir name number time) = (number < next) × (table
 HoldsNumber table next (Passed dir name number time) = (number < next) × (table number ≡ (dir, time))
 HoldsNumber table next _ = Unit {0}
 
--- one number belongs to one directory and one time, in the entries of directories and of names, and in what callers hold
+-- one number belongs to one directory and one time, in the entries of directories and of names, and in what callers
+-- hold
 pub record OneListing (s : State) : Type 0 where
   pub table : Numbers
   pub entries : AllNumbered table s.dots
@@ -189,42 +207,60 @@ FactsAreKept s = (events : List Event) → IsKept (run s events)
 
 -- the `._` names that a listing has are those of the directory up to the last name given, and at the end all
 abbrev pub HasUpTo : Listing → Tree → Type 0
-HasUpTo l tree = (x : Name) → IsTrue (is_dot x) → list_any (same_name x) l.names ≡ (has_name tree l.dir x && (l.ended || not (is_after l.last x)))
+HasUpTo l tree =
+    (x : Name) → IsTrue (is_dot x)
+    → list_any (same_name x) l.names ≡ (has_name tree l.dir x && (l.ended || not (is_after l.last x)))
 
 -- a listing in flight, of which nothing was refused and whose directory has the time of its Before, has them
 abbrev pub ListingsAreRight : State → Type 0
 ListingsAreRight s =
-    (before after : List Event) → IsFair (before ++ after) s → (caller : ℕ) (l : Listing) (time : FileTime) → slice_get (run s before).places caller ≡ Some (Lists l)
-    → l.whole ≡ true → l.before ≡ Some time → time_of (run s before).tree l.dir ≡ Some time → HasUpTo l (run s before).tree
+    (before after : List Event) → IsFair (before ++ after) s → (caller : ℕ) (l : Listing) (time : FileTime)
+    → slice_get (run s before).places caller ≡ Some (Lists l)
+    → l.whole ≡ true → l.before ≡ Some time → time_of (run s before).tree l.dir ≡ Some time
+    → HasUpTo l (run s before).tree
 
 -- ---- a caller past its Peek
 
--- The caller's last own events are its Ask, its Peek, and these. At the Peek the directory's entry had this number and this time
-pub record Noted (s : State) (events : List Event) (caller : ℕ) (dir : Names) (name : Name) (number : ℕ) (time : FileTime) (since : List Event) : Type 0 where
+-- what a caller past its Peek holds: the directory and the name asked, and its entry's number and time
+pub record Held : Type 0 where
+  pub dir : Names
+  pub name : Name
+  pub number : ℕ
+  pub time : FileTime
+
+abbrev pub holding : Names → Name → ℕ → FileTime → Held
+holding dir name number time = record { dir = dir; name = name; number = number; time = time }
+
+-- The caller's last own events are its Ask, its Peek, and these. At the Peek the directory's entry was this one
+pub record Noted (s : State) (events : List Event) (caller : ℕ) (held : Held) (since : List Event) : Type 0 where
   pub earlier : List Event
   pub before : List Event
   pub between : List Event
   pub parts : events ≡ before ++ Peek caller ∷ between
-  pub asked : own caller s before ≡ earlier ++ Ask caller dir name ∷ []
+  pub asked : own caller s before ≡ earlier ++ Ask caller held.dir held.name ∷ []
   pub waited : own caller (run s (before ++ Peek caller ∷ [])) between ≡ since
   pub entry : DuEntry
-  pub found : lookup (same_key (dir_key dir)) (run s before).dots ≡ Some entry
-  pub same_number : entry.number ≡ number
-  pub same_time : entry.time ≡ time
+  pub found : lookup (same_key (dir_key held.dir)) (run s before).dots ≡ Some entry
+  pub same_number : entry.number ≡ held.number
+  pub same_time : entry.time ≡ held.time
 
 -- the events of a caller in this place since its Peek, where it is past it
 abbrev pub IsNoted : State → List Event → ℕ → Place → Type 0
-IsNoted s events caller (Peeked dir name number time) = Noted s events caller dir name number time []
-IsNoted s events caller (Passed dir name number time) = Noted s events caller dir name number time (Check caller false ∷ [])
+IsNoted s events caller (Peeked dir name number time) = Noted s events caller (holding dir name number time) []
+IsNoted s events caller (Passed dir name number time) =
+    Noted s events caller (holding dir name number time) (Check caller false ∷ [])
 IsNoted s events caller _ = Unit {0}
 
 abbrev pub PeeksAreHeld : State → Type 0
-PeeksAreHeld s = (events : List Event) (caller : ℕ) (place : Place) → slice_get (run s events).places caller ≡ Some place → IsNoted s events caller place
+PeeksAreHeld s =
+    (events : List Event) (caller : ℕ) (place : Place) → slice_get (run s events).places caller ≡ Some place
+    → IsNoted s events caller place
 
 -- ---- a caller past its Check
 
 -- the caller's last own events are its Ask, Peek and Check, and at the Check the directory had this time
-pub record Checked (s : State) (events : List Event) (caller : ℕ) (dir : Names) (name : Name) (time : FileTime) : Type 0 where
+pub record Checked (s : State) (events : List Event) (caller : ℕ) (dir : Names) (name : Name)
+    (time : FileTime) : Type 0 where
   pub earlier : List Event
   pub before : List Event
   pub between : List Event
@@ -235,7 +271,8 @@ pub record Checked (s : State) (events : List Event) (caller : ℕ) (dir : Names
 
 abbrev pub ChecksAreHeld : State → Type 0
 ChecksAreHeld s =
-    (events : List Event) (caller : ℕ) (dir : Names) (name : Name) (number : ℕ) (time : FileTime) → slice_get (run s events).places caller ≡ Some (Passed dir name number time)
+    (events : List Event) (caller : ℕ) (dir : Names) (name : Name) (number : ℕ) (time : FileTime)
+    → slice_get (run s events).places caller ≡ Some (Passed dir name number time)
     → Checked s events caller dir name time
 
 -- ---- the names of a listing
@@ -243,10 +280,14 @@ ChecksAreHeld s =
 -- as long as the directory's entry stands with the number of a sealed listing, so does each name of the listing
 abbrev pub ListedStand : State → Type 0
 ListedStand s =
-    (before after : List Event) (caller : ℕ) (l : Listing) (found : Option FileTime) (time : FileTime) (now : Moment) (room : ℕ)
-    → slice_get (run s before).places caller ≡ Some (Ended l found) → settled l found ≡ Some time → (run s before).next < 2 ^ 64 - 1
-    → (e : DuEntry) → lookup (same_key (dir_key l.dir)) (run s (before ++ Seal caller now room ∷ after)).dots ≡ Some e → e.number ≡ (run s before).next
-    → (name : Name) → list_any (same_name name) l.names ≡ true → stands (run s (before ++ Seal caller now room ∷ after)).dots (name_key l.dir name) e.number ≡ true
+    (before after : List Event) (caller : ℕ) (l : Listing) (found : Option FileTime) (time : FileTime)
+    (now : Moment) (room : ℕ)
+    → slice_get (run s before).places caller ≡ Some (Ended l found) → settled l found ≡ Some time
+    → (run s before).next < 2 ^ 64 - 1
+    → (e : DuEntry) → lookup (same_key (dir_key l.dir)) (run s (before ++ Seal caller now room ∷ after)).dots ≡ Some e
+    → e.number ≡ (run s before).next
+    → (name : Name) → list_any (same_name name) l.names ≡ true
+    → stands (run s (before ++ Seal caller now room ∷ after)).dots (name_key l.dir name) e.number ≡ true
 
 -- ---- which events fit
 
@@ -333,12 +374,14 @@ pub record IsMisplacedExactly (s : State) (event : Event) : Type 0 where
 abbrev pub IsGetRow : ℕ → Names → List Event → Type 0
 IsGetRow caller path events =
     (events ≡ Find caller path ∷ Get caller ∷ [])
-    ⊎ ((refused : Bool) × ((events ≡ Find caller path ∷ Get caller ∷ Probe caller refused ∷ []) ⊎ (events ≡ Find caller path ∷ Get caller ∷ Probe caller refused ∷ Drop caller ∷ [])))
+    ⊎ ((refused : Bool) × ((events ≡ Find caller path ∷ Get caller ∷ Probe caller refused ∷ [])
+    ⊎ (events ≡ Find caller path ∷ Get caller ∷ Probe caller refused ∷ Drop caller ∷ [])))
 
 abbrev pub IsNegativeRow : ℕ → Names → Name → List Event → Type 0
 IsNegativeRow caller dir name events =
     (events ≡ Ask caller dir name ∷ Peek caller ∷ [])
-    ⊎ ((refused : Bool) × ((events ≡ Ask caller dir name ∷ Peek caller ∷ Check caller refused ∷ Conclude caller ∷ []) ⊎ (events ≡ Ask caller dir name ∷ Peek caller ∷ Check caller refused ∷ DropDir caller ∷ [])))
+    ⊎ ((refused : Bool) × ((events ≡ Ask caller dir name ∷ Peek caller ∷ Check caller refused ∷ Conclude caller ∷ [])
+    ⊎ (events ≡ Ask caller dir name ∷ Peek caller ∷ Check caller refused ∷ DropDir caller ∷ [])))
 
 -- what such a world tells is what a call of `get` answers, and leaves
 pub record GetIsEvents (s : State) (caller : ℕ) (path : Names) (found : Option Names) (paths : Paths) : Type 0 where
@@ -348,26 +391,32 @@ pub record GetIsEvents (s : State) (caller : ℕ) (path : Names) (found : Option
   pub tells : told (run s events) last ≡ Path found
   pub leaves : step (run s events) last ≡ record s { paths = paths }
 
-pub record NegativeIsEvents (s : State) (caller : ℕ) (dir : Names) (name : Name) (absent : Bool) (dots : Dots) : Type 0 where
+pub record NegativeIsEvents (s : State) (caller : ℕ) (dir : Names) (name : Name) (absent : Bool)
+    (dots : Dots) : Type 0 where
   pub events : List Event
   pub last : Event
   pub row : IsNegativeRow caller dir name (events ++ last ∷ [])
   pub tells : told (run s events) last ≡ Absent absent
   pub leaves : step (run s events) last ≡ record s { dots = dots }
 
--- A call of `get` over a disk that tells the tree of the world is the caller's events Find, Get, Probe and Drop in a row.
+-- A call of `get` over a disk that tells the tree of the world is the caller's events Find, Get, Probe and Drop in a
+-- row.
 abbrev pub GetsAreEvents : Type 0
 GetsAreEvents =
-    (s : State) (caller : ℕ) (path : Names) (before after : DiskState) (w : World) (found : Option (Names × Meta)) (new : PathCache)
+    (s : State) (caller : ℕ) (path : Names) (before after : DiskState) (w : World)
+    (found : Option (Names × Meta)) (new : PathCache)
     → slice_get s.places caller ≡ Some Idle → before.told ≡ Some w → w.tree ≡ s.tree
     → ((e : PathEntry) → lookup (same_path (fold_path path)) s.paths ≡ Some e → is_linked w.tree e.path ≡ false)
-    → Looks (lookup (same_path (fold_path path)) s.paths) (record { entries = s.paths; size = s.paths_size }) path before found new after
+    → Looks (lookup (same_path (fold_path path)) s.paths) (record { entries = s.paths; size = s.paths_size }) path
+    before found new after
     → GetIsEvents s caller path (option_map (λ f. f.0) found) new.entries
 
 -- And a call of `negative` is its Ask, Peek, Check and Conclude or DropDir.
 abbrev pub NegativesAreEvents : Type 0
 NegativesAreEvents =
-    (s : State) (caller : ℕ) (dir : Names) (name : Name) (before after : DiskState) (w : World) (absent : Bool) (new : DotCache)
+    (s : State) (caller : ℕ) (dir : Names) (name : Name) (before after : DiskState) (w : World) (absent : Bool)
+    (new : DotCache)
     → slice_get s.places caller ≡ Some Idle → before.told ≡ Some w → w.tree ≡ s.tree → is_linked w.tree dir ≡ false
-    → Denies (lookup (same_key (dir_key dir)) s.dots) (record { entries = s.dots; size = s.dots_size; next = s.next }) dir name before absent new after
+    → Denies (lookup (same_key (dir_key dir)) s.dots) (record { entries = s.dots; size = s.dots_size; next = s.next })
+    dir name before absent new after
     → NegativeIsEvents s caller dir name absent new.entries

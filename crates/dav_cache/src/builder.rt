@@ -96,8 +96,9 @@ impl DUCacheBuilder {
     ) -> Result<(), NoMemory>
         requires { (time : Time) → builder.may_settle self.old ≡ Some time
             → R.may_seal memory.old self.old.dir time self.old.names }
-        ensures done { builder.Finishes R.state self.old.finished self.old (D.state disk.old) now memory.old result
-            self.new (D.state disk.new) memory.new }
+        ensures done { builder.Finishes R.state self.old.finished
+            (record { builder = self.old; disk = D.state disk.old; memory = memory.old }) now result
+            (record { builder = self.new; disk = D.state disk.new; memory = memory.new }) }
         ensures loan { D.loan disk.new ≡ D.loan disk.old }
     {
         if self.finished {

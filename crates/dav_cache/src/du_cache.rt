@@ -7,6 +7,7 @@ ghost use Rattle.lru.specs.LruCache.{lru_cache, last_entry, IsValid};
 ghost use Rattle.dav_cache.specs.Entries as dots;
 ghost use Rattle.dav_cache.specs.Calls as calls;
 
+use crate::key::{copy_name, dir_key, name_key};
 use crate::trees::is_dot;
 use crate::valid::no_key_stands_twice;
 use crate::{DuEntry, DuKey};
@@ -78,8 +79,10 @@ impl DuCache {
     pub fn peek_dir(&self, dir: &DuKey) -> Option<(u64, FileTime)>
         ensures { result ≡ option_map (λ e. (e.number, e.time)) (lookup (dots.same_key dir.now) self.now.entries) }
     {
-        let entry = self.entries.peek(dir)?;
-        Some((entry.number, entry.time))
+        match self.entries.peek(dir) {
+            Some(entry) => Some((entry.number, entry.time)),
+            None => None,
+        }
     }
 
     /// Whether the directory's entry stands with the number, and the name's entry doesn't.
@@ -170,14 +173,8 @@ impl DuCache {
         ensures unasked { OnErr result (D.state disk.new ≡ D.state disk.old) }
         ensures loan { D.loan disk.new ≡ D.loan disk.old }
     {
-        let dir_key = DuKey {
-            dir: dir.try_clone()?,
-            name: None,
-        };
-        let name_key = DuKey {
-            dir: dir.try_clone()?,
-            name: Some(name.try_clone()?),
-        };
+        let dir_key = dir_key(dir)?;
+        let name_key = name_key(dir, name)?;
         let Some((number, time)) = self.peek_dir(&dir_key) else {
             return Ok(false);
         };
@@ -309,16 +306,6 @@ fn put_entry(entries: &mut LruCache<DuKey, DuEntry>, key: DuKey, entry: DuEntry)
     entries.put(key, entry).is_ok()
 }
 
-// The key of a name in the directory.
-fn name_key(dir: &DuKey, name: &Text) -> Result<DuKey, NoMemory>
-    ensures { IfOk result (λ key. key ≡ dots.name_key dir.now.dir name.now) }
-{
-    Ok(DuKey {
-        dir: dir.dir.try_clone()?,
-        name: Some(name.try_clone()?),
-    })
-}
-
 // Puts a name of the listing that the entry is of.
 fn put_name(
     entries: &mut LruCache<DuKey, DuEntry>,
@@ -336,7 +323,7 @@ fn put_name(
         number: entry.number,
         count: None,
     };
-    match name_key(dir, name) {
+    match name_key(&dir.dir, name) {
         Ok(key) => put_entry(entries, key, entry),
         Err(_) => false,
     }
@@ -403,13 +390,8 @@ fn copy_key(key: &DuKey) -> Result<DuKey, NoMemory>
     ensures { IfOk result (λ copy. copy ≡ key.now) }
 {
     let dir = key.dir.try_clone()?;
-    match &key.name {
-        Some(name) => Ok(DuKey {
-            dir,
-            name: Some(name.try_clone()?),
-        }),
-        None => Ok(DuKey { dir, name: None }),
-    }
+    let name = copy_name(&key.name)?;
+    Ok(DuKey { dir, name })
 }
 
 fn copy_pairs(

@@ -3,10 +3,11 @@
 ghost use Rattle.std.specs.Prelude.{◌≡◌, ◌<◌, ◌+◌, ◌^◌, ℕ, None, true, OnOk, OnErr, IfOk, IfSome, length, option_map, replicate, slice_get, slice_set};
 ghost use Rattle.std.specs.Map.{lookup};
 ghost use Rattle.dav_cache.specs.Core as core;
-ghost use Rattle.dav_cache.specs.Entries.{dir_key as the_dir_key, name_key as the_name_key, is_rising};
+ghost use Rattle.dav_cache.specs.Entries.{is_rising};
 
+use crate::key::{copy_name, dir_key, name_key};
 use crate::trees::{has_row, is_dot, is_time, next_name, time_told};
-use crate::{Cache, DuCache, DuKey, Event, Listing, Names, Place, Told, fold};
+use crate::{Cache, DuCache, Event, Listing, Names, Place, Told, fold};
 use dav_core::{FileTime, FsPath, Row, Tree};
 use dav_io::{Moment, NoMemory, Text};
 use std::alloc::Global;
@@ -175,7 +176,8 @@ impl World {
 
     fn conclude(&mut self, caller: u32) -> Result<Told, NoMemory>
         ensures state { OnOk result (self.new ≡ (core.conclude self.old caller (slice_get self.old.places caller)).0) }
-        ensures told { IfOk result (λ told. told ≡ (core.conclude self.old caller (slice_get self.old.places caller)).1) }
+        ensures told { IfOk result (λ told. told
+            ≡ (core.conclude self.old caller (slice_get self.old.places caller)).1) }
         ensures err { OnErr result (self.new ≡ self.old) }
     {
         match self.places.get(caller as usize) {
@@ -199,7 +201,8 @@ impl World {
 
     fn drop_dir(&mut self, caller: u32) -> Result<Told, NoMemory>
         ensures state { OnOk result (self.new ≡ (core.drop_dir self.old caller (slice_get self.old.places caller)).0) }
-        ensures told { IfOk result (λ told. told ≡ (core.drop_dir self.old caller (slice_get self.old.places caller)).1) }
+        ensures told { IfOk result (λ told. told
+            ≡ (core.drop_dir self.old caller (slice_get self.old.places caller)).1) }
         ensures err { OnErr result (self.new ≡ self.old) }
     {
         match self.places.get(caller as usize) {
@@ -506,47 +509,20 @@ fn idle_places(alloc: Global, callers: u32) -> Result<Vec<Place>, NoMemory>
     Ok(places)
 }
 
-fn dir_key(dir: &FsPath) -> Result<DuKey, NoMemory>
-    ensures { IfOk result (λ key. key ≡ the_dir_key dir.now) }
-{
-    Ok(DuKey {
-        dir: dir.try_clone()?,
-        name: None,
-    })
-}
-
-fn name_key(dir: &FsPath, name: &Text) -> Result<DuKey, NoMemory>
-    ensures { IfOk result (λ key. key ≡ the_name_key dir.now name.now) }
-{
-    Ok(DuKey {
-        dir: dir.try_clone()?,
-        name: Some(name.try_clone()?),
-    })
-}
-
 fn copy_listing(l: &Listing) -> Result<Listing, NoMemory>
     ensures { IfOk result (λ copy. copy ≡ l.now) }
 {
     let dir = l.dir.try_clone()?;
+    let last = copy_name(&l.last)?;
     let names = l.names.try_clone()?;
-    match &l.last {
-        Some(last) => Ok(Listing {
-            dir,
-            before: l.before,
-            last: Some(last.try_clone()?),
-            names,
-            ended: l.ended,
-            whole: l.whole,
-        }),
-        None => Ok(Listing {
-            dir,
-            before: l.before,
-            last: None,
-            names,
-            ended: l.ended,
-            whole: l.whole,
-        }),
-    }
+    Ok(Listing {
+        dir,
+        before: l.before,
+        last,
+        names,
+        ended: l.ended,
+        whole: l.whole,
+    })
 }
 
 /// A name, or the end.
