@@ -61,16 +61,16 @@ use Rattle.dav_handler.proofs.PlainAsks.{plain_asks}
 use Rattle.dav_handler.proofs.PlainShown.{ListsClear, OpensClear, reads_heard, reads_there, reads_told}
 
 -- a refusal is answered as it is
-reply_refused : (t : DiskState) (status : ℕ) (close : Bool) (found : Found) → IsRefused (refusal status close) found → reply_of t found ≡ refusal status close
-reply_refused t status close found is = rw (is.status, is.fields, is.body) refl
+reply_refused : (t : DiskState) (fields : Fields) (status : ℕ) (close : Bool) (found : Found) → IsRefused (refusal fields status close) found → reply_of t found ≡ refusal fields status close
+reply_refused t fields status close found is = rw (is.status, is.fields, is.body) refl
 
 -- What the gates refuse.
-pub gate_answers : (settings : Settings) (s : DiskState) (fields : Fields) (status : ℕ) (close : Bool) (result : Result Found NoMemory) → IfOk result (IsRefused (refusal status close))
+pub gate_answers : (settings : Settings) (s : DiskState) (fields : Fields) (status : ℕ) (close : Bool) (result : Result Found NoMemory) → IfOk result (IsRefused (refusal fields status close))
     → Finds settings s fields (Refused status close) result s
 gate_answers settings s fields status close (Err x) is = (keeps_same s, refl)
 gate_answers settings s fields status close (Ok found) is = record {
   holds = subst (λ b. HoldsOnly (read_size_of settings.read_buf_size) s b s) (sym is.body) (keeps_same s);
-  right = reply_refused s status close found is;
+  right = reply_refused s fields status close found is;
   asks = refl;
 }
 
@@ -137,7 +137,7 @@ module _ {S C : Type 0} (view : View S C PlainFile) (lists : Listings S C PlainD
   reads_of : ((w : World) → (view.state s).told ≡ Some w → IsWorld w) → (result : Given PlainFile) (reply : Reply) → Heard view lists q c s result m
       → ((looked opened : WebPath → Result Standing FsError) (listed : WebPath → Result (List Member) FsError) → ShowsFor view lists s c q looked opened listed
       → IsRightFor view q looked opened listed s result m)
-      → ((number : Option ℕ) → IsOfNumber view number m result → reply_at (or_zero number) result ≡ reply)
+      → ((number : Option ℕ) → IsOfNumber view number m result → reply_at q.fields (or_zero number) result ≡ reply)
       → Reads (plain_rules q.settings) nothing_known (view.state s) (view.state m) q reply
   reads_of worlds result reply hears right same = by_told (view.state s).told refl
     where
@@ -210,7 +210,7 @@ module _ {S C : Type 0} (view : View S C PlainFile) (lists : Listings S C PlainD
 
   -- the reply is what was given, by the number of its file
   same_given : (r : Outcome × Body) (found : Found) → found.outcome ≡ r.0 → Gives (view.state m) r.1 found.body (view.state m) → IsHeld handle_of seen_by (view.state m) r.1
-      → (number : Option ℕ) → IsOfNumber view number m (Ok r) → reply_at {F = PlainFile} (or_zero number) (Ok r) ≡ reply_of (view.state m) found
+      → (number : Option ℕ) → IsOfNumber view number m (Ok r) → reply_at {F = PlainFile} q.fields (or_zero number) (Ok r) ≡ reply_of (view.state m) found
   same_given r found outcome gives held number file =
       let here : parts_of (number_in (view.state m) r.1.file) (left_of r.1) ≡ parts_of (or_zero number) (left_of r.1) =
       parts_here (view.state m) r.1.file (left_of r.1) number held.needs
@@ -249,11 +249,11 @@ pub refused_answers : {S C : Type 0} (view : View S C PlainFile) (lists : Listin
     → (◌≡◌ {A = Given PlainFile} (Err e) (Err OutOfMemory)) ⊎ Heard view lists (query settings fields method path) c s (Err e) m → Keeps (view.state s) (view.state m)
     → ((looked opened : WebPath → Result Standing FsError) (listed : WebPath → Result (List Member) FsError) → ShowsFor view lists s c (query settings fields method path) looked opened listed
     → (◌≡◌ {A = Given PlainFile} (Err e) (Err OutOfMemory)) ⊎ IsRightFor view (query settings fields method path) looked opened listed s (Err e) m)
-    → (AsksByOne view lists → (◌≡◌ {A = Given PlainFile} (Err e) (Err OutOfMemory)) ⊎ AsksUnlessKnown (is_well_known settings method path) (is_set settings.redirect) (status_of e) (refusal (status_of e) (closes e)).fields (view.state s).asked (view.state m).asked)
-    → IfOk result (IsRefusedBy e) → Finds settings (view.state s) fields (At method path) result (view.state m)
+    → (AsksByOne view lists → (◌≡◌ {A = Given PlainFile} (Err e) (Err OutOfMemory)) ⊎ AsksUnlessKnown (is_well_known settings method path) (is_set settings.redirect) (status_of e) (refusal fields (status_of e) (closes e)).fields (view.state s).asked (view.state m).asked)
+    → IfOk result (IsRefusedBy fields e) → Finds settings (view.state s) fields (At method path) result (view.state m)
 refused_answers view lists plain lists_plain settings s m c method path fields worlds e (Err x) hears keeps right asks is = (keeps, tt)
 refused_answers view lists plain lists_plain settings s m c method path fields worlds e (Ok found) hears keeps right asks is =
-    let same : refusal (status_of e) (closes e) ≡ reply_of (view.state m) found = sym (reply_refused (view.state m) (status_of e) (closes e) found is.refused) in
+    let same : refusal fields (status_of e) (closes e) ≡ reply_of (view.state m) found = sym (reply_refused (view.state m) fields (status_of e) (closes e) found is.refused) in
     record {
       holds = subst (λ b. HoldsOnly (read_size_of settings.read_buf_size) (view.state s) b (view.state m)) (sym is.refused.body) keeps;
       right = reads_of view lists plain lists_plain (query settings fields method path) c s m worlds (Err e) (reply_of (view.state m) found) (had hears)

@@ -1,5 +1,5 @@
 -- What others do leaves a body as it was.
-use Rattle.std.proofs.Common.{◌≡◌, ◌≢◌, ℕ, Bool, true, false, List, [], ◌∷◌, Option, None, Some, Result, Ok, Err, refl, sym, ap, subst, ◌∙◌, ◌&&◌, ◌+◌, ◌^◌, length, nat_lt, ltb-true}
+use Rattle.std.proofs.Common.{◌≡◌, ◌≢◌, ℕ, Bool, true, false, List, [], ◌∷◌, Option, None, Some, Result, Ok, Err, refl, sym, ap, ◌∙◌, ◌&&◌, ◌+◌, ◌^◌, length, nat_lt, ltb-true}
 use Rattle.std.specs.Prelude.{is_some}
 use Rattle.std.specs.List.{list_all, list_any, AllByRecursion}
 use Rattle.std.proofs.lemmas.Bool.{and_parts}
@@ -11,7 +11,7 @@ use Rattle.dav_core.specs.World.{World, OpenFile, number_of}
 use Rattle.dav_core.proofs.TurnsLeaveOpens.{turned_opens}
 use Rattle.dav_core.specs.Disk.{DiskState, Live, Turns, TurnedIn, can_read}
 use Rattle.dav_core.specs.Unchanged.{Keeps, KeepsBut, SameOpen}
-use Rattle.dav_model.specs.Bodies.{NoneEmpty, Part, text}
+use Rattle.dav_model.specs.Bodies.{NoneEmpty, text}
 use Rattle.dav_model.specs.Play.{HasOpen, has_slice}
 use Rattle.dav_store.specs.Files.{LeavesOpen, SameSeen}
 use Rattle.dav_store.specs.Standing.{Seen}

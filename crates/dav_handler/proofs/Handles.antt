@@ -1,9 +1,9 @@
 -- Which handles are live after a call, as functions.
-use Rattle.std.proofs.Common.{◌≡◌, ◌≢◌, ◌==◌, ℕ, Bool, true, false, cond, Option, None, Some, refl, sym, ap, subst, ◌∙◌}
+use Rattle.std.proofs.Common.{◌≡◌, ◌≢◌, ◌==◌, ℕ, Bool, true, false, cond, Option, None, Some, refl, sym, ap, ◌∙◌}
 use mathlib.Core.Path.{fun_ext}
 use Rattle.dav_core.specs.World.{put}
 use Rattle.dav_core.specs.Disk.{DiskState, Live}
-use Rattle.dav_core.specs.Unchanged.{Keeps, KeepsBut}
+use Rattle.dav_core.specs.Unchanged.{Keeps}
 use Rattle.dav_core.proofs.UnchangedLemmas.{equal_keys, other_keys}
 use Rattle.dav_model.specs.Play.{Lets, Takes}
 use Rattle.dav_plain.specs.declared.file.PlainFile.{PlainFile}

@@ -42,7 +42,7 @@ module _ {S C : Type 0} (view : View S C PlainFile) (lists : Listings S C PlainD
 
   -- What was heard of a plain store could be shown, and the reply is right for it.
   pub heard_rightly : (q : Query) (c : C) (s t : S) (result : Given PlainFile) (reply : Reply) → Heard view lists q c s result t
-      → ((number : Option ℕ) → IsOfNumber view number t result → reply_at (or_zero number) result ≡ reply) → Rightly q (view.state s).faults (view.state t).faults reply
+      → ((number : Option ℕ) → IsOfNumber view number t result → reply_at q.fields (or_zero number) result ≡ reply) → Rightly q (view.state s).faults (view.state t).faults reply
   heard_rightly q c s t result reply h same =
       let found = heard_could view lists q s result t refuses_few c h in
       record {

@@ -7,5 +7,4 @@ pub mod Stepping
 pub mod Handles
 pub mod HeardShown
 pub mod PlainShown
-pub mod Names
 pub mod ListsRefuse

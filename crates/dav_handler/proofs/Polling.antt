@@ -1,5 +1,5 @@
 -- From what a poll of a body does to the clause of its step.
-use Rattle.std.proofs.Common.{◌≡◌, ◌≢◌, ◌≤◌, ◌==◌, ◌⊎◌, inl, inr, ℕ, Bool, true, false, cond, List, [], ◌∷◌, Option, None, Some, Ok, refl, sym, ap, subst, ◌∙◌, arith}
+use Rattle.std.proofs.Common.{◌≡◌, ◌==◌, ◌⊎◌, inl, inr, ℕ, Bool, true, false, cond, List, [], ◌∷◌, Option, None, Some, Ok, refl, sym, ap, subst, ◌∙◌, arith}
 use Rattle.std.proofs.lemmas.Bool.Decides.{nat_tests}
 use Rattle.std.specs.Prelude.{is_some}
 use Rattle.std.specs.List.{list_any}
@@ -30,7 +30,7 @@ use Rattle.dav_get.specs.declared.part.BodyPart.{BodyPart}
 use Rattle.dav_get.specs.declared.part.BodyPart.TheVariants.{Text, Slice as SliceOf}
 use Rattle.dav_get.specs.declared.open_at.OpenAt.{OpenAt}
 use Rattle.dav_get.specs.OpenFiles.{IsAt, SameStands}
-use Rattle.dav_get.specs.Bodies.{left_of, is_slice, Asks, HasNumber, IsHeld, IsPolled, Polls, StandsIn, Takes, TouchesOwn}
+use Rattle.dav_get.specs.Bodies.{left_of, is_slice, Asks, HasNumber, IsHeld, Polls, StandsIn, Takes, TouchesOwn}
 use Rattle.dav_get.specs.Parts.{parts_of}
 use Rattle.dav_get.proofs.BodyRight.{takes_right}
 use Rattle.dav_handler.specs.Held.{Body, IsHeldBody, IsOpen, IsPlaying, PollsBody, Sweeps, handle_in, handle_of, held_by, held_in, left_in, number_in, number_seen, parts_in}
@@ -41,10 +41,10 @@ use Rattle.dav_handler.proofs.Upkeep.{Others, OthersStay, stays_open, held_put, 
 
 -- The size of the buffer counts only where a slice is next.
 polls_most : (told : Option World) (whole : Bool) (m n before after number : ℕ) (parts : List BodyPart) (answer : Answer) (rest : List Part) → (list_any is_slice parts ≡ true → m ≡ n)
-    → PollsParts told whole m before after (parts_of number parts) answer rest → PollsParts told whole n before after (parts_of number parts) answer rest
+    → PollsParts told whole m (Rose before after) (parts_of number parts) answer rest → PollsParts told whole n (Rose before after) (parts_of number parts) answer rest
 polls_most told whole m n before after number [] answer rest h p = p
 polls_most told whole m n before after number (Text bytes ∷ parts) answer rest h p = p
-polls_most told whole m n before after number (SliceOf part ∷ parts) answer rest h p = subst (λ x. PollsParts told whole x before after (parts_of number (SliceOf part ∷ parts)) answer rest) (h refl) p
+polls_most told whole m n before after number (SliceOf part ∷ parts) answer rest h p = subst (λ x. PollsParts told whole x (Rose before after) (parts_of number (SliceOf part ∷ parts)) answer rest) (h refl) p
 
 slices_before : (s : DiskState) (b : Body) (cause : Type 0) (left : List BodyPart) (answer : Answer) (rest : List BodyPart)
     → Takes seen_by s b cause left answer rest → list_any is_slice rest ≡ true → list_any is_slice left ≡ true
@@ -141,10 +141,10 @@ module _ (most : ℕ) (s t : DiskState) (b c : Body) (answer : Answer) where
     told = λ w h told file. touched_seen s t b.file c.file w polls.disk told is.told h file;
   }
 
-  polled_parts : IsOpen most s b → Polls handle_of seen_by s b answer t c → PollsParts s.told s.whole most s.faults t.faults (parts_in s (Some b)) answer (parts_in t (Some c))
+  polled_parts : IsOpen most s b → Polls handle_of seen_by s b answer t c → PollsParts s.told s.whole most (Rose s.faults t.faults) (parts_in s (Some b)) answer (parts_in t (Some c))
   polled_parts is polls =
       polls_most s.told s.whole b.most most s.faults t.faults (number_in s b.file) (left_of b) answer (parts_in t (Some c)) is.size
-      (subst (λ z. PollsParts s.told s.whole b.most s.faults t.faults (parts_of (number_in s b.file) (left_of b)) answer z)
+      (subst (λ z. PollsParts s.told s.whole b.most (Rose s.faults t.faults) (parts_of (number_in s b.file) (left_of b)) answer z)
       (sym (touched_parts s t b.file c.file (left_of c) polls.disk polls.held.needs))
       (takes_right handle_of seen_by s t b (left_of b) answer (left_of c) s.told (number_in s b.file) is.held.needs (stands_in most s b is) (has_number s b.file) polls.takes))
 
@@ -227,7 +227,7 @@ module _ (settings : Settings) (s t : DiskState) (at : ℕ → Option Body) (rep
           goes = stay_goes s t b.file (touches_others s t b.file c.file polls.disk);
           leaves = stay_world s t b.file (touches_others s t b.file c.file polls.disk);
           rest = parts_in t (Some c);
-          gives = subst (λ x. PollsParts s.told s.whole (read_size_of settings.read_buf_size) s.faults t.faults (parts_in s x) answer (parts_in t (Some c))) (sym there)
+          gives = subst (λ x. PollsParts s.told s.whole (read_size_of settings.read_buf_size) (Rose s.faults t.faults) (parts_in s x) answer (parts_in t (Some c))) (sym there)
               (polled_parts (read_size_of settings.read_buf_size) s t b c answer (p.held k b there) polls);
           gets = record {
             file = held_by (Some c);

@@ -1,8 +1,9 @@
 -- From what a call of the player did to the clause of its step.
-use Rattle.std.proofs.Common.{◌≡◌, ◌≤◌, ◌+◌, ◌==◌, ℕ, List, [], ◌∷◌, Option, None, Some, Result, Ok, Err, refl, sym, ap, subst, ◌∙◌, ◌⊎◌, arith}
-use Rattle.std.specs.Prelude.{Bool, true, IsTrue, is_some}
+use Rattle.std.proofs.Common.{◌≡◌, ◌+◌, ℕ, List, [], Option, None, Some, Result, Ok, Err, refl, sym, ap, subst, ◌∙◌, arith}
+use Rattle.dav_io.specs.Counts.{Rose}
+use Rattle.std.specs.Prelude.{true, is_some}
 use Rattle.dav_io.specs.Told.{Both}
-use Rattle.dav_io.proofs.ToldLemmas.{both_map, both_same}
+use Rattle.dav_io.proofs.ToldLemmas.{both_map}
 use Rattle.dav_io.specs.declared.clock.Moment.{Moment}
 use Rattle.dav_io.specs.declared.failure.NoMemory.{NoMemory}
 use Rattle.dav_core.specs.World.{World, put}
@@ -15,12 +16,12 @@ use Rattle.dav_model.specs.declared.settings.Settings.{Settings}
 use Rattle.dav_model.specs.declared.step.Step.TheVariants.{Request, Poll, Abandon, Purge, Turn}
 use Rattle.dav_model.specs.declared.answer.Answer.TheVariants.{Reply as Replied, End, Done}
 use Rattle.dav_model.specs.Requests.{Asked, fields_of}
-use Rattle.dav_model.specs.Bodies.{Part, Polls}
+use Rattle.dav_model.specs.Bodies.{Polls}
 use Rattle.dav_io.specs.declared.fields.Field.{Field}
 use Rattle.dav_model.specs.Calls.{AsksAtGate, AsksToPoll, AsksToReply}
 use Rattle.dav_model.specs.declared.target.Target.{Target}
 use Rattle.dav_model.specs.declared.target.Target.TheVariants.{At, Refused}
-use Rattle.dav_model.specs.Play.{Gets, Lets, Quiet, Refuses, Stage, StaysOpen, Stepped, has_slice}
+use Rattle.dav_model.specs.Play.{Gets, Lets, Quiet, Stage, Stepped, has_slice}
 use Rattle.dav_model.specs.Rules.{nothing_known, plain_rules}
 use Rattle.dav_model.specs.Sizes.{read_size_of}
 use Rattle.dav_model.specs.Trail.{Goes, target_of}
@@ -35,8 +36,8 @@ use Rattle.dav_handler.specs.Held.{Body, ClosesBody, IsPlaying, handle_of, held_
 use Rattle.dav_handler.specs.Player.{plain_playing}
 use Rattle.dav_handler.proofs.Frames.{body_needs, body_over}
 use Rattle.dav_handler.proofs.Handles.{ends_lets, holds_takes, keeps_live}
-use Rattle.dav_handler.proofs.Upkeep.{OthersStay, closes_others, gone_leave, held_none, held_put, held_undone, holds_every, left_all, left_none, left_put, playing_closed, playing_kept, stays_open, turn_every}
-use Rattle.dav_handler.proofs.Polling.{stay_goes, stay_world}
+use Rattle.dav_handler.proofs.Upkeep.{closes_others, gone_leave, held_none, held_put, held_undone, holds_every, left_all, left_none, left_put, playing_closed, playing_kept, stays_open, turn_every}
+use Rattle.dav_handler.proofs.Polling.{stay_world}
 
 -- a player over a plain store, by what it keeps
 abbrev pub staged : Settings → DiskState → ℕ → (ℕ → Option Body) → Stage
@@ -175,7 +176,7 @@ polled_end settings s at replies body p none = (
     goes = keeps_goes s s (keeps_same s);
     leaves = (keeps_same s).world;
     rest = [];
-    gives = subst (λ x. Polls s.told s.whole (read_size_of settings.read_buf_size) s.faults s.faults (parts_in s x) End []) (sym none) (refl, refl);
+    gives = subst (λ x. Polls s.told s.whole (read_size_of settings.read_buf_size) (Rose s.faults s.faults) (parts_in s x) End []) (sym none) (refl, refl);
     gets = record {
       file = None;
       is = λ i. plain_playing settings replies (left_none s body at none i) (held_none body at none i);

@@ -1,7 +1,6 @@
 -- What a player keeps of its open bodies, call by call.
-use Rattle.std.proofs.Common.{◌≡◌, ◌≢◌, ◌≤◌, ◌+◌, ◌==◌, ℕ, Bool, true, false, cond, List, [], Option, None, Some, Result, Ok, Err, refl, sym, ap, subst, ◌∙◌, ◌⊎◌, inl, inr, arith}
-use Rattle.std.specs.Prelude.{is_some}
-use Rattle.std.specs.List.{AllByRecursion, list_any}
+use Rattle.std.proofs.Common.{◌≡◌, ◌≢◌, ◌≤◌, ◌+◌, ◌==◌, ℕ, Bool, true, false, cond, List, [], Option, None, Some, Result, refl, sym, ap, subst, ◌∙◌, ◌⊎◌, inl, inr, arith}
+use Rattle.std.specs.List.{AllByRecursion}
 use mathlib.Core.Path.{fun_ext}
 use Rattle.dav_core.specs.World.{World, put}
 use Rattle.dav_core.specs.Disk.{DiskState, Live, Turns, can_read}

@@ -1,15 +1,12 @@
 -- What a request finds over a store.
-use Rattle.std.specs.Prelude.{◌≡◌, ◌≢◌, ◌⊎◌, ℕ, [], false, Option, None, Some, Result, Ok, Err}
-use Rattle.dav_io.specs.Counts.{Rose}
+use Rattle.std.specs.Prelude.{◌≡◌, ℕ, [], false, Option, None, Some, Result, Ok, Err}
 use Rattle.dav_io.specs.declared.failure.NoMemory.{NoMemory}
 use Rattle.dav_core.specs.declared.dav_error.DavError.{DavError}
 use Rattle.dav_core.specs.Disk.{DiskState}
 use Rattle.dav_core.specs.Unchanged.{Keeps}
 use Rattle.dav_core.specs.Statuses.{closes, lacks_memory, status_of}
-use Rattle.dav_core.specs.World.{World}
 use Rattle.dav_model.specs.declared.settings.Settings.{Settings}
 use Rattle.dav_model.specs.declared.target.Target.{Target}
-use Rattle.dav_model.specs.declared.target.Target.TheVariants.{At, Refused}
 use Rattle.dav_model.specs.Calls.{AsksAtGate, AsksToReply}
 use Rattle.dav_model.specs.Conditions.{Fields}
 use Rattle.dav_model.specs.Head.{Reply, refusal}
@@ -46,10 +43,10 @@ pub record IsRefused (reply : Reply) (found : Found) : Type 0 where
   pub fields : found.outcome.fields ≡ reply.fields
   pub body : found.body ≡ None
 
--- what an error is answered with; want of memory is none
-pub record IsRefusedBy (error : DavError) (found : Found) : Type 0 where
+-- what an error is answered with to a request with these fields; want of memory is none
+pub record IsRefusedBy (fields : Fields) (error : DavError) (found : Found) : Type 0 where
   pub memory : lacks_memory error ≡ false
-  pub refused : IsRefused (refusal (status_of error) (closes error)) found
+  pub refused : IsRefused (refusal fields (status_of error) (closes error)) found
 
 -- A body of which something is left is given; another is ended, and there was no file.
 abbrev pub Gives : DiskState → Body → Option Body → DiskState → Type 0

@@ -1,4 +1,3 @@
 pub mod Held
 pub mod Found
 pub mod Player
-pub mod Names

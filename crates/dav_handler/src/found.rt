@@ -1,9 +1,7 @@
 // What a request finds over the store.
-ghost use Rattle.std.specs.Prelude.{◌≡◌, ◌++◌, ◌∷◌, [], IfOk, OnOk, None};
-ghost use Rattle.dav_core.specs.Statuses.{lacks_memory as the_lacks_memory};
-ghost use Rattle.dav_io.specs.FieldNames.{spelled};
+ghost use Rattle.std.specs.Prelude.{◌≡◌, IfOk, None};
 ghost use Rattle.dav_get.specs.Bodies.{IsHeld};
-ghost use Rattle.dav_model.specs.Head.{field, refusal as the_refusal};
+ghost use Rattle.dav_model.specs.Head.{refusal as the_refusal};
 ghost use Rattle.dav_model.specs.Requests.{fields_of};
 ghost use Rattle.dav_model.specs.Rules.{plain_rules};
 ghost use Rattle.dav_model.specs.Trail.{target_of};
@@ -13,9 +11,10 @@ ghost use Rattle.dav_handler.specs.Found.{Finds, Gives, IsRefused, IsRefusedBy};
 ghost use Rattle.dav_handler.specs.Held.{handle_of};
 
 use crate::gates::target;
-use dav_core::{DavError, DavMethod, DavPath, Disk, FsError, ParseError};
+use dav_config::{refused, refused_by};
+use dav_core::{DavError, DavMethod, DavPath, Disk};
 use dav_get::{GetBody, handle_get};
-use dav_io::{Field, FieldName, Fields, NoMemory, Octets, Text};
+use dav_io::{NoMemory, Octets};
 use dav_model::{Outcome, Settings, Target};
 use dav_plain::{PlainFile, PlainFs};
 use dav_store::DavFileSystem;
@@ -29,59 +28,35 @@ pub struct Found {
     pub body: Option<GetBody<PlainFile>>,
 }
 
-// Adds a field.
-fn add(
-    alloc: Global,
-    fields: &mut Vec<Field>,
-    name: FieldName,
-    value: &[u8],
-) -> Result<(), NoMemory>
-    ensures { OnOk result (fields.new.items ≡ fields.old.items ++ field (spelled name) value.now ∷ []) }
+// An answer without a body.
+fn alone(outcome: Outcome) -> Found
+    ensures outcome { result.outcome ≡ outcome }
+    ensures body { result.body ≡ None }
 {
-    let name = Text::known(name);
-    let value = Octets::new(Vec::from_slice(alloc, value)?);
-    fields.push(Field { name, value })?;
-    Ok(())
-}
-
-// A refusal: a status, no body, and the connection closes where `close` is set.
-fn refusal(alloc: Global, status: u16, close: bool) -> Result<Found, NoMemory>
-    ensures { IfOk result (IsRefused (the_refusal status close)) }
-{
-    let mut fields = Vec::new(alloc);
-    if close {
-        add(alloc, &mut fields, FieldName::Connection, b"close")?;
-    }
-    add(alloc, &mut fields, FieldName::ContentLength, b"0")?;
-    Ok(Found {
-        outcome: Outcome {
-            status,
-            fields: Fields::new(fields),
-        },
+    Found {
+        outcome,
         body: None,
-    })
+    }
 }
 
-// Whether an error is or holds want of memory.
-fn lacks_memory(error: DavError) -> bool
-    ensures { result ≡ the_lacks_memory error }
+// A refusal of a request with these fields: a status, no body, and the connection closes where `close` is set.
+fn refusal(alloc: Global, fields: &HeaderMap, status: u16, close: bool) -> Result<Found, NoMemory>
+    ensures { IfOk result (IsRefused (the_refusal fields.now status close)) }
 {
-    match error {
-        DavError::NoMemory
-        | DavError::Path(ParseError::NoMemory)
-        | DavError::Fs(FsError::NoMemory) => true,
-        _ => false,
+    match refused(alloc, fields, status, close) {
+        Ok(outcome) => Ok(alone(outcome)),
+        Err(error) => Err(error),
     }
 }
 
 // What an error is answered with.
-fn refuse(alloc: Global, error: DavError) -> Result<Found, NoMemory>
-    ensures { IfOk result (IsRefusedBy error) }
+fn refuse(alloc: Global, fields: &HeaderMap, error: DavError) -> Result<Found, NoMemory>
+    ensures { IfOk result (IsRefusedBy fields.now error) }
 {
-    if lacks_memory(error) {
-        return Err(NoMemory);
+    match refused_by(alloc, fields, error) {
+        Ok(outcome) => Ok(alone(outcome)),
+        Err(error) => Err(error),
     }
-    refusal(alloc, error.statuscode().as_u16(), error.must_close())
 }
 
 // Gives a body of which something is left; another is ended.
@@ -122,7 +97,7 @@ fn find_at<D: Disk>(
             let (outcome, body) = given;
             Ok(give(store, outcome, body))
         }
-        Err(error) => refuse(alloc, error),
+        Err(error) => refuse(alloc, fields, error),
     }
 }
 
@@ -139,7 +114,7 @@ fn find<D: Disk>(
 {
     match target {
         Target::At { method, path } => find_at(alloc, settings, store, *method, path, fields),
-        Target::Refused { status, close } => refusal(alloc, *status, *close),
+        Target::Refused { status, close } => refusal(alloc, fields, *status, *close),
     }
 }
 

@@ -7,8 +7,8 @@ mod gates;
 mod player;
 mod playing;
 
+pub use dav_config::announces_body;
 pub use dav_model::{Answer, Settings, Step};
 pub use dav_plain::PlainFs;
-pub use gates::announces_body;
 pub use player::Player;
 pub use playing::play;

@@ -1,4 +1,4 @@
-use Rattle.std.proofs.Common.{Ok, subst, [], ◌++◌, ◌∷◌, ◌∙◌, refl, rules, arith}
+use Rattle.std.proofs.Common.{Ok, subst, [], ◌∙◌, refl, rules, arith}
 use Rattle.dav_model.proofs.Denied.{played_on}
 use Rattle.dav_model.proofs.JoiningLemmas.{none_played, not_begun, refused_at, answered_at, replies_grow}
 use Rattle.std.proofs.lemmas.List.{take_all}

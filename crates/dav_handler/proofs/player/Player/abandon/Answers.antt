@@ -1,4 +1,3 @@
-use Rattle.dav_handler.specs.Held.{body_at}
 use Rattle.dav_handler.proofs.Upkeep.{playing_closed}
 use Rattle.dav_handler.proofs.Stepping.{abandoned}
 use Rattle.dav_handler.proofs.Polling.{playing_held}

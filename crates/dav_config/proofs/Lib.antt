@@ -1,0 +1,6 @@
+mod Giving
+mod Names
+mod Pieces
+mod Polling
+mod RefusedFields
+mod Unstored

@@ -1,0 +1,142 @@
+-- What a handler answers a request with, over any store.
+use Rattle.std.specs.Prelude.{◌≡◌, ℕ, Bool, false, not, List, Option, None, Some, Result}
+use Rattle.dav_io.specs.declared.clock.Moment.{Moment}
+use Rattle.http.specs.declared.request.Parts.{Parts}
+use Rattle.dav_core.specs.declared.disk.Disk.{Ghosts as DiskGhosts}
+use Rattle.dav_core.specs.declared.error.FsError.{FsError}
+use Rattle.dav_core.specs.declared.member.Member.{Member}
+use Rattle.dav_core.specs.DavPath.{WebPath}
+use Rattle.dav_core.specs.Unchanged.{Keeps}
+use Rattle.dav_model.specs.declared.settings.Settings.{Settings}
+use Rattle.dav_model.specs.declared.target.Target.{Target}
+use Rattle.dav_model.specs.declared.target.Target.TheVariants.{At, Refused}
+use Rattle.dav_model.specs.Announced.{HasSoundBody, IsFramed}
+use Rattle.dav_model.specs.Due.{Query, query}
+use Rattle.dav_model.specs.Gates.{Bulk, admitted, gates}
+use Rattle.dav_model.specs.Head.{refusal}
+use Rattle.dav_model.specs.Sizes.{read_size_of}
+use Rattle.dav_store.specs.declared.body_reader.BodyReader.{Ghosts as ReaderGhosts}
+use Rattle.dav_store.specs.declared.entry.DavDirEntry.{Ghosts as EntryGhosts}
+use Rattle.dav_store.specs.declared.file.DavFile.{Ghosts as FileGhosts}
+use Rattle.dav_store.specs.declared.guarded.GuardedFileSystem.{Ghosts as StoreGhosts}
+use Rattle.dav_store.specs.Bodies.{BodyState}
+use Rattle.dav_store.specs.Standing.{Standing}
+use Rattle.dav_store.specs.View.{View, Listings, the_view, the_listings}
+use Rattle.dav_get.specs.Heard.{Heard}
+use Rattle.dav_get.specs.Lives.{HasMost, OpenOnlyHeld}
+use Rattle.dav_get.specs.Right.{reply_at}
+use Rattle.dav_get.specs.Table.{Given}
+use Rattle.dav_get.specs.Told.{IsRightFor, ShowsFor}
+use Rattle.dav_config.specs.Reading.{ReadsBulk}
+use Rattle.dav_config.specs.Responses.{IsBare, Responded, Responds}
+
+-- ---- a store's meanings in one value
+
+pub record Served (S C F L E : Type 0) : Type 1 where
+  pub view : View S C F
+  pub lists : Listings S C L E
+  -- it has nothing and does nothing
+  pub void : S → Bool
+  pub with_now : S → Moment → S
+
+abbrev pub the_served : {S C D M F L E : Type 0} → StoreGhosts S C D M F L E → DiskGhosts D → FileGhosts F D M → EntryGhosts E D M → Served S C F L E
+the_served store disk file entry = record {
+  view = the_view store disk file;
+  lists = the_listings store entry;
+  void = store.void;
+  with_now = store.with_now;
+}
+
+-- whether there is a store that does something
+abbrev pub is_stored : {S : Type 0} → (S → Bool) → Option S → Bool
+is_stored void None = false
+is_stored void (Some s) = not (void s)
+
+-- It passed the gates.
+abbrev pub IsAt : Target → Type 0
+IsAt (At method path) = Unit {0}
+IsAt (Refused status close) = ⊥
+
+-- ---- what is asked, and both sides of a call
+
+-- the settings, the head of a request, the credentials with which the store is asked, and the moment
+pub record Asking (C : Type 0) : Type 0 where
+  pub settings : Settings
+  pub head : Parts
+  pub credentials : C
+  pub now : Moment
+
+abbrev pub asking : {C : Type 0} → Settings → Parts → C → Moment → Asking C
+asking settings head credentials now = record { settings = settings; head = head; credentials = credentials; now = now }
+
+-- the store and the reader of a request's body
+pub record Sides (S : Type 0) : Type 0 where
+  pub store : Option S
+  pub body : BodyState
+
+-- ---- what a request asks for
+
+-- The reader is asked behind the gates of the head alone.
+abbrev pub ReadsBehind : Target → BodyState → Bulk → BodyState → Type 0
+ReadsBehind (Refused status close) old bulk new = new ≡ old
+ReadsBehind (At method path) old bulk new = ReadsBulk old bulk new
+
+-- What the gates make of a request, by what its reader gave of its body.
+pub record IsTarget {C : Type 0} (asking : Asking C) (stored : Bool) (old : BodyState) (target : Target) (new : BodyState) : Type 0 where
+  pub bulk : Bulk
+  pub reads : ReadsBehind (admitted asking.settings stored asking.head) old bulk new
+  pub gated : target ≡ gates asking.settings stored asking.head bulk
+
+-- ---- what is answered
+
+module _ {S C F L E : Type 0} (served : Served S C F L E) where
+  -- What a GET or HEAD gave, that passed the gates.
+  pub record Gives (q : Query) (c : C) (s : S) (given : Given F) (t : S) : Type 0 where
+    pub framed : (number : ℕ) → IsFramed (At q.method q.path) (reply_at q.fields number given)
+    pub sound : (number : ℕ) → HasSoundBody (reply_at q.fields number given)
+    -- it is right for what the store's calls answered
+    pub heard : Heard served.view served.lists q c s given t
+    -- and for what the store shows
+    pub right : (looked opened : WebPath → Result Standing FsError) (listed : WebPath → Result (List Member) FsError)
+        → ShowsFor served.view served.lists s c q looked opened listed → IsRightFor served.view q looked opened listed s given t
+    -- nothing is open that wasn't, but the body's file
+    pub life : OpenOnlyHeld served.view s given t
+    pub most : HasMost (read_size_of q.settings.read_buf_size) given
+    pub loan : served.view.loan t ≡ served.view.loan s
+
+  -- Over this store a GET or HEAD is answered so.
+  pub record GivesOver (q : Query) (c : C) (s : S) (r : Responded F) (t : S) : Type 0 where
+    pub given : Given F
+    pub gives : Gives q c s given t
+    pub responds : Responds q.fields given r
+
+  -- There is a store, and over it, once its moment is set, a GET or HEAD is answered so.
+  pub record Passes (q : Query) (asking : Asking C) (old : Option S) (r : Responded F) (new : Option S) : Type 0 where
+    pub before : S
+    pub after : S
+    pub was : old ≡ Some before
+    pub is : new ≡ Some after
+    pub gives : GivesOver q asking.credentials (served.with_now before asking.now) r after
+
+  -- The gates' refusal, with the store as it was; or the answer of a GET or HEAD over the store.
+  abbrev pub AnswersTo : Target → Asking C → Option S → Responded F → Option S → Type 0
+  AnswersTo (Refused status close) asking old r new = IsBare (refusal asking.head.headers status close) r × (new ≡ old)
+  AnswersTo (At method path) asking old r new = Passes (query asking.settings asking.head.headers method path) asking old r new
+
+  -- Nothing is left open; there is a store where there was one.
+  abbrev pub Stays : Option S → Option S → Type 0
+  Stays None None = Unit {0}
+  Stays None (Some t) = ⊥
+  Stays (Some s) None = ⊥
+  Stays (Some s) (Some t) = Keeps (served.view.state s) (served.view.state t) × (served.view.loan t ≡ served.view.loan s)
+
+  -- A request was answered.
+  pub record Handles (asking : Asking C) (old : Sides S) (r : Responded F) (new : Sides S) : Type 0 where
+    pub target : Target
+    pub asks : IsTarget asking (is_stored served.void old.store) old.body target new.body
+    pub answers : AnswersTo target asking old.store r new.store
+
+  -- The reader was consumed with the request. What is behind it is left as by a reader that stands on the same loan.
+  abbrev pub HandlesAll : {B : Type 0} → ReaderGhosts B → Asking C → Option S → B → Responded F → Option S → Type 0
+  HandlesAll {B} reader asking old body r new = (after : B) × (reader.loan after ≡ reader.loan body)
+      × Handles asking (record { store = old; body = reader.state body }) r (record { store = new; body = reader.state after })

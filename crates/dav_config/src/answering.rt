@@ -1,0 +1,168 @@
+// What a request that was read is answered with.
+ghost use Rattle.std.specs.Prelude.{◌≡◌, IfOk, IfSome, IsSome, OnErr, false};
+ghost use Rattle.http.specs.Request.{head_of};
+ghost use Rattle.http.specs.Response.{head_of as response_head};
+ghost use Rattle.dav_core.specs.Statuses.{closes, lacks_memory as the_lacks_memory, status_of};
+ghost use Rattle.dav_core.specs.Unchanged.{Keeps};
+ghost use Rattle.dav_model.specs.Due.{query};
+ghost use Rattle.dav_model.specs.Head.{refusal as the_refusal};
+ghost use Rattle.dav_body.specs.declared.body.BodyType.TheVariants.{Empty};
+ghost use Rattle.dav_get.specs.Bodies.{Closes, IsHeld};
+ghost use Rattle.dav_config.specs.Asked.{asking_of};
+ghost use Rattle.dav_config.specs.Handling.{AnswersTo, GivesOver, IsAt, Stays, the_served};
+ghost use Rattle.dav_config.specs.Responses.{Gave, IsBare, SaysHead, inner_of};
+
+use crate::asked::Asked;
+use crate::refusals::{refused, refused_by};
+use crate::respond::head_said;
+use dav_body::{AsyncStream, Body};
+use dav_core::{DavError, DavMethod, DavPath};
+use dav_get::{GetBody, handle_get};
+use dav_io::NoMemory;
+use dav_model::{Outcome, Settings, Target};
+use dav_store::GuardedFileSystem;
+use http::{HeaderMap, Response};
+use std::alloc::Global;
+
+/// What a request is answered with: the body is polled with the store's disk.
+pub type Answered<F> = Result<Response<Body<GetBody<F>>>, NoMemory>;
+
+// A response without a body.
+fn bare<S>(alloc: Global, outcome: Outcome) -> Result<Response<Body<S>>, NoMemory>
+    ensures head { IfOk result (λ r. SaysHead outcome.status outcome.fields (response_head r)) }
+    ensures body { IfOk result (λ r. inner_of r ≡ Empty) }
+{
+    let head = head_said(alloc, outcome.status, outcome.fields.as_slice())?;
+    Ok(Response::from_parts(head, Body::empty()))
+}
+
+/// A refusal of a request with these fields: a status, no body, and the connection closes where `close` is set.
+pub fn refusal<S>(
+    alloc: Global,
+    fields: &HeaderMap,
+    status: u16,
+    close: bool,
+) -> Result<Response<Body<S>>, NoMemory>
+    ensures { IfOk result (IsBare (the_refusal fields.now status close)) }
+{
+    let outcome = refused(alloc, fields, status, close)?;
+    bare(alloc, outcome)
+}
+
+// What an error is answered with.
+fn refuse<S>(
+    alloc: Global,
+    fields: &HeaderMap,
+    error: DavError,
+) -> Result<Response<Body<S>>, NoMemory>
+    ensures refused { IfOk result (IsBare (the_refusal fields.now (status_of error) (closes error))) }
+    ensures memory { IfOk result (λ _. the_lacks_memory error ≡ false) }
+{
+    let outcome = refused_by(alloc, fields, error)?;
+    bare(alloc, outcome)
+}
+
+// The response with the head and the body that a GET gave. Where the memory of its head is refused, the body is ended.
+fn give<S: GuardedFileSystem<C>, C>(
+    alloc: Global,
+    fs: &mut S,
+    outcome: Outcome,
+    body: GetBody<S::File>,
+) -> Answered<S::File>
+    requires { IsHeld S.File.handle S.File.seen (S.Disk.state (S.inside fs.old)) body }
+    ensures done { IfOk result (Gave (outcome, body)) }
+    ensures same { IfOk result (λ _. fs.new ≡ fs.old) }
+    ensures admits { S.admits fs.old → S.admits fs.new }
+    ensures closed { OnErr result (Closes S.File.handle (S.Disk.state (S.inside fs.old)) body.file
+        (S.Disk.state (S.inside fs.new))) }
+    ensures loan { S.Disk.loan (S.inside fs.new) ≡ S.Disk.loan (S.inside fs.old) }
+{
+    match head_said(alloc, outcome.status, outcome.fields.as_slice()) {
+        Ok(head) => Ok(Response::from_parts(head, Body::from_stream(AsyncStream::new(body)))),
+        Err(error) => {
+            body.close(fs.disk());
+            Err(error)
+        }
+    }
+}
+
+// What stands at a path, by GET or HEAD.
+fn get<S: GuardedFileSystem<C>, C>(
+    alloc: Global,
+    settings: &Settings,
+    fs: &mut S,
+    credentials: &C,
+    method: DavMethod,
+    path: &DavPath,
+    fields: &HeaderMap,
+) -> Answered<S::File>
+    requires admits { S.admits fs.old }
+    ensures done { IfOk result (λ r. GivesOver
+        (the_served S.GuardedFileSystem S.Disk.Disk S.File.DavFile S.Entry.DavDirEntry)
+        (query settings.now fields.now method path.now) credentials.now fs.old r fs.new) }
+    ensures memory { OnErr result (Keeps (S.Disk.state (S.inside fs.old)) (S.Disk.state (S.inside fs.new))) }
+    ensures admits { S.admits fs.new }
+    ensures loan { S.Disk.loan (S.inside fs.new) ≡ S.Disk.loan (S.inside fs.old) }
+{
+    match handle_get(alloc, settings, fs, credentials, method, path, fields) {
+        Ok(given) => {
+            let (outcome, body) = given;
+            give(alloc, fs, outcome, body)
+        }
+        Err(error) => refuse(alloc, fields, error),
+    }
+}
+
+/// What is answered to what is asked for.
+pub fn answer<S: GuardedFileSystem<C>, C>(
+    alloc: Global,
+    asked: &Asked<'_, C>,
+    store: &mut Option<S>,
+    target: &Target,
+) -> Answered<S::File>
+    requires admits { IfSome store.old S.admits }
+    requires stored { IsAt target.now → IsSome store.old }
+    ensures done { IfOk result (λ r. AnswersTo
+        (the_served S.GuardedFileSystem S.Disk.Disk S.File.DavFile S.Entry.DavDirEntry)
+        target.now (asking_of asked.entry.now) store.old r store.new) }
+    ensures memory { OnErr result (Stays
+        (the_served S.GuardedFileSystem S.Disk.Disk S.File.DavFile S.Entry.DavDirEntry) store.old store.new) }
+    ensures admits { IfSome store.new S.admits }
+{
+    match target {
+        Target::Refused { status, close } => refusal(alloc, asked.head.headers(), *status, *close),
+        Target::At { method, path } => match store {
+            Some(fs) => answer_over(alloc, asked, fs, *method, path),
+            None => unreachable!("without a store nothing passes the gates"),
+        },
+    }
+}
+
+// What stands at a path of the store, once its moment is set.
+fn answer_over<S: GuardedFileSystem<C>, C>(
+    alloc: Global,
+    asked: &Asked<'_, C>,
+    fs: &mut S,
+    method: DavMethod,
+    path: &DavPath,
+) -> Answered<S::File>
+    requires admits { S.admits fs.old }
+    ensures done { IfOk result (λ r. GivesOver
+        (the_served S.GuardedFileSystem S.Disk.Disk S.File.DavFile S.Entry.DavDirEntry)
+        (query asked.entry.now.settings.now (head_of asked.entry.now.head.now).headers method path.now)
+        asked.entry.now.credentials.now (S.with_now fs.old asked.entry.now.now) r fs.new) }
+    ensures memory { OnErr result (Keeps (S.Disk.state (S.inside fs.old)) (S.Disk.state (S.inside fs.new))) }
+    ensures admits { S.admits fs.new }
+    ensures loan { S.Disk.loan (S.inside fs.new) ≡ S.Disk.loan (S.inside fs.old) }
+{
+    fs.set_now(asked.now);
+    get(
+        alloc,
+        asked.settings,
+        fs,
+        asked.credentials,
+        method,
+        path,
+        asked.head.headers(),
+    )
+}

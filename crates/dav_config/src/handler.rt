@@ -1,0 +1,151 @@
+ghost use Rattle.std.specs.Prelude.{◌≡◌, IfOk, IfSome, None, OnErr, Some};
+ghost use Rattle.std.specs.Option.{option_copied_mut};
+ghost use Rattle.std.specs.Borrow.{sem};
+ghost use Rattle.http.specs.Request.{body_of, head_of};
+ghost use Rattle.dav_model.specs.Unset.{nothing_set};
+ghost use Rattle.dav_body.specs.Bodies.{MayPoll};
+ghost use Rattle.dav_get.specs.Bodies.{IsHeld};
+ghost use Rattle.dav_config.specs.Handling.{HandlesAll, Stays, asking, the_served};
+ghost use Rattle.dav_config.specs.Responses.{inner_of};
+
+use crate::answering::Answered;
+use crate::config::DavConfig;
+use crate::handling::handle_by;
+use crate::merging::with_principal;
+use dav_body::StreamBody;
+use dav_io::Moment;
+use dav_model::Settings;
+use dav_store::{BodyReader, GuardedFileSystem};
+use http::Request;
+use std::alloc::Global;
+use std::marker::PhantomData;
+
+/// Answers requests over a store of type `S`, whose calls are made with credentials of type `C`, by its settings.
+#[derive(Drop)]
+pub struct DavHandler<S, C> {
+    pub(crate) alloc: Global,
+    pub(crate) settings: Settings,
+    pub(crate) store: Option<S>,
+    pub(crate) credentials: PhantomData<C>,
+}
+
+impl<S, C> DavHandler<S, C> {
+    ghost use Rattle.dav_config.specs.Lending.{LendsStore};
+
+    /// A handler without a store, of which nothing is set.
+    pub fn new(alloc: Global) -> Self
+        ensures settings { result.settings ≡ nothing_set }
+        ensures store { result.store ≡ None }
+    {
+        DavConfig::new(alloc).build_handler()
+    }
+
+    /// A configuration of which nothing is set.
+    pub fn builder(alloc: Global) -> DavConfig<S, C>
+        ensures settings { result.settings ≡ nothing_set }
+        ensures store { result.store ≡ None }
+    {
+        DavConfig::new(alloc)
+    }
+
+    /// Lends the store, so that the body of an answer can be polled with its disk. None exactly where there is no store.
+    pub fn store(&mut self) -> Option<&mut S>
+        ensures* writes_back { sem 𝓛 (LendsStore S.row C.row self.entry result) }
+        ensures value { option_copied_mut result ≡ self.old.store }
+    {
+        self.store.as_mut()
+    }
+}
+
+impl<S: GuardedFileSystem<C>, C> DavHandler<S, C> {
+    /// Answers a request as `handle` does, by its settings with this principal in place of theirs; its store is asked
+    /// with these credentials.
+    pub fn handle_guarded<B: BodyReader + Drop>(
+        &mut self,
+        req: Request<B>,
+        principal: &str,
+        credentials: C,
+        now: Moment,
+    ) -> Answered<S::File>
+    where
+        C: Drop,
+        requires { IfSome self.old.store S.admits }
+        ensures done { IfOk result (λ r. HandlesAll
+            (the_served S.GuardedFileSystem S.Disk.Disk S.File.DavFile S.Entry.DavDirEntry) B.BodyReader
+            (asking (record self.old.settings { principal = Some principal.now }) (head_of req) credentials now) self.old.store (body_of req) r self.new.store) }
+        ensures may { IfOk result (λ r. IfSome self.new.store (λ s. MayPoll
+            (λ b d. IsHeld S.File.handle S.File.seen (S.Disk.state d) b) (inner_of r) (S.inside s))) }
+        ensures memory { OnErr result (Stays
+            (the_served S.GuardedFileSystem S.Disk.Disk S.File.DavFile S.Entry.DavDirEntry) self.old.store
+            self.new.store) }
+        ensures admits { IfSome self.new.store S.admits }
+        ensures settings { self.new.settings ≡ self.old.settings }
+    {
+        match with_principal(self.alloc, &self.settings, principal) {
+            Ok(settings) => handle_by(
+                self.alloc,
+                &settings,
+                &mut self.store,
+                &credentials,
+                req,
+                now,
+            ),
+            Err(error) => Err(error),
+        }
+    }
+}
+
+impl<S: GuardedFileSystem<()>> DavHandler<S, ()> {
+    /// Answers a request over its store at a moment. The gates come first: an unknown method, a method that is not
+    /// answered (without a store each but OPTIONS), and the path; then the body, which is read up to its end or until
+    /// 65,536 bytes came; then forms that are not built. A request that passes is a GET or HEAD (RFC 9110, sections 9.3.1
+    /// and 9.3.2), and is answered by what stands at its path.
+    ///
+    /// The body of the answer is polled with the disk that the store's `disk` lends (`store`). It may have a file open,
+    /// which it closes with its last piece; a body that is given up is to be ended (`AsyncStream::into_steps`,
+    /// `GetBody::close`).
+    ///
+    /// `done`: a refusal of the gates, with the store as it was; or the answer of `handle_get` over the store. `may`: the
+    /// body may be polled with the store's disk. `memory`: where memory is refused, nothing is left open.
+    pub fn handle<B: BodyReader + Drop>(
+        &mut self,
+        req: Request<B>,
+        now: Moment,
+    ) -> Answered<S::File>
+        requires { IfSome self.old.store S.admits }
+        ensures done { IfOk result (λ r. HandlesAll
+            (the_served S.GuardedFileSystem S.Disk.Disk S.File.DavFile S.Entry.DavDirEntry) B.BodyReader
+            (asking self.old.settings (head_of req) tt now) self.old.store (body_of req) r self.new.store) }
+        ensures may { IfOk result (λ r. IfSome self.new.store (λ s. MayPoll
+            (λ b d. IsHeld S.File.handle S.File.seen (S.Disk.state d) b) (inner_of r) (S.inside s))) }
+        ensures memory { OnErr result (Stays
+            (the_served S.GuardedFileSystem S.Disk.Disk S.File.DavFile S.Entry.DavDirEntry) self.old.store
+            self.new.store) }
+        ensures admits { IfSome self.new.store S.admits }
+        ensures settings { self.new.settings ≡ self.old.settings }
+    {
+        handle_by(self.alloc, &self.settings, &mut self.store, &(), req, now)
+    }
+
+    /// Answers a request whose body is a stream over a reader, as `handle` does with the reader inside.
+    pub fn handle_stream<B: BodyReader + Drop>(
+        &mut self,
+        req: Request<StreamBody<B>>,
+        now: Moment,
+    ) -> Answered<S::File>
+        requires { IfSome self.old.store S.admits }
+        ensures done { IfOk result (λ r. HandlesAll
+            (the_served S.GuardedFileSystem S.Disk.Disk S.File.DavFile S.Entry.DavDirEntry) B.BodyReader
+            (asking self.old.settings (head_of req) tt now) self.old.store (body_of req).body r self.new.store) }
+        ensures may { IfOk result (λ r. IfSome self.new.store (λ s. MayPoll
+            (λ b d. IsHeld S.File.handle S.File.seen (S.Disk.state d) b) (inner_of r) (S.inside s))) }
+        ensures memory { OnErr result (Stays
+            (the_served S.GuardedFileSystem S.Disk.Disk S.File.DavFile S.Entry.DavDirEntry) self.old.store
+            self.new.store) }
+        ensures admits { IfSome self.new.store S.admits }
+        ensures settings { self.new.settings ≡ self.old.settings }
+    {
+        let (head, stream) = req.into_parts();
+        self.handle(Request::from_parts(head, stream.into_inner()), now)
+    }
+}

@@ -1,0 +1,104 @@
+// A request over a store: its gates, its body, and its answer.
+ghost use Rattle.std.specs.Prelude.{◌≡◌, IfOk, IfSome, OnErr};
+ghost use Rattle.dav_config.specs.Asked.{asking_of};
+ghost use Rattle.dav_config.specs.Handling.{Handles, HandlesAll, IsTarget, Stays, asking, is_stored as the_is_stored, the_served};
+ghost use Rattle.dav_config.specs.Responses.{inner_of};
+ghost use Rattle.dav_body.specs.Bodies.{MayPoll};
+ghost use Rattle.dav_get.specs.Bodies.{IsHeld};
+ghost use Rattle.http.specs.Request.{body_of, head_of};
+
+use crate::answering::{Answered, answer};
+use crate::asked::Asked;
+use crate::bulk::read_bulk;
+use crate::gates::{admitted, weighed};
+use dav_io::{Moment, NoMemory};
+use dav_model::{Settings, Target};
+use dav_store::{BodyReader, GuardedFileSystem};
+use http::Request;
+use std::alloc::Global;
+
+// Whether there is a store that does something.
+fn is_stored<S: GuardedFileSystem<C>, C>(store: &Option<S>) -> bool
+    ensures { result ≡ the_is_stored S.void store.now }
+{
+    match store {
+        Some(fs) => !fs.is_void(),
+        None => false,
+    }
+}
+
+// What a request asks for. Its body is read where the gates of its head let it pass.
+fn target<B: BodyReader, C>(
+    alloc: Global,
+    asked: &Asked<'_, C>,
+    stored: bool,
+    body: &mut B,
+) -> Result<Target, NoMemory>
+    ensures done { IfOk result (λ target. IsTarget (asking_of asked.entry.now) stored (B.state body.old) target
+        (B.state body.new)) }
+    ensures loan { B.loan body.new ≡ B.loan body.old }
+{
+    match admitted(alloc, asked.settings, stored, asked.head) {
+        Ok(Target::At { method, path }) => {
+            let bulk = read_bulk(body);
+            Ok(weighed(asked.head.headers(), bulk, Target::At { method, path }))
+        }
+        Ok(Target::Refused { status, close }) => Ok(Target::Refused { status, close }),
+        Err(error) => Err(error),
+    }
+}
+
+/// Answers a request over a store, or without one.
+pub fn handle_over<S: GuardedFileSystem<C>, C, B: BodyReader>(
+    alloc: Global,
+    asked: &Asked<'_, C>,
+    store: &mut Option<S>,
+    body: &mut B,
+) -> Answered<S::File>
+    requires { IfSome store.old S.admits }
+    ensures done { IfOk result (λ r. Handles
+        (the_served S.GuardedFileSystem S.Disk.Disk S.File.DavFile S.Entry.DavDirEntry) (asking_of asked.entry.now)
+        (record { store = store.old; body = B.state body.old }) r
+        (record { store = store.new; body = B.state body.new })) }
+    ensures memory { OnErr result (Stays
+        (the_served S.GuardedFileSystem S.Disk.Disk S.File.DavFile S.Entry.DavDirEntry) store.old store.new) }
+    ensures admits { IfSome store.new S.admits }
+    ensures loan { B.loan body.new ≡ B.loan body.old }
+{
+    let stored = is_stored(store);
+    match target(alloc, asked, stored, body) {
+        Ok(target) => answer(alloc, asked, store, &target),
+        Err(error) => Err(error),
+    }
+}
+
+/// Answers a request, and lets go of its reader.
+pub fn handle_by<S: GuardedFileSystem<C>, C, B: BodyReader + Drop>(
+    alloc: Global,
+    settings: &Settings,
+    store: &mut Option<S>,
+    credentials: &C,
+    req: Request<B>,
+    now: Moment,
+) -> Answered<S::File>
+    requires { IfSome store.old S.admits }
+    ensures done { IfOk result (λ r. HandlesAll
+        (the_served S.GuardedFileSystem S.Disk.Disk S.File.DavFile S.Entry.DavDirEntry) B.BodyReader
+        (asking settings.now (head_of req) credentials.now now) store.old (body_of req) r store.new) }
+    ensures may { IfOk result (λ r. IfSome store.new (λ s. MayPoll
+        (λ b d. IsHeld S.File.handle S.File.seen (S.Disk.state d) b) (inner_of r) (S.inside s))) }
+    ensures memory { OnErr result (Stays
+        (the_served S.GuardedFileSystem S.Disk.Disk S.File.DavFile S.Entry.DavDirEntry) store.old store.new) }
+    ensures admits { IfSome store.new S.admits }
+{
+    let (parts, reader) = req.into_parts();
+    let mut body = reader;
+    let head = Request::from_parts(parts, ());
+    let asked = Asked {
+        settings,
+        head: &head,
+        credentials,
+        now,
+    };
+    handle_over(alloc, &asked, store, &mut body)
+}

@@ -1,0 +1,21 @@
+//! What makes the server a library: a handler that is built from a configuration, over any store.
+#![tactic(auto)]
+
+mod answering;
+mod asked;
+mod bulk;
+mod config;
+mod gates;
+mod handler;
+mod handling;
+mod merging;
+mod refusals;
+mod respond;
+
+pub use answering::Answered;
+pub use bulk::{BodyBulk, bulk_of};
+pub use config::DavConfig;
+pub use dav_model::Settings;
+pub use gates::{admitted, announces_body, weighed};
+pub use handler::DavHandler;
+pub use refusals::{refused, refused_by};
