@@ -6,7 +6,7 @@ use Rattle.std.proofs.lemmas.Slice.Eq.{bytes_eq-Decides}
 use Rattle.http.specs.declared.version.Version.{Version}
 use Rattle.http.specs.declared.version.TheConstants.Version.{HTTP_10, HTTP_11}
 use Rattle.http.specs.Request.{head_of}
-use Rattle.httparse.specs.Grammar.{RequestHead}
+use Rattle.dav_wire.specs.Messages.{Message}
 use Rattle.dav_io.specs.declared.clock.Moment.{Moment}
 use Rattle.dav_io.specs.declared.fields.Field.{Field}
 use Rattle.dav_model.specs.Announced.{bytes_in, value_of}
@@ -122,10 +122,10 @@ new_tells x false false true eleven e f g = inr (inr (inl (value_where x.fields 
 new_tells x false false false eleven e f g =
     inr (inl (chunked_by (is_eleven (head_of x.request).version) (bytes_eq (head_of x.request).method (codes "HEAD")) (is_bodiless x.status) (has_length x.fields) eleven e f g))
 
-tells_by : (shown : Option Moment) (head : RequestHead) (x : Exchange) → IsOf shown head x
+tells_by : (shown : Option Moment) (message : Message) (x : Exchange) → IsOf shown message x
     → ((head_of x.request).version ≡ HTTP_10) ⊎ (is_eleven (head_of x.request).version ≡ true) → TellsEnd x
-tells_by shown head x is (inl old) = inr (inr (inr (old, ap (λ b. b || has_close_field x.fields) (is.closing.1 (inl old)))))
-tells_by shown head x is (inr new) = new_tells x _ _ _ new refl refl refl
+tells_by shown message x is (inl old) = inr (inr (inr (old, ap (λ b. b || has_close_field x.fields) (is.closing.1 (inl old)))))
+tells_by shown message x is (inr new) = new_tells x _ _ _ new refl refl refl
 
-pub tells_end : (shown : Option Moment) (head : RequestHead) (x : Exchange) → IsOf shown head x → TellsEnd x
-tells_end shown head x is = tells_by shown head x is (old_or_new (head.minor == 0) (head_of x.request).version is.parts.version)
+pub tells_end : (shown : Option Moment) (message : Message) (x : Exchange) → IsOf shown message x → TellsEnd x
+tells_end shown message x is = tells_by shown message x is (old_or_new (message.head.minor == 0) (head_of x.request).version is.parts.version)

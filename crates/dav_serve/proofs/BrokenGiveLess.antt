@@ -1,14 +1,13 @@
 -- A body that broke gave less than was announced.
 use Rattle.std.proofs.Common.{◌≡◌, ◌≤◌, ◌<◌, ◌+◌, ◌-◌, ◌==◌, ◌++◌, ℕ, List, [], ◌∷◌, Bool, true, false, cond, Ok, Option, length, codes, refl, sym, ap, subst, ◌∙◌, inl, inr, arith}
+use Rattle.dav_io.specs.Counts.{Rose}
 use Rattle.dav_core.specs.World.{World}
-use Rattle.dav_model.specs.declared.step.Step.TheVariants.{Poll, Turn}
-use Rattle.dav_model.specs.declared.answer.Answer.{Answer}
 use Rattle.dav_model.specs.declared.answer.Answer.TheVariants.{Piece, End, Broken, Done}
 use Rattle.dav_model.specs.Announced.{IsFramedBy, bytes_in, length_is_own, value_of}
 use Rattle.dav_model.specs.Bodies.{NoneEmpty, Part, Polls, bytes_left, slice, text}
 use Rattle.dav_model.proofs.Nonempty.{rest_full}
 use Rattle.dav_serve.specs.Bodies.{Announces, AnnouncesMore}
-use Rattle.dav_serve.specs.Exchange.{Exchange, begun_answers, piece_steps, piece_answers, steps_of}
+use Rattle.dav_serve.specs.Exchange.{Exchange, begun_answers, steps_of}
 use Rattle.dav_model.specs.Play.{Stage}
 use Rattle.dav_model.specs.Trail.{target_of}
 use Rattle.dav_model.proofs.RightReplies.{replies_framed, replies_sound}
@@ -22,7 +21,7 @@ moved_takes false number start count n parts e within = omega arith
 
 -- A piece is taken from what is left.
 poll_takes : (left : List Part) (piece : List ℕ) (rest : List Part) (told : Option World) (whole : Bool) (most before after : ℕ)
-    → Polls told whole most before after left (Piece piece) rest → length piece + bytes_left rest ≤ bytes_left left
+    → Polls told whole most (Rose before after) left (Piece piece) rest → length piece + bytes_left rest ≤ bytes_left left
 poll_takes [] piece rest told whole most before after (e, none) = let f : Piece piece ≡ End = e in cc
 poll_takes (part ∷ parts) piece rest told whole most before after (inr (e, none, rose)) = let f : Piece piece ≡ Broken = e in cc
 poll_takes (text bytes ∷ parts) piece rest told whole most before after (inl (p, e, (is, are))) =
@@ -31,7 +30,7 @@ poll_takes (slice number start count ∷ parts) piece rest told whole most befor
     let same : piece ≡ p = cc in rw (are, same) (moved_takes _ number (start + length p) count (length p) parts refl within)
 
 -- What breaks has something left.
-breaks_some : (left rest : List Part) (told : Option World) (whole : Bool) (most before after : ℕ) → NoneEmpty left → Polls told whole most before after left Broken rest → 0 < bytes_left left
+breaks_some : (left rest : List Part) (told : Option World) (whole : Bool) (most before after : ℕ) → NoneEmpty left → Polls told whole most (Rose before after) left Broken rest → 0 < bytes_left left
 breaks_some [] rest told whole most before after full (e, none) = let f : Broken ≡ End = e in cc
 breaks_some (text bytes ∷ parts) rest told whole most before after full polls = omega (arith, full.0)
 breaks_some (slice number start count ∷ parts) rest told whole most before after full polls = omega (arith, full.0)

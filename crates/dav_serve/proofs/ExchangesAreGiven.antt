@@ -1,8 +1,8 @@
 -- What a played exchange gives of its body.
 use Rattle.std.proofs.Common.{◌≡◌, ◌++◌, ℕ, List, [], ◌∷◌, true, false, Ok, Some, sym, ap, subst, ◌∙◌, append-nil, codes, decimal}
+use Rattle.dav_io.specs.Counts.{Rose}
 use Rattle.dav_core.specs.World.{put}
 use Rattle.dav_core.proofs.UnchangedLemmas.{put_same}
-use Rattle.dav_model.specs.declared.step.Step.{Step}
 use Rattle.dav_model.specs.declared.step.Step.TheVariants.{Request, Poll, Purge, Turn}
 use Rattle.dav_model.specs.declared.answer.Answer.{Answer}
 use Rattle.dav_model.specs.declared.answer.Answer.TheVariants.{Reply as Replied, Piece, End, Done}
@@ -39,8 +39,8 @@ turn_polls p m n s t u body answer turn poll is first second =
       most = most;
       before = t.to.faults;
       after = u.to.faults;
-      polls = subst (Polls t.to.told t.to.whole most t.to.faults u.to.faults (p.left body) answer) (sym left)
-          (subst (λ (z : Playing). Polls t.to.told t.to.whole most t.to.faults u.to.faults (z.left body) answer polled.rest) turned.3 polled.gives);
+      polls = subst (Polls t.to.told t.to.whole most (Rose t.to.faults u.to.faults) (p.left body) answer) (sym left)
+          (subst (λ (z : Playing). Polls t.to.told t.to.whole most (Rose t.to.faults u.to.faults) (z.left body) answer polled.rest) turned.3 polled.gives);
     }
 
 -- turns and polls to the last answer

@@ -22,7 +22,7 @@ use Rattle.dav_wire.specs.Writing.{Sent, SentFront}
 use Rattle.dav_wire.proofs.Pushing.{none_sent, sent_more, sent_front, sent_push, sent_push_front}
 use Rattle.dav_serve.specs.declared.exchange.Ended.{Ended}
 use Rattle.dav_serve.specs.declared.exchange.Ended.TheVariants.{Open, Closed}
-use Rattle.dav_serve.specs.Exchange.{Exchange, exchange_of, piece_steps, piece_answers, begun_steps, begun_answers, steps_of, answers_of, framing_of, begun_wire_of, wire_of, with_pieces}
+use Rattle.dav_serve.specs.Exchange.{Exchange, exchange_of, piece_steps, piece_answers, begun_steps, begun_answers, framing_of, begun_wire_of, wire_of, with_pieces}
 use Rattle.dav_serve.specs.Ends.{IsAt, Begun, Whole, BrokenOff, EndsBody, SinkStopped, MemoryStopped, Exchanges}
 use Rattle.dav_serve.specs.Stages.{PlayedOn, RefusedAt, Outlet, PushesOn, Work}
 use Rattle.dav_serve.proofs.PlayedByTree.{played_along}
@@ -35,7 +35,7 @@ poll_shrinks body {a = a} {b = b} {first = first} {answer = answer} piece r e =
     polls_shrink says.mid.told says.mid.whole (read_size_of a.playing.rules.settings.read_buf_size) says.mid.faults b.at.faults (a.playing.left body) answer (b.playing.left body) says.polls piece e
 
 broke_at : (told : Option _) (whole : Bool) (most before after : ℕ) (left : List Part) (answer : Answer) (rest : List Part)
-    → Polls told whole most before after left answer rest → ((x : List ℕ) → answer ≡ Piece x → ⊥) → (answer ≡ End → ⊥) → (answer ≡ Broken) × Rose before after
+    → Polls told whole most (Rose before after) left answer rest → ((x : List ℕ) → answer ≡ Piece x → ⊥) → (answer ≡ End → ⊥) → (answer ≡ Broken) × Rose before after
 broke_at told whole most before after [] answer rest (e, none) piece end = absurd (end e)
 broke_at told whole most before after (part ∷ parts) answer rest (inl (x, e, gives)) piece end = absurd (piece x e)
 broke_at told whole most before after (text bytes ∷ parts) answer rest (inr (e, none, never)) piece end = absurd never

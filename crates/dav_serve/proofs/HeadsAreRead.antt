@@ -14,7 +14,7 @@ use Rattle.dav_model.specs.Play.{Stage}
 use Rattle.dav_model.specs.WellFormed.{IsReplyField, IsWellFormed, IsWellFormedAnswer, is_among, reply_statuses}
 use Rattle.dav_model.proofs.WellFormedRuns.{among_all, plays_well}
 use Rattle.dav_wire.specs.AnswerHeads.{IsAnswerField, ReadsAnswer}
-use Rattle.dav_wire.specs.Answers.{bad_request_text, close_field, head_text, phrase}
+use Rattle.dav_wire.specs.Answers.{bad_request_text, close_field, head_text, phrase, too_large_text}
 use Rattle.dav_wire.specs.Chunks.{written}
 use Rattle.dav_wire.specs.declared.chunks.Framing.TheVariants.{Raw}
 use Rattle.dav_wire.proofs.HeadsReadBack.{heads_back}
@@ -86,3 +86,14 @@ unfolding zero_length
 refusal_is_read behind =
     subst (λ text. ReadsAnswer (text ++ behind) 400 (close_field ∷ zero_length ∷ []) behind) refusal_text
     (heads_back 400 (zero_length ∷ []) true Raw behind (omega arith) (All-cons IsAnswerField zero_length [] length_is (All-nil IsAnswerField)))
+
+large_text : head_text 413 (zero_length ∷ []) true Raw ≡ too_large_text
+unfolding phrase zero_length
+large_text = refl
+
+-- and what answers one whose body is too large
+pub large_is_read : (behind : List ℕ) → ReadsAnswer (too_large_text ++ behind) 413 (close_field ∷ record { name = codes "content-length"; value = codes "0" } ∷ []) behind
+unfolding zero_length
+large_is_read behind =
+    subst (λ text. ReadsAnswer (text ++ behind) 413 (close_field ∷ zero_length ∷ []) behind) large_text
+    (heads_back 413 (zero_length ∷ []) true Raw behind (omega arith) (All-cons IsAnswerField zero_length [] length_is (All-nil IsAnswerField)))

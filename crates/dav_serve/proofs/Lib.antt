@@ -1,11 +1,13 @@
 pub mod SizesAreSaid
 pub mod WordRows
+pub mod Prefixes
 pub mod PlayedByTree
 pub mod StepsArePlayed
 pub mod RefusedAtOnce
 pub mod RepliesCounted
 pub mod RequestsAreSome
 pub mod ExchangesEnd
+pub mod NextIsRead
 pub mod Progress
 pub mod RunEnds
 pub mod AnswersByPlayers

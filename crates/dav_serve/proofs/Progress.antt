@@ -1,10 +1,11 @@
 -- What a run has served, exchange by exchange.
 use Rattle.dav_model.specs.Play.{Stage}
-use Rattle.std.proofs.Common.{◌≡◌, ◌<◌, ◌≤◌, ◌+◌, ◌*◌, ◌-◌, ◌^◌, ◌++◌, ℕ, List, [], ◌∷◌, true, false, Bool, Option, Ok, Err, Result, length, sym, ap, subst, ◌∙◌, refl, inl, inr, arith, append_assoc, append-nil, length-append, true≢false}
-use Rattle.std.proofs.lemmas.List.{take_all, nil_from_length}
+use Rattle.std.proofs.Common.{◌≡◌, ◌<◌, ◌≤◌, ◌+◌, ◌*◌, ◌-◌, ◌^◌, ◌++◌, ℕ, suc, if◌then◌else◌, List, [], ◌∷◌, true, false, Bool, Option, Ok, length, sym, ap, subst, ◌∙◌, refl, arith, append_assoc, append-nil, length-append}
+use Rattle.std.proofs.Math.Dec.{leb}
+use Rattle.std.proofs.lemmas.Bool.{leb-true, le-leb}
 use Rattle.std.specs.List.{AllByRecursion}
 use Rattle.http.specs.declared.request.Parts.{Parts}
-use Rattle.httparse.specs.Grammar.{RequestHead, HasNoRequest, MayBecomeRequest}
+use Rattle.httparse.specs.Grammar.{RequestHead}
 use Rattle.dav_io.specs.Told.{Both}
 use Rattle.dav_io.proofs.ToldLemmas.{both_then, both_map, both_same}
 use Rattle.dav_io.specs.Outside.{Stream}
@@ -13,19 +14,17 @@ use Rattle.dav_model.specs.Rules.{Rules}
 use Rattle.dav_model.proofs.JoiningLemmas.{played_counts}
 use Rattle.dav_wire.specs.Heads.{IsRead}
 use Rattle.dav_wire.specs.Pending.{Pending}
-use Rattle.dav_wire.specs.Requests.{IsRequest, Requests, Refusal}
-use Rattle.dav_wire.specs.Reading.{Fills, Grows, Moves, Finds}
-use Rattle.dav_wire.specs.Writing.{Pushes, Sent, SentAll, SentFront}
-use Rattle.dav_wire.specs.declared.next.Found.TheVariants.{Whole as FoundWhole, More}
-use Rattle.dav_wire.specs.declared.next.ReadError.{ReadError}
-use Rattle.dav_wire.proofs.RequestLemmas.{request_stays, requests_join}
-use Rattle.dav_wire.proofs.Pushing.{none_sent, sent_on, sent_flush, sent_then, sent_all_of}
+use Rattle.dav_wire.specs.BodyReading.{ReadsOn}
+use Rattle.dav_wire.specs.Messages.{Message, IsMessage, Messages}
+use Rattle.dav_wire.specs.Writing.{Pushes, Sent}
+use Rattle.dav_wire.proofs.Pushing.{holds, none_sent, sent_more, sent_then, sent_all_of}
+use Rattle.dav_wire.proofs.MessageLemmas.{message_stays, messages_join}
 use Rattle.dav_serve.specs.declared.exchange.Ended.TheVariants.{Open}
 use Rattle.dav_serve.specs.Exchange.{Exchange, ClosesAfter, IsShown, IsOf, is_closed, steps_of, answers_of, wire_of}
-use Rattle.dav_serve.specs.Ends.{IsAnswerTo, Answers, Whole, Reached}
-use Rattle.dav_serve.specs.Serving.{Setup, Chain, Alike, Follow, IsOpen, wires, Serving, LeftIs, TookBytes, IsWanting, Faces, ServedSoFar, Partway, Halfway, ServedPartly, nothing, ready}
-use Rattle.dav_serve.specs.Stages.{PlayedOn, Outside, Outlet, Work, outlet_of, outside_of, work_of}
-use Rattle.dav_serve.proofs.RequestsAreSome.{request_shorter}
+use Rattle.dav_serve.specs.Ends.{IsAnswerTo, Answers, Whole}
+use Rattle.dav_serve.specs.Serving.{Setup, Chain, Alike, Follow, IsOpen, wires, Serving, TookBytes, IsWanting, Faces, ServedSoFar, Halfway, nothing, ready}
+use Rattle.dav_serve.specs.Stages.{PlayedOn, Outside, Work, outlet_of, outside_of, work_of}
+use Rattle.dav_serve.proofs.RequestsAreSome.{message_shorter}
 
 -- what was served, what of it was sent and waits, and how many bytes were taken for it
 pub record Progress (setup : Setup) (before : Outside) (held : Pending) (waiting : List ℕ) (now : Outside) : Type 0 where
@@ -34,10 +33,10 @@ pub record Progress (setup : Setup) (before : Outside) (held : Pending) (waiting
   pub sent : Sent before.sink now.sink (wires exchanges) waiting
   pub taken : TookBytes before.source now.source held.taken
 
--- A request stands at the front of what is held, and it is asked at the moment that the clock shows.
-pub record Meets (first : Option Moment) (held : Pending) (parts : Parts) (now : Moment) (rest : Pending) : Type 0 where
+-- A request stands at the front of what is held, with its body, and it is asked at the moment that the clock shows.
+pub record Meets (first : Option Moment) (held : Pending) (parts : Parts) (body : List ℕ) (now : Moment) (rest : Pending) : Type 0 where
   pub head : RequestHead
-  pub stands : IsRequest held.bytes head rest.bytes
+  pub stands : IsMessage held.bytes (record { head = head; body = body }) rest.bytes
   pub read : IsRead head parts
   pub same : rest.taken ≡ held.taken
   pub shown : IsShown first now
@@ -46,17 +45,33 @@ pub record Meets (first : Option Moment) (held : Pending) (parts : Parts) (now :
 pub shown_now : (first shown : Option Moment) (now : Moment) → shown ≡ first → IsShown shown now → IsShown first now
 shown_now first shown now same is = subst (λ z. IsShown z now) same is
 
-pub meets : (first : Option Moment) (held : Pending) (parts : Parts) (now : Moment) (rest : Pending) → Finds held.bytes (Ok (FoundWhole parts)) rest.bytes → rest.taken ≡ held.taken
-    → IsShown first now → Meets first held parts now rest
-meets first held parts now rest found same shown = record { head = found.0; stands = found.1; read = found.2; same = same; shown = shown }
+-- all the bytes of which a front was passed
+abbrev pub all_of : List ℕ → Pending → Pending
+all_of passed kept = record { bytes = passed ++ kept.bytes; taken = kept.taken }
 
-measure_less : (a b m n : ℕ) → b ≡ a → n < m → 2 * (2 ^ 60 - b) + n < 2 * (2 ^ 60 - a) + m
-measure_less a b m n same less = rw same (omega arith)
+pub meets : (first : Option Moment) (text : Pending) (parts : Parts) (body : List ℕ) (now : Moment) (rest : Pending)
+    → ((head : RequestHead) × IsRead head parts × IsMessage text.bytes (record { head = head; body = body }) rest.bytes) → rest.taken ≡ text.taken → IsShown first now
+    → Meets first text parts body now rest
+meets first text parts body now rest found same shown = record { head = found.0; stands = found.2; read = found.1; same = same; shown = shown }
 
--- what is held becomes shorter
-pub meets_shorter : {first : Option Moment} {held : Pending} {parts : Parts} {now : Moment} {rest : Pending} → Meets first held parts now rest
-    → 2 * (2 ^ 60 - rest.taken) + length rest.bytes < 2 * (2 ^ 60 - held.taken) + length held.bytes
-meets_shorter {held = held} {rest = rest} m = measure_less held.taken rest.taken (length held.bytes) (length rest.bytes) m.same (request_shorter held.bytes rest.bytes m.head m.stands)
+-- What is held becomes shorter by more than came, or more is taken; a count above the most that is ever taken is none.
+abbrev pub steps_left : Pending → ℕ
+steps_left held = if leb held.taken (2 ^ 60) then suc (2 * (2 ^ 60 - held.taken) + length held.bytes) else 0
+
+steps_by : (held kept : ℕ) (m n g : ℕ) (within : Bool) → leb kept (2 ^ 60) ≡ within → held ≤ 2 ^ 60 → kept ≡ held + g → n < m + g
+    → (if within then suc (2 * (2 ^ 60 - kept) + n) else 0) < suc (2 * (2 ^ 60 - held) + m)
+steps_by held kept m n g true e most same less =
+    let few = leb-true kept (2 ^ 60) e in
+    omega arith
+steps_by held kept m n g false e most same less = omega arith
+
+pub meets_shorter : (old new : Stream) (held rest : Pending) (passed : List ℕ) (message : Message) → held.taken ≤ 2 ^ 60 → ReadsOn old held passed rest new
+    → IsMessage (passed ++ rest.bytes) message rest.bytes → steps_left rest < steps_left held
+meets_shorter old new held rest passed message most on is =
+    let shorter = message_shorter (passed ++ rest.bytes) message rest.bytes is in
+    let whole = sym (length-append held.bytes on.got) ∙ ap (length {A = ℕ}) on.whole in
+    subst (λ within. steps_left rest < (if within then suc (2 * (2 ^ 60 - held.taken) + length held.bytes) else 0)) (sym (le-leb held.taken (2 ^ 60) most))
+    (steps_by held.taken rest.taken (length held.bytes) (length rest.bytes) (length on.got) (leb rest.taken (2 ^ 60)) refl most on.taken (omega arith))
 
 chain_more : (rules : Rules) (a b m : Stage) (xs : List Exchange) (x : Exchange) → Chain rules a xs b → PlayedOn b (steps_of x) (answers_of x) (Ok tt) m
     → Chain rules a (xs ++ x ∷ []) (ready rules m.at)
@@ -70,7 +85,7 @@ chain_counts rules a b (x ∷ xs) (m, first, chain) =
     let later = chain_counts rules (ready rules m.at) b xs chain in
     omega arith
 
-alike_more : (setup : Setup) (hs : List RequestHead) (xs : List Exchange) (h : RequestHead) (x : Exchange) → Alike setup hs xs → IsOf setup.shown h x → Alike setup (hs ++ h ∷ []) (xs ++ x ∷ [])
+alike_more : (setup : Setup) (hs : List Message) (xs : List Exchange) (h : Message) (x : Exchange) → Alike setup hs xs → IsOf setup.shown h x → Alike setup (hs ++ h ∷ []) (xs ++ x ∷ [])
 alike_more setup [] [] h x a is = (is, tt)
 alike_more setup [] (y ∷ xs) h x a is = absurd a
 alike_more setup (g ∷ hs) [] h x a is = absurd a
@@ -90,7 +105,7 @@ wires_more (y ∷ xs) x = append_assoc (wire_of y) (wires xs) (wire_of x) ∙ ap
 
 none_serving : (setup : Setup) (before : Outside) → Serving setup false before before.source [] [] (ready setup.rules before.disk)
 none_serving setup before = record {
-  heads = [];
+  messages = [];
   played = refl;
   alike = tt;
   follow = tt;
@@ -119,39 +134,42 @@ none_halfway setup before = record {
   behind = λ e. refl;
 }
 
-pub is_of : (setup : Setup) (head : RequestHead) (parts : Parts) (now : Moment) (x : Exchange) → IsRead head parts → IsShown setup.shown now → IsAnswerTo parts now x → IsOf setup.shown head x
-is_of setup head parts now x read when is = record {
+pub is_of : (setup : Setup) (head : RequestHead) (parts : Parts) (body : List ℕ) (now : Moment) (x : Exchange) → IsRead head parts → IsShown setup.shown now → IsAnswerTo parts body now x
+    → IsOf setup.shown (record { head = head; body = body }) x
+is_of setup head parts body now x read when is = record {
   parts = subst (λ z. IsRead head z) (sym is.parts_are) read;
-  empty = is.empty;
+  body = is.body_is;
   closing = subst (λ z. ClosesAfter z x.closing) (sym is.parts_are) is.asks;
   moment = subst (λ z. IsShown setup.shown z) (sym is.now_is) when;
 }
 
 -- the exchange of a request that stands there
-pub faces : {setup : Setup} {held : Pending} {parts : Parts} {now : Moment} {rest : Pending} → Meets setup.shown held parts now rest → (x : Exchange) → IsAnswerTo parts now x → Faces setup held.bytes x
-faces {setup = setup} {parts = parts} {now = now} {rest = rest} m x is =
-    record { head = m.head; rest = rest.bytes; stands = m.stands; is = is_of setup m.head parts now x m.read m.shown is }
+pub faces : {setup : Setup} {held : Pending} {parts : Parts} {body : List ℕ} {now : Moment} {rest : Pending} → Meets setup.shown held parts body now rest → (x : Exchange) → IsAnswerTo parts body now x
+    → Faces setup held.bytes x
+faces {setup = setup} {parts = parts} {body = body} {now = now} {rest = rest} m x is =
+    record { message = record { head = m.head; body = body }; rest = rest.bytes; stands = m.stands; is = is_of setup m.head parts body now x m.read m.shown is }
 
-next_request : (input source : Stream) (held rest : List ℕ) (hs : List RequestHead) (head : RequestHead) → IsRequest held head rest → Both input.bytes source.bytes (λ a b. Requests a hs (held ++ b))
-    → Both input.bytes source.bytes (λ a b. Requests a (hs ++ head ∷ []) (rest ++ b))
-next_request input source held rest hs head is both = both_map input.bytes source.bytes (λ a b. Requests a hs (held ++ b)) (λ a b. Requests a (hs ++ head ∷ []) (rest ++ b))
-    (λ a b r. requests_join a (held ++ b) (rest ++ b) hs (head ∷ []) r (rest ++ b, request_stays held b head rest is, refl)) both
+next_message : (input source : Stream) (held rest : List ℕ) (ms : List Message) (message : Message) → IsMessage held message rest → Both input.bytes source.bytes (λ a b. Messages a ms (held ++ b))
+    → Both input.bytes source.bytes (λ a b. Messages a (ms ++ message ∷ []) (rest ++ b))
+next_message input source held rest ms message is both = both_map input.bytes source.bytes (λ a b. Messages a ms (held ++ b)) (λ a b. Messages a (ms ++ message ∷ []) (rest ++ b))
+    (λ a b r. messages_join a (held ++ b) (rest ++ b) ms (message ∷ []) r (rest ++ b, message_stays held b message rest is, refl)) both
 
 -- An exchange more was played, as the last of its list: it closes or not.
-pub serving_more : {setup : Setup} {before : Outside} {held : Pending} {waiting : List ℕ} {mid : Outside} {parts : Parts} {now : Moment} {rest : Pending} (closed : Bool) (a b : Work)
-    → (v : Progress setup before held waiting mid) → Meets setup.shown held parts now rest → a.stage ≡ ready setup.rules mid.disk → (made : Whole (IsAnswerTo parts now) closed a b)
+pub serving_more : {setup : Setup} {before : Outside} {held : Pending} {waiting : List ℕ} {mid : Outside} {parts : Parts} {body : List ℕ} {now : Moment} {rest : Pending} (closed : Bool) (a b : Work)
+    → (v : Progress setup before held waiting mid) → Meets setup.shown held parts body now rest → a.stage ≡ ready setup.rules mid.disk → (made : Whole (IsAnswerTo parts body now) closed a b)
     → Serving setup closed before mid.source rest.bytes (v.exchanges ++ made.exchange ∷ []) (ready setup.rules b.stage.at)
-serving_more {setup = setup} {before = before} {held = held} {mid = mid} {parts = parts} {now = now} {rest = rest} closed a b v m first made =
+serving_more {setup = setup} {before = before} {held = held} {mid = mid} {parts = parts} {body = body} {now = now} {rest = rest} closed a b v m first made =
     let x = made.exchange in
     let w = v.serving in
+    let message : Message = record { head = m.head; body = body } in
     record {
-      heads = w.heads ++ m.head ∷ [];
+      messages = w.messages ++ message ∷ [];
       played = chain_more setup.rules (ready setup.rules before.disk) (ready setup.rules mid.disk) b.stage v.exchanges x w.played
           (subst (λ z. PlayedOn z (steps_of x) (answers_of x) (Ok tt) b.stage) first made.played);
-      alike = alike_more setup w.heads v.exchanges m.head x w.alike (is_of setup m.head parts now x m.read m.shown made.is);
+      alike = alike_more setup w.messages v.exchanges message x w.alike (is_of setup m.head parts body now x m.read m.shown made.is);
       follow = follows closed v.exchanges x w.follow made.closed_is;
       counted = w.counted;
-      requests = next_request before.source mid.source held.bytes rest.bytes w.heads m.head m.stands w.requests;
+      requests = next_message before.source mid.source held.bytes rest.bytes w.messages message m.stands w.requests;
     }
 
 -- what an answer to the next request stands on
@@ -159,9 +177,9 @@ abbrev pub working : Setup → List ℕ → Outside → Work
 working setup waiting now = work_of now.sink waiting (ready setup.rules now.disk)
 
 -- one exchange more
-pub served_more : {setup : Setup} {before : Outside} {held : Pending} {waiting : List ℕ} {mid : Outside} {parts : Parts} {now : Moment} {rest : Pending} {later : List ℕ} {next : Outside}
-    → Progress setup before held waiting mid → Meets setup.shown held parts now rest → next.source ≡ mid.source
-    → Answers parts now (working setup waiting mid) Open (outlet_of next.sink later) next.disk → Progress setup before rest later next
+pub served_more : {setup : Setup} {before : Outside} {held : Pending} {waiting : List ℕ} {mid : Outside} {parts : Parts} {body : List ℕ} {now : Moment} {rest : Pending} {later : List ℕ} {next : Outside}
+    → Progress setup before held waiting mid → Meets setup.shown held parts body now rest → next.source ≡ mid.source
+    → Answers parts body now (working setup waiting mid) Open (outlet_of next.sink later) next.disk → Progress setup before rest later next
 served_more {setup = setup} {before = before} {held = held} {waiting = waiting} {mid = mid} {parts = parts} {now = now} {rest = rest} {later = later} {next = next} v m same (q, made) =
     let x = made.exchange in
     record {
@@ -172,62 +190,39 @@ served_more {setup = setup} {before = before} {held = held} {waiting = waiting} 
       taken = subst (λ z. TookBytes before.source z rest.taken) (sym same) (subst (λ z. TookBytes before.source mid.source z) (sym m.same) v.taken);
     }
 
--- the same bytes are held
-pub served_same : {setup : Setup} {before : Outside} {held kept : Pending} {waiting : List ℕ} {now : Outside} → kept.bytes ≡ held.bytes → kept.taken ≡ held.taken
-    → Progress setup before held waiting now → Progress setup before kept waiting now
-served_same {setup = setup} {before = before} {now = now} bytes taken v = record {
-  exchanges = v.exchanges;
-  serving = subst (λ z. Serving setup false before now.source z v.exchanges (ready setup.rules now.disk)) (sym bytes) v.serving;
-  sent = v.sent;
-  taken = subst (λ z. TookBytes before.source now.source z) (sym taken) v.taken;
-}
+read_bytes : (held passed kept got b c : List ℕ) → held ++ got ≡ passed ++ kept → b ≡ got ++ c → held ++ b ≡ (passed ++ kept) ++ c
+read_bytes held passed kept got b c whole told = ap (λ z. held ++ z) told ∙ sym (append_assoc held got c) ∙ ap (λ z. z ++ c) whole
 
--- all that waited was given to the sink
-pub served_flushed : {setup : Setup} {before : Outside} {held : Pending} {waiting : List ℕ} {mid : Outside} (new : Stream) (later : List ℕ) → Progress setup before held waiting mid
-    → Pushes mid.sink waiting [] (Ok tt) later new → later ≡ [] → Progress setup before held later (outside_of mid.source new mid.disk)
-served_flushed {before = before} {waiting = waiting} {mid = mid} new later v pushes none = record {
-  exchanges = v.exchanges;
-  serving = v.serving;
-  sent = subst (λ z. Sent before.sink new (wires v.exchanges) z) (sym none)
-      (sent_on before.sink mid.sink new (wires v.exchanges) waiting [] v.sent (sent_flush mid.sink new waiting later none pushes));
-  taken = v.taken;
-}
+counts_more : (n m : ℕ) (a b c got : List ℕ) → m ≡ n + length got → length a ≡ n + length b → b ≡ got ++ c → length a ≡ m + length c
+counts_more n m a b c got taken e told = let long = ap (length {A = ℕ}) told ∙ length-append got c in omega arith
 
-moved_bytes : (held kept : Pending) (result : Result ℕ ReadError) (b c : List ℕ) → Moves held result kept b c → length held.bytes + length b ≡ length kept.bytes + length c
-moved_bytes held kept result b c m = omega (arith, ap length m.0, length-append held.bytes b, length-append kept.bytes c)
-
--- how many more bytes were taken
-counts_more : (held kept : Pending) (result : Result ℕ ReadError) (a b c : List ℕ) → Grows held result kept → length a ≡ held.taken + length b → Moves held result kept b c
-    → length a ≡ kept.taken + length c
-counts_more held kept (Ok n) a b c behind e m =
-    let l = moved_bytes held kept (Ok n) b c m in
-    omega (arith, behind.long, behind.taken)
-counts_more held kept (Err error) a b c same took m =
-    let l = moved_bytes held kept (Err error) b c m in
-    let x = ap (λ (z : Pending). length z.bytes) same in
-    let y = ap (λ (z : Pending). z.taken) same in
-    omega arith
-
--- more bytes were taken, or none could be
-pub served_filled : {setup : Setup} {before : Outside} {held kept : Pending} {waiting : List ℕ} {mid : Outside} {later : Stream} {result : Result ℕ ReadError}
-    → Progress setup before held waiting mid → Fills mid.source held result kept later → Progress setup before kept waiting (outside_of later mid.sink mid.disk)
-served_filled {setup = setup} {before = before} {held = held} {kept = kept} {mid = mid} {later = later} {result = result} v f =
+-- more bytes were got from the source, and what waited was given to the sink or waits still
+pub served_on : {setup : Setup} {before : Outside} {held kept : Pending} {waiting later : List ℕ} {mid : Outside} {left written : Stream} {passed : List ℕ}
+    → Progress setup before held waiting mid → ReadsOn mid.source held passed kept left → Pushes mid.sink waiting [] (Ok tt) later written
+    → Progress setup before (all_of passed kept) later (outside_of left written mid.disk)
+served_on {setup = setup} {before = before} {held = held} {kept = kept} {waiting = waiting} {later = later} {mid = mid} {left = left} {written = written} {passed = passed} v on pushes =
     let w = v.serving in
     record {
       exchanges = v.exchanges;
       serving = record {
-        heads = w.heads;
+        messages = w.messages;
         played = w.played;
         alike = w.alike;
         follow = w.follow;
-        counted = let first = w.counted in let second = f.counts in omega arith;
-        requests = both_then before.source.bytes mid.source.bytes later.bytes (λ a b. Requests a w.heads (held.bytes ++ b)) (Moves held result kept) (λ a c. Requests a w.heads (kept.bytes ++ c))
-            (λ a b c r m. subst (λ z. Requests a w.heads z) m.0 r) w.requests f.told;
+        counted = let first = w.counted in let second = on.counts in omega arith;
+        requests = both_then before.source.bytes mid.source.bytes left.bytes (λ a b. Messages a w.messages (held.bytes ++ b)) (λ b c. b ≡ on.got ++ c)
+            (λ a c. Messages a w.messages ((passed ++ kept.bytes) ++ c))
+            (λ a b c r told. subst (λ z. Messages a w.messages z) (read_bytes held.bytes passed kept.bytes on.got b c on.whole told) r) w.requests on.told;
       };
-      sent = v.sent;
-      taken = both_then before.source.bytes mid.source.bytes later.bytes (λ a b. length a ≡ held.taken + length b) (Moves held result kept) (λ a c. length a ≡ kept.taken + length c)
-          (λ a b c e m. counts_more held kept result a b c f.grows e m) v.taken f.told;
+      sent = subst (λ z. Sent before.sink written z later) (append-nil (wires v.exchanges)) (sent_more before.sink mid.sink written (wires v.exchanges) waiting [] later v.sent pushes);
+      taken = both_then before.source.bytes mid.source.bytes left.bytes (λ a b. length a ≡ held.taken + length b) (λ b c. b ≡ on.got ++ c) (λ a c. length a ≡ kept.taken + length c)
+          (λ a b c e told. counts_more held.taken kept.taken a b c on.got on.taken e told) v.taken on.told;
     }
+
+-- more bytes were got from the source
+pub served_read : {setup : Setup} {before : Outside} {held kept : Pending} {waiting : List ℕ} {mid : Outside} {left : Stream} {passed : List ℕ}
+    → Progress setup before held waiting mid → ReadsOn mid.source held passed kept left → Progress setup before (all_of passed kept) waiting (outside_of left mid.sink mid.disk)
+served_read {waiting = waiting} {mid = mid} v on = served_on v on (holds mid.sink waiting [] waiting (sym (append-nil waiting)))
 
 -- All that came is answered and written, and more is wanted.
 pub so_far : {setup : Setup} {before : Outside} {held : Pending} {waiting : List ℕ} {now : Outside} → Progress setup before held waiting now → waiting ≡ [] → IsWanting held.bytes
@@ -239,6 +234,3 @@ so_far {before = before} {held = held} {waiting = waiting} {now = now} v none wa
   sent = sent_all_of before.sink now.sink (wires v.exchanges) waiting none v.sent;
   wanting = wanting;
 }
-
-pub wants : (held kept : List ℕ) → kept ≡ held → length held ≤ 65536 → HasNoRequest held → MayBecomeRequest held → IsWanting kept
-wants held kept same short none may = subst IsWanting (sym same) (record { short = short; none = none; may = may })

@@ -1,9 +1,7 @@
 -- How a run ends, by what was served and what happened then.
-use Rattle.dav_model.specs.Play.{Stage, Playing}
-use Rattle.std.proofs.Common.{◌≡◌, ◌<◌, ◌≤◌, ◌+◌, ◌^◌, ◌++◌, ℕ, List, [], ◌∷◌, true, false, Bool, Ok, Err, Result, length, sym, ap, subst, ◌∙◌, refl, inl, inr, arith, append-nil, length-append, true≢false}
-use Rattle.std.proofs.lemmas.List.{take_all, nil_from_length}
+use Rattle.dav_model.specs.Play.{Stage}
+use Rattle.std.proofs.Common.{◌≡◌, ◌<◌, ◌≤◌, ◌+◌, ◌^◌, ◌++◌, ℕ, List, [], ◌∷◌, true, false, Ok, Err, Result, length, sym, subst, ◌∙◌, refl, inl, inr, arith, append-nil, true≢false}
 use Rattle.http.specs.declared.request.Parts.{Parts}
-use Rattle.httparse.specs.Grammar.{RequestHead}
 use Rattle.dav_io.specs.Counts.{Rose}
 use Rattle.dav_io.specs.Told.{Both}
 use Rattle.dav_io.proofs.ToldLemmas.{both_then, both_map}
@@ -12,29 +10,27 @@ use Rattle.dav_io.specs.declared.clock.Moment.{Moment}
 use Rattle.dav_io.specs.declared.failure.Failed.{Failed as SinkFailure}
 use Rattle.dav_model.specs.declared.step.Step.TheVariants.{Poll, Turn}
 use Rattle.dav_model.specs.declared.answer.Answer.TheVariants.{Broken, Done}
-use Rattle.dav_wire.specs.Answers.{bad_request_text}
+use Rattle.dav_wire.specs.Answers.{refusal_text}
+use Rattle.dav_wire.specs.Messages.{Message, Messages, MessageRefusal, IsMessageUnfinished}
 use Rattle.dav_wire.specs.Pending.{Pending}
-use Rattle.dav_wire.specs.Reading.{Behind, Fills, FillsThen, Finds, Moves}
-use Rattle.dav_wire.specs.Requests.{Requests, Refusal, IsUnfinished}
 use Rattle.dav_wire.specs.Writing.{Pushes, Sent, SentAll, SentFront}
-use Rattle.dav_wire.specs.declared.next.Found.TheVariants.{More}
-use Rattle.dav_wire.specs.declared.next.ReadError.TheVariants.{Failed, TooMuch as TookAll, NoMemory as WithoutMemory, Unsent}
-use Rattle.dav_wire.proofs.RequestLemmas.{refusal_stays}
+use Rattle.dav_wire.specs.declared.next.Flaw.{Flaw}
+use Rattle.dav_wire.proofs.MessageLemmas.{message_refusal_stays}
 use Rattle.dav_wire.proofs.Pushing.{none_sent, sent_on, sent_on_front, sent_flush, sent_flush_front, sent_push, sent_push_front, sent_then, sent_then_front, sent_all_of, sent_some}
 use Rattle.dav_serve.specs.declared.ending.Ending.{Ending}
 use Rattle.dav_serve.specs.declared.ending.Ending.TheVariants.{Over, Closed as RunClosed, Refused, Unfinished, SourceFailed, SinkFailed as RunSinkFailed, DiskFailed, TooMuch}
 use Rattle.dav_serve.specs.declared.exchange.Ended.TheVariants.{Closed, SinkFailed, Broke as BrokeOff}
 use Rattle.dav_serve.specs.Exchange.{Exchange, begun_wire_of, wire_of}
 use Rattle.dav_serve.specs.Ends.{IsAnswerTo, Answers, MemoryStopped, Reached}
-use Rattle.dav_serve.specs.Serving.{Setup, wires, Serving, LeftIs, IsEmptied, TookBytes, TookFewer, IsWanting, Faces, ServedAll, HoldsSoFar, Partway, nothing, refusal, exchange, Halfway, ServedPartly, Starved, EndsBy, over_with, Finishes, ready}
+use Rattle.dav_serve.specs.Serving.{Setup, wires, Serving, LeftIs, IsRefusedBy, IsEmptied, TookBytes, TookFewer, IsWanting, Faces, HoldsSoFar, Partway, nothing, refusal, exchange, Halfway, ServedPartly, Starved, EndsBy, Finishes, ready}
 use Rattle.dav_serve.specs.Stages.{Outlet, Outside, outlet_of, outside_of}
 use Rattle.dav_serve.proofs.ExchangesEnd.{rose_between}
-use Rattle.dav_serve.proofs.Progress.{Progress, Meets, faces, chain_counts, serving_more, so_far, none_halfway, served_filled, served_flushed, served_same, wants, wires_more, working}
+use Rattle.dav_serve.proofs.Progress.{Progress, Meets, faces, chain_counts, serving_more, so_far, none_halfway, wires_more, working}
 
 -- ---- what is begun behind the exchanges that were played
 
 halfway : {setup : Setup} {before : Outside} {held : Pending} {waiting : List ℕ} {mid next : Outside} (v : Progress setup before held waiting mid) → next.source ≡ mid.source → (bytes : List ℕ)
-    → Partway setup (LeftIs Refusal before.source next.source held.bytes) held.bytes (ready setup.rules mid.disk) bytes next.disk → Halfway setup before next v.exchanges bytes
+    → Partway setup (λ flaw. LeftIs (IsRefusedBy flaw) before.source next.source held.bytes) held.bytes (ready setup.rules mid.disk) bytes next.disk → Halfway setup before next v.exchanges bytes
 halfway {setup = setup} {before = before} {held = held} {mid = mid} v same bytes part = record {
   closed = false;
   held = held.bytes;
@@ -72,9 +68,9 @@ reached_as Is As f (inr (inr u)) = inr (inr (record { exchange = u.exchange; is 
 -- ---- an answer is the last
 
 -- an answer closes, and then all is given to the sink
-pub ends_closing : {setup : Setup} {before : Outside} {held : Pending} {waiting : List ℕ} {mid next : Outside} {parts : Parts} {now : Moment} {rest : Pending} (between : Stream) (later : List ℕ)
-    (end : Ending) → Progress setup before held waiting mid → Meets setup.shown held parts now rest → next.source ≡ mid.source
-    → Answers parts now (working setup waiting mid) Closed (outlet_of between later) next.disk → Finishes RunClosed (outlet_of between later) next.sink end → EndsBy setup before next end
+pub ends_closing : {setup : Setup} {before : Outside} {held : Pending} {waiting : List ℕ} {mid next : Outside} {parts : Parts} {body : List ℕ} {now : Moment} {rest : Pending} (between : Stream) (later : List ℕ)
+    (end : Ending) → Progress setup before held waiting mid → Meets setup.shown held parts body now rest → next.source ≡ mid.source
+    → Answers parts body now (working setup waiting mid) Closed (outlet_of between later) next.disk → Finishes RunClosed (outlet_of between later) next.sink end → EndsBy setup before next end
 ends_closing {setup = setup} {before = before} {waiting = waiting} {mid = mid} {next = next} {rest = rest} between later end v m same (q, made) (inl (is, given)) =
     let x = made.exchange in
     let sent = sent_then before.sink mid.sink between (wires v.exchanges) waiting (wire_of x) later v.sent made.sent in
@@ -109,34 +105,34 @@ ends_closing {setup = setup} {before = before} {waiting = waiting} {mid = mid} {
     )
 
 -- the sink failed in an answer
-pub ends_unsent : {setup : Setup} {before : Outside} {held : Pending} {waiting : List ℕ} {mid next : Outside} {parts : Parts} {now : Moment} {rest : Pending} (later : List ℕ)
-    → Progress setup before held waiting mid → Meets setup.shown held parts now rest → next.source ≡ mid.source
-    → Answers parts now (working setup waiting mid) SinkFailed (outlet_of next.sink later) next.disk → EndsBy setup before next RunSinkFailed
-ends_unsent {setup = setup} {before = before} {held = held} {waiting = waiting} {mid = mid} {next = next} {parts = parts} {now = now} later v m same (q, made) = (
+pub ends_unsent : {setup : Setup} {before : Outside} {held : Pending} {waiting : List ℕ} {mid next : Outside} {parts : Parts} {body : List ℕ} {now : Moment} {rest : Pending} (later : List ℕ)
+    → Progress setup before held waiting mid → Meets setup.shown held parts body now rest → next.source ≡ mid.source
+    → Answers parts body now (working setup waiting mid) SinkFailed (outlet_of next.sink later) next.disk → EndsBy setup before next RunSinkFailed
+ends_unsent {setup = setup} {before = before} {held = held} {waiting = waiting} {mid = mid} {next = next} {parts = parts} {body = body} {now = now} later v m same (q, made) = (
   rose_between before.sink.faults mid.sink.faults mid.sink.faults next.sink.faults v.sent.counts (omega arith) made.rose,
   record {
     exchanges = v.exchanges;
     bytes = made.bytes;
-    halfway = halfway v same made.bytes (exchange (reached_as (IsAnswerTo parts now) (Faces setup held.bytes) (faces m) made.reached));
+    halfway = halfway v same made.bytes (exchange (reached_as (IsAnswerTo parts body now) (Faces setup held.bytes) (faces m) made.reached));
     sent = sent_then_front before.sink mid.sink next.sink (wires v.exchanges) waiting made.bytes v.sent made.sent;
   },
 )
 
 -- memory was refused in an answer
-pub starves_answering : {setup : Setup} {before : Outside} {held : Pending} {waiting : List ℕ} {mid next : Outside} {parts : Parts} {now : Moment} {rest : Pending} (later : List ℕ)
-    → Progress setup before held waiting mid → Meets setup.shown held parts now rest → next.source ≡ mid.source
-    → MemoryStopped (IsAnswerTo parts now) (working setup waiting mid) (outlet_of next.sink later) next.disk → Starved setup before later next
-starves_answering {setup = setup} {before = before} {held = held} {waiting = waiting} {mid = mid} {next = next} {parts = parts} {now = now} later v m same made = record {
+pub starves_answering : {setup : Setup} {before : Outside} {held : Pending} {waiting : List ℕ} {mid next : Outside} {parts : Parts} {body : List ℕ} {now : Moment} {rest : Pending} (later : List ℕ)
+    → Progress setup before held waiting mid → Meets setup.shown held parts body now rest → next.source ≡ mid.source
+    → MemoryStopped (IsAnswerTo parts body now) (working setup waiting mid) (outlet_of next.sink later) next.disk → Starved setup before later next
+starves_answering {setup = setup} {before = before} {held = held} {waiting = waiting} {mid = mid} {next = next} {parts = parts} {body = body} {now = now} later v m same made = record {
   exchanges = v.exchanges;
   bytes = made.bytes;
-  halfway = halfway v same made.bytes (exchange (reached_as (IsAnswerTo parts now) (Faces setup held.bytes) (faces m) made.reached));
+  halfway = halfway v same made.bytes (exchange (reached_as (IsAnswerTo parts body now) (Faces setup held.bytes) (faces m) made.reached));
   sent = sent_then before.sink mid.sink next.sink (wires v.exchanges) waiting made.bytes later v.sent made.sent;
 }
 
 -- a body broke in an answer, and then all is given to the sink
-pub ends_broken : {setup : Setup} {before : Outside} {held : Pending} {waiting : List ℕ} {mid next : Outside} {parts : Parts} {now : Moment} {rest : Pending} (between : Stream) (later : List ℕ)
-    (end : Ending) → Progress setup before held waiting mid → Meets setup.shown held parts now rest → next.source ≡ mid.source
-    → Answers parts now (working setup waiting mid) BrokeOff (outlet_of between later) next.disk → Finishes DiskFailed (outlet_of between later) next.sink end → EndsBy setup before next end
+pub ends_broken : {setup : Setup} {before : Outside} {held : Pending} {waiting : List ℕ} {mid next : Outside} {parts : Parts} {body : List ℕ} {now : Moment} {rest : Pending} (between : Stream) (later : List ℕ)
+    (end : Ending) → Progress setup before held waiting mid → Meets setup.shown held parts body now rest → next.source ≡ mid.source
+    → Answers parts body now (working setup waiting mid) BrokeOff (outlet_of between later) next.disk → Finishes DiskFailed (outlet_of between later) next.sink end → EndsBy setup before next end
 ends_broken {setup = setup} {before = before} {held = held} {waiting = waiting} {mid = mid} {next = next} between later end v m same (q, made) (inl (is, given)) =
     let x = made.exchange in
     let sent = sent_then before.sink mid.sink between (wires v.exchanges) waiting (begun_wire_of x) later v.sent made.sent in
@@ -179,31 +175,35 @@ ends_broken {setup = setup} {before = before} {held = held} {waiting = waiting} 
 
 -- ---- no request stands there
 
-stays_refused : (input next source : Stream) (held : List ℕ) (heads : List RequestHead) → next ≡ source → Both input.bytes source.bytes (λ a b. Requests a heads (held ++ b)) → Refusal held
-    → LeftIs Refusal input next held
-stays_refused input next source held heads same told refused = subst (λ (z : Stream). LeftIs Refusal input z held) (sym same)
-    (both_map input.bytes source.bytes (λ a b. Requests a heads (held ++ b)) (λ a b. Refusal (held ++ b)) (λ a b r. refusal_stays held b refused) told)
+stays_refused : (input next source : Stream) (held : List ℕ) (messages : List Message) (flaw : Flaw) → next ≡ source → Both input.bytes source.bytes (λ a b. Messages a messages (held ++ b))
+    → MessageRefusal held flaw → LeftIs (IsRefusedBy flaw) input next held
+stays_refused input next source held messages flaw same told refused = subst (λ (z : Stream). LeftIs (IsRefusedBy flaw) input z held) (sym same)
+    (both_map input.bytes source.bytes (λ a b. Messages a messages (held ++ b)) (λ a b. MessageRefusal (held ++ b) flaw) (λ a b r. message_refusal_stays held b flaw refused) told)
 
 -- what no request can be was refused, and all is given to the sink
-pub ends_refused : {setup : Setup} {before : Outside} {held : Pending} {waiting : List ℕ} {mid next : Outside} (end : Ending) → Progress setup before held waiting mid
-    → Refusal held.bytes → next.source ≡ mid.source → next.disk ≡ mid.disk → Finishes Refused (outlet_of mid.sink (waiting ++ bad_request_text)) next.sink end → EndsBy setup before next end
-ends_refused {setup = setup} {before = before} {held = held} {waiting = waiting} {mid = mid} {next = next} end v refused source disk (inl (is, given)) =
+pub ends_refused : {setup : Setup} {before : Outside} {held : Pending} {waiting : List ℕ} {mid next : Outside} (flaw : Flaw) (end : Ending) → Progress setup before held waiting mid
+    → MessageRefusal held.bytes flaw → next.source ≡ mid.source → next.disk ≡ mid.disk → Finishes Refused (outlet_of mid.sink (waiting ++ refusal_text flaw)) next.sink end
+    → EndsBy setup before next end
+ends_refused {setup = setup} {before = before} {held = held} {waiting = waiting} {mid = mid} {next = next} flaw end v refused source disk (inl (is, given)) =
     subst (EndsBy setup before next) (sym is) (record {
       held = held.bytes;
       exchanges = v.exchanges;
+      flaw = flaw;
       serving = subst (λ z. Serving setup false before next.source held.bytes v.exchanges (ready setup.rules z)) (sym disk)
           (subst (λ z. Serving setup false before z held.bytes v.exchanges (ready setup.rules mid.disk)) (sym source) v.serving);
-      sent = sent_all_of before.sink next.sink (wires v.exchanges ++ bad_request_text) [] refl (sent_then before.sink mid.sink next.sink (wires v.exchanges) waiting bad_request_text [] v.sent given);
-      refused = stays_refused before.source next.source mid.source held.bytes v.serving.heads source v.serving.requests refused;
+      sent = sent_all_of before.sink next.sink (wires v.exchanges ++ refusal_text flaw) [] refl
+          (sent_then before.sink mid.sink next.sink (wires v.exchanges) waiting (refusal_text flaw) [] v.sent given);
+      refused = stays_refused before.source next.source mid.source held.bytes v.serving.messages flaw source v.serving.requests refused;
     })
-ends_refused {setup = setup} {before = before} {held = held} {waiting = waiting} {mid = mid} {next = next} end v refused source disk (inr (is, given, rose)) =
+ends_refused {setup = setup} {before = before} {held = held} {waiting = waiting} {mid = mid} {next = next} flaw end v refused source disk (inr (is, given, rose)) =
     subst (EndsBy setup before next) (sym is) (
       rose_between before.sink.faults mid.sink.faults mid.sink.faults next.sink.faults v.sent.counts (omega arith) rose,
       record {
         exchanges = v.exchanges;
-        bytes = bad_request_text;
-        halfway = halfway v source bad_request_text (refusal refl disk (stays_refused before.source next.source mid.source held.bytes v.serving.heads source v.serving.requests refused));
-        sent = sent_then_front before.sink mid.sink next.sink (wires v.exchanges) waiting bad_request_text v.sent given;
+        bytes = refusal_text flaw;
+        halfway = halfway v source (refusal_text flaw)
+            (refusal flaw refl disk (stays_refused before.source next.source mid.source held.bytes v.serving.messages flaw source v.serving.requests refused));
+        sent = sent_then_front before.sink mid.sink next.sink (wires v.exchanges) waiting (refusal_text flaw) v.sent given;
       },
     )
 
@@ -216,105 +216,67 @@ starves {before = before} {waiting = waiting} {now = now} v = record {
   sent = subst (λ z. Sent before.sink now.sink z waiting) (sym (append-nil (wires v.exchanges))) v.sent;
 }
 
--- ---- more is asked for
+-- ---- no more comes
 
--- All that came is answered and written, and more is wanted.
-pub record Asks (setup : Setup) (before : Outside) (held : Pending) (now : Outside) : Type 0 where
-  pub served : Progress setup before held [] now
-  pub wanting : IsWanting held.bytes
+-- the client may be asked, where all that came whole is answered and written
+pub may_ask : {setup : Setup} {before : Outside} {held : Pending} {waiting : List ℕ} {now : Outside} (P : Stream → Stream → Type 0) → HoldsSoFar setup before P
+    → Progress setup before held waiting now → waiting ≡ [] → IsWanting held.bytes → P now.source now.sink
+may_ask {now = now} P holds v none wanting = holds now (so_far v none wanting)
 
--- where what waited was given to the sink
-pub asks : {setup : Setup} {before : Outside} {first : Pending} {waiting : List ℕ} {mid : Outside} (held : Pending) (new : Stream) (later : List ℕ) → Progress setup before first waiting mid
-    → Finds first.bytes (Ok More) held.bytes → held.taken ≡ first.taken → Pushes mid.sink waiting [] (Ok tt) later new → later ≡ []
-    → Asks setup before held (outside_of mid.source new mid.disk)
-asks {setup = setup} {before = before} {first = first} {mid = mid} held new later v found same pushes none = record {
-  served = subst (λ z. Progress setup before held z (outside_of mid.source new mid.disk)) none (served_flushed new later (served_same found.0 same v) pushes none);
-  wanting = wants first.bytes held.bytes found.0 found.1 found.2 found.3;
-}
-
--- so the client may be asked
-pub may_ask : {setup : Setup} {before : Outside} {held : Pending} {now : Outside} (P : Stream → Stream → Type 0) → HoldsSoFar setup before P → Asks setup before held now → P now.source now.sink
-may_ask {now = now} P holds a = holds now (so_far a.served refl a.wanting)
-
--- more came
-pub goes_on : {setup : Setup} {before : Outside} {held kept : Pending} {mid : Outside} {filled : Stream} (waiting : List ℕ) (n : ℕ) → Asks setup before held mid → waiting ≡ []
-    → Fills mid.source held (Ok n) kept filled → Progress setup before kept waiting (outside_of filled mid.sink mid.disk)
-goes_on {setup = setup} {before = before} {kept = kept} {mid = mid} {filled = filled} waiting n a none f =
-    subst (λ z. Progress setup before kept z (outside_of filled mid.sink mid.disk)) (sym none) (served_filled a.served f)
-
-same_held : (held kept : Pending) (n : ℕ) → n ≡ 0 → Behind held n kept → kept.bytes ≡ held.bytes
-same_held held kept n zero b = sym (take_all (length held.bytes) kept.bytes (let l = b.long in omega arith)) ∙ b.front
-
-emptied : (x y b c : List ℕ) → y ≡ x → b ≡ [] → x ++ b ≡ y ++ c → c ≡ []
-emptied x y b c same none e =
-    let l : length (x ++ b) ≡ length (y ++ c) = ap length e in
-    let m : length (x ++ b) ≡ length x + length b = length-append x b in
-    let n : length (y ++ c) ≡ length y + length c = length-append y c in
-    let o : length y ≡ length x = ap length same in
-    let z : length b ≡ 0 = ap length none in
-    nil_from_length c (omega arith)
-
-source_over : (input source later : Stream) (held kept : Pending) (n : ℕ) → n ≡ 0 → TookBytes input source held.taken → Fills source held (Ok n) kept later → IsEmptied input later
-source_over input source later held kept n zero told f = both_then input.bytes source.bytes later.bytes (λ a b. length a ≡ held.taken + length b) (Moves held (Ok n) kept) (λ a c. c ≡ [])
-    (λ a b c u m. emptied held.bytes kept.bytes b c (same_held held kept n zero f.grows) (m.1 (ap (λ x. Ok x) zero)) m.0) told f.told
+now_emptied : (input mid source : Stream) (n : ℕ) → TookBytes input mid n → IsEmptied mid source → IsEmptied input source
+now_emptied input mid source n took over =
+    both_then input.bytes mid.bytes source.bytes (λ a b. length a ≡ n + length b) (λ b c. c ≡ []) (λ a c. c ≡ []) (λ a b c t e. e) took over
 
 took_fewer : (input source : Stream) (n : ℕ) → n < 2 ^ 60 → TookBytes input source n → TookFewer input source (2 ^ 60)
 took_fewer input source n less took = both_map input.bytes source.bytes (λ a b. length a ≡ n + length b) (λ a b. length a < 2 ^ 60 + length b) (λ a b e. omega arith) took
 
-fewer_taken : (held kept : Pending) (n : ℕ) → n ≡ 0 → Behind held n kept → kept.taken < 2 ^ 60
-fewer_taken held kept n zero b = let less = b.before in let same = b.taken in omega arith
-
-over_by : (setup : Setup) (before after : Outside) (kept : List ℕ) (xs : List Exchange) → Serving setup false before after.source kept xs (ready setup.rules after.disk)
-    → SentAll before.sink after.sink (wires xs) → IsEmptied before.source after.source → TookFewer before.source after.source (2 ^ 60) → IsWanting kept → EndsBy setup before after (over_with kept)
-over_by setup before after [] xs v sent over few wanting = record { exchanges = xs; serving = v; sent = sent; over = over; few = few }
-over_by setup before after (b ∷ bytes) xs v sent over few wanting = record {
-  held = b ∷ bytes;
-  exchanges = xs;
-  serving = v;
-  sent = sent;
-  over = over;
-  few = few;
-  unfinished = record { some = omega arith; short = wanting.short; none = wanting.none; may = wanting.may };
+-- the input is over
+pub ends_over : {setup : Setup} {before : Outside} {held : Pending} {waiting : List ℕ} {now : Outside} (n : ℕ) (mid : Stream) → Progress setup before held waiting now → waiting ≡ []
+    → held.bytes ≡ [] → held.taken < 2 ^ 60 → TookBytes before.source mid n → IsEmptied mid now.source → EndsBy setup before now Over
+ends_over {setup = setup} {before = before} {held = held} {waiting = waiting} {now = now} n mid v none nothing' few took over = record {
+  exchanges = v.exchanges;
+  serving = subst (λ z. Serving setup false before now.source z v.exchanges (ready setup.rules now.disk)) nothing' v.serving;
+  sent = sent_all_of before.sink now.sink (wires v.exchanges) waiting none v.sent;
+  over = now_emptied before.source mid now.source n took over;
+  few = took_fewer before.source now.source held.taken few v.taken;
 }
 
--- the input is over
-pub ends_over : {setup : Setup} {before : Outside} {held kept : Pending} {mid : Outside} {filled : Stream} (n : ℕ) (end : Ending) → Asks setup before held mid
-    → Fills mid.source held (Ok n) kept filled → n ≡ 0 → end ≡ over_with kept.bytes → EndsBy setup before (outside_of filled mid.sink mid.disk) end
-ends_over {setup = setup} {before = before} {held = held} {kept = kept} {mid = mid} {filled = filled} n end a f zero is =
-    let w = served_filled a.served f in
-    subst (EndsBy setup before (outside_of filled mid.sink mid.disk)) (sym is)
-    (over_by setup before (outside_of filled mid.sink mid.disk) kept.bytes w.exchanges w.serving (sent_all_of before.sink mid.sink (wires w.exchanges) [] refl w.sent)
-    (source_over before.source mid.source filled held kept n zero a.served.taken f) (took_fewer before.source filled kept.taken (fewer_taken held kept n zero f.grows) w.taken)
-    (subst IsWanting (sym (same_held held kept n zero f.grows)) a.wanting))
-
-still_wanting : (held kept : Pending) → kept ≡ held → IsWanting held.bytes → IsWanting kept.bytes
-still_wanting held kept same w = subst (λ (z : Pending). IsWanting z.bytes) (sym same) w
+-- the input ends inside a request
+pub ends_unfinished : {setup : Setup} {before : Outside} {held : Pending} {waiting : List ℕ} {now : Outside} (n : ℕ) (mid : Stream) → Progress setup before held waiting now → waiting ≡ []
+    → IsMessageUnfinished held.bytes → held.taken < 2 ^ 60 → TookBytes before.source mid n → IsEmptied mid now.source → EndsBy setup before now Unfinished
+ends_unfinished {before = before} {held = held} {waiting = waiting} {now = now} n mid v none unfinished few took over = record {
+  held = held.bytes;
+  exchanges = v.exchanges;
+  serving = v.serving;
+  sent = sent_all_of before.sink now.sink (wires v.exchanges) waiting none v.sent;
+  over = now_emptied before.source mid now.source n took over;
+  few = took_fewer before.source now.source held.taken few v.taken;
+  unfinished = unfinished;
+}
 
 -- the source failed
-pub ends_failed : {setup : Setup} {before : Outside} {held kept : Pending} {mid : Outside} {filled : Stream} → Asks setup before held mid → Fills mid.source held (Err Failed) kept filled
-    → EndsBy setup before (outside_of filled mid.sink mid.disk) SourceFailed
-ends_failed {before = before} {held = held} {kept = kept} {mid = mid} {filled = filled} a f = (
-  rose_between before.source.faults mid.source.faults mid.source.faults filled.faults a.served.serving.counted (omega arith) (f.failed refl),
-  took_fewer before.source filled kept.taken (subst (λ (z : Pending). z.taken < 2 ^ 60) (sym f.grows) (f.fewer refl)) (served_filled a.served f).taken,
-  so_far (served_filled a.served f) refl (still_wanting held kept f.grows a.wanting),
+pub ends_failed : {setup : Setup} {before : Outside} {held : Pending} {waiting : List ℕ} {now : Outside} (counted : ℕ) → Progress setup before held waiting now → waiting ≡ []
+    → IsWanting held.bytes → held.taken < 2 ^ 60 → before.source.faults ≤ counted → Rose counted now.source.faults → EndsBy setup before now SourceFailed
+ends_failed {before = before} {held = held} {now = now} counted v none wanting few first rose = (
+  rose_between before.source.faults counted counted now.source.faults first (omega arith) rose,
+  took_fewer before.source now.source held.taken few v.taken,
+  so_far v none wanting,
 )
 
 -- 2^60 bytes were taken
-pub ends_too_much : {setup : Setup} {before : Outside} {held kept : Pending} {mid : Outside} {filled : Stream} → Asks setup before held mid → Fills mid.source held (Err TookAll) kept filled
-    → EndsBy setup before (outside_of filled mid.sink mid.disk) TooMuch
-ends_too_much {before = before} {held = held} {kept = kept} {filled = filled} a f =
-    let w = served_filled a.served f in
-    (subst (λ z. TookBytes before.source filled z) (ap (λ (z : Pending). z.taken) f.grows ∙ f.too_much refl) w.taken, so_far w refl (still_wanting held kept f.grows a.wanting))
+pub ends_too_much : {setup : Setup} {before : Outside} {held : Pending} {waiting : List ℕ} {now : Outside} → Progress setup before held waiting now → waiting ≡ []
+    → IsWanting held.bytes → held.taken ≡ 2 ^ 60 → EndsBy setup before now TooMuch
+ends_too_much {before = before} {now = now} v none wanting all = (subst (λ z. TookBytes before.source now.source z) all v.taken, so_far v none wanting)
 
 -- the sink failed between two answers
-pub ends_stopped : {setup : Setup} {before : Outside} {held : Pending} {waiting : List ℕ} {mid : Outside} (filled new : Stream) (later : List ℕ) → Progress setup before held waiting mid
-    → filled ≡ mid.source → Pushes mid.sink waiting [] (Err (record {})) later new → EndsBy setup before (outside_of filled new mid.disk) RunSinkFailed
-ends_stopped {before = before} {waiting = waiting} {mid = mid} filled new later v same pushes = (
+pub ends_stopped : {setup : Setup} {before : Outside} {held : Pending} {waiting : List ℕ} {mid : Outside} (new : Stream) (later : List ℕ) → Progress setup before held waiting mid
+    → Pushes mid.sink waiting [] (Err (record {})) later new → EndsBy setup before (outside_of mid.source new mid.disk) RunSinkFailed
+ends_stopped {before = before} {waiting = waiting} {mid = mid} new later v pushes = (
   rose_between before.sink.faults mid.sink.faults mid.sink.faults new.faults v.sent.counts (omega arith) (pushes.failed refl),
   record {
     exchanges = v.exchanges;
     bytes = [];
-    halfway = halfway v same [] (nothing refl refl);
+    halfway = halfway v refl [] (nothing refl refl);
     sent = subst (λ z. SentFront before.sink new z) (sym (append-nil (wires v.exchanges)))
         (sent_on_front before.sink mid.sink new (wires v.exchanges) waiting v.sent (sent_flush_front mid.sink new waiting later (record {}) pushes));
   },

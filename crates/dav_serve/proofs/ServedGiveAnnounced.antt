@@ -2,7 +2,7 @@
 use Rattle.dav_model.specs.Play.{Stage}
 use Rattle.std.proofs.Common.{ℕ, List, [], ◌∷◌, Bool, Ok, ap, ◌∙◌, decimal}
 use Rattle.std.specs.List.{AllByRecursion}
-use Rattle.httparse.specs.Grammar.{RequestHead}
+use Rattle.dav_wire.specs.Messages.{Message}
 use Rattle.dav_io.specs.Outside.{Stream}
 use Rattle.dav_model.specs.declared.answer.Answer.TheVariants.{End}
 use Rattle.dav_model.specs.Trail.{Point}
@@ -14,24 +14,24 @@ use Rattle.dav_serve.proofs.BodiesAreDelimited.{announced_wire, counted_bytes, t
 use Rattle.dav_serve.proofs.ExchangesAreGiven.{announced_length, announced_none}
 use Rattle.dav_serve.proofs.PiecesAreSome.{is_alone, nonempty_pieces, read_back}
 
-gives_announced : (shown : _) (head : RequestHead) (a b : Stage) (x : Exchange) → IsOf shown head x → PlayedOn a (steps_of x) (answers_of x) (Ok tt) b → GivesAnnounced a.playing.rules x
-gives_announced shown head a b x is r = record {
+gives_announced : (shown : _) (message : Message) (a b : Stage) (x : Exchange) → IsOf shown message x → PlayedOn a (steps_of x) (answers_of x) (Ok tt) b → GivesAnnounced a.playing.rules x
+gives_announced shown message a b x is r = record {
   counted = λ own value says. announced_length a b x r value own says ∙ ap decimal (counted_bytes x.pieces);
   none = announced_none a b x r;
   written = announced_wire x;
   bodiless = is_alone a b x r;
   full = nonempty_pieces a b x End r;
   chunked = λ chunked short behind. read_back a b x behind r chunked short;
-  tells = tells_end shown head x is;
+  tells = tells_end shown message x is;
 }
 
-all_give : (setup : Setup) (s : Point) (b : Stage) (heads : List RequestHead) (xs : List Exchange) → Chain setup.rules (ready setup.rules s) xs b → Alike setup heads xs
+all_give : (setup : Setup) (s : Point) (b : Stage) (messages : List Message) (xs : List Exchange) → Chain setup.rules (ready setup.rules s) xs b → Alike setup messages xs
     → AllByRecursion (GivesAnnounced setup.rules) xs
-all_give setup s b heads [] chain alike = tt
+all_give setup s b messages [] chain alike = tt
 all_give setup s b [] (x ∷ xs) chain alike = elim alike [ ]
-all_give setup s b (head ∷ heads) (x ∷ xs) (m, played, chain) (is, alike) =
-    (gives_announced setup.shown head (ready setup.rules s) m x is played, all_give setup m.at b heads xs chain alike)
+all_give setup s b (message ∷ messages) (x ∷ xs) (m, played, chain) (is, alike) =
+    (gives_announced setup.shown message (ready setup.rules s) m x is played, all_give setup m.at b messages xs chain alike)
 
 pub served_give : (setup : Setup) (closed : Bool) (before : Outside) (source : Stream) (held : List ℕ) (xs : List Exchange) (last : Stage)
     → Serving setup closed before source held xs last → AllByRecursion (GivesAnnounced setup.rules) xs
-served_give setup closed before source held xs last v = all_give setup before.disk last v.heads xs v.played v.alike
+served_give setup closed before source held xs last v = all_give setup before.disk last v.messages xs v.played v.alike

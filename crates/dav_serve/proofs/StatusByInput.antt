@@ -1,25 +1,27 @@
 -- With which status a run ends where no fault ends it.
 use Rattle.dav_model.specs.Play.{Stage}
-use Rattle.std.proofs.Common.{◌≡◌, ◌<◌, ◌+◌, ◌^◌, ◌++◌, ◌||◌, ◌⊎◌, ℕ, zero, suc, List, [], ◌∷◌, Bool, true, false, IsTrue, Option, Some, None, length, get_or, sym, ap, subst, ◌∙◌, refl, inl, inr, arith, append-nil, length-append, true≢false, Result, Ok, Err, IfOk}
+use Rattle.std.proofs.Common.{◌≡◌, ◌<◌, ◌+◌, ◌^◌, ◌++◌, ◌||◌, ◌⊎◌, ℕ, zero, suc, List, [], ◌∷◌, Bool, true, false, IsTrue, Option, Some, None, length, get_or, sym, ap, subst, ◌∙◌, refl, inl, inr, arith, append-nil, length-append, true≢false}
 use Rattle.std.specs.List.{AllByRecursion}
 use Rattle.std.proofs.lemmas.Str.{IsUtf8-from_ascii}
 use Rattle.httparse.specs.Grammar.{is_token_byte, is_uri_byte, lf, RequestHead, IsRequestHead, print_request, ReadsRequest}
 use Rattle.dav_io.specs.Counts.{Rose, RefusedNothing}
 use Rattle.dav_io.specs.Told.{Both}
 use Rattle.dav_io.proofs.ToldLemmas.{told_after}
-use Rattle.dav_io.specs.declared.failure.NoMemory.{NoMemory}
 use Rattle.dav_model.specs.Trail.{Point}
 use Rattle.http.specs.Request.{head_of}
 use Rattle.dav_wire.specs.Answers.{has_close_field}
-use Rattle.dav_wire.specs.Requests.{IsRequest, Requests, Refusal, never, long, many, target, HasNone}
-use Rattle.dav_wire.proofs.RequestLemmas.{request_is_one, refusal_has_none, unfinished_none, requests_are_one, end_has_none}
+use Rattle.dav_wire.specs.Messages.{Message, IsMessage, Messages, HasNoMessage, MessageRefusal, refused_head, refused_body, IsMessageUnfinished, open_head, open_body}
+use Rattle.dav_wire.specs.Requests.{IsRequest, Refusal, never, long, many, target}
+use Rattle.dav_wire.specs.declared.next.Flaw.{Flaw}
+use Rattle.dav_wire.proofs.RequestLemmas.{end_has_none}
 use Rattle.dav_serve.specs.declared.ending.Ending.{Ending}
 use Rattle.dav_serve.specs.declared.ending.Ending.TheVariants.{Over, Closed, Refused, Unfinished, SourceFailed, SinkFailed, DiskFailed, TooMuch}
 use Rattle.dav_serve.specs.Exchange.{Exchange, is_closed}
-use Rattle.dav_serve.specs.Serving.{Setup, Chain, Alike, IsOpen, ServedAll, ServedClosing, ServedRefusing, ServedUnfinished, EndsBy, ServeEnds, ready, status_of}
+use Rattle.dav_serve.specs.Serving.{Setup, Chain, Alike, IsOpen, ServedAll, ServedClosing, ServedRefusing, ServedUnfinished, EndsBy, ready, status_of}
 use Rattle.dav_serve.specs.Stages.{Outside}
 use Rattle.dav_serve.specs.Completing.{Faultless, Closes, LastByHead, IsLeft, IsValid, IsInvalid, IsStopped, StatusIs}
-use Rattle.dav_serve.proofs.RequestsAreSome.{head_some}
+use Rattle.dav_serve.proofs.RequestsAreSome.{head_some, request_shorter}
+use Rattle.dav_wire.proofs.MessageLemmas.{message_is_one, message_refusal_has_none, unfinished_message_none, messages_are_one, end_has_no_message}
 
 -- the shortest head of the grammar
 shortest : RequestHead
@@ -69,46 +71,56 @@ nothing_refused left e (target head rest reads none) =
     let whole = ap (length {A = ℕ}) (sym e ∙ reads.1) ∙ length-append (print_request head) rest in
     absurd (omega arith)
 
+-- nor is a body
+nothing_owed : (left : List ℕ) (flaw : Flaw) → left ≡ [] → MessageRefusal left flaw → ⊥
+nothing_owed left flaw e (refused_head is refused) = nothing_refused left e refused
+nothing_owed left flaw e (refused_body request behind stands refused) = end_has_none request behind (subst (λ z. IsRequest z request behind) e stands)
+
+-- what is unfinished is some bytes
+unfinished_some : (left : List ℕ) → IsMessageUnfinished left → 0 < length left
+unfinished_some left (open_head u) = u.some
+unfinished_some left (open_body request behind stands unfinished) = let shorter = request_shorter left behind request stands in omega arith
+
 -- the requests up to where none stands begin with any others
-compare : (a rest left : List ℕ) (heads others : List RequestHead) → Requests a heads rest → Requests a others left → HasNone left
-    → (more : List RequestHead) × (others ≡ heads ++ more) × Requests rest more left
-compare a rest left [] others first second none = (others, refl, subst (λ z. Requests z others left) (sym first) second)
-compare a rest left (head ∷ heads) [] (after, is, later) second none = absurd (none head after (subst (λ z. IsRequest z head after) (sym second) is))
-compare a rest left (head ∷ heads) (other ∷ others) (after, is, later) (behind, stands, further) none =
-    let same = request_is_one a head other after behind is stands in
-    let found = compare behind rest left heads others (subst (λ z. Requests z heads rest) same.1 later) further none in
-    (found.0, ap (λ z. z ∷ others) (sym same.0) ∙ ap (λ z. head ∷ z) found.1, found.2)
+compare : (a rest left : List ℕ) (messages others : List Message) → Messages a messages rest → Messages a others left → HasNoMessage left
+    → (more : List Message) × (others ≡ messages ++ more) × Messages rest more left
+compare a rest left [] others first second none = (others, refl, subst (λ z. Messages z others left) (sym first) second)
+compare a rest left (message ∷ messages) [] (after, is, later) second none = absurd (none message after (subst (λ z. IsMessage z message after) (sym second) is))
+compare a rest left (message ∷ messages) (other ∷ others) (after, is, later) (behind, stands, further) none =
+    let same = message_is_one a message other after behind is stands in
+    let found = compare behind rest left messages others (subst (λ z. Messages z messages rest) same.1 later) further none in
+    (found.0, ap (λ z. z ∷ others) (sym same.0) ∙ ap (λ z. message ∷ z) found.1, found.2)
 
 -- the exchanges of the first requests
-record Front (setup : Setup) (a : Stage) (heads : List RequestHead) : Type 0 where
+record Front (setup : Setup) (a : Stage) (messages : List Message) : Type 0 where
   exchanges : List Exchange
   last : Stage
   played : Chain setup.rules a exchanges last
-  alike : Alike setup heads exchanges
+  alike : Alike setup messages exchanges
   are_open : AllByRecursion IsOpen exchanges
 
-front_of : (setup : Setup) (a b : Stage) (heads more : List RequestHead) (xs : List Exchange) → Chain setup.rules a xs b → Alike setup (heads ++ more) xs → AllByRecursion IsOpen xs
-    → Front setup a heads
+front_of : (setup : Setup) (a b : Stage) (messages more : List Message) (xs : List Exchange) → Chain setup.rules a xs b → Alike setup (messages ++ more) xs → AllByRecursion IsOpen xs
+    → Front setup a messages
 front_of setup a b [] more xs chain alike o = record { exchanges = []; last = a; played = refl; alike = tt; are_open = tt }
-front_of setup a b (head ∷ heads) more [] chain alike o = absurd alike
-front_of setup a b (head ∷ heads) more (x ∷ xs) (m, played, chain) (is, alike) (first, others) =
-    let f = front_of setup (ready setup.rules m.at) b heads more xs chain alike others in
+front_of setup a b (message ∷ messages) more [] chain alike o = absurd alike
+front_of setup a b (message ∷ messages) more (x ∷ xs) (m, played, chain) (is, alike) (first, others) =
+    let f = front_of setup (ready setup.rules m.at) b messages more xs chain alike others in
     record { exchanges = x ∷ f.exchanges; last = f.last; played = (m, played, f.played); alike = (is, f.alike); are_open = (first, f.are_open) }
 
-nothing_more : (rest left : List ℕ) (more : List RequestHead) → rest ≡ [] → Requests rest more left → left ≡ []
+nothing_more : (rest left : List ℕ) (more : List Message) → rest ≡ [] → Messages rest more left → left ≡ []
 nothing_more rest left [] e r = r ∙ e
-nothing_more rest left (head ∷ more) e (after, is, later) = absurd (end_has_none head after (subst (λ z. IsRequest z head after) e is))
+nothing_more rest left (message ∷ more) e (after, is, later) = absurd (end_has_no_message message after (subst (λ z. IsMessage z message after) e is))
 
 -- a valid input has no place where no request stands
-no_place : (setup : Setup) (s : Point) (last : Stage) (a rest left : List ℕ) (heads others : List RequestHead) (xs : List Exchange) → Requests a heads rest
-    → (rest ≡ []) ⊎ Closes setup s heads → Requests a others left → HasNone left → (left ≡ [] → ⊥) → Chain setup.rules (ready setup.rules s) xs last → Alike setup others xs
+no_place : (setup : Setup) (s : Point) (last : Stage) (a rest left : List ℕ) (messages others : List Message) (xs : List Exchange) → Messages a messages rest
+    → (rest ≡ []) ⊎ Closes setup s messages → Messages a others left → HasNoMessage left → (left ≡ [] → ⊥) → Chain setup.rules (ready setup.rules s) xs last → Alike setup others xs
     → AllByRecursion IsOpen xs → ⊥
-no_place setup s last a rest left heads others xs first (inl over) second none some chain alike o =
-    let c = compare a rest left heads others first second none in
+no_place setup s last a rest left messages others xs first (inl over) second none some chain alike o =
+    let c = compare a rest left messages others first second none in
     some (nothing_more rest left c.0 over c.2)
-no_place setup s last a rest left heads others xs first (inr closes) second none some chain alike o =
-    let c = compare a rest left heads others first second none in
-    let f = front_of setup (ready setup.rules s) last heads c.0 xs chain (subst (λ z. Alike setup z xs) c.1 alike) o in
+no_place setup s last a rest left messages others xs first (inr closes) second none some chain alike o =
+    let c = compare a rest left messages others first second none in
+    let f = front_of setup (ready setup.rules s) last messages c.0 xs chain (subst (λ z. Alike setup z xs) c.1 alike) o in
     closes f.exchanges f.last f.played f.alike f.are_open
 
 both_and : {A : Type 0} (old new : Option A) (P Q : A → A → Type 0) → Both old new P → Both old new Q → Both old new (λ a b. P a b × Q a b)
@@ -127,40 +139,40 @@ closed_by true other t e = absurd (true≢false e)
 closed_by false other t e = absurd (true≢false (sym t))
 
 -- a request that asks for it closes
-asks_closes : (setup : Setup) (a : Stage) (heads : List RequestHead) (last : RequestHead) → LastByHead last → (xs : List Exchange) (b : Stage) → Chain setup.rules a xs b
-    → Alike setup (heads ++ last ∷ []) xs → AllByRecursion IsOpen xs → ⊥
+asks_closes : (setup : Setup) (a : Stage) (messages : List Message) (last : Message) → LastByHead last.head → (xs : List Exchange) (b : Stage) → Chain setup.rules a xs b
+    → Alike setup (messages ++ last ∷ []) xs → AllByRecursion IsOpen xs → ⊥
 asks_closes setup a [] last asks [] b chain alike o = absurd alike
 asks_closes setup a [] last asks (x ∷ xs) b chain (is, alike) o = closed_by x.closing (has_close_field x.fields) (is.closing.1 (asks (head_of x.request) is.parts)) o.0
-asks_closes setup a (head ∷ heads) last asks [] b chain alike o = absurd alike
-asks_closes setup a (head ∷ heads) last asks (x ∷ xs) b (m, played, chain) (is, alike) o = asks_closes setup (ready setup.rules m.at) heads last asks xs b chain alike o.1
+asks_closes setup a (message ∷ messages) last asks [] b chain alike o = absurd alike
+asks_closes setup a (message ∷ messages) last asks (x ∷ xs) b (m, played, chain) (is, alike) o = asks_closes setup (ready setup.rules m.at) messages last asks xs b chain alike o.1
 
-asked_closes : (setup : Setup) (s : Point) (heads : List RequestHead) (last : RequestHead) → LastByHead last → Closes setup s (heads ++ last ∷ [])
-asked_closes setup s heads last asks xs b chain alike o = asks_closes setup (ready setup.rules s) heads last asks xs b chain alike o
+asked_closes : (setup : Setup) (s : Point) (messages : List Message) (last : Message) → LastByHead last.head → Closes setup s (messages ++ last ∷ [])
+asked_closes setup s messages last asks xs b chain alike o = asks_closes setup (ready setup.rules s) messages last asks xs b chain alike o
 
 left_valid : (setup : Setup) (s : Point) (a : List ℕ) → IsLeft a → IsValid setup s a
-left_valid setup s a left = record { heads = left.heads ++ left.last ∷ []; rest = left.rest; requests = left.requests; ends = inr (asked_closes setup s left.heads left.last left.asks) }
+left_valid setup s a left = record { messages = left.messages ++ left.last ∷ []; rest = left.rest; requests = left.requests; ends = inr (asked_closes setup s left.messages left.last left.asks) }
 
 module _ (setup : Setup) (before after : Outside) (a : List ℕ) (told : before.source.bytes ≡ Some a) where
   valid_not_refused : IsValid setup before.disk a → ServedRefusing setup before after → ⊥
   valid_not_refused valid v =
       let both = told_after before.source.bytes after.source.bytes _ a (both_and before.source.bytes after.source.bytes _ _ v.serving.requests v.refused) told in
       let left = v.held ++ both.0 in
-      no_place setup before.disk _ a valid.rest left valid.heads v.serving.heads v.exchanges valid.requests valid.ends both.2.0
-      (subst HasNone (append-nil left) (refusal_has_none left [] both.2.1)) (λ e. nothing_refused left e both.2.1) v.serving.played v.serving.alike v.serving.follow
+      no_place setup before.disk _ a valid.rest left valid.messages v.serving.messages v.exchanges valid.requests valid.ends both.2.0
+      (subst HasNoMessage (append-nil left) (message_refusal_has_none left [] v.flaw both.2.1)) (λ e. nothing_owed left v.flaw e both.2.1) v.serving.played v.serving.alike v.serving.follow
 
   valid_not_unfinished : IsValid setup before.disk a → ServedUnfinished setup before after → ⊥
   valid_not_unfinished valid v =
       let both = told_after before.source.bytes after.source.bytes _ a (both_and before.source.bytes after.source.bytes _ _ v.serving.requests v.over) told in
       let left = v.held ++ both.0 in
       let same : left ≡ v.held = ap (λ z. v.held ++ z) both.2.1 ∙ append-nil v.held in
-      no_place setup before.disk _ a valid.rest left valid.heads v.serving.heads v.exchanges valid.requests valid.ends both.2.0
-      (subst HasNone (sym same) (unfinished_none v.held v.unfinished)) (some_left v.held both.0 v.unfinished.some) v.serving.played v.serving.alike v.serving.follow
+      no_place setup before.disk _ a valid.rest left valid.messages v.serving.messages v.exchanges valid.requests valid.ends both.2.0
+      (subst HasNoMessage (sym same) (unfinished_message_none v.held v.unfinished)) (some_left v.held both.0 (unfinished_some v.held v.unfinished)) v.serving.played v.serving.alike v.serving.follow
 
   invalid_not_all : IsInvalid setup before.disk a → ServedAll setup before after → ⊥
   invalid_not_all invalid v =
       let both = told_after before.source.bytes after.source.bytes _ a (both_and before.source.bytes after.source.bytes _ _ v.serving.requests v.over) told in
-      let ends : Requests a v.serving.heads [] = subst (λ z. Requests a v.serving.heads z) both.2.1 both.2.0 in
-      let same = requests_are_one a invalid.rest [] invalid.heads v.serving.heads invalid.requests invalid.none ends end_has_none in
+      let ends : Messages a v.serving.messages [] = subst (λ z. Messages a v.serving.messages z) both.2.1 both.2.0 in
+      let same = messages_are_one a invalid.rest [] invalid.messages v.serving.messages invalid.requests invalid.none ends end_has_no_message in
       let l = ap (length {A = ℕ}) same.1 in
       let some = invalid.some in
       absurd (omega arith)
@@ -172,8 +184,8 @@ module _ (setup : Setup) (before after : Outside) (a : List ℕ) (told : before.
   invalid_not_closing : IsInvalid setup before.disk a → ServedClosing setup before after → ⊥
   invalid_not_closing invalid v =
       let both = told_after before.source.bytes after.source.bytes _ a v.serving.requests told in
-      let c = compare a (v.held ++ both.0) invalid.rest v.serving.heads invalid.heads both.2 invalid.requests invalid.none in
-      let o = invalid.stay v.serving.heads c.0 c.1 v.exchanges _ v.serving.played v.serving.alike in
+      let c = compare a (v.held ++ both.0) invalid.rest v.serving.messages invalid.messages both.2 invalid.requests invalid.none in
+      let o = invalid.stay v.serving.messages c.0 c.1 v.exchanges _ v.serving.played v.serving.alike in
       let (ys, y, are, others, closed) = v.serving.follow in
       absurd (true≢false (sym closed ∙ last_open ys y (subst (λ z. AllByRecursion IsOpen z) are o)))
 

@@ -1,13 +1,13 @@
 -- Which status a run ends with where no fault ends it, by the bytes of its input alone, or by them and the answers.
 use Rattle.dav_model.specs.Play.{Stage}
-use Rattle.std.specs.Prelude.{◌≡◌, ◌<◌, ◌^◌, ◌⊎◌, ℕ, List, [], ◌∷◌, ◌++◌, length, true, Some}
+use Rattle.std.specs.Prelude.{◌≡◌, ◌<◌, ◌^◌, ◌⊎◌, ℕ, List, [], ◌∷◌, ◌++◌, length, Some}
 use Rattle.std.specs.List.{AllByRecursion}
 use Rattle.http.specs.declared.request.Parts.{Parts}
 use Rattle.httparse.specs.Grammar.{RequestHead}
 use Rattle.dav_io.specs.Counts.{RefusedNothing}
 use Rattle.dav_model.specs.Trail.{Point}
 use Rattle.dav_wire.specs.Heads.{IsRead}
-use Rattle.dav_wire.specs.Requests.{Requests, HasNone}
+use Rattle.dav_wire.specs.Messages.{Message, Messages, HasNoMessage}
 use Rattle.dav_serve.specs.Exchange.{Exchange, IsLast}
 use Rattle.dav_serve.specs.Serving.{Setup, Chain, Alike, IsOpen, ready}
 use Rattle.dav_serve.specs.Stages.{Outside}
@@ -19,41 +19,41 @@ pub record Faultless (before after : Outside) : Type 0 where
   pub by_disk : RefusedNothing before.disk.faults after.disk.faults
 
 -- The last of these requests closes: no exchanges that answer them from here on leave the connection open.
-abbrev pub Closes : Setup → Point → List RequestHead → Type 0
-Closes setup s heads = (xs : List Exchange) (last : Stage) → Chain setup.rules (ready setup.rules s) xs last → Alike setup heads xs → AllByRecursion IsOpen xs → ⊥
+abbrev pub Closes : Setup → Point → List Message → Type 0
+Closes setup s messages = (xs : List Exchange) (last : Stage) → Chain setup.rules (ready setup.rules s) xs last → Alike setup messages xs → AllByRecursion IsOpen xs → ⊥
 
 -- None of these requests closes: exchanges that answer the first of them leave the connection open.
-abbrev pub StayOpen : Setup → Point → List RequestHead → Type 0
-StayOpen setup s heads = (front back : List RequestHead) → heads ≡ front ++ back → (xs : List Exchange) (last : Stage)
+abbrev pub StayOpen : Setup → Point → List Message → Type 0
+StayOpen setup s messages = (front back : List Message) → messages ≡ front ++ back → (xs : List Exchange) (last : Stage)
     → Chain setup.rules (ready setup.rules s) xs last → Alike setup front xs → AllByRecursion IsOpen xs
 
 -- By its head alone a request is the last.
 abbrev pub LastByHead : RequestHead → Type 0
 LastByHead head = (parts : Parts) → IsRead head parts → IsLast parts
 
--- The input is valid requests to its end, or to one whose answer closes.
+-- The input is valid requests, each with its body, to its end, or to one whose answer closes.
 pub record IsValid (setup : Setup) (s : Point) (bytes : List ℕ) : Type 0 where
-  pub heads : List RequestHead
+  pub messages : List Message
   pub rest : List ℕ
-  pub requests : Requests bytes heads rest
-  pub ends : (rest ≡ []) ⊎ Closes setup s heads
+  pub requests : Messages bytes messages rest
+  pub ends : (rest ≡ []) ⊎ Closes setup s messages
 
 -- The input is valid requests to one that asks that the connection closes.
 pub record IsLeft (bytes : List ℕ) : Type 0 where
-  pub heads : List RequestHead
-  pub last : RequestHead
+  pub messages : List Message
+  pub last : Message
   pub rest : List ℕ
-  pub requests : Requests bytes (heads ++ last ∷ []) rest
-  pub asks : LastByHead last
+  pub requests : Messages bytes (messages ++ last ∷ []) rest
+  pub asks : LastByHead last.head
 
 -- Behind valid requests of which none closes, the input has bytes that are no request.
 pub record IsInvalid (setup : Setup) (s : Point) (bytes : List ℕ) : Type 0 where
-  pub heads : List RequestHead
+  pub messages : List Message
   pub rest : List ℕ
-  pub requests : Requests bytes heads rest
+  pub requests : Messages bytes messages rest
   pub some : 0 < length rest
-  pub none : HasNone rest
-  pub stay : StayOpen setup s heads
+  pub none : HasNoMessage rest
+  pub stay : StayOpen setup s messages
 
 -- A fault ended the run, or 2^60 bytes were taken.
 abbrev pub IsStopped : ℕ → Type 0

@@ -38,10 +38,10 @@ pub record IsAt (request : Asked) (now : Moment) (closing : Bool) (x : Exchange)
   pub now_is : x.now ≡ now
   pub closing_is : x.closing ≡ closing
 
--- the exchange of a request with these parts and no body, at this moment
-pub record IsAnswerTo (parts : Parts) (now : Moment) (x : Exchange) : Type 0 where
+-- the exchange of a request with these parts and this body, at this moment
+pub record IsAnswerTo (parts : Parts) (body : List ℕ) (now : Moment) (x : Exchange) : Type 0 where
   pub parts_are : head_of x.request ≡ parts
-  pub empty : body_of x.request ≡ []
+  pub body_is : body_of x.request ≡ body
   pub now_is : x.now ≡ now
   pub asks : ClosesAfter parts x.closing
 
@@ -123,5 +123,6 @@ Exchanges Is a SinkFailed b = SinkStopped Is a b.outlet b.stage.at
 Exchanges Is a BrokeOff b = BrokenOff Is a b
 
 -- One request was answered by a player of its own.
-abbrev pub Answers : Parts → Moment → Work → Ended → Outlet → Point → Type 0
-Answers parts now a ended b t = (q : Playing) × Exchanges (IsAnswerTo parts now) a ended (record { outlet = b; stage = stage_at t q })
+abbrev pub Answers : Parts → List ℕ → Moment → Work → Ended → Outlet → Point → Type 0
+Answers parts body now a ended b t =
+    (q : Playing) × Exchanges (IsAnswerTo parts body now) a ended (record { outlet = b; stage = stage_at t q })

@@ -5,14 +5,12 @@ use Rattle.std.specs.List.{flat_map}
 use Rattle.http.specs.declared.request.Parts.{Parts}
 use Rattle.http.specs.declared.version.TheConstants.Version.{HTTP_10}
 use Rattle.http.specs.Request.{head_of, body_of}
-use Rattle.httparse.specs.Grammar.{RequestHead}
 use Rattle.dav_io.specs.declared.clock.Moment.{Moment}
 use Rattle.dav_io.specs.declared.fields.Field.{Field}
 use Rattle.dav_model.specs.declared.step.Step.{Step}
 use Rattle.dav_model.specs.declared.step.Step.TheVariants.{Request, Poll, Purge, Turn}
 use Rattle.dav_model.specs.declared.answer.Answer.{Answer}
 use Rattle.dav_model.specs.declared.answer.Answer.TheVariants.{Reply as Replied, Piece, End, Broken, Done}
-use Rattle.dav_model.specs.Gates.{announces_body}
 use Rattle.dav_model.specs.Requests.{Asked}
 use Rattle.dav_model.specs.Rules.{Rules, Knowledge}
 use Rattle.dav_wire.specs.Answers.{head_text, has_close_field}
@@ -21,6 +19,7 @@ use Rattle.dav_wire.specs.Framing.{framing, takes_chunks}
 use Rattle.dav_wire.specs.declared.chunks.Framing.{Framing}
 use Rattle.dav_wire.specs.Fields.{asks_close}
 use Rattle.dav_wire.specs.Heads.{IsRead}
+use Rattle.dav_wire.specs.Messages.{Message}
 
 pub record Exchange : Type 0 where
   pub request : Asked
@@ -32,10 +31,9 @@ pub record Exchange : Type 0 where
   pub body : ℕ
   pub pieces : List (List ℕ)
 
--- Nothing is read behind a request of HTTP/1.0, one with a member `close` of a field `connection`, and one that announces a
--- body: as that isn't read, nobody knows where the next request begins.
+-- Nothing is read behind a request of HTTP/1.0, and one with a member `close` of a field `connection`.
 abbrev pub IsLast : Parts → Type 0
-IsLast parts = (parts.version ≡ HTTP_10) ⊎ ((announces_body parts.headers ≡ true) ⊎ (asks_close parts.headers ≡ true))
+IsLast parts = (parts.version ≡ HTTP_10) ⊎ (asks_close parts.headers ≡ true)
 
 -- whether the connection closes behind the answer, whatever that is
 abbrev pub ClosesAfter : Parts → Bool → Type 0
@@ -87,10 +85,11 @@ fresh rules knows = record { rules = rules; replies = 0; left = λ _. []; held =
 abbrev pub IsShown : Option Moment → Moment → Type 0
 IsShown shown now = (shown ≡ Some now) ⊎ (shown ≡ None)
 
--- The exchange is that of this head: its request is what the head says, without a body, at the moment that the clock shows.
-pub record IsOf (shown : Option Moment) (head : RequestHead) (x : Exchange) : Type 0 where
-  pub parts : IsRead head (head_of x.request)
-  pub empty : body_of x.request ≡ []
+-- The exchange is that of this message: its request is what the head says, with the body behind it, at the moment that the
+-- clock shows.
+pub record IsOf (shown : Option Moment) (message : Message) (x : Exchange) : Type 0 where
+  pub parts : IsRead message.head (head_of x.request)
+  pub body : body_of x.request ≡ message.body
   pub closing : ClosesAfter (head_of x.request) x.closing
   pub moment : IsShown shown x.now
 

@@ -11,9 +11,13 @@ use Rattle.dav_model.specs.declared.answer.Answer.TheVariants.{Broken, Done}
 use Rattle.dav_model.specs.declared.settings.Settings.{Settings}
 use Rattle.dav_model.specs.Rules.{Rules, nothing_known, plain_rules}
 use Rattle.dav_model.specs.Trail.{Point}
-use Rattle.dav_wire.specs.Requests.{IsRequest, Requests, Refusal, IsUnfinished}
-use Rattle.dav_wire.specs.Answers.{bad_request_text}
+use Rattle.dav_wire.specs.Announced.{announces}
+use Rattle.dav_wire.specs.Answers.{refusal_text}
+use Rattle.dav_wire.specs.Bodies.{IsBodyUnfinished}
+use Rattle.dav_wire.specs.Messages.{Message, IsMessage, Messages, MessageRefusal, IsMessageUnfinished}
+use Rattle.dav_wire.specs.Requests.{IsRequest}
 use Rattle.dav_wire.specs.Writing.{Sent, SentAll, SentFront}
+use Rattle.dav_wire.specs.declared.next.Flaw.{Flaw}
 use Rattle.dav_serve.specs.declared.ending.Ending.{Ending}
 use Rattle.dav_serve.specs.declared.ending.Ending.TheVariants.{Over, Closed, Refused, Unfinished, SourceFailed, SinkFailed, DiskFailed, TooMuch}
 use Rattle.dav_serve.specs.Exchange.{Exchange, IsOf, fresh, is_closed, steps_of, answers_of, begun_answers, begun_wire_of, wire_of}
@@ -37,11 +41,11 @@ abbrev pub Chain : Rules → Stage → List Exchange → Stage → Type 0
 Chain rules a [] b = b ≡ a
 Chain rules a (x ∷ xs) b = (m : Stage) × PlayedOn a (steps_of x) (answers_of x) (Ok tt) m × Chain rules (ready rules m.at) xs b
 
--- each exchange is that of its head
-abbrev pub Alike : Setup → List RequestHead → List Exchange → Type 0
+-- each exchange is that of its message
+abbrev pub Alike : Setup → List Message → List Exchange → Type 0
 Alike setup [] [] = Unit {0}
-Alike setup (head ∷ heads) (x ∷ xs) = IsOf setup.shown head x × Alike setup heads xs
-Alike setup heads xs = ⊥
+Alike setup (message ∷ messages) (x ∷ xs) = IsOf setup.shown message x × Alike setup messages xs
+Alike setup messages xs = ⊥
 
 -- another request may follow
 abbrev pub IsOpen : Exchange → Type 0
@@ -56,15 +60,15 @@ Follow true xs = (ys : List Exchange) × (y : Exchange) × (xs ≡ ys ++ y ∷ [
 abbrev pub wires : List Exchange → List ℕ
 wires xs = flat_map wire_of xs
 
--- The requests at the front of the input were answered by these exchanges. `held` is what was taken from the source and
--- not yet read, and `last` is the stage at which the next request would be played.
+-- The requests at the front of the input, each with its body, were answered by these exchanges. `held` is what was
+-- taken from the source behind them, and `last` is the stage at which the next request would be played.
 pub record Serving (setup : Setup) (closed : Bool) (before : Outside) (source : Stream) (held : List ℕ) (exchanges : List Exchange) (last : Stage) : Type 0 where
-  pub heads : List RequestHead
+  pub messages : List Message
   pub played : Chain setup.rules (ready setup.rules before.disk) exchanges last
-  pub alike : Alike setup heads exchanges
+  pub alike : Alike setup messages exchanges
   pub follow : Follow closed exchanges
   pub counted : before.source.faults ≤ source.faults
-  pub requests : Both before.source.bytes source.bytes (λ a b. Requests a heads (held ++ b))
+  pub requests : Both before.source.bytes source.bytes (λ a b. Messages a messages (held ++ b))
 
 -- What the source has left, where it tells, is nothing.
 abbrev pub IsEmptied : Stream → Stream → Type 0
@@ -73,6 +77,10 @@ IsEmptied input source = Both input.bytes source.bytes (λ a b. b ≡ [])
 -- what is left, where the source tells, is such
 abbrev pub LeftIs : (List ℕ → Type 0) → Stream → Stream → List ℕ → Type 0
 LeftIs P input source held = Both input.bytes source.bytes (λ a b. P (held ++ b))
+
+-- no request can stand at the front, for this reason
+abbrev pub IsRefusedBy : Flaw → List ℕ → Type 0
+IsRefusedBy flaw left = MessageRefusal left flaw
 
 -- so many bytes were taken from the source, where it tells
 abbrev pub TookBytes : Stream → Stream → ℕ → Type 0
@@ -83,17 +91,19 @@ abbrev pub TookFewer : Stream → Stream → ℕ → Type 0
 TookFewer input source n = Both input.bytes source.bytes (λ a b. length a < n + length b)
 
 -- More bytes are wanted behind these: they are no request and no refusal, and more can make a request of them.
-pub record IsWanting (held : List ℕ) : Type 0 where
-  pub short : length held ≤ 65536
-  pub none : HasNoRequest held
-  pub may : MayBecomeRequest held
+pub data IsWanting (held : List ℕ) : Type 0 where
+  -- they are no head, and more can make one of them
+  wanting_head : length held ≤ 65536 → HasNoRequest held → MayBecomeRequest held → IsWanting held
+  -- they are a head, and behind it stands a body that isn't finished
+  wanting_body : (request : RequestHead) (behind : List ℕ) → IsRequest held request behind
+      → IsBodyUnfinished (announces request) behind → IsWanting held
 
 -- The exchange answers the request that stands at the front of what is held.
 pub record Faces (setup : Setup) (held : List ℕ) (x : Exchange) : Type 0 where
-  pub head : RequestHead
+  pub message : Message
   pub rest : List ℕ
-  pub stands : IsRequest held head rest
-  pub is : IsOf setup.shown head x
+  pub stands : IsMessage held message rest
+  pub is : IsOf setup.shown message x
 
 -- The input was read to its end, below 2^60 bytes: all requests are answered.
 pub record ServedAll (setup : Setup) (before after : Outside) : Type 0 where
@@ -110,15 +120,18 @@ pub record ServedClosing (setup : Setup) (before after : Outside) : Type 0 where
   pub serving : Serving setup true before after.source held exchanges (ready setup.rules after.disk)
   pub sent : SentAll before.sink after.sink (wires exchanges)
 
--- Behind the requests that were answered stands what no request can be, and 400 was written for it.
+-- Behind the requests that were answered stands what no request can be, and 400 was written for it, or 413 where its body
+-- is too large.
 pub record ServedRefusing (setup : Setup) (before after : Outside) : Type 0 where
   pub held : List ℕ
   pub exchanges : List Exchange
+  pub flaw : Flaw
   pub serving : Serving setup false before after.source held exchanges (ready setup.rules after.disk)
-  pub sent : SentAll before.sink after.sink (wires exchanges ++ bad_request_text)
-  pub refused : LeftIs Refusal before.source after.source held
+  pub sent : SentAll before.sink after.sink (wires exchanges ++ refusal_text flaw)
+  pub refused : LeftIs (IsRefusedBy flaw) before.source after.source held
 
--- Behind the requests that were answered the input ends inside a head, below 2^60 bytes, and nothing was written for it.
+-- Behind the requests that were answered the input ends inside a head or a body, below 2^60 bytes, and nothing was
+-- written for it.
 pub record ServedUnfinished (setup : Setup) (before after : Outside) : Type 0 where
   pub held : List ℕ
   pub exchanges : List Exchange
@@ -126,7 +139,7 @@ pub record ServedUnfinished (setup : Setup) (before after : Outside) : Type 0 wh
   pub sent : SentAll before.sink after.sink (wires exchanges)
   pub over : IsEmptied before.source after.source
   pub few : TookFewer before.source after.source (2 ^ 60)
-  pub unfinished : IsUnfinished held
+  pub unfinished : IsMessageUnfinished held
 
 -- All requests that were whole are answered, all answers are written, and what is held behind them is no refusal.
 pub record ServedSoFar (setup : Setup) (before after : Outside) : Type 0 where
@@ -146,13 +159,13 @@ pub record Owes (before now : Outside) : Type 0 where
   pub taken : List ℕ
   pub left : List ℕ
   pub written : List ℕ
-  pub head : RequestHead
+  pub message : Message
   pub rest : List ℕ
   pub first : before.source.bytes ≡ Some (taken ++ left)
   pub stands : now.source.bytes ≡ Some left
   pub was : before.sink.bytes ≡ Some written
   pub is : now.sink.bytes ≡ Some written
-  pub request : IsRequest taken head rest
+  pub request : IsMessage taken message rest
 
 -- A body broke in the answer to the request behind those that were answered: the bytes end with its last
 -- piece, and what ends a body isn't written.
@@ -168,12 +181,12 @@ pub record ServedBroken (setup : Setup) (before after : Outside) : Type 0 where
   pub sent : SentAll before.sink after.sink (wires exchanges ++ begun_wire_of broken)
 
 -- What the run came to behind the exchanges that were played, and the bytes of it. `refused` says that what no request
--- can be stands there.
-pub data Partway (setup : Setup) (refused : Type 0) (held : List ℕ) (place : Stage) (bytes : List ℕ) (t : Point) : Type 0 where
+-- can be stands there, and why.
+pub data Partway (setup : Setup) (refused : Flaw → Type 0) (held : List ℕ) (place : Stage) (bytes : List ℕ) (t : Point) : Type 0 where
   -- nothing
   nothing : bytes ≡ [] → t ≡ place.at → Partway setup refused held place bytes t
   -- the answer to what no request can be
-  refusal : bytes ≡ bad_request_text → t ≡ place.at → refused → Partway setup refused held place bytes t
+  refusal : (flaw : Flaw) → bytes ≡ refusal_text flaw → t ≡ place.at → refused flaw → Partway setup refused held place bytes t
   -- some of the exchange of the request that stands there
   exchange : Reached (Faces setup held) place bytes t → Partway setup refused held place bytes t
 
@@ -183,7 +196,7 @@ pub record Halfway (setup : Setup) (before after : Outside) (exchanges : List Ex
   pub held : List ℕ
   pub place : Stage
   pub serving : Serving setup closed before after.source held exchanges place
-  pub partway : Partway setup (LeftIs Refusal before.source after.source held) held place bytes after.disk
+  pub partway : Partway setup (λ flaw. LeftIs (IsRefusedBy flaw) before.source after.source held) held place bytes after.disk
   pub behind : closed ≡ true → bytes ≡ []
 
 -- The sink failed, or memory was refused: a front of the bytes is written.
@@ -226,11 +239,6 @@ status_of TooMuch = 7
 -- A run that serves ends with the status of its end.
 abbrev pub ServeEnds : Setup → Outside → Outside → ℕ → Type 0
 ServeEnds setup before after status = (end : Ending) × (status ≡ status_of end) × EndsBy setup before after end
-
--- the end of an input, by what is held there
-abbrev pub over_with : List ℕ → Ending
-over_with [] = Over
-over_with (b ∷ bytes) = Unfinished
 
 -- All that waited was given to the sink, and the end stands; or the sink failed.
 abbrev pub Finishes : Ending → Outlet → Stream → Ending → Type 0

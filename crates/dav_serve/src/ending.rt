@@ -11,7 +11,7 @@ pub enum Ending {
     Closed,
     /// The input has no valid request at its place.
     Refused,
-    /// The input ends inside a head.
+    /// The input ends inside a head or a body.
     Unfinished,
     /// The source failed.
     SourceFailed,

@@ -9,7 +9,7 @@ ghost use Rattle.dav_serve.specs.Stages.{outlet_of, work_of};
 
 use crate::turns::{poll_turn, request_turn};
 use dav_core::Disk;
-use dav_handler::{Answer, Player, announces_body};
+use dav_handler::{Answer, Player};
 use dav_io::{Field, Moment, NoMemory, Octets, Sink};
 use dav_wire::{
     Framing, Output, answer_head, asks_close, framing, is_old, says_close, takes_chunks,
@@ -56,9 +56,6 @@ fn closes_after(parts: &Parts) -> bool
     ensures { ClosesAfter parts.now result }
 {
     if is_old(parts.version) {
-        return true;
-    }
-    if announces_body(&parts.headers) {
         return true;
     }
     asks_close(&parts.headers)

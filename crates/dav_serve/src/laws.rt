@@ -3,7 +3,6 @@
 ghost use Rattle.dav_model.specs.Play.{Stage};
 ghost use Rattle.std.specs.Prelude.{◌≡◌, ◌++◌, ℕ, Bool, List, [], ◌∷◌, All, true, false, codes, decimal, Option, Result, Ok, length};
 ghost use Rattle.std.specs.List.{AllByRecursion, concat, flat_map};
-ghost use Rattle.httparse.specs.Grammar.{RequestHead};
 ghost use Rattle.dav_io.specs.Outside.{Stream};
 ghost use Rattle.dav_io.specs.declared.clock.Moment.{Moment};
 ghost use Rattle.dav_io.specs.declared.failure.NoMemory.{NoMemory};
@@ -13,8 +12,9 @@ ghost use Rattle.dav_model.specs.declared.step.Step.{Step};
 ghost use Rattle.dav_model.specs.Announced.{bytes_in, length_is_own};
 ghost use Rattle.dav_model.specs.Trail.{target_of};
 ghost use Rattle.dav_wire.specs.AnswerHeads.{ReadsAnswer};
-ghost use Rattle.dav_wire.specs.Answers.{bad_request_text, close_field, head_text};
+ghost use Rattle.dav_wire.specs.Answers.{bad_request_text, close_field, head_text, too_large_text};
 ghost use Rattle.dav_wire.specs.Chunks.{written, ending, HasBody};
+ghost use Rattle.dav_wire.specs.Messages.{Message};
 ghost use Rattle.dav_wire.specs.declared.chunks.Framing.TheVariants.{Raw, Chunked};
 ghost use Rattle.dav_serve.specs.Bodies.{Announces, AnnouncesMore, GivesAnnounced, IsBodiless, IsHeadAlone, IsNonempty, IsShort, TellsEnd};
 ghost use Rattle.dav_serve.specs.Exchange.{Exchange, IsOf, begun_answers, framing_of, steps_of, answers_of, wire_of};
@@ -63,7 +63,7 @@ pub fn answers_in_chunks_are_read_back()
 /// and the connection closes behind it (RFC 9112, section 6.3). The answer to a HEAD, and one with 204 or 304, is its head
 /// alone.
 pub fn framed_answers_end()
-    ensures tells { (shown : Option Moment) (head : RequestHead) (x : Exchange) → IsOf shown head x → TellsEnd x }
+    ensures tells { (shown : Option Moment) (message : Message) (x : Exchange) → IsOf shown message x → TellsEnd x }
     ensures alone { (a b : Stage) (x : Exchange) → PlayedOn a (steps_of x) (answers_of x) (Ok tt) b
         → IsBodiless x → IsHeadAlone x }
 {}
@@ -77,15 +77,17 @@ pub fn served_answers_give_what_they_announce()
 
 /// The head of each answer that a run writes is read back as one response head, whatever follows: with exactly its status
 /// and its fields, in order and none of them twice, and behind it stands its body (`served`). The same holds of an answer
-/// whose body breaks, or behind whose reply memory is refused (`begun`), and of the refusal of what is no request. So
-/// nothing that a disk tells splits an answer or brings a field into it; by `answer_heads_are_one` of `dav_wire` nothing
-/// else is read there.
+/// whose body breaks, or behind whose reply memory is refused (`begun`), and of the refusals of what is no request
+/// (`refusal`) and of a body that is too large (`large`). So nothing that a disk tells splits an answer or brings a field
+/// into it; by `answer_heads_are_one` of `dav_wire` nothing else is read there.
 pub fn heads_are_read_back()
     ensures served { (setup : Setup) (closed : Bool) (before : Outside) (source : Stream) (held : List ℕ) (xs : List Exchange) (last : Stage)
         → Serving setup closed before source held xs last → AllByRecursion HasHead xs }
     ensures begun { (a b : Stage) (x : Exchange) (steps : List Step) (behind : List Answer) (result : Result Unit NoMemory)
         → PlayedOn a steps (begun_answers x ++ behind) result b → HasHead x }
     ensures refusal { (behind : List ℕ) → ReadsAnswer (bad_request_text ++ behind) 400
+        (close_field ∷ record { name = codes "content-length"; value = codes "0" } ∷ []) behind }
+    ensures large { (behind : List ℕ) → ReadsAnswer (too_large_text ++ behind) 413
         (close_field ∷ record { name = codes "content-length"; value = codes "0" } ∷ []) behind }
 {}
 

@@ -2,6 +2,7 @@
 //! that it is handed.
 #![tactic(auto)]
 
+mod asking;
 mod ending;
 mod exchange;
 pub mod laws;

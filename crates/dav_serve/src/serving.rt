@@ -1,22 +1,30 @@
 // Serving the requests of a source, one after the other.
-ghost use Rattle.std.specs.Prelude.{◌≡◌, ◌++◌, ◌≤◌, IfOk, OnErr, [], length};
+ghost use Rattle.std.specs.Prelude.{◌≡◌, ◌++◌, IfOk, OnErr, []};
 ghost use Rattle.dav_model.specs.Rules.{plain_rules};
-ghost use Rattle.dav_wire.specs.Answers.{bad_request_text as the_bad_request_text};
+ghost use Rattle.dav_wire.specs.Answers.{refusal_text as the_refusal_text};
 ghost use Rattle.dav_serve.specs.declared.ending.Ending.TheVariants.{Refused};
 ghost use Rattle.dav_serve.specs.Ends.{Answers, IsAnswerTo, MemoryStopped};
-ghost use Rattle.dav_serve.specs.Serving.{HoldsSoFar, EndsBy, ServedPartly, Starved, Finishes, over_with, ready, setup_with};
+ghost use Rattle.dav_serve.specs.Serving.{HoldsSoFar, EndsBy, ServedPartly, Starved, Finishes, ready, setup_with};
 ghost use Rattle.dav_serve.specs.Stages.{outlet_of, outside_of, work_of};
 ghost use Rattle.dav_serve.specs.Words.{set_by};
 
+use crate::asking::{Message, Next, next_message};
 use crate::ending::Ending;
 use crate::exchange::{Ended, exchange, manner_of};
 use crate::words::Options;
 use dav_core::Disk;
 use dav_handler::Player;
 use dav_io::{Client, Clock, Moment, NoMemory, Sink};
-use dav_wire::{Found, Input, Output, ReadError, bad_request_text, fill_flushing, into_request};
-use http::request::Parts;
+use dav_wire::{Flaw, Input, Output, ReadError, refusal_text};
+use http::Request;
 use std::alloc::Global;
+
+// What was taken from the source and not yet read, and what waits for the sink.
+#[derive(Drop)]
+struct Held {
+    input: Input,
+    output: Output,
+}
 
 // Answers a request by a player of its own, so that no count of replies ever runs out.
 fn answer<K: Sink, D: Disk>(
@@ -26,17 +34,18 @@ fn answer<K: Sink, D: Disk>(
     output: &mut Output,
     sink: &mut K,
     now: Moment,
-    parts: Parts,
+    message: Message,
 ) -> Result<Ended, NoMemory>
-    ensures ends { IfOk result (λ ended. Answers parts now
+    ensures ends { IfOk result (λ ended. Answers message.parts message.body now
         (work_of (K.stream sink.old) output.old (ready (plain_rules (set_by options.now)) (D.state disk.old)))
         ended (outlet_of (K.stream sink.new) output.new) (D.state disk.new)) }
-    ensures memory { OnErr result (MemoryStopped (IsAnswerTo parts now)
+    ensures memory { OnErr result (MemoryStopped (IsAnswerTo message.parts message.body now)
         (work_of (K.stream sink.old) output.old (ready (plain_rules (set_by options.now)) (D.state disk.old)))
         (outlet_of (K.stream sink.new) output.new) (D.state disk.new)) }
 {
-    let manner = manner_of(&parts);
-    let request = into_request(alloc, parts);
+    let manner = manner_of(&message.parts);
+    let Message { parts, body } = message;
+    let request = Request::from_parts(parts, body);
     let settings = match options.settings(alloc) {
         Ok(settings) => settings,
         Err(error) => return Err(error),
@@ -58,24 +67,14 @@ fn finish<K: Sink>(output: &mut Output, sink: &mut K, ending: Ending) -> Ending
 }
 
 // Refuses what no request can be.
-fn refuse<K: Sink>(output: &mut Output, sink: &mut K) -> Ending
-    ensures { Finishes Refused (outlet_of (K.stream sink.old) (output.old ++ the_bad_request_text)) (K.stream sink.new)
+fn refuse<K: Sink>(output: &mut Output, sink: &mut K, flaw: Flaw) -> Ending
+    ensures { Finishes Refused (outlet_of (K.stream sink.old) (output.old ++ the_refusal_text flaw)) (K.stream sink.new)
         result }
 {
-    match output.push(sink, bad_request_text()) {
+    match output.push(sink, refusal_text(flaw)) {
         Ok(()) => finish(output, sink, Ending::Refused),
         Err(_) => Ending::SinkFailed,
     }
-}
-
-// What an input is at its end: all read, or a head that isn't finished.
-fn at_end(input: &Input) -> Ending
-    ensures { result ≡ over_with input.now.bytes }
-{
-    if input.pending().is_empty() {
-        return Ending::Over;
-    }
-    Ending::Unfinished
 }
 
 // Answers requests until the input ends, an answer closes, or something fails. Answers to requests that came together
@@ -84,15 +83,14 @@ fn at_end(input: &Input) -> Ending
 fn answer_all<S: Client<K>, K: Sink, D: Disk, C: Clock>(
     alloc: Global,
     options: &Options<'_>,
-    input: &mut Input,
-    output: &mut Output,
+    held: &mut Held,
     source: &mut S,
     sink: &mut K,
     disk: &mut D,
     clock: &mut C,
 ) -> Result<Ending, NoMemory>
-    requires unread { input.old ≡ record { bytes = []; taken = 0 } }
-    requires empty { output.old ≡ [] }
+    requires unread { held.old.input ≡ record { bytes = []; taken = 0 } }
+    requires empty { held.old.output ≡ [] }
     requires waits { HoldsSoFar
         (setup_with (C.shows clock.old) (set_by options.now))
         (outside_of (S.stream source.old) (K.stream sink.old) (D.state disk.old))
@@ -105,40 +103,38 @@ fn answer_all<S: Client<K>, K: Sink, D: Disk, C: Clock>(
     ensures memory { OnErr result (Starved
         (setup_with (C.shows clock.old) (set_by options.now))
         (outside_of (S.stream source.old) (K.stream sink.old) (D.state disk.old))
-        output.new
+        held.new.output
         (outside_of (S.stream source.new) (K.stream sink.new) (D.state disk.new))) }
 {
     'requests: loop {
-        match input.next_head(alloc) {
-            Ok(Found::Whole(parts)) => {
+        match next_message(alloc, &mut held.input, source, &mut held.output, sink) {
+            Ok(Next::Whole(message)) => {
                 let now = clock.now();
-                match answer(alloc, options, disk, output, sink, now, parts) {
+                match answer(alloc, options, disk, &mut held.output, sink, now, message) {
                     Ok(Ended::Open) => {}
-                    Ok(Ended::Closed) => return Ok(finish(output, sink, Ending::Closed)),
+                    Ok(Ended::Closed) => return Ok(finish(&mut held.output, sink, Ending::Closed)),
                     Ok(Ended::SinkFailed) => return Ok(Ending::SinkFailed),
-                    Ok(Ended::Broke) => return Ok(finish(output, sink, Ending::DiskFailed)),
+                    Ok(Ended::Broke) => return Ok(finish(
+                        &mut held.output,
+                        sink,
+                        Ending::DiskFailed,
+                    )),
                     Err(error) => return Err(error),
                 }
             }
-            Ok(Found::Refused) => return Ok(refuse(output, sink)),
-            Ok(Found::More) => match fill_flushing(input, source, output, sink) {
-                Ok(count) => {
-                    if count == 0 {
-                        return Ok(at_end(input));
-                    }
-                }
-                Err(ReadError::Failed) => return Ok(Ending::SourceFailed),
-                Err(ReadError::TooMuch) => return Ok(Ending::TooMuch),
-                Err(ReadError::NoMemory) => return Err(NoMemory),
-                Err(ReadError::Unsent) => return Ok(Ending::SinkFailed),
-            },
-            Err(error) => return Err(error),
+            Ok(Next::Refused(flaw)) => return Ok(refuse(&mut held.output, sink, flaw)),
+            Ok(Next::Over) => return Ok(Ending::Over),
+            Ok(Next::Unfinished) => return Ok(Ending::Unfinished),
+            Err(ReadError::Failed) => return Ok(Ending::SourceFailed),
+            Err(ReadError::TooMuch) => return Ok(Ending::TooMuch),
+            Err(ReadError::NoMemory) => return Err(NoMemory),
+            Err(ReadError::Unsent) => return Ok(Ending::SinkFailed),
         }
     }
 }
 
 /// Reads requests from a client and writes their answers to a sink, until the input ends, an answer closes, or something
-/// fails. It answers how it ended. The client is asked only where all that came is answered and written.
+/// fails. It answers how it ended. The client is asked only where all requests that came whole are answered and written.
 pub fn serve<S: Client<K>, K: Sink, D: Disk, C: Clock>(
     alloc: Global,
     options: &Options<'_>,
@@ -161,28 +157,20 @@ pub fn serve<S: Client<K>, K: Sink, D: Disk, C: Clock>(
         (outside_of (S.stream source.old) (K.stream sink.old) (D.state disk.old))
         (outside_of (S.stream source.new) (K.stream sink.new) (D.state disk.new))) }
 {
-    let mut input = match Input::new(alloc) {
+    let input = match Input::new(alloc) {
         Ok(input) => input,
         Err(error) => return Err(error),
     };
-    let mut output = match Output::new(alloc) {
+    let output = match Output::new(alloc) {
         Ok(output) => output,
         Err(error) => return Err(error),
     };
-    match answer_all(
-        alloc,
-        options,
-        &mut input,
-        &mut output,
-        source,
-        sink,
-        disk,
-        clock,
-    ) {
+    let mut held = Held { input, output };
+    match answer_all(alloc, options, &mut held, source, sink, disk, clock) {
         Ok(ending) => Ok(ending),
         Err(error) => {
             // What was answered before is written also where memory is refused.
-            let _ = output.flush(sink);
+            let _ = held.output.flush(sink);
             Err(error)
         }
     }

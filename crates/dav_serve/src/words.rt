@@ -1,11 +1,12 @@
 // The words of the command line.
 ghost use Rattle.std.specs.Prelude.{◌≡◌, IfOk, None, map, option_map, string_bytes};
 ghost use Rattle.dav_model.specs.Unset.{nothing_set};
-ghost use Rattle.dav_serve.specs.Words.{is_pages as the_is_pages, options_set, set_by, settings_said as the_settings_said, size_said as the_size_said, with_buffer as the_with_buffer, with_index as the_with_index, with_pages as the_with_pages, with_value as the_with_value};
+ghost use Rattle.std.specs.List.{list_all};
+ghost use Rattle.dav_serve.specs.Words.{has_names as the_has_names, is_name as the_is_name, is_pages as the_is_pages, is_prefix as the_is_prefix, is_prefix_byte as the_is_prefix_byte, options_set, prefix_said, set_by, settings_said as the_settings_said, size_said as the_size_said, with_buffer as the_with_buffer, with_index as the_with_index, with_pages as the_with_pages, with_prefix as the_with_prefix, with_value as the_with_value};
 ghost use Rattle.std.specs.Option.{option_and_then};
 ghost use Rattle.dav_serve.specs.Words.{name_said};
 
-use dav_core::is_plain;
+use dav_core::{DavPath, is_plain};
 use dav_handler::Settings;
 use dav_io::{NoMemory, Text};
 use std::alloc::Global;
@@ -16,6 +17,8 @@ const MOST_BUFFER: usize = 1_048_576;
 /// What the options of the command line set.
 #[derive(Clone, Copy)]
 pub struct Options<'a> {
+    /// What each path begins with; empty where nothing is asked.
+    pub prefix: &'a str,
     /// A directory is answered with a page of its entries.
     pub autoindex: bool,
     /// The name of the file that stands for its directory.
@@ -36,6 +39,7 @@ impl Options<'_> {
         if let Some(name) = self.indexfile {
             settings.indexfile = Some(Text::copy(alloc, name)?);
         }
+        settings.prefix = Text::copy(alloc, self.prefix)?;
         settings.read_buf_size = self.bufsize;
         Ok(settings)
     }
@@ -55,6 +59,7 @@ pub fn options_said(words: &[String]) -> Option<Options<'_>>
                 return None;
             }
             let none = Options {
+                prefix: "",
                 autoindex: false,
                 indexfile: None,
                 bufsize: None,
@@ -91,6 +96,7 @@ fn with_pages<'a>(options: &Options<'a>) -> Option<Options<'a>>
         return None;
     }
     Some(Options {
+        prefix: options.prefix,
         autoindex: true,
         indexfile: options.indexfile,
         bufsize: options.bufsize,
@@ -107,6 +113,9 @@ fn with_value<'a>(options: &Options<'a>, option: &str, value: &'a str) -> Option
     if option == "--bufsize" {
         return with_buffer(options, value);
     }
+    if option == "--prefix" {
+        return with_prefix(options, value);
+    }
     None
 }
 
@@ -121,6 +130,7 @@ fn with_index<'a>(options: &Options<'a>, name: &'a str) -> Option<Options<'a>>
         return None;
     }
     Some(Options {
+        prefix: options.prefix,
         autoindex: options.autoindex,
         indexfile: Some(name),
         bufsize: options.bufsize,
@@ -136,10 +146,69 @@ fn with_buffer<'a>(options: &Options<'a>, word: &str) -> Option<Options<'a>>
         return None;
     }
     Some(Options {
+        prefix: options.prefix,
         autoindex: options.autoindex,
         indexfile: options.indexfile,
         bufsize: Some(size),
     })
+}
+
+// A prefix besides, where none was said before.
+fn with_prefix<'a>(options: &Options<'a>, prefix: &'a str) -> Option<Options<'a>>
+    ensures { option_map set_by result ≡ option_and_then (the_with_prefix (set_by options.now)) (prefix_said prefix.now) }
+{
+    if !is_prefix(prefix) {
+        return None;
+    }
+    if !options.prefix.is_empty() {
+        return None;
+    }
+    Some(Options {
+        prefix,
+        autoindex: options.autoindex,
+        indexfile: options.indexfile,
+        bufsize: options.bufsize,
+    })
+}
+
+// A byte that may stand in a prefix.
+fn is_prefix_byte(b: u8) -> bool
+    ensures { result ≡ the_is_prefix_byte b }
+{
+    matches!(b, 0x21..=0x7e) && b != b'#' && b != b'%' && b != b'?'
+}
+
+fn has_prefix_bytes(word: &[u8]) -> bool
+    ensures { result ≡ list_all the_is_prefix_byte word.now }
+{
+    word.iter().all(|b| is_prefix_byte(*b))
+}
+
+// Whether a segment is a name.
+fn is_name(segment: &[u8]) -> bool
+    ensures { result ≡ the_is_name segment.now }
+{
+    !segment.is_empty()
+}
+
+// Whether a prefix has names.
+fn has_names(word: &[u8]) -> bool
+    ensures { result ≡ the_has_names word.now }
+{
+    word.split(|b| *b == b'/').any(|segment| is_name(segment))
+}
+
+// Whether a word is a prefix.
+fn is_prefix(word: &str) -> bool
+    ensures { result ≡ the_is_prefix word.now }
+{
+    if !has_prefix_bytes(word.as_bytes()) {
+        return false;
+    }
+    if !DavPath::prefix_fits(word) {
+        return false;
+    }
+    has_names(word.as_bytes())
 }
 
 // The size that a word says, in decimal digits without sign and leading zeros.

@@ -8,7 +8,8 @@ use std::io::ErrorKind;
 use std::process::ExitCode;
 use std::{env, io};
 
-const USAGE: &str = "usage: davserve ROOT serve [--autoindex] [--indexfile NAME] [--bufsize N]";
+const USAGE: &str =
+    "usage: davserve ROOT serve [--prefix P] [--autoindex] [--indexfile NAME] [--bufsize N]";
 
 // What stands in the words behind the program's name.
 enum Arguments {
@@ -67,7 +68,7 @@ fn serve(rt: &HostRuntime, words: &[String]) -> Result<u8, NoMemory> {
 fn line_of(status: u8) -> &'static str {
     match status {
         2 =>
-            "davserve: the words are not understood; usage: davserve ROOT serve [--autoindex] [--indexfile NAME] [--bufsize N]",
+            "davserve: the words are not understood; usage: davserve ROOT serve [--prefix P] [--autoindex] [--indexfile NAME] [--bufsize N]",
         3 => "davserve: reading the requests failed",
         4 => "davserve: writing the answers failed",
         5 => "davserve: the disk failed in the middle of a body",

@@ -1,4 +1,4 @@
-use Rattle.std.proofs.Common.{◌≡◌, ◌∙◌, ℕ, List, Bool, ap, subst, sym, arith, refl}
+use Rattle.std.proofs.Common.{◌≡◌, ◌∙◌, ℕ, List, Bool, ap, subst, arith, refl}
 use Rattle.http.specs.Request.{head_of}
 use Rattle.dav_io.specs.declared.fields.Field.{Field}
 use Rattle.dav_model.specs.Requests.{Asked}

@@ -1,4 +1,4 @@
-use Rattle.std.proofs.Common.{◌≡◌, ◌∙◌, Option, Some, option_map, IfSome, sym, ap, subst, refl}
+use Rattle.std.proofs.Common.{◌≡◌, ◌∙◌, Option, Some, option_map, IfSome, sym, ap, subst}
 use Rattle.dav_serve.proofs.StatusByInput.{completes}
 use Rattle.dav_serve.proofs.run.run.Goals as goal
 

@@ -1,20 +1,20 @@
-use Rattle.std.proofs.Common.{◌≡◌, ◌+◌, ◌-◌, ◌*◌, ◌^◌, length}
+use Rattle.std.proofs.Common.{◌≡◌}
 use Rattle.dav_io.specs.Outside.{Stream}
 use Rattle.dav_serve.specs.Serving.{setup_with}
 use Rattle.dav_serve.specs.Stages.{outside_of}
 use Rattle.dav_serve.specs.Words.{set_by}
-use Rattle.dav_serve.proofs.Progress.{Progress}
+use Rattle.dav_serve.proofs.Progress.{Progress, steps_left}
 use Rattle.dav_serve.proofs.serving.answer_all.Given as goal
 
 abbrev pub decreases-requests : goal.decreases-requests
-decreases-requests g l = 2 * (2 ^ 60 - l.input.taken) + length l.input.bytes
+decreases-requests g l = steps_left l.held.input
 
 abbrev pub invariant-requests : goal.invariant-requests
 invariant-requests g l = record {
   clock : g.C.Clock.shows l.clock ≡ g.C.Clock.shows l.fn.clock;
   progress : Progress (setup_with (g.C.Clock.shows l.fn.clock) (set_by l.fn.options))
       (outside_of (g.S.Client.stream l.fn.source) (g.K.Sink.stream l.fn.sink) (g.D.Disk.state l.fn.disk))
-      l.input l.output
+      l.held.input l.held.output
       (outside_of (g.S.Client.stream l.source) (g.K.Sink.stream l.sink) (g.D.Disk.state l.disk));
   may : (left written : Stream) → g.S.Client.may l.fn.source left written → g.S.Client.may l.source left written;
 }

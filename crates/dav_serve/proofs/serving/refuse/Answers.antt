@@ -4,7 +4,7 @@ use Rattle.dav_serve.proofs.RunEnds.{refuses, refuses_not}
 use Rattle.dav_serve.proofs.serving.refuse.Goals as goal
 
 pub returns-in-Ok : goal.returns-in-Ok
-returns-in-Ok g c = rw c.bad_request_text.ensures at (refuses Refused _ c.in-Ok.ensures c.finish.ensures)
+returns-in-Ok g c = rw c.refusal_text.ensures at (refuses Refused _ c.in-Ok.ensures c.finish.ensures)
 
 pub returns-in-Err : goal.returns-in-Err
-returns-in-Err g c = rw c.bad_request_text.ensures at (refuses_not Refused SinkFailed refl c.in-Err.ensures)
+returns-in-Err g c = rw c.refusal_text.ensures at (refuses_not Refused SinkFailed refl c.in-Err.ensures)
