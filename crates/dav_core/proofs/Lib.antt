@@ -17,3 +17,5 @@ pub mod UnchangedLemmas
 pub mod TablesLemmas
 pub mod LookLemmas
 pub mod HeldStays
+pub mod AllowedRows
+pub mod PlaceLemmas

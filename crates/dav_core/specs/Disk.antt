@@ -1,5 +1,5 @@
 -- What each call of a disk does, as a relation between the disk before and after it.
-use Rattle.std.specs.Prelude.{◌≡◌, ◌≤◌, ◌+◌, ◌&&◌, ℕ, List, [], length, take, drop, min, Bool, true, false, IsTrue, Option, None, Some, IsSome, Result, Ok, Err, IfOk, IfErr, OnErr, IsOk}
+use Rattle.std.specs.Prelude.{◌≡◌, ◌≤◌, ◌+◌, ◌&&◌, ◌||◌, ℕ, List, [], length, take, drop, min, Bool, true, false, IsTrue, Option, None, Some, IsSome, Result, Ok, Err, IfOk, IfErr, OnErr, IsOk}
 use Rattle.std.specs.Result.{IsErrOf}
 use Rattle.std.specs.Option.{option_map, is_some}
 use Rattle.dav_io.specs.Counts.{Rose, one_more}
@@ -12,9 +12,11 @@ use Rattle.dav_core.specs.declared.handle.OpenOptions.{OpenOptions}
 use Rattle.dav_core.specs.declared.handle.DiskError.{DiskError}
 use Rattle.dav_core.specs.declared.handle.DiskError.TheVariants.{NotFound, Exists, NotDir, IsDir, NotEmpty, Failed, NoMemory}
 use Rattle.dav_core.specs.Path.{Names}
-use Rattle.dav_core.specs.Tree.{look, is_linked, is_file}
-use Rattle.dav_core.specs.World.{World, OpenFile, Holds, SameHeld, put, bytes_of, time_of}
+use Rattle.dav_core.specs.Tree.{look, row_at, is_linked, is_file}
+use Rattle.dav_core.specs.World.{World, OpenFile, Holds, SameHeld, SameBesidesOpens, put, bytes_of, time_of}
 use Rattle.dav_core.specs.Changes.{turned}
+use Rattle.dav_core.specs.Edits.{Edit, EditedBy, SameOpens}
+use Rattle.dav_core.specs.Allowed.{opening}
 
 -- what every disk knows of a live handle: what stands behind it, and how it was opened
 pub record Live : Type 0 where
@@ -110,20 +112,40 @@ abbrev pub LiveAfterOpen : OpenOptions → Result Handle DiskError → (ℕ → 
 LiveAfterOpen how (Ok h) old new = (kind : Kind) × (old h.0 ≡ None) × (new ≡ put h.0 (Some (record { kind = kind; how = how })) old)
 LiveAfterOpen how (Err e) old new = new ≡ old
 
--- the refusals of opening for reading
-abbrev pub MayRefuseOpen : DiskError → Type 0
-MayRefuseOpen NotFound = Unit {0}
-MayRefuseOpen NotDir = Unit {0}
-MayRefuseOpen Failed = Unit {0}
-MayRefuseOpen NoMemory = Unit {0}
-MayRefuseOpen e = ⊥
+-- an opening that may change what stands there, or make it
+abbrev pub may_change : OpenOptions → Bool
+may_change how = how.write || (how.append || (how.truncate || (how.create || how.create_new)))
 
--- A file or directory is opened for reading.
+-- the refusals of opening, by whether it may change something
+abbrev pub MayRefuseOpen : Bool → DiskError → Type 0
+MayRefuseOpen may NotFound = Unit {0}
+MayRefuseOpen may NotDir = Unit {0}
+MayRefuseOpen may Failed = Unit {0}
+MayRefuseOpen may NoMemory = Unit {0}
+MayRefuseOpen may NotEmpty = ⊥
+MayRefuseOpen true e = Unit {0}
+MayRefuseOpen false e = ⊥
+
+-- The handle has what stands at the path open, at its first byte, after the edit that opening makes there; all else that
+-- is open stays. Nothing more is said where a link stands on the way.
+abbrev pub OpenedOver : Names → OpenOptions → Result Handle DiskError → Option Kind → World → World → Type 0
+OpenedOver path how (Ok h) kind v w = (number : ℕ) × (w.opens ≡ put h.0 (Some (at_start number)) v.opens)
+    × (w.listings ≡ v.listings) × Holds w number
+    × (is_linked v.tree path ≡ false → (edit : Option Edit) × (row : Row) × (opening v.tree path how ≡ Ok edit)
+        × EditedBy edit v w × (row_at w.tree path ≡ Some row) × (row.number ≡ number) × (kind ≡ Some row.kind))
+OpenedOver path how (Err e) kind v w = SameOpens v w
+    × (is_linked v.tree path ≡ false → SameBesidesOpens v w × Refused e (opening v.tree path how))
+
+abbrev pub OpenedBy : Bool → Names → OpenOptions → Result Handle DiskError → Option Kind → World → World → Type 0
+OpenedBy false path how result kind v w = OpenedIn path result kind v w
+OpenedBy true path how result kind v w = OpenedOver path how result kind v w
+
+-- A file or directory is opened.
 pub record Opens (old : DiskState) (path : Names) (how : OpenOptions) (result : Result Handle DiskError) (new : DiskState) : Type 0 where
   pub asks : Asks result old new
-  pub only : IfErr result MayRefuseOpen
+  pub only : IfErr result (MayRefuseOpen (may_change how))
   pub live : LiveAfterOpen how result old.live new.live
-  pub told : Both old.told new.told (OpenedIn path result (kind_opened result new))
+  pub told : Both old.told new.told (OpenedBy (may_change how) path how result (kind_opened result new))
 
 abbrev pub FileMetaIn : ℕ → Result Meta DiskError → World → Type 0
 FileMetaIn h (Ok meta) w = (o : OpenFile) × (w.opens h ≡ Some o) × (meta.number ≡ o.number) × (meta.len ≡ length (bytes_of w o.number))

@@ -2,10 +2,13 @@ pub mod Path
 pub mod Tree
 pub mod World
 pub mod Changes
+pub mod Edits
+pub mod Allowed
 pub mod Options
 pub mod Errors
 pub mod Disk
 pub mod Tables
+pub mod Writing
 pub mod Listing
 pub mod Unchanged
 pub mod DavPath

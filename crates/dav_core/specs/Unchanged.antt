@@ -9,16 +9,9 @@ use Rattle.dav_core.specs.declared.handle.Handle.{Handle}
 use Rattle.dav_core.specs.declared.handle.OpenOptions.{OpenOptions}
 use Rattle.dav_core.specs.declared.handle.DiskError.{DiskError}
 use Rattle.dav_core.specs.Path.{Names}
-use Rattle.dav_core.specs.World.{World, OpenFile, Holds, put}
+use Rattle.dav_core.specs.World.{World, OpenFile, put}
+pub use Rattle.dav_core.specs.World.{SameBesidesOpens}
 use Rattle.dav_core.specs.Disk.{Live, DiskState, Metas, FileMetas, Opens, OpenedIn, kind_opened, Seeks, SoughtIn, Reads, ReadIn, placed, Closes, ClosedIn}
-
--- The same but for which files and listings are open. What somebody holds was held before, and has its bytes and its time.
-pub record SameBesidesOpens (v w : World) : Type 0 where
-  pub tree : w.tree ≡ v.tree
-  pub files : (number : ℕ) → Holds w number → Holds v number × (w.files number ≡ v.files number)
-  pub greatest : w.greatest ≡ v.greatest
-  pub latest : w.latest ≡ v.latest
-  pub script : w.script ≡ v.script
 
 -- What a handle has open stays, number and place. Its bytes stay by `SameBesidesOpens`; a turn may change them.
 abbrev pub SameOpen : ℕ → World → World → Type 0

@@ -66,6 +66,14 @@ pub record SameHeld (v w : World) : Type 0 where
   pub same : w ≡ record v { files = w.files }
   pub files : (number : ℕ) → Holds w number → w.files number ≡ v.files number
 
+-- The same but for which files and listings are open. What somebody holds was held before, and has its bytes and its time.
+pub record SameBesidesOpens (v w : World) : Type 0 where
+  pub tree : w.tree ≡ v.tree
+  pub files : (number : ℕ) → Holds w number → Holds v number × (w.files number ≡ v.files number)
+  pub greatest : w.greatest ≡ v.greatest
+  pub latest : w.latest ≡ v.latest
+  pub script : w.script ≡ v.script
+
 -- a time doesn't stand after another
 abbrev pub NotAfter : FileTime → FileTime → Type 0
 NotAfter a b = (a.secs ≤ℤ b.secs) × (a.secs ≡ b.secs → a.nanos ≤ b.nanos)

@@ -1,8 +1,8 @@
 ghost use Rattle.std.specs.Prelude.{◌≡◌, ◌<◌, length, IsSome, Option, None, Some};
 ghost use Rattle.std.specs.Borrow.{GName};
 ghost use Rattle.dav_core.specs.World.{World, IsWorld};
-ghost use Rattle.dav_core.specs.Options.{reading};
 ghost use Rattle.dav_core.specs.Disk.{DiskState, TellsLive, Metas, FileMetas, Opens, Seeks, Reads, Closes, Turns};
+ghost use Rattle.dav_core.specs.Writing.{CreatesDir, RemovesDir, RemovesFile, Renames, Copies, Writes};
 ghost use Rattle.dav_core.specs.Listing.{Lists, ListsOn, EndsListing};
 
 use crate::{DiskError, FsPath, Handle, Lister, Meta, OpenOptions};
@@ -24,9 +24,10 @@ pub trait Disk {
         ensures done { Metas (state self.old) path.now result (state self.new) }
         ensures loan { loan self.new ≡ loan self.old };
 
-    /// Opens what stands at a path, at its first byte. New files would be open to everybody where `public` is set.
+    /// Opens what stands at a path, at its first byte. With `create` or `create_new` a file is made where nothing stands,
+    /// open to everybody where `public` is set; with `create_new` nothing may stand there. With `truncate` and `write` a
+    /// file that stands there is emptied.
     fn open(&mut self, path: &FsPath, how: OpenOptions, public: bool) -> Result<Handle, DiskError>
-        requires { how ≡ reading }
         ensures done { Opens (state self.old) path.now how result (state self.new) }
         ensures loan { loan self.new ≡ loan self.old };
 
@@ -50,6 +51,14 @@ pub trait Disk {
         ensures done { Reads (state self.old) file.0 into.new result (state self.new) }
         ensures loan { loan self.new ≡ loan self.old };
 
+    /// Writes bytes at an open file's place, or at its end where it was opened to append, and answers how many, at least
+    /// one. Zeros fill a gap before its place. A refused write may have written a front.
+    fn write(&mut self, file: Handle, from: &[u8]) -> Result<usize, DiskError>
+        requires live { IsSome ((state self.old).live file.0) }
+        requires some { 0 < length from.now }
+        ensures done { Writes (state self.old) file.0 from.now result (state self.new) }
+        ensures loan { loan self.new ≡ loan self.old };
+
     /// Ends an open file. It is no counted call, and can't be refused.
     fn close(&mut self, file: Handle)
         requires { IsSome ((state self.old).live file.0) }
@@ -71,6 +80,33 @@ pub trait Disk {
     fn end_list(&mut self, at: Lister)
         requires { IsSome ((state self.old).listers at.0) }
         ensures done { EndsListing (state self.old) at.0 (state self.new) }
+        ensures loan { loan self.new ≡ loan self.old };
+
+    /// Makes a directory where nothing stands, open to everybody where `public` is set.
+    fn create_dir(&mut self, path: &FsPath, public: bool) -> Result<(), DiskError>
+        ensures done { CreatesDir (state self.old) path.now result (state self.new) }
+        ensures loan { loan self.new ≡ loan self.old };
+
+    /// Removes a directory without members. The root stays.
+    fn remove_dir(&mut self, path: &FsPath) -> Result<(), DiskError>
+        ensures done { RemovesDir (state self.old) path.now result (state self.new) }
+        ensures loan { loan self.new ≡ loan self.old };
+
+    /// Removes what is no directory. Where it is open it keeps its bytes.
+    fn remove_file(&mut self, path: &FsPath) -> Result<(), DiskError>
+        ensures done { RemovesFile (state self.old) path.now result (state self.new) }
+        ensures loan { loan self.new ≡ loan self.old };
+
+    /// Moves what stands at a path to another, with all below it: a file in place of a file, a directory in place of one
+    /// without members, or where nothing stands. A rename that met a fault may have been made.
+    fn rename(&mut self, from: &FsPath, to: &FsPath) -> Result<(), DiskError>
+        ensures done { Renames (state self.old) from.now to.now result (state self.new) }
+        ensures loan { loan self.new ≡ loan self.old };
+
+    /// Copies a file's bytes into the file at another path, which is made where nothing stands. A copy that met a fault
+    /// may have copied a front of them.
+    fn copy(&mut self, from: &FsPath, to: &FsPath) -> Result<(), DiskError>
+        ensures done { Copies (state self.old) from.now to.now result (state self.new) }
         ensures loan { loan self.new ≡ loan self.old };
 
     /// Lets the outside make its next batch of changes, whole. Where memory is refused it makes nothing.
@@ -110,6 +146,10 @@ impl<D: Disk> Disk for &mut D {
         Disk::read(&mut **self, file, into)
     }
 
+    fn write(&mut self, file: Handle, from: &[u8]) -> Result<usize, DiskError> {
+        Disk::write(&mut **self, file, from)
+    }
+
     fn close(&mut self, file: Handle) {
         Disk::close(&mut **self, file)
     }
@@ -124,6 +164,26 @@ impl<D: Disk> Disk for &mut D {
 
     fn end_list(&mut self, at: Lister) {
         Disk::end_list(&mut **self, at)
+    }
+
+    fn create_dir(&mut self, path: &FsPath, public: bool) -> Result<(), DiskError> {
+        Disk::create_dir(&mut **self, path, public)
+    }
+
+    fn remove_dir(&mut self, path: &FsPath) -> Result<(), DiskError> {
+        Disk::remove_dir(&mut **self, path)
+    }
+
+    fn remove_file(&mut self, path: &FsPath) -> Result<(), DiskError> {
+        Disk::remove_file(&mut **self, path)
+    }
+
+    fn rename(&mut self, from: &FsPath, to: &FsPath) -> Result<(), DiskError> {
+        Disk::rename(&mut **self, from, to)
+    }
+
+    fn copy(&mut self, from: &FsPath, to: &FsPath) -> Result<(), DiskError> {
+        Disk::copy(&mut **self, from, to)
     }
 
     fn turn(&mut self) -> Result<(), NoMemory> {
