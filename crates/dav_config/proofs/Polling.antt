@@ -5,7 +5,7 @@ use Rattle.dav_core.specs.Disk.{DiskState}
 use Rattle.std.specs.Prelude.{Result, Ok, Err}
 use Rattle.dav_model.specs.declared.target.Target.{Target}
 use Rattle.dav_model.specs.Conditions.{Fields}
-use Rattle.dav_model.specs.declared.target.Target.TheVariants.{At, Refused}
+use Rattle.dav_model.specs.declared.target.Target.TheVariants.{At, Methods, Refused}
 use Rattle.dav_body.specs.Bodies.{MayPoll}
 use Rattle.dav_body.specs.declared.body.BodyType.{BodyType}
 use Rattle.dav_store.specs.declared.body_reader.BodyReader.{Ghosts as ReaderGhosts}
@@ -30,6 +30,7 @@ module _ {S C F L E D : Type 0} (served : Served S C F L E) (state : D → DiskS
   answer_may : (target : Target) (asking : Asking C) (old new : Option S) (r : Responded F) → AnswersTo served target asking old r new → IfSome new (λ s. May (inner_of r) (inside s))
   answer_may target asking old None r answers = tt
   answer_may (Refused status close) asking old (Some t) r answers = subst (λ (inner : BodyType (GetBody F)). May inner (inside t)) (sym answers.0.body) tt
+  answer_may Methods asking old (Some t) r answers = subst (λ (inner : BodyType (GetBody F)). May inner (inside t)) (sym answers.0.body) tt
   answer_may (At method path) asking old (Some t) r passes =
       let same_store : passes.after ≡ t = cc in
       subst (λ (s : S). May (inner_of r) (inside s)) same_store

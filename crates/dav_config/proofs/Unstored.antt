@@ -5,16 +5,16 @@ use Rattle.http.specs.declared.request.Parts.{Parts}
 use Rattle.http_uri.specs.Uri.{uri_path}
 use Rattle.dav_core.specs.declared.dav_error.DavError.{DavError}
 use Rattle.dav_core.specs.declared.method.DavMethod.{DavMethod}
-use Rattle.dav_core.specs.declared.method.DavMethod.TheVariants.{Get, Head, Options}
+use Rattle.dav_core.specs.declared.method.DavMethod.TheVariants.{Options}
 use Rattle.dav_core.specs.declared.parse_error.ParseError.{ParseError}
 use Rattle.dav_core.specs.DavPath.{WebPath}
 use Rattle.dav_core.specs.Grammar.{parsed}
 use Rattle.dav_core.specs.Methods.{method_of, same_method}
 use Rattle.dav_model.specs.declared.settings.Settings.{Settings}
 use Rattle.dav_model.specs.declared.target.Target.{Target}
-use Rattle.dav_model.specs.declared.target.Target.TheVariants.{At, Refused}
-use Rattle.dav_model.specs.Conditions.{Fields, reads}
-use Rattle.dav_model.specs.Gates.{Bulk, none, some, much, broken, admitted, in_allowed, is_built, of_body, or_refused, takes_much, takes_some, unless, weighed, with_method, with_path}
+use Rattle.dav_model.specs.declared.target.Target.TheVariants.{At, Methods, Refused}
+use Rattle.dav_model.specs.Conditions.{Fields}
+use Rattle.dav_model.specs.Gates.{Bulk, none, some, much, broken, admitted, asked, in_allowed, is_built, of_body, or_refused, takes_much, takes_some, unless, weighed, with_method, with_path}
 use Rattle.dav_store.specs.Bodies.{BodyState}
 use Rattle.dav_config.specs.Handling.{Asking, IsAt, IsTarget, ReadsBehind, is_stored}
 use Rattle.dav_config.specs.Reading.{ReadsBulk}
@@ -34,27 +34,25 @@ body_refuses method some = unless_refuses (takes_some method) (Refused 415 false
 body_refuses method much = unless_refuses (takes_much method) (Refused 413 false) (λ at. at)
 body_refuses method broken = λ at. at
 
-never_at : (o : Option Target) (target : Target) → Refuses o → IsAt (or_refused o (Some (Refused 501 true)) target) → ⊥
-never_at None target refuses at = at
-never_at (Some refused) target refuses at = refuses at
+never_at : (first second : Option Target) (target : Target) → Refuses first → Refuses second → (IsAt target → ⊥) → IsAt (or_refused first second target) → ⊥
+never_at None None target a b c at = c at
+never_at None (Some refused) target a b c at = b at
+never_at (Some refused) second target a b c at = a at
 
--- what doesn't read isn't built
-unread : (fields : Fields) (bulk : Bulk) (method : DavMethod) (path : Result WebPath ParseError) → reads method ≡ false
+-- OPTIONS asks no store
+asked_never : (method : DavMethod) (path : WebPath) → same_method method Options ≡ true → IsAt (asked method path) → ⊥
+asked_never method path same at = subst (λ (b : Bool). IsAt (cond b Methods (At method path))) same at
+
+unread : (fields : Fields) (bulk : Bulk) (method : DavMethod) (path : Result WebPath ParseError) → same_method method Options ≡ true
     → IsAt (weighed fields bulk (with_path method path)) → ⊥
-unread fields bulk method (Err fault) none_read at = at
-unread fields bulk method (Ok path) none_read at =
-    let unbuilt : is_built fields method ≡ false = rw none_read refl in
-    never_at (of_body method bulk) (At method path) (body_refuses method bulk)
-    (subst (λ (b : Bool). IsAt (or_refused (of_body method bulk) (unless b 501 true) (At method path))) unbuilt at)
-
-options_alone : (method : DavMethod) → same_method method Options ≡ true → reads method ≡ false
-options_alone Head e = cc
-options_alone Get e = cc
-options_alone method e = refl
+unread fields bulk method (Err fault) same at = at
+unread fields bulk method (Ok path) same at =
+    never_at (of_body method bulk) (unless (is_built fields method) 501 true) (asked method path) (body_refuses method bulk)
+    (unless_refuses (is_built fields method) (Refused 501 true) (λ at. at)) (asked_never method path same) at
 
 allowed_without : (fields : Fields) (bulk : Bulk) (method : DavMethod) (path : Result WebPath ParseError) (among same : Bool) → same_method method Options ≡ same
     → IsAt (weighed fields bulk (cond (among && (false || same)) (with_path method path) (Refused 405 true))) → ⊥
-allowed_without fields bulk method path true true e at = unread fields bulk method path (options_alone method e) at
+allowed_without fields bulk method path true true e at = unread fields bulk method path e at
 allowed_without fields bulk method path true false e at = at
 allowed_without fields bulk method path false same e at = at
 

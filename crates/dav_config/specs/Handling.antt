@@ -9,7 +9,8 @@ use Rattle.dav_core.specs.DavPath.{WebPath}
 use Rattle.dav_core.specs.Unchanged.{Keeps}
 use Rattle.dav_model.specs.declared.settings.Settings.{Settings}
 use Rattle.dav_model.specs.declared.target.Target.{Target}
-use Rattle.dav_model.specs.declared.target.Target.TheVariants.{At, Refused}
+use Rattle.dav_model.specs.declared.target.Target.TheVariants.{At, Methods, Refused}
+use Rattle.dav_model.specs.Allowing.{allowing}
 use Rattle.dav_model.specs.Announced.{HasSoundBody, IsFramed}
 use Rattle.dav_model.specs.Due.{Query, query}
 use Rattle.dav_model.specs.Gates.{Bulk, admitted, gates}
@@ -52,9 +53,10 @@ abbrev pub is_stored : {S : Type 0} → (S → Bool) → Option S → Bool
 is_stored void None = false
 is_stored void (Some s) = not (void s)
 
--- It passed the gates.
+-- It passed the gates, and the store is asked.
 abbrev pub IsAt : Target → Type 0
 IsAt (At method path) = Unit {0}
+IsAt Methods = ⊥
 IsAt (Refused status close) = ⊥
 
 -- ---- what is asked, and both sides of a call
@@ -79,6 +81,7 @@ pub record Sides (S : Type 0) : Type 0 where
 -- The reader is asked behind the gates of the head alone.
 abbrev pub ReadsBehind : Target → BodyState → Bulk → BodyState → Type 0
 ReadsBehind (Refused status close) old bulk new = new ≡ old
+ReadsBehind Methods old bulk new = new ≡ old
 ReadsBehind (At method path) old bulk new = ReadsBulk old bulk new
 
 -- What the gates make of a request, by what its reader gave of its body.
@@ -118,9 +121,10 @@ module _ {S C F L E : Type 0} (served : Served S C F L E) where
     pub is : new ≡ Some after
     pub gives : GivesOver q asking.credentials (served.with_now before asking.now) r after
 
-  -- The gates' refusal, with the store as it was; or the answer of a GET or HEAD over the store.
+  -- The gates' refusal, or what OPTIONS is told, with the store as it was; or the answer of a GET or HEAD over the store.
   abbrev pub AnswersTo : Target → Asking C → Option S → Responded F → Option S → Type 0
   AnswersTo (Refused status close) asking old r new = IsBare (refusal asking.head.headers status close) r × (new ≡ old)
+  AnswersTo Methods asking old r new = IsBare (allowing asking.settings.allow (not (is_stored served.void old))) r × (new ≡ old)
   AnswersTo (At method path) asking old r new = Passes (query asking.settings asking.head.headers method path) asking old r new
 
   -- Nothing is left open; there is a store where there was one.

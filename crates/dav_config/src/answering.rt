@@ -4,21 +4,23 @@ ghost use Rattle.http.specs.Request.{head_of};
 ghost use Rattle.http.specs.Response.{head_of as response_head};
 ghost use Rattle.dav_core.specs.Statuses.{closes, lacks_memory as the_lacks_memory, status_of};
 ghost use Rattle.dav_core.specs.Unchanged.{Keeps};
+ghost use Rattle.dav_model.specs.Allowing.{allowing};
 ghost use Rattle.dav_model.specs.Due.{query};
 ghost use Rattle.dav_model.specs.Head.{refusal as the_refusal};
 ghost use Rattle.dav_body.specs.declared.body.BodyType.TheVariants.{Empty};
 ghost use Rattle.dav_get.specs.Bodies.{Closes, IsHeld};
 ghost use Rattle.dav_config.specs.Asked.{asking_of};
-ghost use Rattle.dav_config.specs.Handling.{AnswersTo, GivesOver, IsAt, Stays, the_served};
+ghost use Rattle.dav_config.specs.Handling.{AnswersTo, GivesOver, IsAt, Stays, is_stored as the_is_stored, the_served};
 ghost use Rattle.dav_config.specs.Responses.{Gave, IsBare, SaysHead, inner_of};
 
 use crate::asked::Asked;
 use crate::refusals::{refused, refused_by};
 use crate::respond::head_said;
 use dav_body::{AsyncStream, Body};
-use dav_core::{DavError, DavMethod, DavPath};
+use dav_core::{DavError, DavMethod, DavMethodSet, DavPath};
 use dav_get::{GetBody, handle_get};
 use dav_io::NoMemory;
+use dav_methods::options;
 use dav_model::{Outcome, Settings, Target};
 use dav_store::GuardedFileSystem;
 use http::{HeaderMap, Response};
@@ -26,6 +28,16 @@ use std::alloc::Global;
 
 /// What a request is answered with: the body is polled with the store's disk.
 pub type Answered<F> = Result<Response<Body<GetBody<F>>>, NoMemory>;
+
+// Whether there is a store that does something.
+pub fn is_stored<S: GuardedFileSystem<C>, C>(store: &Option<S>) -> bool
+    ensures { result ≡ the_is_stored S.void store.now }
+{
+    match store {
+        Some(fs) => !fs.is_void(),
+        None => false,
+    }
+}
 
 // A response without a body.
 fn bare<S>(alloc: Global, outcome: Outcome) -> Result<Response<Body<S>>, NoMemory>
@@ -86,6 +98,18 @@ fn give<S: GuardedFileSystem<C>, C>(
     }
 }
 
+// What OPTIONS is told.
+fn methods<S>(
+    alloc: Global,
+    allow: Option<DavMethodSet>,
+    void: bool,
+) -> Result<Response<Body<S>>, NoMemory>
+    ensures { IfOk result (IsBare (allowing allow void)) }
+{
+    let outcome = options(alloc, allow, void)?;
+    bare(alloc, outcome)
+}
+
 // What stands at a path, by GET or HEAD.
 fn get<S: GuardedFileSystem<C>, C>(
     alloc: Global,
@@ -131,6 +155,7 @@ pub fn answer<S: GuardedFileSystem<C>, C>(
 {
     match target {
         Target::Refused { status, close } => refusal(alloc, asked.head.headers(), *status, *close),
+        Target::Methods => methods(alloc, asked.settings.allow, !is_stored(store)),
         Target::At { method, path } => match store {
             Some(fs) => answer_over(alloc, asked, fs, *method, path),
             None => unreachable!("without a store nothing passes the gates"),

@@ -9,7 +9,7 @@ ghost use Rattle.dav_core.specs.Methods.{same_method};
 ghost use Rattle.dav_core.specs.declared.method.DavMethod.TheVariants.{Options};
 ghost use Rattle.dav_core.specs.Statuses.{path_status as the_path_status};
 ghost use Rattle.dav_model.specs.Conditions.{reads as the_reads};
-ghost use Rattle.dav_model.specs.Gates.{admitted as the_admitted, announces_body as the_announces_body, has_field as the_has_field, in_allowed, is_allowed as the_is_allowed, is_built as the_is_built, of_body as the_of_body, takes_much as the_takes_much, takes_some as the_takes_some, weighed as the_weighed, with_path as the_with_path};
+ghost use Rattle.dav_model.specs.Gates.{admitted as the_admitted, asked as the_asked, announces_body as the_announces_body, has_field as the_has_field, in_allowed, is_allowed as the_is_allowed, is_built as the_is_built, of_body as the_of_body, takes_much as the_takes_much, takes_some as the_takes_some, weighed as the_weighed, with_path as the_with_path};
 ghost use Rattle.dav_model.specs.declared.target.Target.TheVariants.{Refused};
 ghost use Rattle.dav_config.specs.Names.{is_as_long as the_is_as_long, is_short as the_is_short};
 ghost use Rattle.dav_config.specs.Reading.{seen_as};
@@ -89,7 +89,7 @@ pub fn announces_body(fields: &HeaderMap) -> bool
     has_field(fields, &TRANSFER_ENCODING)
 }
 
-// Whether a method reads. No other is built.
+// Whether a method reads. OPTIONS is built beside, and no other.
 fn reads(method: DavMethod) -> bool
     ensures { result ≡ the_reads method }
 {
@@ -103,7 +103,7 @@ fn reads(method: DavMethod) -> bool
 fn is_built(fields: &HeaderMap, method: DavMethod) -> bool
     ensures { result ≡ the_is_built fields.now method }
 {
-    if !reads(method) {
+    if !reads(method) && method != DavMethod::Options {
         return false;
     }
     !has_if(fields)
@@ -219,18 +219,29 @@ pub fn admitted<B>(
     with_path(alloc, method, request.uri(), settings.prefix.as_str())
 }
 
+// What a request asks for that passed the gates.
+fn asked(method: DavMethod, path: DavPath) -> Target
+    ensures { result ≡ the_asked method path }
+{
+    if method == DavMethod::Options {
+        return Target::Methods;
+    }
+    Target::At { method, path }
+}
+
 /// The gates of the body, and of a form that isn't built.
 pub fn weighed(fields: &HeaderMap, bulk: BodyBulk, target: Target) -> Target
     ensures { result ≡ the_weighed fields.now (seen_as bulk) target }
 {
     match target {
         Target::Refused { status, close } => refused(status, close),
+        Target::Methods => Target::Methods,
         Target::At { method, path } => {
             if let Some(refusal) = of_body(method, bulk) {
                 return refusal;
             }
             if is_built(fields, method) {
-                return Target::At { method, path };
+                return asked(method, path);
             }
             refused(501, true)
         }

@@ -1,13 +1,13 @@
 // A request over a store: its gates, its body, and its answer.
 ghost use Rattle.std.specs.Prelude.{◌≡◌, IfOk, IfSome, OnErr};
 ghost use Rattle.dav_config.specs.Asked.{asking_of};
-ghost use Rattle.dav_config.specs.Handling.{Handles, HandlesAll, IsTarget, Stays, asking, is_stored as the_is_stored, the_served};
+ghost use Rattle.dav_config.specs.Handling.{Handles, HandlesAll, IsTarget, Stays, asking, the_served};
 ghost use Rattle.dav_config.specs.Responses.{inner_of};
 ghost use Rattle.dav_body.specs.Bodies.{MayPoll};
 ghost use Rattle.dav_get.specs.Bodies.{IsHeld};
 ghost use Rattle.http.specs.Request.{body_of, head_of};
 
-use crate::answering::{Answered, answer};
+use crate::answering::{Answered, answer, is_stored};
 use crate::asked::Asked;
 use crate::bulk::read_bulk;
 use crate::gates::{admitted, weighed};
@@ -16,16 +16,6 @@ use dav_model::{Settings, Target};
 use dav_store::{BodyReader, GuardedFileSystem};
 use http::Request;
 use std::alloc::Global;
-
-// Whether there is a store that does something.
-fn is_stored<S: GuardedFileSystem<C>, C>(store: &Option<S>) -> bool
-    ensures { result ≡ the_is_stored S.void store.now }
-{
-    match store {
-        Some(fs) => !fs.is_void(),
-        None => false,
-    }
-}
 
 // What a request asks for. Its body is read where the gates of its head let it pass.
 fn target<B: BodyReader, C>(
@@ -43,6 +33,7 @@ fn target<B: BodyReader, C>(
             let bulk = read_bulk(body);
             Ok(weighed(asked.head.headers(), bulk, Target::At { method, path }))
         }
+        Ok(Target::Methods) => Ok(Target::Methods),
         Ok(Target::Refused { status, close }) => Ok(Target::Refused { status, close }),
         Err(error) => Err(error),
     }

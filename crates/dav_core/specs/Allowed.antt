@@ -87,7 +87,7 @@ abbrev pub moving_to : List Row → Row → Names → Result (Option Row) DiskEr
 moving_to tree row to (Err e) = Err e
 moving_to tree row to (Ok there) = cond (is_root row.path || is_root to) (Err NotEmpty)
     (cond (same_names row.path to) (Ok None)
-        (cond (is_front row.path to) (Err NotEmpty) (moving_over tree row to there)))
+    (cond (is_front row.path to) (Err NotEmpty) (moving_over tree row to there)))
 
 -- What stands at `from` is judged before what stands at `to`.
 abbrev pub moving : List Row → Names → Names → Allowed
@@ -112,7 +112,7 @@ copying w from to = found_then (λ row. copying_to w row to (place w.tree to)) (
 abbrev pub opening_row : OpenOptions → Row → Allowed
 opening_row how row = cond how.create_new (Err Exists)
     (cond (is_dir row.kind && (how.write || how.append)) (Err IsDir)
-        (Ok (cond (is_file row.kind && (how.write && how.truncate)) (Some (fills row.number [])) None)))
+    (Ok (cond (is_file row.kind && (how.write && how.truncate)) (Some (fills row.number [])) None)))
 
 abbrev pub opening_at : OpenOptions → Names → Result (Option Row) DiskError → Allowed
 opening_at how path (Err e) = Err e

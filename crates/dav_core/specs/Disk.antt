@@ -132,7 +132,7 @@ abbrev pub OpenedOver : Names → OpenOptions → Result Handle DiskError → Op
 OpenedOver path how (Ok h) kind v w = (number : ℕ) × (w.opens ≡ put h.0 (Some (at_start number)) v.opens)
     × (w.listings ≡ v.listings) × Holds w number
     × (is_linked v.tree path ≡ false → (edit : Option Edit) × (row : Row) × (opening v.tree path how ≡ Ok edit)
-        × EditedBy edit v w × (row_at w.tree path ≡ Some row) × (row.number ≡ number) × (kind ≡ Some row.kind))
+    × EditedBy edit v w × (row_at w.tree path ≡ Some row) × (row.number ≡ number) × (kind ≡ Some row.kind))
 OpenedOver path how (Err e) kind v w = SameOpens v w
     × (is_linked v.tree path ≡ false → SameBesidesOpens v w × Refused e (opening v.tree path how))
 

@@ -88,7 +88,7 @@ pub data Edit : Type 0 where
 abbrev pub Edited : Edit → World → World → Type 0
 Edited (makes path kind bytes) v w = (number : ℕ) × (t u : FileTime) × IsNext v number w × IsNew v t w × IsNew v u w
     × Becomes v (touched_to (parent_of path) u
-        (made (record { path = path; kind = kind; number = number; time = t }) bytes v)) w
+    (made (record { path = path; kind = kind; number = number; time = t }) bytes v)) w
 Edited (fills number bytes) v w = ((bytes ≡ bytes_of v number) × SameBesidesOpens v w)
     ⊎ ((bytes ≢ bytes_of v number) × (t : FileTime) × IsNew v t w × Becomes v (filled number bytes t v) w)
 Edited (takes path) v w = (t : FileTime) × IsNew v t w × Becomes v (touched_to (parent_of path) t (taken path v)) w

@@ -21,8 +21,10 @@ use Rattle.dav_core.specs.World.{World, IsWorld}
 use Rattle.dav_core.proofs.UnchangedLemmas.{keeps_same}
 use Rattle.dav_model.specs.declared.outcome.Outcome.{Outcome}
 use Rattle.dav_model.specs.declared.settings.Settings.{Settings}
-use Rattle.dav_model.specs.declared.target.Target.TheVariants.{At, Refused}
+use Rattle.dav_model.specs.declared.target.Target.TheVariants.{At, Methods, Refused}
 use Rattle.dav_model.specs.Calls.{AsksUnlessKnown}
+use Rattle.dav_core.specs.declared.method.DavMethodSet.{DavMethodSet}
+use Rattle.dav_model.specs.Allowing.{allowing}
 use Rattle.dav_model.specs.Conditions.{Fields}
 use Rattle.dav_model.specs.Due.{Course, Query, IsRight, course, directing, listing, opening, query, refusing}
 use Rattle.dav_model.specs.Finding.{is_clear}
@@ -53,7 +55,7 @@ use Rattle.dav_get.specs.Table.{Given}
 use Rattle.dav_get.specs.Told.{IsRightFor, ShowsFor, number_for, shown_as, stood_of}
 use Rattle.dav_get.proofs.HeardCouldStand.{heard_there}
 use Rattle.dav_handler.specs.declared.found.Found.{Found}
-use Rattle.dav_handler.specs.Found.{Answers, Finds, Gives, HoldsOnly, IsRefused, IsRefusedBy, reply_of}
+use Rattle.dav_handler.specs.Found.{Answers, Finds, Gives, HoldsOnly, IsAlone, IsRefusedBy, reply_of}
 use Rattle.dav_handler.specs.Held.{Body, IsOpen, handle_of, number_in, number_seen, parts_in}
 use Rattle.dav_handler.proofs.Frames.{no_slices, texts_any}
 use Rattle.dav_handler.proofs.HeardShown.{heard_rightly, refuses_few}
@@ -61,11 +63,25 @@ use Rattle.dav_handler.proofs.PlainAsks.{plain_asks}
 use Rattle.dav_handler.proofs.PlainShown.{ListsClear, OpensClear, reads_heard, reads_there, reads_told}
 
 -- a refusal is answered as it is
-reply_refused : (t : DiskState) (fields : Fields) (status : ℕ) (close : Bool) (found : Found) → IsRefused (refusal fields status close) found → reply_of t found ≡ refusal fields status close
+reply_refused : (t : DiskState) (fields : Fields) (status : ℕ) (close : Bool) (found : Found) → IsAlone (refusal fields status close) found → reply_of t found ≡ refusal fields status close
 reply_refused t fields status close found is = rw (is.status, is.fields, is.body) refl
 
+-- what OPTIONS is told likewise
+reply_told : (t : DiskState) (allow : Option DavMethodSet) (found : Found) → IsAlone (allowing allow false) found → reply_of t found ≡ allowing allow false
+reply_told t allow found is = rw (is.status, is.fields, is.body) refl
+
+-- OPTIONS asks nothing.
+pub methods_answers : (settings : Settings) (s : DiskState) (fields : Fields) (result : Result Found NoMemory) → IfOk result (IsAlone (allowing settings.allow false))
+    → Finds settings s fields Methods result s
+methods_answers settings s fields (Err x) is = (keeps_same s, refl)
+methods_answers settings s fields (Ok found) is = record {
+  holds = subst (λ b. HoldsOnly (read_size_of settings.read_buf_size) s b s) (sym is.body) (keeps_same s);
+  right = reply_told s settings.allow found is;
+  asks = refl;
+}
+
 -- What the gates refuse.
-pub gate_answers : (settings : Settings) (s : DiskState) (fields : Fields) (status : ℕ) (close : Bool) (result : Result Found NoMemory) → IfOk result (IsRefused (refusal fields status close))
+pub gate_answers : (settings : Settings) (s : DiskState) (fields : Fields) (status : ℕ) (close : Bool) (result : Result Found NoMemory) → IfOk result (IsAlone (refusal fields status close))
     → Finds settings s fields (Refused status close) result s
 gate_answers settings s fields status close (Err x) is = (keeps_same s, refl)
 gate_answers settings s fields status close (Ok found) is = record {

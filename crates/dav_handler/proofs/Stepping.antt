@@ -20,7 +20,7 @@ use Rattle.dav_model.specs.Bodies.{Polls}
 use Rattle.dav_io.specs.declared.fields.Field.{Field}
 use Rattle.dav_model.specs.Calls.{AsksAtGate, AsksToPoll, AsksToReply}
 use Rattle.dav_model.specs.declared.target.Target.{Target}
-use Rattle.dav_model.specs.declared.target.Target.TheVariants.{At, Refused}
+use Rattle.dav_model.specs.declared.target.Target.TheVariants.{At, Methods, Refused}
 use Rattle.dav_model.specs.Play.{Gets, Lets, Quiet, Stage, Stepped, has_slice}
 use Rattle.dav_model.specs.Rules.{nothing_known, plain_rules}
 use Rattle.dav_model.specs.Sizes.{read_size_of}
@@ -221,15 +221,16 @@ turn_refused settings s t at replies e p turns = record {
   asks = turns.asked;
 }
 
+closed_asks : (m t : DiskState) (file : Option (OpenAt PlainFile)) → Closes handle_of m file t → t.asked ≡ m.asked
+closed_asks m t None e = ap (λ (x : DiskState). x.asked) e
+closed_asks m t (Some h) closes = closes.asked
+
 -- the body of an answer was closed again
 undone_asks : (settings : Settings) (target : Target) (status : ℕ) (fields : List Field) (s m t : DiskState) (c : Body) → AsksToReply target (plain_rules settings) status fields s.asked m.asked
     → Closes handle_of m c.file t → AsksAtGate target s.asked t.asked
 undone_asks settings (At method path) status fields s m t c asks closes = tt
+undone_asks settings Methods status fields s m t c asks closes = closed_asks m t c.file closes ∙ asks
 undone_asks settings (Refused gate close) status fields s m t c asks closes = closed_asks m t c.file closes ∙ asks
-  where
-    closed_asks : (m t : DiskState) (file : Option (OpenAt PlainFile)) → Closes handle_of m file t → t.asked ≡ m.asked
-    closed_asks m t None e = ap (λ (x : DiskState). x.asked) e
-    closed_asks m t (Some h) closes = closes.asked
 
 -- there was no room for the body of an answer
 pub undone_steps : (status : ℕ) (fields : List Field) (settings : Settings) (s m t : DiskState) (request : Asked) (now : Moment) (replies : ℕ) (at new : ℕ → Option Body) (body : Option Body) (o c : Body) (e : NoMemory)

@@ -37,8 +37,8 @@ abbrev pub Finds : Settings → DiskState → Fields → Target → Result Found
 Finds settings s fields target (Ok found) t = Answers settings s fields target found t
 Finds settings s fields target (Err e) t = Keeps s t × AsksAtGate target s.asked t.asked
 
--- A refusal. It has no body.
-pub record IsRefused (reply : Reply) (found : Found) : Type 0 where
+-- An answer without a body.
+pub record IsAlone (reply : Reply) (found : Found) : Type 0 where
   pub status : found.outcome.status ≡ reply.status
   pub fields : found.outcome.fields ≡ reply.fields
   pub body : found.body ≡ None
@@ -46,7 +46,7 @@ pub record IsRefused (reply : Reply) (found : Found) : Type 0 where
 -- what an error is answered with to a request with these fields; want of memory is none
 pub record IsRefusedBy (fields : Fields) (error : DavError) (found : Found) : Type 0 where
   pub memory : lacks_memory error ≡ false
-  pub refused : IsRefused (refusal fields (status_of error) (closes error)) found
+  pub refused : IsAlone (refusal fields (status_of error) (closes error)) found
 
 -- A body of which something is left is given; another is ended, and there was no file.
 abbrev pub Gives : DiskState → Body → Option Body → DiskState → Type 0

@@ -1,20 +1,22 @@
 // What a request finds over the store.
 ghost use Rattle.std.specs.Prelude.{◌≡◌, IfOk, None};
 ghost use Rattle.dav_get.specs.Bodies.{IsHeld};
+ghost use Rattle.dav_model.specs.Allowing.{allowing};
 ghost use Rattle.dav_model.specs.Head.{refusal as the_refusal};
 ghost use Rattle.dav_model.specs.Requests.{fields_of};
 ghost use Rattle.dav_model.specs.Rules.{plain_rules};
 ghost use Rattle.dav_model.specs.Trail.{target_of};
 ghost use Rattle.dav_model.specs.declared.target.Target.TheVariants.{At};
 ghost use Rattle.dav_plain.specs.Calls.{seen_by};
-ghost use Rattle.dav_handler.specs.Found.{Finds, Gives, IsRefused, IsRefusedBy};
+ghost use Rattle.dav_handler.specs.Found.{Finds, Gives, IsAlone, IsRefusedBy};
 ghost use Rattle.dav_handler.specs.Held.{handle_of};
 
 use crate::gates::target;
 use dav_config::{refused, refused_by};
-use dav_core::{DavError, DavMethod, DavPath, Disk};
+use dav_core::{DavError, DavMethod, DavMethodSet, DavPath, Disk};
 use dav_get::{GetBody, handle_get};
 use dav_io::{NoMemory, Octets};
+use dav_methods::options;
 use dav_model::{Outcome, Settings, Target};
 use dav_plain::{PlainFile, PlainFs};
 use dav_store::DavFileSystem;
@@ -41,9 +43,19 @@ fn alone(outcome: Outcome) -> Found
 
 // A refusal of a request with these fields: a status, no body, and the connection closes where `close` is set.
 fn refusal(alloc: Global, fields: &HeaderMap, status: u16, close: bool) -> Result<Found, NoMemory>
-    ensures { IfOk result (IsRefused (the_refusal fields.now status close)) }
+    ensures { IfOk result (IsAlone (the_refusal fields.now status close)) }
 {
     match refused(alloc, fields, status, close) {
+        Ok(outcome) => Ok(alone(outcome)),
+        Err(error) => Err(error),
+    }
+}
+
+// What OPTIONS is told over a store.
+fn methods(alloc: Global, allow: Option<DavMethodSet>) -> Result<Found, NoMemory>
+    ensures { IfOk result (IsAlone (allowing allow false)) }
+{
+    match options(alloc, allow, false) {
         Ok(outcome) => Ok(alone(outcome)),
         Err(error) => Err(error),
     }
@@ -114,6 +126,7 @@ fn find<D: Disk>(
 {
     match target {
         Target::At { method, path } => find_at(alloc, settings, store, *method, path, fields),
+        Target::Methods => methods(alloc, settings.allow),
         Target::Refused { status, close } => refusal(alloc, fields, *status, *close),
     }
 }

@@ -1,2 +1,3 @@
 mod OwnTags
 mod Unconditional
+pub mod Joined

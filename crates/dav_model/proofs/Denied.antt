@@ -29,7 +29,7 @@ use Rattle.dav_model.specs.declared.step.Step.{Step}
 use Rattle.dav_model.specs.declared.step.Step.TheVariants.{Request, Poll, Abandon, Purge, Turn}
 use Rattle.dav_model.specs.declared.answer.Answer.{Answer}
 use Rattle.dav_model.specs.declared.target.Target.{Target}
-use Rattle.dav_model.specs.declared.target.Target.TheVariants.{At, Refused}
+use Rattle.dav_model.specs.declared.target.Target.TheVariants.{At, Methods, Refused}
 use Rattle.dav_io.specs.declared.failure.NoMemory.{NoMemory}
 use Rattle.dav_model.specs.Conditions.{Fields}
 use Rattle.dav_model.specs.Due.{query}
@@ -129,6 +129,7 @@ in_valid_run rules k s t q reply w told apart sound clear reads =
 replies_by_tree : (target : Target) (rules : Rules) (k : Knowledge) (s t : Point) (fields : Fields) (reply : Reply) → ((w : World) → s.told ≡ Some w → rules.folds ≡ true → Twinless w)
     → ((w : World) → s.told ≡ Some w → rules.macos ≡ true → IsSound k w) → Replies target rules k s t fields reply → RepliesByTree target rules s t fields reply
 replies_by_tree (Refused status close) rules k s t fields reply apart sound is = is
+replies_by_tree Methods rules k s t fields reply apart sound is = is
 replies_by_tree (At method path) rules k s t fields reply apart sound reads = λ w told clear.
     in_valid_run rules k s t (query rules.settings fields method path) reply w told (apart w told) (sound w told) clear reads
 

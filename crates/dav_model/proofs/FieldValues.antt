@@ -40,8 +40,8 @@ both a b e f = rw (e, f) refl
 more : (b : ℕ) (text : List ℕ) → is_value_byte b ≡ true → Fits text → Fits (b ∷ text)
 more b text p q = record { all = both (is_value_byte b) (list_all is_value_byte text) p q.all }
 
-joined : (a b : List ℕ) → Fits a → Fits b → Fits (a ++ b)
-joined a b p q = record { all = list_all-append is_value_byte a b ∙ both (list_all is_value_byte a) (list_all is_value_byte b) p.all q.all }
+pub fits_both : (a b : List ℕ) → Fits a → Fits b → Fits (a ++ b)
+fits_both a b p q = record { all = list_all-append is_value_byte a b ∙ both (list_all is_value_byte a) (list_all is_value_byte b) p.all q.all }
 
 -- Bytes of another kind are bytes of a field value.
 of_kind : (test : ℕ → Bool) → ((b : ℕ) → test b ≡ true → is_value_byte b ≡ true) → (text : List ℕ) → list_all test text ≡ true → Fits text
@@ -70,9 +70,9 @@ decimal_fits n = onto 64 n [] (record { all = refl })
 
 span_fits : (len : ℕ) (part : Slice) → Fits (span_text len part)
 span_fits len part =
-    joined (decimal part.start) _ (decimal_fits part.start)
-    (joined (codes "-") _ (record { all = refl })
-    (joined (decimal _) _ (decimal_fits _) (joined (codes "/") (decimal len) (record { all = refl }) (decimal_fits len))))
+    fits_both (decimal part.start) _ (decimal_fits part.start)
+    (fits_both (codes "-") _ (record { all = refl })
+    (fits_both (decimal _) _ (decimal_fits _) (fits_both (codes "/") (decimal len) (record { all = refl }) (decimal_fits len))))
 
 pub length_fits : (gives : Bool) (len : ℕ) (sent : Sent) → FitsWhere (option_map decimal (sent_length gives len sent))
 length_fits gives len All = decimal_fits len
@@ -84,8 +84,8 @@ length_fits gives len (Several parts) = tt
 pub range_fits : (len : ℕ) (sent : Sent) → FitsWhere (sent_range len sent)
 range_fits len All = tt
 range_fits len (Alone status) = tt
-range_fits len Unsatisfied = joined (codes "bytes */") (decimal len) (record { all = refl }) (decimal_fits len)
-range_fits len (One part) = joined (codes "bytes ") (span_text len part) (record { all = refl }) (span_fits len part)
+range_fits len Unsatisfied = fits_both (codes "bytes */") (decimal len) (record { all = refl }) (decimal_fits len)
+range_fits len (One part) = fits_both (codes "bytes ") (span_text len part) (record { all = refl }) (span_fits len part)
 range_fits len (Several parts) = tt
 
 -- ---- types
@@ -122,7 +122,7 @@ tag_byte b e = grind (arith, nat_tests)
 
 pub tag_fits : (tag : Option (List ℕ)) → HasTagBytes tag → FitsWhere (quoted_where tag)
 tag_fits None has = tt
-tag_fits (Some tag) has = more 34 (tag ++ 34 ∷ []) refl (joined tag (34 ∷ []) (of_kind is_tag_byte tag_byte tag has) (record { all = refl }))
+tag_fits (Some tag) has = more 34 (tag ++ 34 ∷ []) refl (fits_both tag (34 ∷ []) (of_kind is_tag_byte tag_byte tag has) (record { all = refl }))
 
 printable_byte : (b : ℕ) → is_printable b ≡ true → is_value_byte b ≡ true
 printable_byte b e = grind (arith, nat_tests)
@@ -152,7 +152,7 @@ link_byte_fits b = by_stay (stays b) refl
 -- a link of any bytes
 pub link_fits : (bytes : List ℕ) → Fits (link_of bytes)
 link_fits [] = record { all = refl }
-link_fits (b ∷ bytes) = joined (link_byte b) (link_of bytes) (link_byte_fits b) (link_fits bytes)
+link_fits (b ∷ bytes) = fits_both (link_byte b) (link_of bytes) (link_byte_fits b) (link_fits bytes)
 
 -- ---- dates
 
@@ -172,8 +172,8 @@ indexed (text ∷ texts) (suc i) e = indexed texts i (and_parts (list_all is_val
 
 time_fits : (p : Parts) → p.hour < 100 → p.min < 100 → p.sec < 100 → Fits (time_of_day p)
 time_fits p hour min sec =
-    joined (two_digits p.hour) _ (two_fit p.hour hour) (joined (codes ":") _ (record { all = refl }) (joined (two_digits p.min) _ (two_fit p.min min)
-    (joined (codes ":") _ (record { all = refl }) (two_fit p.sec sec))))
+    fits_both (two_digits p.hour) _ (two_fit p.hour hour) (fits_both (codes ":") _ (record { all = refl }) (fits_both (two_digits p.min) _ (two_fit p.min min)
+    (fits_both (codes ":") _ (record { all = refl }) (two_fit p.sec sec))))
 
 month_days : (y m : ℕ) → days_in_month y m < 100
 month_days y m = grind (arith, nat_tests)
@@ -195,10 +195,10 @@ grouped p = simp append_assoc
 
 behind_fits : (p : Parts) → p.day < 100 → p.year / 100 < 100 → p.hour < 100 → p.min < 100 → p.sec < 100 → Fits (behind_day p)
 behind_fits p day year hour min sec =
-    joined (codes ", ") _ (record { all = refl }) (joined (two_digits p.day) _ (two_fit p.day day)
-    (joined (codes " ") _ (record { all = refl }) (joined (month_name p.mon) _ (month_fits p.mon) (joined (codes " ") _ (record { all = refl })
-    (joined (four_digits p.year) _ (joined (two_digits (p.year / 100)) (two_digits (p.year % 100)) (two_fit (p.year / 100) year) (two_fit (p.year % 100) (omega arith)))
-    (joined (codes " ") _ (record { all = refl }) (joined (time_of_day p) (codes " GMT") (time_fits p hour min sec) (record { all = refl }))))))))
+    fits_both (codes ", ") _ (record { all = refl }) (fits_both (two_digits p.day) _ (two_fit p.day day)
+    (fits_both (codes " ") _ (record { all = refl }) (fits_both (month_name p.mon) _ (month_fits p.mon) (fits_both (codes " ") _ (record { all = refl })
+    (fits_both (four_digits p.year) _ (fits_both (two_digits (p.year / 100)) (two_digits (p.year % 100)) (two_fit (p.year / 100) year) (two_fit (p.year % 100) (omega arith)))
+    (fits_both (codes " ") _ (record { all = refl }) (fits_both (time_of_day p) (codes " GMT") (time_fits p hour min sec) (record { all = refl }))))))))
 
 pub text_fits : (date : HttpDate) → Fits (date_text date)
 text_fits date =
@@ -208,7 +208,7 @@ text_fits date =
     let limit : days_in_month p.year p.mon < 100 = month_days p.year p.mon in
     let last : p.day ≤ days_in_month p.year p.mon = days.1 in
     let year : p.year ≤ 9999 = years.1 in
-    subst Fits (sym (grouped p)) (joined (day_name p.wday) (behind_day p) (day_fits p.wday)
+    subst Fits (sym (grouped p)) (fits_both (day_name p.wday) (behind_day p) (day_fits p.wday)
     (behind_fits p (omega (arith, limit, last)) (omega (arith, year)) (omega (arith, hour)) (omega (arith, min)) (omega (arith, sec))))
 
 pub date_fits : (modified : Option FileTime) (date : Option (List ℕ)) → IsDate modified date → FitsWhere date

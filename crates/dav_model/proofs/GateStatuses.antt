@@ -6,18 +6,19 @@ use Rattle.http.specs.declared.request.Parts.{Parts}
 use Rattle.http_uri.specs.Uri.{uri_path}
 use Rattle.dav_core.specs.declared.dav_error.DavError.{DavError}
 use Rattle.dav_core.specs.declared.method.DavMethod.{DavMethod}
+use Rattle.dav_core.specs.declared.method.DavMethod.TheVariants.{Options}
 use Rattle.dav_core.specs.declared.parse_error.ParseError.{ParseError}
 use Rattle.dav_core.specs.declared.parse_error.ParseError.TheVariants.{InvalidPath, PrefixMismatch, NotText}
 use Rattle.dav_core.specs.DavPath.{WebPath}
 use Rattle.dav_core.specs.Grammar.{all_decoded, and_then, before_query, begins_with_slash, below, decoded, has_slash, is_path_byte, kept_if, kept_of, left_of, names_in, parsed, placed, prefix_names, readable, segments}
-use Rattle.dav_core.specs.Methods.{method_of}
+use Rattle.dav_core.specs.Methods.{method_of, same_method}
 use Rattle.dav_core.specs.Path.{Names, is_front}
 use Rattle.dav_core.specs.Statuses.{path_status}
 use Rattle.dav_model.specs.declared.settings.Settings.{Settings}
 use Rattle.dav_model.specs.declared.target.Target.{Target}
-use Rattle.dav_model.specs.declared.target.Target.TheVariants.{At, Refused}
+use Rattle.dav_model.specs.declared.target.Target.TheVariants.{At, Methods, Refused}
 use Rattle.dav_model.specs.Conditions.{Fields}
-use Rattle.dav_model.specs.Gates.{Bulk, none, some, much, broken, admitted, bulk_of, gates, is_allowed, is_built, of_body, or_refused, takes_much, takes_some, unless, weighed, with_method, with_path}
+use Rattle.dav_model.specs.Gates.{Bulk, none, some, much, broken, admitted, asked, bulk_of, gates, is_allowed, is_built, of_body, or_refused, takes_much, takes_some, unless, weighed, with_method, with_path}
 use Rattle.dav_model.specs.WellFormed.{gate_statuses, is_among}
 
 abbrev IsListed : ℕ → Type 0
@@ -81,6 +82,7 @@ parsed_found text prefix =
 -- what a request asks for, or a refusal of the list
 abbrev IsGate : Target → Type 0
 IsGate (At method path) = Unit {0}
+IsGate Methods = Unit {0}
 IsGate (Refused status close) = IsListed status
 
 if_gate : (b : Bool) (x y : Target) → IsGate x → IsGate y → IsGate (cond b x y)
@@ -136,8 +138,10 @@ or_gate (Some refused) other target a b c = a
 
 weighed_gate : (fields : Fields) (bulk : Bulk) (target : Target) → IsRead bulk → IsGate target → IsGate (weighed fields bulk target)
 weighed_gate fields bulk (Refused status close) read is = is
+weighed_gate fields bulk Methods read is = tt
 weighed_gate fields bulk (At method path) read is =
-    or_gate (of_body method bulk) (unless (is_built fields method) 501 true) (At method path) (body_gate method bulk read) (unless_gate (is_built fields method) 501 true refl) tt
+    or_gate (of_body method bulk) (unless (is_built fields method) 501 true) (asked method path) (body_gate method bulk read) (unless_gate (is_built fields method) 501 true refl)
+    (if_gate (same_method method Options) Methods (At method path) tt tt)
 
 -- What the gates refuse a request with its whole body with has a status of the list.
 pub gate_listed : (settings : Settings) (stored : Bool) (head : Parts) (bytes : List ℕ) (status : ℕ) (close : Bool) → gates settings stored head (bulk_of bytes) ≡ Refused status close

@@ -13,7 +13,7 @@ use Rattle.dav_core.specs.World.{World}
 use Rattle.dav_model.specs.declared.step.Step.{Step}
 use Rattle.dav_model.specs.declared.step.Step.TheVariants.{Request, Poll, Abandon, Purge, Turn}
 use Rattle.dav_model.specs.declared.target.Target.{Target}
-use Rattle.dav_model.specs.declared.target.Target.TheVariants.{At, Refused}
+use Rattle.dav_model.specs.declared.target.Target.TheVariants.{At, Methods, Refused}
 use Rattle.dav_model.specs.Calls.{AsksAtGate}
 use Rattle.dav_model.specs.declared.answer.Answer.{Answer}
 use Rattle.dav_model.specs.Bodies.{Polls}
@@ -299,6 +299,7 @@ stays_goes s = record { faults = omega arith; asked = omega arith; whole = λ w.
 -- a gate that asked nothing
 pub gate_none : (target : Target) (n : ℕ) → AsksAtGate target n n
 gate_none (Refused status close) n = refl
+gate_none Methods n = refl
 gate_none (At method path) n = tt
 
 asks_none : (rules : Rules) (step : Step) (n : ℕ) → AsksUnanswered rules step n n

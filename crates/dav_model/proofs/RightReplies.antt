@@ -19,13 +19,15 @@ use Rattle.dav_model.specs.declared.ranges.Ranges.{Ranges}
 use Rattle.dav_model.specs.declared.ranges.Ranges.TheVariants.{Whole, Unsatisfiable, Parts}
 use Rattle.dav_model.specs.declared.sent.Sent.TheVariants.{Unsatisfied}
 use Rattle.dav_model.specs.declared.target.Target.TheVariants.{At}
+use Rattle.dav_core.specs.declared.method.DavMethodSet.{DavMethodSet}
+use Rattle.dav_model.specs.Allowing.{allowing}
 use Rattle.dav_model.specs.Announced.{HasSoundBody, IsFramed, length_is_own}
 use Rattle.dav_model.specs.Conditions.{Fields, condition, date_in, first_bytes, is_refused, is_unmodified, list_in, matches, ranges_are_heard, reads, repeated, strong}
 use Rattle.dav_model.specs.Head.{Reply, Stood, IsFileHead, address_of, directed, is_get, is_well_known, redirected, refusal, sent_by, sent_of, sent_parts_of, sent_ranges, sent_status, well_known}
 use Rattle.dav_model.specs.Slices.{ranges}
 use Rattle.dav_core.specs.Tree.{is_dir}
 use Rattle.dav_model.proofs.Courses.{course_holds}
-use Rattle.dav_model.proofs.Framing.{directed_framed, framed_redirect, framed_well_known, index_framed, refused_framed, sent_framed}
+use Rattle.dav_model.proofs.Framing.{directed_framed, framed_empty, framed_redirect, framed_well_known, index_framed, refused_framed, sent_framed}
 use Rattle.dav_model.proofs.Nonempty.{index_sound, sent_has, sent_sound, sound_empty}
 use Rattle.dav_model.specs.Indexes.{AreRowsOfSome}
 use Rattle.dav_model.specs.Due.{Query, Due, known, page, refused, to_slash, file, due, due_listed, due_looked, due_opened, due_course, due_kind, due_sent, course, dir_course, index_course, index_path, opening, IsHead, IsRight, IsSpoiled}
@@ -33,7 +35,7 @@ use Rattle.dav_core.specs.declared.method.DavMethod.TheVariants.{Get, Head}
 use Rattle.dav_io.specs.Counts.{Rose}
 use Rattle.dav_model.specs.declared.settings.Settings.{Settings}
 use Rattle.dav_model.specs.declared.target.Target.{Target}
-use Rattle.dav_model.specs.declared.target.Target.TheVariants.{Refused}
+use Rattle.dav_model.specs.declared.target.Target.TheVariants.{Methods, Refused}
 use Rattle.dav_model.specs.Announced.{bare}
 use Rattle.dav_model.specs.Due.{query}
 use Rattle.dav_model.specs.Play.{Replies}
@@ -240,13 +242,19 @@ failed_by_fault q shown rose reply could right e = by_list (right_listed q shown
     by_list (inr (is, r)) = r
 
 -- what the gates refuse, or the right reply to what they let through, announces the length of its body
+-- the answer to OPTIONS
+allowing_framed : (allow : Option DavMethodSet) (reply : Reply) → reply ≡ allowing allow false → IsFramed Methods reply
+allowing_framed allow reply is = subst (IsFramed Methods) (sym is) (framed_empty true (allowing allow false) refl refl)
+
 pub replies_framed : (target : Target) (rules : Rules) (k : Knowledge) (s t : Point) (fields : Fields) (reply : Reply) → Replies target rules k s t fields reply → IsFramed target reply
 replies_framed (Refused status close) rules k s t fields reply is = refused_framed (Refused status close) reply fields status close is
+replies_framed Methods rules k s t fields reply is = allowing_framed rules.settings.allow reply is
 replies_framed (At method path) rules k s t fields reply reads =
     right_framed (query rules.settings fields method path) reads.shown (Rose s.faults t.faults) reply reads.right
 
 pub replies_sound : (target : Target) (rules : Rules) (k : Knowledge) (s t : Point) (fields : Fields) (reply : Reply) → Replies target rules k s t fields reply → HasSoundBody reply
 replies_sound (Refused status close) rules k s t fields reply is = refusal_sound fields status close reply is
+replies_sound Methods rules k s t fields reply is = subst HasSoundBody (sym is) (record { full = tt; bodiless = λ e. refl })
 replies_sound (At method path) rules k s t fields reply reads =
     right_sound (query rules.settings fields method path) reads.shown (Rose s.faults t.faults) reply reads.right
 

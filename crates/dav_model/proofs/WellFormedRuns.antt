@@ -20,7 +20,8 @@ use Rattle.dav_model.specs.declared.sent.Sent.TheVariants.{Unsatisfied}
 use Rattle.dav_model.specs.declared.step.Step.{Step}
 use Rattle.dav_model.specs.declared.step.Step.TheVariants.{Request, Poll, Abandon, Purge, Turn}
 use Rattle.dav_model.specs.declared.target.Target.{Target}
-use Rattle.dav_model.specs.declared.target.Target.TheVariants.{At, Refused}
+use Rattle.dav_model.specs.declared.target.Target.TheVariants.{At, Methods, Refused}
+use Rattle.dav_model.specs.Allowing.{allowing}
 use Rattle.dav_model.specs.Bodies.{Part, Polls}
 use Rattle.dav_model.specs.Conditions.{Fields}
 use Rattle.dav_model.specs.Due.{Due, Query, IsHead, IsRight, IsSpoiled, due, due_course, due_kind, due_listed, due_looked, due_opened, due_sent, file, index_path, known, page, query, refused, to_slash}
@@ -35,7 +36,7 @@ use Rattle.dav_model.proofs.Courses.{course_holds}
 use Rattle.dav_model.proofs.FieldValues.{address_fits, date_fits, link_fits, tag_fits, type_fits}
 use Rattle.dav_model.proofs.GateStatuses.{gate_listed}
 use Rattle.dav_model.proofs.RightReplies.{right_listed}
-use Rattle.dav_model.proofs.WellFormedReplies.{HasSome, ascend_some, each_some, known_some, page_some, redirect_some, refusal_some, sent_some}
+use Rattle.dav_model.proofs.WellFormedReplies.{HasSome, allowing_some, ascend_some, each_some, known_some, page_some, redirect_some, refusal_some, sent_some}
 
 -- ---- statuses
 
@@ -180,6 +181,8 @@ replies_well_formed rules request k s t reply replies = by_target (target_of rul
   where
     by_target : (target : Target) → target_of rules request ≡ target → Replies target rules k s t (fields_of request) reply → IsWellFormed reply.status reply.fields
     by_target (Refused status close) e is = subst (λ (r : Reply). IsWellFormed r.status r.fields) (sym is) (gate_well_formed rules request status close e).1
+    by_target Methods e is = subst (λ (r : Reply). IsWellFormed r.status r.fields) (sym is)
+        (well_formed 200 (allowing rules.settings.allow false).fields refl (allowing_some rules.settings.allow false))
     by_target (At method path) e reads =
         right_well_formed (query rules.settings (fields_of request) method path) reads.shown (Rose s.faults t.faults) reply reads.could reads.right
 

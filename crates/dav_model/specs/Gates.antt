@@ -16,7 +16,7 @@ use Rattle.dav_core.specs.Grammar.{parsed}
 use Rattle.dav_model.specs.Conditions.{Fields, reads}
 use Rattle.dav_model.specs.declared.settings.Settings.{Settings}
 use Rattle.dav_model.specs.declared.target.Target.{Target}
-use Rattle.dav_model.specs.declared.target.Target.TheVariants.{At, Refused}
+use Rattle.dav_model.specs.declared.target.Target.TheVariants.{At, Methods, Refused}
 
 -- What the gates see of a body: that of a list of bytes, or of a reader.
 pub data Bulk : Type 0 where
@@ -74,7 +74,7 @@ abbrev pub has_field : Fields → List ℕ → Bool
 has_field fields name = is_some (get fields name)
 
 abbrev pub is_built : Fields → DavMethod → Bool
-is_built fields method = reads method && not (has_field fields (codes "if"))
+is_built fields method = (reads method || same_method method Options) && not (has_field fields (codes "if"))
 
 -- fields that announce a body (RFC 9112, section 6.3)
 abbrev pub announces_body : Fields → Bool
@@ -85,9 +85,15 @@ or_refused None None target = target
 or_refused None (Some refused) target = refused
 or_refused (Some refused) other target = refused
 
+-- what a request asks for that passed the gates
+abbrev pub asked : DavMethod → WebPath → Target
+asked method path = cond (same_method method Options) Methods (At method path)
+
 abbrev pub weighed : Fields → Bulk → Target → Target
 weighed fields bulk (Refused status close) = Refused status close
-weighed fields bulk (At method path) = or_refused (of_body method bulk) (unless (is_built fields method) 501 true) (At method path)
+weighed fields bulk Methods = Methods
+weighed fields bulk (At method path) =
+    or_refused (of_body method bulk) (unless (is_built fields method) 501 true) (asked method path)
 
 -- All gates, in their order. `stored` is whether there is a store.
 abbrev pub gates : Settings → Bool → Parts → Bulk → Target

@@ -16,6 +16,7 @@ pub mod Rules
 pub mod Shown
 pub mod Finding
 pub mod Gates
+pub mod Allowing
 pub mod Indexes
 pub mod Due
 pub mod Valid

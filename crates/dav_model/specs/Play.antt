@@ -18,7 +18,8 @@ use Rattle.dav_model.specs.declared.step.Step.TheVariants.{Request, Poll, Abando
 use Rattle.dav_model.specs.declared.answer.Answer.{Answer}
 use Rattle.dav_model.specs.declared.answer.Answer.TheVariants.{Reply as Replied, Done}
 use Rattle.dav_model.specs.declared.target.Target.{Target}
-use Rattle.dav_model.specs.declared.target.Target.TheVariants.{At, Refused}
+use Rattle.dav_model.specs.declared.target.Target.TheVariants.{At, Methods, Refused}
+use Rattle.dav_model.specs.Allowing.{allowing}
 use Rattle.dav_model.specs.Bodies.{NoneEmpty, Part, text, slice, Polls}
 use Rattle.dav_model.specs.Calls.{AsksAtGate, AsksToPoll, AsksToReply}
 use Rattle.dav_model.specs.Conditions.{Fields}
@@ -105,6 +106,7 @@ pub record Reads (rules : Rules) (k : Knowledge) (s t : Point) (q : Query) (repl
 -- The reply to a request with these fields between two points, by what it asks for.
 abbrev pub Replies : Target → Rules → Knowledge → Point → Point → Fields → Reply → Type 0
 Replies (Refused status close) rules k s t fields reply = reply ≡ refusal fields status close
+Replies Methods rules k s t fields reply = reply ≡ allowing rules.settings.allow false
 Replies (At method path) rules k s t fields reply = Reads rules k s t (query rules.settings fields method path) reply
 
 -- ---- steps
@@ -227,6 +229,7 @@ IsOfTree rules s t q reply = (w : World) → s.told ≡ Some w → MeetsNoLink r
 
 abbrev pub RepliesByTree : Target → Rules → Point → Point → Fields → Reply → Type 0
 RepliesByTree (Refused status close) rules s t fields reply = reply ≡ refusal fields status close
+RepliesByTree Methods rules s t fields reply = reply ≡ allowing rules.settings.allow false
 RepliesByTree (At method path) rules s t fields reply = IsOfTree rules s t (query rules.settings fields method path) reply
 
 -- The same of a step that was answered, if it is a request.

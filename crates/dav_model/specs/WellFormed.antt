@@ -28,9 +28,9 @@ is_among n ns = list_any (λ m. m == n) ns
 -- the names of the fields of all replies
 abbrev pub reply_names : List (List ℕ)
 reply_names =
-    codes "accept-ranges" ∷ codes "cache-control" ∷ codes "connection" ∷ codes "content-length" ∷ codes "content-range"
-    ∷ codes "content-type" ∷ codes "etag" ∷ codes "expires" ∷ codes "last-modified" ∷ codes "location" ∷ codes "pragma"
-    ∷ codes "vary"
+    codes "accept-ranges" ∷ codes "allow" ∷ codes "cache-control" ∷ codes "connection" ∷ codes "content-length"
+    ∷ codes "content-range" ∷ codes "content-type" ∷ codes "dav" ∷ codes "etag" ∷ codes "expires" ∷ codes "last-modified"
+    ∷ codes "location" ∷ codes "ms-author-via" ∷ codes "pragma" ∷ codes "vary"
     ∷ []
 
 -- The name of a field is a token and its value a field value (RFC 9110, sections 5.1 and 5.5), so neither has a byte that

@@ -3,15 +3,16 @@ use Rattle.std.proofs.Common.{◌≡◌, ◌==◌, ◌&&◌, ◌⊎◌, ℕ, Lis
 use Rattle.http.specs.Request.{head_of, body_of}
 use Rattle.dav_core.specs.DavPath.{WebPath}
 use Rattle.dav_core.specs.Methods.{method_of}
+use Rattle.dav_core.specs.declared.method.DavMethod.{DavMethod}
 use Rattle.dav_core.specs.declared.method.DavMethod.TheVariants.{Head}
 use Rattle.dav_core.specs.declared.parse_error.ParseError.{ParseError}
 use Rattle.dav_model.specs.declared.answer.Answer.TheVariants.{Piece, End}
 use Rattle.dav_model.specs.declared.target.Target.{Target}
-use Rattle.dav_model.specs.declared.target.Target.TheVariants.{At, Refused}
+use Rattle.dav_model.specs.declared.target.Target.TheVariants.{At, Methods, Refused}
 use Rattle.dav_model.specs.Announced.{PolledToEnd}
 use Rattle.dav_model.specs.Bodies.{Part}
 use Rattle.dav_model.specs.Conditions.{Fields}
-use Rattle.dav_model.specs.Gates.{Bulk, none, some, much, broken, admitted, bulk_of, is_allowed, is_built, or_refused, takes_much, takes_some, unless, weighed, with_method, with_path}
+use Rattle.dav_model.specs.Gates.{Bulk, none, some, much, broken, admitted, asked, bulk_of, is_allowed, is_built, or_refused, takes_much, takes_some, unless, weighed, with_method, with_path}
 use Rattle.dav_model.specs.Head.{Reply, is_get}
 use Rattle.dav_model.specs.Play.{Replies, Stage}
 use Rattle.dav_model.specs.Requests.{Asked, fields_of}
@@ -27,6 +28,7 @@ use Rattle.dav_serve.proofs.ExchangesAreGiven.{given_of, polled_to_end}
 -- what a HEAD asks for
 abbrev IsHeads : Target → Type 0
 IsHeads (At method path) = method ≡ Head
+IsHeads Methods = ⊥
 IsHeads (Refused status close) = Unit {0}
 
 heads_path : (found : Result WebPath ParseError) → IsHeads (with_path Head found)
@@ -46,11 +48,19 @@ heads_or : (passes : Bool) (refused : ℕ) (second : Option Target) (target : Ta
 heads_or true refused second target is = is
 heads_or false refused second target is = tt
 
+heads_asked : (method : DavMethod) (path : WebPath) → method ≡ Head → IsHeads (asked method path)
+heads_asked method path is = subst (λ (m : DavMethod). IsHeads (asked m path)) (sym is) refl
+
 heads_weighed : (fields : Fields) (bulk : Bulk) (target : Target) → IsHeads target → IsHeads (weighed fields bulk target)
 heads_weighed fields bulk (Refused status close) is = tt
-heads_weighed fields none (At method path) is = heads_unless (is_built fields method) 501 true (At method path) is
-heads_weighed fields some (At method path) is = heads_or (takes_some method) 415 (unless (is_built fields method) 501 true) (At method path) (heads_unless (is_built fields method) 501 true (At method path) is)
-heads_weighed fields much (At method path) is = heads_or (takes_much method) 413 (unless (is_built fields method) 501 true) (At method path) (heads_unless (is_built fields method) 501 true (At method path) is)
+heads_weighed fields Methods is = is
+heads_weighed fields none (At method path) is = heads_unless (is_built fields method) 501 true (asked method path) (heads_asked method path is)
+heads_weighed fields some (At method path) is =
+    heads_or (takes_some method) 415 (unless (is_built fields method) 501 true) (asked method path)
+    (heads_unless (is_built fields method) 501 true (asked method path) (heads_asked method path is))
+heads_weighed fields much (At method path) is =
+    heads_or (takes_much method) 413 (unless (is_built fields method) 501 true) (asked method path)
+    (heads_unless (is_built fields method) 501 true (asked method path) (heads_asked method path is))
 heads_weighed fields broken (At method path) is = tt
 
 heads_gates : (rules : Rules) (r : Asked) → (head_of r).method ≡ codes "HEAD" → IsHeads (target_of rules r)
@@ -72,6 +82,7 @@ unmodified false status e = refl
 none_by : (target : Target) (rules : Rules) (k : Knowledge) (s t : Point) (fields : Fields) (reply : Reply) (pieces : List (List ℕ)) → Replies target rules k s t fields reply
     → IsHeads target ⊎ (reply.status ≡ 304) → PolledToEnd reply.parts pieces → pieces ≡ []
 none_by (Refused status close) rules k s t fields reply pieces replies why polled = none_polled reply.parts pieces (ap (λ (z : Reply). z.parts) replies) polled
+none_by Methods rules k s t fields reply pieces replies why polled = none_polled reply.parts pieces (ap (λ (z : Reply). z.parts) replies) polled
 none_by (At method path) rules k s t fields reply pieces replies (inl head) polled =
     gives_none (At method path) reply pieces (replies_framed (At method path) rules k s t fields reply replies) (ap (λ m. is_get m && not (reply.status == 304)) head) polled
 none_by (At method path) rules k s t fields reply pieces replies (inr e) polled =
