@@ -28,7 +28,7 @@ opens_asks : (slash : Bool) (path : WebPath) (o : Result PlainFile FsError) (s t
 opens_asks true path o s t e opening =
     let (is, same) = opening.slash e in subst (λ x. AsksToOpen x s t) (sym is) (inl (ap (λ (d : DiskState). d.asked) same))
 opens_asks false path o s t e opening =
-    let (answer, opens, is) = opening.asked e refl in subst (λ x. AsksToOpen x s t) (sym is) (filed_asks answer s t opens.asks.asked)
+    let (answer, opens, is) = opening.asked e in subst (λ x. AsksToOpen x s t) (sym is) (filed_asks answer s t opens.asks.asked)
 
 refuses_asks : (answer : Result Lister DiskError) (path : Names) (e : FsError) (s t : DiskState) → Lists s path answer t → AsksAtMostOnce s t
 refuses_asks answer path e s t lists = inr lists.counted.asked

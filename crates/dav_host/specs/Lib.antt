@@ -1,4 +1,5 @@
 pub mod Host
 pub mod Kinds
 pub mod Listings
+pub mod Refusals
 pub mod Streams

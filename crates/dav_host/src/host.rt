@@ -1,20 +1,21 @@
 ghost use Rattle.std.specs.Prelude.{◌≡◌, ◌≢◌, ◌≤◌, None, Some, IfOk, IfSome, IfErr, refl, string_bytes, string_capacity};
 ghost use Rattle.dav_io.specs.Counts.{Rose, one_more};
-ghost use Rattle.dav_host.specs.Host.{room, live_at, untold, IsWalkRefusal, never_told, refusal_of, list_refusal_of, IsListRefusal};
+ghost use Rattle.dav_host.specs.Host.{room, live_at, untold, never_told};
 ghost use Rattle.dav_host.specs.Listings.{listers_at};
 ghost use Rattle.dav_core.specs.Untold.{untold_live};
-ghost use Rattle.std.specs.IoError.{error_kind};
 
 use crate::keys::free_key;
 use crate::listings::{HostListing, listing_of, next_name};
-use crate::meta::meta_of;
-use crate::opens::{HostFile, can_read, meta_at, open_meta, read_at, seek_at};
+use crate::opens::{
+    HostFile, can_read, can_write, may_change, meta_at, open_meta, read_at, seek_at, write_at,
+};
 use crate::paths::{ROOM, lay_path};
+use crate::refusals::{list_refusal, open_refusal};
+use crate::writing::{copy_file, look_at, make_dir, move_to, take_dir, take_file, way_of};
 use dav_core::{Disk, DiskError, FsPath, Handle, Lister, Meta, OpenOptions};
 use dav_io::{NoMemory, Text};
 use std::alloc::Global;
 use std::collections::BTreeMap;
-use std::io::ErrorKind;
 use std::os::unix::fs::OpenOptionsExt;
 use std::rt::Files;
 use std::{fs, io};
@@ -28,46 +29,25 @@ pub struct HostDisk<R: Files + AllocGlobal + Clone + Drop> {
     rt: R,
     root: String,
     path: String,
+    // The second path of a call that has two.
+    other: String,
     faults: u64,
     asked: u64,
     opens: BTreeMap<u32, HostFile<R::File>>,
     listings: BTreeMap<u32, HostListing<R>>,
-    ghost room: { room ≤ string_capacity path },
-}
-
-// The refusal of a look or an opening for the machine's error, or None where it is a fault.
-fn refusal(error: &io::Error) -> Option<DiskError>
-    ensures value { result ≡ refusal_of (error_kind error.now) }
-    ensures walk { IfSome result IsWalkRefusal }
-{
-    match error.kind() {
-        ErrorKind::NotFound => Some(DiskError::NotFound),
-        ErrorKind::NotADirectory => Some(DiskError::NotDir),
-        _ => None,
-    }
-}
-
-// The refusal of a listing for the machine's error, or None where it is a fault.
-fn list_refusal(error: &io::Error) -> Option<DiskError>
-    ensures value { result ≡ list_refusal_of (error_kind error.now) }
-    ensures may { IfSome result IsListRefusal }
-{
-    match error.kind() {
-        ErrorKind::NotFound => Some(DiskError::NotFound),
-        ErrorKind::NotADirectory => Some(DiskError::NotDir),
-        ErrorKind::OutOfMemory => Some(DiskError::NoMemory),
-        _ => None,
-    }
+    ghost path_room: { room ≤ string_capacity path },
+    ghost other_room: { room ≤ string_capacity other },
 }
 
 // Opens a file of the machine. New files may be read by everybody where `public` is set, and else by their owner alone.
+// What isn't opened to be written isn't emptied.
 fn open_file<R: Files>(rt: &R, path: &str, how: OpenOptions, public: bool) -> io::Result<R::File> {
     let mut options = fs::OpenOptions::new();
     options
         .read(how.read)
         .write(how.write)
         .append(how.append)
-        .truncate(how.truncate)
+        .truncate(how.truncate && how.write)
         .create(how.create)
         .create_new(how.create_new)
         .mode(if public { 0o644 } else { 0o600 });
@@ -84,6 +64,7 @@ impl<R: Files + AllocGlobal + Clone + Drop> HostDisk<R> {
             rt,
             root: String::from_str(alloc, root)?,
             path: String::with_capacity(alloc, ROOM)?,
+            other: String::with_capacity(alloc, ROOM)?,
             faults: 0,
             asked: 0,
             opens: BTreeMap::new(alloc),
@@ -121,15 +102,10 @@ impl<R: Files + AllocGlobal + Clone + Drop> Disk for HostDisk<R> {
         if !lay_path(&mut self.path, self.root.as_str(), path.as_slice()) {
             return Err(self.fault());
         }
-        match fs::metadata(&self.rt, self.path.as_str()) {
-            Ok(found) => match meta_of(&found) {
-                Some(meta) => Ok(meta),
-                None => Err(self.fault()),
-            },
-            Err(error) => match refusal(&error) {
-                Some(e) => Err(e),
-                None => Err(self.fault()),
-            },
+        match look_at(&self.rt, self.path.as_str()) {
+            Ok(meta) => Ok(meta),
+            Err(Some(e)) => Err(e),
+            Err(None) => Err(self.fault()),
         }
     }
 
@@ -143,7 +119,7 @@ impl<R: Files + AllocGlobal + Clone + Drop> Disk for HostDisk<R> {
         }
         let file = match open_file(&self.rt, self.path.as_str(), how, public) {
             Ok(file) => file,
-            Err(error) => match refusal(&error) {
+            Err(error) => match open_refusal(&error, may_change(how)) {
                 Some(e) => return Err(e),
                 None => return Err(self.fault()),
             },
@@ -179,6 +155,17 @@ impl<R: Files + AllocGlobal + Clone + Drop> Disk for HostDisk<R> {
             return Err(DiskError::IsDir);
         }
         match read_at(&mut self.opens, file.0, into) {
+            Some(count) => Ok(count),
+            None => Err(self.fault()),
+        }
+    }
+
+    fn write(&mut self, file: Handle, from: &[u8]) -> Result<usize, DiskError> {
+        self.asked = self.asked.saturating_add(1);
+        if !can_write(&self.opens, file.0) {
+            return Err(DiskError::IsDir);
+        }
+        match write_at(&mut self.opens, file.0, from) {
             Some(count) => Ok(count),
             None => Err(self.fault()),
         }
@@ -220,6 +207,74 @@ impl<R: Files + AllocGlobal + Clone + Drop> Disk for HostDisk<R> {
 
     fn end_list(&mut self, at: Lister) {
         let _ = self.listings.remove(&at.0);
+    }
+
+    fn create_dir(&mut self, path: &FsPath, public: bool) -> Result<(), DiskError> {
+        self.asked = self.asked.saturating_add(1);
+        if !lay_path(&mut self.path, self.root.as_str(), path.as_slice()) {
+            return Err(self.fault());
+        }
+        let is_root = path.as_slice().is_empty();
+        match make_dir(&self.rt, self.path.as_str(), is_root, public) {
+            Ok(()) => Ok(()),
+            Err(Some(e)) => Err(e),
+            Err(None) => Err(self.fault()),
+        }
+    }
+
+    fn remove_dir(&mut self, path: &FsPath) -> Result<(), DiskError> {
+        self.asked = self.asked.saturating_add(1);
+        if !lay_path(&mut self.path, self.root.as_str(), path.as_slice()) {
+            return Err(self.fault());
+        }
+        let is_root = path.as_slice().is_empty();
+        match take_dir(&self.rt, self.path.as_str(), is_root) {
+            Ok(()) => Ok(()),
+            Err(Some(e)) => Err(e),
+            Err(None) => Err(self.fault()),
+        }
+    }
+
+    fn remove_file(&mut self, path: &FsPath) -> Result<(), DiskError> {
+        self.asked = self.asked.saturating_add(1);
+        if !lay_path(&mut self.path, self.root.as_str(), path.as_slice()) {
+            return Err(self.fault());
+        }
+        let is_root = path.as_slice().is_empty();
+        match take_file(&self.rt, self.path.as_str(), is_root) {
+            Ok(()) => Ok(()),
+            Err(Some(e)) => Err(e),
+            Err(None) => Err(self.fault()),
+        }
+    }
+
+    fn rename(&mut self, from: &FsPath, to: &FsPath) -> Result<(), DiskError> {
+        self.asked = self.asked.saturating_add(1);
+        if !lay_path(&mut self.path, self.root.as_str(), from.as_slice())
+            || !lay_path(&mut self.other, self.root.as_str(), to.as_slice())
+        {
+            return Err(self.fault());
+        }
+        let way = way_of(from.as_slice(), to.as_slice());
+        match move_to(&self.rt, self.path.as_str(), self.other.as_str(), way) {
+            Ok(()) => Ok(()),
+            Err(Some(e)) => Err(e),
+            Err(None) => Err(self.fault()),
+        }
+    }
+
+    fn copy(&mut self, from: &FsPath, to: &FsPath) -> Result<(), DiskError> {
+        self.asked = self.asked.saturating_add(1);
+        if !lay_path(&mut self.path, self.root.as_str(), from.as_slice())
+            || !lay_path(&mut self.other, self.root.as_str(), to.as_slice())
+        {
+            return Err(self.fault());
+        }
+        match copy_file(&self.rt, self.path.as_str(), self.other.as_str()) {
+            Ok(()) => Ok(()),
+            Err(Some(e)) => Err(e),
+            Err(None) => Err(self.fault()),
+        }
     }
 
     fn turn(&mut self) -> Result<(), NoMemory> {

@@ -9,7 +9,9 @@ mod listings;
 mod meta;
 mod opens;
 mod paths;
+mod refusals;
 mod stream;
+mod writing;
 
 pub use clock::SystemClock;
 pub use host::HostDisk;

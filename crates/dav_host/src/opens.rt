@@ -1,14 +1,15 @@
 // The table of open files.
-ghost use Rattle.std.specs.Prelude.{◌≡◌, ◌≤◌, Some, IfSome, length, option_map};
-ghost use Rattle.dav_core.specs.Disk.{can_read as the_can_read};
+ghost use Rattle.std.specs.Prelude.{◌≡◌, ◌<◌, ◌≤◌, Some, IfSome, length, option_map};
+ghost use Rattle.dav_core.specs.Disk.{can_read as the_can_read, may_change as the_may_change};
+ghost use Rattle.dav_core.specs.Writing.{can_write as the_can_write};
 ghost use Rattle.dav_host.specs.Host.{live_at, live_of};
 
 use crate::meta::meta_of;
-use crate::stream::read_again;
+use crate::stream::{read_again, write_again};
 use dav_core::{Kind, Meta, OpenOptions};
 use std::collections::BTreeMap;
 use std::fs::OpenFile;
-use std::io::{Read, Seek, SeekFrom};
+use std::io::{Read, Seek, SeekFrom, Write};
 
 // An open file of the machine, with the kind that was seen when it was opened, and how it was opened.
 #[derive(Drop)]
@@ -63,6 +64,23 @@ pub fn can_read<F>(opens: &BTreeMap<u32, HostFile<F>>, handle: u32) -> bool
     }
 }
 
+// Whether a regular file was opened to be written.
+pub fn can_write<F>(opens: &BTreeMap<u32, HostFile<F>>, handle: u32) -> bool
+    ensures { result ≡ the_can_write (live_at opens.now handle) }
+{
+    match opens.get(&handle) {
+        Some(opened) => opened.kind == Kind::File && (opened.how.write || opened.how.append),
+        None => false,
+    }
+}
+
+// Whether an opening may change what stands at its path, or make it.
+pub fn may_change(how: OpenOptions) -> bool
+    ensures { result ≡ the_may_change how }
+{
+    how.write || how.append || how.truncate || how.create || how.create_new
+}
+
 // What is said of an open file: first what was seen when it was opened. None is a fault.
 pub fn meta_at<F: OpenFile>(opens: &mut BTreeMap<u32, HostFile<F>>, handle: u32) -> Option<Meta>
     ensures live { live_at opens.new ≡ live_at opens.old }
@@ -85,6 +103,22 @@ pub fn read_at<F: Read>(
 {
     match opens.get_mut(&handle) {
         Some(opened) => read_again(&mut opened.file, into).ok(),
+        None => None,
+    }
+}
+
+// Writes to an open file. None is a fault.
+pub fn write_at<F: Write>(
+    opens: &mut BTreeMap<u32, HostFile<F>>,
+    handle: u32,
+    from: &[u8],
+) -> Option<usize>
+    ensures live { live_at opens.new ≡ live_at opens.old }
+    ensures within { IfSome result (λ n. n ≤ length from.now) }
+    ensures some { IfSome result (λ n. 0 < n) }
+{
+    match opens.get_mut(&handle) {
+        Some(opened) => write_again(&mut opened.file, from).ok(),
         None => None,
     }
 }

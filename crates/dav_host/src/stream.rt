@@ -31,7 +31,7 @@ pub fn read_again<R: Read>(input: &mut R, into: &mut [u8]) -> Result<usize, Fail
 }
 
 // Writes once, and again where a signal came between. Any other error is a fault, and so is a write of no byte.
-fn write_again<W: Write>(output: &mut W, from: &[u8]) -> Result<usize, Failed>
+pub fn write_again<W: Write>(output: &mut W, from: &[u8]) -> Result<usize, Failed>
     ensures within { IfOk result (λ n. n ≤ length from.now) }
     ensures some { IfOk result (λ n. 0 < n) }
     ensures bytes { WriteAppends (W.contents output.old) (W.contents output.new) result from.now }

@@ -39,7 +39,7 @@ look_refused slash (Err d) e s t may asks is = disk_refuses_look d e s t may ask
 pub look_refuses : (s t : DiskState) (path : WebPath) (e : FsError) → Looks s path (Err e) t → CouldRefuse e ⊎ IsFault {T = Info} s (Err e) t
 look_refuses s t path e (answer, metas, is) = look_refused path.slash answer e s t metas.only metas.asks is
 
-disk_refuses_open : (d : DiskError) (e : FsError) (s t : DiskState) → MayRefuseOpen d → Asks {T = Handle} (Err d) s t → e ≡ fs_error_of d
+disk_refuses_open : (d : DiskError) (e : FsError) (s t : DiskState) → MayRefuseOpen false d → Asks {T = Handle} (Err d) s t → e ≡ fs_error_of d
     → CouldRefuse e ⊎ Spoiled {T = PlainFile} s (Err e) t
 disk_refuses_open NotFound e s t may asks is = inl (inl is)
 disk_refuses_open NotDir e s t may asks is = inl (inr is)
@@ -49,7 +49,7 @@ disk_refuses_open IsDir e s t may asks is = absurd may
 disk_refuses_open Exists e s t may asks is = absurd may
 disk_refuses_open NotEmpty e s t may asks is = absurd may
 
-open_refused : (answer : Result Handle DiskError) (e : FsError) (s t : DiskState) → IfErr answer MayRefuseOpen → Asks answer s t → Err e ≡ filed answer
+open_refused : (answer : Result Handle DiskError) (e : FsError) (s t : DiskState) → IfErr answer (MayRefuseOpen false) → Asks answer s t → Err e ≡ filed answer
     → CouldRefuse e ⊎ Spoiled {T = PlainFile} s (Err e) t
 open_refused (Ok h) e s t may asks is = cc
 open_refused (Err d) e s t may asks is = disk_refuses_open d e s t may asks cc
@@ -58,7 +58,7 @@ opening_refused : (slash : Bool) (s t : DiskState) (path : WebPath) (e : FsError
     → CouldRefuse e ⊎ Spoiled {T = PlainFile} s (Err e) t
 opening_refused true s t path e ends opening = let refused = (opening.slash ends).0 in inl (inr cc)
 opening_refused false s t path e ends opening =
-    let (answer, opens, is) = opening.asked ends refl in
+    let (answer, opens, is) = opening.asked ends in
     open_refused answer e s t opens.only opens.asks is
 
 -- An opening for reading is refused with one of the two, because of a fault, or for want of memory.

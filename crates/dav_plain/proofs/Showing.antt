@@ -161,14 +161,14 @@ module _ {S C : Type 0} (view : View S C PlainFile) (plain : IsPlain view) (s : 
       let (refuses, same) = (plain.opens_so m c path reading o n opening).slash e in
       inl (rw (e, refuses) refl)
   opens_by path w false m n o e is told linked opening =
-      let (answer, opens, so) = (plain.opens_so m c path reading o n opening).asked e refl in
+      let (answer, opens, so) = (plain.opens_so m c path reading o n opening).asked e in
       rw so (flat_opened w path (filed answer) (view.state m) (view.state n) e (opens_in w path answer (view.state m) (view.state n) is told e linked opens))
 
   opens_counts : (path : WebPath) (slash : Bool) (m n : S) (o : Result PlainFile FsError) → path.slash ≡ slash → view.opens m c path reading o n → (view.state m).faults ≤ (view.state n).faults
   opens_counts path true m n o e opening =
       let (refuses, same) = (plain.opens_so m c path reading o n opening).slash e in
       rw same (omega arith)
-  opens_counts path false m n o e opening = ((plain.opens_so m c path reading o n opening).asked e refl).1.asks.counts
+  opens_counts path false m n o e opening = ((plain.opens_so m c path reading o n opening).asked e).1.asks.counts
 
   -- what stands there by the world, where no link stands on the way
   pub plain_shows : (path : WebPath) (w : World) → (view.state s).told ≡ Some w → IsWorld w → is_linked w.tree path.names ≡ false → Shows view s c path (looked w path) (opened w path)

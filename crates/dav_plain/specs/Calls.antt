@@ -1,7 +1,7 @@
 -- What the plain store answers, by what its disk answers.
-use Rattle.std.specs.Prelude.{◌≡◌, ◌≢◌, ℕ, List, [], Bool, true, false, Option, Result, Ok, Err}
+use Rattle.std.specs.Prelude.{◌≡◌, ℕ, List, Bool, true, false, Option, Result, Ok, Err}
 use Rattle.dav_core.specs.declared.error.FsError.{FsError}
-use Rattle.dav_core.specs.declared.error.FsError.TheVariants.{Forbidden, NotImplemented}
+use Rattle.dav_core.specs.declared.error.FsError.TheVariants.{Forbidden}
 use Rattle.dav_core.specs.declared.handle.DiskError.{DiskError}
 use Rattle.dav_core.specs.declared.handle.Handle.{Handle}
 use Rattle.dav_core.specs.declared.handle.Meta.{Meta}
@@ -10,7 +10,7 @@ use Rattle.dav_core.specs.DavPath.{WebPath}
 use Rattle.dav_core.specs.Disk.{DiskState, FileMetas, Metas, Opens, Reads, Seeks}
 use Rattle.dav_core.specs.Errors.{fs_error_of}
 use Rattle.dav_core.specs.Info.{Info, info_of}
-use Rattle.dav_core.specs.Options.{reading}
+use Rattle.dav_core.specs.Writing.{Copies, CreatesDir, RemovesDir, RemovesFile, Renames}
 use Rattle.dav_store.specs.Standing.{Seen}
 use Rattle.dav_plain.specs.declared.file.PlainFile.{PlainFile}
 use Rattle.dav_plain.specs.declared.meta.PlainMeta.{PlainMeta}
@@ -32,11 +32,32 @@ abbrev pub filed : Result Handle DiskError → Result PlainFile FsError
 filed (Ok h) = Ok (record { handle = h })
 filed (Err e) = Err (fs_error_of e)
 
--- A path with a final slash isn't opened. Files are opened for reading alone.
+-- A path with a final slash isn't opened. All else is the disk's opening at the path's names.
 pub record IsOpening (s : DiskState) (path : WebPath) (how : OpenOptions) (result : Result PlainFile FsError) (t : DiskState) : Type 0 where
   pub slash : path.slash ≡ true → Refuses Forbidden s result t
-  pub unbuilt : path.slash ≡ false → how ≢ reading → Refuses NotImplemented s result t
-  pub asked : path.slash ≡ false → how ≡ reading → (answer : Result Handle DiskError) × Opens s path.names reading answer t × (result ≡ filed answer)
+  pub asked : path.slash ≡ false → (answer : Result Handle DiskError) × Opens s path.names how answer t × (result ≡ filed answer)
+
+-- The calls that change what stands are those of the disk at the paths' names, each one call.
+abbrev pub done_by : Result Unit DiskError → Result Unit FsError
+done_by (Ok x) = Ok x
+done_by (Err e) = Err (fs_error_of e)
+
+abbrev pub AsksToMake : DiskState → WebPath → Result Unit FsError → DiskState → Type 0
+AsksToMake s path result t = (answer : Result Unit DiskError) × CreatesDir s path.names answer t × (result ≡ done_by answer)
+
+abbrev pub AsksToTakeDir : DiskState → WebPath → Result Unit FsError → DiskState → Type 0
+AsksToTakeDir s path result t = (answer : Result Unit DiskError) × RemovesDir s path.names answer t × (result ≡ done_by answer)
+
+-- A path with a final slash names no file that may be removed.
+pub record AsksToTakeFile (s : DiskState) (path : WebPath) (result : Result Unit FsError) (t : DiskState) : Type 0 where
+  pub slash : path.slash ≡ true → Refuses Forbidden s result t
+  pub asked : path.slash ≡ false → (answer : Result Unit DiskError) × RemovesFile s path.names answer t × (result ≡ done_by answer)
+
+abbrev pub AsksToMove : DiskState → WebPath → WebPath → Result Unit FsError → DiskState → Type 0
+AsksToMove s from to result t = (answer : Result Unit DiskError) × Renames s from.names to.names answer t × (result ≡ done_by answer)
+
+abbrev pub AsksToCopy : DiskState → WebPath → WebPath → Result Unit FsError → DiskState → Type 0
+AsksToCopy s from to result t = (answer : Result Unit DiskError) × Copies s from.names to.names answer t × (result ≡ done_by answer)
 
 -- The metadata of an open file is what the disk says of its handle.
 abbrev pub said_by : Result Meta DiskError → Result PlainMeta FsError
@@ -60,11 +81,6 @@ counted (Err e) = Err (fs_error_of e)
 
 abbrev pub AsksRead : DiskState → ℕ → List ℕ → Result ℕ FsError → DiskState → Type 0
 AsksRead s h buffer result t = (answer : Result ℕ DiskError) × Reads s h buffer answer t × (result ≡ counted answer)
-
--- Nothing is written, and that alone is not refused.
-abbrev pub Writes : {F : Type 0} → F → DiskState → List ℕ → Result Unit FsError → F → DiskState → Type 0
-Writes f s [] result g t = (result ≡ Ok tt) × (g ≡ f) × (t ≡ s)
-Writes f s from result g t = (result ≡ Err NotImplemented) × (g ≡ f) × (t ≡ s)
 
 abbrev pub seen_by : PlainFile → DiskState → Option Seen
 seen_by f s = seen_at s f.handle.0

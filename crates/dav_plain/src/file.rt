@@ -5,6 +5,7 @@ ghost use Rattle.dav_store.specs.Files.{FileReads, FileRedirects, FileSays, File
 ghost use Rattle.dav_store.specs.Standing.{info_in};
 
 use crate::PlainMeta;
+use crate::writing::{write_all, write_pieces};
 use bytes::Buf;
 use dav_core::{Disk, FsError, Handle};
 use dav_io::Text;
@@ -27,8 +28,9 @@ impl PlainFile {
 }
 
 impl<D: Disk> DavFile<D> for PlainFile {
-    ghost use Rattle.dav_plain.specs.Calls.{AsksMeta, AsksRead, AsksSeek, Writes, seen_by};
+    ghost use Rattle.dav_plain.specs.Calls.{AsksMeta, AsksRead, AsksSeek, seen_by};
     ghost use Rattle.dav_plain.specs.PlainStays.{plain_stays};
+    ghost use Rattle.dav_plain.specs.Writing.{WritesAll};
 
     type Meta = PlainMeta;
 
@@ -36,7 +38,7 @@ impl<D: Disk> DavFile<D> for PlainFile {
 
     ghost seen = { seen_by };
 
-    ghost writes = { λ f s from result g t. Writes f s from result g t };
+    ghost writes = { λ f s from result g t. WritesAll f.handle.0 s from result t × (g ≡ f) };
 
     /// Its metadata as it is now, by one call of the disk.
     fn metadata(&mut self, disk: &mut D) -> Result<PlainMeta, FsError>
@@ -87,18 +89,14 @@ impl<D: Disk> DavFile<D> for PlainFile {
         }
     }
 
-    fn write_bytes(&mut self, _disk: &mut D, buf: &[u8]) -> Result<(), FsError> {
-        if buf.is_empty() {
-            return Ok(());
-        }
-        Err(FsError::NotImplemented)
+    /// Writes all these bytes, by as many calls of the disk as it takes.
+    fn write_bytes(&mut self, disk: &mut D, buf: &[u8]) -> Result<(), FsError> {
+        write_all(disk, self.handle, buf)
     }
 
-    fn write_buf<B: Buf + Drop>(&mut self, _disk: &mut D, buf: B) -> Result<(), FsError> {
-        if buf.remaining() == 0 {
-            return Ok(());
-        }
-        Err(FsError::NotImplemented)
+    /// The same of the bytes of a buffer, one of its pieces after the other.
+    fn write_buf<B: Buf + Drop>(&mut self, disk: &mut D, buf: B) -> Result<(), FsError> {
+        write_pieces(disk, self.handle, buf)
     }
 
     fn flush(&mut self, _disk: &mut D) -> Result<(), FsError> {

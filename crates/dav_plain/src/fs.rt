@@ -1,16 +1,15 @@
-ghost use Rattle.std.specs.Prelude.{◌≡◌, ◌↔◌, ℕ, true, false, IsTrue, Option, Some, Result, refl};
-ghost use Rattle.dav_core.specs.Options.{reading};
+ghost use Rattle.std.specs.Prelude.{◌≡◌, ℕ, true, false, Option, Some, Result, refl};
 ghost use Rattle.dav_core.specs.Path.{is_plain};
 ghost use Rattle.dav_plain.specs.Listing.{Begins, GivesEntry};
 
-use crate::meta::said;
+use crate::meta::{done, said};
 use crate::{EntryMeta, PlainDir, PlainEntry, PlainFile, PlainMeta};
 use dav_core::{DavPath, Disk, DiskError, FsError, FsPath, Kind, OpenOptions};
 use dav_io::{Moment, Text};
 use dav_store::{DavFileSystem, ReadDirMeta};
 
-/// A disk from its root on. It has no folding, no rules of an operating system and no memory. A call that needs a call
-/// of the disk which no disk has so far is `NotImplemented`.
+/// A disk from its root on. It has no folding, no rules of an operating system and no memory. What it makes is open to its
+/// owner alone. Metadata of a link itself is `NotImplemented`.
 #[derive(Drop)]
 pub struct PlainFs<D> {
     disk: D,
@@ -37,13 +36,6 @@ impl<D> PlainFs<D> {
         let PlainFs { disk } = self;
         disk
     }
-}
-
-// Whether a file is opened for reading alone.
-fn is_reading(options: OpenOptions) -> bool
-    ensures { IsTrue result ↔ (options ≡ reading) }
-{
-    options == OpenOptions::read()
 }
 
 // Begins a listing. The memory for its path is taken before the disk is asked.
@@ -84,6 +76,7 @@ fn entry_of<D: Disk>(disk: &mut D, dir: &PlainDir, name: Text) -> Result<PlainEn
 impl<D: Disk> DavFileSystem for PlainFs<D> {
     ghost use Rattle.dav_core.specs.declared.error.FsError.TheVariants.{NotImplemented};
     ghost use Rattle.dav_core.specs.Listing.{EndsListing};
+    ghost use Rattle.dav_plain.specs.Calls.{AsksToCopy, AsksToMake, AsksToMove, AsksToTakeDir, AsksToTakeFile};
     ghost use Rattle.dav_plain.specs.Calls.{IsOpening, Looks, Refuses};
     ghost use Rattle.dav_plain.specs.Listing.{BeginsDir, NextEntry, to_come};
 
@@ -123,15 +116,15 @@ impl<D: Disk> DavFileSystem for PlainFs<D> {
 
     ghost ends_list = { λ s d t. EndsListing (D.state s.disk) d.lister.0 (D.state t.disk) };
 
-    ghost makes_dir = { λ s _ result t. Refuses NotImplemented s result t };
+    ghost makes_dir = { λ s path result t. AsksToMake (D.state s.disk) path result (D.state t.disk) };
 
-    ghost removes_dir = { λ s _ result t. Refuses NotImplemented s result t };
+    ghost removes_dir = { λ s path result t. AsksToTakeDir (D.state s.disk) path result (D.state t.disk) };
 
-    ghost removes_file = { λ s _ result t. Refuses NotImplemented s result t };
+    ghost removes_file = { λ s path result t. AsksToTakeFile (D.state s.disk) path result (D.state t.disk) };
 
-    ghost renames = { λ s _ _ result t. Refuses NotImplemented s result t };
+    ghost renames = { λ s from to result t. AsksToMove (D.state s.disk) from to result (D.state t.disk) };
 
-    ghost copies = { λ s _ _ result t. Refuses NotImplemented s result t };
+    ghost copies = { λ s from to result t. AsksToCopy (D.state s.disk) from to result (D.state t.disk) };
 
     fn disk(&mut self) -> &mut D {
         &mut self.disk
@@ -162,9 +155,6 @@ impl<D: Disk> DavFileSystem for PlainFs<D> {
     fn open(&mut self, path: &DavPath, options: OpenOptions) -> Result<PlainFile, FsError> {
         if path.is_collection() {
             return Err(FsError::Forbidden);
-        }
-        if !is_reading(options) {
-            return Err(FsError::NotImplemented);
         }
         match self.disk.open(path.names(), options, false) {
             Ok(handle) => Ok(PlainFile { handle }),
@@ -205,24 +195,27 @@ impl<D: Disk> DavFileSystem for PlainFs<D> {
         self.disk.end_list(dir.lister);
     }
 
-    fn create_dir(&mut self, _path: &DavPath) -> Result<(), FsError> {
-        Err(FsError::NotImplemented)
+    fn create_dir(&mut self, path: &DavPath) -> Result<(), FsError> {
+        done(self.disk.create_dir(path.names(), false))
     }
 
-    fn remove_dir(&mut self, _path: &DavPath) -> Result<(), FsError> {
-        Err(FsError::NotImplemented)
+    fn remove_dir(&mut self, path: &DavPath) -> Result<(), FsError> {
+        done(self.disk.remove_dir(path.names()))
     }
 
-    fn remove_file(&mut self, _path: &DavPath) -> Result<(), FsError> {
-        Err(FsError::NotImplemented)
+    fn remove_file(&mut self, path: &DavPath) -> Result<(), FsError> {
+        if !path.is_collection() {
+            return done(self.disk.remove_file(path.names()));
+        }
+        Err(FsError::Forbidden)
     }
 
-    fn rename(&mut self, _from: &DavPath, _to: &DavPath) -> Result<(), FsError> {
-        Err(FsError::NotImplemented)
+    fn rename(&mut self, from: &DavPath, to: &DavPath) -> Result<(), FsError> {
+        done(self.disk.rename(from.names(), to.names()))
     }
 
-    fn copy(&mut self, _from: &DavPath, _to: &DavPath) -> Result<(), FsError> {
-        Err(FsError::NotImplemented)
+    fn copy(&mut self, from: &DavPath, to: &DavPath) -> Result<(), FsError> {
+        done(self.disk.copy(from.names(), to.names()))
     }
 
     ghost puts_inside = { λ s d. refl };

@@ -3,7 +3,7 @@ ghost use Rattle.dav_core.specs.DavPath.{is_in_home};
 ghost use Rattle.dav_core.specs.Info.{info_of};
 ghost use Rattle.dav_core.specs.InfoInYears.{info_in_years};
 ghost use Rattle.dav_core.specs.TagBytes.{info_has_tag_bytes};
-ghost use Rattle.dav_plain.specs.Calls.{said_by};
+ghost use Rattle.dav_plain.specs.Calls.{done_by, said_by};
 
 use dav_core::{DavMetaData, DavPath, DiskError, FileTime, FsError, Meta};
 use dav_io::{NoMemory, Text};
@@ -19,6 +19,16 @@ pub fn said(answer: Result<Meta, DiskError>) -> Result<PlainMeta, FsError>
 {
     match answer {
         Ok(meta) => Ok(PlainMeta(meta)),
+        Err(error) => Err(error.into()),
+    }
+}
+
+// What a disk answers of a call that changes what stands.
+pub fn done(answer: Result<(), DiskError>) -> Result<(), FsError>
+    ensures { result ≡ done_by answer }
+{
+    match answer {
+        Ok(()) => Ok(()),
         Err(error) => Err(error.into()),
     }
 }

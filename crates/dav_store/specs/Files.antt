@@ -1,5 +1,5 @@
 -- What the calls of an open file do, where it is told what it is.
-use Rattle.std.specs.Prelude.{◌≡◌, ◌≤◌, ◌<◌, ◌+◌, ◌&&◌, ◌⊎◌, ◌++◌, ◌-◌, ℕ, nat_le, List, [], length, take, drop, replicate, min, Bool, true, Option, None, Some, IfSome, Result, Ok, Err, IfOk, OnErr, if◌then◌else◌}
+use Rattle.std.specs.Prelude.{◌≡◌, ◌≤◌, ◌<◌, ◌+◌, ◌&&◌, ◌⊎◌, ℕ, nat_le, List, [], length, take, drop, min, Bool, true, Option, None, Some, IfSome, Result, Ok, Err, IfOk, OnErr, if◌then◌else◌}
 use Rattle.std.specs.List.{list_all}
 use Rattle.dav_io.specs.Counts.{Rose, one_more}
 use Rattle.dav_io.specs.Told.{Both}
@@ -8,6 +8,7 @@ use Rattle.dav_core.specs.declared.error.FsError.TheVariants.{GeneralFailure, No
 use Rattle.dav_core.specs.Disk.{DiskState, Live, can_read, kind_at}
 use Rattle.dav_core.specs.Info.{Info}
 use Rattle.dav_core.specs.Unchanged.{Keeps, KeepsBut, SameOpen}
+use Rattle.dav_core.specs.Writing.{can_write, written}
 use Rattle.dav_store.specs.Frames.{KeepsOpenBut}
 use Rattle.dav_store.specs.Standing.{Seen, AgreesOpen}
 
@@ -123,10 +124,6 @@ pub record FileFlushes (s : DiskState) (seen : Option Seen) (result : Result Uni
   pub disk : t ≡ s
   pub same : after ≡ seen
 
--- bytes with others in them from a place on; a gap before the place is filled with zeros
-abbrev pub written : ℕ → List ℕ → List ℕ → List ℕ
-written place from bytes = take place bytes ++ (replicate (place - length bytes) 0 ++ (from ++ drop (place + length from) bytes))
-
 -- the place at which a file is written: its end, where it was opened to append
 abbrev pub write_place : Option Live → Seen → ℕ
 write_place None f = f.place
@@ -148,6 +145,8 @@ WritesIn l from (Err e) f g = (g ≡ f) ⊎ ((n : ℕ) × (0 < n) × (n ≤ leng
 pub record FileWrites (s : DiskState) (h : ℕ) (seen : Option Seen) (from : List ℕ) (result : Result Unit FsError) (t : DiskState) (after : Option Seen) : Type 0 where
   pub keeps : KeepsOpenBut h s t
   pub live : t.live h ≡ s.live h
+  -- a file that was opened for it is refused only where a fault was met, or want of memory
+  pub refused : can_write (s.live h) ≡ true → OnErr result (Spoiled s result t)
   pub told : Both seen after (WritesIn (s.live h) from result)
 
 -- The file is open no more.

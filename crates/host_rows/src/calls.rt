@@ -1,4 +1,5 @@
 //! Calls of a disk of the machine, one after the other.
+use crate::changes::{change, write};
 use anyhow::{Result, bail};
 use dav_core::{Disk, DiskError, FsPath, Kind, Meta, OpenOptions};
 use dav_host::HostDisk;
@@ -15,8 +16,8 @@ fn name_of(alloc: Global, word: &str) -> Result<Text> {
     }
 }
 
-// The path of a word, whose names stand between slashes.
-fn path_of(alloc: Global, word: &str) -> Result<FsPath> {
+/// The path of a word, whose names stand between slashes.
+pub fn path_of(alloc: Global, word: &str) -> Result<FsPath> {
     let mut names = Vec::new(alloc);
     for name in word.split('/') {
         if !name.is_empty() {
@@ -128,7 +129,8 @@ fn call<D: Disk>(alloc: Global, disk: &mut D, part: &str, line: &mut String) -> 
             disk.turn()?;
             line.push_str("turned")?;
         }
-        _ => bail!("no call of a disk"),
+        "write" => write(disk, &path, part, line)?,
+        _ => change(alloc, disk, part, line)?,
     }
     Ok(line.push_str(" | ")?)
 }

@@ -7,19 +7,25 @@
 //!     take PATH               what two reads of a stream from a file give
 //!     put PATH TEXT           what a stream into a new file took of a text
 //!     stuck PATH TEXT         the same of a file that is opened for reading alone
+//!     alone PATH              whether what stands at a path is for its owner alone
 //!     clock                   whether the clock shows a moment behind the year 2020, and no earlier one afterwards
 //!     #                       is written as it stands
 //!
 //! A disk's calls are `look PATH`, which tells what stands at a path; `read PATH PLACE`, which opens a file and reads at
-//! most four bytes; `list PATH`, which tells the first two names of a folder; and `turn`. What each answers stands before
-//! a `|`, and behind them how many calls met a fault. A name `COUNT*NAME` is so many copies of a name.
+//! most four bytes; `list PATH`, which tells the first two names of a folder; `turn`; and those that change what stands:
+//! `write PATH HOW PLACE TEXT`, which opens a file as letters say and writes a text (`r` and `w` read and write, `a`
+//! append, `t` truncate, `c` create, `n` create_new, `-` none), `make PATH` and `clear PATH` of folders, `remove PATH` of
+//! a file, `rename PATH PATH`, `copy PATH PATH`. What each answers stands before a `|`, and behind them how many calls met
+//! a fault. A name `COUNT*NAME` is so many copies of a name.
 #![tactic(auto)]
 
 mod calls;
+mod changes;
 mod streams;
 
 use anyhow::Result;
 use std::alloc::Global;
+use std::os::unix::fs::MetadataExt;
 use std::{fs, io};
 
 /// A text of its own.
@@ -46,6 +52,10 @@ fn answer(rt: &HostRuntime, row: &str) -> Result<String> {
         "take" => streams::take(rt, path),
         "put" => streams::put(rt, path, text),
         "stuck" => streams::put_stuck(rt, path, text),
+        "alone" => {
+            let is_alone = fs::metadata(rt, path)?.mode() & 0o077 == 0;
+            said(alloc, if is_alone { "alone" } else { "open" })
+        }
         "clock" => streams::clock(rt),
         _ => said(alloc, row),
     }
