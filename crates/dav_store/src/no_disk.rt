@@ -2,6 +2,7 @@ ghost use Rattle.std.specs.Prelude.{◌≡◌, ◌≤◌, Err, refl};
 ghost use Rattle.dav_core.specs.Disk.{Closes, FileMetas, Metas, Opens, Reads, Seeks};
 ghost use Rattle.dav_core.specs.Listing.{EndsListing, Lists, ListsOn};
 ghost use Rattle.dav_core.specs.Untold.{untold_live};
+ghost use Rattle.dav_core.specs.Writing.{Copies, CreatesDir, RemovesDir, RemovesFile, Renames, Writes};
 ghost use Rattle.dav_io.specs.Counts.{Rose, one_more};
 ghost use Rattle.dav_store.specs.Void.{never_told, no_disk_state};
 
@@ -108,6 +109,16 @@ impl Disk for NoDisk {
         Err(self.fail())
     }
 
+    /// A fault.
+    fn write(&mut self, _file: Handle, _from: &[u8]) -> Result<usize, DiskError>
+        ensures done { Writes (no_disk_state self.old.faults self.old.asked) _file.0 _from.now result
+            (no_disk_state self.new.faults self.new.asked) }
+        ensures loan { ⟦<NoDisk as Disk>⟧.loan self.new ≡ ⟦<NoDisk as Disk>⟧.loan self.old }
+        ensures refused { result ≡ Err DiskError.Failed }
+    {
+        Err(self.fail())
+    }
+
     /// Nothing is open, and nothing is ended.
     fn close(&mut self, _file: Handle)
         ensures done { Closes (no_disk_state self.old.faults self.old.asked) _file.0
@@ -141,6 +152,56 @@ impl Disk for NoDisk {
             (no_disk_state self.new.faults self.new.asked) }
         ensures loan { ⟦<NoDisk as Disk>⟧.loan self.new ≡ ⟦<NoDisk as Disk>⟧.loan self.old }
     {}
+
+    fn create_dir(&mut self, _path: &FsPath, _public: bool) -> Result<(), DiskError>
+        ensures done { CreatesDir (no_disk_state self.old.faults self.old.asked) _path.now result
+            (no_disk_state self.new.faults self.new.asked) }
+        ensures loan { ⟦<NoDisk as Disk>⟧.loan self.new ≡ ⟦<NoDisk as Disk>⟧.loan self.old }
+        ensures refused { result ≡ Err DiskError.NotFound }
+    {
+        self.count();
+        Err(DiskError::NotFound)
+    }
+
+    fn remove_dir(&mut self, _path: &FsPath) -> Result<(), DiskError>
+        ensures done { RemovesDir (no_disk_state self.old.faults self.old.asked) _path.now result
+            (no_disk_state self.new.faults self.new.asked) }
+        ensures loan { ⟦<NoDisk as Disk>⟧.loan self.new ≡ ⟦<NoDisk as Disk>⟧.loan self.old }
+        ensures refused { result ≡ Err DiskError.NotFound }
+    {
+        self.count();
+        Err(DiskError::NotFound)
+    }
+
+    fn remove_file(&mut self, _path: &FsPath) -> Result<(), DiskError>
+        ensures done { RemovesFile (no_disk_state self.old.faults self.old.asked) _path.now result
+            (no_disk_state self.new.faults self.new.asked) }
+        ensures loan { ⟦<NoDisk as Disk>⟧.loan self.new ≡ ⟦<NoDisk as Disk>⟧.loan self.old }
+        ensures refused { result ≡ Err DiskError.NotFound }
+    {
+        self.count();
+        Err(DiskError::NotFound)
+    }
+
+    fn rename(&mut self, _from: &FsPath, _to: &FsPath) -> Result<(), DiskError>
+        ensures done { Renames (no_disk_state self.old.faults self.old.asked) _from.now _to.now result
+            (no_disk_state self.new.faults self.new.asked) }
+        ensures loan { ⟦<NoDisk as Disk>⟧.loan self.new ≡ ⟦<NoDisk as Disk>⟧.loan self.old }
+        ensures refused { result ≡ Err DiskError.NotFound }
+    {
+        self.count();
+        Err(DiskError::NotFound)
+    }
+
+    fn copy(&mut self, _from: &FsPath, _to: &FsPath) -> Result<(), DiskError>
+        ensures done { Copies (no_disk_state self.old.faults self.old.asked) _from.now _to.now result
+            (no_disk_state self.new.faults self.new.asked) }
+        ensures loan { ⟦<NoDisk as Disk>⟧.loan self.new ≡ ⟦<NoDisk as Disk>⟧.loan self.old }
+        ensures refused { result ≡ Err DiskError.NotFound }
+    {
+        self.count();
+        Err(DiskError::NotFound)
+    }
 
     fn turn(&mut self) -> Result<(), NoMemory> {
         Ok(())
