@@ -1,2 +1,4 @@
 mod OwnTags
 mod Unconditional
+mod KeptOpen
+mod TableLines

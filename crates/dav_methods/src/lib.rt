@@ -1,9 +1,13 @@
-//! The preconditions of a request, judged on what stands at its path.
+//! The preconditions of a request, and the methods that write, over any store.
 #![tactic(auto)]
 
 mod conditions;
 mod fields;
+mod lines;
+mod making;
+mod outcomes;
 mod standing;
 
 pub use conditions::{if_match, ifrange_match, ranges_are_heard, reads};
 pub use fields::first_value;
+pub use making::{mkaddressbook, mkcalendar, mkcol};
