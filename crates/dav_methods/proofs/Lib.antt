@@ -1,3 +1,5 @@
 mod OwnTags
 mod Unconditional
-pub mod Joined
+mod Joined
+mod KeptOpen
+mod TableLines

@@ -1,0 +1,151 @@
+//! MKCOL, MKCALENDAR and MKADDRESSBOOK: a directory is made.
+ghost use Rattle.std.specs.Prelude.{◌≡◌};
+ghost use Rattle.dav_store.specs.Frames.{KeepsOpen};
+ghost use Rattle.dav_store.specs.View.{the_view};
+ghost use Rattle.dav_methods.specs.Table.{Below, EndsMade, MkCalendars, MkCols, Next, Unless};
+
+use crate::lines::{may_make, pass_parent, pass_unfailed};
+use crate::outcomes::created;
+use dav_core::{DavError, DavMethod, DavPath};
+use dav_model::Outcome;
+use dav_store::GuardedFileSystem;
+use http::{HeaderMap, StatusCode};
+use std::alloc::Global;
+
+// Makes a directory where memory for the answer is had.
+fn make<S: GuardedFileSystem<C>, C>(
+    alloc: Global,
+    fs: &mut S,
+    credentials: &C,
+    path: &DavPath,
+) -> Result<Outcome, DavError>
+    ensures table { Next (EndsMade (the_view S.GuardedFileSystem S.Disk.Disk S.File.DavFile) credentials.now path.now)
+        fs.old result fs.new }
+    ensures keeps { KeepsOpen (S.Disk.state (S.inside fs.old)) (S.Disk.state (S.inside fs.new)) }
+    ensures loan { S.Disk.loan (S.inside fs.new) ≡ S.Disk.loan (S.inside fs.old) }
+{
+    let outcome = created(alloc)?;
+    match fs.create_dir(path, credentials) {
+        Ok(()) => Ok(outcome),
+        Err(refusal) => Err(DavError::from(refusal)),
+    }
+}
+
+// Makes a directory where one stands above it.
+fn make_below<S: GuardedFileSystem<C>, C>(
+    alloc: Global,
+    fs: &mut S,
+    credentials: &C,
+    path: &DavPath,
+) -> Result<Outcome, DavError>
+    ensures table { Next (Below (the_view S.GuardedFileSystem S.Disk.Disk S.File.DavFile) credentials.now path.now
+        (EndsMade (the_view S.GuardedFileSystem S.Disk.Disk S.File.DavFile) credentials.now path.now))
+        fs.old result fs.new }
+    ensures keeps { KeepsOpen (S.Disk.state (S.inside fs.old)) (S.Disk.state (S.inside fs.new)) }
+    ensures loan { S.Disk.loan (S.inside fs.new) ≡ S.Disk.loan (S.inside fs.old) }
+{
+    let above = path.parent()?;
+    pass_parent(fs, credentials, &above)?;
+    make(alloc, fs, credentials, path)
+}
+
+// Makes a directory where what a look was refused with lets it.
+fn make_if<S: GuardedFileSystem<C>, C>(
+    alloc: Global,
+    fs: &mut S,
+    credentials: &C,
+    path: &DavPath,
+    may: Result<(), DavError>,
+) -> Result<Outcome, DavError>
+    ensures table { Next (Unless may (Below (the_view S.GuardedFileSystem S.Disk.Disk S.File.DavFile) credentials.now
+        path.now (EndsMade (the_view S.GuardedFileSystem S.Disk.Disk S.File.DavFile) credentials.now path.now)))
+        fs.old result fs.new }
+    ensures keeps { KeepsOpen (S.Disk.state (S.inside fs.old)) (S.Disk.state (S.inside fs.new)) }
+    ensures loan { S.Disk.loan (S.inside fs.new) ≡ S.Disk.loan (S.inside fs.old) }
+{
+    match may {
+        Ok(()) => make_below(alloc, fs, credentials, path),
+        Err(error) => Err(error),
+    }
+}
+
+/// Answers a MKCOL (RFC 4918, section 9.3) over any store: 201 where the directory was made.
+///
+/// Errors, in this order: 405 where something stands at the path; a refused look there, unless nothing stands; 412
+/// where a precondition isn't met; 409 where no directory stands above, or the refusal of a look there that failed; the
+/// refusal of the making; and want of memory. `table` tells which call of the store gave the answer.
+pub fn mkcol<S: GuardedFileSystem<C>, C>(
+    alloc: Global,
+    fs: &mut S,
+    credentials: &C,
+    path: &DavPath,
+    fields: &HeaderMap,
+) -> Result<Outcome, DavError>
+    ensures table { MkCols (the_view S.GuardedFileSystem S.Disk.Disk S.File.DavFile) credentials.now path.now
+        fields.now fs.old result fs.new }
+    ensures keeps { KeepsOpen (S.Disk.state (S.inside fs.old)) (S.Disk.state (S.inside fs.new)) }
+    ensures loan { S.Disk.loan (S.inside fs.new) ≡ S.Disk.loan (S.inside fs.old) }
+{
+    let Err(refusal) = fs.metadata(path, credentials) else {
+        return Err(DavError::Status(StatusCode::METHOD_NOT_ALLOWED));
+    };
+    let may = may_make(alloc, fields, refusal);
+    make_if(alloc, fs, credentials, path, may)
+}
+
+// MKCALENDAR and MKADDRESSBOOK.
+fn make_unless_there<S: GuardedFileSystem<C>, C>(
+    alloc: Global,
+    fs: &mut S,
+    credentials: &C,
+    path: &DavPath,
+) -> Result<Outcome, DavError>
+    ensures table { MkCalendars (the_view S.GuardedFileSystem S.Disk.Disk S.File.DavFile) credentials.now path.now
+        fs.old result fs.new }
+    ensures keeps { KeepsOpen (S.Disk.state (S.inside fs.old)) (S.Disk.state (S.inside fs.new)) }
+    ensures loan { S.Disk.loan (S.inside fs.new) ≡ S.Disk.loan (S.inside fs.old) }
+{
+    match fs.metadata(path, credentials) {
+        Ok(_) => Err(DavError::StatusClose(StatusCode::METHOD_NOT_ALLOWED)),
+        Err(refusal) => {
+            pass_unfailed(refusal)?;
+            make(alloc, fs, credentials, path)
+        }
+    }
+}
+
+/// Answers a MKCALENDAR (RFC 4791, section 5.3.1) over any store: 201 where a directory was made. No field counts.
+///
+/// Errors, in this order: 405 where something stands at the path, and the connection closes; a look there that failed;
+/// the refusal of the making, also where nothing stands above; and want of memory. `table` tells which call of the store
+/// gave the answer.
+pub fn mkcalendar<S: GuardedFileSystem<C>, C>(
+    alloc: Global,
+    fs: &mut S,
+    credentials: &C,
+    path: &DavPath,
+    _fields: &HeaderMap,
+) -> Result<Outcome, DavError>
+    ensures table { MkCalendars (the_view S.GuardedFileSystem S.Disk.Disk S.File.DavFile) credentials.now path.now
+        fs.old result fs.new }
+    ensures keeps { KeepsOpen (S.Disk.state (S.inside fs.old)) (S.Disk.state (S.inside fs.new)) }
+    ensures loan { S.Disk.loan (S.inside fs.new) ≡ S.Disk.loan (S.inside fs.old) }
+{
+    make_unless_there(alloc, fs, credentials, path)
+}
+
+/// Answers a MKADDRESSBOOK, as `mkcalendar` answers a MKCALENDAR.
+pub fn mkaddressbook<S: GuardedFileSystem<C>, C>(
+    alloc: Global,
+    fs: &mut S,
+    credentials: &C,
+    path: &DavPath,
+    _fields: &HeaderMap,
+) -> Result<Outcome, DavError>
+    ensures table { MkCalendars (the_view S.GuardedFileSystem S.Disk.Disk S.File.DavFile) credentials.now path.now
+        fs.old result fs.new }
+    ensures keeps { KeepsOpen (S.Disk.state (S.inside fs.old)) (S.Disk.state (S.inside fs.new)) }
+    ensures loan { S.Disk.loan (S.inside fs.new) ≡ S.Disk.loan (S.inside fs.old) }
+{
+    make_unless_there(alloc, fs, credentials, path)
+}

@@ -1,0 +1,31 @@
+// The answers of the methods that write, where all was done.
+ghost use Rattle.std.specs.Prelude.{◌≡◌, IfOk};
+ghost use Rattle.dav_methods.specs.Lines.{made, silent as the_silent};
+
+use dav_io::{Field, FieldName, Items, NoMemory, Octets, Text};
+use dav_model::Outcome;
+use std::alloc::Global;
+
+// 201, which says that it has no body.
+pub fn created(alloc: Global) -> Result<Outcome, NoMemory>
+    ensures { IfOk result (λ outcome. outcome ≡ made) }
+{
+    let name = Text::known(FieldName::ContentLength);
+    let value = Octets::new(Vec::from_slice(alloc, b"0")?);
+    let mut fields = Vec::new(alloc);
+    fields.push(Field { name, value })?;
+    Ok(Outcome {
+        status: 201,
+        fields: Items::new(fields),
+    })
+}
+
+// 204, without a field.
+pub fn silent(alloc: Global) -> Outcome
+    ensures { result ≡ the_silent }
+{
+    Outcome {
+        status: 204,
+        fields: Items::new(Vec::new(alloc)),
+    }
+}
