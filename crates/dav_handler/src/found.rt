@@ -1,5 +1,5 @@
 // What a request finds over the store.
-ghost use Rattle.std.specs.Prelude.{◌≡◌, IfOk, None};
+ghost use Rattle.std.specs.Prelude.{◌≡◌, IfOk, None, false};
 ghost use Rattle.dav_get.specs.Bodies.{IsHeld};
 ghost use Rattle.dav_model.specs.Allowing.{allowing};
 ghost use Rattle.dav_model.specs.Head.{refusal as the_refusal};
