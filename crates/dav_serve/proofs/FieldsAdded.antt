@@ -99,7 +99,7 @@ is_other name other e = true≢false (sym (ap (λ n. bytes_eq n (codes "transfer
 no_encoding : (fields : List Field) → All IsReplyField fields → Lacks (codes "transfer-encoding") fields
 no_encoding [] all = tt
 no_encoding (f ∷ fields) all = (
-  is_other f.name (holds_of IsOther reply_names (refl, (refl, (refl, (refl, (refl, (refl, (refl, (refl, (refl, (refl, (refl, (refl, tt)))))))))))) f.name (All-head IsReplyField f fields all).known),
+  is_other f.name (holds_of IsOther reply_names (refl, (refl, (refl, (refl, (refl, (refl, (refl, (refl, (refl, (refl, (refl, (refl, (refl, (refl, (refl, tt))))))))))))))) f.name (All-head IsReplyField f fields all).known),
   no_encoding fields (All-tail IsReplyField f fields all),
 )
 

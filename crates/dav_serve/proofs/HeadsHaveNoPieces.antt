@@ -53,7 +53,7 @@ heads_asked method path is = subst (λ (m : DavMethod). IsHeads (asked m path)) 
 
 heads_weighed : (fields : Fields) (bulk : Bulk) (target : Target) → IsHeads target → IsHeads (weighed fields bulk target)
 heads_weighed fields bulk (Refused status close) is = tt
-heads_weighed fields Methods is = is
+heads_weighed fields bulk Methods is = is
 heads_weighed fields none (At method path) is = heads_unless (is_built fields method) 501 true (asked method path) (heads_asked method path is)
 heads_weighed fields some (At method path) is =
     heads_or (takes_some method) 415 (unless (is_built fields method) 501 true) (asked method path)
