@@ -1,5 +1,5 @@
 -- What is written to a plain file by writes of the disk is what a store's file promises.
-use Rattle.std.proofs.Common.{◌≡◌, ◌≢◌, ◌<◌, ◌≤◌, ◌+◌, ◌⊎◌, ℕ, List, [], ◌++◌, length, take, drop, Bool, true, false, Option, None, Some, Result, Ok, Err, IfOk, IfErr, OnErr, refl, sym, ap, subst, ◌∙◌, inl, inr, arith}
+use Rattle.std.proofs.Common.{◌≡◌, ◌≢◌, ◌<◌, ◌≤◌, ◌⊎◌, ℕ, List, [], ◌++◌, length, take, drop, Bool, true, Option, Result, Ok, Err, OnErr, refl, sym, ap, subst, ◌∙◌, inl, inr, arith}
 use Rattle.std.proofs.lemmas.List.{take-append-drop, take-append-le, length-take-le}
 use Rattle.bytes.specs.Unread.{IsChunkOf}
 use Rattle.dav_io.specs.Counts.{Rose}
@@ -13,10 +13,10 @@ use Rattle.dav_core.specs.Edits.{SameOpens}
 use Rattle.dav_core.specs.Errors.{fs_error_of}
 use Rattle.dav_core.specs.Path.{Names}
 use Rattle.dav_core.specs.Unchanged.{SameListing, SameOpen}
-use Rattle.dav_core.specs.World.{OpenFile, SameBesidesOpens, World, put}
+use Rattle.dav_core.specs.World.{OpenFile, SameBesidesOpens, World}
 use Rattle.dav_core.specs.Writing.{Writes, WrittenIn, WroteIn, appends, can_write}
 use Rattle.dav_core.proofs.UnchangedLemmas.{put_other, same_listing_then, same_open_then}
-use Rattle.dav_store.specs.Files.{FileWrites, IsFault, IsWritten, Spoiled, WritesIn, write_place}
+use Rattle.dav_store.specs.Files.{FileWrites, IsWritten, Spoiled, WritesIn, write_place}
 use Rattle.dav_store.specs.Frames.{KeepsOpenBut}
 use Rattle.dav_store.specs.Standing.{Seen}
 use Rattle.dav_plain.specs.Standing.{seen_at}

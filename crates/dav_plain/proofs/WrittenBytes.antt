@@ -1,5 +1,5 @@
 -- Bytes written in pieces, one after the other, are written at once.
-use Rattle.std.proofs.Common.{◌≡◌, ◌+◌, ◌-◌, ◌≤◌, ℕ, List, [], ◌++◌, length, take, drop, replicate, refl, sym, ap, ◌∙◌, arith, append_assoc, append-nil, length-append, length-take, length-drop, drop-drop}
+use Rattle.std.proofs.Common.{◌≡◌, ◌+◌, ◌-◌, ℕ, List, ◌++◌, length, take, drop, replicate, sym, ap, ◌∙◌, arith, append_assoc, append-nil, length-append, length-take, length-drop, drop-drop}
 use Rattle.std.proofs.Math.Seq.{take-append_seam, drop-append-add}
 use Rattle.std.proofs.lemmas.List.{length-replicate}
 use Rattle.dav_core.specs.Writing.{written}

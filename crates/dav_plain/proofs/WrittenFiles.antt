@@ -1,5 +1,5 @@
 -- What a file that was written shows.
-use Rattle.std.proofs.Common.{◌≡◌, ◌<◌, ◌≤◌, ◌+◌, ◌⊎◌, ℕ, List, [], ◌∷◌, ◌++◌, length, take, drop, Bool, true, false, Option, None, Some, Result, Ok, Err, IfOk, IfErr, OnErr, refl, sym, ap, subst, ◌∙◌, inl, inr, arith, append-nil, length-append, if◌then◌else◌}
+use Rattle.std.proofs.Common.{◌≡◌, ◌<◌, ◌≤◌, ◌+◌, ◌⊎◌, ℕ, List, [], ◌∷◌, ◌++◌, length, take, Bool, true, false, Option, None, Some, Result, Ok, Err, refl, sym, ap, subst, ◌∙◌, inl, inr, arith, append-nil, length-append, if◌then◌else◌}
 use Rattle.std.proofs.Math.Seq.{take-append_seam, take-append-add}
 use Rattle.std.proofs.lemmas.List.{length-take-le}
 use Rattle.std.specs.Option.{option_map}
@@ -9,10 +9,9 @@ use Rattle.dav_core.specs.declared.handle.DiskError.{DiskError}
 use Rattle.dav_core.specs.declared.handle.DiskError.TheVariants.{NotFound, Exists, NotDir, IsDir, NotEmpty, Failed, NoMemory}
 use Rattle.dav_core.specs.declared.error.FsError.{FsError}
 use Rattle.dav_core.specs.declared.tree.Kind.{Kind}
-use Rattle.dav_core.specs.declared.time.FileTime.{FileTime}
 use Rattle.dav_core.specs.Disk.{Live}
 use Rattle.dav_core.specs.Edits.{Edited, SameOpens, fills}
-use Rattle.dav_core.specs.World.{Holds, OpenFile, SameBesidesOpens, Stored, World, bytes_of, bytes_or_none, number_of, put, time_of}
+use Rattle.dav_core.specs.World.{Holds, OpenFile, SameBesidesOpens, Stored, World, bytes_of, bytes_or_none}
 use Rattle.dav_core.specs.Writing.{WrittenIn, WroteIn, appends, can_write, write_place as disk_place, written}
 use Rattle.dav_core.proofs.UnchangedLemmas.{put_same}
 use Rattle.dav_store.specs.Files.{IsWritten, WritesIn, write_place}

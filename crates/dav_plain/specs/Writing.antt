@@ -1,5 +1,5 @@
 -- What the plain store's file answers where it is written, by what its disk answers.
-use Rattle.std.specs.Prelude.{◌≡◌, ◌<◌, ℕ, List, [], length, drop, Result, Ok, Err}
+use Rattle.std.specs.Prelude.{◌<◌, ℕ, List, [], length, drop, Result, Ok, Err}
 use Rattle.bytes.specs.Unread.{IsChunkOf}
 use Rattle.dav_core.specs.declared.error.FsError.{FsError}
 use Rattle.dav_core.specs.declared.handle.DiskError.{DiskError}
