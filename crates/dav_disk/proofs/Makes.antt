@@ -1,5 +1,5 @@
 -- A writing call that does what is allowed is what the trait of disks asks, with the counts beside it.
-use Rattle.std.proofs.Common.{◌≡◌, ◌≤◌, ◌↔◌, ◌⊎◌, Contains, ℕ, Bool, true, false, IsTrue, IsErrOf, Option, None, Some, Result, Ok, Err, IfErr, inl, inr, refl, sym, ap, ◌∙◌}
+use Rattle.std.proofs.Common.{◌≡◌, ◌≤◌, ◌↔◌, ◌⊎◌, Contains, ℕ, Bool, true, false, IsTrue, IsErrOf, Option, None, Some, Result, Ok, Err, IfErr, OnErr, inl, inr, refl, sym, ap, ◌∙◌}
 use Rattle.std.specs.Option.{is_none}
 use Rattle.dav_io.specs.Counts.{Rose, one_more}
 use Rattle.dav_core.specs.declared.handle.DiskError.{DiskError}
@@ -15,7 +15,7 @@ use Rattle.dav_disk.specs.Making.{MakesAt, edited_by, is_spent}
 use Rattle.dav_disk.proofs.Done.{Counted, not_scheduled}
 use Rattle.dav_disk.specs.declared.mem_disk.MemDisk.{MemDisk}
 use Rattle.dav_disk.specs.declared.sure_disk.SureDisk.{SureDisk}
-use Rattle.dav_disk.specs.Failing.{FollowsOr, fails_at}
+use Rattle.dav_disk.specs.Failing.{FollowsOr, fails_at, mem_world}
 use Rattle.dav_disk.specs.Sure.{FailsOnly}
 use Rattle.dav_disk.proofs.Edited.{edited_by_is, edited_opens}
 
@@ -162,12 +162,13 @@ no_fault_noted false C h n = refl
 pub follows_or : {T : Type 0} (spent : Bool) (old new : MemDisk) (result : Result T DiskError) (m : ℕ) (next fault : Bool)
     → m ≡ old.faults.met → next ≡ false → (IsTrue next ↔ Contains (fails_at old) (one_more old.faults.asked)) → (IsTrue fault ↔ IsErrOf result Failed)
     → (IsErrOf result Failed → spent ≡ true) → (spent ≡ true → IsErrOf result Failed)
-    → (fault ≡ true → new.faults.met ≡ one_more m) → (fault ≡ false → new.faults.met ≡ m) → fails_at new ≡ fails_at old → FollowsOr spent old result new
-follows_or spent old new result m next fault same quiet listed fails to_spent from_spent once still stays = record {
+    → (fault ≡ true → new.faults.met ≡ one_more m) → (fault ≡ false → new.faults.met ≡ m) → fails_at new ≡ fails_at old → OnErr result (mem_world new ≡ mem_world old) → FollowsOr spent old result new
+follows_or spent old new result m next fault same quiet listed fails to_spent from_spent once still stays leaves = record {
   fails = (λ f. inr (to_spent f), either);
   once = λ f. once (fails.1 f) ∙ ap one_more same;
   quiet = λ n. still (no_fault_noted fault (IsErrOf result Failed) fails n) ∙ same;
   stays = stays;
+  leaves = leaves;
 }
   where
     either : Contains (fails_at old) (one_more old.faults.asked) ⊎ (spent ≡ true) → IsErrOf result Failed
@@ -183,3 +184,14 @@ fails_only spent old new result fault fails to_spent from_spent once still = rec
   once = λ f. once (fails.1 f);
   quiet = λ n. still (no_fault_noted fault (IsErrOf result Failed) fails n);
 }
+
+-- a call that is refused leaves the world
+pub makes_leaves : (allowed : Allowed) (k n : Known) (result : Result Unit DiskError) → MakesAt allowed k result n → OnErr result (n.world ≡ k.world)
+makes_leaves allowed k n (Ok x) m = tt
+makes_leaves allowed k n (Err NotFound) (same, why) = ap (λ (n : Known). n.world) same
+makes_leaves allowed k n (Err Exists) (same, why) = ap (λ (n : Known). n.world) same
+makes_leaves allowed k n (Err NotDir) (same, why) = ap (λ (n : Known). n.world) same
+makes_leaves allowed k n (Err IsDir) (same, why) = ap (λ (n : Known). n.world) same
+makes_leaves allowed k n (Err NotEmpty) (same, why) = ap (λ (n : Known). n.world) same
+makes_leaves allowed k n (Err Failed) (same, why) = ap (λ (n : Known). n.world) same
+makes_leaves allowed k n (Err NoMemory) (same, why) = ap (λ (n : Known). n.world) same

@@ -1,5 +1,5 @@
 -- An opening that does what is allowed is what the trait of disks asks, with the counts beside it.
-use Rattle.std.proofs.Common.{◌≡◌, ◌≢◌, ◌≤◌, ◌<◌, ◌==◌, ◌+◌, ◌&&◌, ◌||◌, ◌⊎◌, ◌∷◌, ◌++◌, [], ℕ, List, Bool, true, false, cond, map, length, Option, None, Some, Result, Ok, Err, IsErrOf, IfErr, inl, inr, subst, refl, sym, ap, ◌∙◌, arith, append-nil, append_assoc, nat_lt}
+use Rattle.std.proofs.Common.{◌≡◌, ◌≢◌, ◌≤◌, ◌<◌, ◌==◌, ◌+◌, ◌&&◌, ◌||◌, ◌⊎◌, ◌∷◌, ◌++◌, [], ℕ, List, Bool, true, false, cond, map, length, Option, None, Some, Result, Ok, Err, IsErrOf, IfErr, OnErr, inl, inr, subst, refl, sym, ap, ◌∙◌, arith, append-nil, append_assoc, nat_lt}
 use Rattle.std.specs.Option.{option_map, is_none}
 use Rattle.std.proofs.lemmas.Bool.Decides.{nat_tests}
 use Rattle.std.specs.Str.{bytes_eq}
@@ -402,3 +402,8 @@ fails_open k n path how (Err Exists) o spent = absurd (not_so (opening k.world.t
 fails_open k n path how (Err NotDir) o spent = absurd (not_so (opening k.world.tree path how) NotDir k.world o.1 spent)
 fails_open k n path how (Err IsDir) o spent = absurd (not_so (opening k.world.tree path how) IsDir k.world o.1 spent)
 fails_open k n path how (Err NotEmpty) o spent = absurd (not_so (opening k.world.tree path how) NotEmpty k.world o.1 spent)
+
+-- an opening that is refused leaves the world
+pub open_leaves : (k n : Known) (path : Names) (how : OpenOptions) (result : Result Handle DiskError) → OpensAs k path how result n → OnErr result (n.world ≡ k.world)
+open_leaves k n path how (Ok h) o = tt
+open_leaves k n path how (Err e) o = ap (λ (n : Known). n.world) (refused_so path how k n e o).0

@@ -249,3 +249,14 @@ writes_not k h from o at can = (
   ap (λ x. writing_at x (k.live h) k.world from) at
       ∙ ap (λ b. cond b (Ok (Some (write_edit k o (write_place (appends (k.live h)) k.world o) from))) (Err IsDir)) can,
 )
+
+-- a write that is refused leaves the world
+pub write_leaves : (k n : Known) (h : ℕ) (from : List ℕ) (result : Result ℕ DiskError) → WritesAt k h from result n → OnErr result (n.world ≡ k.world)
+write_leaves k n h from (Ok count) w = tt
+write_leaves k n h from (Err Failed) w = ap (λ (n : Known). n.world) w.0
+write_leaves k n h from (Err NoMemory) w = ap (λ (n : Known). n.world) w.0
+write_leaves k n h from (Err IsDir) w = ap (λ (n : Known). n.world) w.0
+write_leaves k n h from (Err NotFound) w = absurd w
+write_leaves k n h from (Err Exists) w = absurd w
+write_leaves k n h from (Err NotDir) w = absurd w
+write_leaves k n h from (Err NotEmpty) w = absurd w

@@ -7,7 +7,7 @@ use Rattle.dav_disk.specs.Calls.{Known}
 use Rattle.dav_disk.specs.Making.{is_spent}
 use Rattle.dav_disk.specs.Memory.{known_of}
 use Rattle.dav_disk.proofs.Judges.{copy_refuses}
-use Rattle.dav_disk.proofs.Makes.{does, does_in, fails_done, fails_in, fails_noted, fails_spent, follows_or, fails_only, noted_by, spent_fails}
+use Rattle.dav_disk.proofs.Makes.{makes_leaves, does, does_in, fails_done, fails_in, fails_noted, fails_spent, follows_or, fails_only, noted_by, spent_fails}
 use Rattle.dav_disk.proofs.mem_disk.MemDiskDisk.copy.Goals as goal
 
 pub returns-then-next-clause-done : goal.returns-then-next-clause-done
@@ -33,4 +33,4 @@ returns-clause-schedule c =
     let n : Known = known_of c.copy-answer.new.self in
     let allowed : Allowed = copying k.world c.args.from.now c.args.to.now in
     follows_or (is_spent allowed k.world) c.args.self.now _ c.copy-answer.result c.next.new.self.met c.next.result c.is_fault.result (c.next.ensures.same c.if-next.false) c.if-next.false c.next.ensures.fails c.is_fault.ensures
-    (fails_spent allowed k n c.copy-answer.result c.copy-answer.ensures) (spent_fails allowed k n c.copy-answer.result c.copy-answer.ensures) c.noted-self.ensures.once c.noted-self.ensures.same (search rules)
+    (fails_spent allowed k n c.copy-answer.result c.copy-answer.ensures) (spent_fails allowed k n c.copy-answer.result c.copy-answer.ensures) c.noted-self.ensures.once c.noted-self.ensures.same (search rules) (makes_leaves allowed k n c.copy-answer.result c.copy-answer.ensures)
