@@ -19,7 +19,7 @@ use Rattle.dav_core.proofs.HeldStays.{same_held}
 use Rattle.dav_core.proofs.RefusedLemmas.{refused_of}
 use Rattle.dav_disk.proofs.Changed.{look_in}
 use Rattle.dav_disk.proofs.Trees.{In}
-use Rattle.dav_disk.specs.Calls.{Known, state_of, lengths, FindsMeta, RefusesBy, OpensAt, with_closed}
+use Rattle.dav_disk.specs.Calls.{Known, state_of, lengths, FindsMeta, RefusesBy, with_closed}
 
 -- what a counted call makes of the counts, and of whether reads are whole
 pub record Counted (faults asked : ℕ) (whole : Bool) (met more : ℕ) (still : Bool) : Type 0 where
@@ -62,19 +62,6 @@ meta_done k f a x g b y path (Err e) c found = record {
   told = λ w h linked. (let same = same_world k.world w h in rw (← same) (refused_of e (look k.world.tree path) found));
 }
 
-by_tree : (e : DiskError) → IsTreeRefusal e → MayRefuseOpen e
-by_tree e (inl h) = rw h tt
-by_tree e (inr h) = rw h tt
-
-may_open : (tree : List Row) (path : Names) (e : DiskError) → RefusesBy e (look tree path) → MayRefuseOpen e
-may_open tree path NotFound h = tt
-may_open tree path Exists h = by_tree Exists (look_err tree path Exists h)
-may_open tree path NotDir h = tt
-may_open tree path IsDir h = by_tree IsDir (look_err tree path IsDir h)
-may_open tree path NotEmpty h = by_tree NotEmpty (look_err tree path NotEmpty h)
-may_open tree path Failed h = tt
-may_open tree path NoMemory h = tt
-
 pub refused_by : (e : DiskError) (found : Result Row DiskError) → RefusesBy e found → Refused e found
 refused_by NotFound found h = h
 refused_by Exists found h = h
@@ -83,48 +70,6 @@ refused_by IsDir found h = h
 refused_by NotEmpty found h = h
 refused_by Failed found h = tt
 refused_by NoMemory found h = tt
-
-open_no_fault : (tree : List Row) (path : Names) (e : DiskError) → RefusesBy e (look tree path) → e ≡ Failed → ⊥
-open_no_fault tree path NotFound h f = cc
-open_no_fault tree path Exists h f = cc
-open_no_fault tree path NotDir h f = cc
-open_no_fault tree path IsDir h f = cc
-open_no_fault tree path NotEmpty h f = cc
-open_no_fault tree path Failed h f = no_fault Failed (look_err tree path Failed h) refl
-open_no_fault tree path NoMemory h f = cc
-
-kind_put : (live : ℕ → Option Live) (h : ℕ) (l : Live) (new : ℕ → Option Live) → new ≡ put h (Some l) live → option_map (λ l. l.kind) (new h) ≡ Some l.kind
-kind_put live h l new e = ap (λ (t : ℕ → Option Live). option_map (λ (l : Live). l.kind) (t h)) e ∙ ap (option_map (λ (l : Live). l.kind)) (put_same h (Some l) live)
-
-numbered_here : (m n : ℕ) (later : Bool) → m ≡ n → ((m == n) || later) ≡ true
-numbered_here m n later e = grind (arith, nat_tests)
-
-numbered_later : (b later : Bool) → later ≡ true → (b || later) ≡ true
-numbered_later true later e = refl
-numbered_later false later e = e
-
--- the number of a row stands in the tree
-numbered_in : (rows : List Row) (r : Row) → In r rows → is_numbered rows r.number ≡ true
-numbered_in [] r i = absurd i
-numbered_in (x ∷ rows) r (inl e) = numbered_here r.number x.number (is_numbered rows r.number) (ap (λ (z : Row). z.number) e)
-numbered_in (x ∷ rows) r (inr i) = numbered_later (r.number == x.number) (is_numbered rows r.number) (numbered_in rows r i)
-
-pub open_done : (k n : Known) (f a : ℕ) (x : Bool) (g b : ℕ) (y : Bool) (path : Names) (how : OpenOptions) (result : Result Handle DiskError) → Counted f a x g b y → OpensAt k path how result n
-    → Opens (state_of k f a x) path how result (state_of n g b y)
-open_done k n f a x g b y path how (Ok h) c (row, found, free, e) =
-    let live = ap (λ (n : Known). n.live) e in
-    record {
-      asks = record { counted = counted_ok h k n f a x g b y c; listers = ap (λ (n : Known). lengths n.world.listings) e };
-      only = tt;
-      live = (row.kind, free, live);
-      told = (row.number, ap (λ (n : Known). n.world) e, inl (numbered_in k.world.tree row (look_in k.world.tree path row found)), λ linked. (row, found, refl, kind_put k.live h.0 (record { kind = row.kind; how = how }) n.live live));
-    }
-open_done k n f a x g b y path how (Err e) c (same, refuses) = record {
-  asks = record { counted = counted_err e k n f a x g b y (open_no_fault k.world.tree path e refuses) c; listers = ap (λ (n : Known). lengths n.world.listings) same };
-  only = may_open k.world.tree path e refuses;
-  live = ap (λ (n : Known). n.live) same;
-  told = (ap (λ (n : Known). n.world) same, λ linked. refused_by e (look k.world.tree path) refuses);
-}
 
 pub close_done : (k n : Known) (f a : ℕ) (x y : Bool) (h : ℕ) → (IsTrue x → IsTrue y) → n ≡ with_closed k h → Closes (state_of k f a x) h (state_of n f a y)
 close_done k n f a x y h keeps e = record {
@@ -139,10 +84,6 @@ close_done k n f a x y h keeps e = record {
 pub meta_no_fault : (w : World) (path : Names) (result : Result Meta DiskError) → FindsMeta w path result → IsErrOf result Failed → ⊥
 meta_no_fault w path (Ok meta) found h = cc
 meta_no_fault w path (Err e) found h = no_fault e (look_err w.tree path e found) (let same : e ≡ Failed = cc in same)
-
-pub opens_no_fault : (k n : Known) (path : Names) (how : OpenOptions) (result : Result Handle DiskError) → OpensAt k path how result n → IsErrOf result Failed → ⊥
-opens_no_fault k n path how (Ok h) opens f = cc
-opens_no_fault k n path how (Err e) opens f = open_no_fault k.world.tree path e opens.1 (let same : e ≡ Failed = cc in same)
 
 -- a call whose number isn't in the schedule
 pub not_scheduled : {C : Type 0} (b : Bool) → b ≡ false → (IsTrue b ↔ C) → C → ⊥

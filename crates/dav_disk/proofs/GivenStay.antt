@@ -167,7 +167,7 @@ if_bounded false o g = tt
 added_bounded : (path : Names) (kind : Kind) (w : World) → Bounded w → BoundedIf (added path kind w)
 added_bounded path kind w g = if_bounded (nat_lt w.greatest greatest) (added_at path kind (tick w.latest) w) (added_at_bounded path kind (tick w.latest) w g refl)
 
-put_given : (b : Bool) (g : ℕ) (l : FileTime) (k n : ℕ) (s f : Stored) (o : Option Stored) → (n == k) ≡ b → IsGiven g l k s.time → (o ≡ Some f → IsGiven g l n f.time)
+pub put_given : (b : Bool) (g : ℕ) (l : FileTime) (k n : ℕ) (s f : Stored) (o : Option Stored) → (n == k) ≡ b → IsGiven g l k s.time → (o ≡ Some f → IsGiven g l n f.time)
     → cond b (Some s) o ≡ Some f → IsGiven g l n f.time
 put_given true g l k n s f o test given other e =
     let same : s ≡ f = cc in
@@ -292,7 +292,7 @@ bounded_of w given = record {
   nanos = given.nanos;
 }
 
-given_of : (w : World) → Bounded w → AreGiven w.tree w.files w.opens w.greatest w.latest
+pub given_of : (w : World) → Bounded w → AreGiven w.tree w.files w.opens w.greatest w.latest
 given_of w g = record {
   rows = All-from_recursion (λ r. IsGiven w.greatest w.latest r.number r.time) w.tree (each_in (λ r. IsGiven w.greatest w.latest r.number r.time) w.tree g.rows);
   files = g.files;
@@ -303,6 +303,10 @@ given_of w g = record {
 -- what is given stays so when a batch of changes is made
 pub turned_given : (v w : World) → v ≡ turned w → AreGiven w.tree w.files w.opens w.greatest w.latest → AreGiven v.tree v.files v.opens v.greatest v.latest
 turned_given v w e given = rw e (given_of (turned w) (turned_by_bounded w w.script (bounded_of w given)))
+
+-- what is given stays so when a change is made
+pub changed_given : (v w : World) (change : Change) → v ≡ changed w change → AreGiven w.tree w.files w.opens w.greatest w.latest → AreGiven v.tree v.files v.opens v.greatest v.latest
+changed_given v w change e given = rw e (given_of (changed w change) (changed_bounded w change (bounded_of w given)))
 
 -- ---- rows that are set
 
@@ -425,13 +429,12 @@ place_given w old now h o place given at e =
     open_given w old now h (Some (record o { place = place })) given e (λ p f. let same : record o { place = place } ≡ p = cc in rw (← same) le)
 
 -- what is opened, or refused for want of memory
-pub insert_given : {T E : Type 0} (w : World) (path : Names) (row : Row) (old now : BTreeMap ℕ Opened) (h : ℕ) (o : Opened) (r : Result T E)
-    → AreGiven w.tree w.files (open_at old) w.greatest w.latest → look w.tree path ≡ Ok row → o.number ≡ row.number
+pub insert_given : {T E : Type 0} (w : World) (old now : BTreeMap ℕ Opened) (h : ℕ) (o : Opened) (r : Result T E)
+    → AreGiven w.tree w.files (open_at old) w.greatest w.latest → o.number ≤ w.greatest
     → OnOk r (Updates nat_cmp old now h (Some o)) → OnErr r (IsUnchanged old now) → AreGiven w.tree w.files (open_at now) w.greatest w.latest
-insert_given w path row old now h o (Ok x) given found number updates same =
-    let le : row.number ≤ w.greatest = ((bounded_of (record w { opens = open_at old }) given).rows row (look_in w.tree path row found)).within in
-    open_given w (at_key old) (at_key now) h (Some o) given (updates_put h old now (Some o) updates) (λ p f. let same : o ≡ p = cc in rw (← same, number) le)
-insert_given w path row old now h o (Err x) given found number updates same =
+insert_given w old now h o (Ok x) given le updates same =
+    open_given w (at_key old) (at_key now) h (Some o) given (updates_put h old now (Some o) updates) (λ p f. let same : o ≡ p = cc in rw (← same) le)
+insert_given w old now h o (Err x) given le updates same =
     subst (λ (entries : List (ℕ × Opened)). AreGiven w.tree w.files (λ n. option_map open_of (lookup (is_at (nat_cmp n)) entries)) w.greatest w.latest) (sym same) given
 
 -- files that stay

@@ -13,3 +13,13 @@ pub mod Renames
 pub mod Turned
 pub mod GivenStay
 pub mod PlainRows
+pub mod Edited
+pub mod Makes
+pub mod Standing
+pub mod Judges
+pub mod Filled
+pub mod Then
+pub mod OpenDone
+pub mod Written
+pub mod OpenAt
+pub mod CopyAt

@@ -37,12 +37,6 @@ abbrev pub RefusesBy : DiskError → Result Row DiskError → Type 0
 RefusesBy NoMemory found = Unit {0}
 RefusesBy e found = found ≡ Err e
 
--- What stands at the path is opened under a handle that was free.
-abbrev pub OpensAt : Known → Names → OpenOptions → Result Handle DiskError → Known → Type 0
-OpensAt k path how (Ok h) n = (row : Row) × (look k.world.tree path ≡ Ok row) × (k.live h.0 ≡ None)
-    × (n ≡ record { world = with_opens k.world (put h.0 (Some (at_start row.number)) k.world.opens); live = put h.0 (Some (record { kind = row.kind; how = how })) k.live })
-OpensAt k path how (Err e) n = (n ≡ k) × RefusesBy e (look k.world.tree path)
-
 abbrev pub with_place : Known → ℕ → OpenFile → ℕ → Known
 with_place k h o place = record k { world = placed k.world h o place }
 

@@ -1,5 +1,5 @@
 -- What a disk in memory tells, and when it fails.
-use Rattle.std.specs.Prelude.{◌≡◌, ◌==◌, ◌↔◌, ℕ, List, Bool, length, Contains, Result}
+use Rattle.std.specs.Prelude.{◌≡◌, ◌==◌, ◌↔◌, ◌⊎◌, ℕ, List, Bool, true, length, Contains, Result, OnErr}
 use Rattle.std.specs.Result.{IsErrOf}
 use Rattle.dav_io.specs.Counts.{one_more}
 use Rattle.dav_core.specs.declared.handle.DiskError.{DiskError}
@@ -34,3 +34,12 @@ pub record Follows {T : Type 0} (old : MemDisk) (result : Result T DiskError) (n
   pub once : IsErrOf result Failed → new.faults.met ≡ one_more old.faults.met
   pub quiet : (IsErrOf result Failed → ⊥) → new.faults.met ≡ old.faults.met
   pub stays : fails_at new ≡ fails_at old
+
+-- The call fails exactly where its number is one of those that fail, or where it needs a next number or a next tick that
+-- isn't left. Then it meets one fault, and else none. Where it is refused the world stays whole.
+pub record FollowsOr {T : Type 0} (spent : Bool) (old : MemDisk) (result : Result T DiskError) (new : MemDisk) : Type 0 where
+  pub fails : IsErrOf result Failed ↔ (Contains (fails_at old) (one_more old.faults.asked) ⊎ (spent ≡ true))
+  pub once : IsErrOf result Failed → new.faults.met ≡ one_more old.faults.met
+  pub quiet : (IsErrOf result Failed → ⊥) → new.faults.met ≡ old.faults.met
+  pub stays : fails_at new ≡ fails_at old
+  pub leaves : OnErr result (mem_world new ≡ mem_world old)

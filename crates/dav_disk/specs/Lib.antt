@@ -9,3 +9,4 @@ pub mod Failing
 pub mod Sure
 pub mod Drawn
 pub mod Moves
+pub mod Making

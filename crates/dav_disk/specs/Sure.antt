@@ -1,5 +1,9 @@
--- What a disk in memory that never fails tells.
-use Rattle.std.specs.Prelude.{true}
+-- What a disk in memory tells that has no schedule of faults.
+use Rattle.std.specs.Prelude.{◌≡◌, ◌↔◌, Bool, Result, true}
+use Rattle.std.specs.Result.{IsErrOf}
+use Rattle.dav_io.specs.Counts.{one_more}
+use Rattle.dav_core.specs.declared.handle.DiskError.{DiskError}
+use Rattle.dav_core.specs.declared.handle.DiskError.TheVariants.{Failed}
 use Rattle.dav_core.specs.Disk.{DiskState}
 use Rattle.dav_core.specs.World.{World}
 use Rattle.dav_disk.specs.Calls.{state_of}
@@ -7,7 +11,14 @@ use Rattle.dav_disk.specs.Memory.{known_of}
 use Rattle.dav_disk.specs.declared.sure_disk.SureDisk.{SureDisk}
 
 abbrev pub sure_state : SureDisk → DiskState
-sure_state d = state_of (known_of d.memory) 0 d.asked true
+sure_state d = state_of (known_of d.memory) d.met d.asked true
 
 abbrev pub sure_world : SureDisk → World
 sure_world d = (known_of d.memory).world
+
+-- A call that makes something fails exactly where it needs a next number or a next tick that isn't left. Only then the
+-- count of faults rises, by one.
+pub record FailsOnly {T : Type 0} (spent : Bool) (old : SureDisk) (result : Result T DiskError) (new : SureDisk) : Type 0 where
+  pub fails : IsErrOf result Failed ↔ (spent ≡ true)
+  pub once : IsErrOf result Failed → new.met ≡ one_more old.met
+  pub quiet : (IsErrOf result Failed → ⊥) → new.met ≡ old.met

@@ -118,7 +118,7 @@ impl Drawn {
     }
 
     // A file with these bytes at a free path under a directory.
-    fn add_file(&mut self, path: &FsPath, bytes: &[u8]) -> Result<(), NoMemory>
+    pub fn add_file(&mut self, path: &FsPath, bytes: &[u8]) -> Result<(), NoMemory>
         ensures { OnOk result ((w : World) → drawn_in self.new w ≡ file_added (drawn_in self.old w) path.now bytes.now) }
     {
         if !is_free(&self.rows, path.as_slice()) || self.greatest == u64::MAX {
@@ -244,7 +244,7 @@ impl Drawn {
     }
 
     // Makes a change, or skips it where the tree doesn't allow it or no number or tick is left.
-    fn change(&mut self, change: &Change) -> Result<(), NoMemory>
+    pub fn change(&mut self, change: &Change) -> Result<(), NoMemory>
         ensures { OnOk result ((w : World) → drawn_in self.new w ≡ changed (drawn_in self.old w) change.now) }
     {
         match change {

@@ -3,6 +3,7 @@
 
 mod drawn;
 mod faults;
+mod judge;
 mod listing;
 mod listings;
 mod mem_disk;
@@ -12,6 +13,7 @@ mod rows;
 mod sure_disk;
 mod tables;
 mod tree;
+mod writing;
 
 pub use mem_disk::MemDisk;
 pub use sure_disk::SureDisk;

@@ -1,7 +1,7 @@
 ghost use Rattle.std.specs.Prelude.{◌≡◌, ◌<◌, ◌≤◌, ◌++◌, ◌∷◌, [], ℕ, All, None, Some, IfOk, IfSome, IsSome, OnOk, OnErr, true, length, drop};
 ghost use Rattle.dav_disk.specs.Lengths.{first_of, GivesMost, UsesLength};
 
-use crate::faults::Faults;
+use crate::faults::{Faults, is_fault, noted};
 use crate::memory::Memory;
 use dav_core::{Change, Disk, DiskError, FileTime, FsPath, Handle, Lister, Meta, OpenOptions};
 use dav_io::{NoMemory, Text};
@@ -152,10 +152,13 @@ impl MemDisk {
 impl Disk for MemDisk {
     ghost use Rattle.dav_core.specs.Disk.{Metas, FileMetas, Opens, Seeks, Reads, Closes, Turns};
     ghost use Rattle.dav_core.specs.Listing.{Lists, ListsOn, EndsListing};
-    ghost use Rattle.dav_core.specs.Options.{reading};
+    ghost use Rattle.dav_core.specs.Allowed.{making_dir, taking_dir, taking_file, moving, copying, opening};
+    ghost use Rattle.dav_core.specs.Writing.{CreatesDir, RemovesDir, RemovesFile, Renames, Copies, Writes};
     ghost use Rattle.dav_disk.specs.Listings.{AreSorted};
-    ghost use Rattle.dav_disk.specs.Failing.{mem_state, mem_world, Follows, fails_at, is_empty, lens_left};
+    ghost use Rattle.dav_disk.specs.Failing.{mem_state, mem_world, Follows, FollowsOr, fails_at, is_empty, lens_left};
     ghost use Rattle.dav_disk.specs.Files.{SaysNoMore};
+    ghost use Rattle.dav_disk.specs.Making.{is_spent, writing};
+    ghost use Rattle.dav_disk.specs.Memory.{known_of};
     ghost use Rattle.dav_disk.specs.Worlds.{told_world, told_live};
 
     ghost state = { mem_state };
@@ -174,16 +177,18 @@ impl Disk for MemDisk {
     }
 
     fn open(&mut self, path: &FsPath, how: OpenOptions, _public: bool) -> Result<Handle, DiskError>
-        requires { how ≡ reading }
         ensures done { Opens (mem_state self.old) path.now how result (mem_state self.new) }
         ensures loan { ⟦<MemDisk as Disk>⟧.loan self.new ≡ ⟦<MemDisk as Disk>⟧.loan self.old }
-        ensures schedule { Follows self.old result self.new }
+        ensures schedule { FollowsOr (is_spent (opening (mem_world self.old).tree path.now how) (mem_world self.old))
+            self.old result self.new }
         ensures lens { lens_left self.new ≡ lens_left self.old }
     {
         if self.faults.next() {
             return Err(DiskError::Failed);
         }
-        self.memory.open(path, how)
+        let answer = self.memory.open(path, how);
+        self.faults.met = noted(self.faults.met, is_fault(&answer));
+        answer
     }
 
     fn file_meta(&mut self, file: Handle) -> Result<Meta, DiskError>
@@ -236,6 +241,23 @@ impl Disk for MemDisk {
         }
     }
 
+    fn write(&mut self, file: Handle, from: &[u8]) -> Result<usize, DiskError>
+        requires live { IsSome ((mem_state self.old).live file.0) }
+        requires some { 0 < length from.now }
+        ensures done { Writes (mem_state self.old) file.0 from.now result (mem_state self.new) }
+        ensures loan { ⟦<MemDisk as Disk>⟧.loan self.new ≡ ⟦<MemDisk as Disk>⟧.loan self.old }
+        ensures schedule { FollowsOr (is_spent (writing (known_of self.old.memory) file.0 from.now) (mem_world self.old))
+            self.old result self.new }
+        ensures lens { lens_left self.new ≡ lens_left self.old }
+    {
+        if self.faults.next() {
+            return Err(DiskError::Failed);
+        }
+        let answer = self.memory.write(file, from);
+        self.faults.met = noted(self.faults.met, is_fault(&answer));
+        answer
+    }
+
     fn close(&mut self, file: Handle)
         requires { IsSome ((mem_state self.old).live file.0) }
         ensures done { Closes (mem_state self.old) file.0 (mem_state self.new) }
@@ -280,6 +302,76 @@ impl Disk for MemDisk {
         ensures lens { lens_left self.new ≡ lens_left self.old }
     {
         self.memory.end_list(at);
+    }
+
+    fn create_dir(&mut self, path: &FsPath, _public: bool) -> Result<(), DiskError>
+        ensures done { CreatesDir (mem_state self.old) path.now result (mem_state self.new) }
+        ensures loan { ⟦<MemDisk as Disk>⟧.loan self.new ≡ ⟦<MemDisk as Disk>⟧.loan self.old }
+        ensures schedule { FollowsOr (is_spent (making_dir (mem_world self.old).tree path.now) (mem_world self.old)) self.old result self.new }
+        ensures lens { lens_left self.new ≡ lens_left self.old }
+    {
+        if self.faults.next() {
+            return Err(DiskError::Failed);
+        }
+        let answer = self.memory.create_dir(path);
+        self.faults.met = noted(self.faults.met, is_fault(&answer));
+        answer
+    }
+
+    fn remove_dir(&mut self, path: &FsPath) -> Result<(), DiskError>
+        ensures done { RemovesDir (mem_state self.old) path.now result (mem_state self.new) }
+        ensures loan { ⟦<MemDisk as Disk>⟧.loan self.new ≡ ⟦<MemDisk as Disk>⟧.loan self.old }
+        ensures schedule { FollowsOr (is_spent (taking_dir (mem_world self.old).tree path.now) (mem_world self.old)) self.old result self.new }
+        ensures lens { lens_left self.new ≡ lens_left self.old }
+    {
+        if self.faults.next() {
+            return Err(DiskError::Failed);
+        }
+        let answer = self.memory.remove_dir(path);
+        self.faults.met = noted(self.faults.met, is_fault(&answer));
+        answer
+    }
+
+    fn remove_file(&mut self, path: &FsPath) -> Result<(), DiskError>
+        ensures done { RemovesFile (mem_state self.old) path.now result (mem_state self.new) }
+        ensures loan { ⟦<MemDisk as Disk>⟧.loan self.new ≡ ⟦<MemDisk as Disk>⟧.loan self.old }
+        ensures schedule { FollowsOr (is_spent (taking_file (mem_world self.old).tree path.now) (mem_world self.old)) self.old result self.new }
+        ensures lens { lens_left self.new ≡ lens_left self.old }
+    {
+        if self.faults.next() {
+            return Err(DiskError::Failed);
+        }
+        let answer = self.memory.remove_file(path);
+        self.faults.met = noted(self.faults.met, is_fault(&answer));
+        answer
+    }
+
+    fn rename(&mut self, from: &FsPath, to: &FsPath) -> Result<(), DiskError>
+        ensures done { Renames (mem_state self.old) from.now to.now result (mem_state self.new) }
+        ensures loan { ⟦<MemDisk as Disk>⟧.loan self.new ≡ ⟦<MemDisk as Disk>⟧.loan self.old }
+        ensures schedule { FollowsOr (is_spent (moving (mem_world self.old).tree from.now to.now) (mem_world self.old)) self.old result self.new }
+        ensures lens { lens_left self.new ≡ lens_left self.old }
+    {
+        if self.faults.next() {
+            return Err(DiskError::Failed);
+        }
+        let answer = self.memory.rename(from, to);
+        self.faults.met = noted(self.faults.met, is_fault(&answer));
+        answer
+    }
+
+    fn copy(&mut self, from: &FsPath, to: &FsPath) -> Result<(), DiskError>
+        ensures done { Copies (mem_state self.old) from.now to.now result (mem_state self.new) }
+        ensures loan { ⟦<MemDisk as Disk>⟧.loan self.new ≡ ⟦<MemDisk as Disk>⟧.loan self.old }
+        ensures schedule { FollowsOr (is_spent (copying (mem_world self.old) from.now to.now) (mem_world self.old)) self.old result self.new }
+        ensures lens { lens_left self.new ≡ lens_left self.old }
+    {
+        if self.faults.next() {
+            return Err(DiskError::Failed);
+        }
+        let answer = self.memory.copy(from, to);
+        self.faults.met = noted(self.faults.met, is_fault(&answer));
+        answer
     }
 
     fn turn(&mut self) -> Result<(), NoMemory>

@@ -1,21 +1,27 @@
-ghost use Rattle.std.specs.Prelude.{◌≡◌, ◌<◌, ℕ, None, Some, Ok, Option, IfOk, OnOk, OnErr, IsSome, IfSome, true, option_map};
+ghost use Rattle.std.specs.Prelude.{◌≡◌, ◌<◌, ◌≤◌, ◌+◌, ℕ, [], length, not, is_none, None, Some, Ok, Err, Option, IfOk, OnOk, OnErr, IsSome, IfSome, true, option_map, is_some};
 ghost use Rattle.dav_core.specs.Tree.{is_tree, is_file};
 ghost use Rattle.dav_core.specs.World.{AreGiven, ArePlain, time_of};
-ghost use Rattle.dav_disk.specs.Files.{AreStored, SaysNoMore, open_at, stored_at};
+ghost use Rattle.dav_disk.specs.Files.{AreStored, SaysNoMore, open_at, open_of, stored_at};
 ghost use Rattle.dav_disk.specs.Rows.{root_row as the_root};
 
 use crate::drawn::Drawn;
+use crate::judge::{
+    Copying, empties, may_copy, may_make_dir, may_move, may_open, may_take_dir, may_take_file,
+};
 use crate::listing::Listing;
 use crate::listings::{listing_of, take_name};
+use crate::paths::{parent_of, set_number_time, tick};
 use crate::rows::{can_be_set, has_number, is_free, later_of, put_row, second_past};
 use crate::tables::{
-    Opened, StoredFile, bytes_at, copy_from, free_key, is_stored, open_file, set_place, time_at,
+    Opened, StoredFile, bytes_at, can_be_written, copy_from, free_key, is_stored, open_file,
+    set_place, store_file, time_at,
 };
 use crate::tree::look;
+use crate::writing::{spliced, written_end};
 use dav_core::{
     Batch, Change, DiskError, FileTime, FsPath, Handle, Kind, Lister, Meta, OpenOptions, Row,
 };
-use dav_io::{NoMemory, Text};
+use dav_io::{NoMemory, Octets, Text};
 use std::alloc::Global;
 use std::collections::BTreeMap;
 
@@ -49,11 +55,18 @@ fn root_row(alloc: Global) -> Row
 
 impl Memory {
     ghost use Rattle.dav_disk.specs.Rows.{first_world, is_new_number, can_add as the_can_add, with_dir, with_file, with_batch};
-    ghost use Rattle.dav_disk.specs.Calls.{FindsMeta, OpensAt, Places, ReadsAt, with_closed, ListsAt, NextAt, with_names};
+    ghost use Rattle.dav_disk.specs.Calls.{FindsMeta, Places, ReadsAt, with_closed, ListsAt, NextAt, with_names};
     ghost use Rattle.dav_disk.specs.Memory.{known_of};
     ghost use Rattle.dav_core.specs.Disk.{FileMetaIn, kind_at};
     ghost use Rattle.dav_core.specs.Path.{is_plain};
-    ghost use Rattle.dav_core.specs.Changes.{turned};
+    ghost use Rattle.dav_core.specs.Changes.{turned, changed, is_free_in, tick as the_tick};
+    ghost use Rattle.dav_core.specs.Allowed.{place as the_place, making_dir, taking_dir, taking_file, moving, copying};
+    ghost use Rattle.dav_core.specs.declared.handle.DiskError.TheVariants.{NoMemory as OutOfMemory};
+    ghost use Rattle.dav_disk.specs.Making.{MakesAt, OpensAs, OpensBy, WritesAt, edited, filled_now, to_unit, row_is_left, move_is_left};
+    ghost use Rattle.dav_core.specs.declared.tree.Kind.TheVariants.{File as TheFile};
+    ghost use Rattle.dav_core.specs.Edits.{makes, fills};
+    ghost use Rattle.dav_core.specs.Writing.{write_place, written};
+    ghost use Rattle.dav_core.specs.World.{bytes_of};
 
     // The root alone.
     pub fn new(alloc: Global) -> Result<Self, NoMemory>
@@ -91,30 +104,6 @@ impl Memory {
             changed: None,
             exec: false,
         })
-    }
-
-    // Opens what stands at a path under a handle that was free.
-    pub fn open(&mut self, path: &FsPath, how: OpenOptions) -> Result<Handle, DiskError>
-        ensures { OpensAt (known_of self.old) path.now how result (known_of self.new) }
-    {
-        let row = match look(&self.rows, path.as_slice()) {
-            Ok(row) => row,
-            Err(e) => return Err(e),
-        };
-        let opened = Opened {
-            number: row.number,
-            place: 0,
-            kind: row.kind,
-            how,
-        };
-        let handle = match free_key(&self.opens) {
-            Some(handle) => handle,
-            None => return Err(DiskError::NoMemory),
-        };
-        match self.opens.insert(handle, opened) {
-            Ok(_) => Ok(Handle(handle)),
-            Err(_) => Err(DiskError::NoMemory),
-        }
     }
 
     // The time of what a live handle has open.
@@ -327,5 +316,398 @@ impl Memory {
         self.greatest = greatest;
         self.latest = latest;
         Ok(())
+    }
+
+    // Makes a change, where there is memory for it, as a batch makes it.
+    fn make(&mut self, change: &Change) -> Result<(), DiskError>
+        ensures ok { OnOk result (known_of self.new ≡ record (known_of self.old)
+            { world = changed (known_of self.old).world change.now }) }
+        ensures err { OnErr result ((known_of self.new ≡ known_of self.old) × (result ≡ Err OutOfMemory)) }
+    {
+        let alloc: Global = *self.rows.allocator();
+        let copy = Drawn::copy(alloc, &self.rows, &self.files, self.greatest, self.latest);
+        let Ok(mut drawn) = copy else {
+            return Err(DiskError::NoMemory);
+        };
+        if drawn.change(change).is_err() {
+            return Err(DiskError::NoMemory);
+        }
+        let Drawn {
+            rows,
+            files,
+            greatest,
+            latest,
+        } = drawn;
+        self.rows = rows;
+        self.files = files;
+        self.greatest = greatest;
+        self.latest = latest;
+        Ok(())
+    }
+
+    // Whether a next number, a tick and another after it are left, as a row that is made needs them.
+    fn has_row_left(&self) -> bool
+        ensures { result ≡ row_is_left (known_of self.now).world }
+    {
+        if self.greatest == u64::MAX {
+            return false;
+        }
+        match tick(self.latest) {
+            Some(time) => tick(time).is_some(),
+            None => false,
+        }
+    }
+
+    // Whether a tick is left, as it is needed where something goes.
+    fn has_tick_left(&self) -> bool
+        ensures { result ≡ is_some (the_tick (known_of self.now).world.latest) }
+    {
+        tick(self.latest).is_some()
+    }
+
+    // Whether a tick is left for each directory whose names a move changes.
+    fn has_move_left(&self, from: &[Text], to: &[Text]) -> bool
+        ensures { result ≡ move_is_left from.now to.now (known_of self.now).world }
+    {
+        let Some(time) = tick(self.latest) else {
+            return false;
+        };
+        if parent_of(from) == parent_of(to) {
+            return true;
+        }
+        tick(time).is_some()
+    }
+
+    // Makes a directory.
+    pub fn create_dir(&mut self, path: &FsPath) -> Result<(), DiskError>
+        ensures { MakesAt (making_dir (known_of self.old).world.tree path.now) (known_of self.old) result
+            (known_of self.new) }
+    {
+        if let Err(e) = may_make_dir(&self.rows, path.as_slice()) {
+            return Err(e);
+        }
+        if !self.has_row_left() {
+            return Err(DiskError::Failed);
+        }
+        let Ok(path) = path.try_clone() else {
+            return Err(DiskError::NoMemory);
+        };
+        self.make(&Change::AddDir(path))
+    }
+
+    // Removes a directory without members.
+    pub fn remove_dir(&mut self, path: &FsPath) -> Result<(), DiskError>
+        ensures { MakesAt (taking_dir (known_of self.old).world.tree path.now) (known_of self.old) result
+            (known_of self.new) }
+    {
+        if let Err(e) = may_take_dir(&self.rows, path.as_slice()) {
+            return Err(e);
+        }
+        if !self.has_tick_left() {
+            return Err(DiskError::Failed);
+        }
+        let Ok(path) = path.try_clone() else {
+            return Err(DiskError::NoMemory);
+        };
+        self.make(&Change::Remove(path))
+    }
+
+    // Removes what is no directory.
+    pub fn remove_file(&mut self, path: &FsPath) -> Result<(), DiskError>
+        ensures { MakesAt (taking_file (known_of self.old).world.tree path.now) (known_of self.old) result
+            (known_of self.new) }
+    {
+        if let Err(e) = may_take_file(&self.rows, path.as_slice()) {
+            return Err(e);
+        }
+        if !self.has_tick_left() {
+            return Err(DiskError::Failed);
+        }
+        let Ok(path) = path.try_clone() else {
+            return Err(DiskError::NoMemory);
+        };
+        self.make(&Change::Remove(path))
+    }
+
+    // Moves what stands at a path to another.
+    pub fn rename(&mut self, from: &FsPath, to: &FsPath) -> Result<(), DiskError>
+        ensures { MakesAt (moving (known_of self.old).world.tree from.now to.now) (known_of self.old) result
+            (known_of self.new) }
+    {
+        let moves = match may_move(&self.rows, from.as_slice(), to.as_slice()) {
+            Ok(moves) => moves,
+            Err(e) => return Err(e),
+        };
+        if !moves {
+            return Ok(());
+        }
+        if !self.has_move_left(from.as_slice(), to.as_slice()) {
+            return Err(DiskError::Failed);
+        }
+        let Ok(from) = from.try_clone() else {
+            return Err(DiskError::NoMemory);
+        };
+        let Ok(to) = to.try_clone() else {
+            return Err(DiskError::NoMemory);
+        };
+        self.make(&Change::Rename(from, to))
+    }
+
+    // Makes a file with the bytes of another.
+    fn copy_new(&mut self, number: u64, to: &FsPath) -> Result<(), DiskError>
+        requires { is_free_in (known_of self.old).world.tree to.now ≡ true }
+        ensures { MakesAt (Ok (Some (makes to.now TheFile (bytes_of (known_of self.old).world number))))
+            (known_of self.old) result (known_of self.new) }
+    {
+        if !self.has_row_left() {
+            return Err(DiskError::Failed);
+        }
+        let Ok(path) = to.try_clone() else {
+            return Err(DiskError::NoMemory);
+        };
+        let alloc: Global = *self.rows.allocator();
+        let Ok(bytes) = Vec::from_slice(alloc, bytes_at(&self.files, number)) else {
+            return Err(DiskError::NoMemory);
+        };
+        self.make(&Change::AddFile(path, Octets::new(bytes)))
+    }
+
+    // Gives a file the bytes of another.
+    fn copy_over(&mut self, number: u64, there: u64) -> Result<(), DiskError>
+        requires { there ≤ self.old.greatest }
+        ensures { MakesAt (Ok (Some (fills there (bytes_of (known_of self.old).world number)))) (known_of self.old)
+            result (known_of self.new) }
+    {
+        let bytes = bytes_at(&self.files, number);
+        if bytes == bytes_at(&self.files, there) {
+            return Ok(());
+        }
+        let Some(time) = tick(self.latest) else {
+            return Err(DiskError::Failed);
+        };
+        let alloc: Global = *self.rows.allocator();
+        let Ok(copy) = Vec::from_slice(alloc, bytes) else {
+            return Err(DiskError::NoMemory);
+        };
+        self.store(there, copy, time)
+    }
+
+    // Copies a file's bytes into the file at another path.
+    pub fn copy(&mut self, from: &FsPath, to: &FsPath) -> Result<(), DiskError>
+        ensures { MakesAt (copying (known_of self.old).world from.now to.now) (known_of self.old) result
+            (known_of self.new) }
+    {
+        match may_copy(&self.rows, from.as_slice(), to.as_slice()) {
+            Err(e) => Err(e),
+            Ok(Copying::Stays) => Ok(()),
+            Ok(Copying::Makes(number)) => self.copy_new(number, to),
+            Ok(Copying::Fills(number, there)) => self.copy_over(number, there),
+        }
+    }
+
+    // Stores the bytes of a file with a tick, which its row gets too.
+    fn store(&mut self, number: u64, bytes: Vec<u8>, time: FileTime) -> Result<(), DiskError>
+        requires given { number ≤ self.old.greatest }
+        requires ticked { the_tick self.old.latest ≡ Some time }
+        ensures ok { OnOk result (known_of self.new ≡ record (known_of self.old)
+            { world = filled_now number bytes.items time (known_of self.old).world }) }
+        ensures err { OnErr result ((known_of self.new ≡ known_of self.old) × (result ≡ Err OutOfMemory)) }
+        ensures opens { self.new.opens ≡ self.old.opens }
+    {
+        if store_file(&mut self.files, number, bytes, time).is_err() {
+            return Err(DiskError::NoMemory);
+        }
+        set_number_time(&mut self.rows, number, time);
+        self.latest = time;
+        Ok(())
+    }
+
+    // Writes bytes into the file of a number, from a place on, and answers the place behind them.
+    fn write_into(&mut self, number: u64, place: u64, from: &[u8]) -> Result<u64, DiskError>
+        requires given { number ≤ self.old.greatest }
+        requires some { 0 < length from.now }
+        ensures made { MakesAt
+            (Ok (Some (fills number (written place from.now (bytes_of (known_of self.old).world number)))))
+            (known_of self.old) (to_unit result) (known_of self.new) }
+        ensures end { IfOk result (λ end. end ≡ place + length from.now) }
+        ensures opens { self.new.opens ≡ self.old.opens }
+    {
+        let bytes = bytes_at(&self.files, number);
+        if let Some(end) = written_end(bytes, place, from) {
+            return Ok(end);
+        }
+        let Some(time) = tick(self.latest) else {
+            return Err(DiskError::Failed);
+        };
+        let Some(end) = place.checked_add(from.len() as u64) else {
+            return Err(DiskError::NoMemory);
+        };
+        let alloc: Global = *self.rows.allocator();
+        let Ok(all) = spliced(alloc, bytes, place, from) else {
+            return Err(DiskError::NoMemory);
+        };
+        match self.store(number, all, time) {
+            Ok(()) => Ok(end),
+            Err(e) => Err(e),
+        }
+    }
+
+    // The place at which an open file is written.
+    fn place_of(&self, opened: Opened) -> u64
+        ensures { result ≡ write_place opened.how.append (known_of self.now).world (open_of opened) }
+    {
+        if opened.how.append {
+            return bytes_at(&self.files, opened.number).len() as u64;
+        }
+        opened.place
+    }
+
+    // Writes bytes at an open file's place, or at its end.
+    pub fn write(&mut self, file: Handle, from: &[u8]) -> Result<usize, DiskError>
+        requires live { IsSome ((known_of self.old).live file.0) }
+        requires some { 0 < length from.now }
+        ensures { WritesAt (known_of self.old) file.0 from.now result (known_of self.new) }
+    {
+        let opened = open_file(&self.opens, file.0);
+        if !can_be_written(opened) {
+            return Err(DiskError::IsDir);
+        }
+        let place = self.place_of(opened);
+        let end = match self.write_into(opened.number, place, from) {
+            Ok(end) => end,
+            Err(e) => return Err(e),
+        };
+        set_place(&mut self.opens, file.0, opened, end);
+        Ok(from.len())
+    }
+
+    // Opens the file or directory of a number under a handle that was free.
+    fn open_number(
+        &mut self,
+        number: u64,
+        kind: Kind,
+        how: OpenOptions,
+    ) -> Result<Handle, DiskError>
+        requires { number ≤ self.old.greatest }
+        ensures { OpensBy None number kind how (known_of self.old) result (known_of self.new) }
+    {
+        let Some(handle) = free_key(&self.opens) else {
+            return Err(DiskError::NoMemory);
+        };
+        let opened = Opened {
+            number,
+            place: 0,
+            kind,
+            how,
+        };
+        match self.opens.insert(handle, opened) {
+            Ok(_) => Ok(Handle(handle)),
+            Err(_) => Err(DiskError::NoMemory),
+        }
+    }
+
+    // Takes all bytes from a file.
+    fn empty(&mut self, number: u64) -> Result<(), DiskError>
+        requires { number ≤ self.old.greatest }
+        ensures { MakesAt (Ok (Some (fills number []))) (known_of self.old) result (known_of self.new) }
+    {
+        if bytes_at(&self.files, number).is_empty() {
+            return Ok(());
+        }
+        let Some(time) = tick(self.latest) else {
+            return Err(DiskError::Failed);
+        };
+        let alloc: Global = *self.rows.allocator();
+        self.store(number, Vec::new(alloc), time)
+    }
+
+    // Whether a file has no bytes, or a tick is left with which they can be taken.
+    fn can_empty(&self, number: u64) -> bool
+        ensures { result ≡ not (is_none (edited (fills number []) (known_of self.now).world)) }
+    {
+        bytes_at(&self.files, number).is_empty() || tick(self.latest).is_some()
+    }
+
+    // Takes all bytes from a file and opens it.
+    fn open_emptied(
+        &mut self,
+        number: u64,
+        kind: Kind,
+        how: OpenOptions,
+    ) -> Result<Handle, DiskError>
+        requires { number ≤ self.old.greatest }
+        ensures { OpensBy (Some (fills number [])) number kind how (known_of self.old) result (known_of self.new) }
+    {
+        if !self.can_empty(number) {
+            return Err(DiskError::Failed);
+        }
+        let handle = match self.open_number(number, kind, how) {
+            Ok(handle) => handle,
+            Err(e) => return Err(e),
+        };
+        match self.empty(number) {
+            Ok(()) => Ok(handle),
+            Err(e) => {
+                self.close(handle);
+                Err(e)
+            }
+        }
+    }
+
+    // Makes a file and opens it.
+    fn open_new(&mut self, path: &FsPath, how: OpenOptions) -> Result<Handle, DiskError>
+        requires { the_place (known_of self.old).world.tree path.now ≡ Ok None }
+        ensures { OpensBy (Some (makes path.now TheFile [])) ((known_of self.old).world.greatest + 1) TheFile how
+            (known_of self.old) result (known_of self.new) }
+    {
+        if !self.has_row_left() {
+            return Err(DiskError::Failed);
+        }
+        let Some(handle) = free_key(&self.opens) else {
+            return Err(DiskError::NoMemory);
+        };
+        let alloc: Global = *self.rows.allocator();
+        let copy = Drawn::copy(alloc, &self.rows, &self.files, self.greatest, self.latest);
+        let Ok(mut drawn) = copy else {
+            return Err(DiskError::NoMemory);
+        };
+        if drawn.add_file(path, &[]).is_err() {
+            return Err(DiskError::NoMemory);
+        }
+        let opened = Opened {
+            number: self.greatest + 1,
+            place: 0,
+            kind: Kind::File,
+            how,
+        };
+        if self.opens.insert(handle, opened).is_err() {
+            return Err(DiskError::NoMemory);
+        }
+        let Drawn {
+            rows,
+            files,
+            greatest,
+            latest,
+        } = drawn;
+        self.rows = rows;
+        self.files = files;
+        self.greatest = greatest;
+        self.latest = latest;
+        Ok(Handle(handle))
+    }
+
+    // Opens what stands at a path, or makes a file there, under a handle that was free.
+    pub fn open(&mut self, path: &FsPath, how: OpenOptions) -> Result<Handle, DiskError>
+        ensures { OpensAs (known_of self.old) path.now how result (known_of self.new) }
+    {
+        let (number, kind) = match may_open(&self.rows, path.as_slice(), how) {
+            Ok(Some(row)) => (row.number, row.kind),
+            Ok(None) => return self.open_new(path, how),
+            Err(e) => return Err(e),
+        };
+        if empties(kind, how) {
+            return self.open_emptied(number, kind, how);
+        }
+        self.open_number(number, kind, how)
     }
 }

@@ -3,6 +3,7 @@ ghost use Rattle.std.specs.Prelude.{◌≡◌, ◌<◌, ◌++◌, ℕ, List, OnO
 ghost use Rattle.std.specs.List.{filter};
 ghost use Rattle.dav_core.specs.Path.{is_front as the_front, parent_of as the_parent, same_names};
 ghost use Rattle.dav_core.specs.Tree.{row_at as the_row_at};
+ghost use Rattle.dav_core.specs.Edits.{timed_number};
 ghost use Rattle.dav_core.specs.Changes.{timed_row, without, moved_row, is_leaf as the_leaf, yields as the_yields, tick as the_tick};
 
 use crate::tree::row_at;
@@ -56,6 +57,24 @@ pub fn set_time(rows: &mut [Row], path: &[Text], time: FileTime)
             row.time = time;
         }
     }
+}
+
+// Sets the time of the rows of a number.
+fn set_times(rows: &mut [Row], number: u64, time: FileTime)
+    ensures { rows.new ≡ map (timed_number number time) rows.old }
+{
+    for row in rows.iter_mut() {
+        if row.number == number {
+            row.time = time;
+        }
+    }
+}
+
+// Sets the time of the row of a number.
+pub fn set_number_time(rows: &mut Vec<Row>, number: u64, time: FileTime)
+    ensures { rows.new.items ≡ map (timed_number number time) rows.old.items }
+{
+    set_times(rows.as_mut_slice(), number, time);
 }
 
 // Takes away the rows at a path and below it.
@@ -113,7 +132,7 @@ pub fn move_rows(
 }
 
 // Whether no row lies below a path.
-fn is_leaf(rows: &[Row], path: &[Text]) -> bool
+pub fn is_leaf(rows: &[Row], path: &[Text]) -> bool
     ensures { result ≡ the_leaf path.now rows.now }
 {
     rows.iter().all(|row| !is_front(path, row.path.as_slice()) || path == row.path.as_slice())

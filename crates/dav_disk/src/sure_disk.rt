@@ -1,15 +1,18 @@
-ghost use Rattle.std.specs.Prelude.{◌≡◌, None, Some, IfOk, IsSome, OnOk, OnErr, true};
+ghost use Rattle.std.specs.Prelude.{◌≡◌, ◌<◌, length, None, Some, IfOk, IsSome, OnOk, OnErr, true};
 
+use crate::faults::{is_fault, noted};
 use crate::memory::Memory;
 use dav_core::{Change, Disk, DiskError, FileTime, FsPath, Handle, Lister, Meta, OpenOptions};
 use dav_io::{NoMemory, Text};
 use std::alloc::Global;
 
-/// A disk in memory that tells its world and never fails. Its reads are whole.
+/// A disk in memory that tells its world. Its reads are whole. It fails only in a call that needs a next number or a next
+/// tick where none is left.
 #[derive(Drop)]
 pub struct SureDisk {
     memory: Memory,
     asked: u64,
+    met: u64,
 }
 
 impl SureDisk {
@@ -22,7 +25,11 @@ impl SureDisk {
         ensures { IfOk result (λ d. sure_state d ≡ state_of (record { world = first_world; live = λ _. None }) 0 0 true) }
     {
         let memory = Memory::new(alloc)?;
-        Ok(SureDisk { memory, asked: 0 })
+        Ok(SureDisk {
+            memory,
+            asked: 0,
+            met: 0,
+        })
     }
 
     /// Whether a row of this number and time may be set at a path, as `add_dir` and `add_file` need it: the path is free
@@ -75,18 +82,22 @@ impl SureDisk {
         self.asked
     }
 
-    /// How many faults were met: none.
+    /// How many calls failed, for want of a next number or a next tick. It stays at the greatest u64 once it is there.
     pub fn faults(&self) -> u64
         ensures { result ≡ (sure_state self.now).faults }
     {
-        0
+        self.met
     }
 }
 
 impl Disk for SureDisk {
-    ghost use Rattle.dav_core.specs.Disk.{Metas, FileMetas};
+    ghost use Rattle.dav_core.specs.Disk.{Metas, FileMetas, Opens};
     ghost use Rattle.dav_disk.specs.Files.{SaysNoMore};
-    ghost use Rattle.dav_disk.specs.Sure.{sure_state, sure_world};
+    ghost use Rattle.dav_core.specs.Allowed.{making_dir, taking_dir, taking_file, moving, copying, opening};
+    ghost use Rattle.dav_core.specs.Writing.{CreatesDir, RemovesDir, RemovesFile, Renames, Copies, Writes};
+    ghost use Rattle.dav_disk.specs.Making.{is_spent, writing};
+    ghost use Rattle.dav_disk.specs.Memory.{known_of};
+    ghost use Rattle.dav_disk.specs.Sure.{sure_state, sure_world, FailsOnly};
     ghost use Rattle.dav_disk.specs.Worlds.{told_world, told_live};
 
     ghost state = { sure_state };
@@ -100,14 +111,16 @@ impl Disk for SureDisk {
         self.memory.meta(path)
     }
 
-    fn open(
-        &mut self,
-        path: &FsPath,
-        how: OpenOptions,
-        _public: bool,
-    ) -> Result<Handle, DiskError> {
+    fn open(&mut self, path: &FsPath, how: OpenOptions, _public: bool) -> Result<Handle, DiskError>
+        ensures done { Opens (sure_state self.old) path.now how result (sure_state self.new) }
+        ensures loan { ⟦<SureDisk as Disk>⟧.loan self.new ≡ ⟦<SureDisk as Disk>⟧.loan self.old }
+        ensures fails { FailsOnly (is_spent (opening (sure_world self.old).tree path.now how) (sure_world self.old))
+            self.old result self.new }
+    {
         self.asked = self.asked.saturating_add(1);
-        self.memory.open(path, how)
+        let answer = self.memory.open(path, how);
+        self.met = noted(self.met, is_fault(&answer));
+        answer
     }
 
     fn file_meta(&mut self, file: Handle) -> Result<Meta, DiskError>
@@ -131,6 +144,20 @@ impl Disk for SureDisk {
         self.memory.read(file, usize::MAX, into)
     }
 
+    fn write(&mut self, file: Handle, from: &[u8]) -> Result<usize, DiskError>
+        requires live { IsSome ((sure_state self.old).live file.0) }
+        requires some { 0 < length from.now }
+        ensures done { Writes (sure_state self.old) file.0 from.now result (sure_state self.new) }
+        ensures loan { ⟦<SureDisk as Disk>⟧.loan self.new ≡ ⟦<SureDisk as Disk>⟧.loan self.old }
+        ensures fails { FailsOnly (is_spent (writing (known_of self.old.memory) file.0 from.now) (sure_world self.old))
+            self.old result self.new }
+    {
+        self.asked = self.asked.saturating_add(1);
+        let answer = self.memory.write(file, from);
+        self.met = noted(self.met, is_fault(&answer));
+        answer
+    }
+
     fn close(&mut self, file: Handle) {
         self.memory.close(file);
     }
@@ -149,11 +176,66 @@ impl Disk for SureDisk {
         self.memory.end_list(at);
     }
 
+    fn create_dir(&mut self, path: &FsPath, _public: bool) -> Result<(), DiskError>
+        ensures done { CreatesDir (sure_state self.old) path.now result (sure_state self.new) }
+        ensures loan { ⟦<SureDisk as Disk>⟧.loan self.new ≡ ⟦<SureDisk as Disk>⟧.loan self.old }
+        ensures fails { FailsOnly (is_spent (making_dir (sure_world self.old).tree path.now) (sure_world self.old)) self.old result self.new }
+    {
+        self.asked = self.asked.saturating_add(1);
+        let answer = self.memory.create_dir(path);
+        self.met = noted(self.met, is_fault(&answer));
+        answer
+    }
+
+    fn remove_dir(&mut self, path: &FsPath) -> Result<(), DiskError>
+        ensures done { RemovesDir (sure_state self.old) path.now result (sure_state self.new) }
+        ensures loan { ⟦<SureDisk as Disk>⟧.loan self.new ≡ ⟦<SureDisk as Disk>⟧.loan self.old }
+        ensures fails { FailsOnly (is_spent (taking_dir (sure_world self.old).tree path.now) (sure_world self.old)) self.old result self.new }
+    {
+        self.asked = self.asked.saturating_add(1);
+        let answer = self.memory.remove_dir(path);
+        self.met = noted(self.met, is_fault(&answer));
+        answer
+    }
+
+    fn remove_file(&mut self, path: &FsPath) -> Result<(), DiskError>
+        ensures done { RemovesFile (sure_state self.old) path.now result (sure_state self.new) }
+        ensures loan { ⟦<SureDisk as Disk>⟧.loan self.new ≡ ⟦<SureDisk as Disk>⟧.loan self.old }
+        ensures fails { FailsOnly (is_spent (taking_file (sure_world self.old).tree path.now) (sure_world self.old)) self.old result self.new }
+    {
+        self.asked = self.asked.saturating_add(1);
+        let answer = self.memory.remove_file(path);
+        self.met = noted(self.met, is_fault(&answer));
+        answer
+    }
+
+    fn rename(&mut self, from: &FsPath, to: &FsPath) -> Result<(), DiskError>
+        ensures done { Renames (sure_state self.old) from.now to.now result (sure_state self.new) }
+        ensures loan { ⟦<SureDisk as Disk>⟧.loan self.new ≡ ⟦<SureDisk as Disk>⟧.loan self.old }
+        ensures fails { FailsOnly (is_spent (moving (sure_world self.old).tree from.now to.now) (sure_world self.old)) self.old result self.new }
+    {
+        self.asked = self.asked.saturating_add(1);
+        let answer = self.memory.rename(from, to);
+        self.met = noted(self.met, is_fault(&answer));
+        answer
+    }
+
+    fn copy(&mut self, from: &FsPath, to: &FsPath) -> Result<(), DiskError>
+        ensures done { Copies (sure_state self.old) from.now to.now result (sure_state self.new) }
+        ensures loan { ⟦<SureDisk as Disk>⟧.loan self.new ≡ ⟦<SureDisk as Disk>⟧.loan self.old }
+        ensures fails { FailsOnly (is_spent (copying (sure_world self.old) from.now to.now) (sure_world self.old)) self.old result self.new }
+    {
+        self.asked = self.asked.saturating_add(1);
+        let answer = self.memory.copy(from, to);
+        self.met = noted(self.met, is_fault(&answer));
+        answer
+    }
+
     fn turn(&mut self) -> Result<(), NoMemory> {
         self.memory.turn()
     }
 
     ghost world = { λ d w e. told_world (sure_world d) w d.memory.tree d.memory.plain d.memory.stored d.memory.given e };
 
-    ghost tells_live = { λ d. told_live d.memory 0 d.asked true };
+    ghost tells_live = { λ d. told_live d.memory d.met d.asked true };
 }

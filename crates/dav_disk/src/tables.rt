@@ -1,8 +1,9 @@
 // The tables of a disk in memory: files by their numbers, open files by their handles.
-ghost use Rattle.std.specs.Prelude.{◌≡◌, ◌≤◌, ◌<◌, ◌+◌, ◌^◌, ℕ, [], None, Some, Option, IsSome, IfSome, IfNone, OnOk, length, take, drop, min, true, is_some, option_map};
+ghost use Rattle.std.specs.Prelude.{◌≡◌, ◌≤◌, ◌<◌, ◌+◌, ◌^◌, ℕ, [], None, Some, Option, IsSome, IfSome, IfNone, OnOk, OnErr, length, take, drop, min, true, is_some, option_map};
 ghost use Rattle.dav_core.specs.World.{put, bytes_or_none};
 ghost use Rattle.dav_core.specs.Tables.{at_key};
-ghost use Rattle.dav_disk.specs.Files.{stored_at, live_at};
+ghost use Rattle.dav_disk.specs.Files.{stored_at, live_at, live_of};
+ghost use Rattle.dav_core.specs.Writing.{can_write};
 
 use dav_core::{FileTime, Kind, OpenOptions};
 use dav_io::NoMemory;
@@ -76,6 +77,13 @@ pub fn open_file(opens: &BTreeMap<u32, Opened>, handle: u32) -> Opened
     }
 }
 
+// Whether an open file was opened to be written.
+pub fn can_be_written(opened: Opened) -> bool
+    ensures { result ≡ can_write (Some (live_of opened)) }
+{
+    opened.kind == Kind::File && (opened.how.write || opened.how.append)
+}
+
 // The least key that a table doesn't have, or none where it has all.
 pub fn free_key<V>(table: &BTreeMap<u32, V>) -> Option<u32>
     ensures free { IfSome result (λ key. at_key table.now key ≡ None) }
@@ -89,6 +97,21 @@ pub fn free_key<V>(table: &BTreeMap<u32, V>) -> Option<u32>
     None
 }
 
+// Stores a file under a number. Where memory is refused the files stay.
+pub fn store_file(
+    files: &mut BTreeMap<u64, StoredFile>,
+    number: u64,
+    bytes: Vec<u8>,
+    time: FileTime,
+) -> Result<(), NoMemory>
+    ensures ok { OnOk result (stored_at files.new ≡ put number (Some (record { bytes = bytes.items; time = time }))
+        (stored_at files.old)) }
+    ensures err { OnErr result (stored_at files.new ≡ stored_at files.old) }
+{
+    files.insert(number, StoredFile { bytes, time })?;
+    Ok(())
+}
+
 // Stores a file under a number.
 pub fn put_file(
     files: &mut BTreeMap<u64, StoredFile>,
@@ -99,8 +122,7 @@ pub fn put_file(
     ensures { OnOk result (stored_at files.new ≡ put number (Some (record { bytes = bytes.items; time = time }))
         (stored_at files.old)) }
 {
-    files.insert(number, StoredFile { bytes, time })?;
-    Ok(())
+    store_file(files, number, bytes, time)
 }
 
 // Sets the place of an open file.

@@ -2,6 +2,7 @@
 ghost use Rattle.std.specs.Prelude.{◌≡◌, Option, Ok, Err, IfOk, IfSome, MatchResult};
 ghost use Rattle.std.specs.Option.{option_map};
 ghost use Rattle.dav_core.specs.Tree.{row_at as the_row_at, look as found};
+ghost use Rattle.dav_core.specs.Allowed.{place as the_place};
 
 use dav_core::{DiskError, Kind, Row};
 use dav_io::Text;
@@ -14,10 +15,11 @@ pub fn row_at<'a>(rows: &'a [Row], path: &[Text]) -> Option<&'a Row>
     dav_core::row_at(rows, path)
 }
 
-// The row at a path, or what a call on it is refused with.
-pub fn look<'a>(rows: &'a [Row], path: &[Text]) -> Result<&'a Row, DiskError>
-    ensures found { MatchResult result (λ r. found rows.now path.now ≡ Ok r.now) (λ e. found rows.now path.now ≡ Err e) }
-    ensures path { IfOk result (λ r. r.now.path ≡ path.now) }
+// What stands at a path, or nothing; or what every call on it is refused with.
+pub fn place<'a>(rows: &'a [Row], path: &[Text]) -> Result<Option<&'a Row>, DiskError>
+    ensures found { MatchResult result (λ there. the_place rows.now path.now ≡ Ok (option_map (λ r. r.now) there))
+        (λ e. the_place rows.now path.now ≡ Err e) }
+    ensures path { IfOk result (λ there. IfSome there (λ r. r.now.path ≡ path.now)) }
 {
     for i in 0..path.len() {
         match row_at(rows, &path[..i]) {
@@ -29,8 +31,17 @@ pub fn look<'a>(rows: &'a [Row], path: &[Text]) -> Result<&'a Row, DiskError>
             }
         }
     }
-    match row_at(rows, path) {
-        Some(row) => Ok(row),
-        None => Err(DiskError::NotFound),
+    Ok(row_at(rows, path))
+}
+
+// The row at a path, or what a call on it is refused with.
+pub fn look<'a>(rows: &'a [Row], path: &[Text]) -> Result<&'a Row, DiskError>
+    ensures found { MatchResult result (λ r. found rows.now path.now ≡ Ok r.now) (λ e. found rows.now path.now ≡ Err e) }
+    ensures path { IfOk result (λ r. r.now.path ≡ path.now) }
+{
+    match place(rows, path) {
+        Ok(Some(row)) => Ok(row),
+        Ok(None) => Err(DiskError::NotFound),
+        Err(e) => Err(e),
     }
 }

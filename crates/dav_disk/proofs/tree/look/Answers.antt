@@ -1,12 +1,12 @@
-use Rattle.std.proofs.Common.{rules, sym, ◌∙◌, []}
-use Rattle.dav_disk.proofs.Walks.{walk_on, walk_ends, walk_blocked}
+use Rattle.std.proofs.Common.{None, Some, Ok, Err}
+use Rattle.dav_disk.proofs.Walks.{look_by}
 use Rattle.dav_disk.proofs.tree.look.Goals as goal
 
-pub returns-in-None-clause-found : goal.returns-in-None-clause-found
-returns-in-None-clause-found c = c.loop-i.invariant ∙ walk_ends c.args.rows.now c.args.path.now c.loop-i.i [] c.loop-i-test.true (sym c.in-None.ensures.found)
+pub returns-in-Ok-Some-clause-found : goal.returns-in-Ok-Some-clause-found
+returns-in-Ok-Some-clause-found c = look_by c.args.rows.now c.args.path.now (Ok (Some c.in-Ok-Some.row.now)) (rw c.in-Ok-Some.field-0-is at c.in-Ok-Some.ensures.found)
 
-pub returns-then-ne-clause-found : goal.returns-then-ne-clause-found
-returns-then-ne-clause-found c = c.loop-i.invariant ∙ walk_blocked c.args.rows.now c.args.path.now c.loop-i.i c.in-Some.row.now [] c.loop-i-test.true (sym c.in-Some.ensures.found) (search rules)
+pub returns-in-Ok-None-clause-found : goal.returns-in-Ok-None-clause-found
+returns-in-Ok-None-clause-found c = look_by c.args.rows.now c.args.path.now (Ok None) (rw c.in-Ok-None.field-0-is at c.in-Ok-None.ensures.found)
 
-pub loop-i-preserved : goal.loop-i-preserved
-loop-i-preserved c = c.loop-i.invariant ∙ walk_on c.args.rows.now c.args.path.now c.loop-i.i c.in-Some.row.now [] c.loop-i-test.true (sym c.in-Some.ensures.found) (search rules)
+pub returns-in-Err-clause-found : goal.returns-in-Err-clause-found
+returns-in-Err-clause-found c = look_by c.args.rows.now c.args.path.now (Err c.in-Err.e) c.in-Err.ensures.found

@@ -1,18 +1,31 @@
+use Rattle.std.proofs.Common.{◌≡◌, ◌<◌, length, true, false, Err, refl, arith, rules}
+use Rattle.dav_core.specs.Allowed.{Allowed, opening}
+use Rattle.dav_disk.specs.Calls.{Known}
+use Rattle.dav_disk.specs.Making.{is_spent, writing}
 use Rattle.dav_disk.specs.Memory.{known_of}
-use Rattle.std.proofs.Common.{rules}
-use Rattle.dav_disk.proofs.Done.{open_done, opens_no_fault, not_scheduled}
+use Rattle.dav_disk.proofs.Makes.{fails_noted, follows_or, fails_only, noted_by}
+use Rattle.dav_disk.proofs.OpenDone.{open_leaves, open_done, open_fails_done, open_fails, fails_open}
 use Rattle.dav_disk.proofs.mem_disk.MemDiskDisk.open.Goals as goal
 
+pub returns-then-next-clause-done : goal.returns-then-next-clause-done
+returns-then-next-clause-done c =
+    let k : Known = known_of c.args.self.now.memory in
+    open_fails_done k c.args.self.now.faults.met c.args.self.now.faults.asked _ c.next.new.self.met c.next.new.self.asked _ c.args.path.now c.args.how
+    (fails_noted c.args.self.now.faults.met c.next.new.self.met c.args.self.now.faults.asked c.next.new.self.asked _ c.next.ensures.counts (c.next.ensures.rose c.if-next.true) c.next.ensures.asked c.next.ensures.more)
+
 pub returns-clause-done : goal.returns-clause-done
-returns-clause-done c = open_done (known_of c.args.self.now.memory) (known_of c.open.new.self) _ _ _ _ _ _ c.args.path.now c.args.how c.open.result
-    (record { rises = c.next.ensures.counts; counts = c.next.ensures.asked; goes = c.next.ensures.more; keeps = λ whole. whole }) c.open.ensures
+returns-clause-done c =
+    let k : Known = known_of c.args.self.now.memory in
+    let n : Known = known_of c.open-answer.new.self in
+    open_done k n c.args.self.now.faults.met c.args.self.now.faults.asked _ c.noted-self.result c.next.new.self.asked _ c.args.path.now c.args.how c.open-answer.result
+    (noted_by c.open-answer.result c.args.self.now.faults.met c.next.new.self.met c.noted-self.result c.args.self.now.faults.asked c.next.new.self.asked _ c.is_fault.result (c.next.ensures.same c.if-next.false) c.is_fault.ensures
+    c.noted-self.ensures.counts c.noted-self.ensures.rose c.next.ensures.asked c.next.ensures.more)
+    c.args.self.now.memory.given c.open-answer.ensures
 
 pub returns-clause-schedule : goal.returns-clause-schedule
 returns-clause-schedule c =
-    let fine = opens_no_fault (known_of c.args.self.now.memory) (known_of c.open.new.self) c.args.path.now c.args.how c.open.result c.open.ensures in
-    record {
-      fails = (λ f. absurd (fine f), λ listed. absurd (not_scheduled c.next.result c.if-next.false c.next.ensures.fails listed));
-      once = λ f. absurd (fine f);
-      quiet = λ f. c.next.ensures.same c.if-next.false;
-      stays = search rules;
-    }
+    let k : Known = known_of c.args.self.now.memory in
+    let n : Known = known_of c.open-answer.new.self in
+    let allowed : Allowed = opening k.world.tree c.args.path.now c.args.how in
+    follows_or (is_spent allowed k.world) c.args.self.now _ c.open-answer.result c.next.new.self.met c.next.result c.is_fault.result (c.next.ensures.same c.if-next.false) c.if-next.false c.next.ensures.fails c.is_fault.ensures
+    (open_fails k n c.args.path.now c.args.how c.open-answer.result c.open-answer.ensures) (fails_open k n c.args.path.now c.args.how c.open-answer.result c.open-answer.ensures) c.noted-self.ensures.once c.noted-self.ensures.same (search rules) (open_leaves k n c.args.path.now c.args.how c.open-answer.result c.open-answer.ensures)

@@ -7,5 +7,5 @@ pub list_next-requires : goal.list_next-requires
 list_next-requires c = still_lists (known_of c.args.self.now.memory) c.args.at.0 c.requires
 
 pub returns-clause-done : goal.returns-clause-done
-returns-clause-done c = next_done (known_of c.args.self.now.memory) (known_of c.list_next.new.self) 0 c.args.self.now.asked true 0 _ true c.args.at.0 c.list_next.result
+returns-clause-done c = next_done (known_of c.args.self.now.memory) (known_of c.list_next.new.self) c.args.self.now.met c.args.self.now.asked true c.args.self.now.met _ true c.args.at.0 c.list_next.result
     (record { rises = omega arith; counts = c.saturating_add-self.ensures; goes = omega arith; keeps = λ whole. whole }) c.list_next.ensures.next c.list_next.ensures.plain

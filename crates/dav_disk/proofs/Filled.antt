@@ -1,0 +1,166 @@
+-- A file whose bytes change keeps what holds of a disk's world.
+use Rattle.std.proofs.Common.{◌≡◌, ◌≢◌, ◌≤◌, ◌<◌, ◌==◌, [], ℕ, List, Bool, true, false, cond, length, map, Option, None, Some, Result, Ok, Err, OnOk, OnErr, subst, refl, sym, ap, ◌∙◌, arith}
+use Rattle.std.specs.Option.{option_map, is_none}
+use Rattle.std.proofs.lemmas.Bool.Decides.{nat_tests}
+use Rattle.std.proofs.lemmas.List.Elements.{All-from_recursion, All-map, All-weaker}
+use Rattle.dav_core.specs.declared.tree.Row.{Row}
+use Rattle.dav_core.specs.declared.time.FileTime.{FileTime}
+use Rattle.dav_core.specs.Path.{Names, parent_of}
+use Rattle.dav_core.specs.Tree.{is_tree}
+use Rattle.dav_core.specs.World.{World, Stored, AreGiven, IsGiven, IsPlain, ArePlain, put, bytes_of}
+use Rattle.dav_core.specs.Changes.{tick}
+use Rattle.dav_core.specs.Edits.{fills, filled, timed_number}
+use Rattle.dav_core.proofs.UnchangedLemmas.{put_same, put_other, equal_keys, other_keys}
+use Rattle.dav_disk.specs.Files.{IsStored, AreStored}
+use Rattle.dav_disk.proofs.Trees.{In, parts_of, Maps, mapped_tree, in_map, parent_row}
+use Rattle.dav_disk.proofs.Changed.{Good}
+use Rattle.dav_disk.proofs.GivenStay.{IsTick, ticked, given_still, not_after_itself, Bounded, bounded_of, given_of, put_given}
+use Rattle.dav_disk.proofs.Turned.{Kept, kept_of, good_of}
+use Rattle.dav_core.specs.declared.handle.DiskError.{DiskError}
+use Rattle.dav_core.specs.declared.handle.DiskError.TheVariants.{Failed, NoMemory}
+use Rattle.std.specs.Str.{bytes_eq}
+use Rattle.dav_core.specs.Allowed.{Allowed}
+use Rattle.dav_disk.specs.Calls.{Known}
+use Rattle.dav_disk.specs.Making.{MakesAt, edited, filled_at, filled_now, is_spent}
+use Rattle.dav_disk.proofs.Standing.{make_at}
+
+-- the row has the number, or another
+timed_yes : (b : Bool) (t : FileTime) (r : Row) → b ≡ true → record r { time = t } ≡ cond b (record r { time = t }) r
+timed_yes true t r e = refl
+timed_yes false t r e = cc
+
+timed_no : (b : Bool) (t : FileTime) (r : Row) → b ≡ false → r ≡ cond b (record r { time = t }) r
+timed_no true t r e = cc
+timed_no false t r e = refl
+
+is_equal : (m n : ℕ) → m ≡ n → (m == n) ≡ true
+is_equal m n e = grind (arith, nat_tests)
+
+not_equal : (m n : ℕ) → m ≢ n → (m == n) ≡ false
+not_equal m n e = grind (arith, nat_tests)
+
+pub row_timed : (number : ℕ) (t : FileTime) (r : Row) → r.number ≡ number → record r { time = t } ≡ timed_number number t r
+row_timed number t r e = timed_yes (r.number == number) t r (is_equal r.number number e)
+
+pub row_left : (number : ℕ) (t : FileTime) (r : Row) → r.number ≢ number → r ≡ timed_number number t r
+row_left number t r e = timed_no (r.number == number) t r (not_equal r.number number e)
+
+kind_same : (b : Bool) (t : FileTime) (r : Row) → (cond b (record r { time = t }) r).kind ≡ r.kind
+kind_same true t r = refl
+kind_same false t r = refl
+
+number_same : (b : Bool) (t : FileTime) (r : Row) → (cond b (record r { time = t }) r).number ≡ r.number
+number_same true t r = refl
+number_same false t r = refl
+
+path_same : (b : Bool) (t : FileTime) (r : Row) → (cond b (record r { time = t }) r).path ≡ r.path
+path_same true t r = refl
+path_same false t r = refl
+
+timed_maps : (rows : List Row) (n : ℕ) (t : FileTime) → is_tree rows ≡ true → Maps rows (timed_number n t)
+timed_maps rows n t tree = record {
+  kind = λ r. kind_same (r.number == n) t r;
+  number = λ r. number_same (r.number == n) t r;
+  apart = λ r s i j e. sym (path_same (r.number == n) t r) ∙ e ∙ path_same (s.number == n) t s;
+  root = λ r e. path_same (r.number == n) t r ∙ e;
+  top = λ r i e. sym (ap (λ (p : Names). length p == 0) (path_same (r.number == n) t r)) ∙ e;
+  parent = λ r i some.
+      let d = parent_row rows r (parts_of rows tree) i some in
+      (d.0, d.1, d.3, path_same (d.0.number == n) t d.0 ∙ d.2 ∙ ap parent_of (sym (path_same (r.number == n) t r)));
+}
+
+filled_stored : (files : ℕ → Option Stored) (b : Bool) (number : ℕ) (r : Row) (bytes : List ℕ) (t : FileTime) → (r.number == number) ≡ b → IsStored files r
+    → IsStored (put number (Some (record { bytes = bytes; time = t })) files) (cond b (record r { time = t }) r)
+filled_stored files true number r bytes t e s file =
+    ap (λ n. option_map (λ s. s.time) (put number (Some (record { bytes = bytes; time = t })) files n)) (equal_keys r.number number e)
+    ∙ ap (option_map (λ s. s.time)) (put_same number (Some (record { bytes = bytes; time = t })) files)
+filled_stored files false number r bytes t e s file =
+    ap (option_map (λ s. s.time)) (put_other number r.number (Some (record { bytes = bytes; time = t })) files (other_keys r.number number e)) ∙ s file
+
+filled_good : (w : World) (number : ℕ) (bytes : List ℕ) (t : FileTime) → Good w → Good (filled_now number bytes t w)
+filled_good w number bytes t g = record {
+  tree = mapped_tree w.tree (timed_number number t) g.tree (timed_maps w.tree number t g.tree);
+  stored = λ y i.
+      (let (r, at, e) = in_map (timed_number number t) w.tree y i in
+      rw e (filled_stored w.files (r.number == number) number r bytes t refl (g.stored r at)));
+  numbers = λ y i.
+      (let (r, at, e) = in_map (timed_number number t) w.tree y i in
+      rw (e, number_same (r.number == number) t r) (g.numbers r at));
+}
+
+timed_given : (b : Bool) (g : ℕ) (l t : FileTime) (r : Row) → IsTick l t → IsGiven g l r.number r.time
+    → IsGiven g t (cond b (record r { time = t }) r).number (cond b (record r { time = t }) r).time
+timed_given true g l t r tick given = record { within = given.within; nanos = tick.nanos; past = not_after_itself t }
+timed_given false g l t r tick given = given_still g g l t r.number r.time (omega arith) tick.later given
+
+filled_bounded : (w : World) (number : ℕ) (bytes : List ℕ) (t : FileTime) → Bounded w → IsTick w.latest t → number ≤ w.greatest → Bounded (filled_now number bytes t w)
+filled_bounded w number bytes t g tick le = record {
+  rows = λ y i.
+      (let (r, at, e) = in_map (timed_number number t) w.tree y i in
+      rw e (timed_given (r.number == number) w.greatest w.latest t r tick (g.rows r at)));
+  files = λ k f e. put_given (k == number) w.greatest t number k _ f (w.files k) refl (record { within = le; nanos = tick.nanos; past = not_after_itself t })
+      (λ e. given_still w.greatest w.greatest w.latest t k f.time (omega arith) tick.later (g.files k f e)) e;
+  opens = g.opens;
+  nanos = tick.nanos;
+}
+
+timed_plain : (b : Bool) (t : FileTime) (r : Row) → IsPlain r → IsPlain (cond b (record r { time = t }) r)
+timed_plain true t r plain = plain
+timed_plain false t r plain = plain
+
+pub plain_numbered : (number : ℕ) (t : FileTime) (rows : List Row) → ArePlain rows → ArePlain (map (timed_number number t) rows)
+plain_numbered number t rows all =
+    All-map IsPlain (timed_number number t) rows (All-weaker IsPlain (λ r. IsPlain (timed_number number t r)) (λ r plain. timed_plain (r.number == number) t r plain) rows all)
+
+-- what holds of a disk's world
+pub record Holding (w : World) : Type 0 where
+  pub tree : is_tree w.tree ≡ true
+  pub plain : ArePlain w.tree
+  pub stored : AreStored w.tree w.files
+  pub given : AreGiven w.tree w.files w.opens w.greatest w.latest
+
+pub filled_holding : (w : World) (number : ℕ) (bytes : List ℕ) (t : FileTime) → Holding w → tick w.latest ≡ Some t → number ≤ w.greatest → Holding (filled_now number bytes t w)
+filled_holding w number bytes t h e le =
+    let kept = kept_of (filled_now number bytes t w) (filled_now number bytes t w) refl (filled_good w number bytes t (good_of w h.tree h.stored h.given)) in
+    record {
+      tree = kept.tree;
+      plain = plain_numbered number t w.tree h.plain;
+      stored = kept.stored;
+      given = given_of (filled_now number bytes t w) (filled_bounded w number bytes t (bounded_of w h.given) (ticked w.latest t h.given.nanos e) le);
+    }
+
+-- the same of rows and files that are those of a world
+pub held_by : (v : World) (rows : List Row) (files : ℕ → Option Stored) → rows ≡ v.tree → files ≡ v.files → Holding v → Holding (record v { tree = rows; files = files })
+held_by v rows files e f h =
+    subst (λ (r : List Row). Holding (record v { tree = r; files = files })) (sym e) (subst (λ (g : ℕ → Option Stored). Holding (record v { files = g })) (sym f) h)
+
+-- ---- what a call answers that fills a file
+
+same_at : (number : ℕ) (bytes : List ℕ) (w : World) (b : Bool) → bytes_eq bytes (bytes_of w number) ≡ b → edited (fills number bytes) w ≡ cond b (Some w) (filled_at number bytes (tick w.latest) w)
+same_at number bytes w b e = ap (λ b. cond b (Some w) (filled_at number bytes (tick w.latest) w)) e
+
+other_at : (number : ℕ) (bytes : List ℕ) (w : World) (o : Option FileTime) → bytes_eq bytes (bytes_of w number) ≡ false → tick w.latest ≡ o → edited (fills number bytes) w ≡ filled_at number bytes o w
+other_at number bytes w o e f = same_at number bytes w false e ∙ ap (λ o. filled_at number bytes o w) f
+
+-- bytes that stay equal
+pub fills_same : (allowed : Allowed) (number : ℕ) (bytes : List ℕ) (k : Known) → allowed ≡ Ok (Some (fills number bytes)) → bytes_eq bytes (bytes_of k.world number) ≡ true → MakesAt allowed k (Ok tt) k
+fills_same allowed number bytes k h e = (Some (fills number bytes), h, same_at number bytes k.world true e, refl)
+
+-- no tick is left
+pub fills_spent : (allowed : Allowed) (number : ℕ) (bytes : List ℕ) (k : Known) → allowed ≡ Ok (Some (fills number bytes)) → bytes_eq bytes (bytes_of k.world number) ≡ false → tick k.world.latest ≡ None
+    → MakesAt allowed k (Err Failed) k
+fills_spent allowed number bytes k h e f = (refl, ap (λ a. is_spent a k.world) h ∙ ap is_none (other_at number bytes k.world None e f))
+
+fills_left : (number : ℕ) (bytes : List ℕ) (w : World) (t : FileTime) → bytes_eq bytes (bytes_of w number) ≡ false → tick w.latest ≡ Some t → is_none (edited (fills number bytes) w) ≡ false
+fills_left number bytes w t e f = ap is_none (other_at number bytes w (Some t) e f)
+
+pub fills_memory : (allowed : Allowed) (number : ℕ) (bytes : List ℕ) (k : Known) (t : FileTime) → allowed ≡ Ok (Some (fills number bytes)) → bytes_eq bytes (bytes_of k.world number) ≡ false → tick k.world.latest ≡ Some t
+    → MakesAt allowed k (Err NoMemory) k
+fills_memory allowed number bytes k t h e f = (refl, ap (λ a. is_spent a k.world) h ∙ fills_left number bytes k.world t e f)
+
+-- the bytes were stored, or memory was refused
+pub fills_stored : (allowed : Allowed) (number : ℕ) (bytes : List ℕ) (k n : Known) (t : FileTime) (result : Result Unit DiskError) → allowed ≡ Ok (Some (fills number bytes))
+    → bytes_eq bytes (bytes_of k.world number) ≡ false → tick k.world.latest ≡ Some t
+    → OnOk result (n ≡ record k { world = filled_now number bytes t k.world }) → OnErr result ((n ≡ k) × (result ≡ Err NoMemory)) → MakesAt allowed k result n
+fills_stored allowed number bytes k n t result h e f ok err =
+    make_at allowed (fills number bytes) k n (filled_now number bytes t k.world) result h (fills_left number bytes k.world t e f) (other_at number bytes k.world (Some t) e f) ok err

@@ -1,0 +1,49 @@
+use Rattle.std.proofs.Common.{◌≡◌, Some, true, false, ap, sym, ◌∙◌, refl}
+use Rattle.dav_core.specs.Tables.{at_key}
+use Rattle.dav_core.specs.Writing.{can_write, appends, write_place}
+use Rattle.dav_disk.specs.Calls.{Known}
+use Rattle.dav_disk.specs.Files.{open_of, live_of}
+use Rattle.dav_disk.specs.Memory.{known_of}
+use Rattle.dav_disk.proofs.Opened.{at_map, place_set}
+use Rattle.dav_disk.proofs.GivenStay.{place_given}
+use Rattle.dav_disk.proofs.Then.{writes_ok, writes_err, writes_not}
+use Rattle.dav_disk.proofs.memory.Memory.write.Goals as goal
+
+pub write_into-requires-clause-given : goal.write_into-requires-clause-given
+write_into-requires-clause-given c = c.args.self.now.given.opens c.args.file.0 (open_of c.open_file-opened.result) (at_map open_of _ _ c.open_file-opened.ensures)
+
+pub invariant_of-self : goal.invariant_of-self
+invariant_of-self c = record {
+  tree = c.write_into.new.self.tree;
+  plain = c.write_into.new.self.plain;
+  stored = c.write_into.new.self.stored;
+  given = place_given (known_of c.write_into.new.self).world _ _ c.args.file.0 c.open_file-opened.result _ c.write_into.new.self.given
+      (ap (λ t. at_key t c.args.file.0) c.write_into.ensures.opens ∙ c.open_file-opened.ensures) c.set_place.ensures;
+}
+
+pub returns-then-not-can_be_written : goal.returns-then-not-can_be_written
+returns-then-not-can_be_written c =
+    writes_not (known_of c.args.self.now) c.args.file.0 c.args.from.now (open_of c.open_file-opened.result) (at_map open_of _ _ c.open_file-opened.ensures)
+    (ap can_write (at_map live_of _ _ c.open_file-opened.ensures) ∙ sym c.can_be_written.ensures ∙ c.if-not-can_be_written.true)
+
+pub returns-in-Err : goal.returns-in-Err
+returns-in-Err c =
+    let k : Known = known_of c.args.self.now in
+    let live = at_map live_of _ _ c.open_file-opened.ensures in
+    writes_err k (known_of c.write_into.new.self) c.args.file.0 c.args.from.now (open_of c.open_file-opened.result) c.place_of-place.result c.in-Err.e (record {
+      opened = at_map open_of _ _ c.open_file-opened.ensures;
+      can = ap can_write live ∙ sym c.can_be_written.ensures ∙ c.if-not-can_be_written.false;
+      at = c.place_of-place.ensures ∙ ap (λ l. write_place (appends l) k.world (open_of c.open_file-opened.result)) (sym live);
+    }) c.in-Err.ensures.made
+
+pub returns : goal.returns
+returns c =
+    let k : Known = known_of c.args.self.now in
+    let live = at_map live_of _ _ c.open_file-opened.ensures in
+    writes_ok k (known_of c.write_into.new.self) _ c.args.file.0 c.args.from.now (open_of c.open_file-opened.result) c.place_of-place.result c.in-Ok.end (record {
+      opened = at_map open_of _ _ c.open_file-opened.ensures;
+      can = ap can_write live ∙ sym c.can_be_written.ensures ∙ c.if-not-can_be_written.false;
+      at = c.place_of-place.ensures ∙ ap (λ l. write_place (appends l) k.world (open_of c.open_file-opened.result)) (sym live);
+    }) c.in-Ok.ensures.made c.in-Ok.ensures.end
+    (place_set (known_of c.write_into.new.self).world _ _ c.args.file.0 c.open_file-opened.result c.in-Ok.end
+    (ap (λ t. at_key t c.args.file.0) c.write_into.ensures.opens ∙ c.open_file-opened.ensures) c.set_place.ensures)
