@@ -2,3 +2,5 @@ mod OwnTags
 mod Unconditional
 mod KeptOpen
 mod TableLines
+mod PiecesWritten
+mod FilePut

@@ -6,8 +6,11 @@ mod fields;
 mod lines;
 mod making;
 mod outcomes;
+mod pouring;
+mod putting;
 mod standing;
 
 pub use conditions::{if_match, ifrange_match, ranges_are_heard, reads};
 pub use fields::first_value;
 pub use making::{mkaddressbook, mkcalendar, mkcol};
+pub use putting::put;
