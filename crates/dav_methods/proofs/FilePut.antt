@@ -1,16 +1,16 @@
 -- A PUT from the opening of its file on.
-use Rattle.std.proofs.Common.{◌≡◌, ◌≢◌, ◌||◌, ◌⊎◌, inl, inr, Bool, true, false, ℕ, Option, None, Some, IsSome, Result, Ok, Err, IfOk, length, refl, subst, ◌∙◌}
+use Rattle.std.proofs.Common.{◌≡◌, ◌||◌, Bool, true, false, ℕ, None, Result, Ok, Err, IfOk, length, refl, subst, ◌∙◌}
 use Rattle.dav_core.specs.declared.error.FsError.{FsError}
 use Rattle.dav_core.specs.declared.handle.OpenOptions.{OpenOptions}
 use Rattle.dav_core.specs.DavPath.{WebPath}
 use Rattle.dav_core.specs.Statuses.{of_fs}
-use Rattle.dav_store.specs.Bodies.{BodyState, GivesPiece}
-use Rattle.dav_store.specs.Frames.{IsOpened, KeepsOpen, KeepsOpenBut, OpensOne}
+use Rattle.dav_store.specs.Bodies.{BodyState}
+use Rattle.dav_store.specs.Frames.{KeepsOpen, KeepsOpenBut, OpensOne}
 use Rattle.dav_store.specs.View.{View, Closes}
 use Rattle.dav_model.specs.declared.outcome.Outcome.{Outcome}
 use Rattle.dav_methods.specs.Lines.{Given, Line, unless}
 use Rattle.dav_methods.specs.Pouring.{FileStays, Pours, Stops, Writes}
-use Rattle.dav_methods.specs.Putting.{AfterChecks, AfterOpening, PoursInto, put_options}
+use Rattle.dav_methods.specs.Putting.{AfterChecks, AfterOpening, put_options}
 use Rattle.dav_methods.proofs.KeptOpen.{but_kept, but_then, open_closed}
 
 or_true : (b : Bool) → (b || true) ≡ true

@@ -4,3 +4,7 @@ mod KeptOpen
 mod TableLines
 mod PiecesWritten
 mod FilePut
+mod MembersRead
+mod Lighter
+mod WorkDone
+mod LineRows

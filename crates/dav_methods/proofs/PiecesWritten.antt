@@ -1,5 +1,5 @@
 -- What is known of a file into which pieces of a body went.
-use Rattle.std.proofs.Common.{◌≡◌, ◌≤◌, ◌<◌, ◌+◌, ◌++◌, ◌⊎◌, inl, inr, ℕ, List, [], length, Option, None, Some, IsSome, Result, Ok, Err, refl, sym, ap, subst, ◌∙◌, arith, length-append}
+use Rattle.std.proofs.Common.{◌≡◌, ◌<◌, ◌++◌, inl, inr, ℕ, List, [], length, Option, Some, IsSome, Result, Ok, Err, refl, sym, subst, ◌∙◌, arith, length-append}
 use Rattle.dav_core.specs.declared.dav_error.DavError.{DavError}
 use Rattle.dav_core.specs.declared.error.FsError.{FsError}
 use Rattle.dav_core.specs.Disk.{Live}

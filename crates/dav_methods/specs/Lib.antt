@@ -4,3 +4,6 @@ pub mod Lines
 pub mod Table
 pub mod Pouring
 pub mod Putting
+pub mod Reading
+pub mod Removing
+pub mod Weights

@@ -1,6 +1,7 @@
 //! The preconditions of a request, and the methods that write, over any store.
 #![tactic(auto)]
 
+mod child;
 mod conditions;
 mod fields;
 mod lines;
@@ -8,9 +9,13 @@ mod making;
 mod outcomes;
 mod pouring;
 mod putting;
+mod reading;
+mod removing;
 mod standing;
+mod work;
 
 pub use conditions::{if_match, ifrange_match, ranges_are_heard, reads};
 pub use fields::first_value;
 pub use making::{mkaddressbook, mkcalendar, mkcol};
 pub use putting::put;
+pub use removing::delete;
