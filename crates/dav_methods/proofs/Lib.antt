@@ -3,3 +3,9 @@ mod Unconditional
 mod Joined
 mod KeptOpen
 mod TableLines
+mod PiecesWritten
+mod FilePut
+mod MembersRead
+mod Lighter
+mod WorkDone
+mod LineRows

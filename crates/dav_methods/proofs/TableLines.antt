@@ -1,6 +1,5 @@
 -- Lines of a table that were judged where memory may be refused.
-use Rattle.std.proofs.Common.{◌≡◌, ◌⊎◌, inl, inr, ap, sym, subst, ◌∙◌, Result, Ok, Err}
-use Rattle.dav_core.specs.declared.dav_error.DavError.{DavError}
+use Rattle.std.proofs.Common.{◌≡◌, ◌⊎◌, inl, inr, ap, subst, ◌∙◌, Err}
 use Rattle.dav_core.specs.declared.dav_error.DavError.TheVariants.{NoMemory}
 use Rattle.dav_model.specs.declared.outcome.Outcome.{Outcome}
 use Rattle.dav_methods.specs.Lines.{Given, Line, unless}

@@ -2,3 +2,8 @@ pub mod Standing
 pub mod Names
 pub mod Lines
 pub mod Table
+pub mod Pouring
+pub mod Putting
+pub mod Reading
+pub mod Removing
+pub mod Weights

@@ -2,15 +2,23 @@
 //! write, over any store.
 #![tactic(auto)]
 
+mod child;
 mod conditions;
 mod fields;
 mod lines;
 mod making;
 mod outcomes;
+mod pouring;
+mod putting;
+mod reading;
+mod removing;
 mod standing;
 mod telling;
+mod work;
 
 pub use conditions::{if_match, ifrange_match, ranges_are_heard, reads};
 pub use fields::first_value;
 pub use making::{mkaddressbook, mkcalendar, mkcol};
+pub use putting::put;
+pub use removing::delete;
 pub use telling::{is_among, options};

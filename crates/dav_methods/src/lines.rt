@@ -4,7 +4,7 @@ ghost use Rattle.dav_core.specs.declared.error.FsError.{FsError};
 ghost use Rattle.dav_core.specs.Info.{Info};
 ghost use Rattle.dav_core.specs.Unchanged.{Keeps};
 ghost use Rattle.dav_model.specs.Conditions.{condition_of};
-ghost use Rattle.dav_methods.specs.Lines.{found_or_failed, may_make as the_may_make, may_put as the_may_put, no_parent, refused_but_missing, with_status};
+ghost use Rattle.dav_methods.specs.Lines.{found_or_failed, may_delete, may_make as the_may_make, may_put as the_may_put, no_parent, refused_but_missing, with_status};
 
 use crate::conditions::if_match;
 use dav_core::{DavError, DavMetaData, DavMethod, DavPath, FsError};
@@ -117,4 +117,15 @@ pub fn pass_parent<S: GuardedFileSystem<C>, C>(
         }
         Err(refusal) => Err(parent_refused(refusal)),
     }
+}
+
+// Lets a DELETE go on over what stands.
+pub fn may_delete_it<M: DavMetaData>(
+    alloc: Global,
+    fields: &HeaderMap,
+    meta: &M,
+) -> Result<(), DavError>
+    ensures { (result ≡ Err DavError.NoMemory) ⊎ (result ≡ may_delete fields.now (Ok (M.info meta.now))) }
+{
+    pass_met(alloc, DavMethod::Delete, fields, Some(meta))
 }

@@ -1,7 +1,8 @@
 // The answers of the methods that write, where all was done.
 ghost use Rattle.std.specs.Prelude.{◌≡◌, IfOk};
-ghost use Rattle.dav_methods.specs.Lines.{made, silent as the_silent};
+ghost use Rattle.dav_methods.specs.Lines.{made, silent as the_silent, unless};
 
+use dav_core::DavError;
 use dav_io::{Field, FieldName, Items, NoMemory, Octets, Text};
 use dav_model::Outcome;
 use std::alloc::Global;
@@ -27,5 +28,15 @@ pub fn silent(alloc: Global) -> Outcome
     Outcome {
         status: 204,
         fields: Items::new(Vec::new(alloc)),
+    }
+}
+
+// The answer where no line fits, or its error.
+pub fn answer(line: Result<(), DavError>, outcome: Outcome) -> Result<Outcome, DavError>
+    ensures { result ≡ unless line outcome }
+{
+    match line {
+        Ok(()) => Ok(outcome),
+        Err(error) => Err(error),
     }
 }

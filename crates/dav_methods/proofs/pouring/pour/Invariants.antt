@@ -1,0 +1,15 @@
+use Rattle.std.proofs.Common.{◌≡◌, ◌-◌}
+use Rattle.dav_store.specs.View.{the_view}
+use Rattle.dav_methods.specs.Pouring.{most_bytes}
+use Rattle.dav_methods.proofs.PiecesWritten.{SoFar}
+use Rattle.dav_methods.proofs.pouring.pour.Given as goal
+
+abbrev pub invariant-pieces : goal.invariant-pieces
+invariant-pieces g l = record {
+  far : SoFar (the_view g.S.GuardedFileSystem g.S.Disk.Disk g.S.File.DavFile) g.S.File.DavFile.writes l.initial.fs l.initial.file (g.B.BodyReader.state l.initial.body) l.total
+      l.fs l.file (g.B.BodyReader.state l.body);
+  body_loan : g.B.BodyReader.loan l.body ≡ g.B.BodyReader.loan l.initial.body;
+}
+
+abbrev pub decreases-pieces : goal.decreases-pieces
+decreases-pieces g l = most_bytes - l.total

@@ -1,0 +1,5 @@
+use Rattle.dav_core.proofs.UnchangedLemmas.{keeps_then}
+use Rattle.dav_methods.proofs.putting.check.Goals as goal
+
+pub returns-clause-keeps : goal.returns-clause-keeps
+returns-clause-keeps g c = keeps_then _ _ _ c.pass_parent.ensures.keeps c.may_replace.ensures.keeps

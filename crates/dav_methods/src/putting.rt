@@ -1,0 +1,144 @@
+//! PUT: a file gets the body of the request.
+ghost use Rattle.std.specs.Prelude.{◌≡◌, ◌⊎◌, true, IfOk, Ok, Err};
+ghost use Rattle.dav_core.specs.Unchanged.{Keeps};
+ghost use Rattle.dav_store.specs.Frames.{KeepsOpen};
+ghost use Rattle.dav_store.specs.View.{the_view};
+ghost use Rattle.dav_methods.specs.Lines.{made, may_put, silent as the_silent, unless};
+ghost use Rattle.dav_methods.specs.Putting.{AfterChecks, MayPut, MayReplace, Puts, put_options as the_put_options};
+
+use crate::lines::{may_put_new, may_put_over, pass_parent};
+use crate::outcomes::{answer, created, silent};
+use crate::pouring::pour;
+use dav_core::{DavError, DavMetaData, DavPath, FsError, OpenOptions};
+use dav_model::Outcome;
+use dav_store::{BodyReader, GuardedFileSystem, file_close};
+use http::{HeaderMap, StatusCode};
+use std::alloc::Global;
+
+// How a PUT opens its file: it is made where nothing stands, and emptied where a file does.
+fn put_options() -> OpenOptions
+    ensures { result ≡ the_put_options }
+{
+    OpenOptions {
+        read: false,
+        write: true,
+        append: false,
+        truncate: true,
+        create: true,
+        create_new: false,
+    }
+}
+
+// The answer of a PUT over what stands, or its refusal.
+fn put_over<M: DavMetaData>(
+    alloc: Global,
+    fields: &HeaderMap,
+    meta: &M,
+) -> Result<Outcome, DavError>
+    ensures { (result ≡ Err DavError.NoMemory) ⊎ (result ≡ unless (may_put fields.now (Ok (M.info meta.now)))
+        the_silent) }
+{
+    answer(may_put_over(alloc, fields, meta), silent(alloc))
+}
+
+// The answer of a PUT where a look was refused, or its refusal.
+fn put_new(alloc: Global, fields: &HeaderMap, refusal: FsError) -> Result<Outcome, DavError>
+    ensures { (result ≡ Err DavError.NoMemory) ⊎ (result ≡ unless (may_put fields.now (Err refusal)) made) }
+{
+    let outcome = created(alloc)?;
+    answer(may_put_new(alloc, fields, refusal), outcome)
+}
+
+// Refuses what a PUT may not replace, and gives the answer to be given where all goes well.
+fn may_replace<S: GuardedFileSystem<C>, C>(
+    alloc: Global,
+    fs: &mut S,
+    credentials: &C,
+    path: &DavPath,
+    fields: &HeaderMap,
+) -> Result<Outcome, DavError>
+    ensures table { MayReplace (the_view S.GuardedFileSystem S.Disk.Disk S.File.DavFile) credentials.now path.now
+        fields.now fs.old result fs.new }
+    ensures keeps { Keeps (S.Disk.state (S.inside fs.old)) (S.Disk.state (S.inside fs.new)) }
+    ensures loan { S.Disk.loan (S.inside fs.new) ≡ S.Disk.loan (S.inside fs.old) }
+{
+    match fs.metadata(path, credentials) {
+        Ok(meta) => put_over(alloc, fields, &meta),
+        Err(refusal) => put_new(alloc, fields, refusal),
+    }
+}
+
+// Refuses a PUT before anything is opened, and gives the answer to be given where all goes well.
+fn check<S: GuardedFileSystem<C>, C>(
+    alloc: Global,
+    fs: &mut S,
+    credentials: &C,
+    path: &DavPath,
+    fields: &HeaderMap,
+) -> Result<Outcome, DavError>
+    ensures table { MayPut (the_view S.GuardedFileSystem S.Disk.Disk S.File.DavFile) credentials.now path.now
+        fields.now fs.old result fs.new }
+    ensures keeps { Keeps (S.Disk.state (S.inside fs.old)) (S.Disk.state (S.inside fs.new)) }
+    ensures loan { S.Disk.loan (S.inside fs.new) ≡ S.Disk.loan (S.inside fs.old) }
+{
+    if path.is_collection() {
+        return Err(DavError::Status(StatusCode::METHOD_NOT_ALLOWED));
+    }
+    let above = path.parent()?;
+    pass_parent(fs, credentials, &above)?;
+    may_replace(alloc, fs, credentials, path, fields)
+}
+
+// Opens the file, writes the body to it, and closes it.
+fn put_body<S: GuardedFileSystem<C>, C, B: BodyReader>(
+    fs: &mut S,
+    credentials: &C,
+    path: &DavPath,
+    outcome: Outcome,
+    body: &mut B,
+) -> Result<Outcome, DavError>
+    ensures table { AfterChecks (the_view S.GuardedFileSystem S.Disk.Disk S.File.DavFile) S.File.writes
+        credentials.now (Ok outcome) path.now (B.state body.old) fs.old result fs.new (B.state body.new) }
+    ensures keeps { KeepsOpen (S.Disk.state (S.inside fs.old)) (S.Disk.state (S.inside fs.new)) }
+    ensures loan { S.Disk.loan (S.inside fs.new) ≡ S.Disk.loan (S.inside fs.old) }
+    ensures body_loan { B.loan body.new ≡ B.loan body.old }
+{
+    let mut file = match fs.open(path, put_options(), credentials) {
+        Ok(file) => file,
+        Err(refusal) => return Err(DavError::from(refusal)),
+    };
+    let ended = pour::<S, C, B>(fs, &mut file, body);
+    file_close(fs, file);
+    answer(ended, outcome)
+}
+
+/// Answers a PUT (RFC 9110, section 9.3.4, and RFC 4918, section 9.7) over any store: 201 where nothing stood at the
+/// path, 204 where a file did. The reader gave its last piece before; each piece is written as it comes.
+///
+/// Errors, in this order: 405 where a slash ends the path; 409 where no directory stands above, or the refusal of a look
+/// there that failed; a refused look at the path, unless nothing stands; 405 where a directory stands; 412 where a
+/// precondition isn't met; the refusal of the opening; and then, the file holding the pieces that were written, `Body`
+/// where the reader failed, 413 where it gave 2^60 bytes, and the refusal of a writing. Want of memory comes only before
+/// the opening, or from the store. Up to the opening the reader is as it was. `table` tells which call of the store and
+/// the reader gave the answer.
+pub fn put<S: GuardedFileSystem<C>, C, B: BodyReader>(
+    alloc: Global,
+    fs: &mut S,
+    credentials: &C,
+    path: &DavPath,
+    fields: &HeaderMap,
+    body: &mut B,
+) -> Result<Outcome, DavError>
+    ensures table { Puts (the_view S.GuardedFileSystem S.Disk.Disk S.File.DavFile) S.File.writes credentials.now
+        path.now fields.now (B.state body.old) fs.old result fs.new (B.state body.new) }
+    ensures read { IfOk result (λ _. (B.state body.new).ended ≡ true) }
+    ensures keeps { KeepsOpen (S.Disk.state (S.inside fs.old)) (S.Disk.state (S.inside fs.new)) }
+    ensures loan { S.Disk.loan (S.inside fs.new) ≡ S.Disk.loan (S.inside fs.old) }
+    ensures body_loan { B.loan body.new ≡ B.loan body.old }
+{
+    let outcome = match check(alloc, fs, credentials, path, fields) {
+        Ok(outcome) => outcome,
+        Err(error) => return Err(error),
+    };
+    put_body(fs, credentials, path, outcome, body)
+}
