@@ -56,6 +56,17 @@ impl<S, C> DavConfig<S, C> {
         }
     }
 
+    /// Takes these settings in place of all that was set.
+    pub fn settings(self, settings: Settings) -> Self
+    where
+        S: Drop,
+        ensures { result ≡ record self { settings = settings } }
+    {
+        let mut config = self;
+        config.settings = settings;
+        config
+    }
+
     /// Sets the store.
     pub fn filesystem(self, fs: S) -> Self
     where
@@ -77,7 +88,7 @@ impl<S, C> DavConfig<S, C> {
     }
 
     /// Sets the path under which the server stands: nothing for the root, or a text that begins with `/` and has plain
-    /// names (`DavPath::fits_prefix` tells).
+    /// names (`DavPath::prefix_fits` tells).
     ///
     /// Errors: want of memory; then the configuration is gone.
     pub fn strip_prefix(self, prefix: &str) -> Result<Self, NoMemory>

@@ -1,5 +1,5 @@
 -- The statuses of what the gates refuse.
-use Rattle.std.proofs.Common.{◌≡◌, ◌==◌, ◌&&◌, ℕ, zero, suc, List, [], ◌∷◌, Bool, true, false, cond, if◌then◌else◌, length, Option, None, Some, Result, Ok, Err, refl, subst}
+use Rattle.std.proofs.Common.{◌≡◌, ◌==◌, ◌&&◌, ℕ, zero, suc, List, [], ◌∷◌, Bool, true, false, cond, if◌then◌else◌, length, Option, None, Some, Result, Ok, Err, refl, sym, ap, ◌∙◌, subst, true≢false}
 use Rattle.std.specs.List.{list_all}
 use Rattle.std.specs.Prelude.{nat_lt}
 use Rattle.http.specs.declared.request.Parts.{Parts}
@@ -150,3 +150,32 @@ gate_listed settings stored head bytes status close refused =
     subst IsGate refused
     (weighed_gate head.headers (bulk_of bytes) (admitted settings stored head) (bytes_read (length bytes == 0) (nat_lt 65536 (length bytes)))
     (method_gate settings stored head (method_of head.method)))
+
+-- a refusal with 500 is not of the list
+never_listed : {X : Type 0} (status : ℕ) → IsListed status → status ≡ 500 → X
+never_listed status listed e = absurd (true≢false (sym listed ∙ ap (λ n. is_among n gate_statuses) e))
+
+-- A request passed the gates of its head, and its reader failed.
+pub record IsBroken (settings : Settings) (stored : Bool) (head : Parts) (bulk : Bulk) : Type 0 where
+  pub method : DavMethod
+  pub path : WebPath
+  pub passed : admitted settings stored head ≡ At method path
+  pub failed : bulk ≡ broken
+
+-- What the gates refuse with 500 is so.
+pub gate_broken : (settings : Settings) (stored : Bool) (head : Parts) (bulk : Bulk) (status : ℕ) (close : Bool) → gates settings stored head bulk ≡ Refused status close
+    → status ≡ 500 → IsBroken settings stored head bulk
+gate_broken settings stored head bulk status close refused e =
+    by_target (admitted settings stored head) refl (method_gate settings stored head (method_of head.method)) bulk refused
+  where
+    by_read : (bulk : Bulk) (target : Target) → IsRead bulk → IsGate target → weighed head.headers bulk target ≡ Refused status close → IsBroken settings stored head bulk
+    by_read bulk target read gate refused = never_listed status (subst IsGate refused (weighed_gate head.headers bulk target read gate)) e
+
+    by_target : (target : Target) → admitted settings stored head ≡ target → IsGate target → (bulk : Bulk) → weighed head.headers bulk target ≡ Refused status close
+        → IsBroken settings stored head bulk
+    by_target (Refused first shut) is gate bulk refused = let same : first ≡ status = cc in never_listed first gate (same ∙ e)
+    by_target Methods is gate bulk refused = cc
+    by_target (At method path) is gate none refused = by_read none (At method path) tt gate refused
+    by_target (At method path) is gate some refused = by_read some (At method path) tt gate refused
+    by_target (At method path) is gate much refused = by_read much (At method path) tt gate refused
+    by_target (At method path) is gate broken refused = record { method = method; path = path; passed = is; failed = refl }

@@ -21,16 +21,16 @@ use Rattle.dav_model.specs.declared.sent.Sent.TheVariants.{Unsatisfied}
 use Rattle.dav_model.specs.declared.target.Target.TheVariants.{At}
 use Rattle.dav_core.specs.declared.method.DavMethodSet.{DavMethodSet}
 use Rattle.dav_model.specs.Allowing.{allowing}
-use Rattle.dav_model.specs.Announced.{HasSoundBody, IsFramed, length_is_own}
+use Rattle.dav_model.specs.Announced.{HasSoundBody, IsFramed, length_is_own, value_of}
 use Rattle.dav_model.specs.Conditions.{Fields, condition, date_in, first_bytes, is_refused, is_unmodified, list_in, matches, ranges_are_heard, reads, repeated, strong}
-use Rattle.dav_model.specs.Head.{Reply, Stood, IsFileHead, address_of, directed, is_get, is_well_known, redirected, refusal, sent_by, sent_of, sent_parts_of, sent_ranges, sent_status, well_known}
+use Rattle.dav_model.specs.Head.{Reply, Stood, IsFileHead, address_of, directed, is_get, is_uncached, is_well_known, redirected, refusal, refused_with, sent_by, sent_of, sent_parts_of, sent_ranges, sent_status, well_known}
 use Rattle.dav_model.specs.Slices.{ranges}
 use Rattle.dav_core.specs.Tree.{is_dir}
 use Rattle.dav_model.proofs.Courses.{course_holds}
 use Rattle.dav_model.proofs.Framing.{directed_framed, framed_empty, framed_redirect, framed_well_known, index_framed, refused_framed, sent_framed}
 use Rattle.dav_model.proofs.Nonempty.{index_sound, sent_has, sent_sound, sound_empty}
 use Rattle.dav_model.specs.Indexes.{AreRowsOfSome}
-use Rattle.dav_model.specs.Due.{Query, Due, known, page, refused, to_slash, file, due, due_listed, due_looked, due_opened, due_course, due_kind, due_sent, course, dir_course, index_course, index_path, opening, IsHead, IsRight, IsSpoiled}
+use Rattle.dav_model.specs.Due.{Query, Due, known, page, refused, to_slash, file, due, due_listed, due_looked, due_opened, due_course, due_kind, due_sent, course, dir_course, index_course, index_path, opening, IsHead, IsRight, IsSpoiled, IsUnplaced}
 use Rattle.dav_core.specs.declared.method.DavMethod.TheVariants.{Get, Head}
 use Rattle.dav_io.specs.Counts.{Rose}
 use Rattle.dav_model.specs.declared.settings.Settings.{Settings}
@@ -74,7 +74,7 @@ right_framed q shown rose reply (inr (is, r)) = spoiled_framed q (due shown q) r
 
 -- ---- no part is empty
 
-refusal_sound : (fields : Fields) (status : ℕ) (close : Bool) (reply : Reply) → reply ≡ refusal fields status close → HasSoundBody reply
+pub refusal_sound : (fields : Fields) (status : ℕ) (close : Bool) (reply : Reply) → reply ≡ refusal fields status close → HasSoundBody reply
 refusal_sound fields status close reply is = sound_empty reply (ap (λ (r : Reply). r.parts) is)
 
 head_sound : (q : Query) (d : Due) (reply : Reply) → IsHead q d reply → HasSoundBody reply
@@ -100,6 +100,16 @@ spoiled_sound q (page dir members) reply (inr is) = index_sound (is_get q.method
 pub right_sound : (q : Query) (shown : Shown) (rose : Type 0) (reply : Reply) → IsRight q shown rose reply → HasSoundBody reply
 right_sound q shown rose reply (inl is) = head_sound q (due shown q) reply is
 right_sound q shown rose reply (inr (is, r)) = spoiled_sound q (due shown q) reply is
+
+-- A refusal announces that it has no body.
+refusal_length : (uncached close : Bool) (status : ℕ) → value_of (codes "content-length") (refused_with uncached status close).fields ≡ Some (codes "0")
+refusal_length true true status = refl
+refusal_length true false status = refl
+refusal_length false true status = refl
+refusal_length false false status = refl
+
+pub refusal_announces : (fields : Fields) (status : ℕ) (close : Bool) → value_of (codes "content-length") (refusal fields status close).fields ≡ Some (codes "0")
+refusal_announces fields status close = refusal_length (is_uncached fields status) close status
 
 -- ---- the statuses: 500 comes only where a fault was met
 
@@ -240,6 +250,21 @@ failed_by_fault q shown rose reply could right e = by_list (right_listed q shown
     by_list : (is_among reply.status right_statuses ≡ true) ⊎ ((reply.status ≡ 500) × rose) → rose
     by_list (inl listed) = absurd (true≢false (sym listed ∙ ap (λ n. is_among n right_statuses) e))
     by_list (inr (is, r)) = r
+
+-- A right reply is 500 only where a refusal with 500 is due.
+never_500 : {X : Type 0} (reply : Reply) → IsListed reply.status → reply.status ≡ 500 → X
+never_500 reply listed e = absurd (true≢false (sym listed ∙ ap (λ n. is_among n right_statuses) e))
+
+pub head_fails : (q : Query) (d : Due) (reply : Reply) → IsHead q d reply → reply.status ≡ 500 → (close : Bool) × (d ≡ refused 500 close)
+head_fails q known reply is e = never_500 reply (head_listed q known reply tt is) e
+head_fails q (refused status close) reply is e = (close, ap (λ n. refused n close) (sym (ap (λ (r : Reply). r.status) is) ∙ e))
+head_fails q (to_slash path) reply is e = never_500 reply (head_listed q (to_slash path) reply tt is) e
+head_fails q (file path stood) reply is e = never_500 reply (head_listed q (file path stood) reply tt is) e
+head_fails q (page dir members) reply is e = never_500 reply (head_listed q (page dir members) reply tt is) e
+
+-- One where no range could be met isn't.
+pub unplaced_stands : {X : Type 0} (q : Query) (path : WebPath) (stood : Stood) (reply : Reply) → IsUnplaced q path stood reply → reply.status ≡ 500 → X
+unplaced_stands q path stood reply unplaced e = let (date, dated, is) = unplaced.sent in never_500 reply (status_of reply _ is refl) e
 
 -- what the gates refuse, or the right reply to what they let through, announces the length of its body
 -- the answer to OPTIONS

@@ -76,10 +76,6 @@ has_field fields name = is_some (get fields name)
 abbrev pub is_built : Fields → DavMethod → Bool
 is_built fields method = (reads method || same_method method Options) && not (has_field fields (codes "if"))
 
--- fields that announce a body (RFC 9112, section 6.3)
-abbrev pub announces_body : Fields → Bool
-announces_body fields = has_field fields (codes "content-length") || has_field fields (codes "transfer-encoding")
-
 abbrev pub or_refused : Option Target → Option Target → Target → Target
 or_refused None None target = target
 or_refused None (Some refused) target = refused

@@ -73,7 +73,8 @@ pub fn bodies_have_the_announced_length()
 {}
 
 /// Of each right reply, and of what may stand in its place: `content-length` is the length of its body, no part of the body
-/// is empty, and 500 comes only where a fault was met, over what a disk's store could show.
+/// is empty, and 500 comes only where a fault was met, over what a disk's store could show. A refusal of any method, known
+/// or unknown, has no body, and announces so.
 pub fn right_replies_are_framed()
     ensures framed { (q : Query) (shown : Shown) (before after : ℕ) (reply : Reply)
         → IsRight q shown (Rose before after) reply → IsFramed (At q.method q.path) reply }
@@ -81,6 +82,9 @@ pub fn right_replies_are_framed()
         → IsRight q shown (Rose before after) reply → HasSoundBody reply }
     ensures failed { (q : Query) (shown : Shown) (before after : ℕ) (reply : Reply)
         → CouldShow shown → IsRight q shown (Rose before after) reply → reply.status ≡ 500 → Rose before after }
+    ensures refused { (target : Target) (fields : Fields) (status : ℕ) (close : Bool)
+        → IsFramed target (refusal fields status close) × HasSoundBody (refusal fields status close)
+        × (value_of (codes "content-length") (refusal fields status close).fields ≡ Some (codes "0")) }
 {}
 
 /// Each reply is well-formed: its status is one of a list, the names of its fields ascend and none stands twice, each name is
