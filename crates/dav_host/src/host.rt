@@ -8,7 +8,7 @@ ghost use Rattle.std.specs.IoError.{error_kind};
 use crate::keys::free_key;
 use crate::listings::{HostListing, listing_of, next_name};
 use crate::meta::meta_of;
-use crate::opens::{HostFile, can_read, meta_at, open_meta, read_at, seek_at};
+use crate::opens::{HostFile, Opens, can_read, free_handle, meta_at, open_meta, read_at, seek_at};
 use crate::paths::{ROOM, lay_path};
 use dav_core::{Disk, DiskError, FsPath, Handle, Lister, Meta, OpenOptions};
 use dav_io::{NoMemory, Text};
@@ -30,7 +30,7 @@ pub struct HostDisk<R: Files + AllocGlobal + Clone + Drop> {
     path: String,
     faults: u64,
     asked: u64,
-    opens: BTreeMap<u32, HostFile<R::File>>,
+    opens: Opens<R::File>,
     listings: BTreeMap<u32, HostListing<R>>,
     ghost room: { room ≤ string_capacity path },
 }
@@ -86,7 +86,7 @@ impl<R: Files + AllocGlobal + Clone + Drop> HostDisk<R> {
             path: String::with_capacity(alloc, ROOM)?,
             faults: 0,
             asked: 0,
-            opens: BTreeMap::new(alloc),
+            opens: Opens::new(alloc),
             listings: BTreeMap::new(alloc),
         })
     }
@@ -135,7 +135,7 @@ impl<R: Files + AllocGlobal + Clone + Drop> Disk for HostDisk<R> {
 
     fn open(&mut self, path: &FsPath, how: OpenOptions, public: bool) -> Result<Handle, DiskError> {
         self.asked = self.asked.saturating_add(1);
-        let Some(handle) = free_key(&self.opens) else {
+        let Some(handle) = free_handle(&self.opens) else {
             return Err(DiskError::NoMemory);
         };
         if !lay_path(&mut self.path, self.root.as_str(), path.as_slice()) {
@@ -185,7 +185,7 @@ impl<R: Files + AllocGlobal + Clone + Drop> Disk for HostDisk<R> {
     }
 
     fn close(&mut self, file: Handle) {
-        let _ = self.opens.remove(&file.0);
+        self.opens.remove(file.0);
     }
 
     fn list(&mut self, path: &FsPath) -> Result<Lister, DiskError> {
