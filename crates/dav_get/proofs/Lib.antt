@@ -21,3 +21,4 @@ pub mod HeardCouldStand
 pub mod Pages
 pub mod PageMembers
 pub mod SoundPages
+pub mod NoRanges

@@ -32,7 +32,8 @@ fn of_ranges(ranges: Ranges) -> Sent
 }
 
 /// What of a file is sent in answer to these fields. A precondition that fails decides; otherwise the ranges, where
-/// they are heard.
+/// they are heard. Where there are none, nobody asks whether they would be.
+#[tactic(auto, using(crate::proofs::NoRanges::none_asked))]
 pub(crate) fn decide<M: DavMetaData>(
     alloc: Global,
     method: DavMethod,
@@ -45,10 +46,14 @@ pub(crate) fn decide<M: DavMetaData>(
     if let Some(status) = if_match(alloc, method, fields, Some(meta))? {
         return Ok(Sent::Alone(status.as_u16()));
     }
+    let range = first_value(fields, &RANGE);
+    if range.is_none() {
+        return Ok(Sent::All);
+    }
     if !are_heard(alloc, fields, meta)? {
         return Ok(Sent::All);
     }
-    let ranges = slices(alloc, first_value(fields, &RANGE), meta.len())?;
+    let ranges = slices(alloc, range, meta.len())?;
     Ok(of_ranges(ranges))
 }
 

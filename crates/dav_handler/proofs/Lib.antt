@@ -8,3 +8,4 @@ pub mod Handles
 pub mod HeardShown
 pub mod PlainShown
 pub mod ListsRefuse
+pub mod Tables

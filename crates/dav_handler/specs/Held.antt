@@ -1,10 +1,9 @@
 -- What a player keeps of its open bodies.
-use Rattle.std.specs.Prelude.{◌≡◌, ◌≤◌, ℕ, List, [], true, is_some, Option, None, Some}
+use Rattle.std.specs.Prelude.{◌≡◌, ◌≤◌, ℕ, zero, suc, List, [], true, is_some, Option, None, Some}
 use Rattle.std.specs.List.{list_any}
-use Rattle.std.specs.BTreeMap.{BTreeMap, get_by}
-use Rattle.std.specs.Ordering.{nat_cmp}
 use Rattle.dav_core.specs.World.{World, put}
 use Rattle.dav_core.specs.Disk.{DiskState}
+use Rattle.dav_core.specs.Tables.{at_key}
 use Rattle.dav_model.specs.declared.answer.Answer.{Answer}
 use Rattle.dav_model.specs.Bodies.{Part}
 use Rattle.dav_store.specs.Standing.{Seen}
@@ -14,13 +13,19 @@ use Rattle.dav_get.specs.declared.body.GetBody.{GetBody}
 use Rattle.dav_get.specs.declared.open_at.OpenAt.{OpenAt}
 use Rattle.dav_get.specs.Bodies.{left_of, is_slice, IsHeld, Closes, IsPolled}
 use Rattle.dav_get.specs.Parts.{parts_of}
+use Rattle.dav_handler.specs.declared.bodies.Bodies.{Bodies}
 
 abbrev pub Body : Type 0
 Body = GetBody PlainFile
 
+-- a table whose value at 0 stands beside the others
+abbrev pub beside : {X : Type 0} → Option X → (ℕ → Option X) → ℕ → Option X
+beside first others zero = first
+beside first others (suc n) = others (suc n)
+
 -- the open body of a number
-abbrev pub body_at : BTreeMap ℕ Body → ℕ → Option Body
-body_at bodies n = get_by (nat_cmp n) bodies
+unfoldable pub body_at : Bodies → ℕ → Option Body
+body_at bodies = beside bodies.first (at_key bodies.later)
 
 -- the handle of an open file
 abbrev pub handle_of : PlainFile → ℕ

@@ -1,5 +1,5 @@
 // The table of open bodies.
-ghost use Rattle.std.specs.Prelude.{◌≡◌, ◌≤◌, ◌==◌, [], Some, None, IsSome, IsTrue, ◌↔◌, vec_len, vec_capacity};
+ghost use Rattle.std.specs.Prelude.{◌≡◌, ◌≤◌, ◌==◌, [], Some, None, IsSome, IsTrue, IfErr, OnOk, ◌↔◌, option_map, vec_len, vec_capacity};
 ghost use Rattle.dav_core.specs.World.{put};
 ghost use Rattle.dav_get.specs.Bodies.{IsHeld, IsPolled, left_of, next_most_of};
 ghost use Rattle.dav_plain.specs.Calls.{seen_by};
@@ -11,10 +11,73 @@ use dav_io::Octets;
 use dav_model::Answer;
 use dav_plain::{PlainFile, PlainFs};
 use dav_store::DavFileSystem;
+use std::alloc::{AllocFailed, Global};
 use std::collections::BTreeMap;
 
-/// The bodies that are open, by the numbers of their replies.
-pub type Bodies = BTreeMap<u32, GetBody<PlainFile>>;
+/// The bodies that are open, by the numbers of their replies. That of reply 0 stands beside the map, so that a player of
+/// one request takes no memory for it.
+#[derive(Drop)]
+pub struct Bodies {
+    pub first: Option<GetBody<PlainFile>>,
+    pub later: BTreeMap<u32, GetBody<PlainFile>>,
+}
+
+/// No body.
+#[tactic(auto, unfolding(crate::specs::Held::body_at))]
+pub fn no_bodies(alloc: Global) -> Bodies
+    ensures { body_at result ≡ (λ _. None) }
+{
+    Bodies {
+        first: None,
+        later: BTreeMap::new(alloc),
+    }
+}
+
+/// Keeps a body by its number. Where memory is refused it is given back, and nothing changes.
+#[tactic(auto, unfolding(crate::specs::Held::body_at))]
+pub fn hold_body(
+    bodies: &mut Bodies,
+    number: u32,
+    body: GetBody<PlainFile>,
+) -> Result<(), GetBody<PlainFile>>
+    ensures ok { OnOk result (body_at bodies.new ≡ put number (Some body) (body_at bodies.old)) }
+    ensures err { IfErr result (λ back. (back ≡ body) × (body_at bodies.new ≡ body_at bodies.old)) }
+{
+    if number == 0 {
+        bodies.first = Some(body);
+        return Ok(());
+    }
+    match bodies.later.insert(number, body) {
+        Ok(_) => Ok(()),
+        Err(failed) => {
+            let AllocFailed { value: (_, back) } = failed;
+            Err(back)
+        }
+    }
+}
+
+/// The open body of a number.
+#[tactic(auto, unfolding(crate::specs::Held::body_at))]
+pub fn open_body(bodies: &Bodies, number: u32) -> Option<&GetBody<PlainFile>>
+    ensures value { option_map (λ r. r.now) result ≡ body_at bodies.now number }
+{
+    if number == 0 {
+        return bodies.first.as_ref();
+    }
+    bodies.later.get(&number)
+}
+
+// Takes a body out.
+#[tactic(auto, unfolding(crate::specs::Held::body_at))]
+fn take_body(bodies: &mut Bodies, number: u32) -> Option<GetBody<PlainFile>>
+    ensures value { result ≡ body_at bodies.old number }
+    ensures bodies { body_at bodies.new ≡ put number None (body_at bodies.old) }
+{
+    if number == 0 {
+        return bodies.first.take();
+    }
+    bodies.later.remove(&number)
+}
 
 /// Takes a body out, and closes its file.
 pub fn end_body<D: Disk>(bodies: &mut Bodies, store: &mut PlainFs<D>, body: u32)
@@ -23,7 +86,7 @@ pub fn end_body<D: Disk>(bodies: &mut Bodies, store: &mut PlainFs<D>, body: u32)
     ensures disk { ClosesBody (body_at bodies.old body) (D.state store.old.disk) (D.state store.new.disk) }
     ensures loan { D.loan store.new.disk ≡ D.loan store.old.disk }
 {
-    if let Some(gone) = bodies.remove(&body) {
+    if let Some(gone) = take_body(bodies, body) {
         gone.close(DavFileSystem::disk(store));
     }
 }
@@ -50,6 +113,7 @@ fn poll_into<D: Disk>(body: &mut GetBody<PlainFile>, disk: &mut D, room: Vec<u8>
 }
 
 /// Polls the body of a number, and copies its piece into the room for it.
+#[tactic(auto, unfolding(crate::specs::Held::body_at))]
 pub fn poll_body<D: Disk>(
     bodies: &mut Bodies,
     store: &mut PlainFs<D>,
@@ -65,7 +129,13 @@ pub fn poll_body<D: Disk>(
         (body_at bodies.new) }
     ensures loan { D.loan store.new.disk ≡ D.loan store.old.disk }
 {
-    match bodies.get_mut(&body) {
+    if body == 0 {
+        return match &mut bodies.first {
+            Some(open) => poll_into(open, DavFileSystem::disk(store), room),
+            None => unreachable!("there is such a body"),
+        };
+    }
+    match bodies.later.get_mut(&body) {
         Some(open) => poll_into(open, DavFileSystem::disk(store), room),
         None => unreachable!("there is such a body"),
     }
@@ -76,7 +146,7 @@ fn is_over(bodies: &Bodies, body: u32) -> bool
     ensures some { (b : AnyBody) → body_at bodies.now body ≡ Some b
         → IsTrue result ↔ (next_most_of (left_of b) (vec_len b.buffer) ≡ 0) }
 {
-    match bodies.get(&body) {
+    match open_body(bodies, body) {
         Some(open) => open.next_most() == 0,
         None => true,
     }

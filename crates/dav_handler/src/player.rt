@@ -4,7 +4,7 @@ ghost use Rattle.dav_core.specs.Disk.{Turns};
 ghost use Rattle.dav_model.specs.declared.answer.Answer.TheVariants.{Reply as Replied};
 ghost use Rattle.dav_handler.specs.Held.{IsPlaying, body_at};
 
-use crate::bodies::{Bodies, end_body, poll_body, sweep};
+use crate::bodies::{Bodies, end_body, hold_body, no_bodies, open_body, poll_body, sweep};
 use crate::found::{Found, find_for};
 use dav_core::Disk;
 use dav_io::{Moment, NoMemory, Octets};
@@ -12,8 +12,7 @@ use dav_model::{Answer, Outcome, Settings, Step};
 use dav_plain::PlainFs;
 use dav_store::DavFileSystem;
 use http::Request;
-use std::alloc::{AllocFailed, Global};
-use std::collections::BTreeMap;
+use std::alloc::Global;
 
 /// Answers steps over a disk. It numbers its replies from 0, and keeps the body of each reply of which something is left.
 pub struct Player<D: Disk> {
@@ -40,7 +39,7 @@ impl<D: Disk> Player<D> {
             alloc,
             settings,
             store: PlainFs::new(disk),
-            bodies: BTreeMap::new(alloc),
+            bodies: no_bodies(alloc),
             replies: 0,
         }
     }
@@ -110,13 +109,12 @@ impl<D: Disk> Player<D> {
                 self.replies = number + 1;
                 Ok(reply(outcome, number))
             }
-            Some(open) => match self.bodies.insert(number, open) {
-                Ok(_) => {
+            Some(open) => match hold_body(&mut self.bodies, number, open) {
+                Ok(()) => {
                     self.replies = number + 1;
                     Ok(reply(outcome, number))
                 }
-                Err(failed) => {
-                    let AllocFailed { value: (_, open) } = failed;
+                Err(open) => {
                     open.close(DavFileSystem::disk(&mut self.store));
                     Err(NoMemory)
                 }
@@ -129,7 +127,7 @@ impl<D: Disk> Player<D> {
         ensures done { Stepped (stage_of self.old) (Poll body) result (stage_of self.new) }
         ensures loan { D.loan self.new.store.disk ≡ D.loan self.old.store.disk }
     {
-        let Some(open) = self.bodies.get(&body) else {
+        let Some(open) = open_body(&self.bodies, body) else {
             return Ok(Answer::End);
         };
         let Ok(room) = Vec::with_capacity(self.alloc, open.next_most()) else {

@@ -1,7 +1,6 @@
 -- What a disk of the machine keeps.
-use Rattle.std.specs.Prelude.{◌≡◌, ◌⊎◌, ℕ, List, [], ◌∷◌, ◌++◌, false, Option, None, Some}
+use Rattle.std.specs.Prelude.{◌≡◌, ◌⊎◌, ℕ, zero, suc, List, [], ◌∷◌, ◌++◌, false, Option, None, Some}
 use Rattle.std.specs.Option.{option_map}
-use Rattle.std.specs.BTreeMap.{BTreeMap}
 use Rattle.std.specs.declared.io.ErrorKind.{ErrorKind}
 use Rattle.std.specs.declared.io.ErrorKind.TheVariants as kind
 use Rattle.dav_core.specs.declared.handle.DiskError.{DiskError}
@@ -11,6 +10,7 @@ use Rattle.dav_core.specs.World.{World, IsWorld}
 use Rattle.dav_core.specs.Disk.{Live, DiskState}
 use Rattle.dav_core.specs.Tables.{at_key}
 use Rattle.dav_host.specs.declared.opens.HostFile.{HostFile}
+use Rattle.dav_host.specs.declared.opens.Opens.{Opens}
 
 -- the most bytes of a path's text
 abbrev pub room : ℕ
@@ -28,9 +28,14 @@ host_path root names = root ++ below names
 abbrev pub live_of : {F : Type 0} → HostFile F → Live
 live_of f = record { kind = f.kind; how = f.how }
 
+-- a table whose value at 0 stands beside the others
+abbrev pub beside : {X : Type 0} → Option X → (ℕ → Option X) → ℕ → Option X
+beside first others zero = first
+beside first others (suc n) = others (suc n)
+
 -- what is known of a live handle
-abbrev pub live_at : {F : Type 0} → BTreeMap ℕ (HostFile F) → ℕ → Option Live
-live_at opens h = option_map live_of (at_key opens h)
+unfoldable pub live_at : {F : Type 0} → Opens F → ℕ → Option Live
+live_at opens = beside (option_map live_of opens.first) (λ h. option_map live_of (at_key opens.others h))
 
 -- A disk that tells nothing keeps its counts, its live handles and its live listers.
 abbrev pub untold : ℕ → ℕ → (ℕ → Option Live) → (ℕ → Option ℕ) → DiskState

@@ -7,7 +7,8 @@ ghost use Rattle.dav_core.specs.Untold.{untold_live};
 use crate::keys::free_key;
 use crate::listings::{HostListing, listing_of, next_name};
 use crate::opens::{
-    HostFile, can_read, can_write, may_change, meta_at, open_meta, read_at, seek_at, write_at,
+    HostFile, Opens, can_read, can_write, free_handle, may_change, meta_at, open_meta, read_at,
+    seek_at, write_at,
 };
 use crate::paths::{ROOM, lay_path};
 use crate::refusals::{list_refusal, open_refusal};
@@ -33,7 +34,7 @@ pub struct HostDisk<R: Files + AllocGlobal + Clone + Drop> {
     other: String,
     faults: u64,
     asked: u64,
-    opens: BTreeMap<u32, HostFile<R::File>>,
+    opens: Opens<R::File>,
     listings: BTreeMap<u32, HostListing<R>>,
     ghost path_room: { room ≤ string_capacity path },
     ghost other_room: { room ≤ string_capacity other },
@@ -67,7 +68,7 @@ impl<R: Files + AllocGlobal + Clone + Drop> HostDisk<R> {
             other: String::with_capacity(alloc, ROOM)?,
             faults: 0,
             asked: 0,
-            opens: BTreeMap::new(alloc),
+            opens: Opens::new(alloc),
             listings: BTreeMap::new(alloc),
         })
     }
@@ -111,7 +112,7 @@ impl<R: Files + AllocGlobal + Clone + Drop> Disk for HostDisk<R> {
 
     fn open(&mut self, path: &FsPath, how: OpenOptions, public: bool) -> Result<Handle, DiskError> {
         self.asked = self.asked.saturating_add(1);
-        let Some(handle) = free_key(&self.opens) else {
+        let Some(handle) = free_handle(&self.opens) else {
             return Err(DiskError::NoMemory);
         };
         if !lay_path(&mut self.path, self.root.as_str(), path.as_slice()) {
@@ -172,7 +173,7 @@ impl<R: Files + AllocGlobal + Clone + Drop> Disk for HostDisk<R> {
     }
 
     fn close(&mut self, file: Handle) {
-        let _ = self.opens.remove(&file.0);
+        self.opens.remove(file.0);
     }
 
     fn list(&mut self, path: &FsPath) -> Result<Lister, DiskError> {

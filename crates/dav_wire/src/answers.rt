@@ -1,5 +1,5 @@
 //! The bytes of answers.
-ghost use Rattle.std.specs.Prelude.{◌≡◌, ◌+◌, ◌%◌, ◌++◌, ◌≤◌, length, IfOk, OnOk};
+ghost use Rattle.std.specs.Prelude.{◌≡◌, ◌+◌, ◌%◌, ◌++◌, ◌≤◌, length, IfOk, IfSome, OnOk};
 ghost use Rattle.dav_wire.specs.Answers.{phrase, three_digits, status_line, field_line, field_lines, has_close_field, is_close_field, place as the_place, with_framing, written_fields, head_text, bad_request_text as refusal, refusal_text as the_refusal_text};
 ghost use Rattle.dav_wire.specs.Framing.{framing as the_framing, has_length as length_given, is_bodiless as bodiless};
 
@@ -148,9 +148,26 @@ fn write_field(text: &mut Vec<u8>, field: &Field) -> Result<(), NoMemory>
     Ok(())
 }
 
+// The first line of an answer of a usual status, in one piece.
+fn usual_line(status: u16) -> Option<&'static [u8]>
+    ensures { IfSome result (λ line. line.now ≡ status_line status) }
+{
+    match status {
+        200 => Some(b"HTTP/1.1 200 OK\r\n"),
+        206 => Some(b"HTTP/1.1 206 Partial Content\r\n"),
+        304 => Some(b"HTTP/1.1 304 Not Modified\r\n"),
+        404 => Some(b"HTTP/1.1 404 Not Found\r\n"),
+        _ => None,
+    }
+}
+
 fn write_status(text: &mut Vec<u8>, status: u16) -> Result<(), NoMemory>
     ensures { OnOk result (text.new.items ≡ text.old.items ++ status_line status) }
 {
+    if let Some(line) = usual_line(status) {
+        text.extend_from_slice(line)?;
+        return Ok(());
+    }
     text.extend_from_slice(b"HTTP/1.1 ")?;
     text.extend_from_slice(&digits(status))?;
     text.extend_from_slice(b" ")?;

@@ -89,7 +89,10 @@ impl Output {
     pub fn push_end<K: Sink>(&mut self, sink: &mut K, framing: Framing) -> Result<(), Failed>
         ensures { Pushes (K.stream sink.old) self.old (the_ending framing) result self.new (K.stream sink.new) }
     {
-        self.push(sink, ending(framing))
+        match framing {
+            Framing::Raw => Ok(()),
+            Framing::Chunked => self.push(sink, ending(framing)),
+        }
     }
 
     // Gives a piece as a chunk.

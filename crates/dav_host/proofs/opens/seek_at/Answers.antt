@@ -1,7 +1,10 @@
-use Rattle.std.proofs.Common.{refl}
+use Rattle.std.proofs.Common.{refl, ap}
+use Rattle.std.specs.Option.{option_map}
 use Rattle.dav_core.proofs.TablesLemmas.{value_kept}
-use Rattle.dav_host.specs.Host.{live_of}
+use Rattle.dav_host.specs.Host.{beside, live_at, live_of}
 use Rattle.dav_host.proofs.opens.seek_at.Goals as goal
 
-pub returns-in-Some : goal.returns-in-Some
-returns-in-Some g c = value_kept live_of c.args.handle c.args.opens.now c.get_mut.follows.lender c.in-Some.opened.now _ c.get_mut.follows.holds c.in-Some.ensures.value refl
+pub returns-in-Some-get_mut : goal.returns-in-Some-get_mut
+unfolding live_at
+returns-in-Some-get_mut g c = ap (beside (option_map live_of c.args.opens.now.first)) (value_kept live_of c.args.handle c.args.opens.now.others c.get_mut.follows.lender
+    c.in-Some-get_mut.opened.now _ c.get_mut.follows.holds c.in-Some-get_mut.ensures.value refl)

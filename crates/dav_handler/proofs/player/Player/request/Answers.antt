@@ -1,5 +1,4 @@
-use Rattle.std.proofs.Common.{ap, arith}
-use Rattle.dav_core.proofs.TablesLemmas.{updates_put, unchanged_same}
+use Rattle.std.proofs.Common.{arith}
 use Rattle.dav_handler.specs.Held.{body_at}
 use Rattle.dav_handler.proofs.Upkeep.{playing_undone, playing_kept, playing_kept_more, playing_joined}
 use Rattle.dav_handler.proofs.Stepping.{held_joined, held_replied, left_joined, left_replied, refused, replied, undone_steps}
@@ -21,28 +20,28 @@ returns-in-None-clause-done g c = rw c.reply.ensures (
     (held_replied (body_at c.args.self.now.bodies) c.args.self.now.replies _ c.in-None.is (c.args.self.now.ok.earlier _ (omega arith)))
     (playing_kept_more _ _ _ _ _ _ c.in-Ok.ensures.done.holds c.args.self.now.ok))
 
-pub invariant_of-self-in-Ok-insert : goal.invariant_of-self-in-Ok-insert
-invariant_of-self-in-Ok-insert g c = record {
+pub invariant_of-self-in-Ok-hold_body : goal.invariant_of-self-in-Ok-hold_body
+invariant_of-self-in-Ok-hold_body g c = record {
   ok = playing_joined _ _ _ _ _ c.args.self.now.replies _ c.in-Some.open c.args.self.now.ok c.in-Ok.ensures.done.holds c.in-Some.is
-      (updates_put c.args.self.now.replies c.args.self.now.bodies c.insert.new.self _ c.in-Ok-insert.ensures.updates);
+      c.in-Ok-hold_body.ensures.ok;
 }
 
-pub returns-in-Ok-insert-clause-done : goal.returns-in-Ok-insert-clause-done
-returns-in-Ok-insert-clause-done g c = rw c.reply-in-Ok-insert.ensures (
-    replied _ _ _ _ c.args.now c.in-Ok.found _ (body_at c.args.self.now.bodies) (body_at c.insert.new.self) c.in-Ok.ensures.done
+pub returns-in-Ok-hold_body-clause-done : goal.returns-in-Ok-hold_body-clause-done
+returns-in-Ok-hold_body-clause-done g c = rw c.reply-in-Ok-hold_body.ensures (
+    replied _ _ _ _ c.args.now c.in-Ok.found _ (body_at c.args.self.now.bodies) (body_at c.hold_body.new.bodies) c.in-Ok.ensures.done
     (left_joined _ _ _ (body_at c.args.self.now.bodies) _ c.args.self.now.replies _ _ c.in-Some.open c.in-Ok.ensures.done.holds c.args.self.now.ok c.in-Some.is
-    (updates_put c.args.self.now.replies c.args.self.now.bodies c.insert.new.self _ c.in-Ok-insert.ensures.updates))
+    c.in-Ok-hold_body.ensures.ok)
     (held_joined (body_at c.args.self.now.bodies) _ c.args.self.now.replies _ c.in-Some.open c.in-Some.is
-    (updates_put c.args.self.now.replies c.args.self.now.bodies c.insert.new.self _ c.in-Ok-insert.ensures.updates))
+    c.in-Ok-hold_body.ensures.ok)
     (playing_joined _ _ _ _ _ c.args.self.now.replies _ c.in-Some.open c.args.self.now.ok c.in-Ok.ensures.done.holds c.in-Some.is
-    (updates_put c.args.self.now.replies c.args.self.now.bodies c.insert.new.self _ c.in-Ok-insert.ensures.updates)))
+    c.in-Ok-hold_body.ensures.ok))
 
-pub invariant_of-self-in-Err-insert : goal.invariant_of-self-in-Err-insert
-invariant_of-self-in-Err-insert g c = record {
-  ok = playing_undone _ _ (g.D.Disk.state c.find_for.new.store.disk) _ _ _ _ _ c.in-Some.open _ c.args.self.now.ok c.in-Ok.ensures.done.holds c.in-Some.is (ap (λ p. p.1) c.in-Err-insert.ensures.value_returned)
-      (rw c.disk.ensures.value at c.close.ensures.done) (unchanged_same c.args.self.now.bodies c.insert.new.self c.in-Err-insert.ensures.err);
+pub invariant_of-self-in-Err-hold_body : goal.invariant_of-self-in-Err-hold_body
+invariant_of-self-in-Err-hold_body g c = record {
+  ok = playing_undone _ _ (g.D.Disk.state c.find_for.new.store.disk) _ _ _ _ _ c.in-Some.open _ c.args.self.now.ok c.in-Ok.ensures.done.holds c.in-Some.is c.in-Err-hold_body.ensures.err.0
+      (rw c.disk.ensures.value at c.close.ensures.done) c.in-Err-hold_body.ensures.err.1;
 }
 
-pub returns-in-Err-insert-clause-done : goal.returns-in-Err-insert-clause-done
-returns-in-Err-insert-clause-done g c = undone_steps _ _ _ _ (g.D.Disk.state c.find_for.new.store.disk) _ c.args.request.now c.args.now _ (body_at c.args.self.now.bodies) _ _ c.in-Some.open _ _ c.args.self.now.ok c.in-Ok.ensures.done.holds c.in-Ok.ensures.done.asks c.in-Some.is
-    (ap (λ p. p.1) c.in-Err-insert.ensures.value_returned) (rw c.disk.ensures.value at c.close.ensures.done) (unchanged_same c.args.self.now.bodies c.insert.new.self c.in-Err-insert.ensures.err)
+pub returns-in-Err-hold_body-clause-done : goal.returns-in-Err-hold_body-clause-done
+returns-in-Err-hold_body-clause-done g c = undone_steps _ _ _ _ (g.D.Disk.state c.find_for.new.store.disk) _ c.args.request.now c.args.now _ (body_at c.args.self.now.bodies) _ _ c.in-Some.open _ _ c.args.self.now.ok c.in-Ok.ensures.done.holds c.in-Ok.ensures.done.asks c.in-Some.is
+    c.in-Err-hold_body.ensures.err.0 (rw c.disk.ensures.value at c.close.ensures.done) c.in-Err-hold_body.ensures.err.1
