@@ -16,94 +16,108 @@
 
 mod values;
 
-use anyhow::Result;
 use dav_core::{DavError, DavMetaData, DavPath, FileTime, Kind, Meta, ParseError};
+use dav_rows::{Line, text_of};
 use http_uri::Uri;
-use percent_encoding::{AsciiSet, CONTROLS, percent_decode, percent_encode};
-use std::alloc::Global;
+use percent_encoding::CONTROLS;
+use std::alloc::{AllocError, Global};
+use std::io;
 
-/// The bytes that a cell spells.
-pub fn bytes_of(alloc: Global, cell: &str) -> Result<Vec<u8>> {
-    let mut bytes = Vec::new(alloc);
-    percent_decode(cell.as_bytes()).append_to(&mut bytes)?;
-    Ok(bytes)
+/// Adds bytes as a cell spells them.
+pub fn tell_bytes(line: &mut Line, bytes: &[u8]) {
+    line.add_bytes(bytes, CONTROLS.add(b'%').add(b' ').add(b'|'));
 }
 
-// The text of a cell. Bytes that are none give an empty one.
-fn text_of(alloc: Global, cell: &str) -> Result<String> {
-    match String::from_utf8(bytes_of(alloc, cell)?) {
-        Ok(text) => Ok(text),
-        Err(_) => Ok(String::new(alloc)),
+fn tell_text(line: &mut Line, path: &DavPath) {
+    match path.with_prefix() {
+        Ok(text) => tell_bytes(line, text.as_slice()),
+        Err(_) => line.refuse(),
     }
 }
 
-/// Bytes as a cell spells them.
-pub fn shown(alloc: Global, bytes: &[u8]) -> Result<String> {
-    let set: AsciiSet = CONTROLS.add(b'%').add(b' ').add(b'|');
-    let mut text = String::new(alloc);
-    percent_encode(bytes, set).append_to(&mut text)?;
-    Ok(text)
+fn tell_link(line: &mut Line, path: &DavPath) {
+    match path.as_url_string() {
+        Ok(link) => line.add(link.as_str()),
+        Err(_) => line.refuse(),
+    }
 }
 
-/// A text of its own.
-pub fn said(alloc: Global, text: &str) -> Result<String> {
-    Ok(String::from_str(alloc, text)?)
+fn tell_parent(line: &mut Line, path: &DavPath) {
+    match path.parent() {
+        Ok(parent) => tell_text(line, &parent),
+        Err(_) => line.refuse(),
+    }
 }
 
-fn told(alloc: Global, path: &DavPath) -> Result<String> {
-    let count = path.names().as_slice().len();
-    let last = shown(alloc, path.file_name().unwrap_or("").as_bytes())?;
-    let text = shown(alloc, path.with_prefix()?.as_slice())?;
-    let link = path.as_url_string()?;
-    let kind = path.get_mime_type_str();
-    let parent = shown(alloc, path.parent()?.with_prefix()?.as_slice())?;
-    let link = link.as_str();
-    Ok(format!(in alloc; "{count} ={last} {text} {link} {kind} {parent}")?)
+fn tell_path(line: &mut Line, path: &DavPath) {
+    line.add_number("", path.names().as_slice().len() as u64);
+    line.add(" =");
+    tell_bytes(line, path.file_name().unwrap_or("").as_bytes());
+    line.add(" ");
+    tell_text(line, path);
+    line.add(" ");
+    tell_link(line, path);
+    line.tell(" ", path.get_mime_type_str());
+    line.add(" ");
+    tell_parent(line, path);
 }
 
-fn fault(alloc: Global, fault: ParseError) -> Result<String> {
+fn tell_fault(line: &mut Line, fault: ParseError) {
     match fault {
-        ParseError::NoMemory => said(alloc, "memory"),
-        _ => {
-            let status = DavError::Path(fault).statuscode().as_u16();
-            Ok(format!(in alloc; "{status}")?)
-        }
+        ParseError::NoMemory => line.refuse(),
+        _ => line.add_number("", u64::from(DavError::Path(fault).statuscode().as_u16())),
     }
 }
 
-fn answered(alloc: Global, read: std::result::Result<DavPath, ParseError>) -> Result<String> {
+fn tell_read(line: &mut Line, read: Result<DavPath, ParseError>) {
     match read {
-        Ok(path) => told(alloc, &path),
-        Err(error) => fault(alloc, error),
+        Ok(path) => tell_path(line, &path),
+        Err(fault) => tell_fault(line, fault),
     }
 }
 
-fn path(alloc: Global, prefix: &str, cell: &str) -> Result<String> {
-    let prefix = text_of(alloc, prefix)?;
-    let text = text_of(alloc, cell)?;
-    answered(
-        alloc,
-        DavPath::from_str_and_prefix(alloc, text.as_str(), prefix.as_str()),
-    )
+fn path(alloc: Global, line: &mut Line, prefix: &str, cell: &str) {
+    match text_of(alloc, prefix) {
+        Ok(prefix) => path_under(alloc, line, prefix.as_str(), cell),
+        Err(_) => line.refuse(),
+    }
 }
 
-fn target(alloc: Global, prefix: &str, cell: &str) -> Result<String> {
+fn path_under(alloc: Global, line: &mut Line, prefix: &str, cell: &str) {
+    match text_of(alloc, cell) {
+        Ok(text) => tell_read(
+            line,
+            DavPath::from_str_and_prefix(alloc, text.as_str(), prefix),
+        ),
+        Err(_) => line.refuse(),
+    }
+}
+
+fn target(alloc: Global, line: &mut Line, prefix: &str, cell: &str) {
     match Uri::from_str(alloc, cell) {
-        Ok(uri) => answered(alloc, DavPath::from_uri_and_prefix(alloc, &uri, prefix)),
-        Err(_) => said(alloc, "none"),
+        Ok(uri) => tell_read(line, DavPath::from_uri_and_prefix(alloc, &uri, prefix)),
+        Err(_) => line.add("none"),
     }
 }
 
-fn child(alloc: Global, prefix: &str, cell: &str) -> Result<String> {
-    let mut path = match DavPath::from_str_and_prefix(alloc, cell, prefix) {
-        Ok(path) => path.try_clone()?,
-        Err(error) => return fault(alloc, error),
-    };
+fn child(alloc: Global, line: &mut Line, prefix: &str, cell: &str) {
+    match DavPath::from_str_and_prefix(alloc, cell, prefix) {
+        Ok(path) => match path.try_clone() {
+            Ok(mut copy) => tell_child(line, &mut copy),
+            Err(_) => line.refuse(),
+        },
+        Err(fault) => tell_fault(line, fault),
+    }
+}
+
+fn tell_child(line: &mut Line, path: &mut DavPath) {
     path.add_slash();
-    let text = shown(alloc, path.with_prefix()?.as_slice())?;
-    path.push_segment("b")?;
-    let rest = told(alloc, &path)?;
-    Ok(format!(in alloc; "{text} {rest}")?)
+    tell_text(line, path);
+    line.add(" ");
+    match path.push_segment("b") {
+        Ok(()) => tell_path(line, path),
+        Err(_) => line.refuse(),
+    }
 }
 
 // Metadata of a directory.
@@ -120,58 +134,71 @@ fn directory() -> Meta {
     }
 }
 
-fn home(alloc: Global, cell: &str) -> Result<String> {
+fn home(alloc: Global, line: &mut Line, cell: &str) {
     match DavPath::new(alloc, cell) {
         Ok(path) => {
-            let calendar = directory().is_calendar(&path);
-            let book = directory().is_addressbook(&path);
-            Ok(format!(in alloc; "{calendar} {book}")?)
+            line.add_whether("", directory().is_calendar(&path));
+            line.add_whether(" ", directory().is_addressbook(&path));
         }
-        Err(error) => fault(alloc, error),
+        Err(fault) => tell_fault(line, fault),
     }
 }
 
-fn long(alloc: Global, count: &str, cell: &str) -> Result<String> {
-    let mut text = said(alloc, "/")?;
+// A slash and so many copies of a text.
+fn copies(alloc: Global, count: &str, cell: &str) -> Result<String, AllocError> {
+    let mut text = String::new(alloc);
+    text.push('/')?;
     for _ in 0..count.parse::<u32>().unwrap_or(0) {
         text.push_str(cell)?;
     }
-    match DavPath::new(alloc, text.as_str()) {
-        Ok(path) => {
-            let names = path.names().as_slice().len();
-            let last = path.file_name().unwrap_or("").len();
-            Ok(format!(in alloc; "{names} {last}")?)
-        }
-        Err(error) => fault(alloc, error),
+    Ok(text)
+}
+
+fn long(alloc: Global, line: &mut Line, count: &str, cell: &str) {
+    match copies(alloc, count, cell) {
+        Ok(text) => tell_long(alloc, line, text.as_str()),
+        Err(_) => line.refuse(),
     }
 }
 
-fn prefix(alloc: Global, cell: &str) -> Result<String> {
-    let text = text_of(alloc, cell)?;
-    let fits = DavPath::prefix_fits(text.as_str());
-    Ok(format!(in alloc; "{fits}")?)
+fn tell_long(alloc: Global, line: &mut Line, text: &str) {
+    match DavPath::new(alloc, text) {
+        Ok(path) => {
+            line.add_number("", path.names().as_slice().len() as u64);
+            line.add_number(" ", path.file_name().unwrap_or("").len() as u64);
+        }
+        Err(fault) => tell_fault(line, fault),
+    }
 }
 
-fn answer(alloc: Global, row: &str) -> Result<String> {
+fn prefix(alloc: Global, line: &mut Line, cell: &str) {
+    match text_of(alloc, cell) {
+        Ok(text) => line.add_whether("", DavPath::prefix_fits(text.as_str())),
+        Err(_) => line.refuse(),
+    }
+}
+
+fn answer(alloc: Global, line: &mut Line, row: &str) {
     let mut cells = row.splitn(3, '|');
     let word = cells.next().unwrap_or("");
     let second = cells.next().unwrap_or("");
     let third = cells.next().unwrap_or("");
     match word {
-        "path" => path(alloc, second, third),
-        "target" => target(alloc, second, third),
-        "child" => child(alloc, second, third),
-        "home" => home(alloc, second),
-        "prefix" => prefix(alloc, second),
-        "long" => long(alloc, second, third),
-        _ => values::answer(alloc, word, second, third),
+        "path" => path(alloc, line, second, third),
+        "target" => target(alloc, line, second, third),
+        "child" => child(alloc, line, second, third),
+        "home" => home(alloc, line, second),
+        "prefix" => prefix(alloc, line, second),
+        "long" => long(alloc, line, second, third),
+        _ => values::answer(alloc, line, word, second, third),
     }
 }
 
-fn main(rt: HostRuntime) -> Result<()> {
-    for line in rt.lines(rt.alloc()) {
-        let text = answer(rt.alloc(), line?.as_str())?;
-        println!(rt; "{text}")?;
+fn main(rt: HostRuntime) -> io::Result<()> {
+    for row in rt.lines(rt.alloc()) {
+        let mut line = Line::new(rt.alloc());
+        answer(rt.alloc(), &mut line, row?.as_str());
+        println!(rt; "{}", line.as_str())?;
     }
     Ok(())
 }

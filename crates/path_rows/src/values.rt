@@ -12,12 +12,12 @@
 //!     meta|KIND|CELLS       number, length, seconds and nanoseconds with commas between: what metadata says
 //!     #                     is written as it stands
 
-use crate::{bytes_of, said, shown};
-use anyhow::Result;
+use crate::tell_bytes;
 use dav_core::{
     DavError, DavMetaData, DavMethod, DavMethodSet, ETag, EtagList, FileTime, FsError, IfRange,
     Kind, Meta, ParseError, content_type, date_secs, dav_method,
 };
+use dav_rows::{Line, bytes_of};
 use http::{Method, StatusCode};
 use std::alloc::Global;
 
@@ -40,98 +40,116 @@ const WORDS: [&str; 16] = [
     "MKADDRESSBOOK",
 ];
 
-fn method_of(alloc: Global, word: &str) -> Result<Option<DavMethod>> {
-    match Method::from_bytes(alloc, word.as_bytes()) {
-        Ok(method) => Ok(dav_method(&method).ok()),
-        Err(_) => Ok(None),
+fn method_of(alloc: Global, word: &str) -> Option<DavMethod> {
+    let method = Method::from_bytes(alloc, word.as_bytes()).ok()?;
+    dav_method(&method).ok()
+}
+
+fn method(alloc: Global, line: &mut Line, word: &str) {
+    match method_of(alloc, word) {
+        Some(method) => match format!(in alloc; "{method:?}") {
+            Ok(text) => line.add(text.as_str()),
+            Err(_) => line.refuse(),
+        },
+        None => line.add("none"),
     }
 }
 
-fn method(alloc: Global, word: &str) -> Result<String> {
-    match method_of(alloc, word)? {
-        Some(method) => Ok(format!(in alloc; "{method:?}")?),
-        None => said(alloc, "none"),
-    }
-}
-
-fn methods(alloc: Global, removed: &str, words: &str) -> Result<String> {
+fn set_of(alloc: Global, removed: &str, words: &str) -> DavMethodSet {
     let mut set = if words == "all" {
         DavMethodSet::all()
     } else {
         DavMethodSet::none()
     };
     for word in words.split(' ') {
-        if let Some(method) = method_of(alloc, word)? {
+        if let Some(method) = method_of(alloc, word) {
             set.add(method);
         }
     }
-    if let Some(method) = method_of(alloc, removed)? {
+    if let Some(method) = method_of(alloc, removed) {
         set.remove(method);
     }
-    let mut line = said(alloc, "has")?;
+    set
+}
+
+fn methods(alloc: Global, line: &mut Line, removed: &str, words: &str) {
+    let set = set_of(alloc, removed, words);
+    line.add("has");
     for word in WORDS {
-        if let Some(method) = method_of(alloc, word)? {
+        if let Some(method) = method_of(alloc, word) {
             if set.contains(method) {
-                line.push(' ')?;
-                line.push_str(word)?;
+                line.tell(" ", word);
             }
         }
     }
-    Ok(line)
 }
 
-fn told(alloc: Global, tag: &ETag) -> Result<String> {
-    let text = shown(alloc, tag.tag.as_slice())?;
-    let kind = if tag.weak { "weak" } else { "strong" };
-    Ok(format!(in alloc; "{kind}:{text}")?)
+fn tell_tag(line: &mut Line, tag: &ETag) {
+    line.add(if tag.weak { "weak:" } else { "strong:" });
+    tell_bytes(line, tag.tag.as_slice());
 }
 
-fn tag(alloc: Global, value: &[u8]) -> Result<String> {
-    match ETag::parse(alloc, value)? {
-        Some(tag) => told(alloc, &tag),
-        None => said(alloc, "none"),
+fn tag(alloc: Global, line: &mut Line, value: &[u8]) {
+    match ETag::parse(alloc, value) {
+        Ok(Some(tag)) => tell_tag(line, &tag),
+        Ok(None) => line.add("none"),
+        Err(_) => line.refuse(),
     }
 }
 
-fn list(alloc: Global, value: &[u8]) -> Result<String> {
-    let tags = match EtagList::parse(alloc, value)? {
-        Some(EtagList::Tags(tags)) => tags,
-        Some(EtagList::Any) => return said(alloc, "any"),
-        None => return said(alloc, "none"),
-    };
-    let mut line = said(alloc, "tags")?;
-    for tag in tags.as_slice() {
-        line.push(' ')?;
-        line.push_str(told(alloc, tag)?.as_str())?;
-    }
-    Ok(line)
-}
-
-fn range(alloc: Global, value: &[u8]) -> Result<String> {
-    match IfRange::parse(alloc, value)? {
-        Some(IfRange::Tag(tag)) => told(alloc, &tag),
-        Some(IfRange::Date(secs)) => Ok(format!(in alloc; "at:{secs}")?),
-        None => said(alloc, "none"),
+fn list(alloc: Global, line: &mut Line, value: &[u8]) {
+    match EtagList::parse(alloc, value) {
+        Ok(Some(EtagList::Tags(tags))) => tell_tags(line, tags.as_slice()),
+        Ok(Some(EtagList::Any)) => line.add("any"),
+        Ok(None) => line.add("none"),
+        Err(_) => line.refuse(),
     }
 }
 
-fn date(alloc: Global, value: &[u8]) -> Result<String> {
+fn tell_tags(line: &mut Line, tags: &[ETag]) {
+    line.add("tags");
+    for tag in tags {
+        line.add(" ");
+        tell_tag(line, tag);
+    }
+}
+
+fn range(alloc: Global, line: &mut Line, value: &[u8]) {
+    match IfRange::parse(alloc, value) {
+        Ok(Some(IfRange::Tag(tag))) => tell_tag(line, &tag),
+        Ok(Some(IfRange::Date(secs))) => {
+            line.add("at:");
+            line.add_value(&secs);
+        }
+        Ok(None) => line.add("none"),
+        Err(_) => line.refuse(),
+    }
+}
+
+fn date(line: &mut Line, value: &[u8]) {
     match date_secs(value) {
-        Some(secs) => Ok(format!(in alloc; "{secs}")?),
-        None => said(alloc, "none"),
+        Some(secs) => line.add_value(&secs),
+        None => line.add("none"),
     }
 }
 
-fn equal(alloc: Global, one: &[u8], two: &[u8]) -> Result<String> {
-    let Some(one) = ETag::parse(alloc, one)? else {
-        return said(alloc, "none");
-    };
-    let Some(two) = ETag::parse(alloc, two)? else {
-        return said(alloc, "none");
-    };
-    let strong = one.strong_eq(&two);
-    let weak = one.weak_eq(&two);
-    Ok(format!(in alloc; "{strong} {weak}")?)
+fn equal(alloc: Global, line: &mut Line, one: &[u8], two: &[u8]) {
+    match ETag::parse(alloc, one) {
+        Ok(Some(tag)) => equal_to(alloc, line, &tag, two),
+        Ok(None) => line.add("none"),
+        Err(_) => line.refuse(),
+    }
+}
+
+fn equal_to(alloc: Global, line: &mut Line, one: &ETag, two: &[u8]) {
+    match ETag::parse(alloc, two) {
+        Ok(Some(two)) => {
+            line.add_whether("", one.strong_eq(&two));
+            line.add_whether(" ", one.weak_eq(&two));
+        }
+        Ok(None) => line.add("none"),
+        Err(_) => line.refuse(),
+    }
 }
 
 fn fs_error(word: &str) -> Option<FsError> {
@@ -163,7 +181,7 @@ fn error(word: &str) -> DavError {
     }
 }
 
-fn status(alloc: Global, word: &str) -> Result<String> {
+fn status(line: &mut Line, word: &str) {
     let error = match fs_error(word) {
         Some(fault) => DavError::from(fault),
         None => error(word),
@@ -171,20 +189,23 @@ fn status(alloc: Global, word: &str) -> Result<String> {
     match error {
         DavError::NoMemory
         | DavError::Path(ParseError::NoMemory)
-        | DavError::Fs(FsError::NoMemory) => said(alloc, "memory"),
+        | DavError::Fs(FsError::NoMemory) => line.refuse(),
         _ => {
-            let status = error.statuscode().as_u16();
-            let closes = error.must_close();
-            Ok(format!(in alloc; "{status} {closes}")?)
+            line.add_number("", u64::from(error.statuscode().as_u16()));
+            line.add_whether(" ", error.must_close());
         }
     }
 }
 
-fn time(alloc: Global, time: Result<FileTime, FsError>) -> Result<String> {
+fn tell_time(line: &mut Line, time: Result<FileTime, FsError>) {
+    line.add(" ");
     match time {
-        Ok(time) => Ok(format!(in alloc; "{}.{}", time.secs, time.nanos)?),
-        Err(FsError::NotImplemented) => said(alloc, "unknown"),
-        Err(_) => said(alloc, "fault"),
+        Ok(time) => {
+            line.add_value(&time.secs);
+            line.add_number(".", u64::from(time.nanos));
+        }
+        Err(FsError::NotImplemented) => line.add("unknown"),
+        Err(_) => line.add("fault"),
     }
 }
 
@@ -213,50 +234,55 @@ fn meta_of(kind: &str, cells: &str) -> Meta {
 }
 
 // Its tag, and whether it has that text as its tag.
-fn tag_of(alloc: Global, meta: &Meta) -> Result<String> {
-    match ETag::from_meta(alloc, meta)? {
-        Some(tag) => {
-            let has = meta.has_tag(tag.tag.as_slice());
-            let tag = told(alloc, &tag)?;
-            Ok(format!(in alloc; "{tag} {has}")?)
+fn tell_tag_of(alloc: Global, line: &mut Line, meta: &Meta) {
+    line.add(" ");
+    match ETag::from_meta(alloc, meta) {
+        Ok(Some(tag)) => {
+            tell_tag(line, &tag);
+            line.add_whether(" ", meta.has_tag(tag.tag.as_slice()));
         }
-        None => {
-            let has = meta.has_tag(b"");
-            Ok(format!(in alloc; "none {has}")?)
-        }
+        Ok(None) => line.add_whether("none ", meta.has_tag(b"")),
+        Err(_) => line.refuse(),
     }
 }
 
-fn meta(alloc: Global, kind: &str, cells: &str) -> Result<String> {
+fn meta(alloc: Global, line: &mut Line, kind: &str, cells: &str) {
     let meta = meta_of(kind, cells);
-    let modified = time(alloc, meta.modified())?;
-    let created = time(alloc, meta.created())?;
-    let accessed = time(alloc, meta.accessed())?;
-    let changed = time(alloc, meta.status_changed())?;
-    let (dir, file, link) = (meta.is_dir(), meta.is_file(), meta.is_symlink());
-    let exec = meta.executable() == Ok(true);
-    let len = meta.len();
-    let tag = tag_of(alloc, &meta)?;
-    Ok(format!(in alloc;
-        "{len} {modified} {created} {accessed} {changed} {dir} {file} {link} {exec} {tag}"
-    )?)
+    line.add_number("", meta.len());
+    tell_time(line, meta.modified());
+    tell_time(line, meta.created());
+    tell_time(line, meta.accessed());
+    tell_time(line, meta.status_changed());
+    line.add_whether(" ", meta.is_dir());
+    line.add_whether(" ", meta.is_file());
+    line.add_whether(" ", meta.is_symlink());
+    line.add_whether(" ", meta.executable() == Ok(true));
+    tell_tag_of(alloc, line, &meta);
 }
 
-/// The answer to a row of these words.
-pub fn answer(alloc: Global, word: &str, second: &str, third: &str) -> Result<String> {
-    let one = bytes_of(alloc, second)?;
-    let two = bytes_of(alloc, third)?;
+/// Adds the answer to a row of these words.
+pub fn answer(alloc: Global, line: &mut Line, word: &str, second: &str, third: &str) {
+    match bytes_of(alloc, second) {
+        Ok(one) => value(alloc, line, word, &one, second, third),
+        Err(_) => line.refuse(),
+    }
+}
+
+fn value(alloc: Global, line: &mut Line, word: &str, one: &[u8], second: &str, third: &str) {
     match word {
-        "type" => said(alloc, content_type(one.as_slice())),
-        "method" => method(alloc, second),
-        "methods" => methods(alloc, second, third),
-        "tag" => tag(alloc, one.as_slice()),
-        "list" => list(alloc, one.as_slice()),
-        "range" => range(alloc, one.as_slice()),
-        "date" => date(alloc, one.as_slice()),
-        "equal" => equal(alloc, one.as_slice(), two.as_slice()),
-        "status" => status(alloc, second),
-        "meta" => meta(alloc, second, third),
-        _ => said(alloc, word),
+        "type" => line.add(content_type(one)),
+        "method" => method(alloc, line, second),
+        "methods" => methods(alloc, line, second, third),
+        "tag" => tag(alloc, line, one),
+        "list" => list(alloc, line, one),
+        "range" => range(alloc, line, one),
+        "date" => date(line, one),
+        "equal" => match bytes_of(alloc, third) {
+            Ok(two) => equal(alloc, line, one, &two),
+            Err(_) => line.refuse(),
+        },
+        "status" => status(line, second),
+        "meta" => meta(alloc, line, second, third),
+        _ => line.add(word),
     }
 }

@@ -4,115 +4,101 @@
 //! parameter `(` and `)`. It may ask `absent`, `within|START|END`, and `is|TEXT|COLLATION|TYPE` or its negation `isnt|..`,
 //! where a minus sign stands for what isn't given.
 
-use crate::texts::{tell, tell_maybe};
+use crate::texts::tell_maybe;
 use dav_io::NoMemory;
 use dav_report::caldav::{self, CalDavReportType, CalendarQuery, ComponentFilter, TimeRange};
 use dav_report::carddav::{self, AddressBookQuery, CardDavReportType};
 use dav_report::{Names, ParameterFilter, ParameterFilters, TextMatch};
+use dav_rows::Line;
 use std::alloc::Global;
 
-fn tell_names(line: &mut String, mark: &str, names: &Names) -> Result<(), NoMemory> {
+fn tell_names(line: &mut Line, mark: &str, names: &Names) {
     for name in names.as_slice() {
-        tell(line, mark, name.as_str())?;
+        line.tell(mark, name.as_str());
     }
-    Ok(())
 }
 
-fn tell_absent(line: &mut String, is_not_defined: bool) -> Result<(), NoMemory> {
+fn tell_absent(line: &mut Line, is_not_defined: bool) {
     if is_not_defined {
-        line.push_str(" absent")?;
+        line.add(" absent");
     }
-    Ok(())
 }
 
-fn tell_range(line: &mut String, range: &TimeRange) -> Result<(), NoMemory> {
-    tell_maybe(line, " within|", &range.start)?;
+fn tell_range(line: &mut Line, range: &TimeRange) {
+    tell_maybe(line, " within|", &range.start);
     tell_maybe(line, "|", &range.end)
 }
 
-fn tell_maybe_range(line: &mut String, range: &Option<TimeRange>) -> Result<(), NoMemory> {
-    match range {
-        Some(range) => tell_range(line, range),
-        None => Ok(()),
+fn tell_maybe_range(line: &mut Line, range: &Option<TimeRange>) {
+    if let Some(range) = range {
+        tell_range(line, range);
     }
 }
 
 /// Adds a comparison, where there is one.
-pub fn tell_match(line: &mut String, asked: &Option<TextMatch>) -> Result<(), NoMemory> {
+pub fn tell_match(line: &mut Line, asked: &Option<TextMatch>) {
     let asked = match asked {
         Some(asked) => asked,
-        None => return Ok(()),
+        None => return,
     };
     let mark = if asked.negate_condition {
         " isnt|"
     } else {
         " is|"
     };
-    tell(line, mark, asked.text.as_str())?;
-    tell_maybe(line, "|", &asked.collation)?;
+    line.tell(mark, asked.text.as_str());
+    tell_maybe(line, "|", &asked.collation);
     tell_maybe(line, "|", &asked.match_type)
 }
 
 /// Adds a filter of a parameter.
-pub fn tell_parameter(line: &mut String, filter: &ParameterFilter) -> Result<(), NoMemory> {
-    tell(line, " (", filter.name.as_str())?;
-    tell_absent(line, filter.is_not_defined)?;
-    tell_match(line, &filter.text_match)?;
-    line.push_str(" )")?;
-    Ok(())
+pub fn tell_parameter(line: &mut Line, filter: &ParameterFilter) {
+    line.tell(" (", filter.name.as_str());
+    tell_absent(line, filter.is_not_defined);
+    tell_match(line, &filter.text_match);
+    line.add(" )");
 }
 
-fn tell_parameters(line: &mut String, filters: &ParameterFilters) -> Result<(), NoMemory> {
+fn tell_parameters(line: &mut Line, filters: &ParameterFilters) {
     for filter in filters.as_slice() {
-        tell_parameter(line, filter)?;
+        tell_parameter(line, filter);
     }
-    Ok(())
 }
 
-fn tell_property(line: &mut String, filter: &caldav::PropertyFilter) -> Result<(), NoMemory> {
-    tell(line, " [", filter.name.as_str())?;
-    tell_absent(line, filter.is_not_defined)?;
-    tell_match(line, &filter.text_match)?;
-    tell_maybe_range(line, &filter.time_range)?;
-    tell_parameters(line, &filter.param_filters)?;
-    line.push_str(" ]")?;
-    Ok(())
+fn tell_property(line: &mut Line, filter: &caldav::PropertyFilter) {
+    line.tell(" [", filter.name.as_str());
+    tell_absent(line, filter.is_not_defined);
+    tell_match(line, &filter.text_match);
+    tell_maybe_range(line, &filter.time_range);
+    tell_parameters(line, &filter.param_filters);
+    line.add(" ]");
 }
 
-fn tell_card_property(
-    line: &mut String,
-    filter: &Option<carddav::PropertyFilter>,
-) -> Result<(), NoMemory> {
+fn tell_card_property(line: &mut Line, filter: &Option<carddav::PropertyFilter>) {
     let filter = match filter {
         Some(filter) => filter,
-        None => return Ok(()),
+        None => return,
     };
-    tell(line, " [", filter.name.as_str())?;
-    tell_absent(line, filter.is_not_defined)?;
-    tell_match(line, &filter.text_match)?;
-    tell_parameters(line, &filter.param_filters)?;
-    line.push_str(" ]")?;
-    Ok(())
+    line.tell(" [", filter.name.as_str());
+    tell_absent(line, filter.is_not_defined);
+    tell_match(line, &filter.text_match);
+    tell_parameters(line, &filter.param_filters);
+    line.add(" ]");
 }
 
 // What a filter asks itself, besides the filters of components in it.
-fn tell_start(line: &mut String, filter: &ComponentFilter) -> Result<(), NoMemory> {
-    tell(line, " {", filter.name.as_str())?;
-    tell_absent(line, filter.is_not_defined)?;
-    tell_maybe_range(line, &filter.time_range)?;
+fn tell_start(line: &mut Line, filter: &ComponentFilter) {
+    line.tell(" {", filter.name.as_str());
+    tell_absent(line, filter.is_not_defined);
+    tell_maybe_range(line, &filter.time_range);
     for property in filter.prop_filters.as_slice() {
-        tell_property(line, property)?;
+        tell_property(line, property);
     }
-    Ok(())
 }
 
-// Adds the filters that wait, those in a filter before those after it.
-fn tell_component(
-    alloc: Global,
-    line: &mut String,
-    outer: &ComponentFilter,
-) -> Result<(), NoMemory> {
-    tell_start(line, outer)?;
+// Adds a filter, and those in it before those after it.
+fn tell_component(alloc: Global, line: &mut Line, outer: &ComponentFilter) -> Result<(), NoMemory> {
+    tell_start(line, outer);
     let mut waiting = Vec::new(alloc);
     waiting.push(outer.comp_filters.as_slice())?;
     for _ in 0..u64::MAX {
@@ -124,60 +110,55 @@ fn tell_component(
             Some((first, others)) => {
                 waiting.push(others)?;
                 waiting.push(first.comp_filters.as_slice())?;
-                tell_start(line, first)?;
+                tell_start(line, first);
             }
-            None => line.push_str(" }")?,
+            None => line.add(" }"),
         }
     }
     Ok(())
 }
 
-fn tell_query(alloc: Global, line: &mut String, query: &CalendarQuery) -> Result<(), NoMemory> {
-    line.push_str("query")?;
-    match &query.comp_filter {
-        Some(filter) => tell_component(alloc, line, filter)?,
-        None => {}
+fn tell_query(alloc: Global, line: &mut Line, query: &CalendarQuery) {
+    line.add("query");
+    if let Some(filter) = &query.comp_filter {
+        if tell_component(alloc, line, filter).is_err() {
+            line.refuse();
+        }
     }
-    tell_maybe_range(line, &query.time_range)?;
+    tell_maybe_range(line, &query.time_range);
     tell_names(line, " .", &query.properties)
 }
 
 /// Adds a report that a calendar server is asked for.
-pub fn tell_calendar(
-    alloc: Global,
-    line: &mut String,
-    asked: &CalDavReportType,
-) -> Result<(), NoMemory> {
+pub fn tell_calendar(alloc: Global, line: &mut Line, asked: &CalDavReportType) {
     match asked {
         CalDavReportType::CalendarQuery(query) => tell_query(alloc, line, query),
         CalDavReportType::CalendarMultiget { hrefs } => {
-            line.push_str("links")?;
+            line.add("links");
             tell_names(line, " ", hrefs)
         }
         CalDavReportType::FreeBusyQuery { time_range } => {
-            line.push_str("busy")?;
+            line.add("busy");
             tell_range(line, time_range)
         }
     }
 }
 
-fn tell_book_query(line: &mut String, query: &AddressBookQuery) -> Result<(), NoMemory> {
-    line.push_str("query")?;
-    tell_card_property(line, &query.prop_filter)?;
-    tell_names(line, " .", &query.properties)?;
-    match query.limit {
-        Some(limit) => write!(line, " limit|{limit}")?,
-        None => {}
+fn tell_book_query(line: &mut Line, query: &AddressBookQuery) {
+    line.add("query");
+    tell_card_property(line, &query.prop_filter);
+    tell_names(line, " .", &query.properties);
+    if let Some(limit) = query.limit {
+        line.add_number(" limit|", u64::from(limit));
     }
-    Ok(())
 }
 
 /// Adds a report that an address book server is asked for.
-pub fn tell_addresses(line: &mut String, asked: &CardDavReportType) -> Result<(), NoMemory> {
+pub fn tell_addresses(line: &mut Line, asked: &CardDavReportType) {
     match asked {
         CardDavReportType::AddressBookQuery(query) => tell_book_query(line, query),
         CardDavReportType::AddressBookMultiget { hrefs } => {
-            line.push_str("links")?;
+            line.add("links");
             tell_names(line, " ", hrefs)
         }
     }

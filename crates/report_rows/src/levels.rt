@@ -1,12 +1,11 @@
 //! How deep trees and filters nest, for rows whose trees would be too long to print: `copy-levels TREE` tells it of a copy of
 //! the tree, and `filter-levels TREE` of the filter in a copy of the calendar report. Each counts along the first child.
 
-use crate::texts::tell;
 use crate::trees;
-use dav_io::NoMemory;
 use dav_lock::Element;
 use dav_report::caldav::{CalDavReportType, ComponentFilter};
 use dav_report::{ElementExt, parse_calendar_report};
+use dav_rows::Line;
 use std::alloc::Global;
 
 fn tree_levels(root: &Element) -> u64 {
@@ -32,30 +31,40 @@ fn filter_levels(outer: &ComponentFilter) -> u64 {
 }
 
 /// Adds the levels of the copy of a tree.
-pub fn tell_copy(alloc: Global, line: &mut String, row: &str) -> Result<(), NoMemory> {
-    let levels = tree_levels(&trees::root(alloc, row, 1)?.try_clone()?);
-    write!(line, "{levels}")?;
-    Ok(())
+pub fn tell_copy(alloc: Global, line: &mut Line, row: &str) {
+    match trees::root(alloc, row, 1) {
+        Ok(root) => match root.try_clone() {
+            Ok(copy) => line.add_number("", tree_levels(&copy)),
+            Err(_) => line.refuse(),
+        },
+        Err(_) => line.refuse(),
+    }
 }
 
 /// Adds the levels of the filter that a calendar query asks with.
-pub fn tell_filter(alloc: Global, line: &mut String, row: &str) -> Result<(), NoMemory> {
-    let asked = match parse_calendar_report(alloc, &trees::root(alloc, row, 1)?) {
-        Ok(asked) => asked.try_clone()?,
-        Err(error) => {
-            write!(line, "{error}")?;
-            return Ok(());
-        }
-    };
-    match &asked {
-        CalDavReportType::CalendarQuery(query) => match &query.comp_filter {
-            Some(filter) => {
-                let levels = filter_levels(filter);
-                write!(line, "{levels}")?;
-                Ok(())
-            }
-            None => tell(line, "", "no filter"),
+pub fn tell_filter(alloc: Global, line: &mut Line, row: &str) {
+    match trees::root(alloc, row, 1) {
+        Ok(root) => tell_asked(alloc, line, &root),
+        Err(_) => line.refuse(),
+    }
+}
+
+fn tell_asked(alloc: Global, line: &mut Line, root: &Element) {
+    match parse_calendar_report(alloc, root) {
+        Ok(asked) => match asked.try_clone() {
+            Ok(copy) => tell_levels(line, &copy),
+            Err(_) => line.refuse(),
         },
-        _ => tell(line, "", "no query"),
+        Err(error) => line.add_value(&error),
+    }
+}
+
+fn tell_levels(line: &mut Line, asked: &CalDavReportType) {
+    match asked {
+        CalDavReportType::CalendarQuery(query) => match &query.comp_filter {
+            Some(filter) => line.add_number("", filter_levels(filter)),
+            None => line.add("no filter"),
+        },
+        _ => line.add("no query"),
     }
 }

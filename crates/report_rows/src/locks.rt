@@ -2,10 +2,11 @@
 //! none, a depth of `I` is deep, a scope of `S` is shared, and the moment is in nanoseconds. `let-go PATH TOKEN` prints what
 //! the other calls answer.
 
-use crate::texts::{tell, word};
+use crate::texts::word;
 use dav_core::DavPath;
-use dav_io::{Moment, NoMemory};
+use dav_io::Moment;
 use dav_lock::{DavLock, DavLockSystem, FakeLs, Lease, LockError};
+use dav_rows::Line;
 use std::alloc::Global;
 use uuid::Uuid;
 
@@ -48,68 +49,60 @@ fn refreshed(alloc: Global, row: &str) -> Option<DavLock> {
 }
 
 /// Adds the lock that is given.
-pub fn lock(alloc: Global, line: &mut String, row: &str) -> Result<(), NoMemory> {
-    match given(alloc, row) {
-        Some(lock) => tell_lock(line, &lock.try_clone()?),
-        None => Ok(()),
+pub fn lock(alloc: Global, line: &mut Line, row: &str) {
+    if let Some(lock) = given(alloc, row) {
+        match lock.try_clone() {
+            Ok(copy) => tell_lock(line, &copy),
+            Err(_) => line.refuse(),
+        }
     }
 }
 
 /// Adds the lock that is refreshed.
-pub fn refresh(alloc: Global, line: &mut String, row: &str) -> Result<(), NoMemory> {
-    match refreshed(alloc, row) {
-        Some(lock) => tell_lock(line, &lock),
-        None => Ok(()),
+pub fn refresh(alloc: Global, line: &mut Line, row: &str) {
+    if let Some(lock) = refreshed(alloc, row) {
+        tell_lock(line, &lock);
     }
 }
 
 /// Adds what the calls answer that give no lock: those that let a lock go, the check of a path, and how many are found.
-pub fn let_go(alloc: Global, line: &mut String, row: &str) -> Result<(), NoMemory> {
-    let path = match DavPath::new(alloc, word(row, 1)) {
-        Ok(path) => path,
-        Err(_) => return Ok(()),
-    };
+pub fn let_go(alloc: Global, line: &mut Line, row: &str) {
+    if let Ok(path) = DavPath::new(alloc, word(row, 1)) {
+        tell_calls(alloc, line, &path, word(row, 2));
+    }
+}
+
+fn tell_calls(alloc: Global, line: &mut Line, path: &DavPath, token: &str) {
     let locks = FakeLs::new();
-    tell_answer(line, "unlock", locks.unlock(&path, word(row, 2)))?;
-    tell_answer(line, " check", locks.check(&path, None, false, true, &[]))?;
-    tell_answer(line, " delete", locks.delete(&path))?;
-    match locks.discover(alloc, &path) {
-        Ok(found) => {
-            let count = found.try_clone()?.as_slice().len();
-            write!(line, " found {count}")?;
-            Ok(())
-        }
-        Err(_) => tell(line, "", " refused"),
+    tell_answer(line, "unlock", locks.unlock(path, token));
+    tell_answer(line, " check", locks.check(path, None, false, true, &[]));
+    tell_answer(line, " delete", locks.delete(path));
+    match locks.discover(alloc, path) {
+        Ok(found) => match found.try_clone() {
+            Ok(copy) => line.add_number(" found ", copy.as_slice().len() as u64),
+            Err(_) => line.refuse(),
+        },
+        Err(_) => line.add(" refused"),
     }
 }
 
-fn tell_answer(
-    line: &mut String,
-    call: &str,
-    answer: Result<(), LockError>,
-) -> Result<(), NoMemory> {
-    tell(
-        line,
-        call,
-        if answer.is_ok() { " done" } else { " refused" },
-    )
+fn tell_answer(line: &mut Line, call: &str, answer: Result<(), LockError>) {
+    line.tell(call, if answer.is_ok() { " done" } else { " refused" });
 }
 
-fn tell_lock(line: &mut String, lock: &DavLock) -> Result<(), NoMemory> {
-    tell(line, "", lock.token.as_str())?;
-    tell(line, "", if lock.deep { " deep" } else { " flat" })?;
-    tell(line, "", if lock.shared { " shared" } else { " alone" })?;
-    match &lock.principal {
-        Some(principal) => tell(line, " of ", principal.as_str())?,
-        None => {}
+fn tell_lock(line: &mut Line, lock: &DavLock) {
+    line.add(lock.token.as_str());
+    line.add(if lock.deep { " deep" } else { " flat" });
+    line.add(if lock.shared { " shared" } else { " alone" });
+    if let Some(principal) = &lock.principal {
+        line.tell(" of ", principal.as_str());
     }
-    match lock.timeout {
-        Some(lease) => write!(line, " {}s {}ns", lease.secs, lease.nanos)?,
-        None => {}
+    if let Some(lease) = lock.timeout {
+        line.add_number(" ", lease.secs);
+        line.add_number("s ", u64::from(lease.nanos));
+        line.add("ns");
     }
-    match lock.timeout_at {
-        Some(moment) => write!(line, " to {}", moment.0)?,
-        None => {}
+    if let Some(moment) = lock.timeout_at {
+        line.add_number(" to ", moment.0);
     }
-    Ok(())
 }

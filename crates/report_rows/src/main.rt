@@ -14,14 +14,14 @@ mod texts;
 mod trees;
 mod values;
 
+use dav_rows::Line;
 use std::io;
 
 fn main(rt: HostRuntime) -> io::Result<()> {
-    for line in rt.lines(rt.alloc()) {
-        match answers::answer(rt.alloc(), line?.as_str()) {
-            Ok(told) => println!(rt; "{told}")?,
-            Err(_) => println!(rt; "out of memory")?,
-        }
+    for row in rt.lines(rt.alloc()) {
+        let mut line = Line::new(rt.alloc());
+        answers::answer(rt.alloc(), &mut line, row?.as_str());
+        println!(rt; "{}", line.as_str())?;
     }
     Ok(())
 }

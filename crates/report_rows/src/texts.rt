@@ -2,6 +2,7 @@
 //! character is that character. A word has cells with `|` between them.
 
 use dav_io::{NoMemory, Text};
+use dav_rows::Line;
 use std::alloc::Global;
 
 /// The word of this number in a row.
@@ -46,17 +47,15 @@ pub fn read_text(alloc: Global, cell: &str) -> Result<Text, NoMemory> {
     Ok(Text::new(read(alloc, cell)?))
 }
 
-/// Adds a text behind a mark.
-pub fn tell(line: &mut String, mark: &str, text: &str) -> Result<(), NoMemory> {
-    line.push_str(mark)?;
-    line.push_str(text)?;
-    Ok(())
+/// Adds a text behind a mark, or a minus sign where there is none.
+pub fn tell_maybe(line: &mut Line, mark: &str, text: &Option<Text>) {
+    match text {
+        Some(text) => line.tell(mark, text.as_str()),
+        None => line.tell(mark, "-"),
+    }
 }
 
-/// Adds a text behind a mark, or a minus sign where there is none.
-pub fn tell_maybe(line: &mut String, mark: &str, text: &Option<Text>) -> Result<(), NoMemory> {
-    match text {
-        Some(text) => tell(line, mark, text.as_str()),
-        None => tell(line, mark, "-"),
-    }
+/// Adds whether something holds.
+pub fn tell_whether(line: &mut Line, holds: bool) {
+    line.add(if holds { "yes" } else { "no" });
 }

@@ -8,34 +8,46 @@
 //!
 //! A printed tree is in the same words, with `ns|PREFIX|URI` for each namespace that an element declares.
 
-use crate::texts::{cell, read_text, tell};
+use crate::texts::{cell, read_text};
 use dav_io::{NoMemory, Text};
 use dav_lock::{Element, Pairs, XmlNode};
 use dav_report::ElementExt;
+use dav_rows::Line;
 use std::alloc::Global;
 
 /// An element that holds the trees of a row behind its first words.
 pub fn read(alloc: Global, row: &str, first: usize) -> Result<Element, NoMemory> {
     let mut open = Vec::new(alloc);
-    open.push(Element::new2(alloc, "")?)?;
+    let holds = add_all(alloc, &mut open, row, first);
+    match open.pop() {
+        Some(holder) => holds.map(|_| holder),
+        None => Err(NoMemory),
+    }
+}
+
+// Opens the element that is to hold the trees, adds them, and closes what is open in it.
+fn add_all(
+    alloc: Global,
+    open: &mut Vec<Element>,
+    row: &str,
+    first: usize,
+) -> Result<(), NoMemory> {
+    open_element(alloc, open, "")?;
     let mut times: u64 = 1;
     for word in row.split(' ').skip(first) {
         if cell(word, 0) == "x" {
             times = cell(word, 1).parse::<u64>().unwrap_or(1);
         } else {
             for _ in 0..times {
-                add(alloc, &mut open, word)?;
+                add(alloc, open, word)?;
             }
             times = 1;
         }
     }
     for _ in 1..open.len() {
-        close(&mut open)?;
+        close(open)?;
     }
-    match open.pop() {
-        Some(holder) => Ok(holder),
-        None => Element::new2(alloc, ""),
-    }
+    Ok(())
 }
 
 /// The first tree of a row behind its first words.
@@ -48,41 +60,57 @@ pub fn root(alloc: Global, row: &str, first: usize) -> Result<Element, NoMemory>
 
 fn add(alloc: Global, open: &mut Vec<Element>, word: &str) -> Result<(), NoMemory> {
     match cell(word, 0) {
-        "e" => {
-            open.push(start(alloc, word)?)?;
+        "e" => start(alloc, open, word),
+        "/" => close(open),
+        "n" => {
+            name_space(open, read_text(alloc, cell(word, 1))?);
             Ok(())
         }
-        "n" => name_space(open, read_text(alloc, cell(word, 1))?),
-        "t" => add_node(open, XmlNode::Text(read_text(alloc, cell(word, 1))?)),
-        "c" => add_node(open, XmlNode::Comment(read_text(alloc, cell(word, 1))?)),
-        "d" => add_node(open, XmlNode::CData(read_text(alloc, cell(word, 1))?)),
-        "p" => {
-            let target = read_text(alloc, cell(word, 1))?;
-            add_node(open, XmlNode::ProcessingInstruction(target, None))
-        }
-        "/" => close(open),
-        _ => Ok(()),
+        _ => match node(alloc, word)? {
+            Some(node) => add_node(open, node),
+            None => Ok(()),
+        },
     }
 }
 
-fn start(alloc: Global, word: &str) -> Result<Element, NoMemory> {
-    let mut element = Element::new2(alloc, cell(word, 1))?;
+// The node of a word that is no element's.
+fn node(alloc: Global, word: &str) -> Result<Option<XmlNode>, NoMemory> {
+    let text = read_text(alloc, cell(word, 1))?;
+    Ok(match cell(word, 0) {
+        "t" => Some(XmlNode::Text(text)),
+        "c" => Some(XmlNode::Comment(text)),
+        "d" => Some(XmlNode::CData(text)),
+        "p" => Some(XmlNode::ProcessingInstruction(text, None)),
+        _ => None,
+    })
+}
+
+fn open_element(alloc: Global, open: &mut Vec<Element>, name: &str) -> Result<(), NoMemory> {
+    open.push(Element::new2(alloc, name)?)?;
+    Ok(())
+}
+
+fn start(alloc: Global, open: &mut Vec<Element>, word: &str) -> Result<(), NoMemory> {
+    open_element(alloc, open, cell(word, 1))?;
+    match open.last_mut() {
+        Some(element) => add_attributes(alloc, &mut element.attributes, word),
+        None => Ok(()),
+    }
+}
+
+fn add_attributes(alloc: Global, attributes: &mut Pairs, word: &str) -> Result<(), NoMemory> {
     for attribute in word.split('|').skip(2) {
         let name = attribute.split('=').next().unwrap_or("");
         let value = attribute.split('=').nth(1).unwrap_or("");
-        element
-            .attributes
-            .put(Text::copy(alloc, name)?, read_text(alloc, value)?)?;
-    }
-    Ok(element)
-}
-
-fn name_space(open: &mut Vec<Element>, uri: Text) -> Result<(), NoMemory> {
-    match open.last_mut() {
-        Some(element) => element.namespace = Some(uri),
-        None => {}
+        attributes.put(Text::copy(alloc, name)?, read_text(alloc, value)?)?;
     }
     Ok(())
+}
+
+fn name_space(open: &mut Vec<Element>, uri: Text) {
+    if let Some(element) = open.last_mut() {
+        element.namespace = Some(uri);
+    }
 }
 
 fn add_node(open: &mut Vec<Element>, node: XmlNode) -> Result<(), NoMemory> {
@@ -99,63 +127,52 @@ fn close(open: &mut Vec<Element>) -> Result<(), NoMemory> {
     }
 }
 
-fn tell_start(line: &mut String, element: &Element) -> Result<(), NoMemory> {
-    line.push_str(" e|")?;
-    match &element.prefix {
-        Some(prefix) => {
-            line.push_str(prefix.as_str())?;
-            line.push(':')?;
-        }
-        None => {}
+fn tell_start(line: &mut Line, element: &Element) {
+    line.add(" e|");
+    if let Some(prefix) = &element.prefix {
+        line.tell(prefix.as_str(), ":");
     }
-    line.push_str(element.name.as_str())?;
-    tell_attributes(line, &element.attributes)?;
-    match &element.namespace {
-        Some(uri) => tell(line, " n|", uri.as_str())?,
-        None => {}
+    line.add(element.name.as_str());
+    tell_pairs(
+        line,
+        &element.attributes,
+        &["content-type", "name", "version"],
+        ["|", "="],
+    );
+    if let Some(uri) = &element.namespace {
+        line.tell(" n|", uri.as_str());
     }
-    match &element.namespaces {
-        Some(pairs) => tell_namespaces(line, pairs),
-        None => Ok(()),
+    if let Some(pairs) = &element.namespaces {
+        tell_pairs(line, pairs, &["C", "D"], [" ns|", "|"]);
     }
 }
 
-fn tell_attributes(line: &mut String, pairs: &Pairs) -> Result<(), NoMemory> {
-    for name in ["content-type", "name", "version"] {
-        match pairs.find(name) {
-            Some(value) => {
-                tell(line, "|", name)?;
-                tell(line, "=", value.as_str())?;
-            }
-            None => {}
+// Adds the pairs of these names, with a mark in front of each name and each value.
+fn tell_pairs(line: &mut Line, pairs: &Pairs, names: &[&str], marks: [&str; 2]) {
+    for name in names {
+        if let Some(value) = pairs.find(name) {
+            line.tell(marks[0], name);
+            line.tell(marks[1], value.as_str());
         }
     }
-    Ok(())
-}
-
-fn tell_namespaces(line: &mut String, pairs: &Pairs) -> Result<(), NoMemory> {
-    for prefix in ["C", "D"] {
-        match pairs.find(prefix) {
-            Some(uri) => {
-                tell(line, " ns|", prefix)?;
-                tell(line, "|", uri.as_str())?;
-            }
-            None => {}
-        }
-    }
-    Ok(())
 }
 
 /// Adds the words of an element tree.
-pub fn tell_tree(alloc: Global, line: &mut String, root: &Element) -> Result<(), NoMemory> {
-    tell_start(line, root)?;
+pub fn tell_tree(alloc: Global, line: &mut Line, root: &Element) {
+    if tell_inner(alloc, line, root).is_err() {
+        line.refuse();
+    }
+}
+
+fn tell_inner(alloc: Global, line: &mut Line, root: &Element) -> Result<(), NoMemory> {
+    tell_start(line, root);
     let mut waiting = Vec::new(alloc);
     waiting.push(root.children.as_slice())?;
     for _ in 0..u64::MAX {
         let (first, others) = match waiting.pop() {
             Some([first, others @ ..]) => (first, others),
             Some([]) => {
-                line.push_str(" /")?;
+                line.add(" /");
                 continue;
             }
             None => break,
@@ -163,14 +180,21 @@ pub fn tell_tree(alloc: Global, line: &mut String, root: &Element) -> Result<(),
         waiting.push(others)?;
         match first {
             XmlNode::Element(inner) => {
-                tell_start(line, inner)?;
+                tell_start(line, inner);
                 waiting.push(inner.children.as_slice())?;
             }
-            XmlNode::Text(text) => tell(line, " t|", text.as_str())?,
-            XmlNode::Comment(text) => tell(line, " c|", text.as_str())?,
-            XmlNode::CData(text) => tell(line, " d|", text.as_str())?,
-            XmlNode::ProcessingInstruction(target, _) => tell(line, " p|", target.as_str())?,
+            _ => tell_leaf(line, first),
         }
     }
     Ok(())
+}
+
+fn tell_leaf(line: &mut Line, node: &XmlNode) {
+    match node {
+        XmlNode::Element(_) => {}
+        XmlNode::Text(text) => line.tell(" t|", text.as_str()),
+        XmlNode::Comment(text) => line.tell(" c|", text.as_str()),
+        XmlNode::CData(text) => line.tell(" d|", text.as_str()),
+        XmlNode::ProcessingInstruction(target, _) => line.tell(" p|", target.as_str()),
+    }
 }

@@ -5,80 +5,117 @@
 //! - `report PATH ETAG TEXT LINK` prints a report of one resource and one link that led to none.
 
 use crate::filters;
-use crate::texts::{read_text, tell, tell_maybe, word};
+use crate::texts::{read_text, tell_maybe, word};
 use dav_core::DavPath;
 use dav_io::NoMemory;
 use dav_report::caldav::CalendarProperties;
 use dav_report::carddav::AddressBookProperties;
 use dav_report::{Names, ParameterFilter, Record, Records, Report, TextMatch};
+use dav_rows::Line;
 use std::alloc::Global;
 
 /// Adds what a row makes.
-pub fn make(alloc: Global, line: &mut String, row: &str) -> Result<(), NoMemory> {
+pub fn make(alloc: Global, line: &mut Line, row: &str) {
     match word(row, 0) {
-        "calendar-defaults" => tell_calendar(
-            line,
-            &CalendarProperties::defaults(alloc)?.try_clone()?,
-        ),
-        "address-defaults" => tell_book(
-            line,
-            &AddressBookProperties::defaults(alloc)?.try_clone()?,
-        ),
-        "parameter" => filters::tell_parameter(line, &ParameterFilter::new(alloc, word(row, 1))?),
-        "match" => filters::tell_match(line, &Some(TextMatch::defaults(alloc)?)),
-        "report" => match DavPath::new(alloc, word(row, 1)) {
-            Ok(path) => tell_report(line, &report(alloc, path, row)?.try_clone()?),
-            Err(_) => Ok(()),
+        "calendar-defaults" => match calendar(alloc) {
+            Ok(properties) => tell_calendar(line, &properties),
+            Err(_) => line.refuse(),
         },
-        _ => Ok(()),
+        "address-defaults" => match book(alloc) {
+            Ok(properties) => tell_book(line, &properties),
+            Err(_) => line.refuse(),
+        },
+        "parameter" => match ParameterFilter::new(alloc, word(row, 1)) {
+            Ok(filter) => filters::tell_parameter(line, &filter),
+            Err(_) => line.refuse(),
+        },
+        "match" => match TextMatch::defaults(alloc) {
+            Ok(asked) => filters::tell_match(line, &Some(asked)),
+            Err(_) => line.refuse(),
+        },
+        "report" => make_report(alloc, line, row),
+        _ => {}
     }
 }
 
-fn tell_size(line: &mut String, size: Option<u64>) -> Result<(), NoMemory> {
+fn calendar(alloc: Global) -> Result<CalendarProperties, NoMemory> {
+    CalendarProperties::defaults(alloc)?.try_clone()
+}
+
+fn book(alloc: Global) -> Result<AddressBookProperties, NoMemory> {
+    AddressBookProperties::defaults(alloc)?.try_clone()
+}
+
+fn tell_size(line: &mut Line, size: Option<u64>) {
     match size {
-        Some(size) => write!(line, "|{size}")?,
-        None => line.push_str("|-")?,
+        Some(size) => line.add_number("|", size),
+        None => line.add("|-"),
     }
-    Ok(())
 }
 
-fn tell_calendar(line: &mut String, properties: &CalendarProperties) -> Result<(), NoMemory> {
-    tell_maybe(line, "|", &properties.description)?;
-    tell_maybe(line, "|", &properties.timezone)?;
+fn tell_calendar(line: &mut Line, properties: &CalendarProperties) {
+    tell_maybe(line, "|", &properties.description);
+    tell_maybe(line, "|", &properties.timezone);
     for kind in properties.supported_components.as_slice() {
-        tell(line, "|", kind.as_str())?;
+        line.tell("|", kind.as_str());
     }
-    tell_size(line, properties.max_resource_size)?;
-    tell_maybe(line, "|", &properties.color)?;
-    tell_maybe(line, "|", &properties.display_name)
+    tell_size(line, properties.max_resource_size);
+    tell_maybe(line, "|", &properties.color);
+    tell_maybe(line, "|", &properties.display_name);
 }
 
-fn tell_book(line: &mut String, properties: &AddressBookProperties) -> Result<(), NoMemory> {
-    tell_maybe(line, "|", &properties.description)?;
-    tell_size(line, properties.max_resource_size)?;
-    tell_maybe(line, "|", &properties.display_name)
+fn tell_book(line: &mut Line, properties: &AddressBookProperties) {
+    tell_maybe(line, "|", &properties.description);
+    tell_size(line, properties.max_resource_size);
+    tell_maybe(line, "|", &properties.display_name);
 }
 
-fn report(alloc: Global, path: DavPath, row: &str) -> Result<Report, NoMemory> {
-    let mut records = Records::empty(alloc);
-    records.push(Record {
-        path,
-        etag: read_text(alloc, word(row, 2))?,
-        text: read_text(alloc, word(row, 3))?,
-    })?;
-    let mut missing = Names::empty(alloc);
-    missing.push(read_text(alloc, word(row, 4))?)?;
+fn make_report(alloc: Global, line: &mut Line, row: &str) {
+    match report(alloc, row) {
+        Ok(report) => match report.try_clone() {
+            Ok(copy) => tell_report(line, &copy),
+            Err(_) => line.refuse(),
+        },
+        Err(_) => line.refuse(),
+    }
+}
+
+fn report(alloc: Global, row: &str) -> Result<Report, NoMemory> {
+    let records = records(alloc, row)?;
+    let missing = missing(alloc, row)?;
     Ok(Report { records, missing })
 }
 
-fn tell_report(line: &mut String, report: &Report) -> Result<(), NoMemory> {
+fn records(alloc: Global, row: &str) -> Result<Records, NoMemory> {
+    let mut records = Records::empty(alloc);
+    if let Ok(path) = DavPath::new(alloc, word(row, 1)) {
+        let etag = read_text(alloc, word(row, 2))?;
+        let text = read_text(alloc, word(row, 3))?;
+        records.push(Record { path, etag, text })?;
+    }
+    Ok(records)
+}
+
+fn missing(alloc: Global, row: &str) -> Result<Names, NoMemory> {
+    let mut missing = Names::empty(alloc);
+    missing.push(read_text(alloc, word(row, 4))?)?;
+    Ok(missing)
+}
+
+fn tell_report(line: &mut Line, report: &Report) {
     for found in report.records.as_slice() {
-        tell(line, "at ", found.path.as_url_string()?.as_str())?;
-        tell(line, " ", found.etag.as_str())?;
-        tell(line, " ", found.text.as_str())?;
+        tell_record(line, found);
     }
     for link in report.missing.as_slice() {
-        tell(line, " missing ", link.as_str())?;
+        line.tell(" missing ", link.as_str());
     }
-    Ok(())
+}
+
+fn tell_record(line: &mut Line, found: &Record) {
+    match found.path.as_url_string() {
+        Ok(address) => line.tell("at ", address.as_str()),
+        Err(_) => line.refuse(),
+    }
+    line.tell(" ", found.etag.as_str());
+    line.tell(" ", found.text.as_str());
 }
