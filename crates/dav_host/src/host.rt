@@ -56,7 +56,7 @@ fn open_file<R: Files>(rt: &R, path: &str, how: OpenOptions, public: bool) -> io
 }
 
 impl<R: Files + AllocGlobal + Clone + Drop> HostDisk<R> {
-    /// The folder `root`, with room for the text of a path.
+    /// The folder `root`, with room for the texts of two paths.
     pub fn new(alloc: Global, rt: R, root: &str) -> Result<HostDisk<R>, NoMemory>
         ensures state { IfOk result (λ d. ⟦<HostDisk<R> as Disk>⟧.state d ≡ untold 0 0 (λ _. None) (λ _. None)) }
         ensures root { IfOk result (λ d. string_bytes d.root ≡ root.now) }
