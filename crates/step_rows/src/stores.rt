@@ -11,7 +11,7 @@
 //!     write PATH BYTES        writes bytes twice, as a slice and as a buffer
 //!     list PATH WORD          the entries of a listing to its end, each with its metadata; WORD is `data`, `link` or `none`
 //!     members PATH            how many members are read, and each with kind, length and time
-//!     rest PATH               the calls that no disk has so far
+//!     rest PATH               the calls that change what stands, of the path and onto itself
 //!
 //! A row begins with `store`, and sets its disk as `scene.rt` says. What a call answers stands before a `|`.
 ghost use Rattle.std.specs.Prelude.{◌≡◌};
