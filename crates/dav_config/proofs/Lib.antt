@@ -1,3 +1,7 @@
+mod Causes
+mod Draining
+mod Failures
+mod Merged
 mod Giving
 mod Names
 mod Pieces

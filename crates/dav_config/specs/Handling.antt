@@ -1,7 +1,9 @@
 -- What a handler answers a request with, over any store.
 use Rattle.std.specs.Prelude.{◌≡◌, ℕ, Bool, false, not, List, Option, None, Some, Result}
 use Rattle.dav_io.specs.declared.clock.Moment.{Moment}
+use Rattle.dav_io.specs.Counts.{Rose}
 use Rattle.http.specs.declared.request.Parts.{Parts}
+use Rattle.http.specs.Response.{head_of}
 use Rattle.dav_core.specs.declared.disk.Disk.{Ghosts as DiskGhosts}
 use Rattle.dav_core.specs.declared.error.FsError.{FsError}
 use Rattle.dav_core.specs.declared.member.Member.{Member}
@@ -28,6 +30,7 @@ use Rattle.dav_get.specs.Lives.{HasMost, OpenOnlyHeld}
 use Rattle.dav_get.specs.Right.{reply_at}
 use Rattle.dav_get.specs.Table.{Given}
 use Rattle.dav_get.specs.Told.{IsRightFor, ShowsFor}
+use Rattle.dav_config.specs.Failing.{FailsOver}
 use Rattle.dav_config.specs.Reading.{ReadsBulk}
 use Rattle.dav_config.specs.Responses.{IsBare, Responded, Responds}
 
@@ -113,12 +116,18 @@ module _ {S C F L E : Type 0} (served : Served S C F L E) where
     pub gives : Gives q c s given t
     pub responds : Responds q.fields given r
 
+  -- Setting a store's moment changes nothing of its disk.
+  pub record SetsMoment (s : S) (now : Moment) : Type 0 where
+    pub state : served.view.state (served.with_now s now) ≡ served.view.state s
+    pub loan : served.view.loan (served.with_now s now) ≡ served.view.loan s
+
   -- There is a store, and over it, once its moment is set, a GET or HEAD is answered so.
   pub record Passes (q : Query) (asking : Asking C) (old : Option S) (r : Responded F) (new : Option S) : Type 0 where
     pub before : S
     pub after : S
     pub was : old ≡ Some before
     pub is : new ≡ Some after
+    pub moment : SetsMoment before asking.now
     pub gives : GivesOver q asking.credentials (served.with_now before asking.now) r after
 
   -- The gates' refusal, or what OPTIONS is told, with the store as it was; or the answer of a GET or HEAD over the store.
@@ -134,11 +143,26 @@ module _ {S C F L E : Type 0} (served : Served S C F L E) where
   Stays (Some s) None = ⊥
   Stays (Some s) (Some t) = Keeps (served.view.state s) (served.view.state t) × (served.view.loan t ≡ served.view.loan s)
 
+  -- the disk of a store met a fault
+  abbrev pub RoseIn : Option S → Option S → Type 0
+  RoseIn None t = ⊥
+  RoseIn (Some s) None = ⊥
+  RoseIn (Some s) (Some t) = Rose (served.view.state s).faults (served.view.state t).faults
+
+  -- Why a request is answered 500. The gates refuse it so where its reader met a fault.
+  abbrev pub FailsFor : Target → Asking C → Sides S → Sides S → Type 0
+  FailsFor (Refused status close) asking old new = Rose old.body.faults new.body.faults
+  FailsFor Methods asking old new = ⊥
+  FailsFor (At method path) asking old new = FailsOver served.view served.lists (query asking.settings asking.head.headers method path) asking.credentials
+      (λ s. served.with_now s asking.now) old.store new.store
+
   -- A request was answered.
   pub record Handles (asking : Asking C) (old : Sides S) (r : Responded F) (new : Sides S) : Type 0 where
     pub target : Target
     pub asks : IsTarget asking (is_stored served.void old.store) old.body target new.body
     pub answers : AnswersTo target asking old.store r new.store
+    -- it is answered 500 only for a cause
+    pub failed : (head_of r).status ≡ 500 → FailsFor target asking old new
 
   -- The reader was consumed with the request. What is behind it is left as by a reader that stands on the same loan.
   abbrev pub HandlesAll : {B : Type 0} → ReaderGhosts B → Asking C → Option S → B → Responded F → Option S → Type 0

@@ -3,5 +3,7 @@ pub mod Lending
 pub mod Names
 pub mod Reading
 pub mod Responses
+pub mod Failing
 pub mod Handling
+pub mod Given
 pub mod Asked

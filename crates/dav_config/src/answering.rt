@@ -10,7 +10,7 @@ ghost use Rattle.dav_model.specs.Head.{refusal as the_refusal};
 ghost use Rattle.dav_body.specs.declared.body.BodyType.TheVariants.{Empty};
 ghost use Rattle.dav_get.specs.Bodies.{Closes, IsHeld};
 ghost use Rattle.dav_config.specs.Asked.{asking_of};
-ghost use Rattle.dav_config.specs.Handling.{AnswersTo, GivesOver, IsAt, Stays, is_stored as the_is_stored, the_served};
+ghost use Rattle.dav_config.specs.Handling.{AnswersTo, GivesOver, IsAt, SetsMoment, Stays, is_stored as the_is_stored, the_served};
 ghost use Rattle.dav_config.specs.Responses.{Gave, IsBare, SaysHead, inner_of};
 
 use crate::asked::Asked;
@@ -176,6 +176,8 @@ fn answer_over<S: GuardedFileSystem<C>, C>(
         (the_served S.GuardedFileSystem S.Disk.Disk S.File.DavFile S.Entry.DavDirEntry)
         (query asked.entry.now.settings.now (head_of asked.entry.now.head.now).headers method path.now)
         asked.entry.now.credentials.now (S.with_now fs.old asked.entry.now.now) r fs.new) }
+    ensures moment { SetsMoment
+        (the_served S.GuardedFileSystem S.Disk.Disk S.File.DavFile S.Entry.DavDirEntry) fs.old asked.entry.now.now }
     ensures memory { OnErr result (Keeps (S.Disk.state (S.inside fs.old)) (S.Disk.state (S.inside fs.new))) }
     ensures admits { S.admits fs.new }
     ensures loan { S.Disk.loan (S.inside fs.new) ≡ S.Disk.loan (S.inside fs.old) }

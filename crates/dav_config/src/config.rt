@@ -77,7 +77,7 @@ impl<S, C> DavConfig<S, C> {
     }
 
     /// Sets the path under which the server stands: nothing for the root, or a text that begins with `/` and has plain
-    /// names (`DavPath::fits_prefix` tells).
+    /// names (`DavPath::prefix_fits` tells).
     ///
     /// Errors: want of memory; then the configuration is gone.
     pub fn strip_prefix(self, prefix: &str) -> Result<Self, NoMemory>

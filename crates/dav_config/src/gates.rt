@@ -9,16 +9,16 @@ ghost use Rattle.dav_core.specs.Methods.{same_method};
 ghost use Rattle.dav_core.specs.declared.method.DavMethod.TheVariants.{Options};
 ghost use Rattle.dav_core.specs.Statuses.{path_status as the_path_status};
 ghost use Rattle.dav_model.specs.Conditions.{reads as the_reads};
-ghost use Rattle.dav_model.specs.Gates.{admitted as the_admitted, asked as the_asked, announces_body as the_announces_body, has_field as the_has_field, in_allowed, is_allowed as the_is_allowed, is_built as the_is_built, of_body as the_of_body, takes_much as the_takes_much, takes_some as the_takes_some, weighed as the_weighed, with_path as the_with_path};
+ghost use Rattle.dav_model.specs.Gates.{admitted as the_admitted, asked as the_asked, has_field as the_has_field, in_allowed, is_allowed as the_is_allowed, is_built as the_is_built, of_body as the_of_body, takes_much as the_takes_much, takes_some as the_takes_some, weighed as the_weighed, with_path as the_with_path};
 ghost use Rattle.dav_model.specs.declared.target.Target.TheVariants.{Refused};
-ghost use Rattle.dav_config.specs.Names.{is_as_long as the_is_as_long, is_short as the_is_short};
+ghost use Rattle.dav_config.specs.Names.{is_short as the_is_short};
 ghost use Rattle.dav_config.specs.Reading.{seen_as};
 
 use crate::bulk::BodyBulk;
 use dav_core::{DavMethod, DavMethodSet, DavPath, ParseError, dav_method};
 use dav_io::NoMemory;
 use dav_model::{Settings, Target};
-use http::header::{CONTENT_LENGTH, HeaderName, TRANSFER_ENCODING};
+use http::header::HeaderName;
 use http::{HeaderMap, Request, Uri};
 use std::alloc::Global;
 
@@ -26,27 +26,6 @@ fn refused(status: u16, close: bool) -> Target
     ensures { result ≡ Refused status close }
 {
     Target::Refused { status, close }
-}
-
-// Whether there is a field of this name.
-fn has_field(fields: &HeaderMap, name: &HeaderName) -> bool
-    ensures { result ≡ the_has_field fields.now name.now }
-{
-    fields.get(name).is_some()
-}
-
-// Whether a name is as long as one of those that announce a body.
-fn is_as_long(name: &HeaderName) -> bool
-    ensures { result ≡ the_is_as_long name.now }
-{
-    matches!(name.as_str().len(), 14 | 17)
-}
-
-// Whether there may be a field that announces a body. Most requests have none, and the lengths of their names tell so.
-fn may_announce(fields: &HeaderMap) -> bool
-    ensures { result ≡ list_any the_is_as_long (keys fields.now) }
-{
-    fields.keys().any(|name| is_as_long(name))
 }
 
 // Whether a name has two bytes, as `if`.
@@ -72,21 +51,6 @@ fn has_if(fields: &HeaderMap) -> bool
         return false;
     }
     fields.get("if").is_some()
-}
-
-/// Whether the fields of a request announce a body (RFC 9112, section 6.3). Who doesn't read the body can't know where
-/// the next request begins.
-#[tactic(auto, using(crate::proofs::Names::none_announced))]
-pub fn announces_body(fields: &HeaderMap) -> bool
-    ensures { result ≡ the_announces_body fields.now }
-{
-    if !may_announce(fields) {
-        return false;
-    }
-    if has_field(fields, &CONTENT_LENGTH) {
-        return true;
-    }
-    has_field(fields, &TRANSFER_ENCODING)
 }
 
 // Whether a method reads. OPTIONS is built beside, and no other.

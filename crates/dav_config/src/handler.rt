@@ -5,13 +5,16 @@ ghost use Rattle.http.specs.Request.{body_of, head_of};
 ghost use Rattle.dav_model.specs.Unset.{nothing_set};
 ghost use Rattle.dav_body.specs.Bodies.{MayPoll};
 ghost use Rattle.dav_get.specs.Bodies.{IsHeld};
+ghost use Rattle.dav_config.specs.Given.{HandlesWith, StaysWith};
 ghost use Rattle.dav_config.specs.Handling.{HandlesAll, Stays, asking, the_served};
+ghost use Rattle.dav_config.specs.Merging.{merged as the_merged};
 ghost use Rattle.dav_config.specs.Responses.{inner_of};
 
 use crate::answering::Answered;
 use crate::config::DavConfig;
+use crate::given::handle_given;
 use crate::handling::handle_by;
-use crate::merging::with_principal;
+use crate::merging::{merged, with_principal};
 use dav_body::StreamBody;
 use dav_io::Moment;
 use dav_model::Settings;
@@ -147,5 +150,79 @@ impl<S: GuardedFileSystem<()>> DavHandler<S, ()> {
     {
         let (head, stream) = req.into_parts();
         self.handle(Request::from_parts(head, stream.into_inner()), now)
+    }
+
+    /// Answers a request as `handle` does, by its settings with those of a configuration that are set in their place
+    /// (`DavConfig::merge`). Where the configuration has a store, that one is asked, and ends with the call; its answer
+    /// has all bytes of the body, which were collected, or no body where there are none. Where the body broke, the
+    /// answer is 500. The handler's own settings stay.
+    ///
+    /// `done`: the answer of `handle` over the handler's store; or over the one that was given, with its body collected,
+    /// and then the handler's is as it was and nothing of the given one is left open. `memory`: likewise.
+    pub fn handle_with<B: BodyReader + Drop>(
+        &mut self,
+        config: DavConfig<S, ()>,
+        req: Request<B>,
+        now: Moment,
+    ) -> Answered<S::File>
+    where
+        S: Drop,
+        requires own { IfSome self.old.store S.admits }
+        requires given { IfSome config.store S.admits }
+        ensures done { IfOk result (λ r. HandlesWith
+            (the_served S.GuardedFileSystem S.Disk.Disk S.File.DavFile S.Entry.DavDirEntry)
+            S.Disk.state S.Disk.loan S.inside B.BodyReader
+            (asking (the_merged self.old.settings config.settings) (head_of req) tt now) config.store
+            self.old.store (body_of req) r self.new.store) }
+        ensures may { IfOk result (λ r. IfSome self.new.store (λ s. MayPoll
+            (λ b d. IsHeld S.File.handle S.File.seen (S.Disk.state d) b) (inner_of r) (S.inside s))) }
+        ensures memory { OnErr result (StaysWith
+            (the_served S.GuardedFileSystem S.Disk.Disk S.File.DavFile S.Entry.DavDirEntry) config.store
+            self.old.store self.new.store) }
+        ensures admits { IfSome self.new.store S.admits }
+        ensures settings { self.new.settings ≡ self.old.settings }
+    {
+        let DavConfig {
+            alloc: _,
+            settings,
+            store,
+            credentials: _,
+        } = config;
+        let merged = match merged(&self.settings, &settings) {
+            Ok(merged) => merged,
+            Err(error) => return Err(error),
+        };
+        match store {
+            Some(given) => handle_given(self.alloc, &merged, given, &(), req, now),
+            None => handle_by(self.alloc, &merged, &mut self.store, &(), req, now),
+        }
+    }
+
+    /// Answers a request whose body is a stream over a reader, as `handle_with` does with the reader inside.
+    pub fn handle_stream_with<B: BodyReader + Drop>(
+        &mut self,
+        config: DavConfig<S, ()>,
+        req: Request<StreamBody<B>>,
+        now: Moment,
+    ) -> Answered<S::File>
+    where
+        S: Drop,
+        requires own { IfSome self.old.store S.admits }
+        requires given { IfSome config.store S.admits }
+        ensures done { IfOk result (λ r. HandlesWith
+            (the_served S.GuardedFileSystem S.Disk.Disk S.File.DavFile S.Entry.DavDirEntry)
+            S.Disk.state S.Disk.loan S.inside B.BodyReader
+            (asking (the_merged self.old.settings config.settings) (head_of req) tt now) config.store
+            self.old.store (body_of req).body r self.new.store) }
+        ensures may { IfOk result (λ r. IfSome self.new.store (λ s. MayPoll
+            (λ b d. IsHeld S.File.handle S.File.seen (S.Disk.state d) b) (inner_of r) (S.inside s))) }
+        ensures memory { OnErr result (StaysWith
+            (the_served S.GuardedFileSystem S.Disk.Disk S.File.DavFile S.Entry.DavDirEntry) config.store
+            self.old.store self.new.store) }
+        ensures admits { IfSome self.new.store S.admits }
+        ensures settings { self.new.settings ≡ self.old.settings }
+    {
+        let (head, stream) = req.into_parts();
+        self.handle_with(config, Request::from_parts(head, stream.into_inner()), now)
     }
 }

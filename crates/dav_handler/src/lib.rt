@@ -7,7 +7,6 @@ mod gates;
 mod player;
 mod playing;
 
-pub use dav_config::announces_body;
 pub use dav_model::{Answer, Settings, Step};
 pub use dav_plain::PlainFs;
 pub use player::Player;

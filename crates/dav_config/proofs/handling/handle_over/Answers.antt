@@ -1,4 +1,6 @@
 use Rattle.dav_config.specs.Asked.{asking_of}
+use Rattle.dav_config.specs.Handling.{the_served}
+use Rattle.dav_config.proofs.Failures.{handled}
 use Rattle.dav_config.proofs.Unstored.{at_stored}
 use Rattle.dav_config.proofs.handling.handle_over.Goals as goal
 
@@ -6,3 +8,8 @@ pub answer-requires-clause-stored : goal.answer-requires-clause-stored
 answer-requires-clause-stored g c at =
     at_stored (asking_of c.args.asked.now) g.S.GuardedFileSystem.void c.args.store.now (g.B.BodyReader.state c.args.body.now) (g.B.BodyReader.state c.target.new.body)
     c.in-Ok.target (rw (← c.is_stored-stored.ensures) c.in-Ok.ensures.done) at
+
+pub returns-in-Ok-clause-done : goal.returns-in-Ok-clause-done
+returns-in-Ok-clause-done g c =
+    handled (the_served g.S.GuardedFileSystem g.S.Disk.Disk g.S.File.DavFile g.S.Entry.DavDirEntry) c.answer.result c.in-Ok.target (asking_of c.args.asked.now)
+    _ _ (rw (← c.is_stored-stored.ensures) c.in-Ok.ensures.done) c.answer.ensures.done
