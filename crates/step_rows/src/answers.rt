@@ -1,47 +1,43 @@
 //! Answers as words.
-use crate::cells::show;
-use anyhow::Result;
+use crate::cells::tell_bytes;
 use dav_handler::Answer;
 use dav_io::Field;
-use std::alloc::Global;
+use dav_rows::Line;
 
-fn show_fields(line: &mut String, fields: &[Field]) -> Result<()> {
+fn tell_fields(line: &mut Line, fields: &[Field]) {
     for (at, field) in fields.iter().enumerate() {
-        line.push_str(if at == 0 { " " } else { "; " })?;
-        line.push_str(field.name.as_str())?;
-        line.push('=')?;
-        show(line, field.value.as_slice())?;
+        line.add(if at == 0 { " " } else { "; " });
+        line.add(field.name.as_str());
+        line.add("=");
+        tell_bytes(line, field.value.as_slice());
     }
-    Ok(())
 }
 
-fn show_answer(alloc: Global, line: &mut String, answer: &Answer) -> Result<()> {
+fn tell_answer(line: &mut Line, answer: &Answer) {
     match answer {
         Answer::Reply {
             status,
             headers,
             body,
         } => {
-            line.push_str(format!(in alloc; "{status} {body}")?.as_str())?;
-            show_fields(line, headers.as_slice())?;
+            line.add_number("", u64::from(*status));
+            line.add_number(" ", u64::from(*body));
+            tell_fields(line, headers.as_slice());
         }
         Answer::Piece(bytes) => {
-            line.push_str("piece ")?;
-            show(line, bytes.as_slice())?;
+            line.add("piece ");
+            tell_bytes(line, bytes.as_slice());
         }
-        Answer::End => line.push_str("end")?,
-        Answer::Broken => line.push_str("broken")?,
-        Answer::Done => line.push_str("done")?,
+        Answer::End => line.add("end"),
+        Answer::Broken => line.add("broken"),
+        Answer::Done => line.add("done"),
     }
-    Ok(())
 }
 
-/// The answers, with `|` behind each.
-pub fn told(alloc: Global, answers: &[Answer]) -> Result<String> {
-    let mut line = String::new(alloc);
+/// Adds the answers, with `|` behind each.
+pub fn tell(line: &mut Line, answers: &[Answer]) {
     for answer in answers {
-        show_answer(alloc, &mut line, answer)?;
-        line.push_str(" | ")?;
+        tell_answer(line, answer);
+        line.add(" | ");
     }
-    Ok(line)
 }

@@ -10,13 +10,13 @@
 //! does. What a call answers stands before a `|`.
 ghost use Rattle.std.specs.Prelude.{◌≡◌, IsSome};
 
-use crate::cells::{number, path_of, show};
-use crate::scene::{set_disk, standing_of};
+use crate::cells::{number, path_of, tell_bytes, tell_time};
+use crate::scene::{Standing, set_disk, standing_of};
 use crate::steps::batch_of;
-use anyhow::{Result, bail};
-use dav_core::{Disk, DiskError, Handle, Kind, Lister, Meta, OpenOptions};
+use dav_core::{Disk, DiskError, FsPath, Handle, Kind, Lister, Meta, OpenOptions};
 use dav_disk::{MemDisk, SureDisk};
-use dav_io::Text;
+use dav_io::{NoMemory, Text};
+use dav_rows::Line;
 use std::alloc::Global;
 
 // The most bytes of a read.
@@ -24,11 +24,6 @@ const MOST: u64 = 10_000;
 
 // The most calls for a name in a listing.
 const MOST_NAMES: u32 = 100;
-
-// Appends what refused a call.
-fn show_error(alloc: Global, line: &mut String, error: DiskError) -> Result<()> {
-    Ok(line.push_str(format!(in alloc; "{error}")?.as_str())?)
-}
 
 fn kind_word(kind: Kind) -> &'static str {
     match kind {
@@ -38,63 +33,51 @@ fn kind_word(kind: Kind) -> &'static str {
     }
 }
 
-fn show_meta(alloc: Global, line: &mut String, answer: Result<Meta, DiskError>) -> Result<()> {
-    let meta = match answer {
-        Ok(meta) => meta,
-        Err(error) => return show_error(alloc, line, error),
-    };
-    let (kind, len) = (kind_word(meta.kind), meta.len);
-    line.push_str(format!(in alloc; "{kind} {} {len}", meta.number)?.as_str())?;
-    if let Some(time) = meta.modified {
-        line.push_str(format!(in alloc; " {}.{}", time.secs, time.nanos)?.as_str())?;
+fn tell_meta(line: &mut Line, answer: Result<Meta, DiskError>) {
+    match answer {
+        Ok(meta) => {
+            line.add(kind_word(meta.kind));
+            line.add_number(" ", meta.number);
+            line.add_number(" ", meta.len);
+            if let Some(time) = meta.modified {
+                line.add(" ");
+                tell_time(line, time);
+            }
+        }
+        Err(error) => line.add_value(&error),
     }
-    Ok(())
 }
 
-fn show_read(
-    alloc: Global,
-    line: &mut String,
-    answer: Result<usize, DiskError>,
-    buffer: &[u8],
-) -> Result<()> {
+fn tell_read(line: &mut Line, answer: Result<usize, DiskError>, buffer: &[u8]) {
     match answer {
         Ok(count) => {
-            line.push_str("read ")?;
-            show(line, buffer.get(..count).unwrap_or(b"?"))?;
+            line.add("read ");
+            tell_bytes(line, buffer.get(..count).unwrap_or(b"?"));
         }
-        Err(error) => show_error(alloc, line, error)?,
+        Err(error) => line.add_value(&error),
     }
-    Ok(())
 }
 
 // Reads into a room of so many bytes, at least one.
-fn read<D: Disk>(
-    alloc: Global,
-    disk: &mut D,
-    file: Handle,
-    room: u64,
-    line: &mut String,
-) -> Result<()>
+fn read<D: Disk>(alloc: Global, disk: &mut D, file: Handle, room: u64, line: &mut Line)
     requires { IsSome ((D.state disk.old).live file.0) }
     ensures { IsSome ((D.state disk.new).live file.0) }
 {
-    let mut buffer = vec![in alloc; 0u8; room.min(MOST) as usize + 1]?;
-    let _ = buffer.pop();
-    if buffer.is_empty() {
-        bail!("no room for a byte");
+    match vec![in alloc; 0u8; room.min(MOST) as usize] {
+        Ok(mut buffer) => {
+            if buffer.is_empty() {
+                line.refuse();
+            } else {
+                let answer = disk.read(file, buffer.as_mut_slice());
+                tell_read(line, answer, &buffer);
+            }
+        }
+        Err(_) => line.refuse(),
     }
-    let answer = disk.read(file, buffer.as_mut_slice());
-    show_read(alloc, line, answer, &buffer)
 }
 
 // Makes the call of a word on an open file.
-fn call_file<D: Disk>(
-    alloc: Global,
-    disk: &mut D,
-    file: Handle,
-    word: &str,
-    line: &mut String,
-) -> Result<()>
+fn call_file<D: Disk>(alloc: Global, disk: &mut D, file: Handle, word: &str, line: &mut Line)
     requires { IsSome ((D.state disk.old).live file.0) }
     ensures { IsSome ((D.state disk.new).live file.0) }
 {
@@ -102,146 +85,160 @@ fn call_file<D: Disk>(
     let kind = cells.next().unwrap_or("");
     let second = cells.next().unwrap_or("");
     match kind {
-        "meta" => show_meta(alloc, line, disk.file_meta(file)),
-        "seek" => match disk.seek(file, number(second)?) {
-            Ok(()) => Ok(line.push_str("sought")?),
-            Err(error) => show_error(alloc, line, error),
+        "meta" => tell_meta(line, disk.file_meta(file)),
+        "seek" => match disk.seek(file, number(second)) {
+            Ok(()) => line.add("sought"),
+            Err(error) => line.add_value(&error),
         },
-        "read" => read(alloc, disk, file, number(second)?, line),
+        "read" => read(alloc, disk, file, number(second), line),
         "turn" => turn(disk, line),
-        _ => bail!("no call of a file: {word}"),
+        _ => line.refuse(),
     }
 }
 
-fn turn<D: Disk>(disk: &mut D, line: &mut String) -> Result<()>
+fn turn<D: Disk>(disk: &mut D, line: &mut Line)
     ensures { (D.state disk.new).live ≡ (D.state disk.old).live }
 {
-    disk.turn()?;
-    Ok(line.push_str("turned")?)
+    match disk.turn() {
+        Ok(()) => line.add("turned"),
+        Err(_) => line.refuse(),
+    }
 }
 
 // Makes the calls of a part on an open file, and closes it.
-fn call_open<D: Disk>(
-    alloc: Global,
-    disk: &mut D,
-    file: Handle,
-    part: &str,
-    line: &mut String,
-) -> Result<()>
+fn call_open<D: Disk>(alloc: Global, disk: &mut D, file: Handle, part: &str, line: &mut Line)
     requires { IsSome ((D.state disk.old).live file.0) }
 {
     for word in part.split(' ').skip(2) {
-        call_file(alloc, disk, file, word, line)?;
-        line.push_str(" | ")?;
+        call_file(alloc, disk, file, word, line);
+        line.add(" | ");
     }
     disk.close(file);
-    Ok(line.push_str("closed")?)
+    line.add("closed");
 }
 
-// Appends what a listing answers, and tells whether it is at its end.
-fn show_name(
-    alloc: Global,
-    line: &mut String,
-    answer: Result<Option<Text>, DiskError>,
-) -> Result<bool> {
+// Adds what a listing answers, and tells whether it is at its end.
+fn tell_name(line: &mut Line, answer: Result<Option<Text>, DiskError>) -> bool {
     match answer {
-        Ok(Some(name)) => line.push_str(name.as_str())?,
+        Ok(Some(name)) => line.add(name.as_str()),
         Ok(None) => {
-            line.push_str("end")?;
-            return Ok(true);
+            line.add("end");
+            return true;
         }
-        Err(error) => show_error(alloc, line, error)?,
+        Err(error) => line.add_value(&error),
     }
-    line.push_str(" | ")?;
-    Ok(false)
+    line.add(" | ");
+    false
 }
 
 // Asks a listing for its names to the end. A call that fails loses none.
 #[tactic(auto, using(crate::proofs::Listing::stays_live))]
-fn list_names<D: Disk>(alloc: Global, disk: &mut D, at: Lister, line: &mut String) -> Result<()>
+fn list_names<D: Disk>(alloc: Global, disk: &mut D, at: Lister, line: &mut Line)
     requires { IsSome ((D.state disk.old).listers at.0) }
     ensures { IsSome ((D.state disk.new).listers at.0) }
 {
     'names: for _ in 0..MOST_NAMES {
         let answer = disk.list_next(alloc, at);
-        if show_name(alloc, line, answer)? {
-            return Ok(());
+        if tell_name(line, answer) {
+            return;
         }
     }
-    Ok(())
 }
 
-// Makes the calls of a part.
-fn call<D: Disk>(alloc: Global, disk: &mut D, part: &str, line: &mut String) -> Result<()> {
-    let mut words = part.split(' ');
-    let kind = words.next().unwrap_or("");
-    let path = path_of(alloc, words.next().unwrap_or(""))?;
-    match kind {
-        "meta" => show_meta(alloc, line, disk.meta(&path))?,
-        "open" => match disk.open(&path, OpenOptions::read(), false) {
-            Ok(file) => call_open(alloc, disk, file, part, line)?,
-            Err(error) => show_error(alloc, line, error)?,
+// Makes the call of a part at a path.
+fn call_at<D: Disk>(alloc: Global, disk: &mut D, path: &FsPath, part: &str, line: &mut Line) {
+    match part.split(' ').next().unwrap_or("") {
+        "meta" => tell_meta(line, disk.meta(path)),
+        "open" => match disk.open(path, OpenOptions::read(), false) {
+            Ok(file) => call_open(alloc, disk, file, part, line),
+            Err(error) => line.add_value(&error),
         },
-        "list" => match disk.list(&path) {
+        "list" => match disk.list(path) {
             Ok(at) => {
-                let listed = list_names(alloc, disk, at, line);
+                list_names(alloc, disk, at, line);
                 disk.end_list(at);
-                listed?;
             }
-            Err(error) => show_error(alloc, line, error)?,
+            Err(error) => line.add_value(&error),
         },
-        "turn" => turn(disk, line)?,
-        _ => bail!("no call of a disk: {part}"),
+        "turn" => turn(disk, line),
+        _ => line.refuse(),
     }
-    Ok(line.push_str(" | ")?)
+    line.add(" | ");
 }
 
-/// What a disk answers that may fail.
-pub fn calls(alloc: Global, parts: &str) -> Result<String> {
-    let mut disk = MemDisk::new(alloc)?;
-    let mut line = String::new(alloc);
-    for part in parts.split('|').skip(1) {
-        if !set_disk(alloc, &mut disk, part.trim())? {
-            call(alloc, &mut disk, part.trim(), &mut line)?;
+// Makes the call of a part.
+fn call<D: Disk>(alloc: Global, disk: &mut D, part: &str, line: &mut Line) {
+    match path_of(alloc, part.split(' ').nth(1).unwrap_or("")) {
+        Some(path) => call_at(alloc, disk, &path, part, line),
+        None => line.refuse(),
+    }
+}
+
+/// Adds what a disk answers that may fail.
+pub fn calls(alloc: Global, line: &mut Line, row: &str) {
+    match MemDisk::new(alloc) {
+        Ok(mut disk) => {
+            call_all(alloc, &mut disk, row, line);
+            line.add_number("asked ", disk.asked());
+            line.add_number(", failed ", disk.faults());
+        }
+        Err(_) => line.refuse(),
+    }
+}
+
+fn call_all(alloc: Global, disk: &mut MemDisk, row: &str, line: &mut Line) {
+    for part in row.split('|').skip(1) {
+        if !set_disk(alloc, disk, line, part.trim()) {
+            call(alloc, disk, part.trim(), line);
         }
     }
-    let (asked, faults) = (disk.asked(), disk.faults());
-    line.push_str(format!(in alloc; "asked {asked}, failed {faults}")?.as_str())?;
-    Ok(line)
 }
 
 // Sets what a part says of a sure disk, and answers whether it says something.
-fn set_sure(alloc: Global, disk: &mut SureDisk, part: &str) -> Result<bool> {
-    match part.split(' ').next().unwrap_or("") {
-        "dir" | "file" => add_sure(alloc, disk, part)?,
-        "batch" => disk.script(batch_of(alloc, part)?)?,
-        _ => return Ok(false),
-    }
-    Ok(true)
+fn set_sure(alloc: Global, disk: &mut SureDisk, line: &mut Line, part: &str) -> bool {
+    let done = match part.split(' ').next().unwrap_or("") {
+        "dir" | "file" => set_standing(alloc, disk, part),
+        "batch" => add_batch(alloc, disk, part),
+        _ => return false,
+    };
+    line.need(done);
+    true
 }
 
-fn add_sure(alloc: Global, disk: &mut SureDisk, part: &str) -> Result<()> {
-    let new = standing_of(alloc, part)?;
+fn add_batch(alloc: Global, disk: &mut SureDisk, part: &str) -> Option<()> {
+    disk.script(batch_of(alloc, part)?).ok()
+}
+
+fn set_standing(alloc: Global, disk: &mut SureDisk, part: &str) -> Option<()> {
+    add_standing(disk, &standing_of(alloc, part)?).ok()
+}
+
+fn add_standing(disk: &mut SureDisk, new: &Standing) -> Result<(), NoMemory> {
     if !disk.can_add(&new.path, new.number, new.time) {
         return Ok(());
     }
     match &new.bytes {
-        Some(bytes) => disk.add_file(&new.path, new.number, new.time, bytes.as_slice())?,
-        None => disk.add_dir(&new.path, new.number, new.time)?,
+        Some(bytes) => disk.add_file(&new.path, new.number, new.time, bytes.as_slice()),
+        None => disk.add_dir(&new.path, new.number, new.time),
     }
-    Ok(())
 }
 
-/// What a sure disk answers.
-pub fn sure_calls(alloc: Global, parts: &str) -> Result<String> {
-    let mut disk = SureDisk::new(alloc)?;
-    let mut line = String::new(alloc);
-    for part in parts.split('|').skip(1) {
-        if !set_sure(alloc, &mut disk, part.trim())? {
-            call(alloc, &mut disk, part.trim(), &mut line)?;
+/// Adds what a sure disk answers.
+pub fn sure_calls(alloc: Global, line: &mut Line, row: &str) {
+    match SureDisk::new(alloc) {
+        Ok(mut disk) => {
+            call_all_sure(alloc, &mut disk, row, line);
+            line.add_number("asked ", disk.asked());
+            line.add_number(", failed ", disk.faults());
+        }
+        Err(_) => line.refuse(),
+    }
+}
+
+fn call_all_sure(alloc: Global, disk: &mut SureDisk, row: &str, line: &mut Line) {
+    for part in row.split('|').skip(1) {
+        if !set_sure(alloc, disk, line, part.trim()) {
+            call(alloc, disk, part.trim(), line);
         }
     }
-    let (asked, faults) = (disk.asked(), disk.faults());
-    line.push_str(format!(in alloc; "asked {asked}, failed {faults}")?.as_str())?;
-    Ok(line)
 }

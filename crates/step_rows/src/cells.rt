@@ -1,36 +1,30 @@
 //! Texts of words. In a text each `%XX` is a byte, `N*TEXT` is so many copies of a text, and `^` stands between texts that
 //! are joined. A path is its names, each behind a slash; the root is a slash alone.
-use anyhow::{Result, bail};
-use dav_core::FsPath;
+use dav_core::{FileTime, FsPath};
 use dav_io::Text;
-use percent_encoding::{AsciiSet, CONTROLS, percent_decode, percent_encode};
-use std::alloc::Global;
+use dav_rows::Line;
+use percent_encoding::{CONTROLS, percent_decode};
+use std::alloc::{AllocError, Global};
 
-/// A number of digits.
-pub fn number(word: &str) -> Result<u64> {
-    match word.parse::<u64>() {
-        Ok(number) => Ok(number),
-        Err(_) => bail!("no number: {word}"),
-    }
+/// A number of digits. What is none is 0.
+pub fn number(word: &str) -> u64 {
+    word.parse::<u64>().unwrap_or(0)
 }
 
 // Appends the bytes of a text without `^`.
-fn add_copies(bytes: &mut Vec<u8>, text: &str) -> Result<()> {
-    let mut halves = text.splitn(2, '*');
-    if let Ok(count) = halves.next().unwrap_or("").parse::<u32>() {
-        if let Some(copied) = halves.next() {
-            for _ in 0..count {
-                percent_decode(copied.as_bytes()).append_to(bytes)?;
-            }
-            return Ok(());
-        }
+fn add_copies(bytes: &mut Vec<u8>, text: &str) -> Result<(), AllocError> {
+    let (count, copied) = text.split_once('*').unwrap_or(("", ""));
+    let Ok(count) = count.parse::<u32>() else {
+        return percent_decode(text.as_bytes()).append_to(bytes);
+    };
+    for _ in 0..count {
+        percent_decode(copied.as_bytes()).append_to(bytes)?;
     }
-    percent_decode(text.as_bytes()).append_to(bytes)?;
     Ok(())
 }
 
 /// The bytes of a text.
-pub fn bytes_of(alloc: Global, text: &str) -> Result<Vec<u8>> {
+pub fn bytes_of(alloc: Global, text: &str) -> Result<Vec<u8>, AllocError> {
     let mut bytes = Vec::new(alloc);
     for part in text.split('^') {
         add_copies(&mut bytes, part)?;
@@ -38,23 +32,28 @@ pub fn bytes_of(alloc: Global, text: &str) -> Result<Vec<u8>> {
     Ok(bytes)
 }
 
-/// The path of a word.
-pub fn path_of(alloc: Global, word: &str) -> Result<FsPath> {
+/// The path of a word, unless it has none or memory is refused.
+pub fn path_of(alloc: Global, word: &str) -> Option<FsPath> {
     let mut names = Vec::new(alloc);
     for name in word.split('/') {
         if !name.is_empty() {
-            names.push(Text::copy(alloc, name)?)?;
+            names.push(Text::copy(alloc, name).ok()?).ok()?;
         }
     }
-    if !FsPath::fits(&names) {
-        bail!("no path: {word}");
+    if FsPath::fits(&names) {
+        Some(FsPath::new(names))
+    } else {
+        None
     }
-    Ok(FsPath::new(names))
 }
 
-/// Appends bytes as a text spells them, blanks as they are.
-pub fn show(line: &mut String, bytes: &[u8]) -> Result<()> {
-    let set: AsciiSet = CONTROLS.add(b'%').add(b'|');
-    percent_encode(bytes, set).append_to(line)?;
-    Ok(())
+/// Adds bytes as a text spells them, blanks as they are.
+pub fn tell_bytes(line: &mut Line, bytes: &[u8]) {
+    line.add_bytes(bytes, CONTROLS.add(b'%').add(b'|'));
+}
+
+/// Adds a time in seconds, and the nanoseconds behind a point.
+pub fn tell_time(line: &mut Line, time: FileTime) {
+    line.add_value(&time.secs);
+    line.add_number(".", u64::from(time.nanos));
 }

@@ -8,7 +8,8 @@
 //! (`stores.rt`). A row that begins with `#` is written as it stands.
 //!
 //! Answers have `|` between them: a reply with its status, the number of its body and its fields; a piece with its bytes;
-//! `end`, `broken` or `done`. The last words say how many calls the disk was asked, and how many of them failed.
+//! `end`, `broken` or `done`. The last words say how many calls the disk was asked, and how many of them failed. A row
+//! that isn't understood has no answer.
 #![tactic(auto)]
 
 mod answers;
@@ -19,63 +20,71 @@ mod steps;
 mod stores;
 mod streams;
 
-use anyhow::Result;
 use dav_disk::MemDisk;
-use dav_handler::{Answer, Player, Step, play};
+use dav_handler::{Answer, Player, Settings, Step, play};
 use dav_io::NoMemory;
+use dav_rows::Line;
 use scene::{Scene, scene_of};
 use std::alloc::Global;
+use std::io;
 
 // More steps than any row has.
 const STEPS: usize = 100_000;
 
-// The answers to these steps, by a player that gave none yet.
-fn answers_to(
-    alloc: Global,
+// A player over a disk, with no reply yet.
+fn player_over(alloc: Global, disk: MemDisk, settings: Settings) -> Player<MemDisk> {
+    Player::plain(alloc, disk, settings)
+}
+
+// Adds the answers to these steps to those that were given, by a player that gave none yet.
+fn play_all(
     player: &mut Player<MemDisk>,
     steps: &[Step],
-) -> Result<Vec<Answer>, NoMemory> {
+    answers: &mut Vec<Answer>,
+) -> Result<(), NoMemory> {
     if player.replies() > 0 || steps.len() > STEPS {
         return Err(NoMemory);
     }
-    let mut answers = Vec::new(alloc);
-    play(player, steps, &mut answers)?;
-    Ok(answers)
+    play(player, steps, answers)
 }
 
 // Plays a scene to its end.
-fn played(alloc: Global, scene: Scene) -> Result<String> {
+fn played(alloc: Global, line: &mut Line, scene: Scene) {
     let Scene {
         disk,
         settings,
         steps,
     } = scene;
-    let mut player = Player::plain(alloc, disk, settings);
-    let answers = answers_to(alloc, &mut player, &steps);
+    let mut answers = Vec::new(alloc);
+    let mut player = player_over(alloc, disk, settings);
+    if play_all(&mut player, &steps, &mut answers).is_err() {
+        line.refuse();
+    }
+    answers::tell(line, &answers);
     let disk = player.into_disk();
-    let mut line = answers::told(alloc, &answers?)?;
-    let (asked, faults) = (disk.asked(), disk.faults());
-    line.push_str(format!(in alloc; "asked {asked}, failed {faults}")?.as_str())?;
-    Ok(line)
+    line.add_number("asked ", disk.asked());
+    line.add_number(", failed ", disk.faults());
 }
 
-fn answer(alloc: Global, row: &str) -> Result<String> {
+fn answer(alloc: Global, line: &mut Line, row: &str) {
     match row.split(' ').next().unwrap_or("") {
-        "#" => Ok(String::from_str(alloc, row)?),
-        "collect" => streams::collected(alloc, row),
-        "disk" => calls::calls(alloc, row),
-        "sure" => calls::sure_calls(alloc, row),
-        "store" => stores::calls(alloc, row),
-        _ => played(alloc, scene_of(alloc, row)?),
+        "#" => line.add(row),
+        "collect" => streams::collected(alloc, line, row),
+        "disk" => calls::calls(alloc, line, row),
+        "sure" => calls::sure_calls(alloc, line, row),
+        "store" => stores::calls(alloc, line, row),
+        _ => match scene_of(alloc, line, row) {
+            Some(scene) => played(alloc, line, scene),
+            None => line.refuse(),
+        },
     }
 }
 
-fn main(rt: HostRuntime) -> Result<()> {
-    for line in rt.lines(rt.alloc()) {
-        match answer(rt.alloc(), line?.as_str()) {
-            Ok(text) => println!(rt; "{text}")?,
-            Err(error) => println!(rt; "{error}")?,
-        }
+fn main(rt: HostRuntime) -> io::Result<()> {
+    for row in rt.lines(rt.alloc()) {
+        let mut line = Line::new(rt.alloc());
+        answer(rt.alloc(), &mut line, row?.as_str());
+        println!(rt; "{}", line.as_str())?;
     }
     Ok(())
 }

@@ -10,11 +10,11 @@
 //! Each other part is a step, as `steps.rt` reads it.
 use crate::cells::{bytes_of, number, path_of};
 use crate::steps::{add_steps, batch_of};
-use anyhow::{Result, bail};
 use dav_core::{DavMethod, DavMethodSet, FileTime, FsPath, dav_method};
 use dav_disk::MemDisk;
 use dav_handler::{Settings, Step};
-use dav_io::Text;
+use dav_io::{NoMemory, Text};
+use dav_rows::Line;
 use http::Method;
 use std::alloc::Global;
 
@@ -26,13 +26,11 @@ pub struct Scene {
     pub steps: Vec<Step>,
 }
 
-fn time_of(word: &str) -> Result<FileTime> {
+fn time_of(word: &str) -> FileTime {
     let mut halves = word.splitn(2, '.');
-    let Ok(secs) = halves.next().unwrap_or("").parse::<i64>() else {
-        bail!("no time: {word}");
-    };
-    let nanos = halves.next().unwrap_or("0").parse::<u32>().unwrap_or(0);
-    Ok(FileTime { secs, nanos })
+    let secs = halves.next().unwrap_or("").parse::<i64>().unwrap_or(0);
+    let nanos = halves.next().unwrap_or("").parse::<u32>().unwrap_or(0);
+    FileTime { secs, nanos }
 }
 
 /// What is to stand at a path: a directory, or a file with its bytes.
@@ -45,14 +43,14 @@ pub struct Standing {
 }
 
 /// What a part `dir` or `file` sets.
-pub fn standing_of(alloc: Global, part: &str) -> Result<Standing> {
+pub fn standing_of(alloc: Global, part: &str) -> Option<Standing> {
     let mut words = part.split(' ');
     let is_file = words.next().unwrap_or("") == "file";
     let path = path_of(alloc, words.next().unwrap_or(""))?;
-    let number = number(words.next().unwrap_or(""))?;
-    let time = time_of(words.next().unwrap_or(""))?;
-    let bytes = bytes_of(alloc, words.next().unwrap_or(""))?;
-    Ok(Standing {
+    let number = number(words.next().unwrap_or(""));
+    let time = time_of(words.next().unwrap_or(""));
+    let bytes = bytes_of(alloc, words.next().unwrap_or("")).ok()?;
+    Some(Standing {
         path,
         number,
         time,
@@ -61,100 +59,114 @@ pub fn standing_of(alloc: Global, part: &str) -> Result<Standing> {
 }
 
 // Sets a directory or a file, where the disk takes it.
-fn add_standing(alloc: Global, disk: &mut MemDisk, part: &str) -> Result<()> {
-    let new = standing_of(alloc, part)?;
+fn add_standing(disk: &mut MemDisk, new: &Standing) -> Result<(), NoMemory> {
     if !disk.can_add(&new.path, new.number, new.time) {
         return Ok(());
     }
     match &new.bytes {
-        Some(bytes) => disk.add_file(&new.path, new.number, new.time, bytes.as_slice())?,
-        None => disk.add_dir(&new.path, new.number, new.time)?,
+        Some(bytes) => disk.add_file(&new.path, new.number, new.time, bytes.as_slice()),
+        None => disk.add_dir(&new.path, new.number, new.time),
     }
-    Ok(())
 }
 
-fn add_fails(disk: &mut MemDisk, part: &str) -> Result<()> {
+fn set_standing(alloc: Global, disk: &mut MemDisk, part: &str) -> Option<()> {
+    add_standing(disk, &standing_of(alloc, part)?).ok()
+}
+
+fn add_fails(disk: &mut MemDisk, part: &str) -> Option<()> {
     for word in part.split(' ').skip(1) {
-        disk.fail(number(word)?)?;
+        disk.fail(number(word)).ok()?;
     }
-    Ok(())
+    Some(())
 }
 
-fn shorten(alloc: Global, disk: &mut MemDisk, part: &str) -> Result<()> {
+// The lengths of a part. A read gives a byte at least.
+fn lens_of(alloc: Global, part: &str) -> Option<Vec<usize>> {
     let mut lens: Vec<usize> = Vec::new(alloc);
     for word in part.split(' ').skip(1) {
-        lens.push(number(word)? as usize)?;
+        lens.push(number(word) as usize).ok()?;
     }
-    if !lens.iter().all(|len| 0 < *len) {
-        bail!("a read gives a byte at least: {part}");
-    }
-    disk.short(lens);
-    Ok(())
+    Some(lens)
 }
 
-fn methods_of(alloc: Global, words: &[&str]) -> Result<DavMethodSet> {
+fn shorten(alloc: Global, disk: &mut MemDisk, part: &str) -> Option<()> {
+    let lens = lens_of(alloc, part)?;
+    if !lens.iter().all(|len| 0 < *len) {
+        return None;
+    }
+    disk.short(lens);
+    Some(())
+}
+
+fn add_batch(alloc: Global, disk: &mut MemDisk, part: &str) -> Option<()> {
+    disk.script(batch_of(alloc, part)?).ok()
+}
+
+fn methods_of(alloc: Global, words: &[&str]) -> Option<DavMethodSet> {
     let mut methods = DavMethodSet::none();
     for word in words {
         methods.add(method_of(alloc, word)?);
     }
-    Ok(methods)
+    Some(methods)
 }
 
-fn method_of(alloc: Global, word: &str) -> Result<DavMethod> {
-    let method = Method::from_bytes(alloc, word.as_bytes())?;
-    Ok(dav_method(&method)?)
+fn method_of(alloc: Global, word: &str) -> Option<DavMethod> {
+    let method = Method::from_bytes(alloc, word.as_bytes()).ok()?;
+    dav_method(&method).ok()
 }
 
-fn set(alloc: Global, settings: &mut Settings, part: &str) -> Result<()> {
-    let words: Vec<&str> = part.split(' ').skip(1).collect(alloc)?;
+fn set(alloc: Global, settings: &mut Settings, part: &str) -> Option<()> {
+    let words: Vec<&str> = part.split(' ').skip(1).collect(alloc).ok()?;
     let name = words.first().copied().unwrap_or("");
     let value = words.get(1).copied().unwrap_or("");
     match name {
-        "prefix" => settings.prefix = Text::copy(alloc, value)?,
+        "prefix" => settings.prefix = Text::copy(alloc, value).ok()?,
         "allow" => settings.allow = Some(methods_of(alloc, words.get(1..).unwrap_or(&[]))?),
-        "principal" => settings.principal = Some(Text::copy(alloc, value)?),
+        "principal" => settings.principal = Some(Text::copy(alloc, value).ok()?),
         "hide" => settings.hide_symlinks = Some(value == "yes"),
         "autoindex" => settings.autoindex = Some(value == "yes"),
-        "index" => settings.indexfile = Some(Text::copy(alloc, value)?),
-        "buffer" => settings.read_buf_size = Some(number(value)? as usize),
+        "index" => settings.indexfile = Some(Text::copy(alloc, value).ok()?),
+        "buffer" => settings.read_buf_size = Some(number(value) as usize),
         "redirect" => settings.redirect = Some(value == "yes"),
-        _ => bail!("no setting: {part}"),
+        _ => return None,
     }
-    Ok(())
+    Some(())
 }
 
 /// Sets what a part says of a disk, and answers whether it says something.
-pub fn set_disk(alloc: Global, disk: &mut MemDisk, part: &str) -> Result<bool> {
-    match part.split(' ').next().unwrap_or("") {
-        "dir" | "file" => add_standing(alloc, disk, part)?,
-        "fail" => add_fails(disk, part)?,
-        "short" => shorten(alloc, disk, part)?,
-        "batch" => disk.script(batch_of(alloc, part)?)?,
-        _ => return Ok(false),
-    }
-    Ok(true)
+pub fn set_disk(alloc: Global, disk: &mut MemDisk, line: &mut Line, part: &str) -> bool {
+    let done = match part.split(' ').next().unwrap_or("") {
+        "dir" | "file" => set_standing(alloc, disk, part),
+        "fail" => add_fails(disk, part),
+        "short" => shorten(alloc, disk, part),
+        "batch" => add_batch(alloc, disk, part),
+        _ => return false,
+    };
+    line.need(done);
+    true
 }
 
 // Adds a part to a scene.
-fn add(alloc: Global, scene: &mut Scene, part: &str) -> Result<()> {
-    if set_disk(alloc, &mut scene.disk, part)? {
-        return Ok(());
+fn add(alloc: Global, scene: &mut Scene, line: &mut Line, part: &str) {
+    if set_disk(alloc, &mut scene.disk, line, part) {
+        return;
     }
-    if part.starts_with("set ") {
-        return set(alloc, &mut scene.settings, part);
-    }
-    add_steps(alloc, &mut scene.steps, part)
+    line.need(if part.starts_with("set ") {
+        set(alloc, &mut scene.settings, part)
+    } else {
+        add_steps(alloc, &mut scene.steps, part)
+    });
 }
 
 /// The scene of these parts.
-pub fn scene_of(alloc: Global, parts: &str) -> Result<Scene> {
+pub fn scene_of(alloc: Global, line: &mut Line, parts: &str) -> Option<Scene> {
     let mut scene = Scene {
-        disk: MemDisk::new(alloc)?,
+        disk: MemDisk::new(alloc).ok()?,
         settings: Settings::defaults(alloc),
         steps: Vec::new(alloc),
     };
     for part in parts.split('|') {
-        add(alloc, &mut scene, part.trim())?;
+        add(alloc, &mut scene, line, part.trim());
     }
-    Ok(scene)
+    Some(scene)
 }

@@ -8,7 +8,6 @@
 //!
 //! A change is a word: `dir:PATH`, `file:PATH:BYTES`, `cut:PATH:LENGTH`, `remove:PATH` or `rename:PATH:PATH`.
 use crate::cells::{bytes_of, number, path_of};
-use anyhow::{Result, bail};
 use dav_core::Change;
 use dav_handler::Step;
 use dav_io::{Moment, Octets};
@@ -19,80 +18,120 @@ use std::alloc::Global;
 // More polls than any part asks.
 const POLLS: u64 = 10_000;
 
-fn change_of(alloc: Global, word: &str) -> Result<Change> {
+fn change_of(alloc: Global, word: &str) -> Option<Change> {
     let mut cells = word.splitn(3, ':');
     let kind = cells.next().unwrap_or("");
     let path = path_of(alloc, cells.next().unwrap_or(""))?;
     let third = cells.next().unwrap_or("");
     match kind {
-        "dir" => Ok(Change::AddDir(path)),
-        "file" => Ok(Change::AddFile(path, Octets::new(bytes_of(alloc, third)?))),
-        "cut" => Ok(Change::Cut(path, number(third)?)),
-        "remove" => Ok(Change::Remove(path)),
-        "rename" => Ok(Change::Rename(path, path_of(alloc, third)?)),
-        _ => bail!("no change: {word}"),
+        "dir" => Some(Change::AddDir(path)),
+        "cut" => Some(Change::Cut(path, number(third))),
+        "remove" => Some(Change::Remove(path)),
+        "file" => {
+            let bytes = bytes_of(alloc, third).ok()?;
+            Some(Change::AddFile(path, Octets::new(bytes)))
+        }
+        "rename" => {
+            let to = path_of(alloc, third)?;
+            Some(Change::Rename(path, to))
+        }
+        _ => None,
     }
 }
 
 /// The changes behind a part's first word.
-pub fn batch_of(alloc: Global, part: &str) -> Result<Vec<Change>> {
+pub fn batch_of(alloc: Global, part: &str) -> Option<Vec<Change>> {
     let mut batch = Vec::new(alloc);
-    for word in part.split(' ').skip(1) {
-        batch.push(change_of(alloc, word)?)?;
-    }
-    Ok(batch)
+    let read = add_changes(alloc, &mut batch, part);
+    read.map(|_| batch)
 }
 
-fn add_field(alloc: Global, fields: &mut HeaderMap, word: &str) -> Result<()> {
+fn add_changes(alloc: Global, batch: &mut Vec<Change>, part: &str) -> Option<()> {
+    for word in part.split(' ').skip(1) {
+        batch.push(change_of(alloc, word)?).ok()?;
+    }
+    Some(())
+}
+
+fn add_field(alloc: Global, fields: &mut HeaderMap, word: &str) -> Option<()> {
     let mut halves = word.splitn(2, ':');
-    let name = HeaderName::from_bytes(alloc, halves.next().unwrap_or("").as_bytes())?;
-    let value = bytes_of(alloc, halves.next().unwrap_or(""))?;
-    fields.append(name, HeaderValue::from_bytes(alloc, value.as_slice())?)?;
-    Ok(())
+    let name = HeaderName::from_bytes(alloc, halves.next().unwrap_or("").as_bytes()).ok()?;
+    let value = value_of(alloc, halves.next().unwrap_or(""))?;
+    fields.append(name, value).ok()?;
+    Some(())
+}
+
+fn value_of(alloc: Global, text: &str) -> Option<HeaderValue> {
+    let value = bytes_of(alloc, text).ok()?;
+    HeaderValue::from_bytes(alloc, value.as_slice()).ok()
+}
+
+// The bytes of the last word that is a body.
+fn body_of(alloc: Global, part: &str) -> Option<Vec<u8>> {
+    let mut body = Vec::new(alloc);
+    for word in part.split(' ').skip(2) {
+        if let Some(bytes) = word.strip_prefix("=") {
+            body = bytes_of(alloc, bytes).ok()?;
+        }
+    }
+    Some(body)
+}
+
+// Sets the method, the target and the fields of a part.
+fn fill(alloc: Global, request: &mut Request<Octets>, part: &str) -> Option<()> {
+    let mut words = part.split(' ');
+    let method = Method::from_bytes(alloc, words.next().unwrap_or("").as_bytes()).ok()?;
+    *request.method_mut() = method;
+    let uri = Uri::from_str(alloc, words.next().unwrap_or("")).ok()?;
+    *request.uri_mut() = uri;
+    for word in words {
+        if !word.starts_with('=') {
+            add_field(alloc, request.headers_mut(), word)?;
+        }
+    }
+    Some(())
 }
 
 /// The request of a part.
-pub fn request_of(alloc: Global, part: &str) -> Result<Request<Octets>> {
-    let mut words = part.split(' ');
-    let method = Method::from_bytes(alloc, words.next().unwrap_or("").as_bytes())?;
-    let uri = Uri::from_str(alloc, words.next().unwrap_or(""))?;
-    let mut body = Vec::new(alloc);
-    let mut fields = HeaderMap::new(alloc);
-    for word in words {
-        match word.strip_prefix("=") {
-            Some(bytes) => body = bytes_of(alloc, bytes)?,
-            None => add_field(alloc, &mut fields, word)?,
-        }
-    }
-    let mut request = Request::new(alloc, Octets::new(body));
-    *request.uri_mut() = uri;
-    *request.method_mut() = method;
-    *request.headers_mut() = fields;
-    Ok(request)
+pub fn request_of(alloc: Global, part: &str) -> Option<Request<Octets>> {
+    let mut request = Request::new(alloc, Octets::new(body_of(alloc, part)?));
+    let filled = fill(alloc, &mut request, part);
+    filled.map(|_| request)
 }
 
-fn add_polls(steps: &mut Vec<Step>, body: u64, count: &str) -> Result<()> {
-    let count = if count.is_empty() { 1 } else { number(count)? };
+fn add_polls(steps: &mut Vec<Step>, body: u64, count: &str) -> Option<()> {
+    let count = if count.is_empty() { 1 } else { number(count) };
     for _ in 0..count.min(POLLS) {
-        steps.push(Step::Poll(body.min(u64::from(u32::MAX)) as u32))?;
+        steps
+            .push(Step::Poll(body.min(u64::from(u32::MAX)) as u32))
+            .ok()?;
     }
-    Ok(())
+    Some(())
+}
+
+// The step of a part, by its first two words.
+fn step_of(alloc: Global, part: &str, kind: &str, second: &str) -> Option<Step> {
+    match kind {
+        "abandon" => Some(Step::Abandon(number(second).min(u64::from(u32::MAX)) as u32)),
+        "purge" => Some(Step::Purge(Moment(number(second).min(1_000_000) * 1_000_000_000))),
+        "turn" => Some(Step::Turn),
+        _ => {
+            let request = request_of(alloc, part)?;
+            Some(Step::Request {
+                request,
+                now: Moment(0),
+            })
+        }
+    }
 }
 
 /// Adds the steps of a part.
-pub fn add_steps(alloc: Global, steps: &mut Vec<Step>, part: &str) -> Result<()> {
+pub fn add_steps(alloc: Global, steps: &mut Vec<Step>, part: &str) -> Option<()> {
     let mut words = part.split(' ');
     let kind = words.next().unwrap_or("");
     let second = words.next().unwrap_or("");
-    match kind {
-        "poll" => add_polls(steps, number(second)?, words.next().unwrap_or(""))?,
-        "abandon" => steps.push(Step::Abandon(number(second)?.min(u64::from(u32::MAX)) as u32))?,
-        "purge" => steps.push(Step::Purge(Moment(number(second)?.min(1_000_000) * 1_000_000_000)))?,
-        "turn" => steps.push(Step::Turn)?,
-        _ => steps.push(Step::Request {
-            request: request_of(alloc, part)?,
-            now: Moment(0),
-        })?,
+    if kind == "poll" {
+        return add_polls(steps, number(second), words.next().unwrap_or(""));
     }
-    Ok(())
+    steps.push(step_of(alloc, part, kind, second)?).ok()
 }

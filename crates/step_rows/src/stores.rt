@@ -17,14 +17,14 @@
 ghost use Rattle.std.specs.Prelude.{◌≡◌};
 ghost use Rattle.dav_store.specs.Listings.{HasLister};
 
-use crate::cells::{bytes_of, number, show};
+use crate::cells::{bytes_of, number, tell_bytes, tell_time};
 use crate::scene::set_disk;
-use anyhow::{Result, bail};
 use bytes::Bytes;
-use dav_core::{DavMetaData, DavPath, FileTime, FsError, Kind, OpenOptions};
+use dav_core::{DavMetaData, DavPath, FileTime, FsError, Kind, Member, OpenOptions};
 use dav_disk::MemDisk;
-use dav_io::Moment;
+use dav_io::{Moment, Text};
 use dav_plain::{EntryMeta, PlainEntry, PlainFs, PlainMeta};
+use dav_rows::Line;
 use dav_store::{
     DavDirEntry, DavFile, DavFileSystem, GuardedFileSystem, ReadDirMeta, file_close, file_metadata,
     file_read, file_seek, read_members,
@@ -48,64 +48,114 @@ fn kind_word<M: DavMetaData>(meta: &M) -> &'static str {
     }
 }
 
-fn look(alloc: Global, store: &mut Store, path: &DavPath) -> Result<String> {
-    let meta = GuardedFileSystem::metadata(store, path, &())?;
-    Ok(format!(in alloc; "{} {}", kind_word(&meta), meta.len())?)
+fn tell_length<M: DavMetaData>(line: &mut Line, meta: &M) {
+    line.add(kind_word(meta));
+    line.add_number(" ", meta.len());
+}
+
+fn look(line: &mut Line, store: &mut Store, path: &DavPath) {
+    match GuardedFileSystem::metadata(store, path, &()) {
+        Ok(meta) => tell_length(line, &meta),
+        Err(error) => line.add_value(&error),
+    }
 }
 
 fn meta_at(store: &mut Store, path: &DavPath) -> Result<PlainMeta, FsError> {
     DavFileSystem::metadata(store, path)
 }
 
-fn time_text(alloc: Global, time: Result<FileTime, FsError>) -> Result<String> {
+fn tell_said_time(line: &mut Line, time: Result<FileTime, FsError>) {
     match time {
-        Ok(time) => Ok(format!(in alloc; "{}.{}", time.secs, time.nanos)?),
-        Err(error) => Ok(format!(in alloc; "{error}")?),
+        Ok(time) => tell_time(line, time),
+        Err(error) => line.add_value(&error),
     }
 }
 
-fn times(alloc: Global, store: &mut Store, path: &DavPath) -> Result<String> {
-    let meta = meta_at(store, path)?;
-    let modified = time_text(alloc, meta.modified())?;
-    let created = time_text(alloc, meta.created())?;
-    let accessed = time_text(alloc, meta.accessed())?;
-    let changed = time_text(alloc, meta.status_changed())?;
-    Ok(format!(in alloc; "{modified}, {created}, {accessed}, {changed}")?)
-}
-
-fn tag(alloc: Global, store: &mut Store, path: &DavPath, tag: &str) -> Result<String> {
-    let meta = meta_at(store, path)?;
-    let is_it = meta.has_tag(tag.as_bytes());
-    let runs = meta.executable()?;
-    match meta.etag(alloc)? {
-        Some(text) => Ok(format!(in alloc; "{} {is_it} {runs}", text.as_str())?),
-        None => Ok(format!(in alloc; "none {is_it} {runs}")?),
+fn times(line: &mut Line, store: &mut Store, path: &DavPath) {
+    match meta_at(store, path) {
+        Ok(meta) => {
+            tell_said_time(line, meta.modified());
+            line.add(", ");
+            tell_said_time(line, meta.created());
+            line.add(", ");
+            tell_said_time(line, meta.accessed());
+            line.add(", ");
+            tell_said_time(line, meta.status_changed());
+        }
+        Err(error) => line.add_value(&error),
     }
 }
 
-fn home(alloc: Global, store: &mut Store, path: &DavPath, place: &str) -> Result<String> {
-    let meta = meta_at(store, path)?;
-    let place = DavPath::new(alloc, place)?;
-    let (calendar, book) = (meta.is_calendar(&place), meta.is_addressbook(&place));
-    Ok(format!(in alloc; "calendar {calendar}, address book {book}")?)
+fn tag(alloc: Global, line: &mut Line, store: &mut Store, path: &DavPath, tag: &str) {
+    match meta_at(store, path) {
+        Ok(meta) => match meta.executable() {
+            Ok(runs) => tell_tag(alloc, line, &meta, tag, runs),
+            Err(error) => line.add_value(&error),
+        },
+        Err(error) => line.add_value(&error),
+    }
+}
+
+fn tell_tag(alloc: Global, line: &mut Line, meta: &PlainMeta, tag: &str, runs: bool) {
+    match meta.etag(alloc) {
+        Ok(Some(text)) => line.add(text.as_str()),
+        Ok(None) => line.add("none"),
+        Err(_) => line.refuse(),
+    }
+    line.add_whether(" ", meta.has_tag(tag.as_bytes()));
+    line.add_whether(" ", runs);
+}
+
+fn home(alloc: Global, line: &mut Line, store: &mut Store, path: &DavPath, place: &str) {
+    match meta_at(store, path) {
+        Ok(meta) => tell_home(alloc, line, &meta, place),
+        Err(error) => line.add_value(&error),
+    }
+}
+
+fn tell_home(alloc: Global, line: &mut Line, meta: &PlainMeta, place: &str) {
+    match DavPath::new(alloc, place) {
+        Ok(place) => {
+            line.add_whether("calendar ", meta.is_calendar(&place));
+            line.add_whether(", address book ", meta.is_addressbook(&place));
+        }
+        Err(error) => line.add_value(&error),
+    }
 }
 
 // An entry of a listing. Its name is that of a path's last name, so it is plain.
-fn entry(alloc: Global, store: &mut Store, path: &DavPath) -> Result<String> {
-    let meta = meta_at(store, path)?;
-    let Some(name) = path.names().as_slice().last() else {
-        bail!("no name");
-    };
-    let entry = PlainEntry::new(name.try_clone()?, EntryMeta::Read(Ok(meta)));
-    let disk = DavFileSystem::disk(store);
-    let len = entry.metadata(disk)?.len();
-    let kinds = [
-        entry.is_dir(disk)?,
-        entry.is_file(disk)?,
-        entry.is_symlink(disk)?,
-    ];
-    let name = DavDirEntry::<MemDisk>::name(&entry);
-    Ok(format!(in alloc; "{name} {len} {} {} {}", kinds[0], kinds[1], kinds[2])?)
+fn entry(line: &mut Line, store: &mut Store, path: &DavPath) {
+    match meta_at(store, path) {
+        Ok(meta) => match path.names().as_slice().last() {
+            Some(name) => match name.try_clone() {
+                Ok(name) => {
+                    let entry = PlainEntry::new(name, EntryMeta::Read(Ok(meta)));
+                    tell_entry(line, DavFileSystem::disk(store), &entry);
+                }
+                Err(_) => line.refuse(),
+            },
+            None => line.refuse(),
+        },
+        Err(error) => line.add_value(&error),
+    }
+}
+
+fn tell_entry(line: &mut Line, disk: &mut MemDisk, entry: &PlainEntry) {
+    line.add(DavDirEntry::<MemDisk>::name(entry));
+    match entry.metadata(disk) {
+        Ok(meta) => line.add_number(" ", meta.len()),
+        Err(error) => line.add_value(&error),
+    }
+    tell_kind(line, entry.is_dir(disk));
+    tell_kind(line, entry.is_file(disk));
+    tell_kind(line, entry.is_symlink(disk));
+}
+
+fn tell_kind(line: &mut Line, answer: Result<bool, FsError>) {
+    match answer {
+        Ok(is_so) => line.add_whether(" ", is_so),
+        Err(error) => line.add_value(&error),
+    }
 }
 
 fn options_of(words: &str) -> OpenOptions {
@@ -124,74 +174,115 @@ fn options_of(words: &str) -> OpenOptions {
     options
 }
 
-fn open(alloc: Global, store: &mut Store, path: &DavPath, part: &str) -> Result<String> {
-    let file = GuardedFileSystem::open(store, path, options_of(part), &())?;
-    file.close(DavFileSystem::disk(store));
-    Ok(String::from_str(alloc, "opened")?)
-}
-
-fn read(alloc: Global, store: &mut Store, path: &DavPath, place: u64) -> Result<String> {
-    let mut file = GuardedFileSystem::open(store, path, OpenOptions::read(), &())?;
-    let mut into = [0u8; 4];
-    let sought = file_seek::<Store, ()>(store, &mut file, place);
-    let read = file_read::<Store, ()>(store, &mut file, &mut into);
-    let meta = file_metadata::<Store, ()>(store, &mut file);
-    file_close::<Store, ()>(store, file);
-    let mut line = format!(in alloc; "at {} of {}: ", sought?, meta?.len())?;
-    show(&mut line, into.get(..read?).unwrap_or(b"?"))?;
-    Ok(line)
-}
-
-fn give(alloc: Global, store: &mut Store, path: &DavPath, count: u64) -> Result<String> {
-    let count = (count.min(10_000) as usize).max(1);
-    let mut file = DavFileSystem::open(store, path, OpenOptions::read())?;
-    let disk = DavFileSystem::disk(store);
-    let bytes = file.read_bytes(alloc, disk, count);
-    let address = file.redirect_url(alloc, disk);
-    let nothing = file.write_bytes(disk, b"");
-    let flushed = file.flush(disk);
-    file.close(disk);
-    nothing?;
-    flushed?;
-    let mut line = String::new(alloc);
-    show(&mut line, bytes?.as_slice())?;
-    line.push_str(if address?.is_some() {
-        " elsewhere"
-    } else {
-        " here"
-    })?;
-    Ok(line)
-}
-
-fn answer_text(alloc: Global, answer: Result<(), FsError>) -> Result<String> {
-    match answer {
-        Ok(()) => Ok(String::from_str(alloc, "done")?),
-        Err(error) => Ok(format!(in alloc; "{error}")?),
+fn open(line: &mut Line, store: &mut Store, path: &DavPath, part: &str) {
+    match GuardedFileSystem::open(store, path, options_of(part), &()) {
+        Ok(file) => {
+            file.close(DavFileSystem::disk(store));
+            line.add("opened");
+        }
+        Err(error) => line.add_value(&error),
     }
 }
 
-fn write(alloc: Global, store: &mut Store, path: &DavPath, bytes: Vec<u8>) -> Result<String> {
-    let mut file = DavFileSystem::open(store, path, OpenOptions::read())?;
-    let disk = DavFileSystem::disk(store);
-    let once = file.write_bytes(disk, &bytes);
-    let buffer = Bytes::copy_from_slice(alloc, &bytes);
-    let again = match buffer {
-        Ok(buffer) => file.write_buf(disk, buffer),
-        Err(_) => Err(FsError::NoMemory),
-    };
-    file.close(disk);
-    let (once, again) = (answer_text(alloc, once)?, answer_text(alloc, again)?);
-    Ok(format!(in alloc; "{once}, {again}")?)
+// The first of two faults, or both answers.
+fn both<A: Drop, B: Drop>(
+    first: Result<A, FsError>,
+    second: Result<B, FsError>,
+) -> Result<(A, B), FsError> {
+    match first {
+        Ok(first) => match second {
+            Ok(second) => Ok((first, second)),
+            Err(error) => Err(error),
+        },
+        Err(error) => Err(error),
+    }
 }
 
-// Asks a listing for its entries, to its end. A fault is shown, and the listing asked on.
+fn read(line: &mut Line, store: &mut Store, path: &DavPath, place: u64) {
+    match GuardedFileSystem::open(store, path, OpenOptions::read(), &()) {
+        Ok(mut file) => {
+            let mut into = [0u8; 4];
+            let sought = file_seek::<Store, ()>(store, &mut file, place);
+            let read = file_read::<Store, ()>(store, &mut file, &mut into);
+            let meta = file_metadata::<Store, ()>(store, &mut file);
+            file_close::<Store, ()>(store, file);
+            let len = meta.map(|meta| meta.len());
+            match both(both(sought, len), read) {
+                Ok(((at, len), count)) => {
+                    line.add_number("at ", at);
+                    line.add_number(" of ", len);
+                    line.add(": ");
+                    tell_bytes(line, into.get(..count).unwrap_or(b"?"));
+                }
+                Err(error) => line.add_value(&error),
+            }
+        }
+        Err(error) => line.add_value(&error),
+    }
+}
+
+fn give(alloc: Global, line: &mut Line, store: &mut Store, path: &DavPath, count: u64) {
+    let count = (count.min(10_000) as usize).max(1);
+    match DavFileSystem::open(store, path, OpenOptions::read()) {
+        Ok(mut file) => {
+            let disk = DavFileSystem::disk(store);
+            let bytes = file.read_bytes(alloc, disk, count);
+            let address = file.redirect_url(alloc, disk);
+            let nothing = file.write_bytes(disk, b"");
+            let flushed = file.flush(disk);
+            file.close(disk);
+            tell_given(line, both(both(nothing, flushed), both(bytes, address)));
+        }
+        Err(error) => line.add_value(&error),
+    }
+}
+
+fn tell_given(line: &mut Line, given: Result<(((), ()), (Bytes, Option<Text>)), FsError>) {
+    match given {
+        Ok((_, (bytes, address))) => {
+            tell_bytes(line, bytes.as_slice());
+            line.add(if address.is_some() {
+                " elsewhere"
+            } else {
+                " here"
+            });
+        }
+        Err(error) => line.add_value(&error),
+    }
+}
+
+fn tell_done(line: &mut Line, answer: Result<(), FsError>) {
+    match answer {
+        Ok(()) => line.add("done"),
+        Err(error) => line.add_value(&error),
+    }
+}
+
+fn write(alloc: Global, line: &mut Line, store: &mut Store, path: &DavPath, bytes: &[u8]) {
+    match DavFileSystem::open(store, path, OpenOptions::read()) {
+        Ok(mut file) => {
+            let disk = DavFileSystem::disk(store);
+            let once = file.write_bytes(disk, bytes);
+            let again = match Bytes::copy_from_slice(alloc, bytes) {
+                Ok(buffer) => file.write_buf(disk, buffer),
+                Err(_) => Err(FsError::NoMemory),
+            };
+            file.close(disk);
+            tell_done(line, once);
+            line.add(", ");
+            tell_done(line, again);
+        }
+        Err(error) => line.add_value(&error),
+    }
+}
+
+// Asks a listing for its entries, to its end. A fault is told, and the listing asked on.
 fn list_on<S: GuardedFileSystem<()>>(
-    alloc: Global,
     store: &mut S,
     dir: &mut S::Dir,
     entries: &mut Vec<S::Entry>,
-    line: &mut String,
-) -> Result<()>
+    line: &mut Line,
+)
     requires live { HasLister (S.Disk.state (S.inside store.old)) (S.lister dir.old) }
     requires admits { S.admits store.old }
     ensures live { HasLister (S.Disk.state (S.inside store.new)) (S.lister dir.new) }
@@ -199,67 +290,85 @@ fn list_on<S: GuardedFileSystem<()>>(
 {
     'entries: for _ in 0..MOST_ENTRIES {
         match store.next_entry(dir) {
-            Ok(Some(entry)) => entries.push(entry)?,
-            Ok(None) => {
-                line.push_str("end")?;
-                return Ok(());
+            Ok(Some(entry)) => {
+                if entries.push(entry).is_err() {
+                    line.refuse();
+                }
             }
-            Err(error) => line.push_str(format!(in alloc; "{error}, ")?.as_str())?,
+            Ok(None) => {
+                line.add("end");
+                return;
+            }
+            Err(error) => {
+                line.add_value(&error);
+                line.add(", ");
+            }
         }
     }
-    Ok(())
 }
 
-fn show_entry(
-    alloc: Global,
-    disk: &mut MemDisk,
-    entry: &PlainEntry,
-    line: &mut String,
-) -> Result<()> {
-    let answer = entry.metadata(disk);
-    let name = DavDirEntry::<MemDisk>::name(entry);
-    let text = match answer {
-        Ok(meta) => format!(in alloc; ", {name} {} {}", kind_word(&meta), meta.len())?,
-        Err(error) => format!(in alloc; ", {name} {error}")?,
-    };
-    Ok(line.push_str(text.as_str())?)
+fn tell_member(line: &mut Line, disk: &mut MemDisk, entry: &PlainEntry) {
+    line.add(", ");
+    line.add(DavDirEntry::<MemDisk>::name(entry));
+    line.add(" ");
+    match entry.metadata(disk) {
+        Ok(meta) => tell_length(line, &meta),
+        Err(error) => line.add_value(&error),
+    }
 }
 
-fn list(alloc: Global, store: &mut Store, path: &DavPath, word: &str) -> Result<String> {
-    let wanted = match word {
+fn wanted(word: &str) -> ReadDirMeta {
+    match word {
         "none" => ReadDirMeta::None,
         "link" => ReadDirMeta::DataSymlink,
         _ => ReadDirMeta::Data,
-    };
-    let mut dir = DavFileSystem::read_dir(store, path, wanted)?;
-    let (mut entries, mut line) = (Vec::new(alloc), String::new(alloc));
-    let listed = list_on(alloc, store, &mut dir, &mut entries, &mut line);
-    DavFileSystem::end_dir(store, dir);
-    listed?;
-    let disk = DavFileSystem::disk(store);
-    for entry in entries {
-        show_entry(alloc, disk, &entry, &mut line)?;
     }
-    Ok(line)
 }
 
-fn members(alloc: Global, store: &mut Store, path: &DavPath) -> Result<String> {
-    let members = read_members(alloc, store, path, &())?;
-    let mut line = format!(in alloc; "{}", members.len())?;
-    for member in &members {
-        let kind = match member.kind {
-            Kind::Dir => "dir",
-            Kind::File => "file",
-            Kind::Link => "link",
-        };
-        let text = match member.modified {
-            Some(time) => format!(in alloc; "{}.{}", time.secs, time.nanos)?,
-            None => String::from_str(alloc, "none")?,
-        };
-        let (name, time) = (member.name.as_str(), text.as_str());
-        line.push_str(format!(in alloc; ", {name} {kind} {} {time}", member.len)?.as_str())?;
+fn list(alloc: Global, line: &mut Line, store: &mut Store, path: &DavPath, word: &str) {
+    match DavFileSystem::read_dir(store, path, wanted(word)) {
+        Ok(mut dir) => {
+            let mut entries = Vec::new(alloc);
+            list_on(store, &mut dir, &mut entries, line);
+            DavFileSystem::end_dir(store, dir);
+            tell_entries(line, DavFileSystem::disk(store), &entries);
+        }
+        Err(error) => line.add_value(&error),
     }
-    Ok(line)
+}
+
+fn tell_entries(line: &mut Line, disk: &mut MemDisk, entries: &[PlainEntry]) {
+    for entry in entries {
+        tell_member(line, disk, entry);
+    }
+}
+
+fn members(alloc: Global, line: &mut Line, store: &mut Store, path: &DavPath) {
+    match read_members(alloc, store, path, &()) {
+        Ok(members) => {
+            line.add_number("", members.len() as u64);
+            tell_members(line, &members);
+        }
+        Err(error) => line.add_value(&error),
+    }
+}
+
+fn tell_members(line: &mut Line, members: &[Member]) {
+    for member in members {
+        line.add(", ");
+        line.add(member.name.as_str());
+        line.add(match member.kind {
+            Kind::Dir => " dir",
+            Kind::File => " file",
+            Kind::Link => " link",
+        });
+        line.add_number(" ", member.len);
+        line.add(" ");
+        match member.modified {
+            Some(time) => tell_time(line, time),
+            None => line.add("none"),
+        }
+    }
 }
 
 // What the calls answer that no disk has so far.
@@ -274,57 +383,66 @@ fn unbuilt(store: &mut Store, path: &DavPath) -> [Result<(), FsError>; 6] {
     ]
 }
 
-fn rest(alloc: Global, store: &mut Store, path: &DavPath) -> Result<String> {
-    let mut line = String::new(alloc);
-    for answer in Vec::from_array(alloc, unbuilt(store, path))? {
-        line.push_str(answer_text(alloc, answer)?.as_str())?;
-        line.push_str(", ")?;
+fn rest(line: &mut Line, store: &mut Store, path: &DavPath) {
+    for answer in unbuilt(store, path) {
+        tell_done(line, answer);
+        line.add(", ");
     }
     GuardedFileSystem::<()>::set_now(store, Moment(5));
-    let void = GuardedFileSystem::<()>::is_void(store);
-    let folds = GuardedFileSystem::<()>::folds(store);
-    line.push_str(format!(in alloc; "void {void}, folds {folds}")?.as_str())?;
-    Ok(line)
+    line.add_whether("void ", GuardedFileSystem::<()>::is_void(store));
+    line.add_whether(", folds ", GuardedFileSystem::<()>::folds(store));
+}
+
+// Makes the call of a part at a path.
+fn call_at(alloc: Global, line: &mut Line, store: &mut Store, path: &DavPath, part: &str) {
+    let third = part.split(' ').nth(2).unwrap_or("");
+    match part.split(' ').next().unwrap_or("") {
+        "look" => look(line, store, path),
+        "times" => times(line, store, path),
+        "tag" => tag(alloc, line, store, path, third),
+        "home" => home(alloc, line, store, path, third),
+        "entry" => entry(line, store, path),
+        "open" => open(line, store, path, part),
+        "read" => read(line, store, path, number(third)),
+        "give" => give(alloc, line, store, path, number(third)),
+        "write" => match bytes_of(alloc, third) {
+            Ok(bytes) => write(alloc, line, store, path, &bytes),
+            Err(_) => line.refuse(),
+        },
+        "list" => list(alloc, line, store, path, third),
+        "members" => members(alloc, line, store, path),
+        "rest" => rest(line, store, path),
+        _ => line.refuse(),
+    }
 }
 
 // Makes the call of a part.
-fn call(alloc: Global, store: &mut Store, part: &str) -> Result<String> {
-    let mut words = part.split(' ');
-    let kind = words.next().unwrap_or("");
-    let path = DavPath::new(alloc, words.next().unwrap_or(""))?;
-    let third = words.next().unwrap_or("");
-    match kind {
-        "look" => look(alloc, store, &path),
-        "times" => times(alloc, store, &path),
-        "tag" => tag(alloc, store, &path, third),
-        "home" => home(alloc, store, &path, third),
-        "entry" => entry(alloc, store, &path),
-        "open" => open(alloc, store, &path, part),
-        "read" => read(alloc, store, &path, number(third)?),
-        "give" => give(alloc, store, &path, number(third)?),
-        "write" => write(alloc, store, &path, bytes_of(alloc, third)?),
-        "list" => list(alloc, store, &path, third),
-        "members" => members(alloc, store, &path),
-        "rest" => rest(alloc, store, &path),
-        _ => bail!("no call of a store: {part}"),
+fn call(alloc: Global, line: &mut Line, store: &mut Store, part: &str) {
+    match DavPath::new(alloc, part.split(' ').nth(1).unwrap_or("")) {
+        Ok(path) => call_at(alloc, line, store, &path, part),
+        Err(error) => line.add_value(&error),
+    }
+    line.add(" | ");
+}
+
+fn call_all(alloc: Global, line: &mut Line, store: &mut Store, row: &str) {
+    for part in row.split('|').skip(1) {
+        if !set_disk(alloc, DavFileSystem::disk(store), line, part.trim()) {
+            call(alloc, line, store, part.trim());
+        }
     }
 }
 
-/// What a store answers.
-pub fn calls(alloc: Global, row: &str) -> Result<String> {
-    let mut store = PlainFs::new(MemDisk::new(alloc)?);
-    let mut line = String::new(alloc);
-    for part in row.split('|').skip(1) {
-        if !set_disk(alloc, DavFileSystem::disk(&mut store), part.trim())? {
-            match call(alloc, &mut store, part.trim()) {
-                Ok(text) => line.push_str(text.as_str())?,
-                Err(error) => line.push_str(format!(in alloc; "{error}")?.as_str())?,
-            }
-            line.push_str(" | ")?;
+/// Adds what a store answers.
+pub fn calls(alloc: Global, line: &mut Line, row: &str) {
+    match MemDisk::new(alloc) {
+        Ok(disk) => {
+            let mut store = PlainFs::new(disk);
+            call_all(alloc, line, &mut store, row);
+            let disk = store.into_disk();
+            line.add_number("asked ", disk.asked());
+            line.add_number(", failed ", disk.faults());
         }
+        Err(_) => line.refuse(),
     }
-    let asked = store.disk().asked();
-    let failed = store.into_disk().faults();
-    line.push_str(format!(in alloc; "asked {asked}, failed {failed}")?.as_str())?;
-    Ok(line)
 }

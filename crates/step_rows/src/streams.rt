@@ -1,14 +1,13 @@
 //! A body as a stream: a row `collect` sets a disk, and its last part is the GET whose body is collected. The answer is the
 //! status, and all bytes of the body or why there are none; `over` says that nothing comes behind the end.
-ghost use Rattle.std.specs.Prelude.{IfOk};
+ghost use Rattle.std.specs.Prelude.{IfSome};
 ghost use Rattle.dav_disk.specs.Failing.{mem_state};
 ghost use Rattle.dav_get.specs.Bodies.{IsHeld};
 ghost use Rattle.dav_handler.specs.Held.{handle_of};
 ghost use Rattle.dav_plain.specs.Calls.{seen_by};
 
-use crate::cells::show;
+use crate::cells::tell_bytes;
 use crate::scene::{Scene, scene_of};
-use anyhow::{Result, bail};
 use dav_body::{AsyncStream, Body, BodyFault, collect};
 use dav_core::{DavMethod, DavPath};
 use dav_disk::MemDisk;
@@ -16,20 +15,21 @@ use dav_get::{GetBody, handle_get};
 use dav_handler::{PlainFs, Settings, Step};
 use dav_io::Octets;
 use dav_plain::PlainFile;
+use dav_rows::Line;
 use futures::task::Poll;
 use http::Request;
 use std::alloc::Global;
 
-// The disk and the body of a GET, and its status.
+// The disk and the body of a GET of a path, and its status.
 fn body_of(
     alloc: Global,
     disk: MemDisk,
     settings: &Settings,
+    path: &DavPath,
     request: &Request<Octets>,
-) -> Result<(MemDisk, GetBody<PlainFile>, u16)>
-    ensures { IfOk result (λ r. IsHeld handle_of seen_by (mem_state r.0) r.1) }
+) -> Option<(MemDisk, GetBody<PlainFile>, u16)>
+    ensures { IfSome result (λ r. IsHeld handle_of seen_by (mem_state r.0) r.1) }
 {
-    let path = DavPath::from_uri_and_prefix(alloc, request.uri(), "")?;
     let mut store = PlainFs::new(disk);
     match handle_get(
         alloc,
@@ -37,14 +37,14 @@ fn body_of(
         &mut store,
         &(),
         DavMethod::Get,
-        &path,
+        path,
         request.headers(),
     ) {
         Ok(given) => {
             let (outcome, body) = given;
-            Ok((store.into_disk(), body, outcome.status))
+            Some((store.into_disk(), body, outcome.status))
         }
-        Err(_) => bail!("no reply"),
+        Err(_) => None,
     }
 }
 
@@ -70,24 +70,52 @@ fn fault_word(fault: BodyFault) -> &'static str {
     }
 }
 
-fn told(alloc: Global, scene: Scene, request: &Request<Octets>) -> Result<String> {
-    let (disk, body, status) = body_of(alloc, scene.disk, &scene.settings, request)?;
-    let (all, over) = joined(alloc, disk, body);
-    let mut line = format!(in alloc; "{status} | ")?;
+fn tell_all(line: &mut Line, all: &Result<Octets, BodyFault>) {
     match all {
-        Ok(bytes) => show(&mut line, bytes.as_slice())?,
-        Err(fault) => line.push_str(fault_word(fault))?,
+        Ok(bytes) => tell_bytes(line, bytes.as_slice()),
+        Err(fault) => line.add(fault_word(*fault)),
     }
-    line.push_str(if over { " | over" } else { " | goes on" })?;
-    Ok(line)
 }
 
-/// What the body of a row's request gives.
-pub fn collected(alloc: Global, row: &str) -> Result<String> {
+fn tell_at(
+    alloc: Global,
+    line: &mut Line,
+    scene: Scene,
+    path: &DavPath,
+    request: &Request<Octets>,
+) {
+    match body_of(alloc, scene.disk, &scene.settings, path, request) {
+        Some(given) => {
+            let (disk, body, status) = given;
+            let (all, over) = joined(alloc, disk, body);
+            line.add_number("", u64::from(status));
+            line.add(" | ");
+            tell_all(line, &all);
+            line.add(if over { " | over" } else { " | goes on" });
+        }
+        None => line.refuse(),
+    }
+}
+
+fn tell(alloc: Global, line: &mut Line, scene: Scene, request: &Request<Octets>) {
+    match DavPath::from_uri_and_prefix(alloc, request.uri(), "") {
+        Ok(path) => tell_at(alloc, line, scene, &path, request),
+        Err(_) => line.refuse(),
+    }
+}
+
+/// Adds what the body of a row's request gives.
+pub fn collected(alloc: Global, line: &mut Line, row: &str) {
     let (_, parts) = row.split_once('|').unwrap_or(("", ""));
-    let mut scene = scene_of(alloc, parts)?;
+    match scene_of(alloc, line, parts) {
+        Some(scene) => tell_last(alloc, line, scene),
+        None => line.refuse(),
+    }
+}
+
+fn tell_last(alloc: Global, line: &mut Line, mut scene: Scene) {
     match scene.steps.pop() {
-        Some(Step::Request { request, .. }) => told(alloc, scene, &request),
-        _ => bail!("no request: {row}"),
+        Some(Step::Request { request, .. }) => tell(alloc, line, scene, &request),
+        _ => line.refuse(),
     }
 }
