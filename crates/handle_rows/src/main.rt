@@ -154,12 +154,7 @@ fn answer(
 }
 
 // Answers the requests of a row, one after the other.
-fn answers(
-    alloc: Global,
-    handler: &mut Handler,
-    form: Form<'_>,
-    parts: &str,
-) -> Result<String> {
+fn answers(alloc: Global, handler: &mut Handler, form: Form<'_>, parts: &str) -> Result<String> {
     let mut line = String::new(alloc);
     for part in parts.split('|') {
         if !line.is_empty() {
