@@ -1,0 +1,8 @@
+mod MatchingRows
+pub mod Lending
+pub mod Links
+pub mod Listed
+pub mod Parts
+pub mod Queries
+pub mod Values
+pub mod Walks

@@ -1,0 +1,47 @@
+use Rattle.std.proofs.Common.{◌≡◌, ◌++◌, [], refl, inl, ◌∙◌}
+use Rattle.std.proofs.lemmas.List.{take_all}
+use Rattle.dav_core.proofs.UnchangedLemmas.{keeps_same, keeps_then}
+use Rattle.dav_store.specs.View.{the_view}
+use Rattle.dav_selection.specs.Answered.{unless}
+use Rattle.dav_selection.specs.Reports.{began}
+use Rattle.dav_selection.specs.Taken.{taken}
+use Rattle.dav_selection.proofs.Links.{links_more, ok_then}
+use Rattle.dav_selection.proofs.following.follow.Goals as goal
+
+pub loop-href-init : goal.loop-href-init
+loop-href-init g c = record {
+  links = ([], began, refl, c.new-records.ensures.items, c.new-missing.ensures.items);
+  keeps = keeps_same _;
+  admits = λ a. a;
+  loan = refl;
+}
+
+pub loop-href-preserved : goal.loop-href-preserved
+loop-href-preserved g c =
+    let before = c.loop-href.invariant in
+    let noted = ok_then c.note.result (c.note.new.missing.items ≡ c.loop-href.missing.items ++ unless c.in-Ok.given c.href-item.result) c.if-is_err.ensures.value c.note.ensures in
+    record {
+      links = links_more (the_view g.S.GuardedFileSystem g.S.Disk.Disk g.S.File.DavFile) c.args.credentials.now (taken c.args.wanted) c.args.prefix.now c.as_slice-href-items.result.now c.args.fs.now c.loop-href.fs
+          c.follow_link.new.fs c.loop-href.href-index c.href-item.result c.href-item.result c.in-Ok.given c.loop-href.records.items c.follow_link.new.records.items c.loop-href.missing.items
+          c.note.new.missing.items before.links c.in-Ok.ensures.table c.loop-href-test.true c.href-item.is noted;
+      keeps = keeps_then _ _ _ before.keeps c.in-Ok.ensures.keeps;
+      admits = λ a. c.in-Ok.ensures.admits (before.admits a);
+      loan = c.in-Ok.ensures.loan ∙ before.loan;
+    }
+
+pub returns-in-Err-clause-keeps : goal.returns-in-Err-clause-keeps
+returns-in-Err-clause-keeps g c = keeps_then _ _ _ c.loop-href.invariant.keeps c.in-Err.ensures.keeps
+
+pub returns-then-is_err-clause-keeps : goal.returns-then-is_err-clause-keeps
+returns-then-is_err-clause-keeps g c = keeps_then _ _ _ c.loop-href.invariant.keeps c.in-Ok.ensures.keeps
+
+pub returns-clause-table : goal.returns-clause-table
+returns-clause-table g c =
+    let links = c.loop-href.invariant.links in
+    inl (record {
+      links = links.0;
+      followed = links.1;
+      written = links.2 ∙ (take_all c.loop-href.href-index c.as_slice-href-items.result.now c.loop-href-test.false ∙ c.as_slice-href-items.ensures);
+      given = c.new.ensures ∙ links.3;
+      lost = c.new-2.ensures ∙ links.4;
+    })

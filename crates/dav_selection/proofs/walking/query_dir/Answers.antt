@@ -1,0 +1,21 @@
+use Rattle.std.specs.Cmp.Lexicographic.{slice_cmp}
+use Rattle.std.specs.List.Sorted.{IsPermutation, IsSortedByKey}
+use Rattle.std.specs.Ordering.{nat_cmp}
+use Rattle.dav_core.proofs.UnchangedLemmas.{keeps_then}
+use Rattle.dav_store.specs.View.{the_listings, the_view}
+use Rattle.dav_selection.specs.Reports.{name_of}
+use Rattle.dav_selection.specs.Visits.{sought}
+use Rattle.dav_selection.proofs.Links.{ok_then}
+use Rattle.dav_selection.proofs.Listed.{listed_then}
+use Rattle.dav_selection.proofs.walking.query_dir.Goals as goal
+
+pub returns-clause-table : goal.returns-clause-table
+returns-clause-table g c =
+    let each = ok_then c.sort.result (IsPermutation c.in-Ok.members.items c.sort.new.members.items) c.if-is_err.ensures.value c.sort.ensures.each in
+    let order = ok_then c.sort.result (IsSortedByKey name_of (slice_cmp nat_cmp) c.sort.new.members.items) c.if-is_err.ensures.value c.sort.ensures.order in
+    listed_then (the_view g.S.GuardedFileSystem g.S.Disk.Disk g.S.File.DavFile) (the_listings g.S.GuardedFileSystem g.S.Entry.DavDirEntry) c.args.credentials.now
+    (sought c.args.dir.now c.args.limit c.args.wanted) c.args.fs.now c.read_members.new.fs c.walk.new.fs c.in-Ok.members.items c.sort.new.members.items c.as_slice.result.now c.walk.result
+    c.in-Ok.ensures.listed each order c.as_slice.ensures.value c.walk.ensures.table
+
+pub returns-clause-keeps : goal.returns-clause-keeps
+returns-clause-keeps g c = keeps_then _ _ _ c.in-Ok.ensures.keeps c.walk.ensures.keeps

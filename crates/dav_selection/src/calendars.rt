@@ -1,0 +1,58 @@
+//! Calendar reports.
+ghost use Rattle.std.specs.Prelude.{◌≡◌, ◌⊎◌, Err};
+ghost use Rattle.dav_core.specs.Unchanged.{Keeps};
+ghost use Rattle.dav_store.specs.View.{the_listings, the_view};
+ghost use Rattle.dav_report.specs.Calendars.{calendar_report as report_asked};
+ghost use Rattle.dav_selection.specs.Selection.{Reports, calendar_selection};
+
+use crate::following::follow;
+use crate::walking::{query_dir, report_of};
+use crate::wanted::Wanted;
+use dav_core::DavPath;
+use dav_lock::Element;
+use dav_report::caldav::CalDavReportType;
+use dav_report::{Report, ReportError, parse_calendar_report};
+use dav_store::GuardedFileSystem;
+use std::alloc::Global;
+
+/// The resources of a store that a calendar request selects (RFC 4791 sections 7.8 and 7.9).
+///
+/// A query lists the directory at `path`, and reads its members in order of their names' bytes. A multiget reads what
+/// its links lead to, as paths under `prefix`; a link that gives no record is missing, as it is written. A resource is
+/// read to the length that its metadata gives, and is closed again; it gives a record where it is a calendar object that
+/// the filter of the query matches. What can't be opened or read is passed over.
+///
+/// Errors: `BadRequest` where the element asks for no report, `FreeBusy` where it asks for free-busy times, `Fs` where
+/// the listing of a query, or the metadata of one of its files, is refused; and want of memory.
+pub fn calendar_report<S: GuardedFileSystem<C>, C>(
+    alloc: Global,
+    root: &Element,
+    path: &DavPath,
+    prefix: &str,
+    fs: &mut S,
+    credentials: &C,
+) -> Result<Report, ReportError>
+    requires admits { S.admits fs.old }
+    ensures table { Reports (the_view S.GuardedFileSystem S.Disk.Disk S.File.DavFile)
+        (the_listings S.GuardedFileSystem S.Entry.DavDirEntry) credentials.now
+        (calendar_selection path.now prefix.now (report_asked root.now)) fs.old result fs.new
+        ⊎ (result ≡ Err ReportError.NoMemory) }
+    ensures keeps { Keeps (S.Disk.state (S.inside fs.old)) (S.Disk.state (S.inside fs.new)) }
+    ensures admits { S.admits fs.new }
+    ensures loan { S.Disk.loan (S.inside fs.new) ≡ S.Disk.loan (S.inside fs.old) }
+{
+    match parse_calendar_report(alloc, root) {
+        Ok(CalDavReportType::CalendarQuery(query)) => {
+            let wanted = Wanted::Calendars(&query.comp_filter);
+            let given = query_dir(alloc, fs, credentials, path, wanted, None);
+            report_of(alloc, given)
+        }
+        Ok(CalDavReportType::CalendarMultiget { hrefs }) => {
+            let every = None;
+            let wanted = Wanted::Calendars(&every);
+            follow(alloc, fs, credentials, prefix, wanted, &hrefs)
+        }
+        Ok(CalDavReportType::FreeBusyQuery { .. }) => Err(ReportError::FreeBusy),
+        Err(error) => Err(error),
+    }
+}

@@ -1,0 +1,16 @@
+//! Which resources of a store a calendar or address book report selects (RFC 4791 and RFC 6352).
+#![tactic(auto)]
+
+mod calendars;
+mod cards;
+mod following;
+mod matching;
+mod reading;
+mod resource;
+mod texts;
+mod walking;
+mod wanted;
+
+pub use calendars::calendar_report;
+pub use cards::addressbook_report;
+pub use matching::{address_matches, calendar_matches};
