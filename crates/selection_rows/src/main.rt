@@ -1,0 +1,38 @@
+//! Puts calendar and address book requests to a plain store over a disk in memory: a row a line on standard input, and what
+//! it selects a line on standard output.
+//!
+//! A row is words with blanks between them; `texts.rt` says how a word writes a text. `new` empties the disk.
+//! `dir PATH NUMBER` and `file PATH NUMBER TEXT` add to it, `raw PATH NUMBER TEXT` with a byte for each character below 256,
+//! and `long PATH NUMBER COUNT TEXT END` with a text so many times and an end behind it. `fail CALL` lets the disk fail at
+//! that call of the next request. A request is `calendar PATH PREFIX TREE` or `cards PATH PREFIX TREE`, its tree as
+//! `trees.rt` has it; a prefix `-` is empty. It is answered with path, entity tag and text of each record, and what is
+//! missing; or with its error. How often the disk was asked comes last.
+#![tactic(auto)]
+
+mod disks;
+mod texts;
+mod told;
+mod trees;
+
+use anyhow::Result;
+use dav_disk::MemDisk;
+use dav_plain::PlainFs;
+use disks::change;
+use texts::word;
+
+fn main(rt: HostRuntime) -> Result<()> {
+    let mut disk = MemDisk::new(rt.alloc())?;
+    for line in rt.lines(rt.alloc()) {
+        let line = line?;
+        match word(line.as_str(), 0) {
+            "calendar" | "cards" => {
+                let mut fs = PlainFs::new(disk);
+                let told = told::answer(rt.alloc(), &mut fs, line.as_str())?;
+                println!(rt; "{told}")?;
+                disk = fs.into_disk();
+            }
+            _ => disk = change(rt.alloc(), disk, line.as_str())?,
+        }
+    }
+    Ok(())
+}
