@@ -7,6 +7,7 @@ mod gates;
 mod player;
 mod playing;
 
+pub use dav_config::{DavConfig, DavHandler};
 pub use dav_model::{Answer, Settings, Step};
 pub use dav_plain::PlainFs;
 pub use player::Player;

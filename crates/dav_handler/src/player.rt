@@ -1,4 +1,4 @@
-ghost use Rattle.std.specs.Prelude.{◌≡◌, ◌<◌, ◌≤◌, ◌+◌, ◌^◌, [], None, Ok};
+ghost use Rattle.std.specs.Prelude.{◌≡◌, ◌<◌, ◌≤◌, ◌+◌, ◌^◌, [], IfSome, IsSome, None, Ok};
 ghost use Rattle.dav_model.specs.Sizes.{read_size_of};
 ghost use Rattle.dav_core.specs.Disk.{Turns};
 ghost use Rattle.dav_model.specs.declared.answer.Answer.TheVariants.{Reply as Replied};
@@ -6,6 +6,7 @@ ghost use Rattle.dav_handler.specs.Held.{IsPlaying, body_at};
 
 use crate::bodies::{Bodies, end_body, hold_body, no_bodies, open_body, poll_body, sweep};
 use crate::found::{Found, find_for};
+use dav_config::DavHandler;
 use dav_core::Disk;
 use dav_io::{Moment, NoMemory, Octets};
 use dav_model::{Answer, Outcome, Settings, Step};
@@ -29,16 +30,30 @@ impl<D: Disk> Player<D> {
     ghost use Rattle.dav_model.specs.Play.{AreFull, StaysOpen, Stepped};
     ghost use Rattle.dav_model.specs.declared.step.Step.TheVariants.{Abandon, Poll, Turn, Request as Asks};
 
-    /// A player over a disk from its root on, with no reply yet.
-    pub fn plain(alloc: Global, disk: D, settings: Settings) -> Self
-        ensures loan { D.loan result.store.disk ≡ D.loan disk }
+    /// A player over the store of a handler, which has one, by the handler's settings. It gave no reply yet.
+    pub fn new(handler: DavHandler<PlainFs<D>, ()>) -> Self
+        requires { IsSome handler.store }
+        ensures loan { IfSome handler.store (λ store. D.loan result.store.disk ≡ D.loan store.disk) }
+        ensures stage { IfSome handler.store (λ store. stage_of result ≡ record
+            { at = D.state store.disk; playing = plain_playing handler.settings 0 (λ _. []) (λ _. None) }) }
+    {
+        let (alloc, settings, store) = handler.into_parts();
+        match store {
+            Some(store) => Player::over(alloc, settings, store),
+            None => unreachable!("the handler has a store"),
+        }
+    }
+
+    // A player over a store, by these settings.
+    fn over(alloc: Global, settings: Settings, store: PlainFs<D>) -> Self
+        ensures loan { D.loan result.store.disk ≡ D.loan store.disk }
         ensures stage { stage_of result ≡ record
-            { at = D.state disk; playing = plain_playing settings 0 (λ _. []) (λ _. None) } }
+            { at = D.state store.disk; playing = plain_playing settings 0 (λ _. []) (λ _. None) } }
     {
         Player {
             alloc,
             settings,
-            store: PlainFs::new(disk),
+            store,
             bodies: no_bodies(alloc),
             replies: 0,
         }

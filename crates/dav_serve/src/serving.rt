@@ -1,5 +1,6 @@
 // Serving the requests of a source, one after the other.
 ghost use Rattle.std.specs.Prelude.{◌≡◌, ◌++◌, IfOk, OnErr, []};
+ghost use Rattle.dav_handler.specs.Player.{stage_of};
 ghost use Rattle.dav_model.specs.Rules.{plain_rules};
 ghost use Rattle.dav_wire.specs.Answers.{refusal_text as the_refusal_text};
 ghost use Rattle.dav_serve.specs.declared.ending.Ending.TheVariants.{Refused};
@@ -13,7 +14,7 @@ use crate::ending::Ending;
 use crate::exchange::{Ended, exchange, manner_of};
 use crate::words::Options;
 use dav_core::Disk;
-use dav_handler::Player;
+use dav_handler::{DavConfig, PlainFs, Player, Settings};
 use dav_io::{Client, Clock, Moment, NoMemory, Sink};
 use dav_wire::{Flaw, Input, Output, ReadError, refusal_text};
 use http::Request;
@@ -24,6 +25,18 @@ use std::alloc::Global;
 struct Held {
     input: Input,
     output: Output,
+}
+
+// A player over the disk from its root on, by these settings. It gave no reply yet.
+fn player_over<D: Disk + Drop>(alloc: Global, disk: D, settings: Settings) -> Player<D>
+    ensures loan { D.loan result.store.disk ≡ D.loan disk }
+    ensures stage { stage_of result ≡ ready (plain_rules settings) (D.state disk) }
+{
+    let handler = DavConfig::new(alloc)
+        .settings(settings)
+        .filesystem(PlainFs::new(disk))
+        .build_handler();
+    Player::new(handler)
 }
 
 // Answers a request by a player of its own, so that no count of replies ever runs out.
@@ -50,7 +63,7 @@ fn answer<K: Sink, D: Disk>(
         Ok(settings) => settings,
         Err(error) => return Err(error),
     };
-    let mut player = Player::plain(alloc, &mut *disk, settings);
+    let mut player = player_over(alloc, &mut *disk, settings);
     let ended = exchange(alloc, &mut player, output, sink, now, manner, request);
     let _ = player.into_disk();
     ended

@@ -21,7 +21,7 @@ mod stores;
 mod streams;
 
 use dav_disk::MemDisk;
-use dav_handler::{Answer, Player, Settings, Step, play};
+use dav_handler::{Answer, DavConfig, PlainFs, Player, Settings, Step, play};
 use dav_io::NoMemory;
 use dav_rows::Line;
 use scene::{Scene, scene_of};
@@ -33,7 +33,11 @@ const STEPS: usize = 100_000;
 
 // A player over a disk, with no reply yet.
 fn player_over(alloc: Global, disk: MemDisk, settings: Settings) -> Player<MemDisk> {
-    Player::plain(alloc, disk, settings)
+    let handler = DavConfig::new(alloc)
+        .settings(settings)
+        .filesystem(PlainFs::new(disk))
+        .build_handler();
+    Player::new(handler)
 }
 
 // Adds the answers to these steps to those that were given, by a player that gave none yet.

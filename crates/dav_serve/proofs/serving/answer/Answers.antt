@@ -10,13 +10,13 @@ pub returns-clause-ends : goal.returns-clause-ends
 returns-clause-ends g c =
     answered _ _ _ _ _ _ c.exchange-ended.result
     (record { heads = c.from_parts-request.ensures.head; body_is = c.from_parts-request.ensures.body; asks = c.manner_of-manner.ensures.closing })
-    (c.plain-player.ensures.stage ∙ ap (λ settings. ready (plain_rules settings) (g.D.Disk.state c.args.disk.now)) c.in-Ok.ensures) (search rules) c.exchange-ended.ensures.ends
+    (c.player_over-player.ensures.stage ∙ ap (λ settings. ready (plain_rules settings) (g.D.Disk.state c.args.disk.now)) c.in-Ok.ensures) (search rules) c.exchange-ended.ensures.ends
 
 pub returns-clause-memory : goal.returns-clause-memory
 returns-clause-memory g c =
     unanswered _ _ _ _ _ _ _ c.exchange-ended.result
     (record { heads = c.from_parts-request.ensures.head; body_is = c.from_parts-request.ensures.body; asks = c.manner_of-manner.ensures.closing })
-    (c.plain-player.ensures.stage ∙ ap (λ settings. ready (plain_rules settings) (g.D.Disk.state c.args.disk.now)) c.in-Ok.ensures) (search rules) c.exchange-ended.ensures.memory
+    (c.player_over-player.ensures.stage ∙ ap (λ settings. ready (plain_rules settings) (g.D.Disk.state c.args.disk.now)) c.in-Ok.ensures) (search rules) c.exchange-ended.ensures.memory
 
 pub returns-in-Err-clause-memory : goal.returns-in-Err-clause-memory
 returns-in-Err-clause-memory g c =
