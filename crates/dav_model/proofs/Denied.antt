@@ -29,7 +29,7 @@ use Rattle.dav_model.specs.declared.step.Step.{Step}
 use Rattle.dav_model.specs.declared.step.Step.TheVariants.{Request, Poll, Abandon, Purge, Turn}
 use Rattle.dav_model.specs.declared.answer.Answer.{Answer}
 use Rattle.dav_model.specs.declared.target.Target.{Target}
-use Rattle.dav_model.specs.declared.target.Target.TheVariants.{At, Methods, Refused}
+use Rattle.dav_model.specs.declared.target.Target.TheVariants.{At, Methods, Refused, Writes}
 use Rattle.dav_io.specs.declared.failure.NoMemory.{NoMemory}
 use Rattle.dav_model.specs.Conditions.{Fields}
 use Rattle.dav_model.specs.Due.{query}
@@ -130,6 +130,7 @@ replies_by_tree : (target : Target) (rules : Rules) (k : Knowledge) (s t : Point
     → ((w : World) → s.told ≡ Some w → rules.macos ≡ true → IsSound k w) → Replies target rules k s t fields reply → RepliesByTree target rules s t fields reply
 replies_by_tree (Refused status close) rules k s t fields reply apart sound is = is
 replies_by_tree Methods rules k s t fields reply apart sound is = is
+replies_by_tree (Writes method path) rules k s t fields reply apart sound is = is
 replies_by_tree (At method path) rules k s t fields reply apart sound reads = λ w told clear.
     in_valid_run rules k s t (query rules.settings fields method path) reply w told (apart w told) (sound w told) clear reads
 

@@ -16,8 +16,8 @@ use Rattle.dav_core.specs.Path.{Names, is_front}
 use Rattle.dav_core.specs.Statuses.{path_status}
 use Rattle.dav_model.specs.declared.settings.Settings.{Settings}
 use Rattle.dav_model.specs.declared.target.Target.{Target}
-use Rattle.dav_model.specs.declared.target.Target.TheVariants.{At, Methods, Refused}
-use Rattle.dav_model.specs.Conditions.{Fields}
+use Rattle.dav_model.specs.declared.target.Target.TheVariants.{At, Methods, Refused, Writes}
+use Rattle.dav_model.specs.Conditions.{Fields, writes}
 use Rattle.dav_model.specs.Gates.{Bulk, none, some, much, broken, admitted, asked, bulk_of, gates, is_allowed, is_built, of_body, or_refused, takes_much, takes_some, unless, weighed, with_method, with_path}
 use Rattle.dav_model.specs.WellFormed.{gate_statuses, is_among}
 
@@ -83,6 +83,7 @@ parsed_found text prefix =
 abbrev IsGate : Target → Type 0
 IsGate (At method path) = Unit {0}
 IsGate Methods = Unit {0}
+IsGate (Writes method path) = Unit {0}
 IsGate (Refused status close) = IsListed status
 
 if_gate : (b : Bool) (x y : Target) → IsGate x → IsGate y → IsGate (cond b x y)
@@ -139,9 +140,11 @@ or_gate (Some refused) other target a b c = a
 weighed_gate : (fields : Fields) (bulk : Bulk) (target : Target) → IsRead bulk → IsGate target → IsGate (weighed fields bulk target)
 weighed_gate fields bulk (Refused status close) read is = is
 weighed_gate fields bulk Methods read is = tt
+weighed_gate fields bulk (Writes method path) read is = tt
 weighed_gate fields bulk (At method path) read is =
     or_gate (of_body method bulk) (unless (is_built fields method) 501 true) (asked method path) (body_gate method bulk read) (unless_gate (is_built fields method) 501 true refl)
-    (if_gate (same_method method Options) Methods (At method path) tt tt)
+    (if_gate (same_method method Options) Methods (cond (writes method) (Writes method path) (At method path)) tt
+    (if_gate (writes method) (Writes method path) (At method path) tt tt))
 
 -- What the gates refuse a request with its whole body with has a status of the list.
 pub gate_listed : (settings : Settings) (stored : Bool) (head : Parts) (bytes : List ℕ) (status : ℕ) (close : Bool) → gates settings stored head (bulk_of bytes) ≡ Refused status close
@@ -175,6 +178,7 @@ gate_broken settings stored head bulk status close refused e =
         → IsBroken settings stored head bulk
     by_target (Refused first shut) is gate bulk refused = let same : first ≡ status = cc in never_listed first gate (same ∙ e)
     by_target Methods is gate bulk refused = cc
+    by_target (Writes method path) is gate bulk refused = cc
     by_target (At method path) is gate none refused = by_read none (At method path) tt gate refused
     by_target (At method path) is gate some refused = by_read some (At method path) tt gate refused
     by_target (At method path) is gate much refused = by_read much (At method path) tt gate refused

@@ -1,9 +1,9 @@
 -- Joining: a run from where another ends is one run with it; and a list of steps that read keeps the tree and the bytes.
-use Rattle.std.proofs.Common.{◌≡◌, ◌≤◌, ◌<◌, ◌+◌, ◌⊎◌, inl, inr, ℕ, Bool, true, List, [], ◌∷◌, ◌++◌, map, length, take, drop, get_or, Option, None, Some, is_some, Result, Ok, Err, refl, sym, ap, subst, ◌∙◌, arith, append_assoc, append-nil, add-one, drop-cons}
+use Rattle.std.proofs.Common.{◌≡◌, ◌≤◌, ◌<◌, ◌+◌, ◌⊎◌, inl, inr, ℕ, Bool, true, not, List, [], ◌∷◌, ◌++◌, map, length, take, drop, get_or, Option, None, Some, is_some, Result, Ok, Err, refl, sym, ap, subst, ◌∙◌, arith, append_assoc, append-nil, add-one, drop-cons}
 use Rattle.dav_io.specs.Counts.{Rose}
 use Rattle.std.proofs.lemmas.List.{take-append-drop, take_more}
 use Rattle.std.specs.List.{AllByRecursion}
-use Rattle.dav_io.proofs.ToldLemmas.{both_then, both_same}
+use Rattle.dav_io.proofs.ToldLemmas.{both_map, both_same, both_then}
 use Rattle.dav_io.specs.declared.failure.NoMemory.{NoMemory}
 use Rattle.dav_core.specs.declared.time.FileTime.{FileTime}
 use Rattle.dav_core.specs.Unchanged.{SameBesidesOpens}
@@ -13,16 +13,20 @@ use Rattle.dav_core.specs.World.{World}
 use Rattle.dav_model.specs.declared.step.Step.{Step}
 use Rattle.dav_model.specs.declared.step.Step.TheVariants.{Request, Poll, Abandon, Purge, Turn}
 use Rattle.dav_model.specs.declared.target.Target.{Target}
-use Rattle.dav_model.specs.declared.target.Target.TheVariants.{At, Methods, Refused}
+use Rattle.dav_model.specs.declared.target.Target.TheVariants.{At, Methods, Refused, Writes}
 use Rattle.dav_model.specs.Calls.{AsksAtGate}
 use Rattle.dav_model.specs.declared.answer.Answer.{Answer}
 use Rattle.dav_model.specs.Bodies.{Polls}
 use Rattle.dav_model.specs.Sizes.{read_size_of}
 use Rattle.dav_model.specs.Folds.{Name, has_name}
 use Rattle.dav_model.specs.Rules.{Rules, Knowledge, Learns, Forgets, WasKnown, HasNames, SameDots}
-use Rattle.dav_model.specs.Trail.{Point, Move, Goes, Leaves, step_leaves, target_of, last_of, steps_of, answers_of, points_of}
+use Rattle.dav_model.specs.Head.{Reply}
+use Rattle.dav_model.specs.Plans.{Act, does, halts, plan}
+use Rattle.dav_model.specs.Requests.{Asked}
+use Rattle.dav_model.specs.Written.{Makes, MakesIn, PartOf, ask_of}
+use Rattle.dav_model.specs.Trail.{Point, Move, Goes, Leaves, is_writing, step_leaves, target_of, last_of, steps_of, answers_of, points_of}
 use Rattle.dav_model.specs.Valid.{Valid, Occurs}
-use Rattle.dav_model.specs.Play.{AreFull, AsksUnanswered, Playing, Stage, Stands, Stepped, StaysOpen, Plays, Ends, Played, Learned}
+use Rattle.dav_model.specs.Play.{AreFull, AsksUnanswered, MakesUnanswered, Playing, Stage, Stands, Stepped, StaysOpen, Plays, Ends, Played, Learned}
 
 -- ---- lists
 
@@ -217,19 +221,28 @@ played_on_from xs ys a m b steps more old mid new result x y =
 
 -- ---- reading
 
-step_keeps : (p q : Playing) (s t : Point) (x : Step) (a : Answer) → step_leaves x ≡ true → Stands p s t x a q → Leaves s t
-step_keeps p q s t (Request request now) a e x = x.leaves
+-- what is asked for changes nothing, unless it writes
+reads_keep : (target : Target) (rules : Rules) (request : Asked) (result : Result Reply NoMemory) (s t : Point) → not (is_writing target) ≡ true
+    → Makes target rules request result s t → Leaves s t
+reads_keep (Writes method path) rules request result s t e makes = cc
+reads_keep (At method path) rules request result s t e makes = makes
+reads_keep Methods rules request result s t e makes = makes
+reads_keep (Refused status close) rules request result s t e makes = makes
+
+step_keeps : (p q : Playing) (s t : Point) (x : Step) (a : Answer) → step_leaves p.rules x ≡ true → Stands p s t x a q → Leaves s t
+step_keeps p q s t (Request request now) a e x = reads_keep (target_of p.rules request) p.rules request (Ok x.reply) s t e x.makes
 step_keeps p q s t (Poll body) a e x = x.leaves
 step_keeps p q s t (Abandon body) a e (quiet, same, live, gets) = same
 step_keeps p q s t (Purge now) a e (d, same, x) = both_same s.told t.told SameBesidesOpens same_besides (ap (λ (z : Point). z.told) same)
 step_keeps p q s t Turn a e x = cc
 
--- A list of steps without a turn of the outside leaves the tree, the bytes and the script.
-pub reading_keeps : (p q : Playing) (s : Point) (xs : List Move) → AllByRecursion (λ (x : Move). step_leaves x.step ≡ true) xs
+-- A list of steps without a turn of the outside, and without a request that writes, leaves the tree, the bytes and the script.
+pub reading_keeps : (p q : Playing) (s : Point) (xs : List Move) → AllByRecursion (λ (x : Move). step_leaves p.rules x.step ≡ true) xs
     → Plays p s xs q → Leaves s (last_of s xs)
 reading_keeps p q s [] all plays = both_same s.told s.told SameBesidesOpens same_besides refl
 reading_keeps p q s (x ∷ xs) all (m, st, o, rest) = both_then s.told x.to.told (last_of x.to xs).told _ _ _ same_besides_then
-    (step_keeps p m s x.to x.step x.answer all.0 st) (reading_keeps m q x.to xs all.1 rest)
+    (step_keeps p m s x.to x.step x.answer all.0 st)
+    (reading_keeps m q x.to xs (subst (λ r. AllByRecursion (λ (x : Move). step_leaves r x.step ≡ true) xs) (sym (step_rules p s x.to x.step x.answer m st)) all.1) rest)
 
 -- ---- what is known at exit, along the same trail, at want of memory too
 
@@ -301,6 +314,7 @@ pub gate_none : (target : Target) (n : ℕ) → AsksAtGate target n n
 gate_none (Refused status close) n = refl
 gate_none Methods n = refl
 gate_none (At method path) n = tt
+gate_none (Writes method path) n = tt
 
 asks_none : (rules : Rules) (step : Step) (n : ℕ) → AsksUnanswered rules step n n
 asks_none rules (Request request now) n = gate_none (target_of rules request) n
@@ -309,11 +323,35 @@ asks_none rules (Abandon body) n = refl
 asks_none rules (Purge now) n = refl
 asks_none rules Turn n = refl
 
+-- nothing of a plan was made
+pub part_none : (acts : List Act) (v w : World) → SameBesidesOpens v w → PartOf acts v w
+part_none [] v w same = same
+part_none (halts l ∷ acts) v w same = same
+part_none (does e ∷ acts) v w same = inl same
+
+leaves_same : (s : Point) → Leaves s s
+leaves_same s = both_same s.told s.told SameBesidesOpens same_besides refl
+
+makes_none : (target : Target) (rules : Rules) (request : Asked) (e : NoMemory) (s : Point) → Makes target rules request (Err e) s s
+makes_none (Writes method path) rules request e s = λ folds macos.
+    both_map s.told s.told SameBesidesOpens (MakesIn rules (ask_of method path request) (Err e) (Rose s.faults s.faults))
+    (λ v w same clear. part_none (plan rules v (ask_of method path request)).acts v w same) (leaves_same s)
+makes_none (At method path) rules request e s = leaves_same s
+makes_none Methods rules request e s = leaves_same s
+makes_none (Refused status close) rules request e s = leaves_same s
+
+makes_unanswered : (rules : Rules) (step : Step) (e : NoMemory) (s : Point) → MakesUnanswered rules step e s s
+makes_unanswered rules (Request request now) e s = makes_none (target_of rules request) rules request e s
+makes_unanswered rules (Poll body) e s = leaves_same s
+makes_unanswered rules (Abandon body) e s = leaves_same s
+makes_unanswered rules (Purge now) e s = leaves_same s
+makes_unanswered rules Turn e s = leaves_same s
+
 -- a step that was not begun leaves all as it was
 pub not_begun : (m : Stage) (step : Step) (e : NoMemory) → StaysOpen m.at m.playing → Stepped m step (Err e) m
 not_begun m step e held = record {
   goes = stays_goes m.at;
-  leaves = both_same m.at.told m.at.told SameBesidesOpens same_besides refl;
+  makes = λ f. makes_unanswered m.playing.rules step f m.at;
   live = refl;
   knows = m.playing.knows;
   learns = learns_same m.at.told m.playing.knows m.playing.knows refl;

@@ -2,6 +2,7 @@ pub mod Announcing
 pub mod RangeRows
 pub mod Within
 pub mod Framing
+pub mod WriteReplies
 pub mod Nonempty
 pub mod PollsShrink
 pub mod JoiningLemmas

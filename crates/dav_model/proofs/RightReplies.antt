@@ -27,6 +27,7 @@ use Rattle.dav_model.specs.Head.{Reply, Stood, IsFileHead, address_of, directed,
 use Rattle.dav_model.specs.Slices.{ranges}
 use Rattle.dav_core.specs.Tree.{is_dir}
 use Rattle.dav_model.proofs.Courses.{course_holds}
+use Rattle.dav_model.proofs.WriteReplies.{write_framed, write_sound}
 use Rattle.dav_model.proofs.Framing.{directed_framed, framed_empty, framed_redirect, framed_well_known, index_framed, refused_framed, sent_framed}
 use Rattle.dav_model.proofs.Nonempty.{index_sound, sent_has, sent_sound, sound_empty}
 use Rattle.dav_model.specs.Indexes.{AreRowsOfSome}
@@ -35,7 +36,7 @@ use Rattle.dav_core.specs.declared.method.DavMethod.TheVariants.{Get, Head}
 use Rattle.dav_io.specs.Counts.{Rose}
 use Rattle.dav_model.specs.declared.settings.Settings.{Settings}
 use Rattle.dav_model.specs.declared.target.Target.{Target}
-use Rattle.dav_model.specs.declared.target.Target.TheVariants.{Methods, Refused}
+use Rattle.dav_model.specs.declared.target.Target.TheVariants.{Methods, Refused, Writes}
 use Rattle.dav_model.specs.Announced.{bare}
 use Rattle.dav_model.specs.Due.{query}
 use Rattle.dav_model.specs.Play.{Replies}
@@ -274,12 +275,14 @@ allowing_framed allow reply is = subst (IsFramed Methods) (sym is) (framed_empty
 pub replies_framed : (target : Target) (rules : Rules) (k : Knowledge) (s t : Point) (fields : Fields) (reply : Reply) → Replies target rules k s t fields reply → IsFramed target reply
 replies_framed (Refused status close) rules k s t fields reply is = refused_framed (Refused status close) reply fields status close is
 replies_framed Methods rules k s t fields reply is = allowing_framed rules.settings.allow reply is
+replies_framed (Writes method path) rules k s t fields reply is = write_framed method path fields (Rose s.faults t.faults) reply is
 replies_framed (At method path) rules k s t fields reply reads =
     right_framed (query rules.settings fields method path) reads.shown (Rose s.faults t.faults) reply reads.right
 
 pub replies_sound : (target : Target) (rules : Rules) (k : Knowledge) (s t : Point) (fields : Fields) (reply : Reply) → Replies target rules k s t fields reply → HasSoundBody reply
 replies_sound (Refused status close) rules k s t fields reply is = refusal_sound fields status close reply is
 replies_sound Methods rules k s t fields reply is = subst HasSoundBody (sym is) (record { full = tt; bodiless = λ e. refl })
+replies_sound (Writes method path) rules k s t fields reply is = write_sound fields (Rose s.faults t.faults) reply is
 replies_sound (At method path) rules k s t fields reply reads =
     right_sound (query rules.settings fields method path) reads.shown (Rose s.faults t.faults) reply reads.right
 

@@ -323,7 +323,19 @@ allowing_some allow void =
     let lengths : List Field = field (codes "content-length") (codes "0") ∷ classes in
     let words : Fits (join_by (λ word. word) (codes ",") (words_told allow void)) =
     joined_fits (codes ",") (words_told allow void) (record { all = refl })
-    (some_fit (is_told allow void) answered (record { all = refl }, (record { all = refl }, (record { all = refl }, tt)))) in
+    (some_fit (is_told allow void) answered (
+      record { all = refl },
+      (
+        record { all = refl },
+        (
+          record { all = refl },
+          (
+            record { all = refl },
+            (record { all = refl }, (record { all = refl }, (record { all = refl }, (record { all = refl }, tt)))),
+          ),
+        ),
+      ),
+    )) in
     skip (codes "accept-ranges") from_allow (allowing allow void).fields
     (next (codes "allow") (join_by (λ word. word) (codes ",") (words_told allow void)) from_cache lengths refl words
     (skip (codes "cache-control") from_connection lengths (skip (codes "connection") from_length lengths
@@ -333,3 +345,8 @@ allowing_some allow void =
     (skip (codes "etag") from_expires last (skip (codes "expires") from_modified last (skip (codes "last-modified") from_location last
     (skip (codes "location") from_author last
     (next (codes "ms-author-via") (codes "DAV") from_pragma [] refl (record { all = refl }) tt))))))))))))
+
+-- the answer of what was made
+pub made_some : HasSome reply_names (field (codes "content-length") (codes "0") ∷ [])
+made_some = skip (codes "accept-ranges") from_allow zero_length (skip (codes "allow") from_cache zero_length
+    (skip (codes "cache-control") from_connection zero_length (skip (codes "connection") from_length zero_length zero_some)))

@@ -6,7 +6,7 @@ use Rattle.dav_core.specs.World.{World}
 use Rattle.dav_model.specs.declared.answer.Answer.{Answer}
 use Rattle.dav_model.specs.declared.answer.Answer.TheVariants.{Piece, End}
 use Rattle.dav_model.specs.declared.target.Target.{Target}
-use Rattle.dav_model.specs.declared.target.Target.TheVariants.{At, Methods, Refused}
+use Rattle.dav_model.specs.declared.target.Target.TheVariants.{At, Methods, Refused, Writes}
 use Rattle.dav_model.specs.Bodies.{NoneEmpty, Part, bytes_left, Polls}
 use Rattle.dav_model.specs.Head.{Reply, is_get}
 
@@ -20,6 +20,7 @@ value_of name (field ∷ fields) = cond (bytes_eq field.name name) (Some field.v
 abbrev pub length_is_own : Target → ℕ → Bool
 length_is_own (At method path) status = is_get method && not (status == 304)
 length_is_own Methods answered = true
+length_is_own (Writes method path) answered = true
 length_is_own (Refused status close) answered = true
 
 abbrev pub IsFramedBy : Bool → Reply → Type 0

@@ -8,7 +8,7 @@ use Rattle.dav_core.specs.World.{World}
 use Rattle.dav_model.specs.declared.answer.Answer.{Answer}
 use Rattle.dav_model.specs.declared.answer.Answer.TheVariants.{Piece}
 use Rattle.dav_model.specs.declared.target.Target.{Target}
-use Rattle.dav_model.specs.declared.target.Target.TheVariants.{At, Methods, Refused}
+use Rattle.dav_model.specs.declared.target.Target.TheVariants.{At, Methods, Refused, Writes}
 use Rattle.dav_model.specs.Bodies.{Part, text, slice}
 use Rattle.dav_model.specs.Head.{is_set, is_well_known}
 use Rattle.dav_model.specs.Rules.{Rules}
@@ -84,18 +84,20 @@ abbrev pub AsksUnlessKnown : Bool → Bool → ℕ → List Field → ℕ → �
 AsksUnlessKnown true redirects status fields before after = after ≡ before
 AsksUnlessKnown false redirects status fields before after = AsksUnlessPage (is_of_page fields) redirects status before after
 
--- A request that a gate refuses, and OPTIONS, ask nothing. Of a store that finds names that fold alike, or has the rules of macOS, nothing
+-- A request that a gate refuses, and OPTIONS, ask nothing. How often a request that writes asks isn't said. Of a store that finds names that fold alike, or has the rules of macOS, nothing
 -- is said.
 abbrev pub AsksToReply : Target → Rules → ℕ → List Field → ℕ → ℕ → Type 0
 AsksToReply (Refused gate close) rules status fields before after = after ≡ before
 AsksToReply Methods rules status fields before after = after ≡ before
+AsksToReply (Writes method path) rules status fields before after = before ≤ after
 AsksToReply (At method path) rules status fields before after = rules.folds ≡ false → rules.macos ≡ false
     → AsksUnlessKnown (is_well_known rules.settings method path) (is_set rules.settings.redirect) status fields before after
 
 -- ---- want of memory
 
--- A request that was refused memory: a gate asks nothing, nor does OPTIONS. Of a GET or HEAD that asked the store nothing more is said.
+-- A request that was refused memory: a gate asks nothing, nor does OPTIONS. Of a request that asked the store nothing more is said.
 abbrev pub AsksAtGate : Target → ℕ → ℕ → Type 0
 AsksAtGate (Refused gate close) before after = after ≡ before
 AsksAtGate Methods before after = after ≡ before
+AsksAtGate (Writes method path) before after = Unit {0}
 AsksAtGate (At method path) before after = Unit {0}

@@ -13,7 +13,7 @@ use Rattle.dav_core.specs.declared.etag_list.EtagList.TheVariants.{Any, Tags}
 use Rattle.dav_core.specs.declared.if_range.IfRange.{IfRange}
 use Rattle.dav_core.specs.declared.if_range.IfRange.TheVariants.{Tag, Date}
 use Rattle.dav_core.specs.declared.method.DavMethod.{DavMethod}
-use Rattle.dav_core.specs.declared.method.DavMethod.TheVariants.{Get, Head}
+use Rattle.dav_core.specs.declared.method.DavMethod.TheVariants.{Delete, Get, Head, MkAddressbook, MkCalendar, MkCol, Put}
 use Rattle.dav_core.specs.declared.time.FileTime.{FileTime}
 
 -- the fields of a request
@@ -79,6 +79,15 @@ abbrev pub reads : DavMethod → Bool
 reads Get = true
 reads Head = true
 reads other = false
+
+-- the methods that write, as far as they are built
+abbrev pub writes : DavMethod → Bool
+writes Put = true
+writes MkCol = true
+writes MkCalendar = true
+writes MkAddressbook = true
+writes Delete = true
+writes other = false
 
 -- Steps 3 and 4: `if-none-match`, and without it, for a method that reads, `if-modified-since`, are false.
 abbrev pub repeated : DavMethod → Option EtagList → Option ℕ → Bool → Option ETag → Option FileTime → Option ℕ

@@ -13,10 +13,10 @@ use Rattle.dav_core.specs.Methods.{method_of, is_in, same_method}
 use Rattle.dav_core.specs.Statuses.{path_status}
 use Rattle.dav_core.specs.DavPath.{WebPath}
 use Rattle.dav_core.specs.Grammar.{parsed}
-use Rattle.dav_model.specs.Conditions.{Fields, reads}
+use Rattle.dav_model.specs.Conditions.{Fields, reads, writes}
 use Rattle.dav_model.specs.declared.settings.Settings.{Settings}
 use Rattle.dav_model.specs.declared.target.Target.{Target}
-use Rattle.dav_model.specs.declared.target.Target.TheVariants.{At, Methods, Refused}
+use Rattle.dav_model.specs.declared.target.Target.TheVariants.{At, Methods, Refused, Writes}
 
 -- What the gates see of a body: that of a list of bytes, or of a reader.
 pub data Bulk : Type 0 where
@@ -69,12 +69,12 @@ of_body method some = unless (takes_some method) 415 false
 of_body method much = cond (takes_much method) None (Some (Refused 413 false))
 of_body method broken = Some (Refused 500 false)
 
--- Gates 7 and 8, of the head again: a form that isn't built. Methods that write aren't, nor is the field `if`.
+-- Gates 7 and 8, of the head again: a form that isn't built. Some methods aren't, nor is the field `if`.
 abbrev pub has_field : Fields → List ℕ → Bool
 has_field fields name = is_some (get fields name)
 
 abbrev pub is_built : Fields → DavMethod → Bool
-is_built fields method = (reads method || same_method method Options) && not (has_field fields (codes "if"))
+is_built fields method = (reads method || (writes method || same_method method Options)) && not (has_field fields (codes "if"))
 
 abbrev pub or_refused : Option Target → Option Target → Target → Target
 or_refused None None target = target
@@ -83,11 +83,12 @@ or_refused (Some refused) other target = refused
 
 -- what a request asks for that passed the gates
 abbrev pub asked : DavMethod → WebPath → Target
-asked method path = cond (same_method method Options) Methods (At method path)
+asked method path = cond (same_method method Options) Methods (cond (writes method) (Writes method path) (At method path))
 
 abbrev pub weighed : Fields → Bulk → Target → Target
 weighed fields bulk (Refused status close) = Refused status close
 weighed fields bulk Methods = Methods
+weighed fields bulk (Writes method path) = Writes method path
 weighed fields bulk (At method path) =
     or_refused (of_body method bulk) (unless (is_built fields method) 501 true) (asked method path)
 

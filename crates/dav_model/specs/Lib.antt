@@ -1,5 +1,8 @@
 pub mod Sizes
 pub mod Unset
+pub mod Walks
+pub mod Plans
+pub mod Written
 pub mod Bodies
 pub mod Calls
 pub mod Times

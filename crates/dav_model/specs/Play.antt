@@ -18,7 +18,7 @@ use Rattle.dav_model.specs.declared.step.Step.TheVariants.{Request, Poll, Abando
 use Rattle.dav_model.specs.declared.answer.Answer.{Answer}
 use Rattle.dav_model.specs.declared.answer.Answer.TheVariants.{Reply as Replied, Done}
 use Rattle.dav_model.specs.declared.target.Target.{Target}
-use Rattle.dav_model.specs.declared.target.Target.TheVariants.{At, Methods, Refused}
+use Rattle.dav_model.specs.declared.target.Target.TheVariants.{At, Methods, Refused, Writes}
 use Rattle.dav_model.specs.Allowing.{allowing}
 use Rattle.dav_model.specs.Bodies.{NoneEmpty, Part, text, slice, Polls}
 use Rattle.dav_model.specs.Calls.{AsksAtGate, AsksToPoll, AsksToReply}
@@ -33,6 +33,7 @@ use Rattle.dav_model.specs.Shown.{Shown, CouldShow}
 use Rattle.dav_model.specs.Sizes.{read_size_of}
 use Rattle.dav_model.specs.Trail.{Point, Move, Goes, Leaves, target_of, last_of, steps_of, answers_of, points_of}
 use Rattle.dav_model.specs.Valid.{Occurs, Valid}
+use Rattle.dav_model.specs.Written.{IsWriteReply, Makes}
 
 -- A player as its answers show it.
 pub record Playing : Type 0 where
@@ -107,14 +108,16 @@ pub record Reads (rules : Rules) (k : Knowledge) (s t : Point) (q : Query) (repl
 abbrev pub Replies : Target → Rules → Knowledge → Point → Point → Fields → Reply → Type 0
 Replies (Refused status close) rules k s t fields reply = reply ≡ refusal fields status close
 Replies Methods rules k s t fields reply = reply ≡ allowing rules.settings.allow false
+Replies (Writes method path) rules k s t fields reply = IsWriteReply fields (Rose s.faults t.faults) reply
 Replies (At method path) rules k s t fields reply = Reads rules k s t (query rules.settings fields method path) reply
 
 -- ---- steps
 
 pub record Answered (p : Playing) (s t : Point) (request : Asked) (answer : Answer) (q : Playing) : Type 0 where
   pub goes : Goes s t
-  pub leaves : Leaves s t
   pub reply : Reply
+  -- what it makes of the told world: nothing, unless it writes
+  pub makes : Makes (target_of p.rules request) p.rules request (Ok reply) s t
   pub is : answer ≡ Replied reply.status reply.fields p.replies
   pub knows : Knowledge
   pub learns : Learns s.told p.knows knows
@@ -162,10 +165,19 @@ AsksUnanswered rules (Abandon body) before after = after ≡ before
 AsksUnanswered rules (Purge now) before after = after ≡ before
 AsksUnanswered rules Turn before after = after ≡ before
 
+-- What a step makes of the told world that was refused memory: nothing, unless it is a request that writes, which may have been
+-- broken off on its way.
+abbrev pub MakesUnanswered : Rules → Step → NoMemory → Point → Point → Type 0
+MakesUnanswered rules (Request request now) e s t = Makes (target_of rules request) rules request (Err e) s t
+MakesUnanswered rules (Poll body) e s t = Leaves s t
+MakesUnanswered rules (Abandon body) e s t = Leaves s t
+MakesUnanswered rules (Purge now) e s t = Leaves s t
+MakesUnanswered rules Turn e s t = Leaves s t
+
 -- A step that was refused memory: the player is as it was, but for what its memory knows, and nothing else is live.
 pub record Refuses (p : Playing) (s t : Point) (step : Step) (q : Playing) : Type 0 where
   pub goes : Goes s t
-  pub leaves : Leaves s t
+  pub makes : (e : NoMemory) → MakesUnanswered p.rules step e s t
   pub live : t.live ≡ s.live
   pub knows : Knowledge
   pub learns : Learns s.told p.knows knows
@@ -230,6 +242,7 @@ IsOfTree rules s t q reply = (w : World) → s.told ≡ Some w → MeetsNoLink r
 abbrev pub RepliesByTree : Target → Rules → Point → Point → Fields → Reply → Type 0
 RepliesByTree (Refused status close) rules s t fields reply = reply ≡ refusal fields status close
 RepliesByTree Methods rules s t fields reply = reply ≡ allowing rules.settings.allow false
+RepliesByTree (Writes method path) rules s t fields reply = IsWriteReply fields (Rose s.faults t.faults) reply
 RepliesByTree (At method path) rules s t fields reply = IsOfTree rules s t (query rules.settings fields method path) reply
 
 -- The same of a step that was answered, if it is a request.

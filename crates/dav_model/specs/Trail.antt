@@ -1,5 +1,5 @@
 -- The trail: the steps of a run that were answered, each with its answer and the point to which it led.
-use Rattle.std.specs.Prelude.{◌≡◌, ◌≤◌, List, [], ◌∷◌, map, Bool, true, false, IsTrue}
+use Rattle.std.specs.Prelude.{◌≡◌, ◌≤◌, List, [], ◌∷◌, map, Bool, true, false, IsTrue, not}
 use Rattle.http.specs.Request.{head_of, body_of}
 use Rattle.dav_io.specs.Told.{Both}
 use Rattle.dav_core.specs.Disk.{DiskState}
@@ -8,6 +8,7 @@ use Rattle.dav_model.specs.declared.step.Step.{Step}
 use Rattle.dav_model.specs.declared.step.Step.TheVariants.{Request, Poll, Abandon, Purge, Turn}
 use Rattle.dav_model.specs.declared.answer.Answer.{Answer}
 use Rattle.dav_model.specs.declared.target.Target.{Target}
+use Rattle.dav_model.specs.declared.target.Target.TheVariants.{At, Methods, Refused, Writes}
 use Rattle.dav_model.specs.Requests.{Asked}
 use Rattle.dav_model.specs.Gates.{gates, bulk_of}
 use Rattle.dav_model.specs.Rules.{Rules}
@@ -40,7 +41,7 @@ last_of s (move ∷ moves) = last_of move.to moves
 abbrev pub target_of : Rules → Asked → Target
 target_of rules request = gates rules.settings true (head_of request) (bulk_of (body_of request))
 
--- What no step but a turn changes: the tree, the bytes, the script.
+-- What no step changes but a turn, and a request that writes: the tree, the bytes, the script.
 abbrev pub Leaves : Point → Point → Type 0
 Leaves s t = Both s.told t.told SameBesidesOpens
 
@@ -51,10 +52,17 @@ pub record Goes (s t : Point) : Type 0 where
   pub whole : IsTrue s.whole → IsTrue t.whole
   pub listers : t.listers ≡ s.listers
 
--- whether a step changes neither the tree nor the bytes: all do but a turn of the outside
-abbrev pub step_leaves : Step → Bool
-step_leaves (Request request now) = true
-step_leaves (Poll body) = true
-step_leaves (Abandon body) = true
-step_leaves (Purge now) = true
-step_leaves Turn = false
+-- whether what is asked for writes
+abbrev pub is_writing : Target → Bool
+is_writing (Writes method path) = true
+is_writing (At method path) = false
+is_writing Methods = false
+is_writing (Refused status close) = false
+
+-- Whether a step changes neither the tree nor the bytes: all but a turn of the outside and a request that writes.
+abbrev pub step_leaves : Rules → Step → Bool
+step_leaves rules (Request request now) = not (is_writing (target_of rules request))
+step_leaves rules (Poll body) = true
+step_leaves rules (Abandon body) = true
+step_leaves rules (Purge now) = true
+step_leaves rules Turn = false

@@ -20,7 +20,7 @@ gate_statuses = 400 ∷ 403 ∷ 404 ∷ 405 ∷ 413 ∷ 415 ∷ 501 ∷ []
 
 -- the statuses of all replies; 500 comes only where the disk failed
 abbrev pub reply_statuses : List ℕ
-reply_statuses = 200 ∷ 206 ∷ 302 ∷ 304 ∷ 400 ∷ 403 ∷ 404 ∷ 405 ∷ 412 ∷ 413 ∷ 415 ∷ 416 ∷ 500 ∷ 501 ∷ []
+reply_statuses = 200 ∷ 201 ∷ 204 ∷ 206 ∷ 302 ∷ 304 ∷ 400 ∷ 403 ∷ 404 ∷ 405 ∷ 409 ∷ 412 ∷ 413 ∷ 415 ∷ 416 ∷ 500 ∷ 501 ∷ []
 
 abbrev pub is_among : ℕ → List ℕ → Bool
 is_among n ns = list_any (λ m. m == n) ns

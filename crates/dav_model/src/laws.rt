@@ -36,10 +36,11 @@ pub fn runs_join()
         → Played (xs ++ ys) a (steps ++ more) old (new ++ added) result b }
 {}
 
-/// Reading changes no file: steps of which none is a turn of the outside leave the tree, the bytes and the script.
+/// Reading changes no file: steps of which none is a turn of the outside, or a request that writes, leave the tree, the bytes
+/// and the script. GET, HEAD and OPTIONS are no such requests.
 pub fn reading_changes_no_file()
     ensures { (p q : Playing) (s : Point) (moves : List Move)
-        → AllByRecursion (λ move. step_leaves move.step ≡ true) moves
+        → AllByRecursion (λ move. step_leaves p.rules move.step ≡ true) moves
         → Plays p s moves q → Leaves s (last_of s moves) }
 {}
 

@@ -1,0 +1,91 @@
+-- What a request that writes makes of a world, by its plan, and what it is answered.
+use Rattle.std.specs.Prelude.{◌≡◌, ◌==◌, ◌⊎◌, ℕ, Bool, true, false, List, [], ◌∷◌, codes, cond, Result, Ok, Err}
+use Rattle.http.specs.Request.{body_of}
+use Rattle.dav_io.specs.Counts.{Rose}
+use Rattle.dav_io.specs.Told.{Both}
+use Rattle.dav_io.specs.declared.failure.NoMemory.{NoMemory}
+use Rattle.dav_core.specs.declared.method.DavMethod.{DavMethod}
+use Rattle.dav_core.specs.DavPath.{WebPath}
+use Rattle.dav_core.specs.Edits.{Edit, Edited, IsPart}
+use Rattle.dav_core.specs.World.{World, SameBesidesOpens}
+use Rattle.dav_model.specs.declared.target.Target.{Target}
+use Rattle.dav_model.specs.declared.target.Target.TheVariants.{At, Methods, Refused, Writes}
+use Rattle.dav_model.specs.Conditions.{Fields}
+use Rattle.dav_model.specs.Due.{failure}
+use Rattle.dav_model.specs.Finding.{resolved}
+use Rattle.dav_model.specs.Head.{Reply, field, refusal}
+use Rattle.dav_model.specs.Plans.{Act, Ask, Plan, does, halts, meets_link, plan}
+use Rattle.dav_model.specs.Requests.{Asked, fields_of}
+use Rattle.dav_model.specs.Rules.{Rules}
+use Rattle.dav_model.specs.Trail.{Leaves, Point}
+use Rattle.dav_model.specs.WellFormed.{is_among}
+
+-- ---- answers
+
+-- Something was made: there is no body, and the answer says so.
+abbrev pub made : Reply
+made = record { status = 201; fields = field (codes "content-length") (codes "0") ∷ []; parts = [] }
+
+-- Nothing is left to say: there is no body, and no field.
+abbrev pub silent : Reply
+silent = record { status = 204; fields = []; parts = [] }
+
+abbrev pub done_reply : ℕ → Reply
+done_reply status = cond (status == 201) made silent
+
+-- the statuses with which a request that writes is refused behind the gates
+abbrev pub halt_statuses : List ℕ
+halt_statuses = 400 ∷ 403 ∷ 404 ∷ 405 ∷ 409 ∷ 412 ∷ 413 ∷ 500 ∷ 501 ∷ []
+
+-- it is refused; 500 comes only where the disk failed
+pub record IsHalted (fields : Fields) (rose : Type 0) (reply : Reply) : Type 0 where
+  pub status : ℕ
+  pub close : Bool
+  pub is : reply ≡ refusal fields status close
+  pub listed : is_among status halt_statuses ≡ true
+  pub failed : status ≡ 500 → rose
+
+-- what a request that writes may be answered in any run
+abbrev pub IsWriteReply : Fields → Type 0 → Reply → Type 0
+IsWriteReply fields rose reply = (reply ≡ made) ⊎ ((reply ≡ silent) ⊎ IsHalted fields rose reply)
+
+-- ---- worlds
+
+-- The acts are done one after the other, up to the first that ends the request.
+abbrev pub ByActs : Fields → List Act → ℕ → Reply → World → World → Type 0
+ByActs fields [] done reply v w = (reply ≡ done_reply done) × SameBesidesOpens v w
+ByActs fields (halts l ∷ acts) done reply v w = (reply ≡ refusal fields l.status l.close) × SameBesidesOpens v w
+ByActs fields (does e ∷ acts) done reply v w = (m : World) × Edited e v m × ByActs fields acts done reply m w
+
+-- Some of the changes were made, in their order, and then perhaps a part of the next.
+abbrev pub PartOf : List Act → World → World → Type 0
+PartOf [] v w = SameBesidesOpens v w
+PartOf (halts l ∷ acts) v w = SameBesidesOpens v w
+PartOf (does e ∷ acts) v w = SameBesidesOpens v w
+    ⊎ (((part : Edit) × IsPart e part × Edited part v w) ⊎ ((m : World) × Edited e v m × PartOf acts m w))
+
+-- It is answered by its plan; where the count of faults rose it may have failed on the way, and where memory was refused it
+-- was broken off on the way.
+abbrev pub EndsAs : Fields → Plan → Result Reply NoMemory → Type 0 → World → World → Type 0
+EndsAs fields plan (Ok reply) rose v w = ByActs fields plan.acts plan.done reply v w
+    ⊎ ((reply ≡ failure) × rose × PartOf plan.acts v w)
+EndsAs fields plan (Err e) rose v w = PartOf plan.acts v w
+
+-- ---- a request between two points
+
+abbrev pub ask_of : DavMethod → WebPath → Asked → Ask
+ask_of method path request = record { method = method; path = path; fields = fields_of request; body = body_of request }
+
+-- what a request that writes makes of a told world, where it meets no link
+abbrev pub MakesIn : Rules → Ask → Result Reply NoMemory → Type 0 → World → World → Type 0
+MakesIn rules ask result rose v w = meets_link ask.method v.tree (resolved rules v.tree ask.path.names) ≡ false
+    → EndsAs ask.fields (plan rules v ask) result rose v w
+
+-- Only a request that writes changes what stands. Of a store that finds names that fold alike, or has the rules of macOS,
+-- nothing is said.
+abbrev pub Makes : Target → Rules → Asked → Result Reply NoMemory → Point → Point → Type 0
+Makes (Writes method path) rules request result s t = rules.folds ≡ false → rules.macos ≡ false → Both s.told t.told
+    (MakesIn rules (ask_of method path request) result (Rose s.faults t.faults))
+Makes (At method path) rules request result s t = Leaves s t
+Makes Methods rules request result s t = Leaves s t
+Makes (Refused status close) rules request result s t = Leaves s t
