@@ -7,3 +7,5 @@ pub mod Putting
 pub mod Reading
 pub mod Removing
 pub mod Weights
+pub mod Answers
+pub mod Follows

@@ -1,5 +1,5 @@
 -- PUT over the calls of any store (RFC 9110, section 9.3.4, and RFC 4918, section 9.7).
-use Rattle.std.specs.Prelude.{◌≡◌, true, false, Result, Ok, Err}
+use Rattle.std.specs.Prelude.{◌≡◌, ℕ, List, true, false, Result, Ok, Err}
 use Rattle.dav_core.specs.declared.error.FsError.{FsError}
 use Rattle.dav_core.specs.declared.handle.OpenOptions.{OpenOptions}
 use Rattle.dav_core.specs.DavPath.{WebPath}
@@ -10,7 +10,8 @@ use Rattle.dav_store.specs.View.{View, Closes}
 use Rattle.dav_model.specs.declared.outcome.Outcome.{Outcome}
 use Rattle.dav_model.specs.Conditions.{Fields}
 use Rattle.dav_methods.specs.Lines.{Given, Line, done_over, fails_when, may_put, unless}
-use Rattle.dav_methods.specs.Pouring.{Pours, Writes}
+use Rattle.dav_methods.specs.Pouring.{Pours, Writes, WritesFile}
+use Rattle.dav_methods.specs.Removing.{line_of}
 use Rattle.dav_methods.specs.Table.{Below, Ends, Looks, Next, Run, Unless}
 
 -- How the file of a PUT is opened: it is made where nothing stands, and emptied where a file does.
@@ -49,3 +50,28 @@ module _ {S C F : Type 0} (view : View S C F) (writes : Writes F) (c : C) where
 
   abbrev pub Puts : WebPath → Fields → BodyState → S → Given → S → BodyState → Type 0
   Puts path fields b s r t n = (may : Given) × (m : S) × MayPut view c path fields s may m × AfterChecks may path b m r t n
+
+  -- ---- a body that is in memory
+
+  -- All bytes were written to a file that was opened, and the file was closed.
+  pub record WritesInto (f : F) (outcome : Outcome) (bytes : List ℕ) (s : S) (r : Given) (t : S) : Type 0 where
+    pub ended : Result Unit FsError
+    pub full : S
+    pub file : F
+    pub written : WritesFile view writes s f bytes ended full file
+    pub closes : Closes view full file t
+    pub answer : r ≡ unless (line_of ended) outcome
+
+  abbrev pub AfterOpeningWhole : Result F FsError → Outcome → List ℕ → Run S
+  AfterOpeningWhole (Err e) outcome bytes = Ends (Err (of_fs e))
+  AfterOpeningWhole (Ok f) outcome bytes = WritesInto f outcome bytes
+
+  abbrev pub AfterChecksWhole : Given → WebPath → List ℕ → Run S
+  AfterChecksWhole (Err e) path bytes s r t = Ends (Err e) s r t
+  AfterChecksWhole (Ok outcome) path bytes s r t = (opened : Result F FsError) × (m : S)
+      × view.opens s c path put_options opened m
+      × OpensOne view.handle view.seen put_options (view.state s) opened (view.state m)
+      × AfterOpeningWhole opened outcome bytes m r t
+
+  abbrev pub PutsWhole : WebPath → Fields → List ℕ → Run S
+  PutsWhole path fields bytes s r t = (may : Given) × (m : S) × MayPut view c path fields s may m × AfterChecksWhole may path bytes m r t

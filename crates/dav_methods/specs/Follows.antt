@@ -1,0 +1,165 @@
+-- A store that stands over a told disk by rules: what each of its calls does to the told world. Where a link stands on the way to a
+-- path nothing is said.
+use Rattle.std.specs.Prelude.{◌≤◌, ◌≡◌, ◌⊎◌, ◌++◌, ℕ, List, [], ◌∷◌, map, take, drop, length, true, false, Option, None, Some, Result, Ok, Err}
+use Rattle.std.specs.List.{filter, list_all}
+use Rattle.dav_io.specs.Counts.{Rose}
+use Rattle.dav_io.specs.Told.{Both}
+use Rattle.dav_io.specs.declared.failure.NoMemory.{NoMemory as Wanting}
+use Rattle.dav_core.specs.declared.dav_error.DavError.{DavError}
+use Rattle.dav_core.specs.declared.error.FsError.{FsError}
+use Rattle.dav_core.specs.declared.handle.OpenOptions.{OpenOptions}
+use Rattle.dav_core.specs.declared.tree.Row.{Row}
+use Rattle.dav_core.specs.Allowed.{Allowed, copying, moving, opening, taking_dir, taking_file}
+use Rattle.dav_core.specs.DavPath.{WebPath}
+use Rattle.dav_core.specs.Disk.{at_start}
+use Rattle.dav_core.specs.Edits.{Edit, Edited, EditedBy, fills}
+use Rattle.dav_core.specs.Errors.{fs_error_of}
+use Rattle.dav_core.specs.Info.{Info}
+use Rattle.dav_core.specs.Listing.{name_of, stands_in}
+use Rattle.dav_core.specs.Path.{Names}
+use Rattle.dav_core.specs.Statuses.{closes, lacks_memory, status_of}
+use Rattle.dav_core.specs.Tree.{has_dir, is_dir, is_linked, row_at}
+use Rattle.dav_core.specs.World.{World, OpenFile, SameBesidesOpens, bytes_of}
+use Rattle.dav_core.specs.Writing.{LeftBy, written}
+use Rattle.dav_store.specs.declared.entry.ReadDirMeta.{ReadDirMeta}
+use Rattle.dav_store.specs.Files.{Spoiled}
+use Rattle.dav_store.specs.View.{View, Listings, Closes, Lent}
+use Rattle.dav_model.specs.Conditions.{Fields}
+use Rattle.dav_model.specs.Finding.{is_clear, resolved}
+use Rattle.dav_model.specs.Head.{Reply, Stood, refusal}
+use Rattle.dav_model.specs.Plans.{Ask, making, meets_link, plan, put_options, putting, stands}
+use Rattle.dav_model.specs.Rules.{Rules}
+use Rattle.dav_model.specs.Walks.{dir_first, in_order}
+use Rattle.dav_model.specs.Written.{EndsAs}
+use Rattle.dav_methods.specs.declared.child.Child.{Child}
+use Rattle.dav_methods.specs.Lines.{Given}
+use Rattle.dav_methods.specs.Pouring.{Writes, WritesFile}
+use Rattle.dav_methods.specs.Reading.{HasMembers, HasNoMembers, child_named}
+
+-- ---- answers
+
+-- what is answered, or want of memory
+abbrev pub answer_or : Fields → Given → Result Reply Wanting → Type 0
+answer_or fields (Ok outcome) (Ok reply) = reply ≡ record { status = outcome.status; fields = outcome.fields; parts = [] }
+answer_or fields (Ok outcome) (Err e) = ⊥
+answer_or fields (Err error) (Ok reply) = (lacks_memory error ≡ false) × (reply ≡ refusal fields (status_of error) (closes error))
+answer_or fields (Err error) (Err e) = lacks_memory error ≡ true
+
+-- ---- what a call finds
+
+-- Metadata says all of what stands there that a precondition asks for.
+pub record Agrees (info : Info) (there : Stood) : Type 0 where
+  pub kind : info.kind ≡ there.kind
+  pub modified : info.modified ≡ there.modified
+  pub tag : info.tag ≡ there.tag
+
+abbrev pub Finds : Result Stood FsError → Result Info FsError → Type 0
+Finds (Ok there) (Ok info) = Agrees info there
+Finds (Ok there) (Err e) = ⊥
+Finds (Err e) (Ok info) = ⊥
+Finds (Err e) (Err f) = f ≡ e
+
+-- what the tree calls for, as a store says it
+abbrev pub CallsFor : Allowed → FsError → Type 0
+CallsFor (Ok edit) e = ⊥
+CallsFor (Err d) e = e ≡ fs_error_of d
+
+-- the members of the directory at a place of a tree, that a path leads to, in the order of their names
+abbrev pub child_of : WebPath → Row → Child
+child_of path row = child_named path (name_of row) (is_dir row.kind)
+
+abbrev pub children_in : List Row → Names → WebPath → List Child
+children_in tree place path = map (child_of path) (in_order dir_first (filter (stands_in place) tree))
+
+module _ {S C F L E : Type 0} (view : View S C F) (lists : Listings S C L E) (writes : Writes F) (c : C) where
+  abbrev pub Told : S → S → (World → World → Type 0) → Type 0
+  Told s t P = Both (view.state s).told (view.state t).told P
+
+  -- The stores that calls lead to from here.
+  pub data Reached (s : S) : S → Type 0 where
+    here : Reached s s
+    looks : (m n : S) (path : WebPath) (r : Result Info FsError) → Reached s m → view.looks m c path r n → Reached s n
+    looks_at_link : (m n : S) (path : WebPath) (r : Result Info FsError) → Reached s m → view.looks_at_link m c path r n → Reached s n
+    opens : (m n : S) (path : WebPath) (how : OpenOptions) (r : Result F FsError) → Reached s m → view.opens m c path how r n → Reached s n
+    writes_file : (m n : S) (f g : F) (bytes : List ℕ) (r : Result Unit FsError) → Reached s m → WritesFile view writes m f bytes r n g → Reached s n
+    ends_file : (m n : S) (f : F) → Reached s m → Closes view m f n → Reached s n
+    makes_dir : (m n : S) (path : WebPath) (r : Result Unit FsError) → Reached s m → view.makes_dir m c path r n → Reached s n
+    removes_dir : (m n : S) (path : WebPath) (r : Result Unit FsError) → Reached s m → view.removes_dir m c path r n → Reached s n
+    removes_file : (m n : S) (path : WebPath) (r : Result Unit FsError) → Reached s m → view.removes_file m c path r n → Reached s n
+    renames : (m n : S) (from to : WebPath) (r : Result Unit FsError) → Reached s m → view.renames m c from to r n → Reached s n
+    copies : (m n : S) (from to : WebPath) (r : Result Unit FsError) → Reached s m → view.copies m c from to r n → Reached s n
+    begins : (m n : S) (path : WebPath) (how : ReadDirMeta) (r : Result L FsError) → Reached s m → lists.lists m c path how r n → Reached s n
+    goes_on : (m n : S) (l k : L) (r : Result (Option E) FsError) → Reached s m → lists.lists_on m l r n k → Reached s n
+    says : (m n : S) (e : E) (r : Result Info FsError) → Reached s m → lists.says e (view.state m) r (view.state n) → view.lends m n → Reached s n
+    ends_list : (m n : S) (l : L) → Reached s m → lists.ends_list m l n → Reached s n
+
+  -- A look changes nothing, and finds what stands there, or was spoiled.
+  abbrev pub LooksBy : Rules → WebPath → S → Result Info FsError → S → World → World → Type 0
+  LooksBy rules path m r n v w = SameBesidesOpens v w
+      × (is_linked v.tree (resolved rules v.tree path.names) ≡ false → Finds (stands rules v path) r ⊎ Spoiled (view.state m) r (view.state n))
+
+  -- A call that changes what stands does what is allowed; or the tree calls for its refusal; or a fault or want of memory was
+  -- met, which may leave a part.
+  abbrev pub Calls : Allowed → S → Result Unit FsError → S → World → World → Type 0
+  Calls allowed m (Ok x) n v w = (edit : Option Edit) × (allowed ≡ Ok edit) × EditedBy edit v w
+  Calls allowed m (Err e) n v w = (CallsFor allowed e × SameBesidesOpens v w)
+      ⊎ (Spoiled {T = Unit} (view.state m) (Err e) (view.state n) × LeftBy true allowed v w)
+
+  -- What was opened is open at its first byte, in a world in which the edit was made.
+  abbrev pub OpensBy : Rules → WebPath → S → Result F FsError → S → World → World → Type 0
+  OpensBy rules path m (Ok f) n v w = (edit : Option Edit) × (row : Row) × (putting rules v path ≡ Ok edit) × EditedBy edit v w
+      × (row_at w.tree (resolved rules v.tree path.names) ≡ Some row) × (w.opens (view.handle f) ≡ Some (at_start row.number))
+  OpensBy rules path m (Err e) n v w = SameBesidesOpens v w
+      × (CallsFor (putting rules v path) e ⊎ Spoiled {T = F} (view.state m) (Err e) (view.state n))
+
+  -- The bytes were written from the file's place on; or a front of them.
+  abbrev pub WritesBy : ℕ → List ℕ → Result Unit FsError → OpenFile → World → World → Type 0
+  WritesBy h bytes (Ok x) o v w = Edited (fills o.number (written o.place bytes (bytes_of v o.number))) v w
+  WritesBy h bytes (Err e) o v w = (n : ℕ) × Edited (fills o.number (written o.place (take n bytes) (bytes_of v o.number))) v w
+
+  -- A directory is listed to its end: its members are those of the tree. It fails to be listed only by a fault or want of
+  -- memory.
+  abbrev pub ListsBy : Rules → WebPath → List Child → World → World → Type 0
+  ListsBy rules path members v w = SameBesidesOpens v w × (is_clear v.tree (resolved rules v.tree path.names) ≡ true
+      → members ≡ children_in v.tree (resolved rules v.tree path.names) path)
+
+  abbrev pub FailsToList : Rules → WebPath → S → FsError → S → World → World → Type 0
+  FailsToList rules path m e n v w = SameBesidesOpens v w × (is_clear v.tree (resolved rules v.tree path.names) ≡ true
+      → has_dir v.tree (resolved rules v.tree path.names) ≡ true → Spoiled {T = Unit} (view.state m) (Err e) (view.state n))
+
+  -- From here on each call does to the told world what the rules say.
+  pub record Follows (rules : Rules) (s : S) : Type 0 where
+    -- no count of faults falls
+    pub counts : (n : S) → Reached s n → (view.state s).faults ≤ (view.state n).faults
+    pub looks : (m n : S) (path : WebPath) (r : Result Info FsError) → Reached s m → view.looks m c path r n
+        → Told m n (LooksBy rules path m r n)
+    pub looks_at_link : (m n : S) (path : WebPath) (r : Result Info FsError) → Reached s m → view.looks_at_link m c path r n
+        → Told m n (LooksBy rules path m r n)
+    pub makes_dir : (m n : S) (path : WebPath) (r : Result Unit FsError) → Reached s m → view.makes_dir m c path r n
+        → Told m n (λ v w. is_linked v.tree (resolved rules v.tree path.names) ≡ false → Calls (making rules v path) m r n v w)
+    pub removes_dir : (m n : S) (path : WebPath) (r : Result Unit FsError) → Reached s m → view.removes_dir m c path r n
+        → Told m n (λ v w. is_linked v.tree (resolved rules v.tree path.names) ≡ false
+        → Calls (taking_dir v.tree (resolved rules v.tree path.names)) m r n v w)
+    -- (a path without a final slash)
+    pub removes_file : (m n : S) (path : WebPath) (r : Result Unit FsError) → Reached s m → view.removes_file m c path r n
+        → path.slash ≡ false
+        → Told m n (λ v w. is_linked v.tree (resolved rules v.tree path.names) ≡ false
+        → Calls (taking_file v.tree (resolved rules v.tree path.names)) m r n v w)
+    pub opens : (m n : S) (path : WebPath) (r : Result F FsError) → Reached s m → view.opens m c path put_options r n
+        → path.slash ≡ false
+        → Told m n (λ v w. is_linked v.tree (resolved rules v.tree path.names) ≡ false → OpensBy rules path m r n v w)
+    -- (a file that isn't opened to append)
+    pub writes_file : (m n : S) (f g : F) (bytes : List ℕ) (r : Result Unit FsError) → Reached s m → WritesFile view writes m f bytes r n g
+        → Told m n (λ v w. (o : OpenFile) → v.opens (view.handle f) ≡ Some o → WritesBy (view.handle f) bytes r o v w)
+    pub members : (m n : S) (path : WebPath) (members : List Child) → Reached s m → HasMembers view lists m c path members n
+        → Told m n (ListsBy rules path members)
+    pub no_members : (m n : S) (path : WebPath) (e : FsError) → Reached s m → HasNoMembers view lists m c path e n
+        → Told m n (FailsToList rules path m e n)
+
+  -- ---- what a method over such a store makes of its world
+
+  -- What is answered to a request, and what it makes of the told world, is what its plan says, where it meets no link.
+  abbrev pub RightIn : Rules → Ask → S → Given → S → World → World → Type 0
+  RightIn rules ask s r t v w = (result : Result Reply Wanting) → answer_or ask.fields r result
+      → meets_link ask.method v.tree (resolved rules v.tree ask.path.names) ≡ false
+      → EndsAs ask.fields (plan rules v ask) result (Rose (view.state s).faults (view.state t).faults) v w
