@@ -10,3 +10,4 @@ mod Lighter
 mod WorkDone
 mod LineRows
 mod AnswersListed
+mod EditsJoined
