@@ -1,7 +1,7 @@
 mod OwnTags
 mod Unconditional
 mod Joined
-mod KeptOpen
+pub mod KeptOpen
 mod TableLines
 mod PiecesWritten
 mod FilePut
