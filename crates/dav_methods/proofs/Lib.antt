@@ -9,3 +9,4 @@ mod MembersRead
 mod Lighter
 mod WorkDone
 mod LineRows
+mod AnswersListed
