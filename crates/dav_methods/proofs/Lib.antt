@@ -10,3 +10,10 @@ mod Lighter
 mod WorkDone
 mod LineRows
 mod AnswersListed
+mod WalkOrder
+mod TreeRows
+mod RemovalWork
+mod WorkCovers
+mod TakenAfter
+mod RemovalRun
+mod DeleteRight
