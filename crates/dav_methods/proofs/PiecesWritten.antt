@@ -27,7 +27,8 @@ module _ {S C F : Type 0} (view : View S C F) where
   still_live s t f h stays live = subst (λ n. IsSome ((view.state t).live n)) (sym stays.handle) (subst (λ (l : Option Live). IsSome l) (sym stays.live) live)
 
 module _ {S C F : Type 0} (view : View S C F) (writes : Writes F) where
-  stays_written : (s t : S) (f h : F) (from : List ℕ) (r : Result Unit FsError) → WritesFile view writes s f from r t h → FileStays view s f t h
+  -- A file that was written stays open.
+  pub stays_written : (s t : S) (f h : F) (from : List ℕ) (r : Result Unit FsError) → WritesFile view writes s f from r t h → FileStays view s f t h
   stays_written s t f h from r w = record { handle = w.handle; keeps = w.told.keeps; live = w.told.live; loan = w.lent.loan }
 
   pub stays_poured : (s : S) (f : F) (b : BodyState) (t : S) (h : F) (n : BodyState) (bytes : List ℕ) → Poured view writes s f b bytes t h n → FileStays view s f t h

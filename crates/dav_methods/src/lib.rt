@@ -19,6 +19,6 @@ mod work;
 pub use conditions::{if_match, ifrange_match, ranges_are_heard, reads};
 pub use fields::first_value;
 pub use making::{mkaddressbook, mkcalendar, mkcol};
-pub use putting::put;
+pub use putting::{put, put_whole};
 pub use removing::delete;
 pub use telling::{is_among, options};

@@ -1,8 +1,9 @@
 // The answers of the methods that write, where all was done.
 ghost use Rattle.std.specs.Prelude.{◌≡◌, IfOk};
 ghost use Rattle.dav_methods.specs.Lines.{made, silent as the_silent, unless};
+ghost use Rattle.dav_methods.specs.Removing.{line_of};
 
-use dav_core::DavError;
+use dav_core::{DavError, FsError};
 use dav_io::{Field, FieldName, Items, NoMemory, Octets, Text};
 use dav_model::Outcome;
 use std::alloc::Global;
@@ -38,5 +39,15 @@ pub fn answer(line: Result<(), DavError>, outcome: Outcome) -> Result<Outcome, D
     match line {
         Ok(()) => Ok(outcome),
         Err(error) => Err(error),
+    }
+}
+
+// The answer after a call of a file, or its refusal.
+pub fn answer_written(ended: Result<(), FsError>, outcome: Outcome) -> Result<Outcome, DavError>
+    ensures { result ≡ unless (line_of ended) outcome }
+{
+    match ended {
+        Ok(()) => Ok(outcome),
+        Err(refusal) => Err(DavError::from(refusal)),
     }
 }

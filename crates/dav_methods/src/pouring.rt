@@ -11,7 +11,7 @@ use http::StatusCode;
 const MOST_BYTES: u64 = 1 << 60;
 
 // Writes all these bytes.
-fn file_write<S: GuardedFileSystem<C>, C>(
+pub fn file_write<S: GuardedFileSystem<C>, C>(
     fs: &mut S,
     file: &mut S::File,
     bytes: &[u8],

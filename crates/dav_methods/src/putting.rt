@@ -4,11 +4,11 @@ ghost use Rattle.dav_core.specs.Unchanged.{Keeps};
 ghost use Rattle.dav_store.specs.Frames.{KeepsOpen};
 ghost use Rattle.dav_store.specs.View.{the_view};
 ghost use Rattle.dav_methods.specs.Lines.{made, may_put, silent as the_silent, unless};
-ghost use Rattle.dav_methods.specs.Putting.{AfterChecks, MayPut, MayReplace, Puts, put_options as the_put_options};
+ghost use Rattle.dav_methods.specs.Putting.{AfterChecks, AfterChecksWhole, MayPut, MayReplace, Puts, PutsWhole, put_options as the_put_options};
 
 use crate::lines::{may_put_new, may_put_over, pass_parent};
-use crate::outcomes::{answer, created, silent};
-use crate::pouring::pour;
+use crate::outcomes::{answer, answer_written, created, silent};
+use crate::pouring::{file_write, pour};
 use dav_core::{DavError, DavMetaData, DavPath, FsError, OpenOptions};
 use dav_model::Outcome;
 use dav_store::{BodyReader, GuardedFileSystem, file_close};
@@ -141,4 +141,53 @@ pub fn put<S: GuardedFileSystem<C>, C, B: BodyReader>(
         Err(error) => return Err(error),
     };
     put_body(fs, credentials, path, outcome, body)
+}
+
+// Opens the file, writes these bytes to it, and closes it.
+fn put_bytes<S: GuardedFileSystem<C>, C>(
+    fs: &mut S,
+    credentials: &C,
+    path: &DavPath,
+    outcome: Outcome,
+    bytes: &[u8],
+) -> Result<Outcome, DavError>
+    ensures table { AfterChecksWhole (the_view S.GuardedFileSystem S.Disk.Disk S.File.DavFile) S.File.writes
+        credentials.now (Ok outcome) path.now bytes.now fs.old result fs.new }
+    ensures keeps { KeepsOpen (S.Disk.state (S.inside fs.old)) (S.Disk.state (S.inside fs.new)) }
+    ensures loan { S.Disk.loan (S.inside fs.new) ≡ S.Disk.loan (S.inside fs.old) }
+{
+    let mut file = match fs.open(path, put_options(), credentials) {
+        Ok(file) => file,
+        Err(refusal) => return Err(DavError::from(refusal)),
+    };
+    let ended = file_write(fs, &mut file, bytes);
+    file_close(fs, file);
+    answer_written(ended, outcome)
+}
+
+/// Answers a PUT as `put` does, where the whole body is in memory: it is written in one call.
+///
+/// Errors, in this order: 405 where a slash ends the path; 409 where no directory stands above, or the refusal of a look
+/// there that failed; a refused look at the path, unless nothing stands; 405 where a directory stands; 412 where a
+/// precondition isn't met; the refusal of the opening; and then, the file holding a front of the bytes, the refusal of
+/// the writing. Want of memory comes only before the opening, or from the store. `table` tells which call of the store
+/// gave the answer.
+pub fn put_whole<S: GuardedFileSystem<C>, C>(
+    alloc: Global,
+    fs: &mut S,
+    credentials: &C,
+    path: &DavPath,
+    fields: &HeaderMap,
+    bytes: &[u8],
+) -> Result<Outcome, DavError>
+    ensures table { PutsWhole (the_view S.GuardedFileSystem S.Disk.Disk S.File.DavFile) S.File.writes
+        credentials.now path.now fields.now bytes.now fs.old result fs.new }
+    ensures keeps { KeepsOpen (S.Disk.state (S.inside fs.old)) (S.Disk.state (S.inside fs.new)) }
+    ensures loan { S.Disk.loan (S.inside fs.new) ≡ S.Disk.loan (S.inside fs.old) }
+{
+    let outcome = match check(alloc, fs, credentials, path, fields) {
+        Ok(outcome) => outcome,
+        Err(error) => return Err(error),
+    };
+    put_bytes(fs, credentials, path, outcome, bytes)
 }

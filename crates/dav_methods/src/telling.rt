@@ -63,7 +63,17 @@ fn words_told(
     ensures { IfOk result (λ words. map (λ word. word.now) words.items ≡ the_words_told allow void) }
 {
     let mut words = Vec::new(alloc);
-    for method in [DavMethod::Options, DavMethod::Head, DavMethod::Get] {
+    let answered = [
+        DavMethod::Options,
+        DavMethod::Head,
+        DavMethod::Get,
+        DavMethod::Put,
+        DavMethod::MkCol,
+        DavMethod::Delete,
+        DavMethod::MkCalendar,
+        DavMethod::MkAddressbook,
+    ];
+    for method in answered {
         if is_told(allow, void, method) {
             words.push(word_of(method))?;
         }
