@@ -19,7 +19,7 @@ use Rattle.dav_core.specs.Listing.{name_of, stands_in}
 use Rattle.dav_core.specs.Path.{Names}
 use Rattle.dav_core.specs.Statuses.{closes, lacks_memory, status_of}
 use Rattle.dav_core.specs.Tree.{has_dir, is_dir, is_linked, row_at}
-use Rattle.dav_core.specs.World.{World, OpenFile, SameBesidesOpens, bytes_of}
+use Rattle.dav_core.specs.World.{World, OpenFile, IsWorld, SameBesidesOpens, bytes_of}
 use Rattle.dav_core.specs.Writing.{LeftBy, appends, written}
 use Rattle.dav_store.specs.declared.entry.ReadDirMeta.{ReadDirMeta}
 use Rattle.dav_store.specs.Files.{Spoiled}
@@ -132,6 +132,8 @@ module _ {S C F L E : Type 0} (view : View S C F) (lists : Listings S C L E) (wr
   pub record Follows (rules : Rules) (s : S) : Type 0 where
     -- no count of faults falls
     pub counts : (n : S) → Reached s n → (view.state s).faults ≤ (view.state n).faults
+    -- the rows of each told world are a tree
+    pub trees : (n : S) (w : World) → Reached s n → (view.state n).told ≡ Some w → IsWorld w
     pub looks : (m n : S) (path : WebPath) (r : Result Info FsError) → Reached s m → view.looks m c path r n
         → Told m n (LooksBy rules path m r n)
     pub looks_at_link : (m n : S) (path : WebPath) (r : Result Info FsError) → Reached s m → view.looks_at_link m c path r n
@@ -143,8 +145,7 @@ module _ {S C F L E : Type 0} (view : View S C F) (lists : Listings S C L E) (wr
         → Calls (taking_dir v.tree (resolved rules v.tree path.names)) m r n v w)
     -- (a path without a final slash)
     pub removes_file : (m n : S) (path : WebPath) (r : Result Unit FsError) → Reached s m → view.removes_file m c path r n
-        → path.slash ≡ false
-        → Told m n (λ v w. is_linked v.tree (resolved rules v.tree path.names) ≡ false
+        → Told m n (λ v w. path.slash ≡ false → is_linked v.tree (resolved rules v.tree path.names) ≡ false
         → Calls (taking_file v.tree (resolved rules v.tree path.names)) m r n v w)
     pub opens : (m n : S) (path : WebPath) (r : Result F FsError) → Reached s m → view.opens m c path put_options r n
         → path.slash ≡ false
