@@ -9,7 +9,7 @@ use Rattle.dav_core.specs.declared.handle.Lister.{Lister}
 use Rattle.dav_core.specs.declared.handle.Meta.{Meta}
 use Rattle.dav_core.specs.declared.handle.OpenOptions.{OpenOptions}
 use Rattle.dav_core.specs.DavPath.{WebPath}
-use Rattle.dav_core.specs.Disk.{DiskState, IsCounted, Metas}
+use Rattle.dav_core.specs.Disk.{DiskState, IsCounted, MetasBy}
 use Rattle.dav_core.specs.Errors.{fs_error_of}
 use Rattle.dav_core.specs.Info.{Info, info_of}
 use Rattle.dav_core.specs.Listing.{ListsOn}
@@ -26,9 +26,9 @@ use Rattle.dav_plain.specs.declared.entry.EntryMeta.TheVariants.{At, Read}
 use Rattle.dav_plain.specs.declared.entry.PlainDir.{PlainDir}
 use Rattle.dav_plain.specs.declared.entry.PlainEntry.{PlainEntry}
 use Rattle.dav_plain.specs.declared.file.PlainFile.{PlainFile}
-use Rattle.dav_plain.specs.Calls.{AsksToTakeFile, IsOpening, done_by, filed, looked_as, said_by}
+use Rattle.dav_plain.specs.Calls.{AsksToTakeFile, IsOpening, LooksBy, done_by, filed, looked_as, said_by}
 use Rattle.dav_plain.specs.Entries.{Says, said_info}
-use Rattle.dav_plain.specs.Listing.{AfterName, Begins, BeginsDir, GivesEntry, IsKnown, NextOf, dir_of, next_of}
+use Rattle.dav_plain.specs.Listing.{AfterName, Begins, GivesEntry, IsAsked, IsKnown, NextOf, WasRead, dir_of, next_of}
 use Rattle.dav_plain.specs.Writing.{WritesAll}
 use Rattle.dav_plain.specs.Writing.WritesAll.{more, nothing, refused}
 use Rattle.dav_follows.proofs.PlainStore.{IsPlainStore}
@@ -79,15 +79,19 @@ done_usual : (answer : Result Unit DiskError) (s t : DiskState) → IsCounted an
 done_usual (Ok x) s t counted = tt
 done_usual (Err d) s t counted = refused_by Unit Unit d s t counted
 
-dir_usual : (path : Names) (reads : Bool) (answer : Result Lister DiskError) (s t : DiskState) → IsCounted answer s t → RefusedUsually s (dir_of path reads answer) t
-dir_usual path reads (Ok l) s t counted = tt
-dir_usual path reads (Err d) s t counted = refused_by Lister PlainDir d s t counted
+dir_usual : (path : Names) (how : ReadDirMeta) (answer : Result Lister DiskError) (s t : DiskState) → IsCounted answer s t → RefusedUsually s (dir_of path how answer) t
+dir_usual path how (Ok l) s t counted = tt
+dir_usual path how (Err d) s t counted = refused_by Lister PlainDir d s t counted
 
 said_usual : (answer : Result Meta DiskError) (s t : DiskState) → IsCounted answer s t → RefusedUsually s (said_info (said_by answer)) t
 said_usual (Ok m) s t counted = tt
 said_usual (Err d) s t counted = refused_by Meta Info d s t counted
 
 -- ---- the calls
+
+look_usual : (follows : Bool) (path : WebPath) (s : DiskState) (r : Result Info FsError) (t : DiskState) → LooksBy follows s path r t → Usual s r t
+look_usual follows path s r t (answer, metas, is) =
+    rw is (record { counts = metas.asks.counts; refused = looked_usual path.slash answer s t metas.asks.counted })
 
 opening_usual : (slash : Bool) (s t : DiskState) (path : WebPath) (how : OpenOptions) (r : Result PlainFile FsError) → path.slash ≡ slash → IsOpening s path how r t → Usual s r t
 opening_usual true s t path how r e opening = let (is, same) = opening.slash e in refused_at_once PlainFile fs.Forbidden r s t is same refl (λ f. cc)
@@ -101,27 +105,31 @@ removal_usual false s t path r e takes =
     let (answer, does, is) = takes.asked e in
     rw is (record { counts = does.asks.counts; refused = done_usual answer s t does.asks.counted })
 
-begin_usual : (path : Names) (reads : Bool) (r : Result PlainDir FsError) (s t : DiskState) → Begins s path reads r t → Usual s r t
-begin_usual path reads r s t (inl (is, same)) = refused_at_once PlainDir fs.NoMemory r s t is same refl (λ f. cc)
-begin_usual path reads r s t (inr (answer, lists, is)) =
-    rw is (record { counts = lists.counted.counts; refused = dir_usual path reads answer s t lists.counted })
-
-begins_usual : (path : WebPath) (how : ReadDirMeta) (r : Result PlainDir FsError) (s t : DiskState) → BeginsDir s path how r t → Usual s r t
-begins_usual path wanted.Data r s t begins = begin_usual path.names true r s t begins
-begins_usual path wanted.DataSymlink r s t (is, same) = refused_at_once PlainDir fs.NotImplemented r s t is same refl (λ f. cc)
-begins_usual path wanted.None r s t begins = begin_usual path.names false r s t begins
+begin_usual : (path : Names) (how : ReadDirMeta) (r : Result PlainDir FsError) (s t : DiskState) → Begins s path how r t → Usual s r t
+begin_usual path how r s t (inl (is, same)) = refused_at_once PlainDir fs.NoMemory r s t is same refl (λ f. cc)
+begin_usual path how r s t (inr (answer, lists, is)) =
+    rw is (record { counts = lists.counted.counts; refused = dir_usual path how answer s t lists.counted })
 
 -- ---- entries
 
-known_counts : (meta : EntryMeta) (reads : Bool) (path : Names) (s t : DiskState) → IsKnown meta reads s path t → s.faults ≤ t.faults
-known_counts (Read answer) reads path s t (on, (said, metas, is)) = metas.asks.counts
-known_counts (At place) reads path s t (off, at, same) = rw same (omega arith)
+read_counts : (follows : Bool) (meta : EntryMeta) (path : Names) (s t : DiskState) → WasRead follows meta s path t → s.faults ≤ t.faults
+read_counts follows (Read answer) path s t (said, metas, is) = metas.asks.counts
+read_counts follows (At place) path s t read = absurd read
+
+asked_counts : (meta : EntryMeta) (path : Names) (s t : DiskState) → IsAsked meta s path t → s.faults ≤ t.faults
+asked_counts (Read answer) path s t asked = absurd asked
+asked_counts (At place) path s t (at, same) = rw same (omega arith)
+
+known_counts : (meta : EntryMeta) (how : ReadDirMeta) (path : Names) (s t : DiskState) → IsKnown meta how s path t → s.faults ≤ t.faults
+known_counts meta wanted.Data path s t known = read_counts true meta path s t known
+known_counts meta wanted.DataSymlink path s t known = read_counts false meta path s t known
+known_counts meta wanted.None path s t known = asked_counts meta path s t known
 
 -- what comes after a name, where the disk gave it between two states
 entry_usual : (name : List ℕ) (d : PlainDir) (given : Result PlainEntry FsError) (r : Result (Option PlainEntry) FsError) (s m t : DiskState)
     → s.faults ≤ m.faults → GivesEntry name d m given t → r ≡ next_of given → Usual s r t
 entry_usual name d (Ok entry) r s m t le (named, known) is =
-    rw is (record { counts = (let more = known_counts entry.meta d.reads (d.path ++ name ∷ []) m t known in omega (arith, le, more)); refused = tt })
+    rw is (record { counts = (let more = known_counts entry.meta d.wanted (d.path ++ name ∷ []) m t known in omega (arith, le, more)); refused = tt })
 entry_usual name d (Err e) r s m t le (wanting, same) is =
     rw (is, same, wanting) (record { counts = le; refused = (refl, λ f. cc) })
 
@@ -151,21 +159,30 @@ usual_from T (Err e) s m t le usual = record {
   refused = (usual.refused.0, λ f. rose_from s.faults m.faults t.faults le (usual.refused.1 f));
 }
 
-said_by_usual : (said : Result Meta DiskError) (path : Names) (r : Result Info FsError) (s t : DiskState) → Metas s path said t → r ≡ said_info (said_by said) → Usual s r t
-said_by_usual said path r s t metas is = rw is (record { counts = metas.asks.counts; refused = said_usual said s t metas.asks.counted })
+said_by_usual : (follows : Bool) (said : Result Meta DiskError) (path : Names) (r : Result Info FsError) (s t : DiskState) → MetasBy follows s path said t → r ≡ said_info (said_by said) → Usual s r t
+said_by_usual follows said path r s t metas is = rw is (record { counts = metas.asks.counts; refused = said_usual said s t metas.asks.counted })
+
+says_read : (follows : Bool) (meta : EntryMeta) (path : Names) (r : Result Info FsError) (m t u : DiskState) → WasRead follows meta m path t → Says meta t r u → Usual m r u
+says_read follows (Read answer) path r m t u (said, metas, told) (is, same) =
+    rw same (said_by_usual follows said path r m t metas (is ∙ ap said_info told))
+says_read follows (At place) path r m t u read says = absurd read
+
+says_asked : (meta : EntryMeta) (path : Names) (r : Result Info FsError) (m t u : DiskState) → IsAsked meta m path t → Says meta t r u → Usual m r u
+says_asked (Read answer) path r m t u asked says = absurd asked
+says_asked (At place) path r m t u (at, same) (said, metas, is) =
+    rw (← same) (said_by_usual true said place r t u metas is)
 
 -- What an entry tells counts from before it was given.
-says_from : (meta : EntryMeta) (reads : Bool) (path : Names) (r : Result Info FsError) (m t u : DiskState) → IsKnown meta reads m path t → Says meta t r u → Usual m r u
-says_from (Read answer) reads path r m t u (on, (said, metas, told)) (is, same) =
-    rw same (said_by_usual said path r m t metas (is ∙ ap said_info told))
-says_from (At place) reads path r m t u (off, at, same) (said, metas, is) =
-    rw (← same) (said_by_usual said place r t u metas is)
+says_from : (meta : EntryMeta) (how : ReadDirMeta) (path : Names) (r : Result Info FsError) (m t u : DiskState) → IsKnown meta how m path t → Says meta t r u → Usual m r u
+says_from meta wanted.Data path r m t u known says = says_read true meta path r m t u known says
+says_from meta wanted.DataSymlink path r m t u known says = says_read false meta path r m t u known says
+says_from meta wanted.None path r m t u known says = says_asked meta path r m t u known says
 
 given_says : (given : Result PlainEntry FsError) (name : List ℕ) (d : PlainDir) (e : PlainEntry) (r : Result Info FsError) (m t u : DiskState) → Ok (Some e) ≡ next_of given → GivesEntry name d m given t
     → Says e.meta t r u → Usual m r u
 given_says (Ok entry) name d e r m t u is (named, known) says =
     let same : entry ≡ e = cc in
-    says_from e.meta d.reads (d.path ++ name ∷ []) r m t u (subst (λ (x : PlainEntry). IsKnown x.meta d.reads m (d.path ++ name ∷ []) t) same known) says
+    says_from e.meta d.wanted (d.path ++ name ∷ []) r m t u (subst (λ (x : PlainEntry). IsKnown x.meta d.wanted m (d.path ++ name ∷ []) t) same known) says
 given_says (Err f) name d e r m t u is gives says = cc
 
 after_says : (answer : Result (Option (List ℕ)) DiskError) (d k : PlainDir) (e : PlainEntry) (r : Result Info FsError) (m t u : DiskState) → AfterName answer m d (Ok (Some e)) t k → Says e.meta t r u → Usual m r u
@@ -197,10 +214,8 @@ writing_usual h s bytes r t (more a m b from piece n result chunk writes rest) =
 pub plain_usual : {S C : Type 0} (view : View S C PlainFile) (lists : Listings S C PlainDir PlainEntry) (writes : Writes PlainFile) (c : C) → IsPlainStore view lists writes c
     → RefusesUsually view lists writes c
 plain_usual view lists writes c plain = record {
-  looks = λ s t path r h. (let (answer, metas, is) = plain.looks s t path r h in
-      rw is (record { counts = metas.asks.counts; refused = looked_usual path.slash answer (view.state s) (view.state t) metas.asks.counted }));
-  looks_at_link = λ s t path r h. (let (is, same) = plain.looks_at_link s t path r h in
-      refused_at_once Info fs.NotImplemented r (view.state s) (view.state t) is same refl (λ f. cc));
+  looks = λ s t path r h. look_usual true path (view.state s) r (view.state t) (plain.looks s t path r h);
+  looks_at_link = λ s t path r h. look_usual false path (view.state s) r (view.state t) (plain.looks_at_link s t path r h);
   opens = λ s t path how r h. opening_usual path.slash (view.state s) (view.state t) path how r refl (plain.opens s t path how r h);
   writes_file = λ s t f g bytes r h. writing_usual f.handle.0 (view.state s) bytes r (view.state t) (plain.writes_file f g (view.state s) (view.state t) bytes r h.done).0;
   makes_dir = λ s t path r h. (let (answer, does, is) = plain.makes_dir s t path r h in
@@ -212,7 +227,7 @@ plain_usual view lists writes c plain = record {
       rw is (record { counts = does.asks.counts; refused = done_usual answer (view.state s) (view.state t) does.asks.counted }));
   copies = λ s t from to r h. (let (answer, does, is) = plain.copies s t from to r h in
       rw is (record { counts = does.asks.counts; refused = done_usual answer (view.state s) (view.state t) does.asks.counted }));
-  begins = λ s t path how r h. begins_usual path how r (view.state s) (view.state t) (plain.begins s t path how r h);
+  begins = λ s t path how r h. begin_usual path.names how r (view.state s) (view.state t) (plain.begins s t path how r h);
   goes_on = λ s t l k r h. next_usual l.over l k r (view.state s) (view.state t) (plain.goes_on s t l k r h);
   says = λ s m t l k e r on h. next_says l.over l k e r (view.state s) (view.state m) (view.state t) (plain.goes_on s m l k (Ok (Some e)) on) (plain.says (view.state m) (view.state t) e r h);
   ends = λ s t l h. (let same = (plain.ends s t l h).counts in omega (arith, same));

@@ -1,4 +1,4 @@
-use Rattle.std.proofs.Common.{ap, refl}
+use Rattle.std.proofs.Common.{refl}
 use Rattle.dav_follows.proofs.PlainUsual.{plain_usual}
 use Rattle.dav_follows.proofs.plain_stores_refuse_few.Goals as goal
 
@@ -6,7 +6,7 @@ pub returns : goal.returns
 returns g c = plain_usual _ _ _ tt (record {
   worlds = λ s w told. g.met.D.Disk.world s.disk w told;
   looks = λ s t path r h. h;
-  looks_at_link = λ s t path r h. (h.0, ap (λ x. g.D.Disk.state x.disk) h.1);
+  looks_at_link = λ s t path r h. h;
   opens = λ s t path how r h. h;
   handle = λ f. refl;
   writes_file = λ f g s t bytes r h. h;
