@@ -327,9 +327,9 @@ module _ {S C F L E : Type 0} (view : View S C F) (lists : Listings S C L E) (wr
       let dir : is_dir stood.row.kind ≡ is_dir_there found = sym (pass.dir ∙ stood.kind) in
       let own_path : In path.names (to_go v) = walked_in v.tree path.names path.names (path_in path.names stood.row v.tree stood.in_tree stood.at) (front_itself path.names) in
       let covers : Covers (Whole path (is_dir_there found) ∷ []) (to_go v) =
-          (to_go v, [], sym (append-nil (to_go v)), λ p i. (in_walked v.tree path.names p i).1, λ p i. absurd i, own_path, refl) in
+      (to_go v, [], sym (append-nil (to_go v)), λ p i. (in_walked v.tree path.names p i).1, λ p i. absurd i, own_path, refl) in
       let fit : AllFit path.names v.tree (Whole path (is_dir_there found) ∷ []) =
-          ((record { row = stood.row; in_tree = stood.in_tree; at = stood.at; kind = dir }, λ e. stood.slash (sym pass.dir ∙ e) clear, inl refl), tt) in
+      ((record { row = stood.row; in_tree = stood.in_tree; at = stood.at; kind = dir }, λ e. stood.slash (sym pass.dir ∙ e) clear, inl refl), tt) in
       let left : Left path.names v.tree u.tree (to_go v) = subst (λ rows. Left path.names v.tree rows (to_go v)) (sym same.tree) (all_left v world) in
       let came = comes_after view lists writes c rules fields start follows plain all x (to_go v) t v u w same (goes x (to_go v) covers fit left) in
       right_of all t v w (acts x (to_go v)) (plan_lines rules v path fields body macos some ∙ (ap (λ o. unless o (removing rules v path)) pass.none ∙ planned rules v path folds alone)) came

@@ -308,9 +308,10 @@ module _ {S C F L E : Type 0} (view : View S C F) (lists : Listings S C L E) (wr
       (removes_file m n path gone reached call, subst (λ z. ToldIn m n (Steps (Whole path false ∷ works) z)) (sym e) (file_step path works m n gone reached call ok))
   step_told (Emptied path) works rest m n reached (gone, call, ok, e) =
       (removes_dir m n path gone reached call, subst (λ z. ToldIn m n (Steps (Emptied path ∷ works) z)) (sym e) (dir_step path works m n gone reached call ok))
-  step_told (Whole path true) works rest m n reached (shallow, members, has, e) =
-      (members_reached path members m n reached has,
-      subst (λ z. ToldIn m n (Steps (Whole path true ∷ works) z)) (sym e) (opened_step path members works m n reached shallow has))
+  step_told (Whole path true) works rest m n reached (shallow, members, has, e) = (
+    members_reached path members m n reached has,
+    subst (λ z. ToldIn m n (Steps (Whole path true ∷ works) z)) (sym e) (opened_step path members works m n reached shallow has),
+  )
 
   -- ---- a refusal
 

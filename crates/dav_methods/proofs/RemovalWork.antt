@@ -12,7 +12,7 @@ use Rattle.dav_core.specs.Path.{Names, is_front, parent_of, same_names}
 use Rattle.dav_core.specs.Tree.{is_dir, is_link, is_linked, is_tree, look}
 use Rattle.dav_model.specs.Plans.{has_link_below}
 use Rattle.dav_model.specs.Walks.{members_first}
-use Rattle.dav_methods.proofs.TreeRows.{Parts, above, all_at, all_in, false_or, front_itself, front_length, front_rest, front_then, fronts_meet, in_filter, filter_in, look_row, not_both, only_row, parts_of, same_of, same_yes}
+use Rattle.dav_methods.proofs.TreeRows.{Parts, above, all_at, all_in, any_none, both, false_or, filter_in, front_itself, front_length, front_rest, front_then, fronts_meet, in_filter, look_row, not_both, not_true, only_row, parts_of, same_of, same_yes}
 use Rattle.dav_methods.proofs.WalkOrder.{Ascends, In, ascends_left, below_first, in_left, in_paths, not_itself, path_in, path_then, paths, paths_in}
 
 -- ---- order and place
@@ -74,10 +74,6 @@ map_in f [] x i = absurd i
 map_in f (y ∷ rows) x (inl e) = inl (ap f e)
 map_in f (y ∷ rows) x (inr i) = inr (map_in f rows x i)
 
-not_true : (b : Bool) → not b ≡ true → b ≡ false
-not_true true e = cc
-not_true false e = refl
-
 not_false : (b : Bool) → b ≡ false → not b ≡ true
 not_false true e = cc
 not_false false e = refl
@@ -87,10 +83,13 @@ taken_row : (p : Names) (t : FileTime) (now : List Row) (r : Row) → In r (map 
     → (x : Row) × In x now × (is_front p x.path ≡ false) × (r.path ≡ x.path) × (r.kind ≡ x.kind)
 taken_row p t now r i =
     let (x, j, same) = in_map (timed_row (parent_of p) t) (without p now) r i in
-    let (k, kept) = in_filter (λ row. not (is_front p row.path)) now x j in
-    (x, k, not_true (is_front p x.path) kept,
-    ap (λ (y : Row). y.path) same ∙ timed_path (same_names (parent_of p) x.path) (parent_of p) t x refl,
-    ap (λ (y : Row). y.kind) same ∙ timed_kind (same_names (parent_of p) x.path) (parent_of p) t x refl)
+    let (k, kept) = in_filter (λ row. not (is_front p row.path)) now x j in (
+      x,
+      k,
+      not_true (is_front p x.path) kept,
+      ap (λ (y : Row). y.path) same ∙ timed_path (same_names (parent_of p) x.path) (parent_of p) t x refl,
+      ap (λ (y : Row). y.kind) same ∙ timed_kind (same_names (parent_of p) x.path) (parent_of p) t x refl,
+    )
 
 row_taken : (p : Names) (t : FileTime) (now : List Row) (x : Row) → In x now → is_front p x.path ≡ false → In x.path (paths (map (timed_row (parent_of p) t) (without p now)))
 row_taken p t now x i other =
@@ -168,11 +167,7 @@ file_allowed top old now p left parts l s =
 
 -- ---- links
 
-any_none : (q : Row → Bool) (rows : List Row) → ((r : Row) → In r rows → q r ≡ false) → list_any q rows ≡ false
-any_none q [] h = refl
-any_none q (r ∷ rows) h = rw (h r (inl refl), any_none q rows (λ s i. h s (inr i))) refl
-
-pub none_any : (q : Row → Bool) (rows : List Row) (r : Row) → list_any q rows ≡ false → In r rows → q r ≡ false
+none_any : (q : Row → Bool) (rows : List Row) (r : Row) → list_any q rows ≡ false → In r rows → q r ≡ false
 none_any q [] r e i = absurd i
 none_any q (x ∷ rows) r e (inl same) = ap q same ∙ first (q x) (list_any q rows) e
   where
@@ -185,15 +180,11 @@ none_any q (x ∷ rows) r e (inr i) = none_any q rows r (second (q x) (list_any 
     second true b f = cc
     second false b f = f
 
-and_true : (a b : Bool) → a ≡ true → b ≡ true → (a && b) ≡ true
-and_true true b e f = f
-and_true false b e f = cc
-
 no_link_below : (old : List Row) (top : Names) (o : Row) → has_link_below old top ≡ false → In o old → is_link o.kind ≡ true → is_front top o.path ≡ true → ⊥
 no_link_below old top o none i link front =
     let all = negated (list_all (λ (row : Row). not (is_link row.kind && is_front top row.path)) old) none in
     let one = all_at (λ (row : Row). not (is_link row.kind && is_front top row.path)) old o all i in
-    not_both (is_link o.kind && is_front top o.path) (and_true (is_link o.kind) (is_front top o.path) link front) (not_true (is_link o.kind && is_front top o.path) one)
+    not_both (is_link o.kind && is_front top o.path) (both (is_link o.kind) (is_front top o.path) link front) (not_true (is_link o.kind && is_front top o.path) one)
   where
     negated : (b : Bool) → not b ≡ false → b ≡ true
     negated true e = refl
@@ -207,7 +198,7 @@ unlinked top old now left p none clear l front = any_none (λ row. is_link row.k
     placed : (o : Row) → In o old → is_link o.kind ≡ true → is_front o.path p ≡ true → (length top < length o.path) ⊎ (length o.path ≤ length top) → ⊥
     placed o i link up (inl lt) = no_link_below old top o none i link (fronts_meet top o.path p front up (omega (arith, lt)))
     placed o i link up (inr le) =
-        not_both (is_link o.kind && is_front o.path top) (and_true (is_link o.kind) (is_front o.path top) link (fronts_meet o.path top p up front le))
+        not_both (is_link o.kind && is_front o.path top) (both (is_link o.kind) (is_front o.path top) link (fronts_meet o.path top p up front le))
         (none_any (λ row. is_link row.kind && is_front row.path top) old o clear i)
 
     never : (r : Row) → In r now → (is_link r.kind ≡ true) × (is_front r.path p ≡ true) → ⊥

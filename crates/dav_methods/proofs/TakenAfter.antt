@@ -47,13 +47,17 @@ new_after : (v u w : World) (t : FileTime) → SameBesidesOpens v u → IsNew u 
 new_after v u w t same new = record { later = rw (← same.latest) new.later; used = new.used; nanos = new.nanos }
 
 pub taken_after : (path : Names) (v u w : World) → SameBesidesOpens v u → Edited (takes path) u w → Edited (takes path) v w
-taken_after path v u w same (t, new, e) = (t, new_after v u w t same new, record {
-  tree = e.tree ∙ ap (λ tree. map (timed_row (parent_of path) t) (without path tree)) same.tree;
-  files = λ n h. (let back = e.files n h in let first = same.files n (taken_held path (parent_of path) n t u back.0) in (inl first.0, back.1 ∙ first.1));
-  script = e.script ∙ same.script;
-  greatest = rw (← same.greatest) e.greatest;
-  latest = rw (← same.latest) e.latest;
-})
+taken_after path v u w same (t, new, e) = (
+  t,
+  new_after v u w t same new,
+  record {
+    tree = e.tree ∙ ap (λ tree. map (timed_row (parent_of path) t) (without path tree)) same.tree;
+    files = λ n h. (let back = e.files n h in let first = same.files n (taken_held path (parent_of path) n t u back.0) in (inl first.0, back.1 ∙ first.1));
+    script = e.script ∙ same.script;
+    greatest = rw (← same.greatest) e.greatest;
+    latest = rw (← same.latest) e.latest;
+  },
+)
 
 -- ---- acts of a removal
 

@@ -1,6 +1,6 @@
 -- The rows of a tree: above each stand directories, and a look finds it.
 use Rattle.std.proofs.Common.{◌≡◌, ◌≤◌, ◌<◌, ◌⊎◌, ◌&&◌, ◌==◌, ◌-◌, ◌++◌, ℕ, zero, suc, List, [], ◌∷◌, length, take, drop, Bool, true, false, not, cond, Option, None, Some, Result, Ok, refl, sym, ap, subst, ◌∙◌, arith, inl, inr, append_assoc, append-nil, length-append, length-take, take-append-drop}
-use Rattle.std.specs.List.{filter, list_all}
+use Rattle.std.specs.List.{filter, list_all, list_any}
 use Rattle.std.proofs.lemmas.Bool.{and_parts, cases_lt}
 use Rattle.std.proofs.lemmas.Bool.Decides.{nat_tests}
 use Rattle.std.proofs.lemmas.List.{take-take}
@@ -94,7 +94,7 @@ all_at q [] r all i = absurd i
 all_at q (x ∷ rows) r all (inl e) = ap q e ∙ (and_parts (q x) (list_all q rows) all).0
 all_at q (x ∷ rows) r all (inr i) = all_at q rows r (and_parts (q x) (list_all q rows) all).1 i
 
-both : (a b : Bool) → a ≡ true → b ≡ true → (a && b) ≡ true
+pub both : (a b : Bool) → a ≡ true → b ≡ true → (a && b) ≡ true
 both true true e f = refl
 both true false e f = cc
 both false b e f = cc
@@ -102,6 +102,10 @@ both false b e f = cc
 pub all_in : (q : Row → Bool) (rows : List Row) → ((r : Row) → In r rows → q r ≡ true) → list_all q rows ≡ true
 all_in q [] h = refl
 all_in q (x ∷ rows) h = both (q x) (list_all q rows) (h x (inl refl)) (all_in q rows (λ r i. h r (inr i)))
+
+pub any_none : (q : Row → Bool) (rows : List Row) → ((r : Row) → In r rows → q r ≡ false) → list_any q rows ≡ false
+any_none q [] h = refl
+any_none q (r ∷ rows) h = rw (h r (inl refl), any_none q rows (λ s i. h s (inr i))) refl
 
 in_kept : (b : Bool) (x y : Row) (ys xs : List Row) (keep : Row → Bool) → b ≡ keep x → (In y ys → In y xs × (keep y ≡ true)) → In y (cond b (x ∷ ys) ys) → In y (x ∷ xs) × (keep y ≡ true)
 in_kept true x y ys xs keep b h (inl e) = (inl e, ap keep e ∙ sym b)
@@ -122,7 +126,7 @@ pub filter_in : (keep : Row → Bool) (rows : List Row) (r : Row) → keep r ≡
 filter_in keep [] r k i = absurd i
 filter_in keep (x ∷ rows) r k i = kept_in (keep x) x r (filter keep rows) keep refl k (in_more r x rows (filter keep rows) (filter_in keep rows r k) i)
 
-not_true : (b : Bool) → not b ≡ true → b ≡ false
+pub not_true : (b : Bool) → not b ≡ true → b ≡ false
 not_true true e = cc
 not_true false e = refl
 

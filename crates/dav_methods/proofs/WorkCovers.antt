@@ -16,7 +16,7 @@ use Rattle.dav_methods.specs.declared.work.Work.TheVariants.{Emptied, Whole}
 use Rattle.dav_methods.specs.Follows.{child_of, children_in}
 use Rattle.dav_methods.specs.Removing.{is_deep, works_in}
 use Rattle.dav_methods.proofs.RemovalWork.{Left, StandsAs, behind_not_below}
-use Rattle.dav_methods.proofs.TreeRows.{Parts, above, false_or, filter_once, front_equal, front_itself, front_length, front_rest, front_then, fronts_meet, in_filter, filter_in, not_both, only_row, parts_of, same_of, same_yes}
+use Rattle.dav_methods.proofs.TreeRows.{Parts, above, any_none, both, false_or, filter_in, filter_once, front_equal, front_itself, front_length, front_rest, front_then, fronts_meet, in_filter, not_both, only_row, parts_of, same_of, same_yes}
 use Rattle.dav_methods.proofs.WalkOrder.{Ascends, In, Once, apart_first, ascends_across, ascends_join, ascends_left, ascends_right, below_first, from_order, in_either, in_left, in_paths, in_right, into_order, one_list, order_ascends, order_either, path_in, paths, paths_in}
 
 -- ---- what work covers
@@ -87,14 +87,10 @@ AreMembers at now rows = (r : Row) → In r rows → IsMember at now r
 all_members : (at : Names) (now : List Row) → AreMembers at now (members at now)
 all_members at now r i = is_member at now r (from_order r (filter (stands_in at) now) i)
 
-and_true : (a b : Bool) → a ≡ true → b ≡ true → (a && b) ≡ true
-and_true true b e f = f
-and_true false b e f = cc
-
 in_members : (at : Names) (now : List Row) (r : Row) → In r now → length r.path ≡ length at + 1 → is_front at r.path ≡ true → In r (members at now)
 in_members at now r i long front =
     into_order r (filter (stands_in at) now) (filter_in (stands_in at) now r
-    (and_true (length r.path == length at + 1) (is_front at r.path) (same_nat (length r.path) (length at + 1) long) front) i)
+    (both (length r.path == length at + 1) (is_front at r.path) (same_nat (length r.path) (length at + 1) long) front) i)
 
 -- the same rows as the order puts them that lists directories first
 listed_members : (at : Names) (now : List Row) → in_order dir_first (filter (stands_in at) now) ≡ members at now
@@ -239,12 +235,15 @@ rows_cover path now (r ∷ rows) more works are a covers =
     let here : In r.path (walked now r.path) = walked_in now r.path r.path (paths_in r now m.in_tree) (front_itself r.path) in
     let rest = all_walked path.names now rows ++ more in
     let joined = append_assoc (walked now r.path) (all_walked path.names now rows) more in
-    let ascends = subst Ascends joined a in
-    (walked now r.path, rest, joined,
-    λ p i. subst (λ x. is_front x p ≡ true) own (in_walked now r.path p i).1,
-    λ p i. subst (λ x. is_front x p ≡ false) own (false_or (is_front r.path p) (behind_not_below r.path p (ascends_across (walked now r.path) rest r.path p ascends here i))),
-    subst (λ x. In x (walked now r.path)) own here,
-    rows_cover path now rows more works (λ s i. are s (inr i)) (ascends_right (walked now r.path) rest ascends) covers)
+    let ascends = subst Ascends joined a in (
+      walked now r.path,
+      rest,
+      joined,
+      λ p i. subst (λ x. is_front x p ≡ true) own (in_walked now r.path p i).1,
+      λ p i. subst (λ x. is_front x p ≡ false) own (false_or (is_front r.path p) (behind_not_below r.path p (ascends_across (walked now r.path) rest r.path p ascends here i))),
+      subst (λ x. In x (walked now r.path)) own here,
+      rows_cover path now rows more works (λ s i. are s (inr i)) (ascends_right (walked now r.path) rest ascends) covers,
+    )
 
 -- The members of a directory cover, with it, what it covered.
 pub opened_covers : (top : Names) (old now : List Row) (path : WebPath) (left : List Names) (works : List Work) → Left top old now left
@@ -274,9 +273,10 @@ rows_fit top old now left path (r ∷ rows) works l shallow are s fit =
     let m = are r (inl refl) in
     let own = member_path path.names now r m in
     let (o, i, at, kind) = l.from r m.in_tree in
-    let long : length (path.names ++ name_of r ∷ []) ≤ 65537 = omega (arith, length-append path.names (name_of r ∷ []), not_deep path shallow) in
-    ((record { row = o; in_tree = i; at = at ∙ own; kind = ap is_dir kind }, λ e. e, inr long),
-    rows_fit top old now left path rows works l shallow (λ t j. are t (inr j)) s fit)
+    let long : length (path.names ++ name_of r ∷ []) ≤ 65537 = omega (arith, length-append path.names (name_of r ∷ []), not_deep path shallow) in (
+      (record { row = o; in_tree = i; at = at ∙ own; kind = ap is_dir kind }, λ e. e, inr long),
+      rows_fit top old now left path rows works l shallow (λ t j. are t (inr j)) s fit,
+    )
 
 pub opened_fit : (top : Names) (old now : List Row) (left : List Names) (path : WebPath) (works : List Work) → Left top old now left → is_deep path ≡ false
     → AllFit top old (Whole path true ∷ works) → AllFit top old (works_in path (children_in now path.names path) works)
@@ -285,10 +285,6 @@ opened_fit top old now left path works l shallow fit =
     (rows_fit top old now left path (members path.names now) works l shallow (all_members path.names now) fit.0.0 fit.1)
 
 -- ---- directories of too many names
-
-any_none : (q : Row → Bool) (rows : List Row) → ((r : Row) → In r rows → q r ≡ false) → list_any q rows ≡ false
-any_none q [] h = refl
-any_none q (r ∷ rows) h = rw (h r (inl refl), any_none q rows (λ s i. h s (inr i))) refl
 
 or_true : (a b : Bool) → b ≡ true → (a || b) ≡ true
 or_true true b e = refl
@@ -345,6 +341,6 @@ pub whole_deep : (top : Names) (old : List Row) (path : WebPath) (q : Names) →
 whole_deep top old path q s under deep below =
     any_some (λ row. is_deep_dir row && is_front row.path q) (going top old) s.row
     (into_order s.row (filter (λ row. is_front top row.path) old) (filter_in (λ row. is_front top row.path) old s.row (subst (λ x. is_front top x ≡ true) (sym s.at) under) s.in_tree))
-    (and_true (is_deep_dir s.row) (is_front s.row.path q)
-    (and_true (is_dir s.row.kind) (nat_lt 65536 (length s.row.path)) s.kind (ap (λ x. nat_lt 65536 (length x)) s.at ∙ deep))
+    (both (is_deep_dir s.row) (is_front s.row.path q)
+    (both (is_dir s.row.kind) (nat_lt 65536 (length s.row.path)) s.kind (ap (λ x. nat_lt 65536 (length x)) s.at ∙ deep))
     (subst (λ x. is_front x q ≡ true) (sym s.at) below))
