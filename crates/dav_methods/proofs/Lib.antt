@@ -17,3 +17,4 @@ mod WorkCovers
 mod TakenAfter
 mod RemovalRun
 mod DeleteRight
+mod RemovalsListed

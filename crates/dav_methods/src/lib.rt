@@ -23,6 +23,6 @@ pub use fields::first_value;
 pub use laws::answers_are_listed;
 pub use making::{mkaddressbook, mkcalendar, mkcol};
 pub use putting::{put, put_whole};
-pub use removal_laws::removals_follow_their_plan;
+pub use removal_laws::{removals_are_listed, removals_follow_their_plan};
 pub use removing::delete;
 pub use telling::{is_among, options};
