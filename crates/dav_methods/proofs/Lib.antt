@@ -9,5 +9,13 @@ mod MembersRead
 mod Lighter
 mod WorkDone
 mod LineRows
-mod AnswersListed
+pub mod AnswersListed
 mod EditsJoined
+mod WalkOrder
+mod TreeRows
+mod RemovalWork
+mod WorkCovers
+mod TakenAfter
+mod RemovalRun
+pub mod DeleteRight
+pub mod RemovalsListed

@@ -1,0 +1,16 @@
+//! What the plain store promises the methods that write, as laws about its definitions. The calls do nothing.
+#![tactic(auto)]
+
+ghost use Rattle.dav_methods.specs.Answers.{RefusesUsually};
+ghost use Rattle.dav_store.specs.View.{the_listings, the_view};
+
+use dav_core::Disk;
+use dav_plain::{PlainEntry, PlainFile, PlainFs};
+use dav_store::{DavDirEntry, DavFile, GuardedFileSystem};
+
+/// The plain store refuses few things, and fails only where its disk met a fault.
+pub fn plain_stores_refuse_few<D: Disk>(_fs: &PlainFs<D>)
+    ensures { RefusesUsually (the_view ⟦<PlainFs<D> as GuardedFileSystem<()>>⟧ D.Disk ⟦<PlainFile as DavFile<D>>⟧)
+        (the_listings ⟦<PlainFs<D> as GuardedFileSystem<()>>⟧ ⟦<PlainEntry as DavDirEntry<D>>⟧)
+        ⟦<PlainFile as DavFile<D>>⟧.writes tt }
+{}
