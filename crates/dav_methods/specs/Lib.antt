@@ -7,3 +7,7 @@ pub mod Putting
 pub mod Reading
 pub mod Removing
 pub mod Weights
+pub mod Destination
+pub mod Overlap
+pub mod Copying
+pub mod Carrying

@@ -2,18 +2,22 @@
 //! write, over any store.
 #![tactic(auto)]
 
+mod asked;
 mod child;
 mod conditions;
+mod destination;
 mod fields;
 mod lines;
 mod making;
 mod outcomes;
+mod overlap;
 mod pouring;
 mod putting;
 mod reading;
 mod removing;
 mod standing;
 mod telling;
+mod transfer;
 mod work;
 
 pub use conditions::{if_match, ifrange_match, ranges_are_heard, reads};
