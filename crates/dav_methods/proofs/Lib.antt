@@ -11,3 +11,4 @@ mod WorkDone
 mod LineRows
 mod Addresses
 mod Overlaps
+mod CopyDone

@@ -5,6 +5,7 @@
 mod asked;
 mod child;
 mod conditions;
+mod copying;
 mod destination;
 mod fields;
 mod lines;
