@@ -12,3 +12,4 @@ mod LineRows
 mod Addresses
 mod Overlaps
 mod CopyDone
+mod Leaving

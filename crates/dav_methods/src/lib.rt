@@ -3,6 +3,7 @@
 #![tactic(auto)]
 
 mod asked;
+mod carrying;
 mod child;
 mod conditions;
 mod copying;
@@ -21,6 +22,7 @@ mod telling;
 mod transfer;
 mod work;
 
+pub use carrying::{copy, move_to};
 pub use conditions::{if_match, ifrange_match, ranges_are_heard, reads};
 pub use fields::first_value;
 pub use making::{mkaddressbook, mkcalendar, mkcol};
