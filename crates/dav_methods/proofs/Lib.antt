@@ -13,3 +13,4 @@ mod Addresses
 mod Overlaps
 mod CopyDone
 mod Leaving
+mod CarryRows
