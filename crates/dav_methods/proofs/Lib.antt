@@ -19,3 +19,8 @@ mod TakenAfter
 mod RemovalRun
 pub mod DeleteRight
 pub mod RemovalsListed
+mod Addresses
+mod Overlaps
+mod CopyDone
+mod Leaving
+mod CarryRows

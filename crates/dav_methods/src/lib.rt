@@ -2,13 +2,18 @@
 //! write, over any store.
 #![tactic(auto)]
 
+mod asked;
+mod carrying;
 mod child;
 mod conditions;
+mod copying;
+mod destination;
 mod fields;
 mod laws;
 mod lines;
 mod making;
 mod outcomes;
+mod overlap;
 mod pouring;
 mod putting;
 mod reading;
@@ -16,8 +21,10 @@ mod removal_laws;
 mod removing;
 mod standing;
 mod telling;
+mod transfer;
 mod work;
 
+pub use carrying::{copy, move_to};
 pub use conditions::{if_match, ifrange_match, ranges_are_heard, reads};
 pub use fields::first_value;
 pub use laws::answers_are_listed;
