@@ -158,6 +158,7 @@ fn put_bytes<S: GuardedFileSystem<C>, C>(
     ensures table { AfterChecksWhole (the_view S.GuardedFileSystem S.Disk.Disk S.File.DavFile) S.File.writes
         credentials.now (Ok outcome) path.now bytes.now fs.old result fs.new }
     ensures keeps { KeepsOpen (S.Disk.state (S.inside fs.old)) (S.Disk.state (S.inside fs.new)) }
+    ensures admits { S.admits fs.old → S.admits fs.new }
     ensures loan { S.Disk.loan (S.inside fs.new) ≡ S.Disk.loan (S.inside fs.old) }
 {
     let mut file = match fs.open(path, put_options(), credentials) {
@@ -187,6 +188,7 @@ pub fn put_whole<S: GuardedFileSystem<C>, C>(
     ensures table { PutsWhole (the_view S.GuardedFileSystem S.Disk.Disk S.File.DavFile) S.File.writes
         credentials.now path.now fields.now bytes.now fs.old result fs.new }
     ensures keeps { KeepsOpen (S.Disk.state (S.inside fs.old)) (S.Disk.state (S.inside fs.new)) }
+    ensures admits { S.admits fs.old → S.admits fs.new }
     ensures loan { S.Disk.loan (S.inside fs.new) ≡ S.Disk.loan (S.inside fs.old) }
 {
     let outcome = match check(alloc, fs, credentials, path, fields) {
