@@ -1,5 +1,5 @@
 -- What is heard of a store where a GET or HEAD is answered 500: a call was refused with a failure, or a fault was met.
-use Rattle.std.proofs.Common.{◌≡◌, ◌≤◌, ◌&&◌, ◌⊎◌, ℕ, List, Bool, true, false, cond, Option, None, Some, Result, Ok, Err, refl, sym, ap, subst, ◌∙◌, inl, inr, arith}
+use Rattle.std.proofs.Common.{◌≡◌, ◌≤◌, ◌&&◌, ◌⊎◌, ℕ, List, Bool, true, false, cond, Option, Result, Ok, Err, refl, ap, subst, inl, inr, arith}
 use Rattle.dav_io.specs.Counts.{Rose}
 use Rattle.dav_core.specs.declared.error.FsError.{FsError}
 use Rattle.dav_core.specs.declared.error.FsError.TheVariants as fs
@@ -12,20 +12,19 @@ use Rattle.dav_core.specs.Info.{Info}
 use Rattle.dav_core.specs.Options.{reading}
 use Rattle.dav_core.specs.Statuses.{fs_status}
 use Rattle.dav_core.specs.Tree.{is_file}
-use Rattle.dav_core.specs.Unchanged.{Keeps}
 use Rattle.dav_store.specs.declared.entry.ReadDirMeta.TheVariants.{Data}
 use Rattle.dav_store.specs.Files.{IsFault, Spoiled}
 use Rattle.dav_store.specs.Frames.{OpensOne}
 use Rattle.dav_store.specs.View.{View, Listings, Says as SaysOf}
-use Rattle.dav_model.specs.Due.{Course, Due, Query, IsHead, course, directing, due, due_course, due_listed, due_looked, due_opened, due_sent, known, listing, opening, page, refused, refusing, to_slash, file as sends}
+use Rattle.dav_model.specs.Due.{Course, Due, Query, course, directing, due_course, due_listed, due_looked, due_opened, due_sent, known, listing, opening, page, refused, refusing, to_slash, file as sends}
 use Rattle.dav_model.specs.Head.{Reply, Stood, is_get, is_set, is_well_known}
 use Rattle.dav_model.proofs.Courses.{course_holds}
 use Rattle.dav_model.proofs.RightReplies.{head_fails, unplaced_stands}
-use Rattle.dav_get.specs.Heard.{Heard, HearsAddress, HearsCourse, HearsFile, HearsLook, HearsMeta, IsPlacedOr, IsUnplacedOf, RefusesFew, WasHad, looked_of, shown_heard, stood_heard}
+use Rattle.dav_get.specs.Heard.{Heard, HearsAddress, HearsCourse, HearsFile, HearsLook, HearsMeta, IsPlacedOr, RefusesFew, WasHad, looked_of, shown_heard}
 use Rattle.dav_get.specs.Right.{or_zero, reply_at}
 use Rattle.dav_get.specs.Table.{Given, IsListing, asked_at}
 use Rattle.dav_get.proofs.HeardIsRight.{rose_through}
-use Rattle.dav_config.specs.Failing.{FailsAtItsLine, FailsBehind, FailsOn, HasCause}
+use Rattle.dav_config.specs.Failing.{FailsBehind, FailsOn, HasCause}
 
 -- ---- what is due where 500 is answered
 

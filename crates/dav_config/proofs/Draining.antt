@@ -1,6 +1,6 @@
 -- A body that was collected and ended leaves nothing open that wasn't.
 use Rattle.std.proofs.Common.{◌≡◌, ◌≤◌, ◌⊎◌, ℕ, List, [], ◌∷◌, Bool, true, false, Option, None, Some, Result, Ok, Err, refl, sym, ap, subst, ◌∙◌, inl, inr, arith}
-use Rattle.std.specs.Prelude.{IfOk, OnErr}
+use Rattle.std.specs.Prelude.{IfOk}
 use Rattle.std.specs.Borrow.{GName}
 use Rattle.http.specs.Response.{head_of}
 use Rattle.dav_io.specs.Counts.{Rose}
@@ -9,9 +9,11 @@ use Rattle.dav_core.specs.Unchanged.{Keeps}
 use Rattle.dav_core.proofs.UnchangedLemmas.{but_then, closed_again, keeps_same}
 use Rattle.dav_model.specs.declared.answer.Answer.TheVariants.{Broken as BrokenAnswer}
 use Rattle.dav_model.specs.declared.target.Target.{Target}
-use Rattle.dav_model.specs.declared.target.Target.TheVariants.{At, Methods, Refused}
+use Rattle.dav_model.specs.declared.target.Target.TheVariants.{At, Methods, Refused, Writes}
 use Rattle.dav_model.specs.Conditions.{Fields}
+use Rattle.dav_model.specs.Due.{Query, query}
 use Rattle.dav_store.specs.declared.body_reader.BodyReader.{Ghosts as ReaderGhosts}
+use Rattle.dav_store.specs.Frames.{KeepsOpen}
 use Rattle.dav_store.specs.Standing.{Seen}
 use Rattle.dav_body.specs.declared.body.BodyType.{BodyType}
 use Rattle.dav_body.specs.declared.body.BodyType.TheVariants.{Bytes, AsyncStream as Stream, Empty}
@@ -23,15 +25,19 @@ use Rattle.dav_get.specs.declared.body.GetBody.{GetBody}
 use Rattle.dav_get.specs.declared.open_at.OpenAt.{OpenAt}
 use Rattle.dav_get.specs.declared.part.BodyPart.{BodyPart}
 use Rattle.dav_get.specs.declared.part.BodyPart.TheVariants.{Text, Slice as SliceOf}
-use Rattle.dav_get.specs.Bodies.{Closes, Takes, TouchesOwn, left_of}
+use Rattle.dav_get.specs.Bodies.{Takes, TouchesOwn, left_of}
 use Rattle.dav_get.specs.BodySteps.{StepGives, ends_of}
 use Rattle.dav_get.specs.Lives.{OpenOnlyHeld, OpensOnly}
 use Rattle.dav_get.specs.Table.{Given}
 use Rattle.dav_get.proofs.HeardIsRight.{rose_through}
 use Rattle.dav_get.proofs.Touching.{closes_touch, touches_none, touches_then}
-use Rattle.dav_config.specs.Given.{Drains, Ends, EndsAs, EndsBody, Gathers, HandlesGiven, IsCollected, PollGives, file_of}
-use Rattle.dav_config.specs.Handling.{AnswersTo, Asking, Handles, HandlesAll, Served, Sides, Stays}
+use Rattle.dav_config.specs.Given.{Drains, Ends, EndsAs, Gathers, HandlesGiven, IsCollected, PollGives, file_of}
+use Rattle.dav_config.specs.Handling.{AnswersTo, Asking, HandlesAll, IsWritten, Passes, Performs, Served, Sides, Stays}
 use Rattle.dav_config.specs.Responses.{Responded, Responds, inner_of}
+use Rattle.dav_config.specs.Writing.{KeepsUnless, Order, asks_to_write, order}
+use Rattle.dav_config.proofs.Polling.{told_empty}
+use Rattle.dav_config.proofs.Staying.{kept_unless, open_unless}
+use Rattle.dav_config.proofs.Unstored.{target_parted}
 
 -- ---- the disk, from poll to poll
 
@@ -59,6 +65,20 @@ module _ {F : Type 0} (handle : F → ℕ) (seen : F → DiskState → Option Se
   pub closed_all : (s m t : DiskState) (file : Option (OpenAt F)) → OpensOnly handle s file m → TouchesOwn handle seen m file t None → Keeps s t
   closed_all s m t None opens same = subst (Keeps s) (sym same) opens
   closed_all s m t (Some h) opens touches = closed_again (handle h.file) s t (but_then (handle h.file) s m t opens.0 touches.0) opens.1 touches.1
+
+  -- What an answer has open, if it has a file; and else what it left of what stands.
+  abbrev OpensUnless : Bool → DiskState → Option (OpenAt F) → DiskState → Type 0
+  OpensUnless writes s None t = KeepsUnless writes s t
+  OpensUnless writes s (Some h) t = OpensOnly handle s (Some h) t
+
+  opens_unless : (writes : Bool) (s t : DiskState) (file : Option (OpenAt F)) → OpensOnly handle s file t → OpensUnless writes s file t
+  opens_unless writes s t None keeps = kept_unless writes s t keeps
+  opens_unless writes s t (Some h) opens = opens
+
+  pub closed_unless : (writes : Bool) (s m t : DiskState) (file : Option (OpenAt F)) → OpensUnless writes s file m → TouchesOwn handle seen m file t None
+      → KeepsUnless writes s t
+  closed_unless writes s m t None keeps same = subst (KeepsUnless writes s) (sym same) keeps
+  closed_unless writes s m t (Some h) opens touches = kept_unless writes s t (closed_all s m t (Some h) opens touches)
 
 module _ {F D : Type 0} (handle : F → ℕ) (seen : F → DiskState → Option Seen) (state : D → DiskState) (loan : D → Option GName) where
   abbrev Step : GetBody F → D → Option (Result (List ℕ) BodyFault) → GetBody F → D → Type 0
@@ -148,11 +168,14 @@ module _ {F D : Type 0} (handle : F → ℕ) (seen : F → DiskState → Option 
 -- ---- a store that is given
 
 module _ {S C F L E : Type 0} (served : Served S C F L E) where
+  abbrev OpensFor : Asking C → S → Responded F → S → Type 0
+  OpensFor asking s r t = OpensUnless served.view.handle served.view.seen (asks_to_write asking.head) (served.view.state s) (file_of (inner_of r)) (served.view.state t)
+
   -- what an answer over a store leaves
-  pub record Opened (given : S) (r : Responded F) (new : Option S) : Type 0 where
+  pub record Opened (asking : Asking C) (given : S) (r : Responded F) (new : Option S) : Type 0 where
     pub after : S
     pub is : new ≡ Some after
-    pub opens : OpensOnly served.view.handle (served.view.state given) (file_of (inner_of r)) (served.view.state after)
+    pub opens : OpensFor asking given r after
     pub loan : served.view.loan after ≡ served.view.loan given
 
   given_opens : (fields : Fields) (given : Given F) (r : Responded F) (s t : S) → OpenOnlyHeld served.view s given t → Responds fields given r
@@ -162,36 +185,67 @@ module _ {S C F L E : Type 0} (served : Served S C F L E) where
   given_opens fields (Err e) r s t life bare =
       subst (λ (inner : BodyType (GetBody F)). OpensOnly served.view.handle (served.view.state s) (file_of inner) (served.view.state t)) (sym bare.body) life
 
-  -- without a body, and with the store as it was
-  bare_opens : (given : S) (r : Responded F) (new : Option S) → inner_of r ≡ Empty → new ≡ Some given → Opened given r new
-  bare_opens given r new none same = record {
+  -- without a body
+  bare_opens : (asking : Asking C) (given after : S) (r : Responded F) → inner_of r ≡ Empty
+      → KeepsUnless (asks_to_write asking.head) (served.view.state given) (served.view.state after) → OpensFor asking given r after
+  bare_opens asking given after r none keeps =
+      subst (λ (inner : BodyType (GetBody F)). OpensUnless served.view.handle served.view.seen (asks_to_write asking.head) (served.view.state given) (file_of inner) (served.view.state after))
+      (sym none) keeps
+
+  -- and with the store as it was
+  same_opens : (asking : Asking C) (given : S) (r : Responded F) (old new : Sides S) → old.store ≡ Some given → inner_of r ≡ Empty → new ≡ old
+      → Opened asking given r new.store
+  same_opens asking given r old new was none same = record {
     after = given;
-    is = same;
-    opens = subst (λ (inner : BodyType (GetBody F)). OpensOnly served.view.handle (served.view.state given) (file_of inner) (served.view.state given)) (sym none)
-        (keeps_same (served.view.state given));
+    is = ap (λ (x : Sides S). x.store) same ∙ was;
+    opens = bare_opens asking given given r none (kept_unless (asks_to_write asking.head) (served.view.state given) (served.view.state given) (keeps_same (served.view.state given)));
     loan = refl;
   }
 
-  answer_opens : (target : Target) (asking : Asking C) (given : S) (r : Responded F) (new : Option S) → AnswersTo served target asking (Some given) r new → Opened given r new
-  answer_opens (Refused status close) asking given r new answers = bare_opens given r new answers.0.body answers.1
-  answer_opens Methods asking given r new answers = bare_opens given r new answers.0.body answers.1
-  answer_opens (At method path) asking given r new passes =
+  passes_opens : (q : Query) (asking : Asking C) (given : S) (r : Responded F) (old new : Option S) → old ≡ Some given → Passes served q asking old r new
+      → Opened asking given r new
+  passes_opens q asking given r old new was passes =
       let e = passes.was in
       let same : passes.before ≡ given = cc in record {
         after = passes.after;
         is = passes.is;
-        opens = subst (λ (x : DiskState). OpensOnly served.view.handle x (file_of (inner_of r)) (served.view.state passes.after)) (passes.moment.state ∙ ap served.view.state same)
-            (given_opens asking.head.headers passes.gives.given r (served.with_now passes.before asking.now) passes.after passes.gives.gives.life passes.gives.responds);
+        opens = opens_unless served.view.handle served.view.seen (asks_to_write asking.head) (served.view.state given) (served.view.state passes.after) (file_of (inner_of r))
+            (subst (λ (x : DiskState). OpensOnly served.view.handle x (file_of (inner_of r)) (served.view.state passes.after)) (passes.moment.state ∙ ap served.view.state same)
+            (given_opens q.fields passes.gives.given r (served.with_now passes.before asking.now) passes.after passes.gives.gives.life passes.gives.responds));
         loan = passes.gives.gives.loan ∙ (passes.moment.loan ∙ ap served.view.loan same);
       }
 
-  pub handled_opens : {B : Type 0} (reader : ReaderGhosts B) (asking : Asking C) (given : S) (body : B) (r : Responded F) (new : Option S)
-      → HandlesAll served reader asking (Some given) body r new → Opened given r new
-  handled_opens reader asking given body r new (after, loan, handles) = answer_opens handles.target asking given r new handles.answers
+  performs_opens : (o : Order) (asking : Asking C) (given : S) (r : Responded F) (old new : Sides S) → asks_to_write asking.head ≡ true → old.store ≡ Some given
+      → Performs served o asking old r new → Opened asking given r new.store
+  performs_opens o asking given r old new writes was performs =
+      let e = performs.was in
+      let same : performs.before ≡ given = cc in record {
+        after = performs.after;
+        is = performs.is;
+        opens = bare_opens asking given performs.after r (told_empty o.fields performs.writes.given r performs.writes.tells)
+            (open_unless (asks_to_write asking.head) (served.view.state given) (served.view.state performs.after) writes
+            (subst (λ (x : DiskState). KeepsOpen x (served.view.state performs.after)) (performs.moment.state ∙ ap served.view.state same) performs.writes.keeps));
+        loan = performs.writes.loan ∙ (performs.moment.loan ∙ ap served.view.loan same);
+      }
 
-  pub stays_ended : (given : S) (new : Option S) → Stays served (Some given) new → Ends served given
-  stays_ended given None stays = absurd stays
-  stays_ended given (Some t) stays = (t, record { keeps = stays.0; loan = stays.1 })
+  answer_opens : (target : Target) (asking : Asking C) (given : S) (r : Responded F) (old new : Sides S) → IsWritten target asking.head → old.store ≡ Some given
+      → AnswersTo served target asking old r new → Opened asking given r new.store
+  answer_opens (Refused status close) asking given r old new writes was answers = same_opens asking given r old new was answers.0.body answers.1
+  answer_opens Methods asking given r old new writes was answers = same_opens asking given r old new was answers.0.body answers.1
+  answer_opens (At method path) asking given r old new writes was answers =
+      passes_opens (query asking.settings asking.head.headers method path) asking given r old.store new.store was answers.0
+  answer_opens (Writes method path) asking given r old new writes was performs =
+      performs_opens (order method path asking.head.headers) asking given r old new writes.1 was performs
+
+  pub handled_opens : {B : Type 0} (reader : ReaderGhosts B) (asking : Asking C) (given : S) (body : B) (r : Responded F) (new : Option S)
+      → HandlesAll served reader asking (Some given) body r new → Opened asking given r new
+  handled_opens reader asking given body r new (after, loan, handles) =
+      answer_opens handles.target asking given r (record { store = Some given; body = handles.between }) (record { store = new; body = reader.state after })
+      (target_parted asking _ (reader.state body) handles.between handles.target handles.asks) refl handles.answers
+
+  pub stays_ended : (asking : Asking C) (given : S) (new : Option S) → Stays served asking (Some given) new → Ends served asking given
+  stays_ended asking given None stays = absurd stays
+  stays_ended asking given (Some t) stays = (t, record { keeps = stays.0; loan = stays.1 })
 
 module _ {S C F L E D : Type 0} (served : Served S C F L E) (state : D → DiskState) (loan : D → Option GName) (inside : S → D) where
   pub gathered : {X : Type 0} (result : Result (Responded F) X) (answered : Responded F) (s t : S) (all : Result (List ℕ) BodyFault)
@@ -209,14 +263,15 @@ module _ {S C F L E D : Type 0} (served : Served S C F L E) (state : D → DiskS
 
   -- the disk inside is that of the view
   module _ (is_inside : (s : S) → served.view.state s ≡ state (inside s)) where
-    gathered_ends : (given between after : S) (answered : Responded F) → OpensOnly served.view.handle (served.view.state given) (file_of (inner_of answered)) (served.view.state between)
+    gathered_ends : (asking : Asking C) (given between after : S) (answered : Responded F) → OpensFor served asking given answered between
         → served.view.loan between ≡ served.view.loan given
         → TouchesOwn served.view.handle served.view.seen (state (inside between)) (file_of (inner_of answered)) (state (inside after)) None
-        → served.view.loan after ≡ served.view.loan between → EndsAs served given after
-    gathered_ends given between after answered opens same touches still = record {
-      keeps = subst (Keeps (served.view.state given)) (sym (is_inside after))
-          (closed_all served.view.handle served.view.seen (served.view.state given) (state (inside between)) (state (inside after)) (file_of (inner_of answered))
-          (subst (OpensOnly served.view.handle (served.view.state given) (file_of (inner_of answered))) (is_inside between) opens) touches);
+        → served.view.loan after ≡ served.view.loan between → EndsAs served asking given after
+    gathered_ends asking given between after answered opens same touches still = record {
+      keeps = subst (KeepsUnless (asks_to_write asking.head) (served.view.state given)) (sym (is_inside after))
+          (closed_unless served.view.handle served.view.seen (asks_to_write asking.head) (served.view.state given) (state (inside between)) (state (inside after))
+          (file_of (inner_of answered))
+          (subst (OpensUnless served.view.handle served.view.seen (asks_to_write asking.head) (served.view.state given) (file_of (inner_of answered))) (is_inside between) opens) touches);
       loan = still ∙ same;
     }
 
@@ -226,17 +281,17 @@ module _ {S C F L E D : Type 0} (served : Served S C F L E) (state : D → DiskS
         → IfOk result (λ r. Gathers served state loan inside answered between r after)
         → TouchesOwn served.view.handle served.view.seen (state (inside between)) (file_of (inner_of answered)) (state (inside after)) None
         → served.view.loan after ≡ served.view.loan between
-        → IfOk result (λ r. HandlesGiven served state loan inside reader asking given body r) × Ends served given
+        → IfOk result (λ r. HandlesGiven served state loan inside reader asking given body r) × Ends served asking given
     given_handled {X = X} result reader asking given between after body answered handles gathers touches still =
         let opened = handled_opens served reader asking given body answered (Some between) handles in
         let f = opened.is in
         let same : opened.after ≡ between = cc in
-        let ends : EndsAs served given after = gathered_ends given between after answered
-        (subst (λ (x : S). OpensOnly served.view.handle (served.view.state given) (file_of (inner_of answered)) (served.view.state x)) same opened.opens)
+        let ends : EndsAs served asking given after = gathered_ends asking given between after answered
+        (subst (λ (x : S). OpensFor served asking given answered x) same opened.opens)
         (subst (λ (x : S). served.view.loan x ≡ served.view.loan given) same opened.loan) touches still in
         (by result gathers ends, (after, ends))
       where
-        by : (result : Result (Responded F) X) → IfOk result (λ r. Gathers served state loan inside answered between r after) → EndsAs served given after
+        by : (result : Result (Responded F) X) → IfOk result (λ r. Gathers served state loan inside answered between r after) → EndsAs served asking given after
             → IfOk result (λ r. HandlesGiven served state loan inside reader asking given body r)
         by (Ok r) gathers ends = record {
           answered = answered;

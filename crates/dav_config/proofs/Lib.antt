@@ -7,4 +7,7 @@ mod Names
 mod Pieces
 mod Polling
 mod RefusedFields
+mod Staying
 mod Unstored
+mod WriteCauses
+mod WriteFaults

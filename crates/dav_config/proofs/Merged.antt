@@ -11,9 +11,11 @@ use Rattle.dav_body.specs.declared.body.BodyType.{BodyType}
 use Rattle.dav_body.specs.declared.fault.BodyFault.{BodyFault}
 use Rattle.dav_body.specs.declared.fault.BodyFault.TheVariants.{Broken, NoMemory}
 use Rattle.dav_get.specs.declared.body.GetBody.{GetBody}
-use Rattle.dav_config.specs.Given.{Ends, Gathers, HandlesGiven, HandlesWith, IsCollected, StaysWith, body_of_bytes}
+use Rattle.dav_config.specs.Given.{Ends, HandlesGiven, HandlesWith, IsCollected, StaysWith, body_of_bytes}
 use Rattle.dav_config.specs.Handling.{Asking, HandlesAll, Served, Stays}
 use Rattle.dav_config.specs.Responses.{Responded, inner_of}
+use Rattle.dav_config.specs.Writing.{asks_to_write}
+use Rattle.dav_config.proofs.Staying.{kept_unless, stays_same}
 
 -- bytes that are there may be polled with any disk
 bytes_may : {F D : Type 0} (may : GetBody F → D → Type 0) (bytes : List ℕ) (d : D) → MayPoll may (body_of_bytes bytes) d
@@ -53,21 +55,18 @@ module _ {S C F L E D : Type 0} (served : Served S C F L E) (state : D → DiskS
   with_own (Err e) reader asking config old new body handles is = tt
 
 module _ {S C F L E : Type 0} (served : Served S C F L E) where
-  pub ended_with : {A X : Type 0} (result : Result A X) (config old new : Option S) (given : S) → OnErr result (Ends served given) → config ≡ Some given → new ≡ old
-      → OnErr result (StaysWith served config old new)
-  ended_with (Ok r) config old new given ends is same = tt
-  ended_with (Err e) config old new given ends is same = rw is (ends, same)
+  pub ended_with : {A X : Type 0} (result : Result A X) (asking : Asking C) (config old new : Option S) (given : S) → OnErr result (Ends served asking given) → config ≡ Some given
+      → new ≡ old → OnErr result (StaysWith served asking config old new)
+  ended_with (Ok r) asking config old new given ends is same = tt
+  ended_with (Err e) asking config old new given ends is same = rw is (ends, same)
 
-  pub stayed_with : {A X : Type 0} (result : Result A X) (config old new : Option S) → OnErr result (Stays served old new) → config ≡ None
-      → OnErr result (StaysWith served config old new)
-  stayed_with (Ok r) config old new stays is = tt
-  stayed_with (Err e) config old new stays is = rw is stays
-
-  stays_same : (old : Option S) → Stays served old old
-  stays_same None = tt
-  stays_same (Some s) = (keeps_same (served.view.state s), refl)
+  pub stayed_with : {A X : Type 0} (result : Result A X) (asking : Asking C) (config old new : Option S) → OnErr result (Stays served asking old new) → config ≡ None
+      → OnErr result (StaysWith served asking config old new)
+  stayed_with (Ok r) asking config old new stays is = tt
+  stayed_with (Err e) asking config old new stays is = rw is stays
 
   -- nothing was asked
-  pub unasked : (config old : Option S) → StaysWith served config old old
-  unasked None old = stays_same old
-  unasked (Some given) old = ((given, record { keeps = keeps_same (served.view.state given); loan = refl }), refl)
+  pub unasked : (asking : Asking C) (config old : Option S) → StaysWith served asking config old old
+  unasked asking None old = stays_same served asking old
+  unasked asking (Some given) old =
+      ((given, record { keeps = kept_unless (asks_to_write asking.head) (served.view.state given) (served.view.state given) (keeps_same (served.view.state given)); loan = refl }), refl)

@@ -5,16 +5,25 @@ use Rattle.dav_core.specs.Disk.{DiskState}
 use Rattle.std.specs.Prelude.{Result, Ok, Err}
 use Rattle.dav_model.specs.declared.target.Target.{Target}
 use Rattle.dav_model.specs.Conditions.{Fields}
-use Rattle.dav_model.specs.declared.target.Target.TheVariants.{At, Methods, Refused}
+use Rattle.dav_model.specs.declared.target.Target.TheVariants.{At, Methods, Refused, Writes}
 use Rattle.dav_body.specs.Bodies.{MayPoll}
 use Rattle.dav_body.specs.declared.body.BodyType.{BodyType}
+use Rattle.dav_body.specs.declared.body.BodyType.TheVariants.{Empty}
 use Rattle.dav_store.specs.declared.body_reader.BodyReader.{Ghosts as ReaderGhosts}
 use Rattle.dav_get.specs.declared.body.GetBody.{GetBody}
 use Rattle.dav_get.specs.Bodies.{IsHeld}
 use Rattle.dav_get.specs.Lives.{OpenOnlyHeld}
 use Rattle.dav_get.specs.Table.{Given}
-use Rattle.dav_config.specs.Handling.{AnswersTo, Asking, Handles, HandlesAll, Served, Sides}
+use Rattle.dav_methods.specs.Lines.{Given as Written}
+use Rattle.dav_model.specs.Due.{Query, query}
+use Rattle.dav_config.specs.Handling.{AnswersTo, Asking, Handles, HandlesAll, Passes, Served, Sides}
 use Rattle.dav_config.specs.Responses.{Responded, Responds, inner_of}
+use Rattle.dav_config.specs.Writing.{Tells}
+
+-- what a request that writes is answered with has no body
+pub told_empty : {F : Type 0} (fields : Fields) (given : Written) (r : Responded F) → Tells fields given r → inner_of r ≡ Empty
+told_empty fields (Ok outcome) r bare = bare.body
+told_empty fields (Err e) r tells = tells.1.body
 
 module _ {S C F L E D : Type 0} (served : Served S C F L E) (state : D → DiskState) (inside : S → D) (same : (s : S) → served.view.state s ≡ state (inside s)) where
   -- such a body may be polled with this disk
@@ -27,17 +36,28 @@ module _ {S C F L E D : Type 0} (served : Served S C F L E) (state : D → DiskS
       (subst (λ (x : DiskState). IsHeld served.view.handle served.view.seen x given.1) (same t) life.0)
   given_may fields (Err e) r s t life bare = subst (λ (inner : BodyType (GetBody F)). May inner (inside t)) (sym bare.body) tt
 
-  answer_may : (target : Target) (asking : Asking C) (old new : Option S) (r : Responded F) → AnswersTo served target asking old r new → IfSome new (λ s. May (inner_of r) (inside s))
-  answer_may target asking old None r answers = tt
-  answer_may (Refused status close) asking old (Some t) r answers = subst (λ (inner : BodyType (GetBody F)). May inner (inside t)) (sym answers.0.body) tt
-  answer_may Methods asking old (Some t) r answers = subst (λ (inner : BodyType (GetBody F)). May inner (inside t)) (sym answers.0.body) tt
-  answer_may (At method path) asking old (Some t) r passes =
+  -- a response without a body may be polled with any disk
+  bare_may : (r : Responded F) (store : Option S) → inner_of r ≡ Empty → IfSome store (λ s. May (inner_of r) (inside s))
+  bare_may r None none = tt
+  bare_may r (Some t) none = subst (λ (inner : BodyType (GetBody F)). May inner (inside t)) (sym none) tt
+
+  passes_may : (q : Query) (asking : Asking C) (old new : Option S) (r : Responded F) → Passes served q asking old r new → IfSome new (λ s. May (inner_of r) (inside s))
+  passes_may q asking old None r passes = tt
+  passes_may q asking old (Some t) r passes =
+      let is = passes.is in
       let same_store : passes.after ≡ t = cc in
       subst (λ (s : S). May (inner_of r) (inside s)) same_store
-      (given_may asking.head.headers passes.gives.given r (served.with_now passes.before asking.now) passes.after passes.gives.gives.life passes.gives.responds)
+      (given_may q.fields passes.gives.given r (served.with_now passes.before asking.now) passes.after passes.gives.gives.life passes.gives.responds)
+
+  answer_may : (target : Target) (asking : Asking C) (old new : Sides S) (r : Responded F) → AnswersTo served target asking old r new
+      → IfSome new.store (λ s. May (inner_of r) (inside s))
+  answer_may (Refused status close) asking old new r answers = bare_may r new.store answers.0.body
+  answer_may Methods asking old new r answers = bare_may r new.store answers.0.body
+  answer_may (At method path) asking old new r answers = passes_may (query asking.settings asking.head.headers method path) asking old.store new.store r answers.0
+  answer_may (Writes method path) asking old new r performs = bare_may r new.store (told_empty asking.head.headers performs.writes.given r performs.writes.tells)
 
   pub handled_may : (asking : Asking C) (old new : Sides S) (r : Responded F) → Handles served asking old r new → IfSome new.store (λ s. May (inner_of r) (inside s))
-  handled_may asking old new r handles = answer_may handles.target asking old.store new.store r handles.answers
+  handled_may asking old new r handles = answer_may handles.target asking (record old { body = handles.between }) new r handles.answers
 
   -- the same where an answer was refused
   pub handled_may_where : {X : Type 0} (result : Result (Responded F) X) (asking : Asking C) (old new : Sides S)

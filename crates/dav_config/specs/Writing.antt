@@ -1,9 +1,7 @@
 -- What a handler makes of a request that writes, over any store.
-use Rattle.std.specs.Prelude.{◌≡◌, ◌⊎◌, ℕ, List, [], Bool, true, false, Option, Some, Result, Ok, Err}
-use Rattle.dav_io.specs.Counts.{Rose}
+use Rattle.std.specs.Prelude.{◌≡◌, ℕ, List, [], Bool, true, false, Option, Some, Result, Ok, Err}
 use Rattle.http.specs.declared.request.Parts.{Parts}
 use Rattle.dav_core.specs.declared.dav_error.DavError.{DavError}
-use Rattle.dav_core.specs.declared.dav_error.DavError.TheVariants.{StatusClose}
 use Rattle.dav_core.specs.declared.error.FsError.TheVariants.{GeneralFailure}
 use Rattle.dav_core.specs.declared.handle.OpenOptions.{OpenOptions}
 use Rattle.dav_core.specs.declared.method.DavMethod.{DavMethod}
@@ -24,7 +22,8 @@ use Rattle.dav_methods.specs.Follows.{Reached}
 use Rattle.dav_methods.specs.Lines.{Given}
 use Rattle.dav_methods.specs.Pouring.{Writes, WritesFile}
 use Rattle.dav_methods.specs.Putting.{Puts}
-use Rattle.dav_methods.specs.Table.{Ends, MkCalendars, MkCols, Run}
+use Rattle.dav_methods.specs.Removing.{Deletes}
+use Rattle.dav_methods.specs.Table.{MkCalendars, MkCols, Run}
 use Rattle.dav_config.specs.Responses.{IsBare, Responded}
 
 -- ---- which requests write
@@ -73,7 +72,7 @@ module _ {S C F L E : Type 0} (view : View S C F) (lists : Listings S C L E) (wr
   ByMethod MkCol o c b s r t n = Unread (MkCols view c o.path o.fields) b s r t n
   ByMethod MkCalendar o c b s r t n = Unread (MkCalendars view c o.path) b s r t n
   ByMethod MkAddressbook o c b s r t n = Unread (MkCalendars view c o.path) b s r t n
-  ByMethod Delete o c b s r t n = Unread (Ends (Err (StatusClose 501))) b s r t n
+  ByMethod Delete o c b s r t n = Unread (Deletes view lists c o.path o.fields) b s r t n
   ByMethod other o c b s r t n = ⊥
 
   -- Over this store a request that writes is answered so.

@@ -12,7 +12,6 @@ ghost use Rattle.dav_get.specs.Bodies.{Closes, IsHeld};
 ghost use Rattle.dav_config.specs.Asked.{asking_of};
 ghost use Rattle.dav_config.specs.Handling.{AnswersTo, GivesOver, IsAt, IsWritten, SetsMoment, Stays, is_stored as the_is_stored, the_served};
 ghost use Rattle.dav_config.specs.Responses.{Gave, IsBare, SaysHead, inner_of};
-ghost use Rattle.dav_config.specs.Writing.{asks_to_write};
 
 use crate::asked::Asked;
 use crate::refusals::{refused, refused_by};
@@ -149,7 +148,7 @@ pub fn answer<S: GuardedFileSystem<C>, C, B: BodyReader>(
 ) -> Answered<S::File>
     requires admits { IfSome store.old S.admits }
     requires stored { IsAt target.now → IsSome store.old }
-    requires writes { IsWritten target.now (head_of asked.entry.now.head.now) }
+    requires writes { IsWritten target.now (head_of asked.now.head.now) }
     ensures done { IfOk result (λ r. AnswersTo
         (the_served S.GuardedFileSystem S.Disk.Disk S.File.DavFile S.Entry.DavDirEntry)
         target.now (asking_of asked.entry.now) (record { store = store.old; body = B.state body.old }) r
@@ -157,7 +156,7 @@ pub fn answer<S: GuardedFileSystem<C>, C, B: BodyReader>(
     ensures memory { OnErr result (Stays
         (the_served S.GuardedFileSystem S.Disk.Disk S.File.DavFile S.Entry.DavDirEntry) (asking_of asked.entry.now)
         store.old store.new) }
-    ensures admits { asks_to_write (head_of asked.entry.now.head.now) ≡ false → IfSome store.new S.admits }
+    ensures admits { IfSome store.new S.admits }
     ensures body_loan { B.loan body.new ≡ B.loan body.old }
 {
     match target {

@@ -1,4 +1,4 @@
-ghost use Rattle.std.specs.Prelude.{◌≡◌, IfOk, IfSome, None, OnErr, Some, false};
+ghost use Rattle.std.specs.Prelude.{◌≡◌, IfOk, IfSome, None, OnErr, Some};
 ghost use Rattle.std.specs.Option.{option_copied_mut};
 ghost use Rattle.std.specs.Borrow.{sem};
 ghost use Rattle.http.specs.Request.{body_of, head_of};
@@ -9,7 +9,6 @@ ghost use Rattle.dav_config.specs.Given.{HandlesWith, StaysWith};
 ghost use Rattle.dav_config.specs.Handling.{HandlesAll, Stays, asking, the_served};
 ghost use Rattle.dav_config.specs.Merging.{merged as the_merged};
 ghost use Rattle.dav_config.specs.Responses.{inner_of};
-ghost use Rattle.dav_config.specs.Writing.{asks_to_write};
 
 use crate::answering::Answered;
 use crate::config::DavConfig;
@@ -97,7 +96,7 @@ impl<S: GuardedFileSystem<C>, C> DavHandler<S, C> {
             (the_served S.GuardedFileSystem S.Disk.Disk S.File.DavFile S.Entry.DavDirEntry)
             (asking (record self.old.settings { principal = Some principal.now }) (head_of req) credentials now)
             self.old.store self.new.store) }
-        ensures admits { asks_to_write (head_of req) ≡ false → IfSome self.new.store S.admits }
+        ensures admits { IfSome self.new.store S.admits }
         ensures settings { self.new.settings ≡ self.old.settings }
     {
         match with_principal(self.alloc, &self.settings, principal) {
@@ -117,15 +116,19 @@ impl<S: GuardedFileSystem<C>, C> DavHandler<S, C> {
 impl<S: GuardedFileSystem<()>> DavHandler<S, ()> {
     /// Answers a request over its store at a moment. The gates come first: an unknown method, a method that is not
     /// answered (without a store each but OPTIONS), and the path; then the body, which is read up to its end or until
-    /// 65,536 bytes came; then forms that are not built. A request that passes is a GET or HEAD (RFC 9110, sections 9.3.1
-    /// and 9.3.2), and is answered by what stands at its path.
+    /// 65,536 bytes came, but that of a PUT or PATCH isn't read there; then forms that are not built. A request that passes
+    /// is a GET or HEAD (RFC 9110, sections 9.3.1 and 9.3.2), and is answered by what stands at its path; or it writes: a
+    /// PUT (section 9.3.4), whose body goes from its reader into the file as it comes, a DELETE (section 9.3.5), a MKCOL
+    /// (RFC 4918, section 9.3), a MKCALENDAR (RFC 4791, section 5.3.1) or a MKADDRESSBOOK, and its answer has no body.
     ///
     /// The body of the answer is polled with the disk that the store's `disk` lends (`store`). It may have a file open,
     /// which it closes with its last piece; a body that is given up is to be ended (`AsyncStream::into_steps`,
     /// `GetBody::close`).
     ///
-    /// `done`: a refusal of the gates, with the store as it was; or the answer of `handle_get` over the store. `may`: the
-    /// body may be polled with the store's disk. `memory`: where memory is refused, nothing is left open.
+    /// `done`: a refusal of the gates, with the store as it was; or the answer of `handle_get` over the store; or that of
+    /// the method that writes, by its table. `may`: the body may be polled with the store's disk. `memory`: where memory is
+    /// refused, nothing is left open, and what stands is as it was, unless the request's method writes: then what was
+    /// written before stays.
     pub fn handle<B: BodyReader + Drop>(
         &mut self,
         req: Request<B>,
@@ -141,7 +144,7 @@ impl<S: GuardedFileSystem<()>> DavHandler<S, ()> {
             (the_served S.GuardedFileSystem S.Disk.Disk S.File.DavFile S.Entry.DavDirEntry)
             (asking self.old.settings (head_of req) tt now)
             self.old.store self.new.store) }
-        ensures admits { asks_to_write (head_of req) ≡ false → IfSome self.new.store S.admits }
+        ensures admits { IfSome self.new.store S.admits }
         ensures settings { self.new.settings ≡ self.old.settings }
     {
         handle_by(self.alloc, &self.settings, &mut self.store, &(), req, now)
@@ -163,7 +166,7 @@ impl<S: GuardedFileSystem<()>> DavHandler<S, ()> {
             (the_served S.GuardedFileSystem S.Disk.Disk S.File.DavFile S.Entry.DavDirEntry)
             (asking self.old.settings (head_of req) tt now)
             self.old.store self.new.store) }
-        ensures admits { asks_to_write (head_of req) ≡ false → IfSome self.new.store S.admits }
+        ensures admits { IfSome self.new.store S.admits }
         ensures settings { self.new.settings ≡ self.old.settings }
     {
         let (head, stream) = req.into_parts();
@@ -198,7 +201,7 @@ impl<S: GuardedFileSystem<()>> DavHandler<S, ()> {
             (the_served S.GuardedFileSystem S.Disk.Disk S.File.DavFile S.Entry.DavDirEntry)
             (asking (the_merged self.old.settings config.settings) (head_of req) tt now)
             config.store self.old.store self.new.store) }
-        ensures admits { asks_to_write (head_of req) ≡ false → IfSome self.new.store S.admits }
+        ensures admits { IfSome self.new.store S.admits }
         ensures settings { self.new.settings ≡ self.old.settings }
     {
         let DavConfig {
@@ -239,7 +242,7 @@ impl<S: GuardedFileSystem<()>> DavHandler<S, ()> {
             (the_served S.GuardedFileSystem S.Disk.Disk S.File.DavFile S.Entry.DavDirEntry)
             (asking (the_merged self.old.settings config.settings) (head_of req) tt now)
             config.store self.old.store self.new.store) }
-        ensures admits { asks_to_write (head_of req) ≡ false → IfSome self.new.store S.admits }
+        ensures admits { IfSome self.new.store S.admits }
         ensures settings { self.new.settings ≡ self.old.settings }
     {
         let (head, stream) = req.into_parts();

@@ -1,9 +1,8 @@
 // A request over a store: its gates, its body, and its answer.
-ghost use Rattle.std.specs.Prelude.{◌≡◌, IfOk, IfSome, OnErr, false};
+ghost use Rattle.std.specs.Prelude.{◌≡◌, IfOk, IfSome, OnErr};
 ghost use Rattle.dav_config.specs.Asked.{asking_of};
 ghost use Rattle.dav_config.specs.Handling.{Handles, HandlesAll, IsTarget, ReadsUnless, Stays, asking, the_served};
 ghost use Rattle.dav_config.specs.Reading.{seen_as};
-ghost use Rattle.dav_config.specs.Writing.{asks_to_write};
 ghost use Rattle.dav_model.specs.Gates.{takes_much as the_takes_much};
 ghost use Rattle.dav_config.specs.Responses.{inner_of};
 ghost use Rattle.dav_body.specs.Bodies.{MayPoll};
@@ -70,7 +69,7 @@ pub fn handle_over<S: GuardedFileSystem<C>, C, B: BodyReader>(
     ensures memory { OnErr result (Stays
         (the_served S.GuardedFileSystem S.Disk.Disk S.File.DavFile S.Entry.DavDirEntry) (asking_of asked.entry.now)
         store.old store.new) }
-    ensures admits { asks_to_write (head_of asked.entry.now.head.now) ≡ false → IfSome store.new S.admits }
+    ensures admits { IfSome store.new S.admits }
     ensures loan { B.loan body.new ≡ B.loan body.old }
 {
     let stored = is_stored(store);
@@ -98,7 +97,7 @@ pub fn handle_by<S: GuardedFileSystem<C>, C, B: BodyReader + Drop>(
     ensures memory { OnErr result (Stays
         (the_served S.GuardedFileSystem S.Disk.Disk S.File.DavFile S.Entry.DavDirEntry)
         (asking settings.now (head_of req) credentials.now now) store.old store.new) }
-    ensures admits { asks_to_write (head_of req) ≡ false → IfSome store.new S.admits }
+    ensures admits { IfSome store.new S.admits }
 {
     let (parts, reader) = req.into_parts();
     let mut body = reader;

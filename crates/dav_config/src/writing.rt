@@ -9,13 +9,11 @@ ghost use Rattle.dav_config.specs.Writing.{ByMethod, Tells, WritesOver, order};
 
 use crate::answering::{Answered, bare, refuse};
 use crate::asked::Asked;
-use dav_body::Body;
 use dav_core::{DavError, DavMethod, DavPath};
-use dav_io::NoMemory;
-use dav_methods::{mkaddressbook, mkcalendar, mkcol, put};
+use dav_methods::{delete, mkaddressbook, mkcalendar, mkcol, put};
 use dav_model::Outcome;
 use dav_store::{BodyReader, GuardedFileSystem};
-use http::{HeaderMap, Response, StatusCode};
+use http::HeaderMap;
 use std::alloc::Global;
 
 // What a method that writes gives. The reader is asked by PUT alone.
@@ -28,12 +26,14 @@ fn perform<S: GuardedFileSystem<C>, C, B: BodyReader>(
     fields: &HeaderMap,
     body: &mut B,
 ) -> Result<Outcome, DavError>
-    requires { the_writes method ≡ true }
+    requires admits { S.admits fs.old }
+    requires writes { the_writes method ≡ true }
     ensures table { ByMethod (the_view S.GuardedFileSystem S.Disk.Disk S.File.DavFile)
         (the_listings S.GuardedFileSystem S.Entry.DavDirEntry) S.File.writes method
         (order method path.now fields.now) credentials.now (B.state body.old) fs.old result fs.new
         (B.state body.new) }
     ensures keeps { KeepsOpen (S.Disk.state (S.inside fs.old)) (S.Disk.state (S.inside fs.new)) }
+    ensures admits { S.admits fs.new }
     ensures loan { S.Disk.loan (S.inside fs.new) ≡ S.Disk.loan (S.inside fs.old) }
     ensures body_loan { B.loan body.new ≡ B.loan body.old }
 {
@@ -42,17 +42,13 @@ fn perform<S: GuardedFileSystem<C>, C, B: BodyReader>(
         DavMethod::MkCol => mkcol(alloc, fs, credentials, path, fields),
         DavMethod::MkCalendar => mkcalendar(alloc, fs, credentials, path, fields),
         DavMethod::MkAddressbook => mkaddressbook(alloc, fs, credentials, path, fields),
-        DavMethod::Delete => Err(DavError::StatusClose(StatusCode::NOT_IMPLEMENTED)),
+        DavMethod::Delete => delete(alloc, fs, credentials, path, fields),
         _ => unreachable!("no other method writes"),
     }
 }
 
 // The response to what a method gave.
-fn tell<F>(
-    alloc: Global,
-    fields: &HeaderMap,
-    given: Result<Outcome, DavError>,
-) -> Result<Response<Body<F>>, NoMemory>
+fn tell<F>(alloc: Global, fields: &HeaderMap, given: Result<Outcome, DavError>) -> Answered<F>
     ensures { IfOk result (Tells fields.now given) }
 {
     match given {
@@ -70,7 +66,8 @@ pub fn write_over<S: GuardedFileSystem<C>, C, B: BodyReader>(
     path: &DavPath,
     body: &mut B,
 ) -> Answered<S::File>
-    requires { the_writes method ≡ true }
+    requires admits { S.admits fs.old }
+    requires writes { the_writes method ≡ true }
     ensures done { IfOk result (λ r. WritesOver (the_view S.GuardedFileSystem S.Disk.Disk S.File.DavFile)
         (the_listings S.GuardedFileSystem S.Entry.DavDirEntry) S.File.writes
         (order method path.now (head_of asked.entry.now.head.now).headers) asked.entry.now.credentials.now
@@ -78,6 +75,7 @@ pub fn write_over<S: GuardedFileSystem<C>, C, B: BodyReader>(
     ensures moment { SetsMoment
         (the_served S.GuardedFileSystem S.Disk.Disk S.File.DavFile S.Entry.DavDirEntry) fs.old asked.entry.now.now }
     ensures memory { OnErr result (KeepsOpen (S.Disk.state (S.inside fs.old)) (S.Disk.state (S.inside fs.new))) }
+    ensures admits { S.admits fs.new }
     ensures loan { S.Disk.loan (S.inside fs.new) ≡ S.Disk.loan (S.inside fs.old) }
     ensures body_loan { B.loan body.new ≡ B.loan body.old }
 {

@@ -7,7 +7,8 @@ use Rattle.dav_config.proofs.Merged.{ended_with, given_may, unasked, with_given}
 use Rattle.dav_config.proofs.handler.DavHandler+S+unit.handle_with.Goals as goal
 
 pub returns-in-Err-clause-memory : goal.returns-in-Err-clause-memory
-returns-in-Err-clause-memory g c = unasked (the_served g.S.GuardedFileSystem g.S.Disk.Disk g.S.File.DavFile g.S.Entry.DavDirEntry) c.args.config.store c.args.self.now.store
+returns-in-Err-clause-memory g c = unasked (the_served g.S.GuardedFileSystem g.S.Disk.Disk g.S.File.DavFile g.S.Entry.DavDirEntry)
+    (asking (merged c.args.self.now.settings c.args.config.settings) (head_of c.args.req) tt c.args.now) c.args.config.store c.args.self.now.store
 
 pub returns-in-Some-clause-done : goal.returns-in-Some-clause-done
 returns-in-Some-clause-done g c =
@@ -23,5 +24,6 @@ returns-in-Some-clause-may g c =
 
 pub returns-in-Some-clause-memory : goal.returns-in-Some-clause-memory
 returns-in-Some-clause-memory g c =
-    ended_with (the_served g.S.GuardedFileSystem g.S.Disk.Disk g.S.File.DavFile g.S.Entry.DavDirEntry) c.handle_given.result c.args.config.store c.args.self.now.store
-    c.args.self.now.store c.in-Some.given c.handle_given.ensures.memory c.in-Some.is refl
+    ended_with (the_served g.S.GuardedFileSystem g.S.Disk.Disk g.S.File.DavFile g.S.Entry.DavDirEntry) c.handle_given.result
+    (asking (merged c.args.self.now.settings c.args.config.settings) (head_of c.args.req) tt c.args.now) c.args.config.store c.args.self.now.store
+    c.args.self.now.store c.in-Some.given (rw c.in-Ok.ensures at c.handle_given.ensures.memory) c.in-Some.is refl

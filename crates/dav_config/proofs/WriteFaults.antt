@@ -1,0 +1,46 @@
+-- Over a store that refuses few things a call is refused with a failure only where its disk met a fault.
+use Rattle.std.proofs.Common.{◌≤◌, refl, arith}
+use Rattle.dav_io.specs.Counts.{Rose}
+use Rattle.dav_store.specs.View.{View, Listings}
+use Rattle.dav_get.proofs.HeardIsRight.{rose_through}
+use Rattle.dav_methods.specs.Answers.{RefusesUsually}
+use Rattle.dav_methods.specs.Follows as on
+use Rattle.dav_methods.specs.Pouring.{Writes}
+use Rattle.dav_config.specs.Writing as one
+use Rattle.dav_config.specs.Writing.{RefusedOnWay, RefusesOne}
+
+module _ {S C F L E : Type 0} (view : View S C F) (lists : Listings S C L E) (writes : Writes F) (c : C) (usual : RefusesUsually view lists writes c) where
+  -- no call forgets a fault
+  reached_counts : (s t : S) → on.Reached view lists writes c s t → (view.state s).faults ≤ (view.state t).faults
+  reached_counts s t on.here = omega arith
+  reached_counts s t (on.looks m n path r before call) = let first = reached_counts s m before in let last = (usual.looks m n path r call).counts in omega arith
+  reached_counts s t (on.looks_at_link m n path r before call) = let first = reached_counts s m before in let last = (usual.looks_at_link m n path r call).counts in omega arith
+  reached_counts s t (on.opens m n path how r before call) = let first = reached_counts s m before in let last = (usual.opens m n path how r call).counts in omega arith
+  reached_counts s t (on.writes_file m n f g bytes r before call) =
+      let first = reached_counts s m before in let last = (usual.writes_file m n f g bytes r call).counts in omega arith
+  reached_counts s t (on.ends_file m n f before call) = let first = reached_counts s m before in let last = call.done.counts in omega arith
+  reached_counts s t (on.makes_dir m n path r before call) = let first = reached_counts s m before in let last = (usual.makes_dir m n path r call).counts in omega arith
+  reached_counts s t (on.removes_dir m n path r before call) = let first = reached_counts s m before in let last = (usual.removes_dir m n path r call).counts in omega arith
+  reached_counts s t (on.removes_file m n path r before call) = let first = reached_counts s m before in let last = (usual.removes_file m n path r call).counts in omega arith
+  reached_counts s t (on.renames m n from to r before call) = let first = reached_counts s m before in let last = (usual.renames m n from to r call).counts in omega arith
+  reached_counts s t (on.copies m n from to r before call) = let first = reached_counts s m before in let last = (usual.copies m n from to r call).counts in omega arith
+  reached_counts s t (on.begins m n path how r before call) = let first = reached_counts s m before in let last = (usual.begins m n path how r call).counts in omega arith
+  reached_counts s t (on.goes_on m n l k r before call) = let first = reached_counts s m before in let last = (usual.goes_on m n l k r call).counts in omega arith
+  reached_counts s t (on.says m n e r before call lends) = let first = reached_counts s m before in let last = (usual.says (view.state m) (view.state n) e r call).counts in omega arith
+  reached_counts s t (on.ends_list m n l before call) = let first = reached_counts s m before in let last = usual.ends m n l call in omega arith
+
+  one_rose : (m n : S) → RefusesOne view lists writes c m n → Rose (view.state m).faults (view.state n).faults
+  one_rose m n (one.looks path call) = (usual.looks m n path _ call).refused.1 refl
+  one_rose m n (one.looks_at_link path call) = (usual.looks_at_link m n path _ call).refused.1 refl
+  one_rose m n (one.opens path how call) = (usual.opens m n path how _ call).refused.1 refl
+  one_rose m n (one.writes_file f g bytes call) = (usual.writes_file m n f g bytes _ call).refused.1 refl
+  one_rose m n (one.makes_dir path call) = (usual.makes_dir m n path _ call).refused.1 refl
+  one_rose m n (one.removes_dir path call) = (usual.removes_dir m n path _ call).refused.1 refl
+  one_rose m n (one.removes_file path call) = (usual.removes_file m n path _ call).refused.1 refl
+  one_rose m n (one.begins path how call) = (usual.begins m n path how _ call).refused.1 refl
+  one_rose m n (one.goes_on l k call) = (usual.goes_on m n l k _ call).refused.1 refl
+  one_rose m n (one.says e call) = (usual.says (view.state m) (view.state n) e _ call).refused.1 refl
+
+  pub way_rose : (s t : S) → RefusedOnWay view lists writes c s t → Rose (view.state s).faults (view.state t).faults
+  way_rose s t way =
+      rose_through _ _ _ _ (reached_counts s way.before way.came) (one_rose way.before way.after way.fails) (reached_counts way.after t way.ends)
