@@ -18,7 +18,7 @@ use dav_config::{refused, refused_by};
 use dav_core::{DavError, DavMethod, DavMethodSet, DavPath, Disk};
 use dav_get::{GetBody, handle_get};
 use dav_io::{NoMemory, Octets};
-use dav_methods::{copy, delete, mkcalendar, mkcol, move_to, options, put_whole};
+use dav_methods::{delete, mkcalendar, mkcol, options, put_whole};
 use dav_model::{Outcome, Settings, Target};
 use dav_plain::{PlainEntry, PlainFile, PlainFs};
 use dav_store::{DavDirEntry, DavFile, DavFileSystem, GuardedFileSystem};
@@ -118,7 +118,6 @@ fn find_at<D: Disk>(
 // What a method that writes is answered, of a request whose body is in memory.
 fn change<D: Disk>(
     alloc: Global,
-    prefix: &str,
     store: &mut PlainFs<D>,
     method: DavMethod,
     path: &DavPath,
@@ -127,7 +126,7 @@ fn change<D: Disk>(
 ) -> Result<Outcome, DavError>
     ensures table { Changes (the_view ⟦<PlainFs<D> as GuardedFileSystem<()>>⟧ D.Disk ⟦<PlainFile as DavFile<D>>⟧)
         (the_listings ⟦<PlainFs<D> as GuardedFileSystem<()>>⟧ ⟦<PlainEntry as DavDirEntry<D>>⟧)
-        ⟦<PlainFile as DavFile<D>>⟧.writes tt method prefix.now path.now fields.now body.now store.old result store.new }
+        ⟦<PlainFile as DavFile<D>>⟧.writes tt method path.now fields.now body.now store.old result store.new }
     ensures keeps { KeepsOpen (D.state store.old.disk) (D.state store.new.disk) }
     ensures loan { D.loan store.new.disk ≡ D.loan store.old.disk }
 {
@@ -135,8 +134,6 @@ fn change<D: Disk>(
         DavMethod::Put => put_whole(alloc, store, &(), path, fields, body),
         DavMethod::MkCol => mkcol(alloc, store, &(), path, fields),
         DavMethod::Delete => delete(alloc, store, &(), path, fields),
-        DavMethod::Copy => copy(alloc, store, &(), path, fields, prefix),
-        DavMethod::Move => move_to(alloc, store, &(), path, fields, prefix),
         _ => mkcalendar(alloc, store, &(), path, fields),
     }
 }
@@ -155,9 +152,8 @@ fn write_at<D: Disk>(
     ensures loan { D.loan store.new.disk ≡ D.loan store.old.disk }
 {
     let fields = request.headers();
-    let prefix = settings.prefix.as_str();
     let body = request.body().as_slice();
-    match change(alloc, prefix, store, method, path, fields, body) {
+    match change(alloc, store, method, path, fields, body) {
         Ok(outcome) => Ok(alone(outcome)),
         Err(error) => refuse(alloc, fields, error),
     }

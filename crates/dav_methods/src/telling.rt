@@ -86,8 +86,6 @@ fn words_told(
         DavMethod::Get,
         DavMethod::Put,
         DavMethod::MkCol,
-        DavMethod::Copy,
-        DavMethod::Move,
         DavMethod::Delete,
         DavMethod::MkCalendar,
         DavMethod::MkAddressbook,

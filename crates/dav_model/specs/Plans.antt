@@ -226,7 +226,7 @@ delete_plan rules w ask = record {
 
 -- ---- all of them
 
--- The methods that have a plan here. Of what others make of a world, as COPY and MOVE, nothing is said.
+-- The methods that have a plan here.
 abbrev pub is_planned : DavMethod → Bool
 is_planned Put = true
 is_planned MkCol = true
