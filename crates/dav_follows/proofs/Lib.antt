@@ -5,3 +5,5 @@ pub mod PlainWrites
 pub mod PlainLooks
 pub mod PlainDone
 pub mod PlainReached
+pub mod NameOrder
+pub mod TreeLooks
