@@ -7,3 +7,4 @@ pub mod PlainDone
 pub mod PlainReached
 pub mod NameOrder
 pub mod TreeLooks
+pub mod PlainWalked
