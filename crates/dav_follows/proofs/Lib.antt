@@ -8,3 +8,5 @@ pub mod PlainReached
 pub mod NameOrder
 pub mod TreeLooks
 pub mod PlainWalked
+pub mod PlainMembers
+pub mod PlainFollows

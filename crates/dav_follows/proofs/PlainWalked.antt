@@ -14,7 +14,6 @@ use Rattle.dav_core.specs.declared.handle.Lister.{Lister}
 use Rattle.dav_core.specs.declared.handle.Meta.{Meta}
 use Rattle.dav_core.specs.declared.tree.Row.{Row}
 use Rattle.dav_core.specs.Disk.{DiskState, MetasBy}
-use Rattle.dav_core.specs.Errors.{fs_error_of}
 use Rattle.dav_core.specs.Info.{Info}
 use Rattle.dav_core.specs.Listing.{ListedIn, ListsOn, NextIn, listable, names_in, with_listings}
 use Rattle.dav_core.specs.Path.{Names}
@@ -34,7 +33,7 @@ use Rattle.dav_plain.specs.declared.entry.PlainEntry.{PlainEntry}
 use Rattle.dav_plain.specs.declared.file.PlainFile.{PlainFile}
 use Rattle.dav_plain.specs.Calls.{said_by}
 use Rattle.dav_plain.specs.Entries.{Says, said_info}
-use Rattle.dav_plain.specs.Listing.{AfterName, Begins, GivesEntry, IsAsked, IsKnown, NextEntry, NextOf, WasRead, next_of}
+use Rattle.dav_plain.specs.Listing.{AfterName, Begins, GivesEntry, IsKnown, NextEntry, NextOf, WasRead, next_of}
 use Rattle.dav_follows.proofs.PlainLooks.{called_for, clear_way}
 use Rattle.dav_follows.proofs.PlainStore.{IsPlainStore}
 
