@@ -9,3 +9,5 @@ mod MembersRead
 mod Lighter
 mod WorkDone
 mod LineRows
+mod AnswersListed
+mod EditsJoined

@@ -1,7 +1,6 @@
 -- What the methods that write may answer over a store that refuses few things, in any run: a failure only where a fault was met.
 use Rattle.std.specs.Prelude.{◌≡◌, ◌≤◌, ◌⊎◌, ℕ, Bool, true, false, List, Option, Some, Result, Ok, Err}
 use Rattle.dav_io.specs.Counts.{Rose}
-use Rattle.dav_core.specs.declared.dav_error.DavError.{DavError}
 use Rattle.dav_core.specs.declared.error.FsError.{FsError}
 use Rattle.dav_core.specs.declared.error.FsError.TheVariants as fs
 use Rattle.dav_core.specs.declared.handle.OpenOptions.{OpenOptions}
@@ -10,7 +9,7 @@ use Rattle.dav_core.specs.Disk.{DiskState}
 use Rattle.dav_core.specs.Info.{Info}
 use Rattle.dav_core.specs.Statuses.{lacks_memory, status_of}
 use Rattle.dav_store.specs.declared.entry.ReadDirMeta.{ReadDirMeta}
-use Rattle.dav_store.specs.View.{View, Listings, Closes}
+use Rattle.dav_store.specs.View.{View, Listings}
 use Rattle.dav_model.specs.WellFormed.{is_among}
 use Rattle.dav_model.specs.Written.{halt_statuses}
 use Rattle.dav_methods.specs.Lines.{Given, made, silent}

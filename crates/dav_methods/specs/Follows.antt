@@ -11,7 +11,7 @@ use Rattle.dav_core.specs.declared.handle.OpenOptions.{OpenOptions}
 use Rattle.dav_core.specs.declared.tree.Row.{Row}
 use Rattle.dav_core.specs.Allowed.{Allowed, copying, moving, opening, taking_dir, taking_file}
 use Rattle.dav_core.specs.DavPath.{WebPath}
-use Rattle.dav_core.specs.Disk.{at_start}
+use Rattle.dav_core.specs.Disk.{at_start, kind_at}
 use Rattle.dav_core.specs.Edits.{Edit, Edited, EditedBy, fills}
 use Rattle.dav_core.specs.Errors.{fs_error_of}
 use Rattle.dav_core.specs.Info.{Info}
@@ -105,10 +105,11 @@ module _ {S C F L E : Type 0} (view : View S C F) (lists : Listings S C L E) (wr
   Calls allowed m (Err e) n v w = (CallsFor allowed e × SameBesidesOpens v w)
       ⊎ (Spoiled {T = Unit} (view.state m) (Err e) (view.state n) × LeftBy true allowed v w)
 
-  -- What was opened is open at its first byte, in a world in which the edit was made.
+  -- What was opened is open at its first byte, in a world in which the edit was made, and is of the kind that stands there.
   abbrev pub OpensBy : Rules → WebPath → S → Result F FsError → S → World → World → Type 0
   OpensBy rules path m (Ok f) n v w = (edit : Option Edit) × (row : Row) × (putting rules v path ≡ Ok edit) × EditedBy edit v w
       × (row_at w.tree (resolved rules v.tree path.names) ≡ Some row) × (w.opens (view.handle f) ≡ Some (at_start row.number))
+      × (kind_at (view.state n) (view.handle f) ≡ Some row.kind)
   OpensBy rules path m (Err e) n v w = SameBesidesOpens v w
       × (CallsFor (putting rules v path) e ⊎ Spoiled {T = F} (view.state m) (Err e) (view.state n))
 

@@ -5,6 +5,7 @@
 mod child;
 mod conditions;
 mod fields;
+mod laws;
 mod lines;
 mod making;
 mod outcomes;
@@ -18,6 +19,7 @@ mod work;
 
 pub use conditions::{if_match, ifrange_match, ranges_are_heard, reads};
 pub use fields::first_value;
+pub use laws::answers_are_listed;
 pub use making::{mkaddressbook, mkcalendar, mkcol};
 pub use putting::{put, put_whole};
 pub use removing::delete;

@@ -1,0 +1,348 @@
+-- Edits before and after what changes nothing, and edits one after the other that are one edit.
+use Rattle.std.proofs.Common.{◌≡◌, ◌≤◌, ◌<◌, ◌≤ℤ◌, ◌==◌, ◌&&◌, ◌||◌, ◌++◌, ◌⊎◌, inl, inr, cond, not, ℕ, List, [], ◌∷◌, map, Bool, true, false, Option, None, Some, refl, sym, ap, ap₂, subst, ◌∙◌, arith, ℤ, int_lt, nat_lt}
+use Rattle.std.specs.Ordering.{int_eq}
+use Rattle.std.specs.List.{AllByRecursion, filter}
+use Rattle.std.specs.Option.{option_map}
+use Rattle.std.proofs.lemmas.Bool.Decides.{nat_tests}
+use Rattle.std.proofs.lemmas.Int.{ints}
+use Rattle.dav_core.specs.declared.time.FileTime.{FileTime}
+use Rattle.dav_core.specs.declared.tree.Kind.{Kind}
+use Rattle.dav_core.specs.declared.tree.Kind.TheVariants.{File}
+use Rattle.dav_core.specs.declared.tree.Row.{Row}
+use Rattle.dav_core.specs.Changes.{timed_row, without}
+use Rattle.dav_core.specs.Edits.{Becomes, Edit, Edited, EditedBy, IsNew, IsNext, IsPart, fills, filled, is_later, made, makes, moves, stored_as, taken, takes, timed_number, touched_to}
+use Rattle.dav_core.specs.Path.{Names, is_front, parent_of, same_names}
+use Rattle.dav_core.specs.Tree.{row_at}
+use Rattle.dav_core.specs.World.{Holds, NotAfter, OpenFile, SameBesidesOpens, Stored, World, bytes_of, bytes_or_none, is_numbered, put}
+use Rattle.dav_core.proofs.UnchangedLemmas.{equal_keys, other_keys, put_other, put_same, same_besides_then}
+
+-- ---- what changes nothing, after an edit
+
+becomes_then : (v x m w : World) → Becomes v x m → SameBesidesOpens m w → Becomes v x w
+becomes_then v x m w b s = record {
+  tree = s.tree ∙ b.tree;
+  files = λ number held.
+      (let (there, same) = s.files number held in
+      let (before, made) = b.files number there in
+      (before, same ∙ made));
+  script = s.script ∙ b.script;
+  greatest = (let g = s.greatest in let h = b.greatest in omega arith);
+  latest = rw s.latest b.latest;
+}
+
+new_then : (v : World) (t : FileTime) (m w : World) → IsNew v t m → SameBesidesOpens m w → IsNew v t w
+new_then v t m w n s = record { later = n.later; used = rw s.latest n.used; nanos = n.nanos }
+
+pub edit_then : (edit : Edit) (v m w : World) → Edited edit v m → SameBesidesOpens m w → Edited edit v w
+edit_then (makes path kind bytes) v m w (number, t, u, next, new, touched, b) s =
+    (number, t, u, record { above = next.above; used = (let g = s.greatest in let h = next.used in omega arith) }, new_then v t m w new s, new_then v u m w touched s, becomes_then v _ m w b s)
+edit_then (fills number bytes) v m w (inl e) s = inl (e.0, same_besides_then v m w e.1 s)
+edit_then (fills number bytes) v m w (inr e) s = inr (e.0, e.1, new_then v e.1 m w e.2 s, becomes_then v _ m w e.3 s)
+edit_then (takes path) v m w (t, new, b) s = (t, new_then v t m w new s, becomes_then v _ m w b s)
+edit_then (moves from to) v m w (t, u, new, more, b) s = (t, u, new_then v t m w new s, new_then v u m w more s, becomes_then v _ m w b s)
+
+-- ---- who has a number
+
+pub numbered_map : (f : Row → Row) (n : ℕ) (rows : List Row) → ((row : Row) → (f row).number ≡ row.number) → is_numbered (map f rows) n ≡ is_numbered rows n
+numbered_map f n [] keep = refl
+numbered_map f n (row ∷ rows) keep = ap₂ ◌||◌ (ap (λ k. n == k) (keep row)) (numbered_map f n rows keep)
+
+numbered_append : (n : ℕ) (rows : List Row) (row : Row) → is_numbered (rows ++ row ∷ []) n ≡ (is_numbered rows n || n == row.number)
+numbered_append n [] row = or_none (n == row.number)
+  where
+    or_none : (b : Bool) → (b || false) ≡ (false || b)
+    or_none true = refl
+    or_none false = refl
+numbered_append n (r ∷ rows) row = ap (λ b. n == r.number || b) (numbered_append n rows row) ∙ either (n == r.number) (is_numbered rows n) (n == row.number)
+  where
+    either : (a b c : Bool) → (a || (b || c)) ≡ ((a || b) || c)
+    either true b c = refl
+    either false b c = refl
+
+timed_keeps : (path : Names) (t : FileTime) (row : Row) → (timed_row path t row).number ≡ row.number
+timed_keeps path t row = by (same_names path row.path) refl
+  where
+    by : (b : Bool) → same_names path row.path ≡ b → (timed_row path t row).number ≡ row.number
+    by true e = rw e refl
+    by false e = rw e refl
+
+renewed_keeps : (number : ℕ) (t : FileTime) (row : Row) → (timed_number number t row).number ≡ row.number
+renewed_keeps number t row = by (row.number == number) refl
+  where
+    by : (b : Bool) → (row.number == number) ≡ b → (timed_number number t row).number ≡ row.number
+    by true e = rw e refl
+    by false e = rw e refl
+
+-- a world with a row more, and its directory's time
+abbrev pub with_new : Row → List ℕ → FileTime → World → World
+with_new row bytes p u = touched_to (parent_of row.path) p (made row bytes u)
+
+new_numbered : (row : Row) (bytes : List ℕ) (p : FileTime) (n : ℕ) (u : World) → is_numbered (with_new row bytes p u).tree n ≡ (is_numbered u.tree n || n == row.number)
+new_numbered row bytes p n u =
+    numbered_map (timed_row (parent_of row.path) p) n (u.tree ++ row ∷ []) (timed_keeps (parent_of row.path) p) ∙ numbered_append n u.tree row
+
+or_false : (b c : Bool) → c ≡ false → (b || c) ≡ true → b ≡ true
+or_false true c e f = refl
+or_false false c e f = let g : true ≡ false = sym f ∙ e in cc
+
+or_right : (b c : Bool) → c ≡ true → (b || c) ≡ true
+or_right true c e = refl
+or_right false c e = e
+
+-- what is held after it was held before, or is the new row's
+held_made : (row : Row) (bytes : List ℕ) (p : FileTime) (n : ℕ) (u : World) → (n == row.number) ≡ false → Holds u n ⊎ Holds (with_new row bytes p u) n → Holds u n
+held_made row bytes p n u other (inl h) = h
+held_made row bytes p n u other (inr (inl s)) = inl (or_false (is_numbered u.tree n) (n == row.number) other (sym (new_numbered row bytes p n u) ∙ s))
+held_made row bytes p n u other (inr (inr o)) = inr o
+
+made_held : (row : Row) (bytes : List ℕ) (p : FileTime) (n : ℕ) (u : World) → (n == row.number) ≡ true → Holds (with_new row bytes p u) n
+made_held row bytes p n u same = inl (new_numbered row bytes p n u ∙ or_right (is_numbered u.tree n) (n == row.number) same)
+
+held_filled : (number n : ℕ) (bytes : List ℕ) (t : FileTime) (u : World) → Holds u n ⊎ Holds (filled number bytes t u) n → Holds u n
+held_filled number n bytes t u (inl h) = h
+held_filled number n bytes t u (inr (inl s)) = inl (sym (numbered_map (timed_number number t) n u.tree (renewed_keeps number t)) ∙ s)
+held_filled number n bytes t u (inr (inr o)) = inr o
+
+kept_numbered : (b here : Bool) (n : ℕ) (row : Row) (kept rows : List Row) → (n == row.number) ≡ here → (is_numbered kept n ≡ true → is_numbered rows n ≡ true)
+    → is_numbered (cond b (row ∷ kept) kept) n ≡ true → is_numbered (row ∷ rows) n ≡ true
+kept_numbered b true n row kept rows e more h = ap (λ x. x || is_numbered rows n) e
+kept_numbered true false n row kept rows e more h = ap (λ x. x || is_numbered rows n) e ∙ more (sym (ap (λ x. x || is_numbered kept n) e) ∙ h)
+kept_numbered false false n row kept rows e more h = ap (λ x. x || is_numbered rows n) e ∙ more h
+
+numbered_without : (path : Names) (n : ℕ) (rows : List Row) → is_numbered (without path rows) n ≡ true → is_numbered rows n ≡ true
+numbered_without path n [] e = e
+numbered_without path n (row ∷ rows) e =
+    kept_numbered (not (is_front path row.path)) (n == row.number) n row (without path rows) rows refl (numbered_without path n rows) e
+
+-- what a removal leaves was there
+taken_held : (path dir : Names) (n : ℕ) (t : FileTime) (u : World) → Holds u n ⊎ Holds (touched_to dir t (taken path u)) n → Holds u n
+taken_held path dir n t u (inl h) = h
+taken_held path dir n t u (inr (inl s)) = inl (numbered_without path n u.tree (sym (numbered_map (timed_row dir t) n (without path u.tree) (timed_keeps dir t)) ∙ s))
+taken_held path dir n t u (inr (inr o)) = inr o
+
+-- ---- what changes nothing, before an edit
+
+new_after : (v u w : World) (t : FileTime) → SameBesidesOpens v u → IsNew u t w → IsNew v t w
+new_after v u w t same new = record { later = rw (← same.latest) new.later; used = new.used; nanos = new.nanos }
+
+-- A removal after looks is a removal of the world before them.
+pub taken_after : (path : Names) (v u w : World) → SameBesidesOpens v u → Edited (takes path) u w → Edited (takes path) v w
+taken_after path v u w same (t, new, e) = (
+  t,
+  new_after v u w t same new,
+  record {
+    tree = e.tree ∙ ap (λ tree. map (timed_row (parent_of path) t) (without path tree)) same.tree;
+    files = λ n h.
+        (let back = e.files n h in
+        let first = same.files n (taken_held path (parent_of path) n t u back.0) in
+        (inl first.0, back.1 ∙ first.1));
+    script = e.script ∙ same.script;
+    greatest = rw (← same.greatest) e.greatest;
+    latest = rw (← same.latest) e.latest;
+  },
+)
+
+put_like : {A : Type 0} (b : Bool) (k n : ℕ) (x : A) (f g : ℕ → A) → (n == k) ≡ b → (b ≡ false → f n ≡ g n) → put k x f n ≡ put k x g n
+put_like true k n x f g e h = rw e refl
+put_like false k n x f g e h = rw e (h refl)
+
+made_files : (b : Bool) (row : Row) (bytes : List ℕ) (p : FileTime) (n : ℕ) (v u : World) → SameBesidesOpens v u → (n == row.number) ≡ b → Holds u n ⊎ Holds (with_new row bytes p u) n
+    → (Holds v n ⊎ Holds (with_new row bytes p v) n) × ((with_new row bytes p u).files n ≡ (with_new row bytes p v).files n)
+made_files true row bytes p n v u same own held =
+    (inr (made_held row bytes p n v own), put_like true row.number n (stored_as row.kind bytes row.time) u.files v.files own (λ e. cc))
+made_files false row bytes p n v u same own held =
+    let first = same.files n (held_made row bytes p n u own held) in
+    (inl first.0, put_like false row.number n (stored_as row.kind bytes row.time) u.files v.files own (λ e. first.1))
+
+-- What is made after looks is made of the world before them.
+pub made_after : (path : Names) (kind : Kind) (bytes : List ℕ) (v u w : World) → SameBesidesOpens v u → Edited (makes path kind bytes) u w → Edited (makes path kind bytes) v w
+made_after path kind bytes v u w same (number, t, p, next, new, dir, e) =
+    let row : Row = record { path = path; kind = kind; number = number; time = t } in (
+      number,
+      t,
+      p,
+      record { above = rw (← same.greatest) next.above; used = next.used },
+      new_after v u w t same new,
+      new_after v u w p same dir,
+      record {
+        tree = e.tree ∙ ap (λ tree. map (timed_row (parent_of path) p) (tree ++ row ∷ [])) same.tree;
+        files = λ n h.
+            (let back = e.files n h in
+            let first = made_files (n == number) row bytes p n v u same refl back.0 in
+            (first.0, back.1 ∙ first.1));
+        script = e.script ∙ same.script;
+        greatest = rw (← same.greatest) e.greatest;
+        latest = rw (← same.latest) e.latest;
+      },
+    )
+
+filled_files : (b : Bool) (number : ℕ) (bytes : List ℕ) (t : FileTime) (n : ℕ) (v u : World) → SameBesidesOpens v u → (n == number) ≡ b → Holds u n
+    → Holds v n × ((filled number bytes t u).files n ≡ (filled number bytes t v).files n)
+filled_files b number bytes t n v u same own held =
+    let first = same.files n held in
+    (first.0, put_like b number n (Some (record { bytes = bytes; time = t })) u.files v.files own (λ e. first.1))
+
+-- A file that somebody holds is filled after looks as before them.
+pub filled_after : (number : ℕ) (bytes : List ℕ) (v u w : World) → Holds u number → SameBesidesOpens v u → Edited (fills number bytes) u w → Edited (fills number bytes) v w
+filled_after number bytes v u w held same (inl (is, rest)) =
+    inl (is ∙ ap bytes_or_none (same.files number held).1, same_besides_then v u w same rest)
+filled_after number bytes v u w held same (inr (other, t, new, e)) =
+    inr (
+      (λ is. other (is ∙ sym (ap bytes_or_none (same.files number held).1))),
+      t,
+      new_after v u w t same new,
+      record {
+        tree = e.tree ∙ ap (λ tree. map (timed_number number t) tree) same.tree;
+        files = λ n h.
+            (let back = e.files n h in
+            let first = filled_files (n == number) number bytes t n v u same refl (held_filled number n bytes t u back.0) in
+            (inl first.0, back.1 ∙ first.1));
+        script = e.script ∙ same.script;
+        greatest = rw (← same.greatest) e.greatest;
+        latest = rw (← same.latest) e.latest;
+      },
+    )
+
+-- A file that is held has the bytes that it was filled with.
+pub filled_bytes : (number : ℕ) (bytes : List ℕ) (v w : World) → Edited (fills number bytes) v w → Holds w number → bytes_of w number ≡ bytes
+filled_bytes number bytes v w (inl (same, besides)) held = ap bytes_or_none (besides.files number held).1 ∙ sym same
+filled_bytes number bytes v w (inr (differs, t, later, becomes)) held =
+    let stored : Option Stored = Some (record { bytes = bytes; time = t }) in
+    ap bytes_or_none ((becomes.files number held).1 ∙ put_same number stored v.files)
+
+-- ---- a file that is made and then filled
+
+-- a time that is later than one is later than each that isn't after it
+later_than : (a b c : ℤ) (k m n : ℕ) → (int_lt b a || (int_eq a b && nat_lt m k)) ≡ true → c ≤ℤ b → (c ≡ b → n ≤ m) → (int_lt c a || (int_eq a c && nat_lt n k)) ≡ true
+later_than a b c k m n e le f = grind (arith, ints, nat_tests)
+
+not_after_then : (a b c : FileTime) → NotAfter a b → NotAfter b c → NotAfter a c
+not_after_then a b c (p, f) (q, g) = (
+  omega (arith, ints),
+  λ e.
+      (let ab : a.secs ≡ b.secs = omega (arith, ints) in
+      let bc : b.secs ≡ c.secs = omega (arith, ints) in
+      let x : a.nanos ≤ b.nanos = f ab in
+      let y : b.nanos ≤ c.nanos = g bc in
+      omega arith),
+)
+
+abbrev file_row : Names → ℕ → FileTime → Row
+file_row path number t = record { path = path; kind = File; number = number; time = t }
+
+other_number : (a b : ℕ) → (a == b) ≡ false → (b == a) ≡ false
+other_number a b e = grind (arith, nat_tests)
+
+itself : (n : ℕ) → (n == n) ≡ true
+itself n = grind (arith, nat_tests)
+
+other_row : (b : Bool) (number : ℕ) (t p : FileTime) (dir : Names) (row : Row) → same_names dir row.path ≡ b → (row.number == number) ≡ false
+    → timed_number number t (timed_row dir p row) ≡ timed_row dir p row
+other_row true number t p dir row e f = rw (e, f) refl
+other_row false number t p dir row e f = rw (e, f) refl
+
+own_row : (number : ℕ) (s t p : FileTime) (dir path : Names) → same_names dir path ≡ false
+    → timed_number number t (timed_row dir p (file_row path number s)) ≡ timed_row dir p (file_row path number t)
+own_row number s t p dir path e = rw (e, itself number) refl
+
+or_parts : (a b : Bool) → (a || b) ≡ false → (a ≡ false) × (b ≡ false)
+or_parts true b e = cc
+or_parts false b e = (refl, e)
+
+rows_filled : (number : ℕ) (s t p : FileTime) (dir path : Names) (rows : List Row) → same_names dir path ≡ false → is_numbered rows number ≡ false
+    → map (timed_number number t) (map (timed_row dir p) (rows ++ file_row path number s ∷ [])) ≡ map (timed_row dir p) (rows ++ file_row path number t ∷ [])
+rows_filled number s t p dir path [] e free = ap (λ r. r ∷ []) (own_row number s t p dir path e)
+rows_filled number s t p dir path (row ∷ rows) e free =
+    let parts = or_parts (number == row.number) (is_numbered rows number) free in
+    ap₂ ◌∷◌ (other_row (same_names dir row.path) number t p dir row refl (other_number number row.number parts.0)) (rows_filled number s t p dir path rows e parts.1)
+
+made_filled_files : (b : Bool) (path : Names) (number : ℕ) (bytes : List ℕ) (s t p : FileTime) (n : ℕ) (u v w : World) → (n == number) ≡ b
+    → Becomes u (with_new (file_row path number s) [] p u) v → Holds v n → w.files n ≡ put number (Some (record { bytes = bytes; time = t })) v.files n
+    → (Holds u n ⊎ Holds (with_new (file_row path number t) bytes p u) n) × (w.files n ≡ (with_new (file_row path number t) bytes p u).files n)
+made_filled_files true path number bytes s t p n u v w own made held is =
+    (inr (made_held (file_row path number t) bytes p n u own), is ∙ put_like true number n (Some (record { bytes = bytes; time = t })) v.files u.files own (λ e. cc))
+made_filled_files false path number bytes s t p n u v w own made held is =
+    let back = made.files n held in
+    let other = other_keys n number own in (
+      inl (held_made (file_row path number s) [] p n u own back.0),
+      is
+          ∙ put_like false number n (Some (record { bytes = bytes; time = t })) v.files u.files own
+          (λ e. back.1 ∙ put_other number n (Some (record { bytes = []; time = s })) u.files other),
+    )
+
+made_and_filled : (path : Names) (number : ℕ) (bytes : List ℕ) (s t p : FileTime) (u v w : World) → same_names (parent_of path) path ≡ false → is_numbered u.tree number ≡ false
+    → IsNext u number v → IsNew u p v → Becomes u (with_new (file_row path number s) [] p u) v → IsNew v t w → Becomes v (filled number bytes t v) w → Edited (makes path File bytes) u w
+made_and_filled path number bytes s t p u v w apart free next dir made new q = (
+  number,
+  t,
+  p,
+  record { above = next.above; used = (let a = next.used in let b = q.greatest in omega arith) },
+  record { later = later_than t.secs v.latest.secs u.latest.secs t.nanos v.latest.nanos u.latest.nanos new.later made.latest.0 made.latest.1; used = new.used; nanos = new.nanos },
+  record { later = dir.later; used = not_after_then p v.latest w.latest dir.used q.latest; nanos = dir.nanos },
+  record {
+    tree = q.tree ∙ (ap (map (timed_number number t)) made.tree ∙ rows_filled number s t p (parent_of path) path u.tree apart free);
+    files = λ n h.
+        (let back = q.files n h in
+        made_filled_files (n == number) path number bytes s t p n u v w refl made (held_filled number n bytes t v back.0) back.1);
+    script = q.script ∙ made.script;
+    greatest = (let l = made.greatest in let m = q.greatest in omega arith);
+    latest = not_after_then u.latest v.latest w.latest made.latest q.latest;
+  },
+)
+
+-- the number of what stands at a path where a file was made
+path_kept : (dir : Names) (p : FileTime) (row : Row) → (timed_row dir p row).path ≡ row.path
+path_kept dir p row = by (same_names dir row.path) refl
+  where
+    by : (b : Bool) → same_names dir row.path ≡ b → (timed_row dir p row).path ≡ row.path
+    by true e = rw e refl
+    by false e = rw e refl
+
+found_number : (b : Bool) (row found : Row) (rest : Option Row) (n : ℕ) → row.number ≡ n → (rest ≡ Some found → found.number ≡ n) → cond b (Some row) rest ≡ Some found → found.number ≡ n
+found_number true row found rest n is more e = let same : row ≡ found = cc in ap (λ (r : Row). r.number) (sym same) ∙ is
+found_number false row found rest n is more e = more e
+
+none_found : (b : Bool) (row : Row) (rest : Option Row) → cond b (Some row) rest ≡ None → (b ≡ false) × (rest ≡ None)
+none_found true row rest e = cc
+none_found false row rest e = (refl, e)
+
+past_row : (b : Bool) (row found : Row) (rest : Option Row) → b ≡ false → cond b (Some row) rest ≡ Some found → rest ≡ Some found
+past_row true row found rest e f = cc
+past_row false row found rest e f = f
+
+pub made_number : (path dir : Names) (number : ℕ) (s p : FileTime) (found : Row) (rows : List Row) → row_at rows path ≡ None
+    → row_at (map (timed_row dir p) (rows ++ file_row path number s ∷ [])) path ≡ Some found → found.number ≡ number
+made_number path dir number s p found [] none e =
+    found_number _ (timed_row dir p (file_row path number s)) found None number (timed_keeps dir p (file_row path number s)) (λ f. cc) e
+made_number path dir number s p found (row ∷ rows) none e =
+    let first = none_found (same_names path row.path) row (row_at rows path) none in
+    made_number path dir number s p found rows first.1
+    (past_row _ (timed_row dir p row) found _ (ap (same_names path) (path_kept dir p row) ∙ first.0) e)
+
+-- no row has a number above all
+not_its : (b : Bool) (n greatest : ℕ) (row : Row) (rest : Bool) → (n == row.number) ≡ b → row.number ≤ greatest → greatest < n → rest ≡ false → (n == row.number || rest) ≡ false
+not_its true n greatest row rest e le lt more = absurd (let same = equal_keys n row.number e in omega arith)
+not_its false n greatest row rest e le lt more = ap (λ x. x || rest) e ∙ more
+
+above_all : (n greatest : ℕ) (rows : List Row) → AllByRecursion (λ (row : Row). row.number ≤ greatest) rows → greatest < n → is_numbered rows n ≡ false
+above_all n greatest [] all lt = refl
+above_all n greatest (row ∷ rows) all lt = not_its (n == row.number) n greatest row (is_numbered rows n) refl all.0 lt (above_all n greatest rows all.1 lt)
+
+-- An empty file that was made has no bytes.
+pub made_bytes : (path : Names) (number : ℕ) (u v : World) (edited : Edited (makes path File []) u v) → edited.0 ≡ number → Holds v number → bytes_of v number ≡ []
+made_bytes path number u v (own, s, p, next, new, dir, becomes) same held =
+    ap bytes_or_none ((becomes.files number held).1 ∙ (ap (λ k. put k (Some (record { bytes = []; time = s })) u.files number) same ∙ put_same number (Some (record { bytes = []; time = s })) u.files))
+
+filled_whole : (path : Names) (bytes : List ℕ) (u v w : World) (edited : Edited (makes path File []) u v) → same_names (parent_of path) path ≡ false
+    → AllByRecursion (λ (row : Row). row.number ≤ u.greatest) u.tree → Holds v edited.0 → Edited (fills edited.0 bytes) v w → Edited (makes path File bytes) u w
+filled_whole path bytes u v w edited apart given held (inl (is, same)) =
+    let none : bytes ≡ [] = is ∙ made_bytes path edited.0 u v edited refl held in
+    subst (λ b. Edited (makes path File b) u w) (sym none) (edit_then (makes path File []) u v w edited same)
+filled_whole path bytes u v w (number, s, p, next, new, dir, becomes) apart given held (inr (other, t, later, q)) =
+    made_and_filled path number bytes s t p u v w apart (above_all number u.greatest u.tree given next.above) next dir becomes later q
+
+-- A file that is made empty and then filled is made with its bytes.
+pub made_filled : (path : Names) (number : ℕ) (bytes : List ℕ) (u v w : World) (edited : Edited (makes path File []) u v) → same_names (parent_of path) path ≡ false
+    → AllByRecursion (λ (row : Row). row.number ≤ u.greatest) u.tree → edited.0 ≡ number → Holds v number → Edited (fills number bytes) v w → Edited (makes path File bytes) u w
+made_filled path number bytes u v w edited apart given same held fill =
+    filled_whole path bytes u v w edited apart given (subst (Holds v) (sym same) held) (subst (λ n. Edited (fills n bytes) v w) (sym same) fill)

@@ -1,0 +1,31 @@
+//! Laws over the tables of the methods that write, each the contract of a function that does nothing.
+ghost use Rattle.std.specs.Prelude.{ℕ, List};
+ghost use Rattle.dav_core.specs.DavPath.{WebPath};
+ghost use Rattle.dav_store.specs.View.{the_listings, the_view};
+ghost use Rattle.dav_model.specs.Conditions.{Fields};
+ghost use Rattle.dav_methods.specs.Answers.{Answers, RefusesUsually};
+ghost use Rattle.dav_methods.specs.Lines.{Given};
+ghost use Rattle.dav_methods.specs.Putting.{PutsWhole};
+ghost use Rattle.dav_methods.specs.Table.{MkCalendars, MkCols};
+
+use dav_store::GuardedFileSystem;
+
+/// Over a store that refuses few things a request that writes is answered 201, 204, or with a status of a short list,
+/// where memory isn't refused; and 500 only where a fault was met.
+pub fn answers_are_listed<S: GuardedFileSystem<C>, C>()
+    ensures mkcol { (c : C) → RefusesUsually (the_view S.GuardedFileSystem S.Disk.Disk S.File.DavFile)
+        (the_listings S.GuardedFileSystem S.Entry.DavDirEntry) S.File.writes c
+        → (path : WebPath) (fields : Fields) (s t : S) (r : Given)
+        → MkCols (the_view S.GuardedFileSystem S.Disk.Disk S.File.DavFile) c path fields s r t
+        → Answers (the_view S.GuardedFileSystem S.Disk.Disk S.File.DavFile) s r t }
+    ensures mkcalendar { (c : C) → RefusesUsually (the_view S.GuardedFileSystem S.Disk.Disk S.File.DavFile)
+        (the_listings S.GuardedFileSystem S.Entry.DavDirEntry) S.File.writes c
+        → (path : WebPath) (s t : S) (r : Given)
+        → MkCalendars (the_view S.GuardedFileSystem S.Disk.Disk S.File.DavFile) c path s r t
+        → Answers (the_view S.GuardedFileSystem S.Disk.Disk S.File.DavFile) s r t }
+    ensures put { (c : C) → RefusesUsually (the_view S.GuardedFileSystem S.Disk.Disk S.File.DavFile)
+        (the_listings S.GuardedFileSystem S.Entry.DavDirEntry) S.File.writes c
+        → (path : WebPath) (fields : Fields) (bytes : List ℕ) (s t : S) (r : Given)
+        → PutsWhole (the_view S.GuardedFileSystem S.Disk.Disk S.File.DavFile) S.File.writes c path fields bytes s r t
+        → Answers (the_view S.GuardedFileSystem S.Disk.Disk S.File.DavFile) s r t }
+{}
