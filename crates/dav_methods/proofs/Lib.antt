@@ -11,3 +11,4 @@ mod WorkDone
 mod LineRows
 mod AnswersListed
 mod EditsJoined
+mod Stages
