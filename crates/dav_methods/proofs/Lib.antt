@@ -12,3 +12,5 @@ mod LineRows
 mod AnswersListed
 mod EditsJoined
 mod Stages
+mod LinesMatch
+mod MakingFollows

@@ -36,7 +36,7 @@ use Rattle.dav_model.specs.Head.{Reply, Stood, refusal}
 use Rattle.dav_model.specs.Plans.{Act, Ask, Halt, Plan, does, first, halts, line, meets_link, plan, stands, unless}
 use Rattle.dav_model.specs.Rules.{Rules, plain_rules}
 use Rattle.dav_model.specs.Written.{ByActs, EndsAs, PartOf, done_reply}
-use Rattle.dav_methods.specs.Follows.{Agrees, Finds, Follows, Reached, answer_or, looks}
+use Rattle.dav_methods.specs.Follows.{Finds, Follows, Reached, RightIn, Told, answer_or, looks}
 use Rattle.dav_methods.specs.Lines.{Given, Line}
 use Rattle.dav_methods.specs.Pouring.{Writes}
 use Rattle.dav_methods.specs.Table.{Ends, Looks, Next, Run, Unless}
@@ -337,3 +337,30 @@ module _ {S C F L E : Type 0} (view : View S C F) (lists : Listings S C L E) (wr
           → (Matches (judge found) (h v) × Finds (stands (plain_rules x.settings) v path) found) ⊎ FailsAs x (judge found) n
       judged v (inl finds) = inl (agrees v found finds, finds)
       judged v (inr spoiled) = inr (fails_as x judge says found n spoiled)
+
+-- ---- all worlds
+
+-- what is said of each told world, where more is known of the one before
+pub both_known : {A : Type 0} (old new : Option A) (P Q : A → A → Type 0) → ((a b : A) → old ≡ Some a → P a b → Q a b) → Both old new P → Both old new Q
+both_known None None P Q h p = tt
+both_known None (Some b) P Q h p = absurd p
+both_known (Some a) None P Q h p = absurd p
+both_known (Some a) (Some b) P Q h p = h a b refl p
+
+-- Rules by which each path is meant as it is written are those of a plain store.
+pub plain_are : (rules : Rules) → rules.folds ≡ false → rules.macos ≡ false → rules.alone ≡ None → rules ≡ plain_rules rules.settings
+plain_are rules folds macos alone =
+    ap (λ b. record { settings = rules.settings; folds = b; macos = rules.macos; alone = rules.alone }) folds
+    ∙ (ap (λ b. record { settings = rules.settings; folds = false; macos = b; alone = rules.alone }) macos
+    ∙ ap (λ o. record { settings = rules.settings; folds = false; macos = false; alone = o }) alone)
+
+module _ {S C F L E : Type 0} (view : View S C F) (lists : Listings S C L E) (writes : Writes F) (c : C) where
+  -- What ended as its plan says is right, by what holds of every told world.
+  pub right_in : ((s : S) (w : World) → (view.state s).told ≡ Some w → IsWorld w) → (rules : Rules) (s : S) → Follows view lists writes c rules s
+      → rules.folds ≡ false → rules.macos ≡ false → rules.alone ≡ None → (ask : Ask) (r : Given) (t : S)
+      → ((follows : Follows view lists writes c (plain_rules rules.settings) s) → Right view lists writes c (record { settings = rules.settings; ask = ask; s = s; follows = follows }) r t) → Told view lists writes c s t (RightIn view lists writes c rules ask s r t)
+  right_in worlds rules s follows folds macos alone ask r t right =
+      let plain : rules ≡ plain_rules rules.settings = plain_are rules folds macos alone in
+      subst (λ z. Told view lists writes c s t (RightIn view lists writes c z ask s r t)) (sym plain)
+      (both_known (view.state s).told (view.state t).told _ _ (λ v w told ends result answers links. ends (record { world = worlds s v told; links = links }) result answers)
+      (right (subst (λ z. Follows view lists writes c z s) plain follows)))
