@@ -14,3 +14,4 @@ mod EditsJoined
 mod Stages
 mod LinesMatch
 mod MakingFollows
+mod PutFollows

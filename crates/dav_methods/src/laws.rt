@@ -1,6 +1,6 @@
 //! Laws over the tables of the methods that write, each the contract of a function that does nothing.
 ghost use Rattle.std.specs.Prelude.{◌≡◌, ◌⊎◌, ℕ, List, None, false};
-ghost use Rattle.dav_core.specs.declared.method.DavMethod.TheVariants.{MkAddressbook, MkCalendar, MkCol};
+ghost use Rattle.dav_core.specs.declared.method.DavMethod.TheVariants.{MkAddressbook, MkCalendar, MkCol, Put};
 ghost use Rattle.dav_core.specs.DavPath.{WebPath};
 ghost use Rattle.dav_store.specs.View.{the_listings, the_view};
 ghost use Rattle.dav_model.specs.Conditions.{Fields};
@@ -51,6 +51,16 @@ pub fn writes_follow_their_plans<S: GuardedFileSystem<C>, C>()
         → rules.folds ≡ false → rules.macos ≡ false → rules.alone ≡ None
         → (ask : Ask) → (ask.method ≡ MkCalendar) ⊎ (ask.method ≡ MkAddressbook) → (r : Given) (t : S)
         → MkCalendars (the_view S.GuardedFileSystem S.Disk.Disk S.File.DavFile) c ask.path s r t
+        → Told (the_view S.GuardedFileSystem S.Disk.Disk S.File.DavFile)
+        (the_listings S.GuardedFileSystem S.Entry.DavDirEntry) S.File.writes c s t
+        (RightIn (the_view S.GuardedFileSystem S.Disk.Disk S.File.DavFile)
+        (the_listings S.GuardedFileSystem S.Entry.DavDirEntry) S.File.writes c rules ask s r t) }
+    ensures put { (c : C) (rules : Rules) (s : S) → Follows (the_view S.GuardedFileSystem S.Disk.Disk S.File.DavFile)
+        (the_listings S.GuardedFileSystem S.Entry.DavDirEntry) S.File.writes c rules s
+        → rules.folds ≡ false → rules.macos ≡ false → rules.alone ≡ None
+        → (ask : Ask) → ask.method ≡ Put → (r : Given) (t : S)
+        → PutsWhole (the_view S.GuardedFileSystem S.Disk.Disk S.File.DavFile) S.File.writes c ask.path ask.fields
+        ask.body s r t
         → Told (the_view S.GuardedFileSystem S.Disk.Disk S.File.DavFile)
         (the_listings S.GuardedFileSystem S.Entry.DavDirEntry) S.File.writes c s t
         (RightIn (the_view S.GuardedFileSystem S.Disk.Disk S.File.DavFile)
