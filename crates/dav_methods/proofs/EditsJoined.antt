@@ -1,8 +1,7 @@
 -- Edits before and after what changes nothing, and edits one after the other that are one edit.
 use Rattle.std.proofs.Common.{◌≡◌, ◌≤◌, ◌<◌, ◌≤ℤ◌, ◌==◌, ◌&&◌, ◌||◌, ◌++◌, ◌⊎◌, inl, inr, cond, not, ℕ, List, [], ◌∷◌, map, Bool, true, false, Option, None, Some, refl, sym, ap, ap₂, subst, ◌∙◌, arith, ℤ, int_lt, nat_lt}
 use Rattle.std.specs.Ordering.{int_eq}
-use Rattle.std.specs.List.{AllByRecursion, filter}
-use Rattle.std.specs.Option.{option_map}
+use Rattle.std.specs.List.{AllByRecursion}
 use Rattle.std.proofs.lemmas.Bool.Decides.{nat_tests}
 use Rattle.std.proofs.lemmas.Int.{ints}
 use Rattle.dav_core.specs.declared.time.FileTime.{FileTime}
@@ -10,10 +9,10 @@ use Rattle.dav_core.specs.declared.tree.Kind.{Kind}
 use Rattle.dav_core.specs.declared.tree.Kind.TheVariants.{File}
 use Rattle.dav_core.specs.declared.tree.Row.{Row}
 use Rattle.dav_core.specs.Changes.{timed_row, without}
-use Rattle.dav_core.specs.Edits.{Becomes, Edit, Edited, EditedBy, IsNew, IsNext, IsPart, fills, filled, is_later, made, makes, moves, stored_as, taken, takes, timed_number, touched_to}
+use Rattle.dav_core.specs.Edits.{Becomes, Edit, Edited, IsNew, IsNext, fills, filled, made, makes, moves, stored_as, taken, takes, timed_number, touched_to}
 use Rattle.dav_core.specs.Path.{Names, is_front, parent_of, same_names}
 use Rattle.dav_core.specs.Tree.{row_at}
-use Rattle.dav_core.specs.World.{Holds, NotAfter, OpenFile, SameBesidesOpens, Stored, World, bytes_of, bytes_or_none, is_numbered, put}
+use Rattle.dav_core.specs.World.{Holds, NotAfter, SameBesidesOpens, Stored, World, bytes_of, bytes_or_none, is_numbered, put}
 use Rattle.dav_core.proofs.UnchangedLemmas.{equal_keys, other_keys, put_other, put_same, same_besides_then}
 
 -- ---- what changes nothing, after an edit

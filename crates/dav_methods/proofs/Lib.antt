@@ -15,3 +15,4 @@ mod Stages
 mod LinesMatch
 mod MakingFollows
 mod PutFollows
+mod OpenedFile

@@ -1,8 +1,7 @@
 -- The lines of the tables are those of the plans, by what a look found.
-use Rattle.std.proofs.Common.{◌≡◌, inl, inr, ℕ, Bool, true, false, cond, not, List, [], ◌∷◌, take, drop, Option, None, Some, Result, Ok, Err, refl, sym, ap, subst, ◌∙◌}
+use Rattle.std.proofs.Common.{◌≡◌, inl, inr, ℕ, Bool, true, false, not, List, [], ◌∷◌, drop, Option, None, Some, Result, Ok, Err, refl, sym, ap, ◌∙◌}
 use Rattle.std.proofs.lemmas.List.{take-append-drop}
 use Rattle.std.specs.Prelude.{◌++◌, ◌-◌, length}
-use Rattle.dav_core.specs.declared.dav_error.DavError.TheVariants as dav
 use Rattle.dav_core.specs.declared.error.FsError.{FsError}
 use Rattle.dav_core.specs.declared.error.FsError.TheVariants as fs
 use Rattle.dav_core.specs.declared.method.DavMethod.{DavMethod}
@@ -11,14 +10,13 @@ use Rattle.dav_core.specs.declared.tree.Row.{Row}
 use Rattle.dav_core.specs.Errors.{CouldRefuse}
 use Rattle.dav_core.specs.Info.{Info}
 use Rattle.dav_core.specs.Path.{Names, parent_of}
-use Rattle.dav_core.specs.Statuses.{closes, status_of}
 use Rattle.dav_core.specs.Tree.{is_dir, is_linked}
-use Rattle.dav_model.specs.Conditions.{Fields, condition, condition_of, strong}
+use Rattle.dav_model.specs.Conditions.{Fields, condition, strong}
 use Rattle.dav_model.specs.Head.{Stood}
 use Rattle.dav_model.specs.Plans.{Halt, closing_when, failing, first, is_dir_found, is_found, refused as plan_refused, refused_there, unmet as plan_unmet, when}
 use Rattle.dav_model.proofs.PlainWalks.{linked_below}
 use Rattle.dav_methods.specs.Follows.{Finds}
-use Rattle.dav_methods.specs.Lines.{Line, fails_when, first_of, found_or_failed, info_there, is_dir_there, is_there, may_delete, may_make, may_put, no_parent, refused, refused_but_missing, unmet, with_status}
+use Rattle.dav_methods.specs.Lines.{Line, fails_when, first_of, found_or_failed, is_dir_there, is_there, may_delete, may_make, may_put, no_parent, refused, refused_but_missing, unmet, with_status}
 use Rattle.dav_methods.proofs.Stages.{Matches, fs_line}
 
 -- ---- several lines

@@ -1,19 +1,15 @@
 -- MKCOL, MKCALENDAR and MKADDRESSBOOK over a store that follows its rules are as their plans say.
-use Rattle.std.proofs.Common.{◌≡◌, ◌≤◌, ◌⊎◌, inl, inr, ℕ, Bool, true, false, not, List, [], ◌∷◌, take, Option, None, Some, Result, Ok, Err, refl, sym, ap, subst, ◌∙◌}
-use Rattle.dav_io.specs.Told.{Both}
+use Rattle.std.proofs.Common.{◌≡◌, ◌≤◌, ◌⊎◌, inl, inr, true, false, not, List, [], ◌∷◌, take, Option, None, Some, Result, Ok, Err, refl, sym, ap, subst, ◌∙◌}
 use Rattle.dav_io.proofs.ToldLemmas.{both_then}
-use Rattle.dav_core.specs.declared.dav_error.DavError.{DavError}
 use Rattle.dav_core.specs.declared.error.FsError.{FsError}
 use Rattle.dav_core.specs.declared.handle.DiskError.{DiskError}
 use Rattle.dav_core.specs.declared.handle.DiskError.TheVariants.{Exists}
-use Rattle.dav_core.specs.declared.method.DavMethod.{DavMethod}
 use Rattle.dav_core.specs.declared.method.DavMethod.TheVariants.{MkAddressbook, MkCalendar, MkCol}
 use Rattle.dav_core.specs.declared.tree.Kind.TheVariants.{Dir}
 use Rattle.dav_core.specs.declared.tree.Row.{Row}
 use Rattle.dav_core.specs.Allowed.{Allowed, making_at, making_dir, place}
 use Rattle.dav_core.specs.Edits.{Edited, EditedBy, makes}
 use Rattle.dav_core.specs.Errors.{fs_error_of}
-use Rattle.dav_core.specs.Info.{Info}
 use Rattle.dav_core.specs.Path.{Names}
 use Rattle.dav_core.specs.Statuses.{fs_status, of_fs}
 use Rattle.dav_core.specs.Tree.{is_linked}
@@ -22,17 +18,17 @@ use Rattle.dav_core.specs.Writing.{LeftBy}
 use Rattle.dav_core.proofs.UnchangedLemmas.{same_besides, same_besides_then}
 use Rattle.dav_store.specs.View.{Listings, View}
 use Rattle.dav_model.specs.Finding.{is_forbidden, resolved}
-use Rattle.dav_model.specs.Plans.{Act, Ask, Halt, above, closing_when, does, edits_of, first, halts, has_parent, is_found, line, making, mkcalendar_plan, mkcol_plan, not_allowed, plan_as, refused_there, stands, unless, unmet, when}
+use Rattle.dav_model.specs.Plans.{Act, Ask, Halt, above, closing_when, does, edits_of, first, has_parent, is_found, line, making, mkcalendar_plan, not_allowed, plan_as, refused_there, stands, unless, unmet, when}
 use Rattle.dav_model.specs.Rules.{Rules, plain_rules}
 use Rattle.dav_model.specs.Written.{PartOf}
 use Rattle.dav_model.proofs.PlainWalks.{plain_resolved}
-use Rattle.dav_methods.specs.Follows.{Calls, Finds, Follows, Reached, RightIn, Told, here}
+use Rattle.dav_methods.specs.Follows.{Calls, Follows, Reached, RightIn, Told, here}
 use Rattle.dav_methods.specs.Lines.{Given, found_or_failed, made, may_make, no_parent}
 use Rattle.dav_methods.specs.Pouring.{Writes}
 use Rattle.dav_methods.specs.Table.{Below, EndsMade, MkCalendars, MkCols, Run, answered}
 use Rattle.dav_methods.proofs.EditsJoined.{made_after}
 use Rattle.dav_methods.proofs.LinesMatch.{above_unlinked, calendar_match, first_three, make_match, parent_match}
-use Rattle.dav_methods.proofs.Stages.{Acts, At, Case, Clear, Embeds, EndsFor, Right, SaysFaults, at_first, at_map, ends_done, ends_halted, ends_spoiled, fs_line, look_stage, nothing_done, plan_of, right_in, spoiled_from, stands_plainly, unlinked}
+use Rattle.dav_methods.proofs.Stages.{Acts, At, Case, Clear, Embeds, EndsFor, Right, at_first, at_map, ends_done, ends_halted, ends_spoiled, fs_line, look_stage, nothing_done, plan_of, right_in, spoiled_from, stands_plainly, unlinked}
 
 -- what is allowed is the making of a directory
 made_only : (at : Names) (found : Result (Option Row) DiskError) → (making_at found at ≡ Ok (Some (makes at Dir []))) ⊎ ((d : DiskError) × (making_at found at ≡ Err d))

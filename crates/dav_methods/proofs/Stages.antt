@@ -16,13 +16,12 @@ use Rattle.dav_core.specs.declared.method.DavMethod.{DavMethod}
 use Rattle.dav_core.specs.declared.method.DavMethod.TheVariants as method
 use Rattle.dav_core.specs.declared.tree.Row.{Row}
 use Rattle.dav_core.specs.DavPath.{WebPath}
-use Rattle.dav_core.specs.Edits.{Edited}
 use Rattle.dav_core.specs.Errors.{CouldRefuse, fs_error_of}
 use Rattle.dav_core.specs.Info.{Info, known_time, tag_of}
 use Rattle.dav_core.specs.Path.{Names}
 use Rattle.dav_core.specs.Statuses.{closes, fs_status, of_fs, status_of}
 use Rattle.dav_core.specs.Tree.{IsTreeRefusal, is_file, is_linked, look}
-use Rattle.dav_core.specs.World.{Holds, IsWorld, SameBesidesOpens, Stored, World, bytes_or_none, is_numbered}
+use Rattle.dav_core.specs.World.{IsWorld, SameBesidesOpens, Stored, World, bytes_or_none, is_numbered}
 use Rattle.dav_core.proofs.LookLemmas.{look_all, look_err}
 use Rattle.dav_core.proofs.UnchangedLemmas.{same_besides, same_besides_then}
 use Rattle.dav_store.specs.Files.{Spoiled}
@@ -30,7 +29,6 @@ use Rattle.dav_store.specs.View.{Listings, View}
 use Rattle.dav_model.specs.declared.outcome.Outcome.{Outcome}
 use Rattle.dav_model.specs.declared.settings.Settings.{Settings}
 use Rattle.dav_model.specs.Conditions.{Fields}
-use Rattle.dav_model.specs.Due.{failure}
 use Rattle.dav_model.specs.Finding.{resolved, stood_at}
 use Rattle.dav_model.specs.Head.{Reply, Stood, refusal}
 use Rattle.dav_model.specs.Plans.{Act, Ask, Halt, Plan, does, first, halts, line, meets_link, plan, stands, unless}
@@ -39,7 +37,7 @@ use Rattle.dav_model.specs.Written.{ByActs, EndsAs, PartOf, done_reply}
 use Rattle.dav_methods.specs.Follows.{Finds, Follows, Reached, RightIn, Told, answer_or, looks}
 use Rattle.dav_methods.specs.Lines.{Given, Line}
 use Rattle.dav_methods.specs.Pouring.{Writes}
-use Rattle.dav_methods.specs.Table.{Ends, Looks, Next, Run, Unless}
+use Rattle.dav_methods.specs.Table.{Ends, Looks, Run, Unless}
 
 -- ---- what a look finds
 

@@ -1,4 +1,3 @@
-use Rattle.std.proofs.Common.{◌∙◌, ap, subst, sym}
 use Rattle.dav_store.specs.View.{the_listings, the_view}
 use Rattle.dav_methods.proofs.MakingFollows.{mkcalendar_follows, mkcol_follows}
 use Rattle.dav_methods.proofs.PutFollows.{put_follows}
