@@ -34,8 +34,8 @@ pub fn answers_are_listed<S: GuardedFileSystem<C>, C>()
         → Answers (the_view S.GuardedFileSystem S.Disk.Disk S.File.DavFile) s r t }
 {}
 
-/// Over a store that follows its rules, by which each path is meant as it is written, a request that writes makes of a told
-/// world what its plan says, and is answered so.
+/// Over a store that follows its rules, by which each path is meant as it is written, a request that writes makes of a
+/// told world what its plan says, and is answered so.
 pub fn writes_follow_their_plans<S: GuardedFileSystem<C>, C>()
     ensures mkcol { (c : C) (rules : Rules) (s : S) → Follows (the_view S.GuardedFileSystem S.Disk.Disk S.File.DavFile)
         (the_listings S.GuardedFileSystem S.Entry.DavDirEntry) S.File.writes c rules s
@@ -46,7 +46,8 @@ pub fn writes_follow_their_plans<S: GuardedFileSystem<C>, C>()
         (the_listings S.GuardedFileSystem S.Entry.DavDirEntry) S.File.writes c s t
         (RightIn (the_view S.GuardedFileSystem S.Disk.Disk S.File.DavFile)
         (the_listings S.GuardedFileSystem S.Entry.DavDirEntry) S.File.writes c rules ask s r t) }
-    ensures mkcalendar { (c : C) (rules : Rules) (s : S) → Follows (the_view S.GuardedFileSystem S.Disk.Disk S.File.DavFile)
+    ensures mkcalendar { (c : C) (rules : Rules) (s : S)
+        → Follows (the_view S.GuardedFileSystem S.Disk.Disk S.File.DavFile)
         (the_listings S.GuardedFileSystem S.Entry.DavDirEntry) S.File.writes c rules s
         → rules.folds ≡ false → rules.macos ≡ false → rules.alone ≡ None
         → (ask : Ask) → (ask.method ≡ MkCalendar) ⊎ (ask.method ≡ MkAddressbook) → (r : Given) (t : S)
