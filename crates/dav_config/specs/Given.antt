@@ -5,7 +5,6 @@ use Rattle.http.specs.declared.response.Parts.{Parts}
 use Rattle.http.specs.Response.{head_of}
 use Rattle.dav_io.specs.Counts.{Rose}
 use Rattle.dav_core.specs.Disk.{DiskState}
-use Rattle.dav_core.specs.Unchanged.{Keeps}
 use Rattle.dav_model.specs.Due.{failure}
 use Rattle.dav_store.specs.declared.body_reader.BodyReader.{Ghosts as ReaderGhosts}
 use Rattle.dav_store.specs.Standing.{Seen}
@@ -21,6 +20,7 @@ use Rattle.dav_get.specs.Bodies.{Closes}
 use Rattle.dav_get.specs.BodySteps.{StepGives, ends_of}
 use Rattle.dav_config.specs.Handling.{Asking, HandlesAll, Served, Stays}
 use Rattle.dav_config.specs.Responses.{IsBare, Responded, inner_of}
+use Rattle.dav_config.specs.Writing.{KeepsUnless, asks_to_write}
 
 -- ---- what was collected
 
@@ -60,18 +60,18 @@ module _ {F D : Type 0} (handle : F → ℕ) (seen : F → DiskState → Option 
 -- ---- a store that is given
 
 module _ {S C F L E : Type 0} (served : Served S C F L E) where
-  -- It ended with nothing open that wasn't, on the loan on which it stood.
-  pub record EndsAs (given after : S) : Type 0 where
-    pub keeps : Keeps (served.view.state given) (served.view.state after)
+  -- It ended with nothing open that wasn't, on the loan on which it stood; and as it was, unless the request writes.
+  pub record EndsAs (asking : Asking C) (given after : S) : Type 0 where
+    pub keeps : KeepsUnless (asks_to_write asking.head) (served.view.state given) (served.view.state after)
     pub loan : served.view.loan after ≡ served.view.loan given
 
-  abbrev pub Ends : S → Type 0
-  Ends given = (after : S) × EndsAs given after
+  abbrev pub Ends : Asking C → S → Type 0
+  Ends asking given = (after : S) × EndsAs asking given after
 
   -- Nothing is left open. Over a store that is given the handler's own stays as it is.
-  abbrev pub StaysWith : Option S → Option S → Option S → Type 0
-  StaysWith None old new = Stays served old new
-  StaysWith (Some given) old new = Ends given × (new ≡ old)
+  abbrev pub StaysWith : Asking C → Option S → Option S → Option S → Type 0
+  StaysWith asking None old new = Stays served asking old new
+  StaysWith asking (Some given) old new = Ends asking given × (new ≡ old)
 
 module _ {S C F L E D : Type 0} (served : Served S C F L E) (state : D → DiskState) (loan : D → Option GName) (inside : S → D) where
   -- An answer's body was collected with the store's disk, and the answer made of it.
@@ -87,7 +87,7 @@ module _ {S C F L E D : Type 0} (served : Served S C F L E) (state : D → DiskS
     pub after : S
     pub handles : HandlesAll served reader asking (Some given) body answered (Some between)
     pub gathers : Gathers answered between r after
-    pub ends : EndsAs served given after
+    pub ends : EndsAs served asking given after
     -- Gathering makes 500 of another status only where the disk's count rose.
     pub failed : (head_of r).status ≡ 500 → ((head_of answered).status ≡ 500) ⊎ Rose (served.view.state between).faults (served.view.state after).faults
 

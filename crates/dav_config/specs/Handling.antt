@@ -1,5 +1,5 @@
 -- What a handler answers a request with, over any store.
-use Rattle.std.specs.Prelude.{◌≡◌, ℕ, Bool, false, not, List, Option, None, Some, Result}
+use Rattle.std.specs.Prelude.{◌≡◌, ◌⊎◌, ℕ, Bool, true, false, not, List, Option, None, Some, Result}
 use Rattle.dav_io.specs.declared.clock.Moment.{Moment}
 use Rattle.dav_io.specs.Counts.{Rose}
 use Rattle.http.specs.declared.request.Parts.{Parts}
@@ -8,14 +8,14 @@ use Rattle.dav_core.specs.declared.disk.Disk.{Ghosts as DiskGhosts}
 use Rattle.dav_core.specs.declared.error.FsError.{FsError}
 use Rattle.dav_core.specs.declared.member.Member.{Member}
 use Rattle.dav_core.specs.DavPath.{WebPath}
-use Rattle.dav_core.specs.Unchanged.{Keeps}
 use Rattle.dav_model.specs.declared.settings.Settings.{Settings}
 use Rattle.dav_model.specs.declared.target.Target.{Target}
-use Rattle.dav_model.specs.declared.target.Target.TheVariants.{At, Methods, Refused}
+use Rattle.dav_model.specs.declared.target.Target.TheVariants.{At, Methods, Refused, Writes}
 use Rattle.dav_model.specs.Allowing.{allowing}
 use Rattle.dav_model.specs.Announced.{HasSoundBody, IsFramed}
+use Rattle.dav_model.specs.Conditions.{writes as is_writing}
 use Rattle.dav_model.specs.Due.{Query, query}
-use Rattle.dav_model.specs.Gates.{Bulk, admitted, gates}
+use Rattle.dav_model.specs.Gates.{Bulk, none, admitted, gates, takes_much}
 use Rattle.dav_model.specs.Head.{refusal}
 use Rattle.dav_model.specs.Sizes.{read_size_of}
 use Rattle.dav_store.specs.declared.body_reader.BodyReader.{Ghosts as ReaderGhosts}
@@ -25,6 +25,7 @@ use Rattle.dav_store.specs.declared.guarded.GuardedFileSystem.{Ghosts as StoreGh
 use Rattle.dav_store.specs.Bodies.{BodyState}
 use Rattle.dav_store.specs.Standing.{Standing}
 use Rattle.dav_store.specs.View.{View, Listings, the_view, the_listings}
+use Rattle.dav_methods.specs.Pouring.{Writes as FileWritesOf}
 use Rattle.dav_get.specs.Heard.{Heard}
 use Rattle.dav_get.specs.Lives.{HasMost, OpenOnlyHeld}
 use Rattle.dav_get.specs.Right.{reply_at}
@@ -33,12 +34,15 @@ use Rattle.dav_get.specs.Told.{IsRightFor, ShowsFor}
 use Rattle.dav_config.specs.Failing.{FailsOver}
 use Rattle.dav_config.specs.Reading.{ReadsBulk}
 use Rattle.dav_config.specs.Responses.{IsBare, Responded, Responds}
+use Rattle.dav_config.specs.Writing.{KeepsUnless, Order, RefusedIn, WritesOver, asks_to_write, order}
 
 -- ---- a store's meanings in one value
 
 pub record Served (S C F L E : Type 0) : Type 1 where
   pub view : View S C F
   pub lists : Listings S C L E
+  -- what a writing of bytes to a file may answer
+  pub writes : FileWritesOf F
   -- it has nothing and does nothing
   pub void : S → Bool
   pub with_now : S → Moment → S
@@ -47,6 +51,7 @@ abbrev pub the_served : {S C D M F L E : Type 0} → StoreGhosts S C D M F L E �
 the_served store disk file entry = record {
   view = the_view store disk file;
   lists = the_listings store entry;
+  writes = file.writes;
   void = store.void;
   with_now = store.with_now;
 }
@@ -59,8 +64,16 @@ is_stored void (Some s) = not (void s)
 -- It passed the gates, and the store is asked.
 abbrev pub IsAt : Target → Type 0
 IsAt (At method path) = Unit {0}
+IsAt (Writes method path) = Unit {0}
 IsAt Methods = ⊥
 IsAt (Refused status close) = ⊥
+
+-- What is asked for by writing is asked for by a method that writes, and else by one that doesn't.
+abbrev pub IsWritten : Target → Parts → Type 0
+IsWritten (Writes method path) head = (is_writing method ≡ true) × (asks_to_write head ≡ true)
+IsWritten (At method path) head = asks_to_write head ≡ false
+IsWritten Methods head = asks_to_write head ≡ false
+IsWritten (Refused status close) head = Unit {0}
 
 -- ---- what is asked, and both sides of a call
 
@@ -81,11 +94,17 @@ pub record Sides (S : Type 0) : Type 0 where
 
 -- ---- what a request asks for
 
+-- A method that stores its body reads it itself, so nothing is seen of it. For others it is read.
+abbrev pub ReadsUnless : Bool → BodyState → Bulk → BodyState → Type 0
+ReadsUnless true old bulk new = (bulk ≡ none) × (new ≡ old)
+ReadsUnless false old bulk new = ReadsBulk old bulk new
+
 -- The reader is asked behind the gates of the head alone.
 abbrev pub ReadsBehind : Target → BodyState → Bulk → BodyState → Type 0
 ReadsBehind (Refused status close) old bulk new = new ≡ old
 ReadsBehind Methods old bulk new = new ≡ old
-ReadsBehind (At method path) old bulk new = ReadsBulk old bulk new
+ReadsBehind (Writes method path) old bulk new = new ≡ old
+ReadsBehind (At method path) old bulk new = ReadsUnless (takes_much method) old bulk new
 
 -- What the gates make of a request, by what its reader gave of its body.
 pub record IsTarget {C : Type 0} (asking : Asking C) (stored : Bool) (old : BodyState) (target : Target) (new : BodyState) : Type 0 where
@@ -130,18 +149,29 @@ module _ {S C F L E : Type 0} (served : Served S C F L E) where
     pub moment : SetsMoment before asking.now
     pub gives : GivesOver q asking.credentials (served.with_now before asking.now) r after
 
-  -- The gates' refusal, or what OPTIONS is told, with the store as it was; or the answer of a GET or HEAD over the store.
-  abbrev pub AnswersTo : Target → Asking C → Option S → Responded F → Option S → Type 0
-  AnswersTo (Refused status close) asking old r new = IsBare (refusal asking.head.headers status close) r × (new ≡ old)
-  AnswersTo Methods asking old r new = IsBare (allowing asking.settings.allow (not (is_stored served.void old))) r × (new ≡ old)
-  AnswersTo (At method path) asking old r new = Passes (query asking.settings asking.head.headers method path) asking old r new
+  -- There is a store, and over it, once its moment is set, a request that writes is answered so.
+  pub record Performs (o : Order) (asking : Asking C) (old : Sides S) (r : Responded F) (new : Sides S) : Type 0 where
+    pub before : S
+    pub after : S
+    pub was : old.store ≡ Some before
+    pub is : new.store ≡ Some after
+    pub moment : SetsMoment before asking.now
+    pub writes : WritesOver served.view served.lists served.writes o asking.credentials old.body (served.with_now before asking.now) r after new.body
 
-  -- Nothing is left open; there is a store where there was one.
-  abbrev pub Stays : Option S → Option S → Type 0
-  Stays None None = Unit {0}
-  Stays None (Some t) = ⊥
-  Stays (Some s) None = ⊥
-  Stays (Some s) (Some t) = Keeps (served.view.state s) (served.view.state t) × (served.view.loan t ≡ served.view.loan s)
+  -- The gates' refusal, or what OPTIONS is told, with the store and the reader as they were; or the answer of a GET or HEAD
+  -- over the store; or that of a request that writes, which may read the body.
+  abbrev pub AnswersTo : Target → Asking C → Sides S → Responded F → Sides S → Type 0
+  AnswersTo (Refused status close) asking old r new = IsBare (refusal asking.head.headers status close) r × (new ≡ old)
+  AnswersTo Methods asking old r new = IsBare (allowing asking.settings.allow (not (is_stored served.void old.store))) r × (new ≡ old)
+  AnswersTo (At method path) asking old r new = Passes (query asking.settings asking.head.headers method path) asking old.store r new.store × (new.body ≡ old.body)
+  AnswersTo (Writes method path) asking old r new = Performs (order method path asking.head.headers) asking old r new
+
+  -- Nothing is left open, and nothing changed, unless the request writes; there is a store where there was one.
+  abbrev pub Stays : Asking C → Option S → Option S → Type 0
+  Stays asking None None = Unit {0}
+  Stays asking None (Some t) = ⊥
+  Stays asking (Some s) None = ⊥
+  Stays asking (Some s) (Some t) = KeepsUnless (asks_to_write asking.head) (served.view.state s) (served.view.state t) × (served.view.loan t ≡ served.view.loan s)
 
   -- the disk of a store met a fault
   abbrev pub RoseIn : Option S → Option S → Type 0
@@ -149,18 +179,22 @@ module _ {S C F L E : Type 0} (served : Served S C F L E) where
   RoseIn (Some s) None = ⊥
   RoseIn (Some s) (Some t) = Rose (served.view.state s).faults (served.view.state t).faults
 
-  -- Why a request is answered 500. The gates refuse it so where its reader met a fault.
+  -- Why a request is answered 500. The gates refuse it so where its reader met a fault, and so does a method that reads it.
   abbrev pub FailsFor : Target → Asking C → Sides S → Sides S → Type 0
   FailsFor (Refused status close) asking old new = Rose old.body.faults new.body.faults
   FailsFor Methods asking old new = ⊥
   FailsFor (At method path) asking old new = FailsOver served.view served.lists (query asking.settings asking.head.headers method path) asking.credentials
       (λ s. served.with_now s asking.now) old.store new.store
+  FailsFor (Writes method path) asking old new = Rose old.body.faults new.body.faults
+      ⊎ RefusedIn served.view served.lists served.writes asking.credentials (λ s. served.with_now s asking.now) old.store new.store
 
   -- A request was answered.
   pub record Handles (asking : Asking C) (old : Sides S) (r : Responded F) (new : Sides S) : Type 0 where
     pub target : Target
-    pub asks : IsTarget asking (is_stored served.void old.store) old.body target new.body
-    pub answers : AnswersTo target asking old.store r new.store
+    -- the reader behind the gates
+    pub between : BodyState
+    pub asks : IsTarget asking (is_stored served.void old.store) old.body target between
+    pub answers : AnswersTo target asking (record old { body = between }) r new
     -- it is answered 500 only for a cause
     pub failed : (head_of r).status ≡ 500 → FailsFor target asking old new
 

@@ -10,19 +10,21 @@ ghost use Rattle.dav_model.specs.Head.{refusal as the_refusal};
 ghost use Rattle.dav_body.specs.declared.body.BodyType.TheVariants.{Empty};
 ghost use Rattle.dav_get.specs.Bodies.{Closes, IsHeld};
 ghost use Rattle.dav_config.specs.Asked.{asking_of};
-ghost use Rattle.dav_config.specs.Handling.{AnswersTo, GivesOver, IsAt, SetsMoment, Stays, is_stored as the_is_stored, the_served};
+ghost use Rattle.dav_config.specs.Handling.{AnswersTo, GivesOver, IsAt, IsWritten, SetsMoment, Stays, is_stored as the_is_stored, the_served};
 ghost use Rattle.dav_config.specs.Responses.{Gave, IsBare, SaysHead, inner_of};
+ghost use Rattle.dav_config.specs.Writing.{asks_to_write};
 
 use crate::asked::Asked;
 use crate::refusals::{refused, refused_by};
 use crate::respond::head_said;
+use crate::writing::write_over;
 use dav_body::{AsyncStream, Body};
 use dav_core::{DavError, DavMethod, DavMethodSet, DavPath};
 use dav_get::{GetBody, handle_get};
 use dav_io::NoMemory;
 use dav_methods::options;
 use dav_model::{Outcome, Settings, Target};
-use dav_store::GuardedFileSystem;
+use dav_store::{BodyReader, GuardedFileSystem};
 use http::{HeaderMap, Response};
 use std::alloc::Global;
 
@@ -39,8 +41,8 @@ pub fn is_stored<S: GuardedFileSystem<C>, C>(store: &Option<S>) -> bool
     }
 }
 
-// A response without a body.
-fn bare<S>(alloc: Global, outcome: Outcome) -> Result<Response<Body<S>>, NoMemory>
+/// A response without a body.
+pub fn bare<S>(alloc: Global, outcome: Outcome) -> Result<Response<Body<S>>, NoMemory>
     ensures head { IfOk result (λ r. SaysHead outcome.status outcome.fields (response_head r)) }
     ensures body { IfOk result (λ r. inner_of r ≡ Empty) }
 {
@@ -61,8 +63,8 @@ pub fn refusal<S>(
     bare(alloc, outcome)
 }
 
-// What an error is answered with.
-fn refuse<S>(
+/// What an error is answered with. Want of memory is no answer.
+pub fn refuse<S>(
     alloc: Global,
     fields: &HeaderMap,
     error: DavError,
@@ -138,26 +140,35 @@ fn get<S: GuardedFileSystem<C>, C>(
 }
 
 /// What is answered to what is asked for.
-pub fn answer<S: GuardedFileSystem<C>, C>(
+pub fn answer<S: GuardedFileSystem<C>, C, B: BodyReader>(
     alloc: Global,
     asked: &Asked<'_, C>,
     store: &mut Option<S>,
+    body: &mut B,
     target: &Target,
 ) -> Answered<S::File>
     requires admits { IfSome store.old S.admits }
     requires stored { IsAt target.now → IsSome store.old }
+    requires writes { IsWritten target.now (head_of asked.entry.now.head.now) }
     ensures done { IfOk result (λ r. AnswersTo
         (the_served S.GuardedFileSystem S.Disk.Disk S.File.DavFile S.Entry.DavDirEntry)
-        target.now (asking_of asked.entry.now) store.old r store.new) }
+        target.now (asking_of asked.entry.now) (record { store = store.old; body = B.state body.old }) r
+        (record { store = store.new; body = B.state body.new })) }
     ensures memory { OnErr result (Stays
-        (the_served S.GuardedFileSystem S.Disk.Disk S.File.DavFile S.Entry.DavDirEntry) store.old store.new) }
-    ensures admits { IfSome store.new S.admits }
+        (the_served S.GuardedFileSystem S.Disk.Disk S.File.DavFile S.Entry.DavDirEntry) (asking_of asked.entry.now)
+        store.old store.new) }
+    ensures admits { asks_to_write (head_of asked.entry.now.head.now) ≡ false → IfSome store.new S.admits }
+    ensures body_loan { B.loan body.new ≡ B.loan body.old }
 {
     match target {
         Target::Refused { status, close } => refusal(alloc, asked.head.headers(), *status, *close),
         Target::Methods => methods(alloc, asked.settings.allow, !is_stored(store)),
         Target::At { method, path } => match store {
             Some(fs) => answer_over(alloc, asked, fs, *method, path),
+            None => unreachable!("without a store nothing passes the gates"),
+        },
+        Target::Writes { method, path } => match store {
+            Some(fs) => write_over(alloc, asked, fs, *method, path, body),
             None => unreachable!("without a store nothing passes the gates"),
         },
     }

@@ -1,5 +1,5 @@
 // The gates: what a request asks for, before the store is asked.
-ghost use Rattle.std.specs.Prelude.{◌≡◌, IfOk, codes, true, false};
+ghost use Rattle.std.specs.Prelude.{◌≡◌, ◌||◌, IfOk, codes, true, false};
 ghost use Rattle.std.specs.List.{list_any};
 ghost use Rattle.http_header.specs.HeaderMap.{keys};
 ghost use Rattle.http.specs.Request.{head_of};
@@ -8,7 +8,7 @@ ghost use Rattle.dav_core.specs.Grammar.{parsed};
 ghost use Rattle.dav_core.specs.Methods.{same_method};
 ghost use Rattle.dav_core.specs.declared.method.DavMethod.TheVariants.{Options};
 ghost use Rattle.dav_core.specs.Statuses.{path_status as the_path_status};
-ghost use Rattle.dav_model.specs.Conditions.{reads as the_reads};
+ghost use Rattle.dav_model.specs.Conditions.{reads as the_reads, writes as the_writes};
 ghost use Rattle.dav_model.specs.Gates.{admitted as the_admitted, asked as the_asked, has_field as the_has_field, in_allowed, is_allowed as the_is_allowed, is_built as the_is_built, of_body as the_of_body, takes_much as the_takes_much, takes_some as the_takes_some, weighed as the_weighed, with_path as the_with_path};
 ghost use Rattle.dav_model.specs.declared.target.Target.TheVariants.{Refused};
 ghost use Rattle.dav_config.specs.Names.{is_short as the_is_short};
@@ -53,7 +53,7 @@ fn has_if(fields: &HeaderMap) -> bool
     fields.get("if").is_some()
 }
 
-// Whether a method reads. OPTIONS is built beside, and no other.
+// Whether a method reads.
 fn reads(method: DavMethod) -> bool
     ensures { result ≡ the_reads method }
 {
@@ -63,18 +63,42 @@ fn reads(method: DavMethod) -> bool
     }
 }
 
+/// Whether a method writes. Of those that do these are built.
+pub fn writes(method: DavMethod) -> bool
+    ensures { result ≡ the_writes method }
+{
+    match method {
+        DavMethod::Put
+        | DavMethod::MkCol
+        | DavMethod::MkCalendar
+        | DavMethod::MkAddressbook
+        | DavMethod::Delete => true,
+        _ => false,
+    }
+}
+
+// Whether a method is built: those that read, those that write, and OPTIONS.
+fn is_method_built(method: DavMethod) -> bool
+    ensures { result ≡ (the_reads method || (the_writes method || same_method method Options)) }
+{
+    if reads(method) || writes(method) {
+        return true;
+    }
+    method == DavMethod::Options
+}
+
 // Whether the form of a request is built.
 fn is_built(fields: &HeaderMap, method: DavMethod) -> bool
     ensures { result ≡ the_is_built fields.now method }
 {
-    if !reads(method) && method != DavMethod::Options {
+    if !is_method_built(method) {
         return false;
     }
     !has_if(fields)
 }
 
-// Whether a method stores a body of any length.
-fn takes_much(method: DavMethod) -> bool
+/// Whether a method stores a body of any length.
+pub fn takes_much(method: DavMethod) -> bool
     ensures { result ≡ the_takes_much method }
 {
     matches!(method, DavMethod::Put | DavMethod::Patch)
@@ -190,6 +214,9 @@ fn asked(method: DavMethod, path: DavPath) -> Target
     if method == DavMethod::Options {
         return Target::Methods;
     }
+    if writes(method) {
+        return Target::Writes { method, path };
+    }
     Target::At { method, path }
 }
 
@@ -200,6 +227,7 @@ pub fn weighed(fields: &HeaderMap, bulk: BodyBulk, target: Target) -> Target
     match target {
         Target::Refused { status, close } => refused(status, close),
         Target::Methods => Target::Methods,
+        Target::Writes { method, path } => Target::Writes { method, path },
         Target::At { method, path } => {
             if let Some(refusal) = of_body(method, bulk) {
                 return refusal;

@@ -112,7 +112,8 @@ pub fn handle_given<S: GuardedFileSystem<C> + Drop, C, B: BodyReader + Drop>(
         (the_served S.GuardedFileSystem S.Disk.Disk S.File.DavFile S.Entry.DavDirEntry) S.Disk.state S.Disk.loan S.inside
         B.BodyReader (asking settings.now (head_of req) credentials.now now) store (body_of req) r) }
     ensures memory { OnErr result (Ends
-        (the_served S.GuardedFileSystem S.Disk.Disk S.File.DavFile S.Entry.DavDirEntry) store) }
+        (the_served S.GuardedFileSystem S.Disk.Disk S.File.DavFile S.Entry.DavDirEntry)
+        (asking settings.now (head_of req) credentials.now now) store) }
 {
     let mut given = Some(store);
     match handle_by(alloc, settings, &mut given, credentials, req, now) {

@@ -1,4 +1,4 @@
-ghost use Rattle.std.specs.Prelude.{◌≡◌, IfOk, IfSome, None, OnErr, Some};
+ghost use Rattle.std.specs.Prelude.{◌≡◌, IfOk, IfSome, None, OnErr, Some, false};
 ghost use Rattle.std.specs.Option.{option_copied_mut};
 ghost use Rattle.std.specs.Borrow.{sem};
 ghost use Rattle.http.specs.Request.{body_of, head_of};
@@ -9,6 +9,7 @@ ghost use Rattle.dav_config.specs.Given.{HandlesWith, StaysWith};
 ghost use Rattle.dav_config.specs.Handling.{HandlesAll, Stays, asking, the_served};
 ghost use Rattle.dav_config.specs.Merging.{merged as the_merged};
 ghost use Rattle.dav_config.specs.Responses.{inner_of};
+ghost use Rattle.dav_config.specs.Writing.{asks_to_write};
 
 use crate::answering::Answered;
 use crate::config::DavConfig;
@@ -93,9 +94,10 @@ impl<S: GuardedFileSystem<C>, C> DavHandler<S, C> {
         ensures may { IfOk result (λ r. IfSome self.new.store (λ s. MayPoll
             (λ b d. IsHeld S.File.handle S.File.seen (S.Disk.state d) b) (inner_of r) (S.inside s))) }
         ensures memory { OnErr result (Stays
-            (the_served S.GuardedFileSystem S.Disk.Disk S.File.DavFile S.Entry.DavDirEntry) self.old.store
-            self.new.store) }
-        ensures admits { IfSome self.new.store S.admits }
+            (the_served S.GuardedFileSystem S.Disk.Disk S.File.DavFile S.Entry.DavDirEntry)
+            (asking (record self.old.settings { principal = Some principal.now }) (head_of req) credentials now)
+            self.old.store self.new.store) }
+        ensures admits { asks_to_write (head_of req) ≡ false → IfSome self.new.store S.admits }
         ensures settings { self.new.settings ≡ self.old.settings }
     {
         match with_principal(self.alloc, &self.settings, principal) {
@@ -136,9 +138,10 @@ impl<S: GuardedFileSystem<()>> DavHandler<S, ()> {
         ensures may { IfOk result (λ r. IfSome self.new.store (λ s. MayPoll
             (λ b d. IsHeld S.File.handle S.File.seen (S.Disk.state d) b) (inner_of r) (S.inside s))) }
         ensures memory { OnErr result (Stays
-            (the_served S.GuardedFileSystem S.Disk.Disk S.File.DavFile S.Entry.DavDirEntry) self.old.store
-            self.new.store) }
-        ensures admits { IfSome self.new.store S.admits }
+            (the_served S.GuardedFileSystem S.Disk.Disk S.File.DavFile S.Entry.DavDirEntry)
+            (asking self.old.settings (head_of req) tt now)
+            self.old.store self.new.store) }
+        ensures admits { asks_to_write (head_of req) ≡ false → IfSome self.new.store S.admits }
         ensures settings { self.new.settings ≡ self.old.settings }
     {
         handle_by(self.alloc, &self.settings, &mut self.store, &(), req, now)
@@ -157,9 +160,10 @@ impl<S: GuardedFileSystem<()>> DavHandler<S, ()> {
         ensures may { IfOk result (λ r. IfSome self.new.store (λ s. MayPoll
             (λ b d. IsHeld S.File.handle S.File.seen (S.Disk.state d) b) (inner_of r) (S.inside s))) }
         ensures memory { OnErr result (Stays
-            (the_served S.GuardedFileSystem S.Disk.Disk S.File.DavFile S.Entry.DavDirEntry) self.old.store
-            self.new.store) }
-        ensures admits { IfSome self.new.store S.admits }
+            (the_served S.GuardedFileSystem S.Disk.Disk S.File.DavFile S.Entry.DavDirEntry)
+            (asking self.old.settings (head_of req) tt now)
+            self.old.store self.new.store) }
+        ensures admits { asks_to_write (head_of req) ≡ false → IfSome self.new.store S.admits }
         ensures settings { self.new.settings ≡ self.old.settings }
     {
         let (head, stream) = req.into_parts();
@@ -191,9 +195,10 @@ impl<S: GuardedFileSystem<()>> DavHandler<S, ()> {
         ensures may { IfOk result (λ r. IfSome self.new.store (λ s. MayPoll
             (λ b d. IsHeld S.File.handle S.File.seen (S.Disk.state d) b) (inner_of r) (S.inside s))) }
         ensures memory { OnErr result (StaysWith
-            (the_served S.GuardedFileSystem S.Disk.Disk S.File.DavFile S.Entry.DavDirEntry) config.store
-            self.old.store self.new.store) }
-        ensures admits { IfSome self.new.store S.admits }
+            (the_served S.GuardedFileSystem S.Disk.Disk S.File.DavFile S.Entry.DavDirEntry)
+            (asking (the_merged self.old.settings config.settings) (head_of req) tt now)
+            config.store self.old.store self.new.store) }
+        ensures admits { asks_to_write (head_of req) ≡ false → IfSome self.new.store S.admits }
         ensures settings { self.new.settings ≡ self.old.settings }
     {
         let DavConfig {
@@ -231,9 +236,10 @@ impl<S: GuardedFileSystem<()>> DavHandler<S, ()> {
         ensures may { IfOk result (λ r. IfSome self.new.store (λ s. MayPoll
             (λ b d. IsHeld S.File.handle S.File.seen (S.Disk.state d) b) (inner_of r) (S.inside s))) }
         ensures memory { OnErr result (StaysWith
-            (the_served S.GuardedFileSystem S.Disk.Disk S.File.DavFile S.Entry.DavDirEntry) config.store
-            self.old.store self.new.store) }
-        ensures admits { IfSome self.new.store S.admits }
+            (the_served S.GuardedFileSystem S.Disk.Disk S.File.DavFile S.Entry.DavDirEntry)
+            (asking (the_merged self.old.settings config.settings) (head_of req) tt now)
+            config.store self.old.store self.new.store) }
+        ensures admits { asks_to_write (head_of req) ≡ false → IfSome self.new.store S.admits }
         ensures settings { self.new.settings ≡ self.old.settings }
     {
         let (head, stream) = req.into_parts();

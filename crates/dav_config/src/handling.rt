@@ -1,7 +1,10 @@
 // A request over a store: its gates, its body, and its answer.
-ghost use Rattle.std.specs.Prelude.{◌≡◌, IfOk, IfSome, OnErr};
+ghost use Rattle.std.specs.Prelude.{◌≡◌, IfOk, IfSome, OnErr, false};
 ghost use Rattle.dav_config.specs.Asked.{asking_of};
-ghost use Rattle.dav_config.specs.Handling.{Handles, HandlesAll, IsTarget, Stays, asking, the_served};
+ghost use Rattle.dav_config.specs.Handling.{Handles, HandlesAll, IsTarget, ReadsUnless, Stays, asking, the_served};
+ghost use Rattle.dav_config.specs.Reading.{seen_as};
+ghost use Rattle.dav_config.specs.Writing.{asks_to_write};
+ghost use Rattle.dav_model.specs.Gates.{takes_much as the_takes_much};
 ghost use Rattle.dav_config.specs.Responses.{inner_of};
 ghost use Rattle.dav_body.specs.Bodies.{MayPoll};
 ghost use Rattle.dav_get.specs.Bodies.{IsHeld};
@@ -9,13 +12,25 @@ ghost use Rattle.http.specs.Request.{body_of, head_of};
 
 use crate::answering::{Answered, answer, is_stored};
 use crate::asked::Asked;
-use crate::bulk::read_bulk;
-use crate::gates::{admitted, weighed};
+use crate::bulk::{BodyBulk, read_bulk};
+use crate::gates::{admitted, takes_much, weighed};
+use dav_core::DavMethod;
 use dav_io::{Moment, NoMemory};
 use dav_model::{Settings, Target};
 use dav_store::{BodyReader, GuardedFileSystem};
 use http::Request;
 use std::alloc::Global;
+
+// What the gates see of a body: nothing where its method reads it.
+fn bulk_behind<B: BodyReader>(method: DavMethod, body: &mut B) -> BodyBulk
+    ensures reads { ReadsUnless (the_takes_much method) (B.state body.old) (seen_as result) (B.state body.new) }
+    ensures loan { B.loan body.new ≡ B.loan body.old }
+{
+    if takes_much(method) {
+        return BodyBulk::Nothing;
+    }
+    read_bulk(body)
+}
 
 // What a request asks for. Its body is read where the gates of its head let it pass.
 fn target<B: BodyReader, C>(
@@ -30,10 +45,11 @@ fn target<B: BodyReader, C>(
 {
     match admitted(alloc, asked.settings, stored, asked.head) {
         Ok(Target::At { method, path }) => {
-            let bulk = read_bulk(body);
+            let bulk = bulk_behind(method, body);
             Ok(weighed(asked.head.headers(), bulk, Target::At { method, path }))
         }
         Ok(Target::Methods) => Ok(Target::Methods),
+        Ok(Target::Writes { method, path }) => Ok(Target::Writes { method, path }),
         Ok(Target::Refused { status, close }) => Ok(Target::Refused { status, close }),
         Err(error) => Err(error),
     }
@@ -52,13 +68,14 @@ pub fn handle_over<S: GuardedFileSystem<C>, C, B: BodyReader>(
         (record { store = store.old; body = B.state body.old }) r
         (record { store = store.new; body = B.state body.new })) }
     ensures memory { OnErr result (Stays
-        (the_served S.GuardedFileSystem S.Disk.Disk S.File.DavFile S.Entry.DavDirEntry) store.old store.new) }
-    ensures admits { IfSome store.new S.admits }
+        (the_served S.GuardedFileSystem S.Disk.Disk S.File.DavFile S.Entry.DavDirEntry) (asking_of asked.entry.now)
+        store.old store.new) }
+    ensures admits { asks_to_write (head_of asked.entry.now.head.now) ≡ false → IfSome store.new S.admits }
     ensures loan { B.loan body.new ≡ B.loan body.old }
 {
     let stored = is_stored(store);
     match target(alloc, asked, stored, body) {
-        Ok(target) => answer(alloc, asked, store, &target),
+        Ok(target) => answer(alloc, asked, store, body, &target),
         Err(error) => Err(error),
     }
 }
@@ -79,8 +96,9 @@ pub fn handle_by<S: GuardedFileSystem<C>, C, B: BodyReader + Drop>(
     ensures may { IfOk result (λ r. IfSome store.new (λ s. MayPoll
         (λ b d. IsHeld S.File.handle S.File.seen (S.Disk.state d) b) (inner_of r) (S.inside s))) }
     ensures memory { OnErr result (Stays
-        (the_served S.GuardedFileSystem S.Disk.Disk S.File.DavFile S.Entry.DavDirEntry) store.old store.new) }
-    ensures admits { IfSome store.new S.admits }
+        (the_served S.GuardedFileSystem S.Disk.Disk S.File.DavFile S.Entry.DavDirEntry)
+        (asking settings.now (head_of req) credentials.now now) store.old store.new) }
+    ensures admits { asks_to_write (head_of req) ≡ false → IfSome store.new S.admits }
 {
     let (parts, reader) = req.into_parts();
     let mut body = reader;

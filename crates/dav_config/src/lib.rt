@@ -13,6 +13,7 @@ pub mod laws;
 mod merging;
 mod refusals;
 mod respond;
+mod writing;
 
 pub use answering::Answered;
 pub use bulk::{BodyBulk, bulk_of};

@@ -18,7 +18,6 @@ use Rattle.dav_core.specs.Path.{Names}
 use Rattle.dav_core.specs.Tree.{is_linked}
 use Rattle.dav_core.specs.Unchanged.{Keeps}
 use Rattle.dav_core.specs.World.{World, IsWorld}
-use Rattle.dav_core.proofs.UnchangedLemmas.{keeps_same}
 use Rattle.dav_model.specs.declared.outcome.Outcome.{Outcome}
 use Rattle.dav_model.specs.declared.settings.Settings.{Settings}
 use Rattle.dav_model.specs.declared.target.Target.TheVariants.{At, Methods, Refused}
@@ -32,6 +31,9 @@ use Rattle.dav_model.specs.Head.{Reply, is_set, is_well_known, refusal}
 use Rattle.dav_model.specs.Play.{Reads}
 use Rattle.dav_model.specs.Rules.{nothing_known, plain_rules}
 use Rattle.dav_model.specs.Sizes.{read_size_of}
+use Rattle.dav_model.specs.Trail.{Leaves}
+use Rattle.dav_model.proofs.JoiningLemmas.{leaves_same}
+use Rattle.dav_methods.proofs.KeptOpen.{open_kept, open_same}
 use Rattle.dav_io.specs.Counts.{Rose}
 use Rattle.dav_store.specs.Shows.{Shows}
 use Rattle.dav_store.specs.Standing.{Seen, Standing}
@@ -55,7 +57,7 @@ use Rattle.dav_get.specs.Table.{Given}
 use Rattle.dav_get.specs.Told.{IsRightFor, ShowsFor, number_for, shown_as, stood_of}
 use Rattle.dav_get.proofs.HeardCouldStand.{heard_there}
 use Rattle.dav_handler.specs.declared.found.Found.{Found}
-use Rattle.dav_handler.specs.Found.{Answers, Finds, Gives, HoldsOnly, IsAlone, IsRefusedBy, reply_of}
+use Rattle.dav_handler.specs.Found.{Answers, Finds, Gives, HoldsOnly, IsAlone, IsRefusedBy, Said, reply_of}
 use Rattle.dav_handler.specs.Held.{Body, IsOpen, handle_of, number_in, number_seen, parts_in}
 use Rattle.dav_handler.proofs.Frames.{no_slices, texts_any}
 use Rattle.dav_handler.proofs.HeardShown.{heard_rightly, refuses_few}
@@ -71,22 +73,24 @@ reply_told : (t : DiskState) (allow : Option DavMethodSet) (found : Found) → I
 reply_told t allow found is = rw (is.status, is.fields, is.body) refl
 
 -- OPTIONS asks nothing.
-pub methods_answers : (settings : Settings) (s : DiskState) (fields : Fields) (result : Result Found NoMemory) → IfOk result (IsAlone (allowing settings.allow false))
-    → Finds settings s fields Methods result s
-methods_answers settings s fields (Err x) is = (keeps_same s, refl)
-methods_answers settings s fields (Ok found) is = record {
-  holds = subst (λ b. HoldsOnly (read_size_of settings.read_buf_size) s b s) (sym is.body) (keeps_same s);
+pub methods_answers : (settings : Settings) (s : DiskState) (said : Said) (result : Result Found NoMemory) → IfOk result (IsAlone (allowing settings.allow false))
+    → Finds settings s said Methods result s
+methods_answers settings s said (Err x) is = (open_same s, (leaves_same s, refl))
+methods_answers settings s said (Ok found) is = record {
+  holds = subst (λ b. HoldsOnly (read_size_of settings.read_buf_size) s b s) (sym is.body) (open_same s);
+  makes = leaves_same s;
   right = reply_told s settings.allow found is;
   asks = refl;
 }
 
 -- What the gates refuse.
-pub gate_answers : (settings : Settings) (s : DiskState) (fields : Fields) (status : ℕ) (close : Bool) (result : Result Found NoMemory) → IfOk result (IsAlone (refusal fields status close))
-    → Finds settings s fields (Refused status close) result s
-gate_answers settings s fields status close (Err x) is = (keeps_same s, refl)
-gate_answers settings s fields status close (Ok found) is = record {
-  holds = subst (λ b. HoldsOnly (read_size_of settings.read_buf_size) s b s) (sym is.body) (keeps_same s);
-  right = reply_refused s fields status close found is;
+pub gate_answers : (settings : Settings) (s : DiskState) (said : Said) (status : ℕ) (close : Bool) (result : Result Found NoMemory) → IfOk result (IsAlone (refusal said.fields status close))
+    → Finds settings s said (Refused status close) result s
+gate_answers settings s said status close (Err x) is = (open_same s, (leaves_same s, refl))
+gate_answers settings s said status close (Ok found) is = record {
+  holds = subst (λ b. HoldsOnly (read_size_of settings.read_buf_size) s b s) (sym is.body) (open_same s);
+  makes = leaves_same s;
+  right = reply_refused s said.fields status close found is;
   asks = refl;
 }
 
@@ -219,7 +223,8 @@ module _ {S C : Type 0} (view : View S C PlainFile) (lists : Listings S C PlainD
   -- what is open for the answer
   holds_given : (most : ℕ) (r : Outcome × Body) (given : Option Body) → Gives (view.state m) r.1 given (view.state m) → IsHeld handle_of seen_by (view.state m) r.1
       → OpensOnly handle_of (view.state s) r.1.file (view.state m) → HasMost most (Ok r) → TellsLive (view.state m) → HoldsOnly most (view.state s) given (view.state m)
-  holds_given most r None (same, none, file) held opens size tells = subst (λ f. OpensOnly handle_of (view.state s) f (view.state m)) file opens
+  holds_given most r None (same, none, file) held opens size tells =
+      open_kept (view.state s) (view.state m) (subst (λ f. OpensOnly handle_of (view.state s) f (view.state m)) file opens)
   holds_given most r (Some b) (same, is) held opens size tells =
       subst (λ (x : Body). OpensOnly handle_of (view.state s) x.file (view.state m) × IsOpen most (view.state m) x) (sym is)
       (opens, record { held = held; size = size; told = body_told (view.state s) (view.state m) r.1.file tells opens })
@@ -239,19 +244,25 @@ pub given_heard : {X : Type 0} (r : Outcome × Body) → (◌≡◌ {A = Given P
 given_heard r (inr x) = x
 given_heard r (inl none) = let no : Ok r ≡ Err OutOfMemory = none in cc
 
+-- A file that was opened to be read leaves the tree and the bytes.
+opens_world : (s t : DiskState) (file : Option (OpenAt PlainFile)) → OpensOnly handle_of s file t → Leaves s t
+opens_world s t None keeps = keeps.world
+opens_world s t (Some h) opens = opens.0.world
+
 -- An answer with a status and fields, and a body or none.
-pub given_answers : {S C : Type 0} (view : View S C PlainFile) (lists : Listings S C PlainDir PlainEntry) (plain : IsPlain view) (lists_plain : ListsPlain view lists) (settings : Settings) (s m : S) (c : C) (method : DavMethod) (path : WebPath) (fields : Fields)
+pub given_answers : {S C : Type 0} (view : View S C PlainFile) (lists : Listings S C PlainDir PlainEntry) (plain : IsPlain view) (lists_plain : ListsPlain view lists) (settings : Settings) (s m : S) (c : C) (method : DavMethod) (path : WebPath) (fields : Fields) (body : List ℕ)
     → ((w : World) → (view.state s).told ≡ Some w → IsWorld w) → TellsLive (view.state m) → (r : Outcome × Body) (t : DiskState) (found : Found)
     → Heard view lists (query settings fields method path) c s (Ok r) m
     → ((looked opened : WebPath → Result Standing FsError) (listed : WebPath → Result (List Member) FsError) → ShowsFor view lists s c (query settings fields method path) looked opened listed
     → IsRightFor view (query settings fields method path) looked opened listed s (Ok r) m)
     → (AsksByOne view lists → (◌≡◌ {A = Given PlainFile} (Ok r) (Err OutOfMemory)) ⊎ AsksUnlessKnown (is_well_known settings method path) (is_set settings.redirect) r.0.status r.0.fields (view.state s).asked (view.state m).asked)
     → IsHeld handle_of seen_by (view.state m) r.1 → OpensOnly handle_of (view.state s) r.1.file (view.state m) → HasMost (read_size_of settings.read_buf_size) (Ok r)
-    → found.outcome ≡ r.0 → Gives (view.state m) r.1 found.body t → Answers settings (view.state s) fields (At method path) found t
-given_answers view lists plain lists_plain settings s m c method path fields worlds tells r t found hears right asks held opens size outcome gives =
+    → found.outcome ≡ r.0 → Gives (view.state m) r.1 found.body t → Answers settings (view.state s) (record { fields = fields; body = body }) (At method path) found t
+given_answers view lists plain lists_plain settings s m c method path fields body worlds tells r t found hears right asks held opens size outcome gives =
     let same = given_state (view.state m) t r.1 found.body gives in
     let gives' : Gives (view.state m) r.1 found.body (view.state m) = subst (Gives (view.state m) r.1 found.body) same gives in
-    subst (λ x. Answers settings (view.state s) fields (At method path) found x) (sym same) (record {
+    subst (λ x. Answers settings (view.state s) (record { fields = fields; body = body }) (At method path) found x) (sym same) (record {
+      makes = opens_world (view.state s) (view.state m) r.1.file opens;
       holds = holds_given view lists plain lists_plain (query settings fields method path) c s m (read_size_of settings.read_buf_size) r found.body gives' held opens size tells;
       right = reads_of view lists plain lists_plain (query settings fields method path) c s m worlds (Ok r) (reply_of (view.state m) found) hears right
           (same_given view lists plain lists_plain (query settings fields method path) c s m r found outcome gives' held);
@@ -260,18 +271,21 @@ given_answers view lists plain lists_plain settings s m c method path fields wor
     })
 
 -- An answer that is a refusal.
-pub refused_answers : {S C : Type 0} (view : View S C PlainFile) (lists : Listings S C PlainDir PlainEntry) (plain : IsPlain view) (lists_plain : ListsPlain view lists) (settings : Settings) (s m : S) (c : C) (method : DavMethod) (path : WebPath) (fields : Fields)
+pub refused_answers : {S C : Type 0} (view : View S C PlainFile) (lists : Listings S C PlainDir PlainEntry) (plain : IsPlain view) (lists_plain : ListsPlain view lists) (settings : Settings) (s m : S) (c : C) (method : DavMethod) (path : WebPath) (fields : Fields) (body : List ℕ)
     → ((w : World) → (view.state s).told ≡ Some w → IsWorld w) → (e : DavError) (result : Result Found NoMemory)
     → (◌≡◌ {A = Given PlainFile} (Err e) (Err OutOfMemory)) ⊎ Heard view lists (query settings fields method path) c s (Err e) m → Keeps (view.state s) (view.state m)
     → ((looked opened : WebPath → Result Standing FsError) (listed : WebPath → Result (List Member) FsError) → ShowsFor view lists s c (query settings fields method path) looked opened listed
     → (◌≡◌ {A = Given PlainFile} (Err e) (Err OutOfMemory)) ⊎ IsRightFor view (query settings fields method path) looked opened listed s (Err e) m)
     → (AsksByOne view lists → (◌≡◌ {A = Given PlainFile} (Err e) (Err OutOfMemory)) ⊎ AsksUnlessKnown (is_well_known settings method path) (is_set settings.redirect) (status_of e) (refusal fields (status_of e) (closes e)).fields (view.state s).asked (view.state m).asked)
-    → IfOk result (IsRefusedBy fields e) → Finds settings (view.state s) fields (At method path) result (view.state m)
-refused_answers view lists plain lists_plain settings s m c method path fields worlds e (Err x) hears keeps right asks is = (keeps, tt)
-refused_answers view lists plain lists_plain settings s m c method path fields worlds e (Ok found) hears keeps right asks is =
+    → IfOk result (IsRefusedBy fields e) → Finds settings (view.state s) (record { fields = fields; body = body }) (At method path) result (view.state m)
+refused_answers view lists plain lists_plain settings s m c method path fields body worlds e (Err x) hears keeps right asks is =
+    (open_kept (view.state s) (view.state m) keeps, (keeps.world, tt))
+refused_answers view lists plain lists_plain settings s m c method path fields body worlds e (Ok found) hears keeps right asks is =
     let same : refusal fields (status_of e) (closes e) ≡ reply_of (view.state m) found = sym (reply_refused (view.state m) fields (status_of e) (closes e) found is.refused) in
     record {
-      holds = subst (λ b. HoldsOnly (read_size_of settings.read_buf_size) (view.state s) b (view.state m)) (sym is.refused.body) keeps;
+      holds = subst (λ b. HoldsOnly (read_size_of settings.read_buf_size) (view.state s) b (view.state m)) (sym is.refused.body)
+          (open_kept (view.state s) (view.state m) keeps);
+      makes = keeps.world;
       right = reads_of view lists plain lists_plain (query settings fields method path) c s m worlds (Err e) (reply_of (view.state m) found) (had hears)
           (λ looked opened listed shows. had (right looked opened listed shows)) (λ number file. same);
       asks = λ folds macos. subst (λ n. AsksUnlessKnown (is_well_known settings method path) (is_set settings.redirect) n found.outcome.fields (view.state s).asked (view.state m).asked)

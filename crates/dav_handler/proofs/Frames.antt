@@ -10,10 +10,11 @@ use Rattle.dav_core.specs.declared.tree.Kind.{Kind}
 use Rattle.dav_core.specs.World.{World, OpenFile, number_of}
 use Rattle.dav_core.proofs.TurnsLeaveOpens.{turned_opens}
 use Rattle.dav_core.specs.Disk.{DiskState, Live, Turns, TurnedIn, can_read}
-use Rattle.dav_core.specs.Unchanged.{Keeps, KeepsBut, SameOpen}
+use Rattle.dav_core.specs.Unchanged.{KeepsBut, SameOpen}
 use Rattle.dav_model.specs.Bodies.{NoneEmpty, text}
 use Rattle.dav_model.specs.Play.{HasOpen, has_slice}
 use Rattle.dav_store.specs.Files.{LeavesOpen, SameSeen}
+use Rattle.dav_store.specs.Frames.{KeepsOpen}
 use Rattle.dav_store.specs.Standing.{Seen}
 use Rattle.dav_plain.specs.declared.file.PlainFile.{PlainFile}
 use Rattle.dav_plain.specs.Calls.{seen_by}
@@ -31,7 +32,7 @@ live_is : (o : Option Live) → can_read o ≡ true → (l : Live) × (o ≡ Som
 live_is None e = cc
 live_is (Some l) e = (l, refl)
 
-pub keeps_leaves : (s t : DiskState) (h : ℕ) → Keeps s t → can_read (s.live h) ≡ true → LeavesOpen h s t
+pub keeps_leaves : (s t : DiskState) (h : ℕ) → KeepsOpen s t → can_read (s.live h) ≡ true → LeavesOpen h s t
 keeps_leaves s t h keeps live = let (l, is) = live_is (s.live h) live in record { opened = keeps.opens h l is; live = keeps.live h }
 
 pub but_leaves : (own : ℕ) (s t : DiskState) (h : ℕ) → KeepsBut own s t → h ≢ own → can_read (s.live h) ≡ true → LeavesOpen h s t

@@ -3,11 +3,12 @@ use Rattle.std.proofs.Common.{◌≡◌, ◌≢◌, ◌==◌, ℕ, Bool, true, f
 use mathlib.Core.Path.{fun_ext}
 use Rattle.dav_core.specs.World.{put}
 use Rattle.dav_core.specs.Disk.{DiskState, Live}
-use Rattle.dav_core.specs.Unchanged.{Keeps}
 use Rattle.dav_core.proofs.UnchangedLemmas.{equal_keys, other_keys}
 use Rattle.dav_model.specs.Play.{Lets, Takes}
 use Rattle.dav_plain.specs.declared.file.PlainFile.{PlainFile}
+use Rattle.dav_store.specs.Frames.{KeepsOpen}
 use Rattle.dav_plain.specs.Calls.{seen_by}
+use Rattle.dav_methods.proofs.KeptOpen.{open_kept}
 use Rattle.dav_get.specs.declared.open_at.OpenAt.{OpenAt}
 use Rattle.dav_get.specs.Bodies.{Closes, TouchesOwn}
 use Rattle.dav_get.specs.Lives.{OpensOnly}
@@ -30,11 +31,11 @@ same_at false own n f g e here others = others (other_keys n own e)
 same_by : (own : ℕ) (f g : ℕ → Option Live) → g own ≡ f own → ((n : ℕ) → n ≢ own → g n ≡ f n) → g ≡ f
 same_by own f g here others = fun_ext (λ n. same_at (n == own) own n f g refl here (others n))
 
-pub keeps_live : (s t : DiskState) → Keeps s t → t.live ≡ s.live
+pub keeps_live : (s t : DiskState) → KeepsOpen s t → t.live ≡ s.live
 keeps_live s t keeps = fun_ext (λ n. keeps.live n)
 
 opens_takes : (s t : DiskState) (file : Option (OpenAt PlainFile)) → OpensOnly handle_of s file t → Takes (handle_in file) s.live t.live
-opens_takes s t None keeps = keeps_live s t keeps
+opens_takes s t None keeps = keeps_live s t (open_kept s t keeps)
 opens_takes s t (Some h) (keeps, free, now) = (free, put_by (handle_of h.file) _ s.live t.live now (λ n ne. keeps.live n ne))
 
 -- what a request opens is the file of its body

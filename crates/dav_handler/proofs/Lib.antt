@@ -9,3 +9,4 @@ pub mod HeardShown
 pub mod PlainShown
 pub mod ListsRefuse
 pub mod Tables
+pub mod Changing

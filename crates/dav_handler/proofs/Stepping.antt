@@ -1,5 +1,6 @@
 -- From what a call of the player did to the clause of its step.
 use Rattle.std.proofs.Common.{◌≡◌, ◌+◌, ℕ, List, [], Option, None, Some, Result, Ok, Err, refl, sym, ap, subst, ◌∙◌, arith}
+use Rattle.http.specs.Request.{body_of}
 use Rattle.dav_io.specs.Counts.{Rose}
 use Rattle.std.specs.Prelude.{true, is_some}
 use Rattle.dav_io.specs.Told.{Both}
@@ -20,18 +21,21 @@ use Rattle.dav_model.specs.Bodies.{Polls}
 use Rattle.dav_io.specs.declared.fields.Field.{Field}
 use Rattle.dav_model.specs.Calls.{AsksAtGate, AsksToPoll, AsksToReply}
 use Rattle.dav_model.specs.declared.target.Target.{Target}
-use Rattle.dav_model.specs.declared.target.Target.TheVariants.{At, Methods, Refused}
+use Rattle.dav_model.specs.declared.target.Target.TheVariants.{At, Methods, Refused, Writes}
 use Rattle.dav_model.specs.Play.{Gets, Lets, Quiet, Stage, Stepped, has_slice}
 use Rattle.dav_model.specs.Rules.{nothing_known, plain_rules}
 use Rattle.dav_model.specs.Sizes.{read_size_of}
 use Rattle.dav_model.specs.Trail.{Goes, target_of}
-use Rattle.dav_model.proofs.JoiningLemmas.{learns_same}
+use Rattle.dav_model.specs.Written.{Makes}
+use Rattle.dav_model.proofs.JoiningLemmas.{learns_same, makes_kept}
 use Rattle.dav_plain.specs.declared.file.PlainFile.{PlainFile}
 use Rattle.dav_get.specs.declared.open_at.OpenAt.{OpenAt}
+use Rattle.dav_store.specs.Frames.{KeepsOpen}
+use Rattle.dav_methods.proofs.KeptOpen.{open_kept}
 use Rattle.dav_get.specs.Bodies.{Closes}
 use Rattle.dav_get.specs.Lives.{OpensOnly}
 use Rattle.dav_handler.specs.declared.found.Found.{Found}
-use Rattle.dav_handler.specs.Found.{Answers, HoldsOnly, reply_of}
+use Rattle.dav_handler.specs.Found.{Answers, HoldsOnly, reply_of, said_in}
 use Rattle.dav_handler.specs.Held.{Body, ClosesBody, IsPlaying, handle_of, held_by, held_in, left_in, parts_in}
 use Rattle.dav_handler.specs.Player.{plain_playing}
 use Rattle.dav_handler.proofs.Frames.{body_needs, body_over}
@@ -43,6 +47,9 @@ use Rattle.dav_handler.proofs.Polling.{stay_world}
 abbrev pub staged : Settings → DiskState → ℕ → (ℕ → Option Body) → Stage
 staged settings s replies at = record { at = s; playing = plain_playing settings replies (left_in s at) (held_in at) }
 
+open_goes : (s t : DiskState) → KeepsOpen s t → Goes s t
+open_goes s t keeps = record { faults = keeps.counts; asked = keeps.asked; whole = keeps.whole; listers = keeps.listers }
+
 keeps_goes : (s t : DiskState) → Keeps s t → Goes s t
 keeps_goes s t keeps = record { faults = keeps.counts; asked = keeps.asked; whole = keeps.whole; listers = keeps.listers }
 
@@ -53,17 +60,9 @@ opens_goes : (s t : DiskState) (file : Option (OpenAt PlainFile)) → OpensOnly 
 opens_goes s t None keeps = keeps_goes s t keeps
 opens_goes s t (Some h) opens = but_goes (handle_of h.file) s t opens.0
 
-opens_world : (s t : DiskState) (file : Option (OpenAt PlainFile)) → OpensOnly handle_of s file t → Both s.told t.told SameBesidesOpens
-opens_world s t None keeps = keeps.world
-opens_world s t (Some h) opens = opens.0.world
-
 goes_only : (most : ℕ) (s t : DiskState) (body : Option Body) → HoldsOnly most s body t → Goes s t
-goes_only most s t None keeps = keeps_goes s t keeps
+goes_only most s t None keeps = open_goes s t keeps
 goes_only most s t (Some b) holds = opens_goes s t b.file holds.0
-
-world_only : (most : ℕ) (s t : DiskState) (body : Option Body) → HoldsOnly most s body t → Both s.told t.told SameBesidesOpens
-world_only most s t None keeps = keeps.world
-world_only most s t (Some b) holds = opens_world s t b.file holds.0
 
 body_gets : (most : ℕ) (s t : DiskState) (body : Option Body) → HoldsOnly most s body t → (has_slice (parts_in t body) ≡ true → is_some (held_by body) ≡ true) × (parts_in t body ≡ [] → held_by body ≡ None)
 body_gets most s t None holds = (λ e. cc, λ e. refl)
@@ -84,14 +83,14 @@ gets_found settings s t body replies at new left held holds =
 
 -- a reply
 pub replied : (settings : Settings) (s t : DiskState) (request : Asked) (now : Moment) (found : Found) (replies : ℕ) (at new : ℕ → Option Body)
-    → Answers settings s (fields_of request) (target_of (plain_rules settings) request) found t → left_in t new ≡ put replies (parts_in t found.body) (left_in s at)
+    → Answers settings s (said_in request) (target_of (plain_rules settings) request) found t → left_in t new ≡ put replies (parts_in t found.body) (left_in s at)
     → held_in new ≡ put replies (held_by found.body) (held_in at) → IsPlaying (read_size_of settings.read_buf_size) t new (replies + 1)
     → Stepped (staged settings s replies at) (Request request now) (Ok (Replied found.outcome.status found.outcome.fields replies)) (staged settings t (replies + 1) new)
 replied settings s t request now found replies at new answers is held playing = (
   record {
     goes = goes_only (read_size_of settings.read_buf_size) s t found.body answers.holds;
-    leaves = world_only (read_size_of settings.read_buf_size) s t found.body answers.holds;
     reply = reply_of t found;
+    makes = answers.makes;
     is = refl;
     knows = nothing_known;
     learns = learns_same s.told nothing_known nothing_known refl;
@@ -123,12 +122,13 @@ pub held_joined : (at new : ℕ → Option Body) (k : ℕ) (body : Option Body) 
 held_joined at new k body o e is = ap held_in is ∙ held_put at k (Some o) ∙ ap (λ x. put k x (held_in at)) (sym (ap held_by e))
 
 -- a request that was refused memory
-pub refused : (settings : Settings) (s t : DiskState) (request : Asked) (now : Moment) (replies : ℕ) (at : ℕ → Option Body) (e : _) → Keeps s t
+pub refused : (settings : Settings) (s t : DiskState) (request : Asked) (now : Moment) (replies : ℕ) (at : ℕ → Option Body) (e : NoMemory) → KeepsOpen s t
+    → Makes (target_of (plain_rules settings) request) (plain_rules settings) (fields_of request) (body_of request) (Err e) s t
     → AsksAtGate (target_of (plain_rules settings) request) s.asked t.asked → IsPlaying (read_size_of settings.read_buf_size) s at replies
     → Stepped (staged settings s replies at) (Request request now) (Err e) (staged settings t replies at)
-refused settings s t request now replies at e keeps asks p = record {
-  goes = keeps_goes s t keeps;
-  leaves = keeps.world;
+refused settings s t request now replies at e keeps makes asks p = record {
+  goes = open_goes s t keeps;
+  makes = λ x. makes;
   knows = nothing_known;
   learns = learns_same s.told nothing_known nothing_known refl;
   live = keeps_live s t keeps;
@@ -212,7 +212,7 @@ pub turn_refused : (settings : Settings) (s t : DiskState) (at : ℕ → Option 
     → Stepped (staged settings s replies at) Turn (Err e) (staged settings t replies at)
 turn_refused settings s t at replies e p turns = record {
   goes = turns_goes s t (Err e) turns;
-  leaves = both_map s.told t.told (TurnedIn {E = NoMemory} (Err e)) SameBesidesOpens (same_world e) turns.told;
+  makes = λ x. both_map s.told t.told (TurnedIn {E = NoMemory} (Err e)) SameBesidesOpens (same_world e) turns.told;
   knows = nothing_known;
   learns = learns_same s.told nothing_known nothing_known refl;
   live = turns.live;
@@ -229,6 +229,7 @@ closed_asks m t (Some h) closes = closes.asked
 undone_asks : (settings : Settings) (target : Target) (status : ℕ) (fields : List Field) (s m t : DiskState) (c : Body) → AsksToReply target (plain_rules settings) status fields s.asked m.asked
     → Closes handle_of m c.file t → AsksAtGate target s.asked t.asked
 undone_asks settings (At method path) status fields s m t c asks closes = tt
+undone_asks settings (Writes method path) status fields s m t c asks closes = tt
 undone_asks settings Methods status fields s m t c asks closes = closed_asks m t c.file closes ∙ asks
 undone_asks settings (Refused gate close) status fields s m t c asks closes = closed_asks m t c.file closes ∙ asks
 
@@ -239,7 +240,9 @@ pub undone_steps : (status : ℕ) (fields : List Field) (settings : Settings) (s
     → Stepped (staged settings s replies at) (Request request now) (Err e) (staged settings t replies new)
 undone_steps status fields settings s m t request now replies at new body o c e p holds asks is same closes unchanged =
     subst (λ z. Stepped (staged settings s replies at) (Request request now) (Err e) (staged settings t replies z)) (sym unchanged)
-    (refused settings s t request now replies at e (held_undone (read_size_of settings.read_buf_size) s m t body o c holds is same closes)
+    (refused settings s t request now replies at e (open_kept s t (held_undone (read_size_of settings.read_buf_size) s m t body o c holds is same closes))
+    (makes_kept (target_of (plain_rules settings) request) (plain_rules settings) (fields_of request) (body_of request) e s t
+    (held_undone (read_size_of settings.read_buf_size) s m t body o c holds is same closes).world)
     (undone_asks settings (target_of (plain_rules settings) request) status fields s m t c asks closes) p)
 
 -- A purge leaves the disk as it was, and a plain store has no memory of which anything could go.

@@ -10,6 +10,8 @@ use Rattle.dav_model.specs.declared.settings.Settings.{Settings}
 use Rattle.dav_model.specs.Bodies.{NoneEmpty, Part}
 use Rattle.dav_model.specs.Play.{AreFull, HasOpen, StaysOpen}
 use Rattle.dav_store.specs.Files.{LeavesOpen}
+use Rattle.dav_store.specs.Frames.{KeepsOpen}
+use Rattle.dav_methods.proofs.KeptOpen.{open_kept}
 use Rattle.dav_plain.specs.declared.file.PlainFile.{PlainFile}
 use Rattle.dav_plain.specs.Calls.{seen_by}
 use Rattle.dav_get.specs.declared.open_at.OpenAt.{OpenAt}
@@ -112,7 +114,7 @@ module _ (most : ℕ) (s t : DiskState) (at : ℕ → Option Body) where
     earlier = earlier;
   }
 
-  pub keeps_every : (replies : ℕ) → Keeps s t → IsPlaying most s at replies → Every s t at
+  pub keeps_every : (replies : ℕ) → KeepsOpen s t → IsPlaying most s at replies → Every s t at
   keeps_every replies keeps p n b e h file = keeps_leaves s t (handle_of h.file) keeps ((p.held n b e).held.file h file).live
 
   -- a body was taken out
@@ -163,7 +165,7 @@ fresh_file s own h none live e = let f : s.live h ≡ None = ap s.live e ∙ non
     not_read (Some l) e f = cc
 
 opens_every : (most : ℕ) (s t : DiskState) (file : Option (OpenAt PlainFile)) (at : ℕ → Option Body) (replies : ℕ) → OpensOnly handle_of s file t → IsPlaying most s at replies → Every s t at
-opens_every most s t None at replies keeps p n b e h file = keeps_every most s t at replies keeps p n b e h file
+opens_every most s t None at replies keeps p n b e h file = keeps_every most s t at replies (open_kept s t keeps) p n b e h file
 opens_every most s t (Some g) at replies (keeps, none, now) p n b e h file =
     let live = ((p.held n b e).held.file h file).live in
     but_leaves (handle_of g.file) s t (handle_of h.file) keeps (fresh_file s (handle_of g.file) (handle_of h.file) none live) live
@@ -221,7 +223,7 @@ pub stays_full : (most : ℕ) (s : DiskState) (at : ℕ → Option Body) (settin
 stays_full most s at settings replies count p body = each_full most s (at body) (p.held body)
 
 -- a request that was refused memory
-pub playing_kept : (most : ℕ) (s t : DiskState) (at : ℕ → Option Body) (replies : ℕ) → Keeps s t → IsPlaying most s at replies → IsPlaying most t at replies
+pub playing_kept : (most : ℕ) (s t : DiskState) (at : ℕ → Option Body) (replies : ℕ) → KeepsOpen s t → IsPlaying most s at replies → IsPlaying most t at replies
 playing_kept most s t at replies keeps p = playing_all most s t at replies (keeps_every most s t at replies keeps p) p
 
 -- an answer without a body
@@ -232,4 +234,4 @@ playing_kept_more most s t body at replies holds p = playing_more most t at repl
 pub playing_undone : (most : ℕ) (s m t : DiskState) (at new : ℕ → Option Body) (replies : ℕ) (body : Option Body) (o c : Body) → IsPlaying most s at replies → HoldsOnly most s body m → body ≡ Some o
     → c ≡ o → Closes handle_of m c.file t → new ≡ at → IsPlaying most t new replies
 playing_undone most s m t at new replies body o c p holds e same closes is =
-    subst (λ z. IsPlaying most t z replies) (sym is) (playing_kept most s t at replies (held_undone most s m t body o c holds e same closes) p)
+    subst (λ z. IsPlaying most t z replies) (sym is) (playing_kept most s t at replies (open_kept s t (held_undone most s m t body o c holds e same closes)) p)

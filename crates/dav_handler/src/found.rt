@@ -1,14 +1,16 @@
 // What a request finds over the store.
-ghost use Rattle.std.specs.Prelude.{◌≡◌, IfOk, None, false};
+ghost use Rattle.std.specs.Prelude.{◌≡◌, IfOk, List, None, false, ℕ};
 ghost use Rattle.dav_get.specs.Bodies.{IsHeld};
 ghost use Rattle.dav_model.specs.Allowing.{allowing};
 ghost use Rattle.dav_model.specs.Head.{refusal as the_refusal};
-ghost use Rattle.dav_model.specs.Requests.{fields_of};
 ghost use Rattle.dav_model.specs.Rules.{plain_rules};
 ghost use Rattle.dav_model.specs.Trail.{target_of};
-ghost use Rattle.dav_model.specs.declared.target.Target.TheVariants.{At};
+ghost use Rattle.dav_model.specs.declared.target.Target.TheVariants.{At, Writes};
 ghost use Rattle.dav_plain.specs.Calls.{seen_by};
-ghost use Rattle.dav_handler.specs.Found.{Finds, Gives, IsAlone, IsRefusedBy};
+ghost use Rattle.dav_store.specs.Frames.{KeepsOpen};
+ghost use Rattle.dav_store.specs.View.{the_listings, the_view};
+ghost use Rattle.dav_methods.specs.Changing.{Changes};
+ghost use Rattle.dav_handler.specs.Found.{Finds, Gives, IsAlone, IsRefusedBy, said_in};
 ghost use Rattle.dav_handler.specs.Held.{handle_of};
 
 use crate::gates::target;
@@ -16,10 +18,10 @@ use dav_config::{refused, refused_by};
 use dav_core::{DavError, DavMethod, DavMethodSet, DavPath, Disk};
 use dav_get::{GetBody, handle_get};
 use dav_io::{NoMemory, Octets};
-use dav_methods::options;
+use dav_methods::{delete, mkcalendar, mkcol, options, put_whole};
 use dav_model::{Outcome, Settings, Target};
-use dav_plain::{PlainFile, PlainFs};
-use dav_store::DavFileSystem;
+use dav_plain::{PlainEntry, PlainFile, PlainFs};
+use dav_store::{DavDirEntry, DavFile, DavFileSystem, GuardedFileSystem};
 use http::{HeaderMap, Request};
 use std::alloc::Global;
 
@@ -100,8 +102,8 @@ fn find_at<D: Disk>(
     path: &DavPath,
     fields: &HeaderMap,
 ) -> Result<Found, NoMemory>
-    ensures done { Finds settings.now (D.state store.old.disk) fields.now (At method path.now) result
-        (D.state store.new.disk) }
+    ensures done { (body : List ℕ) → Finds settings.now (D.state store.old.disk) (record { fields = fields.now; body = body })
+        (At method path.now) result (D.state store.new.disk) }
     ensures loan { D.loan store.new.disk ≡ D.loan store.old.disk }
 {
     match handle_get(alloc, settings, store, &(), method, path, fields) {
@@ -113,19 +115,65 @@ fn find_at<D: Disk>(
     }
 }
 
+// What a method that writes is answered, of a request whose body is in memory.
+fn change<D: Disk>(
+    alloc: Global,
+    store: &mut PlainFs<D>,
+    method: DavMethod,
+    path: &DavPath,
+    fields: &HeaderMap,
+    body: &[u8],
+) -> Result<Outcome, DavError>
+    ensures table { Changes (the_view ⟦<PlainFs<D> as GuardedFileSystem<()>>⟧ D.Disk ⟦<PlainFile as DavFile<D>>⟧)
+        (the_listings ⟦<PlainFs<D> as GuardedFileSystem<()>>⟧ ⟦<PlainEntry as DavDirEntry<D>>⟧)
+        ⟦<PlainFile as DavFile<D>>⟧.writes tt method path.now fields.now body.now store.old result store.new }
+    ensures keeps { KeepsOpen (D.state store.old.disk) (D.state store.new.disk) }
+    ensures loan { D.loan store.new.disk ≡ D.loan store.old.disk }
+{
+    match method {
+        DavMethod::Put => put_whole(alloc, store, &(), path, fields, body),
+        DavMethod::MkCol => mkcol(alloc, store, &(), path, fields),
+        DavMethod::Delete => delete(alloc, store, &(), path, fields),
+        _ => mkcalendar(alloc, store, &(), path),
+    }
+}
+
+// What a method makes of a path: one that writes.
+fn write_at<D: Disk>(
+    alloc: Global,
+    settings: &Settings,
+    store: &mut PlainFs<D>,
+    method: DavMethod,
+    path: &DavPath,
+    request: &Request<Octets>,
+) -> Result<Found, NoMemory>
+    ensures done { Finds settings.now (D.state store.old.disk) (said_in request.now) (Writes method path.now) result
+        (D.state store.new.disk) }
+    ensures loan { D.loan store.new.disk ≡ D.loan store.old.disk }
+{
+    let fields = request.headers();
+    match change(alloc, store, method, path, fields, request.body().as_slice()) {
+        Ok(outcome) => Ok(alone(outcome)),
+        Err(error) => refuse(alloc, fields, error),
+    }
+}
+
 // What is answered to what is asked for.
 fn find<D: Disk>(
     alloc: Global,
     settings: &Settings,
     store: &mut PlainFs<D>,
     target: &Target,
-    fields: &HeaderMap,
+    request: &Request<Octets>,
 ) -> Result<Found, NoMemory>
-    ensures done { Finds settings.now (D.state store.old.disk) fields.now target.now result (D.state store.new.disk) }
+    ensures done { Finds settings.now (D.state store.old.disk) (said_in request.now) target.now result
+        (D.state store.new.disk) }
     ensures loan { D.loan store.new.disk ≡ D.loan store.old.disk }
 {
+    let fields = request.headers();
     match target {
         Target::At { method, path } => find_at(alloc, settings, store, *method, path, fields),
+        Target::Writes { method, path } => write_at(alloc, settings, store, *method, path, request),
         Target::Methods => methods(alloc, settings.allow),
         Target::Refused { status, close } => refusal(alloc, fields, *status, *close),
     }
@@ -138,12 +186,12 @@ pub fn find_for<D: Disk>(
     store: &mut PlainFs<D>,
     request: &Request<Octets>,
 ) -> Result<Found, NoMemory>
-    ensures done { Finds settings.now (D.state store.old.disk) (fields_of request.now)
+    ensures done { Finds settings.now (D.state store.old.disk) (said_in request.now)
         (target_of (plain_rules settings.now) request.now) result (D.state store.new.disk) }
     ensures loan { D.loan store.new.disk ≡ D.loan store.old.disk }
 {
     match target(alloc, settings, request) {
-        Ok(asked) => find(alloc, settings, store, &asked, request.headers()),
+        Ok(asked) => find(alloc, settings, store, &asked, request),
         Err(error) => Err(error),
     }
 }

@@ -9,3 +9,4 @@ pub mod Removing
 pub mod Weights
 pub mod Answers
 pub mod Follows
+pub mod Changing

@@ -22,7 +22,9 @@ use Rattle.dav_model.specs.Folds.{Name, has_name}
 use Rattle.dav_model.specs.Rules.{Rules, Knowledge, Learns, Forgets, WasKnown, HasNames, SameDots}
 use Rattle.dav_model.specs.Head.{Reply}
 use Rattle.dav_model.specs.Plans.{Act, does, halts, plan}
-use Rattle.dav_model.specs.Requests.{Asked}
+use Rattle.http.specs.Request.{body_of}
+use Rattle.dav_model.specs.Conditions.{Fields}
+use Rattle.dav_model.specs.Requests.{Asked, fields_of}
 use Rattle.dav_model.specs.Written.{Makes, MakesIn, PartOf, ask_of}
 use Rattle.dav_model.specs.Trail.{Point, Move, Goes, Leaves, is_writing, step_leaves, target_of, last_of, steps_of, answers_of, points_of}
 use Rattle.dav_model.specs.Valid.{Valid, Occurs}
@@ -222,15 +224,15 @@ played_on_from xs ys a m b steps more old mid new result x y =
 -- ---- reading
 
 -- what is asked for changes nothing, unless it writes
-reads_keep : (target : Target) (rules : Rules) (request : Asked) (result : Result Reply NoMemory) (s t : Point) → not (is_writing target) ≡ true
-    → Makes target rules request result s t → Leaves s t
-reads_keep (Writes method path) rules request result s t e makes = cc
-reads_keep (At method path) rules request result s t e makes = makes
-reads_keep Methods rules request result s t e makes = makes
-reads_keep (Refused status close) rules request result s t e makes = makes
+reads_keep : (target : Target) (rules : Rules) (fields : Fields) (body : List ℕ) (result : Result Reply NoMemory) (s t : Point) → not (is_writing target) ≡ true
+    → Makes target rules fields body result s t → Leaves s t
+reads_keep (Writes method path) rules fields body result s t e makes = cc
+reads_keep (At method path) rules fields body result s t e makes = makes
+reads_keep Methods rules fields body result s t e makes = makes
+reads_keep (Refused status close) rules fields body result s t e makes = makes
 
 step_keeps : (p q : Playing) (s t : Point) (x : Step) (a : Answer) → step_leaves p.rules x ≡ true → Stands p s t x a q → Leaves s t
-step_keeps p q s t (Request request now) a e x = reads_keep (target_of p.rules request) p.rules request (Ok x.reply) s t e x.makes
+step_keeps p q s t (Request request now) a e x = reads_keep (target_of p.rules request) p.rules (fields_of request) (body_of request) (Ok x.reply) s t e x.makes
 step_keeps p q s t (Poll body) a e x = x.leaves
 step_keeps p q s t (Abandon body) a e (quiet, same, live, gets) = same
 step_keeps p q s t (Purge now) a e (d, same, x) = both_same s.told t.told SameBesidesOpens same_besides (ap (λ (z : Point). z.told) same)
@@ -329,19 +331,20 @@ part_none [] v w same = same
 part_none (halts l ∷ acts) v w same = same
 part_none (does e ∷ acts) v w same = inl same
 
-leaves_same : (s : Point) → Leaves s s
+pub leaves_same : (s : Point) → Leaves s s
 leaves_same s = both_same s.told s.told SameBesidesOpens same_besides refl
 
-makes_none : (target : Target) (rules : Rules) (request : Asked) (e : NoMemory) (s : Point) → Makes target rules request (Err e) s s
-makes_none (Writes method path) rules request e s = λ folds macos.
-    both_map s.told s.told SameBesidesOpens (MakesIn rules (ask_of method path request) (Err e) (Rose s.faults s.faults))
-    (λ v w same clear. part_none (plan rules v (ask_of method path request)).acts v w same) (leaves_same s)
-makes_none (At method path) rules request e s = leaves_same s
-makes_none Methods rules request e s = leaves_same s
-makes_none (Refused status close) rules request e s = leaves_same s
+-- Where nothing changed, nothing of a plan was made.
+pub makes_kept : (target : Target) (rules : Rules) (fields : Fields) (body : List ℕ) (e : NoMemory) (s t : Point) → Leaves s t → Makes target rules fields body (Err e) s t
+makes_kept (Writes method path) rules fields body e s t leaves = λ folds macos.
+    both_map s.told t.told SameBesidesOpens (MakesIn rules (ask_of method path fields body) (Err e) (Rose s.faults t.faults))
+    (λ v w same clear. part_none (plan rules v (ask_of method path fields body)).acts v w same) leaves
+makes_kept (At method path) rules fields body e s t leaves = leaves
+makes_kept Methods rules fields body e s t leaves = leaves
+makes_kept (Refused status close) rules fields body e s t leaves = leaves
 
 makes_unanswered : (rules : Rules) (step : Step) (e : NoMemory) (s : Point) → MakesUnanswered rules step e s s
-makes_unanswered rules (Request request now) e s = makes_none (target_of rules request) rules request e s
+makes_unanswered rules (Request request now) e s = makes_kept (target_of rules request) rules (fields_of request) (body_of request) e s s (leaves_same s)
 makes_unanswered rules (Poll body) e s = leaves_same s
 makes_unanswered rules (Abandon body) e s = leaves_same s
 makes_unanswered rules (Purge now) e s = leaves_same s

@@ -1,5 +1,5 @@
 -- What follows of each reply to a request that writes: it announces that it has no body, and has none.
-use Rattle.std.proofs.Common.{◌≡◌, inl, inr, true, None, Some, refl, sym, ap, subst}
+use Rattle.std.proofs.Common.{◌≡◌, inl, inr, true, [], None, Some, refl, sym, ap, subst}
 use Rattle.dav_core.specs.declared.method.DavMethod.{DavMethod}
 use Rattle.dav_core.specs.DavPath.{WebPath}
 use Rattle.dav_model.specs.declared.target.Target.TheVariants.{Writes}
@@ -19,3 +19,8 @@ pub write_sound : (fields : Fields) (rose : Type 0) (reply : Reply) → IsWriteR
 write_sound fields rose reply (inl is) = sound_empty reply (ap (λ (r : Reply). r.parts) is)
 write_sound fields rose reply (inr (inl is)) = sound_empty reply (ap (λ (r : Reply). r.parts) is)
 write_sound fields rose reply (inr (inr halted)) = sound_refused reply fields halted.status halted.close halted.is
+
+pub write_bare : (fields : Fields) (rose : Type 0) (reply : Reply) → IsWriteReply fields rose reply → reply.parts ≡ []
+write_bare fields rose reply (inl is) = ap (λ (r : Reply). r.parts) is
+write_bare fields rose reply (inr (inl is)) = ap (λ (r : Reply). r.parts) is
+write_bare fields rose reply (inr (inr halted)) = ap (λ (r : Reply). r.parts) halted.is

@@ -1,6 +1,7 @@
 -- What the answers to a list of steps are, along a trail.
 use Rattle.std.specs.Prelude.{◌≡◌, ◌+◌, ◌⊎◌, ℕ, Bool, true, false, List, [], ◌∷◌, ◌++◌, is_some, Option, None, Some, Result, Ok, Err}
 use Rattle.std.specs.List.{AllByRecursion, list_any}
+use Rattle.http.specs.Request.{body_of}
 use Rattle.dav_io.specs.Counts.{Rose}
 use Rattle.dav_io.specs.Told.{Both}
 use Rattle.dav_io.specs.declared.failure.NoMemory.{NoMemory}
@@ -117,7 +118,7 @@ pub record Answered (p : Playing) (s t : Point) (request : Asked) (answer : Answ
   pub goes : Goes s t
   pub reply : Reply
   -- what it makes of the told world: nothing, unless it writes
-  pub makes : Makes (target_of p.rules request) p.rules request (Ok reply) s t
+  pub makes : Makes (target_of p.rules request) p.rules (fields_of request) (body_of request) (Ok reply) s t
   pub is : answer ≡ Replied reply.status reply.fields p.replies
   pub knows : Knowledge
   pub learns : Learns s.told p.knows knows
@@ -168,7 +169,7 @@ AsksUnanswered rules Turn before after = after ≡ before
 -- What a step makes of the told world that was refused memory: nothing, unless it is a request that writes, which may have been
 -- broken off on its way.
 abbrev pub MakesUnanswered : Rules → Step → NoMemory → Point → Point → Type 0
-MakesUnanswered rules (Request request now) e s t = Makes (target_of rules request) rules request (Err e) s t
+MakesUnanswered rules (Request request now) e s t = Makes (target_of rules request) rules (fields_of request) (body_of request) (Err e) s t
 MakesUnanswered rules (Poll body) e s t = Leaves s t
 MakesUnanswered rules (Abandon body) e s t = Leaves s t
 MakesUnanswered rules (Purge now) e s t = Leaves s t

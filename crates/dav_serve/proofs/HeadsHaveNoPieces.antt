@@ -6,9 +6,10 @@ use Rattle.dav_core.specs.Methods.{method_of}
 use Rattle.dav_core.specs.declared.method.DavMethod.{DavMethod}
 use Rattle.dav_core.specs.declared.method.DavMethod.TheVariants.{Head}
 use Rattle.dav_core.specs.declared.parse_error.ParseError.{ParseError}
+use Rattle.dav_io.specs.Counts.{Rose}
 use Rattle.dav_model.specs.declared.answer.Answer.TheVariants.{Piece, End}
 use Rattle.dav_model.specs.declared.target.Target.{Target}
-use Rattle.dav_model.specs.declared.target.Target.TheVariants.{At, Methods, Refused}
+use Rattle.dav_model.specs.declared.target.Target.TheVariants.{At, Methods, Refused, Writes}
 use Rattle.dav_model.specs.Announced.{PolledToEnd}
 use Rattle.dav_model.specs.Bodies.{Part}
 use Rattle.dav_model.specs.Conditions.{Fields}
@@ -20,6 +21,7 @@ use Rattle.dav_model.specs.Rules.{Rules, Knowledge}
 use Rattle.dav_model.specs.Trail.{Point, target_of}
 use Rattle.dav_model.proofs.Framing.{gives_none}
 use Rattle.dav_model.proofs.RightReplies.{replies_framed}
+use Rattle.dav_model.proofs.WriteReplies.{write_bare}
 use Rattle.dav_serve.specs.Bodies.{IsToHead}
 use Rattle.dav_serve.specs.Exchange.{Exchange, steps_of, answers_of}
 use Rattle.dav_serve.specs.Stages.{PlayedOn}
@@ -29,6 +31,7 @@ use Rattle.dav_serve.proofs.ExchangesAreGiven.{given_of, polled_to_end}
 abbrev IsHeads : Target → Type 0
 IsHeads (At method path) = method ≡ Head
 IsHeads Methods = ⊥
+IsHeads (Writes method path) = ⊥
 IsHeads (Refused status close) = Unit {0}
 
 heads_path : (found : Result WebPath ParseError) → IsHeads (with_path Head found)
@@ -54,6 +57,7 @@ heads_asked method path is = subst (λ (m : DavMethod). IsHeads (asked m path)) 
 heads_weighed : (fields : Fields) (bulk : Bulk) (target : Target) → IsHeads target → IsHeads (weighed fields bulk target)
 heads_weighed fields bulk (Refused status close) is = tt
 heads_weighed fields bulk Methods is = is
+heads_weighed fields bulk (Writes method path) is = is
 heads_weighed fields none (At method path) is = heads_unless (is_built fields method) 501 true (asked method path) (heads_asked method path is)
 heads_weighed fields some (At method path) is =
     heads_or (takes_some method) 415 (unless (is_built fields method) 501 true) (asked method path)
@@ -83,6 +87,8 @@ none_by : (target : Target) (rules : Rules) (k : Knowledge) (s t : Point) (field
     → IsHeads target ⊎ (reply.status ≡ 304) → PolledToEnd reply.parts pieces → pieces ≡ []
 none_by (Refused status close) rules k s t fields reply pieces replies why polled = none_polled reply.parts pieces (ap (λ (z : Reply). z.parts) replies) polled
 none_by Methods rules k s t fields reply pieces replies why polled = none_polled reply.parts pieces (ap (λ (z : Reply). z.parts) replies) polled
+none_by (Writes method path) rules k s t fields reply pieces replies why polled =
+    none_polled reply.parts pieces (write_bare fields (Rose s.faults t.faults) reply replies) polled
 none_by (At method path) rules k s t fields reply pieces replies (inl head) polled =
     gives_none (At method path) reply pieces (replies_framed (At method path) rules k s t fields reply replies) (ap (λ m. is_get m && not (reply.status == 304)) head) polled
 none_by (At method path) rules k s t fields reply pieces replies (inr e) polled =

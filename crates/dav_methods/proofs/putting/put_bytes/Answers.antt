@@ -5,4 +5,4 @@ use Rattle.dav_methods.proofs.putting.put_bytes.Goals as goal
 
 pub returns-clause-keeps : goal.returns-clause-keeps
 returns-clause-keeps g c = put_leaves (the_view g.S.GuardedFileSystem g.S.Disk.Disk g.S.File.DavFile) g.S.File.DavFile.writes c.args.credentials.now _ _ _ _ _ _ _ c.in-Ok.ensures.one
-    (stays_written (the_view g.S.GuardedFileSystem g.S.Disk.Disk g.S.File.DavFile) g.S.File.DavFile.writes _ _ _ _ _ _ c.file_write-ended.ensures) c.file_close.ensures
+    (stays_written (the_view g.S.GuardedFileSystem g.S.Disk.Disk g.S.File.DavFile) g.S.File.DavFile.writes _ _ _ _ _ _ c.file_write-ended.ensures.writes) c.file_close.ensures

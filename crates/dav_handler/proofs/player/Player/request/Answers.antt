@@ -8,7 +8,7 @@ pub invariant_of-self : goal.invariant_of-self
 invariant_of-self g c = record { ok = playing_kept _ _ _ _ _ c.in-Err.ensures.done.0 c.args.self.now.ok }
 
 pub returns-in-Err-clause-done : goal.returns-in-Err-clause-done
-returns-in-Err-clause-done g c = refused _ _ _ c.args.request.now c.args.now _ (body_at c.args.self.now.bodies) c.in-Err.error c.in-Err.ensures.done.0 c.in-Err.ensures.done.1 c.args.self.now.ok
+returns-in-Err-clause-done g c = refused _ _ _ c.args.request.now c.args.now _ (body_at c.args.self.now.bodies) c.in-Err.error c.in-Err.ensures.done.0 c.in-Err.ensures.done.1 c.in-Err.ensures.done.2 c.args.self.now.ok
 
 pub invariant_of-self-in-None : goal.invariant_of-self-in-None
 invariant_of-self-in-None g c = record { ok = playing_kept_more _ _ _ _ _ _ c.in-Ok.ensures.done.holds c.args.self.now.ok }

@@ -1,0 +1,88 @@
+// What a request that writes is answered with.
+ghost use Rattle.std.specs.Prelude.{◌≡◌, IfOk, OnErr, true};
+ghost use Rattle.http.specs.Request.{head_of};
+ghost use Rattle.dav_model.specs.Conditions.{writes as the_writes};
+ghost use Rattle.dav_store.specs.Frames.{KeepsOpen};
+ghost use Rattle.dav_store.specs.View.{the_listings, the_view};
+ghost use Rattle.dav_config.specs.Handling.{SetsMoment, the_served};
+ghost use Rattle.dav_config.specs.Writing.{ByMethod, Tells, WritesOver, order};
+
+use crate::answering::{Answered, bare, refuse};
+use crate::asked::Asked;
+use dav_body::Body;
+use dav_core::{DavError, DavMethod, DavPath};
+use dav_io::NoMemory;
+use dav_methods::{mkaddressbook, mkcalendar, mkcol, put};
+use dav_model::Outcome;
+use dav_store::{BodyReader, GuardedFileSystem};
+use http::{HeaderMap, Response, StatusCode};
+use std::alloc::Global;
+
+// What a method that writes gives. The reader is asked by PUT alone.
+fn perform<S: GuardedFileSystem<C>, C, B: BodyReader>(
+    alloc: Global,
+    fs: &mut S,
+    credentials: &C,
+    method: DavMethod,
+    path: &DavPath,
+    fields: &HeaderMap,
+    body: &mut B,
+) -> Result<Outcome, DavError>
+    requires { the_writes method ≡ true }
+    ensures table { ByMethod (the_view S.GuardedFileSystem S.Disk.Disk S.File.DavFile)
+        (the_listings S.GuardedFileSystem S.Entry.DavDirEntry) S.File.writes method
+        (order method path.now fields.now) credentials.now (B.state body.old) fs.old result fs.new
+        (B.state body.new) }
+    ensures keeps { KeepsOpen (S.Disk.state (S.inside fs.old)) (S.Disk.state (S.inside fs.new)) }
+    ensures loan { S.Disk.loan (S.inside fs.new) ≡ S.Disk.loan (S.inside fs.old) }
+    ensures body_loan { B.loan body.new ≡ B.loan body.old }
+{
+    match method {
+        DavMethod::Put => put(alloc, fs, credentials, path, fields, body),
+        DavMethod::MkCol => mkcol(alloc, fs, credentials, path, fields),
+        DavMethod::MkCalendar => mkcalendar(alloc, fs, credentials, path, fields),
+        DavMethod::MkAddressbook => mkaddressbook(alloc, fs, credentials, path, fields),
+        DavMethod::Delete => Err(DavError::StatusClose(StatusCode::NOT_IMPLEMENTED)),
+        _ => unreachable!("no other method writes"),
+    }
+}
+
+// The response to what a method gave.
+fn tell<F>(
+    alloc: Global,
+    fields: &HeaderMap,
+    given: Result<Outcome, DavError>,
+) -> Result<Response<Body<F>>, NoMemory>
+    ensures { IfOk result (Tells fields.now given) }
+{
+    match given {
+        Ok(outcome) => bare(alloc, outcome),
+        Err(error) => refuse(alloc, fields, error),
+    }
+}
+
+/// Does what a request asks for that writes, over a store, once its moment is set.
+pub fn write_over<S: GuardedFileSystem<C>, C, B: BodyReader>(
+    alloc: Global,
+    asked: &Asked<'_, C>,
+    fs: &mut S,
+    method: DavMethod,
+    path: &DavPath,
+    body: &mut B,
+) -> Answered<S::File>
+    requires { the_writes method ≡ true }
+    ensures done { IfOk result (λ r. WritesOver (the_view S.GuardedFileSystem S.Disk.Disk S.File.DavFile)
+        (the_listings S.GuardedFileSystem S.Entry.DavDirEntry) S.File.writes
+        (order method path.now (head_of asked.entry.now.head.now).headers) asked.entry.now.credentials.now
+        (B.state body.old) (S.with_now fs.old asked.entry.now.now) r fs.new (B.state body.new)) }
+    ensures moment { SetsMoment
+        (the_served S.GuardedFileSystem S.Disk.Disk S.File.DavFile S.Entry.DavDirEntry) fs.old asked.entry.now.now }
+    ensures memory { OnErr result (KeepsOpen (S.Disk.state (S.inside fs.old)) (S.Disk.state (S.inside fs.new))) }
+    ensures loan { S.Disk.loan (S.inside fs.new) ≡ S.Disk.loan (S.inside fs.old) }
+    ensures body_loan { B.loan body.new ≡ B.loan body.old }
+{
+    fs.set_now(asked.now);
+    let fields = asked.head.headers();
+    let given = perform(alloc, fs, asked.credentials, method, path, fields, body);
+    tell(alloc, fields, given)
+}

@@ -1,0 +1,105 @@
+-- What a method that writes is answered, and makes of the told world: from what its table gave to the clause of its step.
+use Rattle.std.proofs.Common.{◌≡◌, ◌⊎◌, inl, inr, ℕ, List, [], ◌∷◌, Bool, true, false, None, Some, Result, Ok, Err, refl, sym, ap, subst, ◌∙◌, true≢false}
+use Rattle.std.specs.Prelude.{IfOk}
+use Rattle.dav_io.specs.Counts.{Rose}
+use Rattle.dav_io.specs.Told.{Both}
+use Rattle.dav_io.proofs.ToldLemmas.{both_map}
+use Rattle.dav_io.specs.declared.failure.NoMemory.{NoMemory}
+use Rattle.dav_core.specs.declared.dav_error.DavError.{DavError}
+use Rattle.dav_core.specs.declared.method.DavMethod.{DavMethod}
+use Rattle.dav_core.specs.DavPath.{WebPath}
+use Rattle.dav_core.specs.Disk.{DiskState}
+use Rattle.dav_core.specs.Statuses.{closes, lacks_memory, status_of}
+use Rattle.dav_core.specs.World.{World}
+use Rattle.dav_model.specs.declared.outcome.Outcome.{Outcome}
+use Rattle.dav_model.specs.declared.settings.Settings.{Settings}
+use Rattle.dav_model.specs.declared.target.Target.TheVariants.{Writes}
+use Rattle.dav_model.specs.Conditions.{Fields}
+use Rattle.dav_model.specs.Finding.{resolved}
+use Rattle.dav_model.specs.Head.{Reply, refusal}
+use Rattle.dav_model.specs.Plans.{Act, Ask, Plan, does, halts, meets_link, plan}
+use Rattle.dav_model.specs.Rules.{plain_rules}
+use Rattle.dav_model.specs.Sizes.{read_size_of}
+use Rattle.dav_model.specs.Written.{ByActs, EndsAs, IsWriteReply, Makes, MakesIn, PartOf, ask_of, made, silent}
+use Rattle.dav_store.specs.Frames.{KeepsOpen}
+use Rattle.dav_methods.specs.Answers.{IsAnswer}
+use Rattle.dav_methods.specs.Follows.{answer_or}
+use Rattle.dav_methods.specs.Lines.{Given}
+use Rattle.dav_methods.specs.Lines as lines
+use Rattle.dav_handler.specs.declared.found.Found.{Found}
+use Rattle.dav_handler.specs.Found.{Answers, Finds, HoldsOnly, IsAlone, IsRefusedBy, Said, reply_of}
+
+-- what was done is a part of what is planned
+acts_part : (fields : Fields) (acts : List Act) (done : ℕ) (reply : Reply) (v w : World) → ByActs fields acts done reply v w → PartOf acts v w
+acts_part fields [] done reply v w (is, same) = same
+acts_part fields (halts l ∷ acts) done reply v w (is, same) = same
+acts_part fields (does e ∷ acts) done reply v w (m, edited, rest) = inr (inr (m, edited, acts_part fields acts done reply m w rest))
+
+ends_part : (fields : Fields) (plan : Plan) (reply : Reply) (rose : Type 0) (v w : World) → EndsAs fields plan (Ok reply) rose v w → PartOf plan.acts v w
+ends_part fields plan reply rose v w (inl by) = acts_part fields plan.acts plan.done reply v w by
+ends_part fields plan reply rose v w (inr (is, r, part)) = part
+
+-- what a method that writes did between two states of the disk
+pub record Did (settings : Settings) (ask : Ask) (s : DiskState) (r : Given) (t : DiskState) : Type 0 where
+  pub keeps : KeepsOpen s t
+  pub listed : IsAnswer (Rose s.faults t.faults) r
+  pub right : Both s.told t.told (λ v w. (result : Result Reply NoMemory) → answer_or ask.fields r result
+      → meets_link ask.method v.tree (resolved (plain_rules settings) v.tree ask.path.names) ≡ false
+      → EndsAs ask.fields (plan (plain_rules settings) v ask) result (Rose s.faults t.faults) v w)
+
+done_listed : (fields : Fields) (rose : Type 0) (outcome : Outcome) → IsAnswer rose (Ok outcome)
+    → IsWriteReply fields rose (record { status = outcome.status; fields = outcome.fields; parts = [] })
+done_listed fields rose outcome (inl is) = inl (ap (λ (o : Outcome). (let r : Reply = record { status = o.status; fields = o.fields; parts = [] } in r)) is)
+done_listed fields rose outcome (inr is) = inr (inl (ap (λ (o : Outcome). (let r : Reply = record { status = o.status; fields = o.fields; parts = [] } in r)) is))
+
+refused_listed : (fields : Fields) (rose : Type 0) (e : DavError) → lacks_memory e ≡ false → IsAnswer rose (Err e)
+    → IsWriteReply fields rose (refusal fields (status_of e) (closes e))
+refused_listed fields rose e has (inl lacks) = absurd (true≢false (sym lacks ∙ has))
+refused_listed fields rose e has (inr (listed, failed)) =
+    inr (inr (record { status = status_of e; close = closes e; is = refl; listed = listed; failed = failed }))
+
+module _ (settings : Settings) (method : DavMethod) (path : WebPath) (said : Said) (s t : DiskState) where
+  abbrev asks : Ask
+  asks = ask_of method path said.fields said.body
+
+  -- what its plan says of this answer, or of want of memory
+  made_as : (r : Given) (result : Result Reply NoMemory) → Did settings asks s r t → answer_or said.fields r result
+      → Makes (Writes method path) (plain_rules settings) said.fields said.body result s t
+  made_as r result did is = λ folds macos. both_map s.told t.told _
+      (MakesIn (plain_rules settings) asks result (Rose s.faults t.faults)) (λ v w right. right result is) did.right
+
+  -- it was done or refused, and memory was refused for the answer
+  made_lost : (r : Given) (reply : Reply) (e : NoMemory) → Did settings asks s r t → answer_or said.fields r (Ok reply)
+      → Makes (Writes method path) (plain_rules settings) said.fields said.body (Err e) s t
+  made_lost r reply e did is = λ folds macos. both_map s.told t.told _
+      (MakesIn (plain_rules settings) asks (Err e) (Rose s.faults t.faults))
+      (λ v w right clear. ends_part said.fields (plan (plain_rules settings) v asks) reply (Rose s.faults t.faults) v w (right (Ok reply) is clear)) did.right
+
+  -- It was done.
+  pub write_done : (outcome : Outcome) (found : Found) → Did settings asks s (Ok outcome) t → found.outcome ≡ outcome → found.body ≡ None
+      → Answers settings s said (Writes method path) found t
+  write_done outcome found did is none =
+      let same : reply_of t found ≡ record { status = outcome.status; fields = outcome.fields; parts = [] } = rw (is, none) refl in
+      record {
+        holds = subst (λ b. HoldsOnly (read_size_of settings.read_buf_size) s b t) (sym none) did.keeps;
+        makes = made_as (Ok outcome) (Ok (reply_of t found)) did same;
+        right = subst (IsWriteReply said.fields (Rose s.faults t.faults)) (sym same) (done_listed said.fields (Rose s.faults t.faults) outcome did.listed);
+        asks = did.keeps.asked;
+      }
+
+  -- It was refused.
+  pub write_refused : (e : DavError) (result : Result Found NoMemory) → Did settings asks s (Err e) t → IfOk result (IsRefusedBy said.fields e)
+      → Finds settings s said (Writes method path) result t
+  write_refused e (Err x) did is = (did.keeps, (by_memory (lacks_memory e) refl, tt))
+    where
+      by_memory : (b : Bool) → lacks_memory e ≡ b → Makes (Writes method path) (plain_rules settings) said.fields said.body (Err x) s t
+      by_memory true lacks = made_as (Err e) (Err x) did lacks
+      by_memory false has = made_lost (Err e) (refusal said.fields (status_of e) (closes e)) x did (has, refl)
+  write_refused e (Ok found) did is =
+      let same : reply_of t found ≡ refusal said.fields (status_of e) (closes e) = rw (is.refused.status, is.refused.fields, is.refused.body) refl in
+      record {
+        holds = subst (λ b. HoldsOnly (read_size_of settings.read_buf_size) s b t) (sym is.refused.body) did.keeps;
+        makes = made_as (Err e) (Ok (reply_of t found)) did (is.memory, same);
+        right = subst (IsWriteReply said.fields (Rose s.faults t.faults)) (sym same) (refused_listed said.fields (Rose s.faults t.faults) e is.memory did.listed);
+        asks = did.keeps.asked;
+      }
