@@ -11,3 +11,8 @@ mod WorkDone
 mod LineRows
 mod AnswersListed
 mod EditsJoined
+mod Stages
+mod LinesMatch
+mod MakingFollows
+mod PutFollows
+mod OpenedFile

@@ -19,7 +19,7 @@ mod work;
 
 pub use conditions::{if_match, ifrange_match, ranges_are_heard, reads};
 pub use fields::first_value;
-pub use laws::answers_are_listed;
+pub use laws::{answers_are_listed, writes_follow_their_plans};
 pub use making::{mkaddressbook, mkcalendar, mkcol};
 pub use putting::{put, put_whole};
 pub use removing::delete;
