@@ -111,7 +111,7 @@ module _ {S C : Type 0} (view : View S C PlainFile) (lists : Listings S C PlainD
         edited,
         subst (λ names. row_at w.tree names ≡ Some row) names at,
         ap w.opens own ∙ (ap (λ (f : ℕ → Option OpenFile). f h.0) opens
-        ∙ (put_same h.0 (Some (at_start number)) v.opens ∙ ap (λ k. Some (at_start k)) (sym same))),
+            ∙ (put_same h.0 (Some (at_start number)) v.opens ∙ ap (λ k. Some (at_start k)) (sym same))),
         ap (kind_at (view.state n)) own ∙ of,
       )
   opened_as path (Err d) m n v w (opens, rows) counted clear =

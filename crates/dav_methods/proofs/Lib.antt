@@ -10,7 +10,7 @@ mod Lighter
 mod WorkDone
 mod LineRows
 mod AnswersListed
-mod EditsJoined
+pub mod EditsJoined
 mod Stages
 mod LinesMatch
 mod MakingFollows
