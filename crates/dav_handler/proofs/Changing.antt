@@ -90,7 +90,7 @@ module _ (settings : Settings) (method : DavMethod) (path : WebPath) (said : Sai
   -- It was refused.
   pub write_refused : (e : DavError) (result : Result Found NoMemory) → Did settings asks s (Err e) t → IfOk result (IsRefusedBy said.fields e)
       → Finds settings s said (Writes method path) result t
-  write_refused e (Err x) did is = (did.keeps, (by_memory (lacks_memory e) refl, tt))
+  write_refused e (Err x) did is = (did.keeps, by_memory (lacks_memory e) refl, tt)
     where
       by_memory : (b : Bool) → lacks_memory e ≡ b → Makes (Writes method path) (plain_rules settings) said.fields said.body (Err x) s t
       by_memory true lacks = made_as (Err e) (Err x) did lacks

@@ -134,7 +134,7 @@ fn change<D: Disk>(
         DavMethod::Put => put_whole(alloc, store, &(), path, fields, body),
         DavMethod::MkCol => mkcol(alloc, store, &(), path, fields),
         DavMethod::Delete => delete(alloc, store, &(), path, fields),
-        _ => mkcalendar(alloc, store, &(), path),
+        _ => mkcalendar(alloc, store, &(), path, fields),
     }
 }
 

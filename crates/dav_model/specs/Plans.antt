@@ -7,7 +7,7 @@ use Rattle.dav_core.specs.declared.error.FsError.{FsError}
 use Rattle.dav_core.specs.declared.error.FsError.TheVariants as fs
 use Rattle.dav_core.specs.declared.handle.OpenOptions.{OpenOptions}
 use Rattle.dav_core.specs.declared.method.DavMethod.{DavMethod}
-use Rattle.dav_core.specs.declared.method.DavMethod.TheVariants.{Put, MkCol, Delete}
+use Rattle.dav_core.specs.declared.method.DavMethod.TheVariants.{Copy, Delete, MkCol, Move, Put}
 use Rattle.dav_core.specs.declared.tree.Row.{Row}
 use Rattle.dav_core.specs.Allowed.{Allowed, is_root, making_dir, opening}
 use Rattle.dav_core.specs.DavPath.{WebPath}
@@ -226,7 +226,13 @@ delete_plan rules w ask = record {
 
 -- ---- all of them
 
--- The plan of a method. (Only methods that write are asked for theirs.)
+-- The methods that have a plan here. Of what COPY and MOVE make of a world nothing is said.
+abbrev pub is_planned : DavMethod → Bool
+is_planned Copy = false
+is_planned Move = false
+is_planned other = true
+
+-- The plan of a method. (Only methods that write and have one are asked for theirs.)
 abbrev pub plan_as : DavMethod → Rules → World → Ask → Plan
 plan_as Put rules w ask = put_plan rules w ask
 plan_as MkCol rules w ask = mkcol_plan rules w ask
