@@ -5,3 +5,8 @@ pub mod PlainWrites
 pub mod PlainLooks
 pub mod PlainDone
 pub mod PlainReached
+pub mod NameOrder
+pub mod TreeLooks
+pub mod PlainWalked
+pub mod PlainMembers
+pub mod PlainFollows

@@ -4,10 +4,9 @@ use Rattle.dav_io.proofs.ToldLemmas.{both_map, both_same}
 use Rattle.dav_core.specs.declared.error.FsError.{FsError}
 use Rattle.dav_core.specs.declared.handle.DiskError.{DiskError}
 use Rattle.dav_core.specs.declared.handle.Handle.{Handle}
-use Rattle.dav_core.specs.declared.tree.Kind.{Kind}
 use Rattle.dav_core.specs.Allowed.{Allowed, making_dir, opening, taking_dir, taking_file}
 use Rattle.dav_core.specs.DavPath.{WebPath}
-use Rattle.dav_core.specs.Disk.{DiskState, IsCounted, OpenedOver, at_start, kind_opened}
+use Rattle.dav_core.specs.Disk.{DiskState, IsCounted, OpenedOver, at_start, kind_at, kind_opened}
 use Rattle.dav_core.specs.Edits.{Edit}
 use Rattle.dav_core.specs.Errors.{fs_error_of}
 use Rattle.dav_core.specs.Path.{Names}
@@ -100,20 +99,22 @@ module _ {S C : Type 0} (view : View S C PlainFile) (lists : Listings S C PlainD
 
   -- ---- opening
 
-  opened_as : (path : WebPath) (answer : Result Handle DiskError) (kind : Option Kind) (m n : S) (v w : World) → OpenedOver path.names put_options answer kind v w
+  opened_as : (path : WebPath) (answer : Result Handle DiskError) (m n : S) (v w : World) → OpenedOver path.names put_options answer (kind_opened answer (view.state n)) v w
       → IsCounted answer (view.state m) (view.state n) → is_linked v.tree path.names ≡ false → OpensBy view lists writes c (plain_rules settings) path m (filed answer) n v w
-  opened_as path (Ok h) kind m n v w (number, opens, listings, held, rows) counted clear =
+  opened_as path (Ok h) m n v w (number, opens, listings, held, rows) counted clear =
       let (edit, row, allowed, edited, at, same, of) = rows clear in
-      let names = sym (plain_resolved settings v.tree path.names) in (
+      let names = sym (plain_resolved settings v.tree path.names) in
+      let own : view.handle (record { handle = h }) ≡ h.0 = plain.handle (record { handle = h }) in (
         edit,
         row,
         subst (λ names. opening v.tree names put_options ≡ Ok edit) names allowed,
         edited,
         subst (λ names. row_at w.tree names ≡ Some row) names at,
-        ap w.opens (plain.handle (record { handle = h })) ∙ (ap (λ (f : ℕ → Option OpenFile). f h.0) opens
+        ap w.opens own ∙ (ap (λ (f : ℕ → Option OpenFile). f h.0) opens
             ∙ (put_same h.0 (Some (at_start number)) v.opens ∙ ap (λ k. Some (at_start k)) (sym same))),
+        ap (kind_at (view.state n)) own ∙ of,
       )
-  opened_as path (Err d) kind m n v w (opens, rows) counted clear =
+  opened_as path (Err d) m n v w (opens, rows) counted clear =
       let (same, refused) = rows clear in (
         same,
         elim (called_for Handle (Option Edit) PlainFile d (opening v.tree path.names put_options) (view.state m) (view.state n) refused counted) [
@@ -127,5 +128,5 @@ module _ {S C : Type 0} (view : View S C PlainFile) (lists : Listings S C PlainD
   opens_told m n path r h flat =
       let (answer, opens, is) = (plain.opens m n path put_options r h).asked flat in
       both_map _ _ (OpenedOver path.names put_options answer (kind_opened answer (view.state n))) _
-      (λ v w over clear. rw is (opened_as path answer (kind_opened answer (view.state n)) m n v w over opens.asks.counted (clear_plain settings v.tree path.names clear)))
+      (λ v w over clear. rw is (opened_as path answer m n v w over opens.asks.counted (clear_plain settings v.tree path.names clear)))
       opens.told

@@ -5,10 +5,10 @@ use Rattle.std.proofs.lemmas.List.{length-take-le, take-append-drop}
 use Rattle.dav_core.specs.declared.time.FileTime.{FileTime}
 use Rattle.dav_core.specs.declared.tree.Row.{Row}
 use Rattle.dav_core.specs.Edits.{Becomes, Edited, IsNew, filled, fills, timed_number}
-use Rattle.dav_core.specs.World.{Holds, NotAfter, SameBesidesOpens, Stored, World, bytes_of, bytes_or_none, is_numbered, put}
+use Rattle.dav_core.specs.World.{Holds, NotAfter, Stored, World, bytes_of, put}
 use Rattle.dav_core.specs.Writing.{written}
-use Rattle.dav_core.proofs.TimesLemmas.{later_than, not_after_itself, not_after_then}
-use Rattle.dav_core.proofs.UnchangedLemmas.{put_same, same_besides_then}
+use Rattle.dav_core.proofs.TimesLemmas.{later_than, not_after_then}
+use Rattle.dav_methods.proofs.EditsJoined.{edit_then, filled_after, filled_bytes, numbered_map}
 use Rattle.dav_plain.proofs.WrittenBytes.{written_on}
 
 -- ---- rows and numbers
@@ -26,18 +26,12 @@ same_number : (b : Bool) (number : ℕ) (t : FileTime) (row : Row) → (row.numb
 same_number true number t row e = rw e refl
 same_number false number t row e = rw e refl
 
-numbered_timed : (number n : ℕ) (t : FileTime) (rows : List Row) → is_numbered (map (timed_number number t) rows) n ≡ is_numbered rows n
-numbered_timed number n t [] = refl
-numbered_timed number n t (row ∷ rows) = rw (same_number (row.number == number) number t row refl, numbered_timed number n t rows) refl
-
 -- what is held where a file was filled was held before
-held_filled : (number n : ℕ) (bytes : List ℕ) (t : FileTime) (u : World) → Holds (filled number bytes t u) n → Holds u n
-held_filled number n bytes t u (inl row) = inl (sym (numbered_timed number n t u.tree) ∙ row)
-held_filled number n bytes t u (inr o) = inr o
-
 before_filled : (number n : ℕ) (bytes : List ℕ) (t : FileTime) (u : World) → Holds u n ⊎ Holds (filled number bytes t u) n → Holds u n
 before_filled number n bytes t u (inl h) = h
-before_filled number n bytes t u (inr h) = held_filled number n bytes t u h
+before_filled number n bytes t u (inr (inl row)) =
+    inl (sym (numbered_map (timed_number number t) n u.tree (λ (row : Row). same_number (row.number == number) number t row refl)) ∙ row)
+before_filled number n bytes t u (inr (inr o)) = inr o
 
 -- of two values that are put under one number the second stays
 over : {A : Type 0} (b : Bool) (k n : ℕ) (x y : A) (f : ℕ → A) → (n == k) ≡ b → put k y (put k x f) n ≡ put k y f n
@@ -48,43 +42,13 @@ put_like : {A : Type 0} (b : Bool) (k n : ℕ) (x : A) (f g : ℕ → A) → (n 
 put_like true k n x f g e h = rw e refl
 put_like false k n x f g e h = rw e h
 
-same_latest : (a b : FileTime) → b ≡ a → NotAfter a b
-same_latest a b e = rw e (not_after_itself a)
-
 new_from : (a b c : World) (t : FileTime) → NotAfter a.latest b.latest → IsNew b t c → IsNew a t c
 new_from a b c t before new = record { later = later_than t a.latest b.latest before new.later; used = new.used; nanos = new.nanos }
-
-new_on : (a b c : World) (t : FileTime) → NotAfter b.latest c.latest → IsNew a t b → IsNew a t c
-new_on a b c t after new = record { later = new.later; used = not_after_then t b.latest c.latest new.used after; nanos = new.nanos }
 
 abbrev stored_as : List ℕ → FileTime → Option Stored
 stored_as bytes t = Some (record { bytes = bytes; time = t })
 
--- ---- a filling, and what leaves all
-
-fills_after : (number : ℕ) (b : List ℕ) (t : FileTime) (u v w : World) → SameBesidesOpens u v → Becomes v (filled number b t v) w → Becomes u (filled number b t u) w
-fills_after number b t u v w same q = record {
-  tree = q.tree ∙ ap (map (timed_number number t)) same.tree;
-  files = λ n h.
-      (let (held, is) = q.files n h in
-      let (first, was) = same.files n (before_filled number n b t v held) in
-      (inl first, is ∙ put_like (n == number) number n (stored_as b t) v.files u.files refl was));
-  script = q.script ∙ same.script;
-  greatest = (let e = same.greatest in let le = q.greatest in omega arith);
-  latest = not_after_then u.latest v.latest w.latest (same_latest u.latest v.latest same.latest) q.latest;
-}
-
-fills_before : (number : ℕ) (a : List ℕ) (s : FileTime) (u v w : World) → Becomes u (filled number a s u) v → SameBesidesOpens v w → Becomes u (filled number a s u) w
-fills_before number a s u v w p same = record {
-  tree = same.tree ∙ p.tree;
-  files = λ n h.
-      (let (held, is) = same.files n h in
-      let (first, was) = p.files n held in
-      (first, is ∙ was));
-  script = same.script ∙ p.script;
-  greatest = (let e = same.greatest in let le = p.greatest in omega arith);
-  latest = not_after_then u.latest v.latest w.latest p.latest (same_latest v.latest w.latest same.latest);
-}
+-- ---- one filling after the other
 
 fills_twice : (number : ℕ) (a b : List ℕ) (s t : FileTime) (u v w : World) → Becomes u (filled number a s u) v → Becomes v (filled number b t v) w → Becomes u (filled number b t u) w
 fills_twice number a b s t u v w p q = record {
@@ -104,40 +68,16 @@ fills_twice number a b s t u v w p q = record {
 -- Two fillings, one after the other, are the second alone, where the second isn't what stood there unless the first is.
 pub fills_then : (number : ℕ) (a b : List ℕ) (u v w : World) → Holds v number → (b ≡ bytes_of u number → a ≡ bytes_of u number) → Edited (fills number a) u v → Edited (fills number b) v w
     → Edited (fills number b) u w
-fills_then number a b u v w held back (inl (ea, p)) (inl (eb, q)) =
-    inl (eb ∙ ap bytes_or_none (p.files number held).1, same_besides_then u v w p q)
-fills_then number a b u v w held back (inl (ea, p)) (inr (nb, t, new, q)) =
-    inr (
-      λ e. nb (e ∙ sym (ap bytes_or_none (p.files number held).1)),
-      t,
-      new_from u v w t (same_latest u.latest v.latest p.latest) new,
-      fills_after number b t u v w p q,
-    )
-fills_then number a b u v w held back (inr (na, s, new, p)) (inl (eb, q)) =
-    let same : b ≡ a = eb ∙ ap bytes_or_none ((p.files number held).1 ∙ put_same number (stored_as a s) u.files) in
-    inr (
-      λ e. na (sym same ∙ e),
-      s,
-      new_on u v w s (same_latest v.latest w.latest q.latest) new,
-      subst (λ (x : List ℕ). Becomes u (filled number x s u) w) (sym same) (fills_before number a s u v w p q),
-    )
+fills_then number a b u v w held back (inl (ea, same)) second = filled_after number b u v w held same second
+fills_then number a b u v w held back (inr first) (inl (eb, same)) =
+    let is : a ≡ b = sym (eb ∙ filled_bytes number a u v (inr first) held) in
+    subst (λ (x : List ℕ). Edited (fills number x) u w) is (edit_then (fills number a) u v w (inr first) same)
 fills_then number a b u v w held back (inr (na, s, old, p)) (inr (nb, t, new, q)) =
     inr (
       λ e. na (back e),
       t,
       new_from u v w t p.latest new,
       fills_twice number a b s t u v w p q,
-    )
-
--- what leaves all, and then a filling
-pub fills_later : (number : ℕ) (b : List ℕ) (u v w : World) → Holds v number → SameBesidesOpens u v → Edited (fills number b) v w → Edited (fills number b) u w
-fills_later number b u v w held p (inl (eb, q)) = inl (eb ∙ ap bytes_or_none (p.files number held).1, same_besides_then u v w p q)
-fills_later number b u v w held p (inr (nb, t, new, q)) =
-    inr (
-      λ e. nb (e ∙ sym (ap bytes_or_none (p.files number held).1)),
-      t,
-      new_from u v w t (same_latest u.latest v.latest p.latest) new,
-      fills_after number b t u v w p q,
     )
 
 -- ---- bytes that are written
@@ -173,12 +113,6 @@ first_same p a b x le e =
     let tail : drop (p + length a) x ≡ b ++ rest =
     ap (drop (p + length a)) whole ∙ (ap (λ n. drop n ((take p x ++ a) ++ (b ++ rest))) (sym long) ∙ drop-append_seam (take p x ++ a) (b ++ rest)) in
     flat p a x le ∙ (ap (λ z. take p x ++ (a ++ z)) tail ∙ (sym (append_assoc (take p x) a (b ++ rest)) ∙ sym whole))
-
--- a file that is held has the bytes that it was filled with
-pub filled_bytes : (number : ℕ) (bytes : List ℕ) (v w : World) → Edited (fills number bytes) v w → Holds w number → bytes_of w number ≡ bytes
-filled_bytes number bytes v w (inl (same, besides)) held = ap bytes_or_none (besides.files number held).1 ∙ sym same
-filled_bytes number bytes v w (inr (differs, t, later, becomes)) held =
-    ap bytes_or_none ((becomes.files number held).1 ∙ put_same number (stored_as bytes t) v.files)
 
 -- the end of what was written isn't behind the file's
 pub written_within : (number p : ℕ) (a : List ℕ) (v m : World) → Holds m number → p ≤ length (bytes_of v number) → Edited (fills number (written p a (bytes_of v number))) v m

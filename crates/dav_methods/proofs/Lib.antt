@@ -10,7 +10,12 @@ mod Lighter
 mod WorkDone
 mod LineRows
 pub mod AnswersListed
-mod EditsJoined
+pub mod EditsJoined
+mod Stages
+mod LinesMatch
+mod MakingFollows
+mod PutFollows
+mod OpenedFile
 mod WalkOrder
 mod TreeRows
 mod RemovalWork

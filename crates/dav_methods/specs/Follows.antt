@@ -1,15 +1,14 @@
 -- A store that stands over a told disk by rules: what each of its calls does to the told world. Where a link stands on the way to a
 -- path nothing is said.
-use Rattle.std.specs.Prelude.{◌≤◌, ◌≡◌, ◌⊎◌, ◌++◌, ◌+◌, ℕ, List, [], ◌∷◌, map, take, drop, length, true, false, Option, None, Some, Result, Ok, Err}
-use Rattle.std.specs.List.{filter, list_all}
+use Rattle.std.specs.Prelude.{◌≤◌, ◌≡◌, ◌⊎◌, ◌+◌, ℕ, List, [], map, take, length, true, false, Option, Some, Result, Ok, Err}
+use Rattle.std.specs.List.{filter}
 use Rattle.dav_io.specs.Counts.{Rose}
 use Rattle.dav_io.specs.Told.{Both}
 use Rattle.dav_io.specs.declared.failure.NoMemory.{NoMemory as Wanting}
-use Rattle.dav_core.specs.declared.dav_error.DavError.{DavError}
 use Rattle.dav_core.specs.declared.error.FsError.{FsError}
 use Rattle.dav_core.specs.declared.handle.OpenOptions.{OpenOptions}
 use Rattle.dav_core.specs.declared.tree.Row.{Row}
-use Rattle.dav_core.specs.Allowed.{Allowed, copying, moving, opening, taking_dir, taking_file}
+use Rattle.dav_core.specs.Allowed.{Allowed, taking_dir, taking_file}
 use Rattle.dav_core.specs.DavPath.{WebPath}
 use Rattle.dav_core.specs.Disk.{at_start, kind_at}
 use Rattle.dav_core.specs.Edits.{Edit, Edited, EditedBy, fills}
@@ -23,7 +22,7 @@ use Rattle.dav_core.specs.World.{World, OpenFile, IsWorld, SameBesidesOpens, byt
 use Rattle.dav_core.specs.Writing.{LeftBy, appends, written}
 use Rattle.dav_store.specs.declared.entry.ReadDirMeta.{ReadDirMeta}
 use Rattle.dav_store.specs.Files.{Spoiled}
-use Rattle.dav_store.specs.View.{View, Listings, Closes, Lent}
+use Rattle.dav_store.specs.View.{View, Listings, Closes}
 use Rattle.dav_model.specs.Conditions.{Fields}
 use Rattle.dav_model.specs.Finding.{is_clear, resolved}
 use Rattle.dav_model.specs.Head.{Reply, Stood, refusal}

@@ -27,7 +27,7 @@ mod work;
 pub use carrying::{copy, move_to};
 pub use conditions::{if_match, ifrange_match, ranges_are_heard, reads};
 pub use fields::first_value;
-pub use laws::answers_are_listed;
+pub use laws::{answers_are_listed, writes_follow_their_plans};
 pub use making::{mkaddressbook, mkcalendar, mkcol};
 pub use putting::{put, put_whole};
 pub use removal_laws::{removals_are_listed, removals_follow_their_plan};
