@@ -13,8 +13,8 @@ pub mod AnswersListed
 pub mod EditsJoined
 mod Stages
 mod LinesMatch
-mod MakingFollows
-mod PutFollows
+pub mod MakingFollows
+pub mod PutFollows
 mod OpenedFile
 mod WalkOrder
 mod TreeRows
