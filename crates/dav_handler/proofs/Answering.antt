@@ -75,7 +75,7 @@ reply_told t allow found is = rw (is.status, is.fields, is.body) refl
 -- OPTIONS asks nothing.
 pub methods_answers : (settings : Settings) (s : DiskState) (said : Said) (result : Result Found NoMemory) → IfOk result (IsAlone (allowing settings.allow false))
     → Finds settings s said Methods result s
-methods_answers settings s said (Err x) is = (open_same s, (leaves_same s, refl))
+methods_answers settings s said (Err x) is = (open_same s, leaves_same s, refl)
 methods_answers settings s said (Ok found) is = record {
   holds = subst (λ b. HoldsOnly (read_size_of settings.read_buf_size) s b s) (sym is.body) (open_same s);
   makes = leaves_same s;
@@ -86,7 +86,7 @@ methods_answers settings s said (Ok found) is = record {
 -- What the gates refuse.
 pub gate_answers : (settings : Settings) (s : DiskState) (said : Said) (status : ℕ) (close : Bool) (result : Result Found NoMemory) → IfOk result (IsAlone (refusal said.fields status close))
     → Finds settings s said (Refused status close) result s
-gate_answers settings s said status close (Err x) is = (open_same s, (leaves_same s, refl))
+gate_answers settings s said status close (Err x) is = (open_same s, leaves_same s, refl)
 gate_answers settings s said status close (Ok found) is = record {
   holds = subst (λ b. HoldsOnly (read_size_of settings.read_buf_size) s b s) (sym is.body) (open_same s);
   makes = leaves_same s;
@@ -279,7 +279,7 @@ pub refused_answers : {S C : Type 0} (view : View S C PlainFile) (lists : Listin
     → (AsksByOne view lists → (◌≡◌ {A = Given PlainFile} (Err e) (Err OutOfMemory)) ⊎ AsksUnlessKnown (is_well_known settings method path) (is_set settings.redirect) (status_of e) (refusal fields (status_of e) (closes e)).fields (view.state s).asked (view.state m).asked)
     → IfOk result (IsRefusedBy fields e) → Finds settings (view.state s) (record { fields = fields; body = body }) (At method path) result (view.state m)
 refused_answers view lists plain lists_plain settings s m c method path fields body worlds e (Err x) hears keeps right asks is =
-    (open_kept (view.state s) (view.state m) keeps, (keeps.world, tt))
+    (open_kept (view.state s) (view.state m) keeps, keeps.world, tt)
 refused_answers view lists plain lists_plain settings s m c method path fields body worlds e (Ok found) hears keeps right asks is =
     let same : refusal fields (status_of e) (closes e) ≡ reply_of (view.state m) found = sym (reply_refused (view.state m) fields (status_of e) (closes e) found is.refused) in
     record {

@@ -17,7 +17,7 @@ use Rattle.dav_model.specs.declared.target.Target.TheVariants.{Writes}
 use Rattle.dav_model.specs.Conditions.{Fields}
 use Rattle.dav_model.specs.Finding.{resolved}
 use Rattle.dav_model.specs.Head.{Reply, refusal}
-use Rattle.dav_model.specs.Plans.{Act, Ask, Plan, does, halts, meets_link, plan}
+use Rattle.dav_model.specs.Plans.{Act, Ask, Plan, does, halts, is_planned, meets_link, plan}
 use Rattle.dav_model.specs.Rules.{plain_rules}
 use Rattle.dav_model.specs.Sizes.{read_size_of}
 use Rattle.dav_model.specs.Written.{ByActs, EndsAs, IsWriteReply, Makes, MakesIn, PartOf, ask_of, made, silent}
@@ -43,7 +43,7 @@ ends_part fields plan reply rose v w (inr (is, r, part)) = part
 pub record Did (settings : Settings) (ask : Ask) (s : DiskState) (r : Given) (t : DiskState) : Type 0 where
   pub keeps : KeepsOpen s t
   pub listed : IsAnswer (Rose s.faults t.faults) r
-  pub right : Both s.told t.told (λ v w. (result : Result Reply NoMemory) → answer_or ask.fields r result
+  pub right : is_planned ask.method ≡ true → Both s.told t.told (λ v w. (result : Result Reply NoMemory) → answer_or ask.fields r result
       → meets_link ask.method v.tree (resolved (plain_rules settings) v.tree ask.path.names) ≡ false
       → EndsAs ask.fields (plan (plain_rules settings) v ask) result (Rose s.faults t.faults) v w)
 
@@ -65,15 +65,15 @@ module _ (settings : Settings) (method : DavMethod) (path : WebPath) (said : Sai
   -- what its plan says of this answer, or of want of memory
   made_as : (r : Given) (result : Result Reply NoMemory) → Did settings asks s r t → answer_or said.fields r result
       → Makes (Writes method path) (plain_rules settings) said.fields said.body result s t
-  made_as r result did is = λ folds macos. both_map s.told t.told _
-      (MakesIn (plain_rules settings) asks result (Rose s.faults t.faults)) (λ v w right. right result is) did.right
+  made_as r result did is = λ folds macos alone planned. both_map s.told t.told _
+      (MakesIn (plain_rules settings) asks result (Rose s.faults t.faults)) (λ v w right. right result is) (did.right planned)
 
   -- it was done or refused, and memory was refused for the answer
   made_lost : (r : Given) (reply : Reply) (e : NoMemory) → Did settings asks s r t → answer_or said.fields r (Ok reply)
       → Makes (Writes method path) (plain_rules settings) said.fields said.body (Err e) s t
-  made_lost r reply e did is = λ folds macos. both_map s.told t.told _
+  made_lost r reply e did is = λ folds macos alone planned. both_map s.told t.told _
       (MakesIn (plain_rules settings) asks (Err e) (Rose s.faults t.faults))
-      (λ v w right clear. ends_part said.fields (plan (plain_rules settings) v asks) reply (Rose s.faults t.faults) v w (right (Ok reply) is clear)) did.right
+      (λ v w right clear. ends_part said.fields (plan (plain_rules settings) v asks) reply (Rose s.faults t.faults) v w (right (Ok reply) is clear)) (did.right planned)
 
   -- It was done.
   pub write_done : (outcome : Outcome) (found : Found) → Did settings asks s (Ok outcome) t → found.outcome ≡ outcome → found.body ≡ None
@@ -90,7 +90,7 @@ module _ (settings : Settings) (method : DavMethod) (path : WebPath) (said : Sai
   -- It was refused.
   pub write_refused : (e : DavError) (result : Result Found NoMemory) → Did settings asks s (Err e) t → IfOk result (IsRefusedBy said.fields e)
       → Finds settings s said (Writes method path) result t
-  write_refused e (Err x) did is = (did.keeps, (by_memory (lacks_memory e) refl, tt))
+  write_refused e (Err x) did is = (did.keeps, by_memory (lacks_memory e) refl, tt)
     where
       by_memory : (b : Bool) → lacks_memory e ≡ b → Makes (Writes method path) (plain_rules settings) said.fields said.body (Err x) s t
       by_memory true lacks = made_as (Err e) (Err x) did lacks

@@ -9,6 +9,7 @@ use Rattle.dav_core.specs.Options.{reading}
 use Rattle.dav_core.specs.declared.handle.Lister.{Lister}
 use Rattle.dav_core.specs.Listing.{Lists}
 use Rattle.dav_core.specs.Path.{Names}
+use Rattle.dav_store.specs.declared.entry.ReadDirMeta.TheVariants.{Data}
 use Rattle.dav_store.specs.Files.{AsksAtMostOnce, AsksOnce}
 use Rattle.dav_store.specs.View.{View, Listings}
 use Rattle.dav_plain.specs.declared.file.PlainFile.{PlainFile}
@@ -33,7 +34,7 @@ opens_asks false path o s t e opening =
 refuses_asks : (answer : Result Lister DiskError) (path : Names) (e : FsError) (s t : DiskState) → Lists s path answer t → AsksAtMostOnce s t
 refuses_asks answer path e s t lists = inr lists.counted.asked
 
-begins_asks : (path : Names) (e : FsError) (s t : DiskState) → Begins s path true (Err e) t → AsksAtMostOnce s t
+begins_asks : (path : Names) (e : FsError) (s t : DiskState) → Begins s path Data (Err e) t → AsksAtMostOnce s t
 begins_asks path e s t (inl (is, same)) = inl (ap (λ (d : DiskState). d.asked) same)
 begins_asks path e s t (inr (answer, lists, is)) = refuses_asks answer path e s t lists
 

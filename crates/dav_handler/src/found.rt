@@ -134,7 +134,7 @@ fn change<D: Disk>(
         DavMethod::Put => put_whole(alloc, store, &(), path, fields, body),
         DavMethod::MkCol => mkcol(alloc, store, &(), path, fields),
         DavMethod::Delete => delete(alloc, store, &(), path, fields),
-        _ => mkcalendar(alloc, store, &(), path),
+        _ => mkcalendar(alloc, store, &(), path, fields),
     }
 }
 
@@ -152,7 +152,8 @@ fn write_at<D: Disk>(
     ensures loan { D.loan store.new.disk ≡ D.loan store.old.disk }
 {
     let fields = request.headers();
-    match change(alloc, store, method, path, fields, request.body().as_slice()) {
+    let body = request.body().as_slice();
+    match change(alloc, store, method, path, fields, body) {
         Ok(outcome) => Ok(alone(outcome)),
         Err(error) => refuse(alloc, fields, error),
     }

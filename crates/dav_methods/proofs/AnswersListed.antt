@@ -214,7 +214,7 @@ module _ {S C F : Type 0} (view : View S C F) where
       → AnswersWell s r t
   well_ended given r s m t le is (e, f) = rw (e, f) (record { counts = le; answers = is })
 
-  well_short : (s m t : S) (r : Given) → (view.state s).faults ≤ (view.state m).faults → Ends (Err dav.NoMemory) m r t → AnswersWell s r t
+  pub well_short : (s m t : S) (r : Given) → (view.state s).faults ≤ (view.state m).faults → Ends (Err dav.NoMemory) m r t → AnswersWell s r t
   well_short s m t r le ends = well_ended (Err dav.NoMemory) r s m t le (inl refl) ends
 
   pub well_next : (run : Run S) → RunsWell run → RunsWell (Next run)

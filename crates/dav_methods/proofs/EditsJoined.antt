@@ -1,8 +1,7 @@
 -- Edits before and after what changes nothing, and edits one after the other that are one edit.
 use Rattle.std.proofs.Common.{◌≡◌, ◌≤◌, ◌<◌, ◌≤ℤ◌, ◌==◌, ◌&&◌, ◌||◌, ◌++◌, ◌⊎◌, inl, inr, cond, not, ℕ, List, [], ◌∷◌, map, Bool, true, false, Option, None, Some, refl, sym, ap, ap₂, subst, ◌∙◌, arith, ℤ, int_lt, nat_lt}
 use Rattle.std.specs.Ordering.{int_eq}
-use Rattle.std.specs.List.{AllByRecursion, filter}
-use Rattle.std.specs.Option.{option_map}
+use Rattle.std.specs.List.{AllByRecursion}
 use Rattle.std.proofs.lemmas.Bool.Decides.{nat_tests}
 use Rattle.std.proofs.lemmas.Int.{ints}
 use Rattle.dav_core.specs.declared.time.FileTime.{FileTime}
@@ -10,10 +9,10 @@ use Rattle.dav_core.specs.declared.tree.Kind.{Kind}
 use Rattle.dav_core.specs.declared.tree.Kind.TheVariants.{File}
 use Rattle.dav_core.specs.declared.tree.Row.{Row}
 use Rattle.dav_core.specs.Changes.{timed_row, without}
-use Rattle.dav_core.specs.Edits.{Becomes, Edit, Edited, EditedBy, IsNew, IsNext, IsPart, fills, filled, is_later, made, makes, moves, stored_as, taken, takes, timed_number, touched_to}
+use Rattle.dav_core.specs.Edits.{Becomes, Edit, Edited, IsNew, IsNext, fills, filled, made, makes, moves, stored_as, taken, takes, timed_number, touched_to}
 use Rattle.dav_core.specs.Path.{Names, is_front, parent_of, same_names}
 use Rattle.dav_core.specs.Tree.{row_at}
-use Rattle.dav_core.specs.World.{Holds, NotAfter, OpenFile, SameBesidesOpens, Stored, World, bytes_of, bytes_or_none, is_numbered, put}
+use Rattle.dav_core.specs.World.{Holds, NotAfter, SameBesidesOpens, Stored, World, bytes_of, bytes_or_none, is_numbered, put}
 use Rattle.dav_core.proofs.UnchangedLemmas.{equal_keys, other_keys, put_other, put_same, same_besides_then}
 
 -- ---- what changes nothing, after an edit
@@ -298,9 +297,9 @@ path_kept dir p row = by (same_names dir row.path) refl
     by true e = rw e refl
     by false e = rw e refl
 
-found_number : (b : Bool) (row found : Row) (rest : Option Row) (n : ℕ) → row.number ≡ n → (rest ≡ Some found → found.number ≡ n) → cond b (Some row) rest ≡ Some found → found.number ≡ n
-found_number true row found rest n is more e = let same : row ≡ found = cc in ap (λ (r : Row). r.number) (sym same) ∙ is
-found_number false row found rest n is more e = more e
+found_is : (b : Bool) (row found : Row) → cond b (Some row) None ≡ Some found → found ≡ row
+found_is true row found e = cc
+found_is false row found e = cc
 
 none_found : (b : Bool) (row : Row) (rest : Option Row) → cond b (Some row) rest ≡ None → (b ≡ false) × (rest ≡ None)
 none_found true row rest e = cc
@@ -310,14 +309,76 @@ past_row : (b : Bool) (row found : Row) (rest : Option Row) → b ≡ false → 
 past_row true row found rest e f = cc
 past_row false row found rest e f = f
 
-pub made_number : (path dir : Names) (number : ℕ) (s p : FileTime) (found : Row) (rows : List Row) → row_at rows path ≡ None
-    → row_at (map (timed_row dir p) (rows ++ file_row path number s ∷ [])) path ≡ Some found → found.number ≡ number
-made_number path dir number s p found [] none e =
-    found_number _ (timed_row dir p (file_row path number s)) found None number (timed_keeps dir p (file_row path number s)) (λ f. cc) e
-made_number path dir number s p found (row ∷ rows) none e =
+pub made_found : (path dir : Names) (number : ℕ) (s p : FileTime) (found : Row) (rows : List Row) → row_at rows path ≡ None
+    → row_at (map (timed_row dir p) (rows ++ file_row path number s ∷ [])) path ≡ Some found → found ≡ timed_row dir p (file_row path number s)
+made_found path dir number s p found [] none e = found_is _ (timed_row dir p (file_row path number s)) found e
+made_found path dir number s p found (row ∷ rows) none e =
     let first = none_found (same_names path row.path) row (row_at rows path) none in
-    made_number path dir number s p found rows first.1
+    made_found path dir number s p found rows first.1
     (past_row _ (timed_row dir p row) found _ (ap (same_names path) (path_kept dir p row) ∙ first.0) e)
+
+kind_kept : (dir : Names) (p : FileTime) (row : Row) → (timed_row dir p row).kind ≡ row.kind
+kind_kept dir p row = by (same_names dir row.path) refl
+  where
+    by : (b : Bool) → same_names dir row.path ≡ b → (timed_row dir p row).kind ≡ row.kind
+    by true e = rw e refl
+    by false e = rw e refl
+
+-- a row is a regular file of this number
+pub record IsFile (row : Row) (number : ℕ) : Type 0 where
+  pub numbered : row.number ≡ number
+  pub kind : row.kind ≡ File
+
+pub made_file : (path dir : Names) (number : ℕ) (s p : FileTime) (found : Row) (rows : List Row) → row_at rows path ≡ None
+    → row_at (map (timed_row dir p) (rows ++ file_row path number s ∷ [])) path ≡ Some found → IsFile found number
+made_file path dir number s p found rows none e =
+    let is = made_found path dir number s p found rows none e in record {
+      numbered = ap (λ (r : Row). r.number) is ∙ timed_keeps dir p (file_row path number s);
+      kind = ap (λ (r : Row). r.kind) is ∙ kind_kept dir p (file_row path number s);
+    }
+
+renewed_parts : (number : ℕ) (t : FileTime) (row : Row) → ((timed_number number t row).path ≡ row.path) × ((timed_number number t row).kind ≡ row.kind)
+renewed_parts number t row = by (row.number == number) refl
+  where
+    by : (b : Bool) → (row.number == number) ≡ b → ((timed_number number t row).path ≡ row.path) × ((timed_number number t row).kind ≡ row.kind)
+    by true e = rw e (refl, refl)
+    by false e = rw e (refl, refl)
+
+renewed_at : (b : Bool) (number : ℕ) (t : FileTime) (path : Names) (row there found : Row) (rest more : Option Row) → same_names path row.path ≡ b
+    → (rest ≡ Some there → more ≡ Some found → (found.number ≡ there.number) × (found.kind ≡ there.kind)) → cond b (Some row) rest ≡ Some there
+    → cond b (Some (timed_number number t row)) more ≡ Some found → (found.number ≡ there.number) × (found.kind ≡ there.kind)
+renewed_at true number t path row there found rest more e on at now =
+    let first : row ≡ there = cc in
+    let second : timed_number number t row ≡ found = cc in (
+      ap (λ (r : Row). r.number) (sym second) ∙ (renewed_keeps number t row ∙ ap (λ (r : Row). r.number) first),
+      ap (λ (r : Row). r.kind) (sym second) ∙ ((renewed_parts number t row).1 ∙ ap (λ (r : Row). r.kind) first),
+    )
+renewed_at false number t path row there found rest more e on at now = on at now
+
+-- What stands at a path has its number and its kind where a file got another time.
+pub renewed_found : (number : ℕ) (t : FileTime) (path : Names) (there found : Row) (rows : List Row) → row_at rows path ≡ Some there
+    → row_at (map (timed_number number t) rows) path ≡ Some found → (found.number ≡ there.number) × (found.kind ≡ there.kind)
+renewed_found number t path there found [] at now = cc
+renewed_found number t path there found (row ∷ rows) at now =
+    renewed_at (same_names path row.path) number t path row there found (row_at rows path) (row_at (map (timed_number number t) rows) path) refl
+    (renewed_found number t path there found rows) at
+    (sym (ap (λ b. cond b (Some (timed_number number t row)) (row_at (map (timed_number number t) rows) path)) (ap (same_names path) (renewed_parts number t row).0)) ∙ now)
+
+filled_row : (number : ℕ) (bytes : List ℕ) (path : Names) (there found : Row) (v w : World) → Edited (fills number bytes) v w → row_at v.tree path ≡ Some there → row_at w.tree path ≡ Some found
+    → (found.number ≡ there.number) × (found.kind ≡ there.kind)
+filled_row number bytes path there found v w (inl (is, same)) at now =
+    let one : Some there ≡ Some found = sym at ∙ (ap (λ rows. row_at rows path) (sym same.tree) ∙ now) in
+    let row : there ≡ found = cc in
+    (ap (λ (r : Row). r.number) (sym row), ap (λ (r : Row). r.kind) (sym row))
+filled_row number bytes path there found v w (inr (other, t, new, q)) at now =
+    renewed_found number t path there found v.tree at (ap (λ rows. row_at rows path) (sym q.tree) ∙ now)
+
+-- the file at a path that was filled
+pub filled_file : (number : ℕ) (bytes : List ℕ) (path : Names) (there found : Row) (v w : World) → Edited (fills number bytes) v w → row_at v.tree path ≡ Some there → there.kind ≡ File
+    → row_at w.tree path ≡ Some found → IsFile found there.number
+filled_file number bytes path there found v w edited at kind now =
+    let parts = filled_row number bytes path there found v w edited at now in
+    record { numbered = parts.0; kind = parts.1 ∙ kind }
 
 -- no row has a number above all
 not_its : (b : Bool) (n greatest : ℕ) (row : Row) (rest : Bool) → (n == row.number) ≡ b → row.number ≤ greatest → greatest < n → rest ≡ false → (n == row.number || rest) ≡ false

@@ -1,7 +1,7 @@
 mod OwnTags
 mod Unconditional
 mod Joined
-mod KeptOpen
+pub mod KeptOpen
 mod TableLines
 mod PiecesWritten
 mod FilePut
@@ -9,5 +9,23 @@ mod MembersRead
 mod Lighter
 mod WorkDone
 mod LineRows
-mod AnswersListed
-mod EditsJoined
+pub mod AnswersListed
+pub mod EditsJoined
+mod Stages
+mod LinesMatch
+mod MakingFollows
+mod PutFollows
+mod OpenedFile
+mod WalkOrder
+mod TreeRows
+mod RemovalWork
+mod WorkCovers
+mod TakenAfter
+mod RemovalRun
+pub mod DeleteRight
+pub mod RemovalsListed
+mod Addresses
+mod Overlaps
+mod CopyDone
+mod Leaving
+mod CarryRows

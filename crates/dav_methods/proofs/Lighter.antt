@@ -65,7 +65,7 @@ members_weigh path answers listed members told once =
     let right : length members * below path ≡ length listed * below path = ap (λ n. n * below path) long in
     omega (arith, all, same, right)
 
-weight_in : (members : List Child) (works : List Work) → weight (map work_of members ++ works) ≡ sum_by weigh members + weight works
+pub weight_in : (members : List Child) (works : List Work) → weight (map work_of members ++ works) ≡ sum_by weigh members + weight works
 weight_in [] works = omega arith
 weight_in (m ∷ members) works =
     let rest : weight (map work_of members ++ works) ≡ sum_by weigh members + weight works = weight_in members works in

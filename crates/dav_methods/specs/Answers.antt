@@ -1,5 +1,5 @@
 -- What the methods that write may answer over a store that refuses few things, in any run: a failure only where a fault was met.
-use Rattle.std.specs.Prelude.{◌≡◌, ◌≤◌, ◌⊎◌, ℕ, Bool, true, false, List, Option, Result, Ok, Err}
+use Rattle.std.specs.Prelude.{◌≡◌, ◌≤◌, ◌⊎◌, ℕ, Bool, true, false, List, Option, Some, Result, Ok, Err}
 use Rattle.dav_io.specs.Counts.{Rose}
 use Rattle.dav_core.specs.declared.error.FsError.{FsError}
 use Rattle.dav_core.specs.declared.error.FsError.TheVariants as fs
@@ -54,7 +54,8 @@ module _ {S C F L E : Type 0} (view : View S C F) (lists : Listings S C L E) (wr
     pub copies : (s t : S) (from to : WebPath) (r : Result Unit FsError) → view.copies s c from to r t → UsualIn s r t
     pub begins : (s t : S) (path : WebPath) (how : ReadDirMeta) (r : Result L FsError) → lists.lists s c path how r t → UsualIn s r t
     pub goes_on : (s t : S) (l k : L) (r : Result (Option E) FsError) → lists.lists_on s l r t k → UsualIn s r t
-    pub says : (s t : DiskState) (e : E) (r : Result Info FsError) → lists.says e s r t → Usual s r t
+    -- (an entry that was given just now; what it tells may have been asked when it was given)
+    pub says : (s m t : S) (l k : L) (e : E) (r : Result Info FsError) → lists.lists_on s l (Ok (Some e)) m k → lists.says e (view.state m) r (view.state t) → UsualIn s r t
     pub ends : (s t : S) (l : L) → lists.ends_list s l t → (view.state s).faults ≤ (view.state t).faults
 
 -- ---- answers

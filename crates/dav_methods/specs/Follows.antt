@@ -1,15 +1,14 @@
 -- A store that stands over a told disk by rules: what each of its calls does to the told world. Where a link stands on the way to a
 -- path nothing is said.
-use Rattle.std.specs.Prelude.{◌≤◌, ◌≡◌, ◌⊎◌, ◌++◌, ℕ, List, [], ◌∷◌, map, take, drop, length, true, false, Option, None, Some, Result, Ok, Err}
-use Rattle.std.specs.List.{filter, list_all}
+use Rattle.std.specs.Prelude.{◌≤◌, ◌≡◌, ◌⊎◌, ◌+◌, ℕ, List, [], map, take, length, true, false, Option, Some, Result, Ok, Err}
+use Rattle.std.specs.List.{filter}
 use Rattle.dav_io.specs.Counts.{Rose}
 use Rattle.dav_io.specs.Told.{Both}
 use Rattle.dav_io.specs.declared.failure.NoMemory.{NoMemory as Wanting}
-use Rattle.dav_core.specs.declared.dav_error.DavError.{DavError}
 use Rattle.dav_core.specs.declared.error.FsError.{FsError}
 use Rattle.dav_core.specs.declared.handle.OpenOptions.{OpenOptions}
 use Rattle.dav_core.specs.declared.tree.Row.{Row}
-use Rattle.dav_core.specs.Allowed.{Allowed, copying, moving, opening, taking_dir, taking_file}
+use Rattle.dav_core.specs.Allowed.{Allowed, taking_dir, taking_file}
 use Rattle.dav_core.specs.DavPath.{WebPath}
 use Rattle.dav_core.specs.Disk.{at_start, kind_at}
 use Rattle.dav_core.specs.Edits.{Edit, Edited, EditedBy, fills}
@@ -19,11 +18,11 @@ use Rattle.dav_core.specs.Listing.{name_of, stands_in}
 use Rattle.dav_core.specs.Path.{Names}
 use Rattle.dav_core.specs.Statuses.{closes, lacks_memory, status_of}
 use Rattle.dav_core.specs.Tree.{has_dir, is_dir, is_linked, row_at}
-use Rattle.dav_core.specs.World.{World, OpenFile, SameBesidesOpens, bytes_of}
-use Rattle.dav_core.specs.Writing.{LeftBy, written}
+use Rattle.dav_core.specs.World.{World, OpenFile, IsWorld, SameBesidesOpens, bytes_of}
+use Rattle.dav_core.specs.Writing.{LeftBy, appends, written}
 use Rattle.dav_store.specs.declared.entry.ReadDirMeta.{ReadDirMeta}
 use Rattle.dav_store.specs.Files.{Spoiled}
-use Rattle.dav_store.specs.View.{View, Listings, Closes, Lent}
+use Rattle.dav_store.specs.View.{View, Listings, Closes}
 use Rattle.dav_model.specs.Conditions.{Fields}
 use Rattle.dav_model.specs.Finding.{is_clear, resolved}
 use Rattle.dav_model.specs.Head.{Reply, Stood, refusal}
@@ -113,9 +112,10 @@ module _ {S C F L E : Type 0} (view : View S C F) (lists : Listings S C L E) (wr
   OpensBy rules path m (Err e) n v w = SameBesidesOpens v w
       × (CallsFor (putting rules v path) e ⊎ Spoiled {T = F} (view.state m) (Err e) (view.state n))
 
-  -- The bytes were written from the file's place on; or a front of them.
+  -- The bytes were written from the file's place on, which is behind them now; or a front of them.
   abbrev pub WritesBy : ℕ → List ℕ → Result Unit FsError → OpenFile → World → World → Type 0
   WritesBy h bytes (Ok x) o v w = Edited (fills o.number (written o.place bytes (bytes_of v o.number))) v w
+      × (w.opens h ≡ Some (record o { place = o.place + length bytes }))
   WritesBy h bytes (Err e) o v w = (n : ℕ) × Edited (fills o.number (written o.place (take n bytes) (bytes_of v o.number))) v w
 
   -- A directory is listed to its end: its members are those of the tree. It fails to be listed only by a fault or want of
@@ -132,6 +132,8 @@ module _ {S C F L E : Type 0} (view : View S C F) (lists : Listings S C L E) (wr
   pub record Follows (rules : Rules) (s : S) : Type 0 where
     -- no count of faults falls
     pub counts : (n : S) → Reached s n → (view.state s).faults ≤ (view.state n).faults
+    -- the rows of each told world are a tree
+    pub trees : (n : S) (w : World) → Reached s n → (view.state n).told ≡ Some w → IsWorld w
     pub looks : (m n : S) (path : WebPath) (r : Result Info FsError) → Reached s m → view.looks m c path r n
         → Told m n (LooksBy rules path m r n)
     pub looks_at_link : (m n : S) (path : WebPath) (r : Result Info FsError) → Reached s m → view.looks_at_link m c path r n
@@ -143,15 +145,16 @@ module _ {S C F L E : Type 0} (view : View S C F) (lists : Listings S C L E) (wr
         → Calls (taking_dir v.tree (resolved rules v.tree path.names)) m r n v w)
     -- (a path without a final slash)
     pub removes_file : (m n : S) (path : WebPath) (r : Result Unit FsError) → Reached s m → view.removes_file m c path r n
-        → path.slash ≡ false
-        → Told m n (λ v w. is_linked v.tree (resolved rules v.tree path.names) ≡ false
+        → Told m n (λ v w. path.slash ≡ false → is_linked v.tree (resolved rules v.tree path.names) ≡ false
         → Calls (taking_file v.tree (resolved rules v.tree path.names)) m r n v w)
     pub opens : (m n : S) (path : WebPath) (r : Result F FsError) → Reached s m → view.opens m c path put_options r n
         → path.slash ≡ false
         → Told m n (λ v w. is_linked v.tree (resolved rules v.tree path.names) ≡ false → OpensBy rules path m r n v w)
-    -- (a file that isn't opened to append)
+    -- (a file that isn't opened to append, and whose place isn't behind its end)
     pub writes_file : (m n : S) (f g : F) (bytes : List ℕ) (r : Result Unit FsError) → Reached s m → WritesFile view writes m f bytes r n g
-        → Told m n (λ v w. (o : OpenFile) → v.opens (view.handle f) ≡ Some o → WritesBy (view.handle f) bytes r o v w)
+        → appends ((view.state m).live (view.handle f)) ≡ false
+        → Told m n (λ v w. (o : OpenFile) → v.opens (view.handle f) ≡ Some o → o.place ≤ length (bytes_of v o.number)
+        → WritesBy (view.handle f) bytes r o v w)
     pub members : (m n : S) (path : WebPath) (members : List Child) → Reached s m → HasMembers view lists m c path members n
         → Told m n (ListsBy rules path members)
     pub no_members : (m n : S) (path : WebPath) (e : FsError) → Reached s m → HasNoMembers view lists m c path e n

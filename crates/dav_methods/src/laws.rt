@@ -1,9 +1,13 @@
 //! Laws over the tables of the methods that write, each the contract of a function that does nothing.
-ghost use Rattle.std.specs.Prelude.{ℕ, List};
+ghost use Rattle.std.specs.Prelude.{◌≡◌, ◌⊎◌, ℕ, List, None, false};
+ghost use Rattle.dav_core.specs.declared.method.DavMethod.TheVariants.{MkAddressbook, MkCalendar, MkCol, Put};
 ghost use Rattle.dav_core.specs.DavPath.{WebPath};
 ghost use Rattle.dav_store.specs.View.{the_listings, the_view};
 ghost use Rattle.dav_model.specs.Conditions.{Fields};
+ghost use Rattle.dav_model.specs.Plans.{Ask};
+ghost use Rattle.dav_model.specs.Rules.{Rules};
 ghost use Rattle.dav_methods.specs.Answers.{Answers, RefusesUsually};
+ghost use Rattle.dav_methods.specs.Follows.{Follows, RightIn, Told};
 ghost use Rattle.dav_methods.specs.Lines.{Given};
 ghost use Rattle.dav_methods.specs.Putting.{PutsWhole};
 ghost use Rattle.dav_methods.specs.Table.{MkCalendars, MkCols};
@@ -28,4 +32,38 @@ pub fn answers_are_listed<S: GuardedFileSystem<C>, C>()
         → (path : WebPath) (fields : Fields) (bytes : List ℕ) (s t : S) (r : Given)
         → PutsWhole (the_view S.GuardedFileSystem S.Disk.Disk S.File.DavFile) S.File.writes c path fields bytes s r t
         → Answers (the_view S.GuardedFileSystem S.Disk.Disk S.File.DavFile) s r t }
+{}
+
+/// Over a store that follows its rules, by which each path is meant as it is written, a request that writes makes of a
+/// told world what its plan says, and is answered so.
+pub fn writes_follow_their_plans<S: GuardedFileSystem<C>, C>()
+    ensures mkcol { (c : C) (rules : Rules) (s : S) → Follows (the_view S.GuardedFileSystem S.Disk.Disk S.File.DavFile)
+        (the_listings S.GuardedFileSystem S.Entry.DavDirEntry) S.File.writes c rules s
+        → rules.folds ≡ false → rules.macos ≡ false → rules.alone ≡ None
+        → (ask : Ask) → ask.method ≡ MkCol → (r : Given) (t : S)
+        → MkCols (the_view S.GuardedFileSystem S.Disk.Disk S.File.DavFile) c ask.path ask.fields s r t
+        → Told (the_view S.GuardedFileSystem S.Disk.Disk S.File.DavFile)
+        (the_listings S.GuardedFileSystem S.Entry.DavDirEntry) S.File.writes c s t
+        (RightIn (the_view S.GuardedFileSystem S.Disk.Disk S.File.DavFile)
+        (the_listings S.GuardedFileSystem S.Entry.DavDirEntry) S.File.writes c rules ask s r t) }
+    ensures mkcalendar { (c : C) (rules : Rules) (s : S)
+        → Follows (the_view S.GuardedFileSystem S.Disk.Disk S.File.DavFile)
+        (the_listings S.GuardedFileSystem S.Entry.DavDirEntry) S.File.writes c rules s
+        → rules.folds ≡ false → rules.macos ≡ false → rules.alone ≡ None
+        → (ask : Ask) → (ask.method ≡ MkCalendar) ⊎ (ask.method ≡ MkAddressbook) → (r : Given) (t : S)
+        → MkCalendars (the_view S.GuardedFileSystem S.Disk.Disk S.File.DavFile) c ask.path s r t
+        → Told (the_view S.GuardedFileSystem S.Disk.Disk S.File.DavFile)
+        (the_listings S.GuardedFileSystem S.Entry.DavDirEntry) S.File.writes c s t
+        (RightIn (the_view S.GuardedFileSystem S.Disk.Disk S.File.DavFile)
+        (the_listings S.GuardedFileSystem S.Entry.DavDirEntry) S.File.writes c rules ask s r t) }
+    ensures put { (c : C) (rules : Rules) (s : S) → Follows (the_view S.GuardedFileSystem S.Disk.Disk S.File.DavFile)
+        (the_listings S.GuardedFileSystem S.Entry.DavDirEntry) S.File.writes c rules s
+        → rules.folds ≡ false → rules.macos ≡ false → rules.alone ≡ None
+        → (ask : Ask) → ask.method ≡ Put → (r : Given) (t : S)
+        → PutsWhole (the_view S.GuardedFileSystem S.Disk.Disk S.File.DavFile) S.File.writes c ask.path ask.fields
+        ask.body s r t
+        → Told (the_view S.GuardedFileSystem S.Disk.Disk S.File.DavFile)
+        (the_listings S.GuardedFileSystem S.Entry.DavDirEntry) S.File.writes c s t
+        (RightIn (the_view S.GuardedFileSystem S.Disk.Disk S.File.DavFile)
+        (the_listings S.GuardedFileSystem S.Entry.DavDirEntry) S.File.writes c rules ask s r t) }
 {}

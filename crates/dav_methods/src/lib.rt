@@ -2,25 +2,34 @@
 //! write, over any store.
 #![tactic(auto)]
 
+mod asked;
+mod carrying;
 mod child;
 mod conditions;
+mod copying;
+mod destination;
 mod fields;
 mod laws;
 mod lines;
 mod making;
 mod outcomes;
+mod overlap;
 mod pouring;
 mod putting;
 mod reading;
+mod removal_laws;
 mod removing;
 mod standing;
 mod telling;
+mod transfer;
 mod work;
 
+pub use carrying::{copy, move_to};
 pub use conditions::{if_match, ifrange_match, ranges_are_heard, reads};
 pub use fields::first_value;
-pub use laws::answers_are_listed;
+pub use laws::{answers_are_listed, writes_follow_their_plans};
 pub use making::{mkaddressbook, mkcalendar, mkcol};
 pub use putting::{put, put_whole};
+pub use removal_laws::{removals_are_listed, removals_follow_their_plan};
 pub use removing::delete;
 pub use telling::{is_among, options};

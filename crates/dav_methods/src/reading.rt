@@ -17,19 +17,27 @@ use dav_io::{NoMemory, Text};
 use dav_store::{DavDirEntry, GuardedFileSystem, ReadDirMeta, entry_metadata};
 use std::alloc::Global;
 
-// The member of this name, which is plain.
-fn child(alloc: Global, path: &DavPath, name: &str, dir: bool) -> Result<Child, NoMemory>
+// The path of the member of this name, which is plain.
+pub fn member_path(path: &DavPath, name: &str, dir: bool) -> Result<DavPath, NoMemory>
     requires { is_plain name.now ≡ true }
-    ensures { IfOk result (λ c. c ≡ child_named path.now name.now dir) }
+    ensures { IfOk result (λ below. below ≡ (child_named path.now name.now dir).path) }
 {
     let mut below = path.try_clone()?;
     below.push_segment(name)?;
     if dir {
         below.add_slash();
     }
+    Ok(below)
+}
+
+// The member of this name, which is plain.
+fn child(alloc: Global, path: &DavPath, name: &str, dir: bool) -> Result<Child, NoMemory>
+    requires { is_plain name.now ≡ true }
+    ensures { IfOk result (λ c. c ≡ child_named path.now name.now dir) }
+{
     Ok(Child {
         name: Text::copy(alloc, name)?,
-        path: below,
+        path: member_path(path, name, dir)?,
         dir,
     })
 }

@@ -25,7 +25,7 @@ use std::collections::VecDeque;
 const MOST_NAMES: usize = 65_536;
 
 // The line of a store's call.
-fn line_of(answer: Result<(), FsError>) -> Result<(), DavError>
+pub fn line_of(answer: Result<(), FsError>) -> Result<(), DavError>
     ensures { result ≡ the_line_of answer }
 {
     match answer {
@@ -35,7 +35,7 @@ fn line_of(answer: Result<(), FsError>) -> Result<(), DavError>
 }
 
 // Whether a path has too many names to be walked into.
-fn is_deep(path: &DavPath) -> bool
+pub fn is_deep(path: &DavPath) -> bool
     ensures { result ≡ the_is_deep path.now }
 {
     path.names().as_slice().len() > MOST_NAMES

@@ -1,6 +1,6 @@
 // What OPTIONS is answered with.
 ghost use Rattle.std.specs.Prelude.{◌≡◌, ◌++◌, ◌∷◌, [], IfOk, OnOk, codes, map, string_bytes};
-ghost use Rattle.std.specs.List.{join_by};
+ghost use Rattle.std.specs.List.{filter, join_by};
 ghost use Rattle.dav_model.specs.Allowing.{allowing, answered, is_told as the_is_told, word_of as the_word_of, words_told as the_words_told};
 ghost use Rattle.dav_model.specs.Gates.{in_allowed};
 ghost use Rattle.dav_model.specs.Head.{field};
@@ -54,6 +54,24 @@ fn is_told(allow: Option<DavMethodSet>, void: bool, method: DavMethod) -> bool
     is_among(allow, method)
 }
 
+// The words of those of these methods that are told.
+fn words_of(
+    alloc: Global,
+    allow: Option<DavMethodSet>,
+    void: bool,
+    methods: &[DavMethod],
+) -> Result<Vec<&'static str>, NoMemory>
+    ensures { IfOk result (λ words. map (λ word. word.now) words.items ≡ map the_word_of (filter (the_is_told allow void) methods.now)) }
+{
+    let mut words = Vec::new(alloc);
+    for method in methods {
+        if is_told(allow, void, *method) {
+            words.push(word_of(*method))?;
+        }
+    }
+    Ok(words)
+}
+
 // The words of the methods that are told.
 fn words_told(
     alloc: Global,
@@ -62,7 +80,6 @@ fn words_told(
 ) -> Result<Vec<&'static str>, NoMemory>
     ensures { IfOk result (λ words. map (λ word. word.now) words.items ≡ the_words_told allow void) }
 {
-    let mut words = Vec::new(alloc);
     let answered = [
         DavMethod::Options,
         DavMethod::Head,
@@ -73,12 +90,7 @@ fn words_told(
         DavMethod::MkCalendar,
         DavMethod::MkAddressbook,
     ];
-    for method in answered {
-        if is_told(allow, void, method) {
-            words.push(word_of(method))?;
-        }
-    }
-    Ok(words)
+    words_of(alloc, allow, void, &answered)
 }
 
 // These words with commas between them.

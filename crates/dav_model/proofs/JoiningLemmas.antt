@@ -336,7 +336,7 @@ leaves_same s = both_same s.told s.told SameBesidesOpens same_besides refl
 
 -- Where nothing changed, nothing of a plan was made.
 pub makes_kept : (target : Target) (rules : Rules) (fields : Fields) (body : List ℕ) (e : NoMemory) (s t : Point) → Leaves s t → Makes target rules fields body (Err e) s t
-makes_kept (Writes method path) rules fields body e s t leaves = λ folds macos.
+makes_kept (Writes method path) rules fields body e s t leaves = λ folds macos alone planned.
     both_map s.told t.told SameBesidesOpens (MakesIn rules (ask_of method path fields body) (Err e) (Rose s.faults t.faults))
     (λ v w same clear. part_none (plan rules v (ask_of method path fields body)).acts v w same) leaves
 makes_kept (At method path) rules fields body e s t leaves = leaves

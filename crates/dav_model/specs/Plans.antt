@@ -1,13 +1,13 @@
 -- The tables of the methods that write, over a world: the line that refuses a request, or the changes that it makes, in their
 -- order (RFC 9110, sections 9.3.4 and 9.3.5, and RFC 4918, sections 9.3, 9.6 and 9.7). In each table the first line that fits
 -- decides.
-use Rattle.std.specs.Prelude.{◌&&◌, ◌||◌, ℕ, nat_lt, List, [], ◌∷◌, map, Bool, true, false, cond, not, length, take, Option, None, Some, Result, Ok, Err}
-use Rattle.std.specs.List.{list_all}
+use Rattle.std.specs.Prelude.{◌&&◌, ◌||◌, ℕ, nat_lt, List, [], ◌∷◌, map, Bool, true, false, cond, not, length, Option, None, Some, Result, Ok, Err}
+use Rattle.std.specs.List.{list_all, list_any}
 use Rattle.dav_core.specs.declared.error.FsError.{FsError}
 use Rattle.dav_core.specs.declared.error.FsError.TheVariants as fs
 use Rattle.dav_core.specs.declared.handle.OpenOptions.{OpenOptions}
 use Rattle.dav_core.specs.declared.method.DavMethod.{DavMethod}
-use Rattle.dav_core.specs.declared.method.DavMethod.TheVariants.{Put, MkCol, Delete}
+use Rattle.dav_core.specs.declared.method.DavMethod.TheVariants.{Delete, MkAddressbook, MkCalendar, MkCol, Put}
 use Rattle.dav_core.specs.declared.tree.Row.{Row}
 use Rattle.dav_core.specs.Allowed.{Allowed, is_root, making_dir, opening}
 use Rattle.dav_core.specs.DavPath.{WebPath}
@@ -15,7 +15,7 @@ use Rattle.dav_core.specs.Edits.{Edit, makes, fills, takes}
 use Rattle.dav_core.specs.Errors.{fs_error_of}
 use Rattle.dav_core.specs.Path.{Names, is_front, parent_of}
 use Rattle.dav_core.specs.Statuses.{fs_status}
-use Rattle.dav_core.specs.Tree.{has_dir, is_dir, is_link, is_linked}
+use Rattle.dav_core.specs.Tree.{is_dir, is_link, is_linked}
 use Rattle.dav_core.specs.World.{World}
 use Rattle.dav_model.specs.Conditions.{Fields, condition, strong}
 use Rattle.dav_model.specs.Finding.{exactly, is_forbidden, looked_at, resolved}
@@ -191,16 +191,24 @@ mkcalendar_plan rules w ask = record {
 
 -- ---- DELETE
 
--- A path that lies in a directory of more than 65,536 names, or is one. No such directory is walked into.
-abbrev pub is_too_deep : List Row → Names → Bool
-is_too_deep tree path = nat_lt 65536 (length path) && has_dir tree (take 65537 path)
+-- A directory whose path has more than 65,536 names. No such directory is walked into.
+abbrev pub is_deep_dir : Row → Bool
+is_deep_dir row = is_dir row.kind && nat_lt 65536 (length row.path)
 
-abbrev pub removal : List Row → Row → Act
-removal tree row = cond (is_too_deep tree row.path) (halts (line 403)) (does (takes row.path))
+-- A path that lies in such a directory among these rows, or is one.
+abbrev pub is_too_deep : List Row → Names → Bool
+is_too_deep rows path = list_any (λ row. is_deep_dir row && is_front row.path path) rows
+
+abbrev pub removal : List Row → Names → Act
+removal rows path = cond (is_too_deep rows path) (halts (line 403)) (does (takes path))
+
+-- These rows go, in their order.
+abbrev pub removals : List Row → List Act
+removals rows = map (λ row. removal rows row.path) rows
 
 -- What stands at a path goes: members before their directory, in the order of their names.
 abbrev pub removing : Rules → World → WebPath → List Act
-removing rules w path = map (removal w.tree) (walk members_first (resolved rules w.tree path.names) w.tree)
+removing rules w path = removals (walk members_first (resolved rules w.tree path.names) w.tree)
 
 abbrev pub may_delete : Rules → World → Ask → Option Halt
 may_delete rules w ask = first (
@@ -218,7 +226,16 @@ delete_plan rules w ask = record {
 
 -- ---- all of them
 
--- The plan of a method. (Only methods that write are asked for theirs.)
+-- The methods that have a plan here.
+abbrev pub is_planned : DavMethod → Bool
+is_planned Put = true
+is_planned MkCol = true
+is_planned MkCalendar = true
+is_planned MkAddressbook = true
+is_planned Delete = true
+is_planned other = false
+
+-- The plan of a method. (Only methods that write and have one are asked for theirs.)
 abbrev pub plan_as : DavMethod → Rules → World → Ask → Plan
 plan_as Put rules w ask = put_plan rules w ask
 plan_as MkCol rules w ask = mkcol_plan rules w ask

@@ -1,5 +1,5 @@
 -- What a request that writes makes of a world, by its plan, and what it is answered.
-use Rattle.std.specs.Prelude.{◌≡◌, ◌==◌, ◌⊎◌, ℕ, Bool, true, false, List, [], ◌∷◌, codes, cond, Result, Ok, Err}
+use Rattle.std.specs.Prelude.{◌≡◌, ◌==◌, ◌⊎◌, ℕ, Bool, true, false, List, [], ◌∷◌, codes, cond, None, Result, Ok, Err}
 use Rattle.dav_io.specs.Counts.{Rose}
 use Rattle.dav_io.specs.Told.{Both}
 use Rattle.dav_io.specs.declared.failure.NoMemory.{NoMemory}
@@ -13,7 +13,7 @@ use Rattle.dav_model.specs.Conditions.{Fields}
 use Rattle.dav_model.specs.Due.{failure}
 use Rattle.dav_model.specs.Finding.{resolved}
 use Rattle.dav_model.specs.Head.{Reply, field, refusal}
-use Rattle.dav_model.specs.Plans.{Act, Ask, Plan, does, halts, meets_link, plan}
+use Rattle.dav_model.specs.Plans.{Act, Ask, Plan, does, halts, is_planned, meets_link, plan}
 use Rattle.dav_model.specs.Rules.{Rules}
 use Rattle.dav_model.specs.Trail.{Leaves, Point}
 use Rattle.dav_model.specs.WellFormed.{is_among}
@@ -79,10 +79,11 @@ abbrev pub MakesIn : Rules → Ask → Result Reply NoMemory → Type 0 → Worl
 MakesIn rules ask result rose v w = meets_link ask.method v.tree (resolved rules v.tree ask.path.names) ≡ false
     → EndsAs ask.fields (plan rules v ask) result rose v w
 
--- Only a request that writes changes what stands. Of a store that finds names that fold alike, or has the rules of macOS,
--- nothing is said.
+-- Only a request that writes changes what stands. Of a store that finds names that fold alike, has the rules of macOS, or
+-- serves one file alone, nothing is said, nor of a method that has no plan.
 abbrev pub Makes : Target → Rules → Fields → List ℕ → Result Reply NoMemory → Point → Point → Type 0
-Makes (Writes method path) rules fields body result s t = rules.folds ≡ false → rules.macos ≡ false → Both s.told t.told
+Makes (Writes method path) rules fields body result s t = rules.folds ≡ false → rules.macos ≡ false → rules.alone ≡ None
+    → is_planned method ≡ true → Both s.told t.told
     (MakesIn rules (ask_of method path fields body) result (Rose s.faults t.faults))
 Makes (At method path) rules fields body result s t = Leaves s t
 Makes Methods rules fields body result s t = Leaves s t

@@ -1,0 +1,12 @@
+pub mod PlainStore
+pub mod PlainUsual
+pub mod Refilled
+pub mod PlainWrites
+pub mod PlainLooks
+pub mod PlainDone
+pub mod PlainReached
+pub mod NameOrder
+pub mod TreeLooks
+pub mod PlainWalked
+pub mod PlainMembers
+pub mod PlainFollows

@@ -1,0 +1,364 @@
+-- A request that writes, over a store that follows its rules, from call to call: what is known of the world before it, and how
+-- each line and each call of a table ends it as its plan says.
+use Rattle.std.proofs.Common.{◌≡◌, ◌≤◌, ◌==◌, ◌&&◌, ◌||◌, ◌⊎◌, inl, inr, ℕ, Bool, true, false, cond, length, List, [], ◌∷◌, Option, None, Some, Result, Ok, Err, refl, sym, ap, subst, ◌∙◌, arith}
+use Rattle.std.specs.List.{AllByRecursion}
+use Rattle.dav_io.specs.Counts.{Rose}
+use Rattle.dav_io.specs.Told.{Both}
+use Rattle.dav_io.specs.declared.failure.NoMemory.{NoMemory as Wanting}
+use Rattle.dav_io.proofs.AppendingLemmas.{rose_before}
+use Rattle.dav_io.proofs.ToldLemmas.{both_map, both_same, both_then}
+use Rattle.dav_core.specs.declared.dav_error.DavError.{DavError}
+use Rattle.dav_core.specs.declared.dav_error.DavError.TheVariants as dav
+use Rattle.dav_core.specs.declared.error.FsError.{FsError}
+use Rattle.dav_core.specs.declared.error.FsError.TheVariants as fs
+use Rattle.dav_core.specs.declared.handle.DiskError.{DiskError}
+use Rattle.dav_core.specs.declared.method.DavMethod.{DavMethod}
+use Rattle.dav_core.specs.declared.method.DavMethod.TheVariants as method
+use Rattle.dav_core.specs.declared.tree.Row.{Row}
+use Rattle.dav_core.specs.DavPath.{WebPath}
+use Rattle.dav_core.specs.Errors.{CouldRefuse, fs_error_of}
+use Rattle.dav_core.specs.Info.{Info, known_time, tag_of}
+use Rattle.dav_core.specs.Path.{Names}
+use Rattle.dav_core.specs.Statuses.{closes, fs_status, of_fs, status_of}
+use Rattle.dav_core.specs.Tree.{IsTreeRefusal, is_file, is_linked, look}
+use Rattle.dav_core.specs.World.{IsWorld, SameBesidesOpens, Stored, World, bytes_or_none, is_numbered}
+use Rattle.dav_core.proofs.LookLemmas.{look_all, look_err}
+use Rattle.dav_core.proofs.UnchangedLemmas.{same_besides, same_besides_then}
+use Rattle.dav_store.specs.Files.{Spoiled}
+use Rattle.dav_store.specs.View.{Listings, View}
+use Rattle.dav_model.specs.declared.outcome.Outcome.{Outcome}
+use Rattle.dav_model.specs.declared.settings.Settings.{Settings}
+use Rattle.dav_model.specs.Conditions.{Fields}
+use Rattle.dav_model.specs.Finding.{resolved, stood_at}
+use Rattle.dav_model.specs.Head.{Reply, Stood, refusal}
+use Rattle.dav_model.specs.Plans.{Act, Ask, Halt, Plan, does, first, halts, line, meets_link, plan, stands, unless}
+use Rattle.dav_model.specs.Rules.{Rules, plain_rules}
+use Rattle.dav_model.specs.Written.{ByActs, EndsAs, PartOf, done_reply}
+use Rattle.dav_methods.specs.Follows.{Finds, Follows, Reached, RightIn, Told, answer_or, looks}
+use Rattle.dav_methods.specs.Lines.{Given, Line}
+use Rattle.dav_methods.specs.Pouring.{Writes}
+use Rattle.dav_methods.specs.Table.{Ends, Looks, Run, Unless}
+
+-- ---- what a look finds
+
+numbered_here : (n m : ℕ) (rest : Bool) → n ≡ m → (n == m || rest) ≡ true
+numbered_here n m rest e = rw e (ap (λ b. b || rest) (itself m))
+  where
+    itself : (m : ℕ) → (m == m) ≡ true
+    itself m = grind arith
+
+numbered_later : (b rest : Bool) → rest ≡ true → (b || rest) ≡ true
+numbered_later true rest e = refl
+numbered_later false rest e = e
+
+each_numbered : (tree rows : List Row) → ((n : ℕ) → is_numbered rows n ≡ true → is_numbered tree n ≡ true) → AllByRecursion (λ (r : Row). is_numbered tree r.number ≡ true) rows
+each_numbered tree [] up = tt
+each_numbered tree (r ∷ rows) up = (
+  up r.number (numbered_here r.number r.number (is_numbered rows r.number) refl),
+  each_numbered tree rows (λ n e. up n (numbered_later (n == r.number) (is_numbered rows n) e)),
+)
+
+-- What is found has a number of the tree.
+pub found_numbered : (tree : List Row) (path : Names) (row : Row) → look tree path ≡ Ok row → is_numbered tree row.number ≡ true
+found_numbered tree path row e = look_all (λ r. is_numbered tree r.number ≡ true) tree path row (each_numbered tree tree (λ n e. e)) e
+
+abbrev stood_with : Row → List ℕ → Stood
+stood_with row bytes = record {
+  kind = row.kind;
+  number = row.number;
+  len = length bytes;
+  modified = known_time row.time;
+  tag = tag_of row.kind row.number (length bytes) (known_time row.time);
+  address = None;
+}
+
+stood_same : (slash : Bool) (v u : World) (found : Result Row DiskError) → ((row : Row) → found ≡ Ok row → u.files row.number ≡ v.files row.number) → stood_at slash u found ≡ stood_at slash v found
+stood_same slash v u (Ok row) same = ap (λ (f : Option Stored). cond (slash && is_file row.kind) (Err fs.Forbidden) (Ok (stood_with row (bytes_or_none f)))) (same row refl)
+stood_same slash v u (Err e) same = refl
+
+-- What stands somewhere depends on nothing that looks change.
+pub stands_same : (settings : Settings) (v u : World) (path : WebPath) → SameBesidesOpens v u → stands (plain_rules settings) u path ≡ stands (plain_rules settings) v path
+stands_same settings v u path same =
+    let at : Names = resolved (plain_rules settings) v.tree path.names in
+    ap (λ (tree : List Row). stood_at path.slash u (look tree (resolved (plain_rules settings) tree path.names))) same.tree
+    ∙ stood_same path.slash v u (look v.tree at)
+    (λ row e. (same.files row.number (inl (ap (λ tree. is_numbered tree row.number) same.tree ∙ found_numbered v.tree at row e))).1)
+
+slashed_could : (b : Bool) (there : Stood) (e : FsError) → cond b (Err fs.Forbidden) (Ok there) ≡ Err e → CouldRefuse e
+slashed_could true there e f = inr (let g : fs.Forbidden ≡ e = cc in sym g)
+slashed_could false there e f = cc
+
+refused_could : (slash : Bool) (w : World) (path : Names) (found : Result Row DiskError) (e : FsError) → look w.tree path ≡ found → stood_at slash w found ≡ Err e → CouldRefuse e
+refused_could slash w path (Ok row) e at f = slashed_could (slash && is_file row.kind) (stood_with row _) e f
+refused_could slash w path (Err d) e at f = by (look_err w.tree path d at)
+  where
+    same : fs_error_of d ≡ e
+    same = cc
+
+    by : IsTreeRefusal d → CouldRefuse e
+    by (inl is) = inl (sym same ∙ ap fs_error_of is)
+    by (inr is) = inr (sym same ∙ ap fs_error_of is)
+
+-- A look is refused with NotFound or Forbidden alone.
+pub stands_plainly : (settings : Settings) (w : World) (path : WebPath) (e : FsError) → stands (plain_rules settings) w path ≡ Err e → CouldRefuse e
+stands_plainly settings w path e f = refused_could path.slash w (resolved (plain_rules settings) w.tree path.names) (look w.tree (resolved (plain_rules settings) w.tree path.names)) e refl f
+
+-- ---- links
+
+or_parts : (a b : Bool) → (a || b) ≡ false → a ≡ false
+or_parts true b e = cc
+or_parts false b e = refl
+
+-- A request that meets no link meets none on the way to its path.
+pub unlinked : (m : DavMethod) (tree : List Row) (path : Names) → meets_link m tree path ≡ false → is_linked tree path ≡ false
+unlinked method.Head tree path e = e
+unlinked method.Get tree path e = e
+unlinked method.Put tree path e = e
+unlinked method.Patch tree path e = e
+unlinked method.Options tree path e = e
+unlinked method.PropFind tree path e = e
+unlinked method.PropPatch tree path e = e
+unlinked method.MkCol tree path e = e
+unlinked method.Copy tree path e = e
+unlinked method.Move tree path e = e
+unlinked method.Delete tree path e = or_parts (is_linked tree path) _ e
+unlinked method.Lock tree path e = e
+unlinked method.Unlock tree path e = e
+unlinked method.Report tree path e = e
+unlinked method.MkCalendar tree path e = e
+unlinked method.MkAddressbook tree path e = e
+
+-- ---- lines
+
+-- a line of a table and the line of a plan
+abbrev pub Matches : Line → Option Halt → Type 0
+Matches (Ok x) None = Unit {0}
+Matches (Ok x) (Some l) = ⊥
+Matches (Err d) None = ⊥
+Matches (Err d) (Some l) = (status_of d ≡ l.status) × (closes d ≡ l.close)
+
+pub fs_line : (e : FsError) → (status_of (of_fs e) ≡ fs_status e) × (closes (of_fs e) ≡ false)
+fs_line fs.NotFound = (refl, refl)
+fs_line fs.Forbidden = (refl, refl)
+fs_line fs.Exists = (refl, refl)
+fs_line fs.GeneralFailure = (refl, refl)
+fs_line fs.NotImplemented = (refl, refl)
+fs_line fs.InsufficientStorage = (refl, refl)
+fs_line fs.LoopDetected = (refl, refl)
+fs_line fs.PathTooLong = (refl, refl)
+fs_line fs.TooLarge = (refl, refl)
+fs_line fs.IsRemote = (refl, refl)
+fs_line fs.NoMemory = (refl, refl)
+
+-- ---- how a request ends
+
+pub nothing_done : (acts : List Act) (v w : World) → SameBesidesOpens v w → PartOf acts v w
+nothing_done [] v w same = same
+nothing_done (halts l ∷ acts) v w same = same
+nothing_done (does e ∷ acts) v w same = inl same
+
+abbrev halted : Halt → Fields → Reply
+halted l fields = refusal fields l.status l.close
+
+refusal_same : (fields : Fields) (a b : ℕ) (x y : Bool) → a ≡ b → x ≡ y → refusal fields a x ≡ refusal fields b y
+refusal_same fields a b x y e f = ap (λ n. refusal fields n x) e ∙ ap (refusal fields b) f
+
+module _ {S C F L E : Type 0} (view : View S C F) (lists : Listings S C L E) (writes : Writes F) (c : C) where
+  -- a request to a store that follows the rules of a plain one
+  pub record Case : Type 0 where
+    pub settings : Settings
+    pub ask : Ask
+    pub s : S
+    pub follows : Follows view lists writes c (plain_rules settings) s
+
+  abbrev pub plan_of : Case → World → Plan
+  plan_of x v = plan (plain_rules x.settings) v x.ask
+
+  -- It meets no link.
+  pub record Clear (x : Case) (v : World) : Type 0 where
+    pub world : IsWorld v
+    pub links : meets_link x.ask.method v.tree (resolved (plain_rules x.settings) v.tree x.ask.path.names) ≡ false
+
+  abbrev pub EndsFor : Case → Given → S → World → World → Type 0
+  EndsFor x r t v w = (result : Result Reply Wanting) → answer_or x.ask.fields r result
+      → EndsAs x.ask.fields (plan_of x v) result (Rose (view.state x.s).faults (view.state t).faults) v w
+
+  -- The request ended as its plan says.
+  abbrev pub Right : Case → Given → S → Type 0
+  Right x r t = Both (view.state x.s).told (view.state t).told (λ v w. Clear x v → EndsFor x r t v w)
+
+  -- Nothing changed up to a store, and this is known of the world before the request.
+  abbrev pub At : Case → S → (World → Type 0) → Type 0
+  At x m P = Both (view.state x.s).told (view.state m).told (λ v u. SameBesidesOpens v u × (Clear x v → P v))
+
+  pub at_first : (x : Case) (P : World → Type 0) → ((v : World) → P v) → At x x.s P
+  at_first x P known = both_same (view.state x.s).told (view.state x.s).told (λ v u. SameBesidesOpens v u × (Clear x v → P v)) (λ v. (same_besides v, λ clear. known v)) refl
+
+  pub at_map : (x : Case) (m : S) (P Q : World → Type 0) → ((v : World) → Clear x v → P v → Q v) → At x m P → At x m Q
+  at_map x m P Q more at = both_map (view.state x.s).told (view.state m).told (λ v u. SameBesidesOpens v u × (Clear x v → P v)) (λ v u. SameBesidesOpens v u × (Clear x v → Q v))
+      (λ v u p. (p.0, λ clear. more v clear (p.1 clear))) at
+
+  -- ---- endings
+
+  -- A line refuses it.
+  pub ends_halted : (x : Case) (l : Halt) (rest : List Act) (d : DavError) (t : S) (v w : World) → (plan_of x v).acts ≡ halts l ∷ rest → status_of d ≡ l.status → closes d ≡ l.close
+      → SameBesidesOpens v w → EndsFor x (Err d) t v w
+  ends_halted x l rest d t v w acts status close same (Ok reply) (lacks, is) =
+      inl (rw acts (is ∙ refusal_same x.ask.fields (status_of d) l.status (closes d) l.close status close, same))
+  ends_halted x l rest d t v w acts status close same (Err e) lacks = rw acts same
+
+  -- Memory was refused.
+  pub ends_short : (x : Case) (t : S) (v w : World) → PartOf (plan_of x v).acts v w → EndsFor x (Err dav.NoMemory) t v w
+  ends_short x t v w part (Ok reply) (lacks, is) = cc
+  ends_short x t v w part (Err e) lacks = part
+
+  ends_failed : (x : Case) (t : S) (v w : World) → Rose (view.state x.s).faults (view.state t).faults → PartOf (plan_of x v).acts v w → EndsFor x (Err (dav.Fs fs.GeneralFailure)) t v w
+  ends_failed x t v w rose part (Ok reply) (lacks, is) = inr (is, rose, part)
+  ends_failed x t v w rose part (Err e) lacks = part
+
+  pub spoiled_from : {T : Type 0} (s n t : S) (r : Result T FsError) → (view.state s).faults ≤ (view.state n).faults → Spoiled (view.state n) r (view.state t) → Spoiled (view.state s) r (view.state t)
+  spoiled_from s n t r le (inl (f, rose)) = inl (f, rose_before (view.state s).faults (view.state n).faults (view.state t).faults le rose)
+  spoiled_from s n t r le (inr f) = inr f
+
+  spoiled_as : {T : Type 0} (s t : S) (e : FsError) → Spoiled {T = T} (view.state s) (Err e) (view.state t)
+      → ((e ≡ fs.GeneralFailure) × Rose (view.state s).faults (view.state t).faults) ⊎ (e ≡ fs.NoMemory)
+  spoiled_as s t e (inl (f, rose)) = inl (cc, rose)
+  spoiled_as s t e (inr f) = inr cc
+
+  -- A fault was met, or memory was refused by the store.
+  pub ends_spoiled : {T : Type 0} (x : Case) (e : FsError) (t : S) (v w : World) → Spoiled {T = T} (view.state x.s) (Err e) (view.state t) → PartOf (plan_of x v).acts v w
+      → EndsFor x (Err (of_fs e)) t v w
+  ends_spoiled {T = T} x e t v w spoiled part = by (spoiled_as {T = T} x.s t e spoiled)
+    where
+      by : ((e ≡ fs.GeneralFailure) × Rose (view.state x.s).faults (view.state t).faults) ⊎ (e ≡ fs.NoMemory) → EndsFor x (Err (of_fs e)) t v w
+      by (inl (f, rose)) = rw f (ends_failed x t v w rose part)
+      by (inr f) = rw f (ends_short x t v w part)
+
+  -- All was done.
+  pub ends_done : (x : Case) (outcome : Outcome) (t : S) (v w : World) → done_reply (plan_of x v).done ≡ record { status = outcome.status; fields = outcome.fields; parts = [] }
+      → ((reply : Reply) → reply ≡ done_reply (plan_of x v).done → ByActs x.ask.fields (plan_of x v).acts (plan_of x v).done reply v w) → EndsFor x (Ok outcome) t v w
+  ends_done x outcome t v w done acts (Ok reply) is = inl (acts reply (is ∙ sym done))
+  ends_done x outcome t v w done acts (Err e) is = absurd is
+
+  -- ---- lines and looks
+
+  -- The plan goes on with these lines, and then with these acts.
+  abbrev pub Acts : Case → (World → List (Option Halt)) → (World → List Act) → World → Type 0
+  Acts x lines more v = (plan_of x v).acts ≡ unless (first (lines v)) (more v)
+
+  -- a line that is the error of a call that was spoiled
+  abbrev pub FailsAs : Case → Line → S → Type 0
+  FailsAs x line n = (e : FsError) × (line ≡ Err (of_fs e)) × Spoiled {T = Unit} (view.state x.s) (Err e) (view.state n)
+
+  halts_by : (x : Case) (o : Option Halt) (rest : List (Option Halt)) (more : List Act) (d : DavError) (t : S) (v w : World) → (plan_of x v).acts ≡ unless (first (o ∷ rest)) more → Matches (Err d) o
+      → SameBesidesOpens v w → EndsFor x (Err d) t v w
+  halts_by x None rest more d t v w acts matches same = absurd matches
+  halts_by x (Some l) rest more d t v w acts matches same = ends_halted x l [] d t v w acts matches.0 matches.1 same
+
+  ends_as : (x : Case) (o : Option Halt) (rest : List (Option Halt)) (more : List Act) (d : DavError) (t : S) (v w : World) (Q : Type 0) → (plan_of x v).acts ≡ unless (first (o ∷ rest)) more
+      → (Matches (Err d) o × Q) ⊎ FailsAs x (Err d) t → SameBesidesOpens v w → EndsFor x (Err d) t v w
+  ends_as x o rest more d t v w Q acts (inl (matches, q)) same = halts_by x o rest more d t v w acts matches same
+  ends_as x o rest more d t v w Q acts (inr (e, is, spoiled)) same =
+      let here : d ≡ of_fs e = cc in
+      subst (λ z. EndsFor x (Err z) t v w) (sym here) (ends_spoiled {T = Unit} x e t v w spoiled (nothing_done (plan_of x v).acts v w same))
+
+  passes_by : (o : Option Halt) (rest : List (Option Halt)) → Matches (Ok tt) o → first (o ∷ rest) ≡ first rest
+  passes_by None rest matches = refl
+  passes_by (Some l) rest matches = absurd matches
+
+  passes_as : (x : Case) (o : Option Halt) (rest : List (Option Halt)) (more : List Act) (n : S) (v : World) (Q : Type 0) → (plan_of x v).acts ≡ unless (first (o ∷ rest)) more
+      → (Matches (Ok tt) o × Q) ⊎ FailsAs x (Ok tt) n → ((plan_of x v).acts ≡ unless (first rest) more) × Q
+  passes_as x o rest more n v Q acts (inl (matches, q)) = (acts ∙ ap (λ l. unless l more) (passes_by o rest matches), q)
+  passes_as x o rest more n v Q acts (inr (e, is, spoiled)) = cc
+
+  -- a goal that is met where the request ended with an error
+  abbrev pub Embeds : Case → (Given → S → Type 0) → Type 0
+  Embeds x G = (d : DavError) (t : S) → Right x (Err d) t → G (Err d) t
+
+  -- A line of the table that is the plan's next, and what follows it.
+  pub line_stage : (x : Case) (G : Given → S → Type 0) → Embeds x G → (line : Line) (h : World → Option Halt) (rest : World → List (Option Halt)) (more : World → List Act) (Q : World → Type 0)
+      → (n : S) (run : Run S) (r : Given) (t : S) → At x n (λ v. Acts x (λ v. h v ∷ rest v) more v × ((Matches line (h v) × Q v) ⊎ FailsAs x line n))
+      → (At x n (λ v. Acts x rest more v × Q v) → run n r t → G r t) → Unless line run n r t → G r t
+  line_stage x G embeds (Ok u) h rest more Q n run r t at on goes =
+      on (at_map x n _ _ (λ v clear p. passes_as x (h v) (rest v) (more v) n v (Q v) p.0 p.1) at) goes
+  line_stage x G embeds (Err d) h rest more Q n run r t at on (e, f) =
+      rw (e, f) (embeds d n (both_map (view.state x.s).told (view.state n).told _ _
+      (λ v u p clear. let q = p.1 clear in ends_as x (h v) (rest v) (more v) d n v u (Q v) q.0 q.1 p.0) at))
+
+  pub short_stage : (x : Case) (G : Given → S → Type 0) → Embeds x G → (P : World → Type 0) (n : S) (r : Given) (t : S) → At x n P → Ends (Err dav.NoMemory) n r t → G r t
+  short_stage x G embeds P n r t at (e, f) =
+      rw (e, f) (embeds dav.NoMemory n (both_map (view.state x.s).told (view.state n).told _ _
+      (λ v u p clear. ends_short x n v u (nothing_done (plan_of x v).acts v u p.0)) at))
+
+  -- what is known after a look
+  pub looked : (x : Case) (P : World → Type 0) (path : WebPath) (found : Result Info FsError) (m n : S) → Reached view lists writes c x.s m → view.looks m c path found n
+      → ((v : World) → Clear x v → is_linked v.tree (resolved (plain_rules x.settings) v.tree path.names) ≡ false) → At x m P
+      → At x n (λ v. P v × (Finds (stands (plain_rules x.settings) v path) found ⊎ Spoiled (view.state x.s) found (view.state n)))
+  looked x P path found m n reached look free at =
+      both_then (view.state x.s).told (view.state m).told (view.state n).told _ _ _
+      (λ v u a p q. (
+        same_besides_then v u a p.0 q.0,
+        λ clear. (p.1 clear, on v u p.0 (q.1 (subst (λ (tree : List Row). is_linked tree (resolved (plain_rules x.settings) tree path.names) ≡ false) (sym p.0.tree) (free v clear)))),
+      ))
+      at (x.follows.looks m n path found reached look)
+    where
+      on : (v u : World) → SameBesidesOpens v u → Finds (stands (plain_rules x.settings) u path) found ⊎ Spoiled (view.state m) found (view.state n)
+          → Finds (stands (plain_rules x.settings) v path) found ⊎ Spoiled (view.state x.s) found (view.state n)
+      on v u same (inl finds) = inl (subst (λ y. Finds y found) (stands_same x.settings v u path same) finds)
+      on v u same (inr spoiled) = inr (spoiled_from x.s m n found (x.follows.counts m reached) spoiled)
+
+  -- what a line says of a look that was spoiled
+  pub record SaysFaults (judge : Result Info FsError → Line) : Type 0 where
+    pub failed : judge (Err fs.GeneralFailure) ≡ Err (dav.Fs fs.GeneralFailure)
+    pub short : judge (Err fs.NoMemory) ≡ Err dav.NoMemory
+
+  fails_as : (x : Case) (judge : Result Info FsError → Line) → SaysFaults judge → (found : Result Info FsError) (n : S) → Spoiled (view.state x.s) found (view.state n) → FailsAs x (judge found) n
+  fails_as x judge says found n (inl (f, rose)) = (fs.GeneralFailure, ap judge f ∙ says.failed, inl (refl, rose))
+  fails_as x judge says found n (inr f) = (fs.NoMemory, ap judge f ∙ says.short, inr refl)
+
+  -- A look, its line, and what follows.
+  pub look_stage : (x : Case) (G : Given → S → Type 0) → Embeds x G → (path : WebPath) (judge : Result Info FsError → Line) → SaysFaults judge → (h : World → Option Halt)
+      → (rest : World → List (Option Halt)) (more : World → List Act)
+      → ((v : World) (found : Result Info FsError) → Finds (stands (plain_rules x.settings) v path) found → Matches (judge found) (h v))
+      → ((v : World) → Clear x v → is_linked v.tree (resolved (plain_rules x.settings) v.tree path.names) ≡ false)
+      → (run : Result Info FsError → Run S) (m : S) (r : Given) (t : S) → Reached view lists writes c x.s m → At x m (Acts x (λ v. h v ∷ rest v) more)
+      → ((found : Result Info FsError) (n : S) → Reached view lists writes c x.s n → At x n (λ v. Acts x rest more v × Finds (stands (plain_rules x.settings) v path) found) → run found n r t → G r t)
+      → Looks view c path (λ found. Unless (judge found) (run found)) m r t → G r t
+  look_stage x G embeds path judge says h rest more agrees free run m r t reached at on (found, n, look, inl short) =
+      short_stage x G embeds _ n r t (looked x (Acts x (λ v. h v ∷ rest v) more) path found m n reached look free at) short
+  look_stage x G embeds path judge says h rest more agrees free run m r t reached at on (found, n, look, inr goes) =
+      line_stage x G embeds (judge found) h rest more (λ v. Finds (stands (plain_rules x.settings) v path) found) n (run found) r t
+      (at_map x n _ _ (λ v clear p. (p.0, judged v p.1)) (looked x (Acts x (λ v. h v ∷ rest v) more) path found m n reached look free at))
+      (on found n (looks m n path found reached look)) goes
+    where
+      judged : (v : World) → Finds (stands (plain_rules x.settings) v path) found ⊎ Spoiled (view.state x.s) found (view.state n)
+          → (Matches (judge found) (h v) × Finds (stands (plain_rules x.settings) v path) found) ⊎ FailsAs x (judge found) n
+      judged v (inl finds) = inl (agrees v found finds, finds)
+      judged v (inr spoiled) = inr (fails_as x judge says found n spoiled)
+
+-- ---- all worlds
+
+-- what is said of each told world, where more is known of the one before
+pub both_known : {A : Type 0} (old new : Option A) (P Q : A → A → Type 0) → ((a b : A) → old ≡ Some a → P a b → Q a b) → Both old new P → Both old new Q
+both_known None None P Q h p = tt
+both_known None (Some b) P Q h p = absurd p
+both_known (Some a) None P Q h p = absurd p
+both_known (Some a) (Some b) P Q h p = h a b refl p
+
+-- Rules by which each path is meant as it is written are those of a plain store.
+pub plain_are : (rules : Rules) → rules.folds ≡ false → rules.macos ≡ false → rules.alone ≡ None → rules ≡ plain_rules rules.settings
+plain_are rules folds macos alone =
+    ap (λ b. record { settings = rules.settings; folds = b; macos = rules.macos; alone = rules.alone }) folds
+    ∙ (ap (λ b. record { settings = rules.settings; folds = false; macos = b; alone = rules.alone }) macos
+    ∙ ap (λ o. record { settings = rules.settings; folds = false; macos = false; alone = o }) alone)
+
+module _ {S C F L E : Type 0} (view : View S C F) (lists : Listings S C L E) (writes : Writes F) (c : C) where
+  -- What ended as its plan says is right, by what holds of every told world.
+  pub right_in : ((s : S) (w : World) → (view.state s).told ≡ Some w → IsWorld w) → (rules : Rules) (s : S) → Follows view lists writes c rules s
+      → rules.folds ≡ false → rules.macos ≡ false → rules.alone ≡ None → (ask : Ask) (r : Given) (t : S)
+      → ((follows : Follows view lists writes c (plain_rules rules.settings) s) → Right view lists writes c (record { settings = rules.settings; ask = ask; s = s; follows = follows }) r t) → Told view lists writes c s t (RightIn view lists writes c rules ask s r t)
+  right_in worlds rules s follows folds macos alone ask r t right =
+      let plain : rules ≡ plain_rules rules.settings = plain_are rules folds macos alone in
+      subst (λ z. Told view lists writes c s t (RightIn view lists writes c z ask s r t)) (sym plain)
+      (both_known (view.state s).told (view.state t).told _ _ (λ v w told ends result answers links. ends (record { world = worlds s v told; links = links }) result answers)
+      (right (subst (λ z. Follows view lists writes c z s) plain follows)))

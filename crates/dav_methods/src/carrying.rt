@@ -1,0 +1,286 @@
+//! COPY and MOVE: what stands at a path is copied or moved to another, in place of what stands there.
+ghost use Rattle.std.specs.Prelude.{◌≡◌, ◌⊎◌, Ok, Err};
+ghost use Rattle.dav_store.specs.Frames.{KeepsOpen};
+ghost use Rattle.dav_store.specs.View.{the_listings, the_view};
+ghost use Rattle.dav_methods.specs.Carrying.{Arrives, Carries, CopiesTo, Goes, Leaves, MovesTo, Replaces, method_of as the_method_of};
+ghost use Rattle.dav_methods.specs.Lines.{fails_when};
+ghost use Rattle.dav_methods.specs.Overlap.{overlap};
+ghost use Rattle.dav_methods.specs.Removing.{LooksAtLink};
+ghost use Rattle.dav_methods.specs.Table.{Next, Unless};
+
+use crate::asked::Asked;
+use crate::copying::copy_all;
+use crate::destination::asked;
+use crate::lines::{pass_met, pass_missing, pass_parent};
+use crate::outcomes::{answer, created, silent};
+use crate::overlap::overlaps;
+use crate::removing::{line_of, remove_all};
+use dav_core::{DavError, DavMetaData, DavMethod, DavPath, FsError};
+use dav_model::Outcome;
+use dav_store::GuardedFileSystem;
+use http::{HeaderMap, StatusCode};
+use std::alloc::Global;
+
+// The method that moves, or copies.
+fn method_of(moving: bool) -> DavMethod
+    ensures { result ≡ the_method_of moving }
+{
+    if moving {
+        return DavMethod::Move;
+    }
+    DavMethod::Copy
+}
+
+// Refuses paths of which one lies inside the other.
+fn pass_apart(alloc: Global, folds: bool, from: &DavPath, to: &DavPath) -> Result<(), DavError>
+    ensures { (result ≡ Err DavError.NoMemory) ⊎ (result ≡ fails_when (overlap folds from.now.names to.now.names)
+        403) }
+{
+    if overlaps(alloc, folds, from, to)? {
+        return Err(DavError::Status(StatusCode::FORBIDDEN));
+    }
+    Ok(())
+}
+
+// The last act: what stands at the source is moved, or copied.
+fn go<S: GuardedFileSystem<C>, C>(
+    alloc: Global,
+    fs: &mut S,
+    credentials: &C,
+    asked: &Asked,
+    path: &DavPath,
+    dir: bool,
+    outcome: Outcome,
+) -> Result<Outcome, DavError>
+    requires admits { S.admits fs.old }
+    ensures table { Goes (the_view S.GuardedFileSystem S.Disk.Disk S.File.DavFile)
+        (the_listings S.GuardedFileSystem S.Entry.DavDirEntry) credentials.now asked.now.moving asked.now
+        (record { from = path.now; to = asked.now.to; dir = dir }) outcome fs.old result fs.new }
+    ensures keeps { KeepsOpen (S.Disk.state (S.inside fs.old)) (S.Disk.state (S.inside fs.new)) }
+    ensures admits { S.admits fs.new }
+    ensures loan { S.Disk.loan (S.inside fs.new) ≡ S.Disk.loan (S.inside fs.old) }
+{
+    if asked.moving {
+        return answer(line_of(fs.rename(path, &asked.to, credentials)), outcome);
+    }
+    let all = copy_all(alloc, fs, credentials, asked.alone, path, &asked.to, dir);
+    answer(all, outcome)
+}
+
+// What stands at the destination goes, and the source takes its place.
+fn replace<S: GuardedFileSystem<C>, C>(
+    alloc: Global,
+    fs: &mut S,
+    credentials: &C,
+    asked: &Asked,
+    path: &DavPath,
+    dir: bool,
+    dir_there: bool,
+) -> Result<Outcome, DavError>
+    requires admits { S.admits fs.old }
+    ensures table { Replaces (the_view S.GuardedFileSystem S.Disk.Disk S.File.DavFile)
+        (the_listings S.GuardedFileSystem S.Entry.DavDirEntry) credentials.now asked.now
+        (record { from = path.now; to = asked.now.to; dir = dir }) dir_there fs.old result fs.new }
+    ensures keeps { KeepsOpen (S.Disk.state (S.inside fs.old)) (S.Disk.state (S.inside fs.new)) }
+    ensures admits { S.admits fs.new }
+    ensures loan { S.Disk.loan (S.inside fs.new) ≡ S.Disk.loan (S.inside fs.old) }
+{
+    match remove_all(alloc, fs, credentials, &asked.to, dir_there) {
+        Ok(()) => go(alloc, fs, credentials, asked, path, dir, silent(alloc)),
+        Err(error) => Err(error),
+    }
+}
+
+// Nothing stood at the destination, or a look there was refused.
+fn fill<S: GuardedFileSystem<C>, C>(
+    alloc: Global,
+    fs: &mut S,
+    credentials: &C,
+    asked: &Asked,
+    path: &DavPath,
+    dir: bool,
+    refusal: FsError,
+) -> Result<Outcome, DavError>
+    requires admits { S.admits fs.old }
+    ensures table { Next (Arrives (the_view S.GuardedFileSystem S.Disk.Disk S.File.DavFile)
+        (the_listings S.GuardedFileSystem S.Entry.DavDirEntry) credentials.now asked.now
+        (record { from = path.now; to = asked.now.to; dir = dir }) (Err refusal)) fs.old result fs.new }
+    ensures keeps { KeepsOpen (S.Disk.state (S.inside fs.old)) (S.Disk.state (S.inside fs.new)) }
+    ensures admits { S.admits fs.new }
+    ensures loan { S.Disk.loan (S.inside fs.new) ≡ S.Disk.loan (S.inside fs.old) }
+{
+    pass_missing(refusal)?;
+    let outcome = created(alloc)?;
+    go(alloc, fs, credentials, asked, path, dir, outcome)
+}
+
+// Looks at the destination, and goes on by what stands there.
+fn arrive<S: GuardedFileSystem<C>, C>(
+    alloc: Global,
+    fs: &mut S,
+    credentials: &C,
+    asked: &Asked,
+    path: &DavPath,
+    dir: bool,
+) -> Result<Outcome, DavError>
+    requires admits { S.admits fs.old }
+    ensures table { LooksAtLink (the_view S.GuardedFileSystem S.Disk.Disk S.File.DavFile)
+        (the_listings S.GuardedFileSystem S.Entry.DavDirEntry) credentials.now asked.now.to
+        (Arrives (the_view S.GuardedFileSystem S.Disk.Disk S.File.DavFile)
+        (the_listings S.GuardedFileSystem S.Entry.DavDirEntry) credentials.now asked.now
+        (record { from = path.now; to = asked.now.to; dir = dir })) fs.old result fs.new }
+    ensures keeps { KeepsOpen (S.Disk.state (S.inside fs.old)) (S.Disk.state (S.inside fs.new)) }
+    ensures admits { S.admits fs.new }
+    ensures loan { S.Disk.loan (S.inside fs.new) ≡ S.Disk.loan (S.inside fs.old) }
+{
+    match fs.symlink_metadata(&asked.to, credentials) {
+        Ok(meta) => {
+            if !asked.replaces {
+                return Err(DavError::Status(StatusCode::PRECONDITION_FAILED));
+            }
+            replace(alloc, fs, credentials, asked, path, dir, meta.is_dir())
+        }
+        Err(refusal) => fill(alloc, fs, credentials, asked, path, dir, refusal),
+    }
+}
+
+// Goes on where a line lets it.
+fn arrive_if<S: GuardedFileSystem<C>, C>(
+    alloc: Global,
+    fs: &mut S,
+    credentials: &C,
+    asked: &Asked,
+    path: &DavPath,
+    dir: bool,
+    may: Result<(), DavError>,
+) -> Result<Outcome, DavError>
+    requires admits { S.admits fs.old }
+    ensures table { Next (Unless may (LooksAtLink (the_view S.GuardedFileSystem S.Disk.Disk S.File.DavFile)
+        (the_listings S.GuardedFileSystem S.Entry.DavDirEntry) credentials.now asked.now.to
+        (Arrives (the_view S.GuardedFileSystem S.Disk.Disk S.File.DavFile)
+        (the_listings S.GuardedFileSystem S.Entry.DavDirEntry) credentials.now asked.now
+        (record { from = path.now; to = asked.now.to; dir = dir })))) fs.old result fs.new }
+    ensures keeps { KeepsOpen (S.Disk.state (S.inside fs.old)) (S.Disk.state (S.inside fs.new)) }
+    ensures admits { S.admits fs.new }
+    ensures loan { S.Disk.loan (S.inside fs.new) ≡ S.Disk.loan (S.inside fs.old) }
+{
+    match may {
+        Ok(()) => arrive(alloc, fs, credentials, asked, path, dir),
+        Err(error) => Err(error),
+    }
+}
+
+// Goes on from the source, of which a look told.
+fn leave<S: GuardedFileSystem<C>, C>(
+    alloc: Global,
+    fs: &mut S,
+    credentials: &C,
+    asked: &Asked,
+    path: &DavPath,
+    fields: &HeaderMap,
+    meta: &S::Meta,
+) -> Result<Outcome, DavError>
+    requires admits { S.admits fs.old }
+    ensures table { Next (Leaves (the_view S.GuardedFileSystem S.Disk.Disk S.File.DavFile)
+        (the_listings S.GuardedFileSystem S.Entry.DavDirEntry) credentials.now path.now fields.now asked.now
+        (Ok (S.Meta.info meta.now))) fs.old result fs.new }
+    ensures keeps { KeepsOpen (S.Disk.state (S.inside fs.old)) (S.Disk.state (S.inside fs.new)) }
+    ensures admits { S.admits fs.new }
+    ensures loan { S.Disk.loan (S.inside fs.new) ≡ S.Disk.loan (S.inside fs.old) }
+{
+    let above = asked.to.parent()?;
+    pass_parent(fs, credentials, &above)?;
+    let may = pass_met(alloc, method_of(asked.moving), fields, Some(meta));
+    arrive_if(alloc, fs, credentials, asked, path, meta.is_dir(), may)
+}
+
+// Does what is asked for.
+fn carry<S: GuardedFileSystem<C>, C>(
+    alloc: Global,
+    fs: &mut S,
+    credentials: &C,
+    path: &DavPath,
+    fields: &HeaderMap,
+    asked: &Asked,
+) -> Result<Outcome, DavError>
+    requires admits { S.admits fs.old }
+    ensures table { Carries (the_view S.GuardedFileSystem S.Disk.Disk S.File.DavFile)
+        (the_listings S.GuardedFileSystem S.Entry.DavDirEntry) credentials.now path.now fields.now (Ok asked.now)
+        fs.old result fs.new }
+    ensures keeps { KeepsOpen (S.Disk.state (S.inside fs.old)) (S.Disk.state (S.inside fs.new)) }
+    ensures admits { S.admits fs.new }
+    ensures loan { S.Disk.loan (S.inside fs.new) ≡ S.Disk.loan (S.inside fs.old) }
+{
+    let folds = fs.folds();
+    let meta = match fs.metadata(path, credentials) {
+        Ok(meta) => meta,
+        Err(refusal) => return Err(DavError::from(refusal)),
+    };
+    match pass_apart(alloc, folds, path, &asked.to) {
+        Ok(()) => leave(alloc, fs, credentials, asked, path, fields, &meta),
+        Err(error) => Err(error),
+    }
+}
+
+/// Answers a COPY (RFC 4918, section 9.8) over any store: 201 where nothing stood at the destination, 204 where something
+/// did, which was removed before. A directory is made before its members are copied, in the order of their names by
+/// bytes, each with its own members; with Depth 0 it goes without them. A directory's listing is read to its end and
+/// ended before its first member is copied. Of the source a link is followed, at the destination it is the link that
+/// goes. `prefix` is the one under which `path` was read; the destination is read under it, and its host is passed over.
+///
+/// Errors, in this order: 400 where Destination is missing, or is neither a path nor a URI with a scheme; the refusal of
+/// its path; 400 where Overwrite is neither `T` nor `F`, and where Depth is neither `infinity` nor `0`; and then, no
+/// call of the store having been made before, a refused look at the source; 403 where one of both paths lies inside the
+/// other, or they are one, by folded names where the store folds them; 409 where no directory stands above the
+/// destination, or the refusal of a look there that failed; 412 where a precondition isn't met by the source; a refused
+/// look at the destination, unless nothing stands there; 412 where something does and Overwrite is `F`; and then, what
+/// was done staying done, the first refusal of a listing, of a member's metadata, of a removal, a making or a copy, and
+/// 403 where a directory's path has more than 65,536 names. Want of memory may come anywhere. `table` tells which call
+/// of the store gave the answer.
+pub fn copy<S: GuardedFileSystem<C>, C>(
+    alloc: Global,
+    fs: &mut S,
+    credentials: &C,
+    path: &DavPath,
+    fields: &HeaderMap,
+    prefix: &str,
+) -> Result<Outcome, DavError>
+    requires admits { S.admits fs.old }
+    ensures table { CopiesTo (the_view S.GuardedFileSystem S.Disk.Disk S.File.DavFile)
+        (the_listings S.GuardedFileSystem S.Entry.DavDirEntry) credentials.now prefix.now path.now fields.now fs.old
+        result fs.new }
+    ensures keeps { KeepsOpen (S.Disk.state (S.inside fs.old)) (S.Disk.state (S.inside fs.new)) }
+    ensures admits { S.admits fs.new }
+    ensures loan { S.Disk.loan (S.inside fs.new) ≡ S.Disk.loan (S.inside fs.old) }
+{
+    let asked = match asked(alloc, false, fields, prefix) {
+        Ok(asked) => asked,
+        Err(error) => return Err(error),
+    };
+    carry(alloc, fs, credentials, path, fields, &asked)
+}
+
+/// Answers a MOVE (RFC 4918, section 9.9) over any store, by a renaming. All else is as for `copy`, save that Depth may
+/// be `infinity` alone.
+pub fn move_to<S: GuardedFileSystem<C>, C>(
+    alloc: Global,
+    fs: &mut S,
+    credentials: &C,
+    path: &DavPath,
+    fields: &HeaderMap,
+    prefix: &str,
+) -> Result<Outcome, DavError>
+    requires admits { S.admits fs.old }
+    ensures table { MovesTo (the_view S.GuardedFileSystem S.Disk.Disk S.File.DavFile)
+        (the_listings S.GuardedFileSystem S.Entry.DavDirEntry) credentials.now prefix.now path.now fields.now fs.old
+        result fs.new }
+    ensures keeps { KeepsOpen (S.Disk.state (S.inside fs.old)) (S.Disk.state (S.inside fs.new)) }
+    ensures admits { S.admits fs.new }
+    ensures loan { S.Disk.loan (S.inside fs.new) ≡ S.Disk.loan (S.inside fs.old) }
+{
+    let asked = match asked(alloc, true, fields, prefix) {
+        Ok(asked) => asked,
+        Err(error) => return Err(error),
+    };
+    carry(alloc, fs, credentials, path, fields, &asked)
+}
