@@ -436,7 +436,7 @@ module _ {S C F L E : Type 0} (view : View S C F) (lists : Listings S C L E) (wr
   came_cause s t (Err e) b n came fails = inl (came fails)
 
   -- 500 is given only where a call was refused with a failure, or the reader failed.
-  pub written_cause : (method : DavMethod) (o : Order) (b n : BodyState) (s t : S) (r : Given) → ByMethod view lists writes method o c b s r t n → Fails r → PutCause s b t n
+  pub written_cause : (method : DavMethod) (o : Order) (b n : BodyState) (s t : S) (r : Given) → ByMethod view lists writes c method o b s r t n → Fails r → PutCause s b t n
   written_cause Put o b n s t r table fails = put_cause s t r o.path o.fields b n table fails
   written_cause MkCol o b n s t r table fails = came_cause s t r b n (mkcol_came s s t r o.path o.fields on.here table.0) fails
   written_cause MkCalendar o b n s t r table fails = came_cause s t r b n (mkcalendar_came s s t r o.path on.here table.0) fails

@@ -156,7 +156,7 @@ module _ {S C F L E : Type 0} (served : Served S C F L E) where
     pub was : old.store ≡ Some before
     pub is : new.store ≡ Some after
     pub moment : SetsMoment before asking.now
-    pub writes : WritesOver served.view served.lists served.writes o asking.credentials old.body (served.with_now before asking.now) r after new.body
+    pub writes : WritesOver served.view served.lists served.writes asking.credentials o old.body (served.with_now before asking.now) r after new.body
 
   -- The gates' refusal, or what OPTIONS is told, with the store and the reader as they were; or the answer of a GET or HEAD
   -- over the store; or that of a request that writes, which may read the body.

@@ -61,24 +61,24 @@ abbrev pub Tells : {F : Type 0} → Fields → Given → Responded F → Type 0
 Tells fields (Ok outcome) r = IsBare (reply_of outcome) r
 Tells fields (Err e) r = (lacks_memory e ≡ false) × IsBare (refusal fields (status_of e) (closes e)) r
 
-module _ {S C F L E : Type 0} (view : View S C F) (lists : Listings S C L E) (writes : Writes F) where
-  -- The reader isn't asked.
-  abbrev pub Unread : Run S → BodyState → S → Given → S → BodyState → Type 0
-  Unread run b s r t n = run s r t × (n ≡ b)
+-- The reader isn't asked.
+abbrev pub Unread : {S : Type 0} → Run S → BodyState → S → Given → S → BodyState → Type 0
+Unread run b s r t n = run s r t × (n ≡ b)
 
+module _ {S C F L E : Type 0} (view : View S C F) (lists : Listings S C L E) (writes : Writes F) (c : C) where
   -- the table of a method. The reader is `b` before and `n` after.
-  abbrev pub ByMethod : DavMethod → Order → C → BodyState → S → Given → S → BodyState → Type 0
-  ByMethod Put o c b s r t n = Puts view writes c o.path o.fields b s r t n
-  ByMethod MkCol o c b s r t n = Unread (MkCols view c o.path o.fields) b s r t n
-  ByMethod MkCalendar o c b s r t n = Unread (MkCalendars view c o.path) b s r t n
-  ByMethod MkAddressbook o c b s r t n = Unread (MkCalendars view c o.path) b s r t n
-  ByMethod Delete o c b s r t n = Unread (Deletes view lists c o.path o.fields) b s r t n
-  ByMethod other o c b s r t n = ⊥
+  abbrev pub ByMethod : DavMethod → Order → BodyState → S → Given → S → BodyState → Type 0
+  ByMethod Put o b s r t n = Puts view writes c o.path o.fields b s r t n
+  ByMethod MkCol o b s r t n = Unread (MkCols view c o.path o.fields) b s r t n
+  ByMethod MkCalendar o b s r t n = Unread (MkCalendars view c o.path) b s r t n
+  ByMethod MkAddressbook o b s r t n = Unread (MkCalendars view c o.path) b s r t n
+  ByMethod Delete o b s r t n = Unread (Deletes view lists c o.path o.fields) b s r t n
+  ByMethod other o b s r t n = ⊥
 
   -- Over this store a request that writes is answered so.
-  pub record WritesOver (o : Order) (c : C) (b : BodyState) (s : S) (r : Responded F) (t : S) (n : BodyState) : Type 0 where
+  pub record WritesOver (o : Order) (b : BodyState) (s : S) (r : Responded F) (t : S) (n : BodyState) : Type 0 where
     pub given : Given
-    pub table : ByMethod o.method o c b s given t n
+    pub table : ByMethod o.method o b s given t n
     pub tells : Tells o.fields given r
     -- nothing is open that wasn't
     pub keeps : KeepsOpen (view.state s) (view.state t)
@@ -86,32 +86,31 @@ module _ {S C F L E : Type 0} (view : View S C F) (lists : Listings S C L E) (wr
 
   -- ---- why it is answered 500
 
-  module _ (c : C) where
-    -- A call of the store, of a file or of a listing was refused with a failure.
-    pub data RefusesOne (m n : S) : Type 0 where
-      looks : (path : WebPath) → view.looks m c path (Err GeneralFailure) n → RefusesOne m n
-      looks_at_link : (path : WebPath) → view.looks_at_link m c path (Err GeneralFailure) n → RefusesOne m n
-      opens : (path : WebPath) (how : OpenOptions) → view.opens m c path how (Err GeneralFailure) n → RefusesOne m n
-      writes_file : (f g : F) (bytes : List ℕ) → WritesFile view writes m f bytes (Err GeneralFailure) n g → RefusesOne m n
-      makes_dir : (path : WebPath) → view.makes_dir m c path (Err GeneralFailure) n → RefusesOne m n
-      removes_dir : (path : WebPath) → view.removes_dir m c path (Err GeneralFailure) n → RefusesOne m n
-      removes_file : (path : WebPath) → view.removes_file m c path (Err GeneralFailure) n → RefusesOne m n
-      begins : (path : WebPath) (how : ReadDirMeta) → lists.lists m c path how (Err GeneralFailure) n → RefusesOne m n
-      goes_on : (l k : L) → lists.lists_on m l (Err GeneralFailure) n k → RefusesOne m n
-      says : (e : E) → lists.says e (view.state m) (Err GeneralFailure) (view.state n) → RefusesOne m n
+  -- A call of the store, of a file or of a listing was refused with a failure.
+  pub data RefusesOne (m n : S) : Type 0 where
+    looks : (path : WebPath) → view.looks m c path (Err GeneralFailure) n → RefusesOne m n
+    looks_at_link : (path : WebPath) → view.looks_at_link m c path (Err GeneralFailure) n → RefusesOne m n
+    opens : (path : WebPath) (how : OpenOptions) → view.opens m c path how (Err GeneralFailure) n → RefusesOne m n
+    writes_file : (f g : F) (bytes : List ℕ) → WritesFile view writes m f bytes (Err GeneralFailure) n g → RefusesOne m n
+    makes_dir : (path : WebPath) → view.makes_dir m c path (Err GeneralFailure) n → RefusesOne m n
+    removes_dir : (path : WebPath) → view.removes_dir m c path (Err GeneralFailure) n → RefusesOne m n
+    removes_file : (path : WebPath) → view.removes_file m c path (Err GeneralFailure) n → RefusesOne m n
+    begins : (path : WebPath) (how : ReadDirMeta) → lists.lists m c path how (Err GeneralFailure) n → RefusesOne m n
+    goes_on : (l k : L) → lists.lists_on m l (Err GeneralFailure) n k → RefusesOne m n
+    says : (e : E) → lists.says e (view.state m) (Err GeneralFailure) (view.state n) → RefusesOne m n
 
-    -- On the way from a store to another a call was refused so.
-    pub record RefusedOnWay (s t : S) : Type 0 where
-      pub before : S
-      pub after : S
-      pub came : Reached view lists writes c s before
-      pub fails : RefusesOne before after
-      pub ends : Reached view lists writes c after t
+  -- On the way from a store to another a call was refused so.
+  pub record RefusedOnWay (s t : S) : Type 0 where
+    pub before : S
+    pub after : S
+    pub came : Reached view lists writes c s before
+    pub fails : RefusesOne before after
+    pub ends : Reached view lists writes c after t
 
-    -- the same of a store that there is, once its moment is set
-    pub record RefusedIn (set : S → S) (old new : Option S) : Type 0 where
-      pub before : S
-      pub after : S
-      pub was : old ≡ Some before
-      pub is : new ≡ Some after
-      pub fails : RefusedOnWay (set before) after
+  -- the same of a store that there is, once its moment is set
+  pub record RefusedIn (set : S → S) (old new : Option S) : Type 0 where
+    pub before : S
+    pub after : S
+    pub was : old ≡ Some before
+    pub is : new ≡ Some after
+    pub fails : RefusedOnWay (set before) after

@@ -116,18 +116,19 @@ impl<S: GuardedFileSystem<C>, C> DavHandler<S, C> {
 impl<S: GuardedFileSystem<()>> DavHandler<S, ()> {
     /// Answers a request over its store at a moment. The gates come first: an unknown method, a method that is not
     /// answered (without a store each but OPTIONS), and the path; then the body, which is read up to its end or until
-    /// 65,536 bytes came, but that of a PUT or PATCH isn't read there; then forms that are not built. A request that passes
-    /// is a GET or HEAD (RFC 9110, sections 9.3.1 and 9.3.2), and is answered by what stands at its path; or it writes: a
-    /// PUT (section 9.3.4), whose body goes from its reader into the file as it comes, a DELETE (section 9.3.5), a MKCOL
-    /// (RFC 4918, section 9.3), a MKCALENDAR (RFC 4791, section 5.3.1) or a MKADDRESSBOOK, and its answer has no body.
+    /// 65,536 bytes came, but that of a PUT or PATCH isn't read there; then forms that are not built. A request that
+    /// passes is a GET or HEAD (RFC 9110, sections 9.3.1 and 9.3.2), and is answered by what stands at its path; or it
+    /// writes: a PUT (section 9.3.4), whose body goes from its reader into the file as it comes, a DELETE (section
+    /// 9.3.5), a MKCOL (RFC 4918, section 9.3), a MKCALENDAR (RFC 4791, section 5.3.1) or a MKADDRESSBOOK, and its answer
+    /// has no body.
     ///
     /// The body of the answer is polled with the disk that the store's `disk` lends (`store`). It may have a file open,
     /// which it closes with its last piece; a body that is given up is to be ended (`AsyncStream::into_steps`,
     /// `GetBody::close`).
     ///
     /// `done`: a refusal of the gates, with the store as it was; or the answer of `handle_get` over the store; or that of
-    /// the method that writes, by its table. `may`: the body may be polled with the store's disk. `memory`: where memory is
-    /// refused, nothing is left open, and what stands is as it was, unless the request's method writes: then what was
+    /// the method that writes, by its table. `may`: the body may be polled with the store's disk. `memory`: where memory
+    /// is refused, nothing is left open, and what stands is as it was, unless the request's method writes: then what was
     /// written before stays.
     pub fn handle<B: BodyReader + Drop>(
         &mut self,

@@ -29,9 +29,8 @@ fn perform<S: GuardedFileSystem<C>, C, B: BodyReader>(
     requires admits { S.admits fs.old }
     requires writes { the_writes method ≡ true }
     ensures table { ByMethod (the_view S.GuardedFileSystem S.Disk.Disk S.File.DavFile)
-        (the_listings S.GuardedFileSystem S.Entry.DavDirEntry) S.File.writes method
-        (order method path.now fields.now) credentials.now (B.state body.old) fs.old result fs.new
-        (B.state body.new) }
+        (the_listings S.GuardedFileSystem S.Entry.DavDirEntry) S.File.writes credentials.now method
+        (order method path.now fields.now) (B.state body.old) fs.old result fs.new (B.state body.new) }
     ensures keeps { KeepsOpen (S.Disk.state (S.inside fs.old)) (S.Disk.state (S.inside fs.new)) }
     ensures admits { S.admits fs.new }
     ensures loan { S.Disk.loan (S.inside fs.new) ≡ S.Disk.loan (S.inside fs.old) }
@@ -69,8 +68,8 @@ pub fn write_over<S: GuardedFileSystem<C>, C, B: BodyReader>(
     requires admits { S.admits fs.old }
     requires writes { the_writes method ≡ true }
     ensures done { IfOk result (λ r. WritesOver (the_view S.GuardedFileSystem S.Disk.Disk S.File.DavFile)
-        (the_listings S.GuardedFileSystem S.Entry.DavDirEntry) S.File.writes
-        (order method path.now (head_of asked.entry.now.head.now).headers) asked.entry.now.credentials.now
+        (the_listings S.GuardedFileSystem S.Entry.DavDirEntry) S.File.writes asked.entry.now.credentials.now
+        (order method path.now (head_of asked.entry.now.head.now).headers)
         (B.state body.old) (S.with_now fs.old asked.entry.now.now) r fs.new (B.state body.new)) }
     ensures moment { SetsMoment
         (the_served S.GuardedFileSystem S.Disk.Disk S.File.DavFile S.Entry.DavDirEntry) fs.old asked.entry.now.now }
