@@ -111,7 +111,7 @@ module _ (s t : DiskState) where
   refused_fine (Ok info) u = tt
   refused_fine (Err e) u = fs_listed Rises e u.0 u.1
 
-  missing_fine : (found : Result Info FsError) → RefusedUsually s found t → Fine Rises (refused_but_missing found)
+  pub missing_fine : (found : Result Info FsError) → RefusedUsually s found t → Fine Rises (refused_but_missing found)
   missing_fine (Ok info) u = tt
   missing_fine (Err fs.NotFound) u = tt
   missing_fine (Err fs.Forbidden) u = refused_fine (Err fs.Forbidden) u
@@ -167,7 +167,7 @@ module _ (s t : DiskState) where
   delete_fine fields found u = fine_two Rises (refused found) (unmet Delete fields found) (refused_fine found u) (unmet_fine Rises Delete fields found refl)
 
   -- the answer of a call, or of what was written
-  answered_fine : (outcome : Outcome) (r : Result Unit FsError) → (outcome ≡ made) ⊎ (outcome ≡ silent) → RefusedUsually s r t → IsAnswer Rises (answered outcome r)
+  pub answered_fine : (outcome : Outcome) (r : Result Unit FsError) → (outcome ≡ made) ⊎ (outcome ≡ silent) → RefusedUsually s r t → IsAnswer Rises (answered outcome r)
   answered_fine outcome (Ok x) is u = is
   answered_fine outcome (Err e) is u = fs_listed Rises e u.0 u.1
 

@@ -29,3 +29,4 @@ mod Overlaps
 mod CopyDone
 mod Leaving
 mod CarryRows
+pub mod CopiesListed

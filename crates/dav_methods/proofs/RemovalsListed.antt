@@ -16,12 +16,12 @@ use Rattle.dav_methods.specs.declared.child.Child.{Child}
 use Rattle.dav_methods.specs.declared.work.Work.{Work}
 use Rattle.dav_methods.specs.declared.work.Work.TheVariants.{Emptied, Whole}
 use Rattle.dav_methods.specs.Answers.{RefusesUsually, Usual}
-use Rattle.dav_methods.specs.Lines.{Line, fails_when, is_dir_there, may_delete, silent}
+use Rattle.dav_methods.specs.Lines.{Given, Line, fails_when, is_dir_there, may_delete, silent}
 use Rattle.dav_methods.specs.Pouring.{Writes}
 use Rattle.dav_methods.specs.Reading.{HasMembers, HasNoMembers, ReadRefused}
 use Rattle.dav_methods.specs.Removing.{Deletes, LooksAtLink, Removes, RemovesAll, RemovesOne, goes, is_root, line_of, stops, done as no_work, short as cut_short}
 use Rattle.dav_methods.specs.Table.{Run, Unless}
-use Rattle.dav_methods.proofs.AnswersListed.{Fine, IsListed, RunsWell, delete_fine, fs_listed, listed_more, not_500, unless_fine, well_short, well_unless, when_fine}
+use Rattle.dav_methods.proofs.AnswersListed.{AnswersWell, Fine, IsListed, RunsWell, delete_fine, fs_listed, listed_more, not_500, unless_fine, well_short, well_unless, when_fine}
 
 -- the last of a list
 none_last : {A : Type 0} (ys : List A) (y : A) → [] ≡ ys ++ y ∷ [] → ⊥
@@ -34,19 +34,19 @@ last_same [] (b ∷ ys) x y e = absurd (none_last ys y (let f : [] ≡ ys ++ y �
 last_same (a ∷ xs) [] x y e = absurd (none_last xs x (let f : [] ≡ xs ++ x ∷ [] = cc in f))
 last_same (a ∷ xs) (b ∷ ys) x y e = last_same xs ys x y (let f : xs ++ x ∷ [] ≡ ys ++ y ∷ [] = cc in f)
 
-fine_more : (rose more : Type 0) (l : Line) → (rose → more) → Fine rose l → Fine more l
+pub fine_more : (rose more : Type 0) (l : Line) → (rose → more) → Fine rose l → Fine more l
 fine_more rose more (Ok x) on fine = tt
 fine_more rose more (Err e) on fine = listed_more rose more e on fine
 
 module _ {S C F L E : Type 0} (view : View S C F) (lists : Listings S C L E) (writes : Writes F) (c : C) (few : RefusesUsually view lists writes c) where
-  abbrev Rises : S → S → Type 0
+  abbrev pub Rises : S → S → Type 0
   Rises s t = Rose (view.state s).faults (view.state t).faults
 
-  abbrev Counts : S → S → Type 0
+  abbrev pub Counts : S → S → Type 0
   Counts s t = (view.state s).faults ≤ (view.state t).faults
 
   -- a refusal between two stores, and between an earlier and a later one
-  wider : (s m n t : S) → Counts s m → Counts n t → Rises m n → Rises s t
+  pub wider : (s m n t : S) → Counts s m → Counts n t → Rises m n → Rises s t
   wider s m n t before after rose = rose_after _ _ _ (rose_before _ _ _ before rose) after
 
   listed_wider : (s m n t : S) (e : DavError) → Counts s m → Counts n t → IsListed (Rises m n) e → IsListed (Rises s t) e
@@ -65,7 +65,7 @@ module _ {S C F L E : Type 0} (view : View S C F) (lists : Listings S C L E) (wr
   walk_counts m l n k answers (walk_goes before a b o i j e r walk on said lent keeps) =
       omega (arith, walk_counts m l a i before walk, (few.goes_on a b i j (Ok (Some e)) on).counts, keeps.counts)
 
-  members_count : (path : WebPath) (members : List Child) (s t : S) → HasMembers view lists s c path members t → Counts s t
+  pub members_count : (path : WebPath) (members : List Child) (s t : S) → HasMembers view lists s c path members t → Counts s t
   members_count path members s t has =
       let was = has.was in
       let first = few.begins s was.begin path DataSymlink (Ok was.listing) was.begins in
@@ -90,7 +90,7 @@ module _ {S C F L E : Type 0} (view : View S C F) (lists : Listings S C L E) (wr
       listed_wider b place a a (of_fs e) (walk_counts b l place left answers walk) (omega arith) (usual_listed {T = Option E} place a e (few.goes_on place a left over (Err e) on))
   read_listed b l e a over (inr (inr (answers, name, said, walk))) = entry_listed b l a over _ walk answers name e refl
 
-  unread_listed : (path : WebPath) (e : FsError) (s t : S) → HasNoMembers view lists s c path e t → IsListed (Rises s t) (of_fs e)
+  pub unread_listed : (path : WebPath) (e : FsError) (s t : S) → HasNoMembers view lists s c path e t → IsListed (Rises s t) (of_fs e)
   unread_listed path e s t has = by has.why
     where
       by : (e ≡ fs.NoMemory) ⊎ (lists.lists s c path DataSymlink (Err e) t
@@ -104,11 +104,11 @@ module _ {S C F L E : Type 0} (view : View S C F) (lists : Listings S C L E) (wr
   -- ---- work
 
   -- What a line says may be answered, and no fault is forgotten.
-  record GoesWell (s : S) (r : Line) (t : S) : Type 0 where
-    counts : Counts s t
-    fine : Fine (Rises s t) r
+  pub record GoesWell (s : S) (r : Line) (t : S) : Type 0 where
+    pub counts : Counts s t
+    pub fine : Fine (Rises s t) r
 
-  gone_well : (s t : S) (gone : Result Unit FsError) (r : Line) → r ≡ line_of gone → Usual (view.state s) gone (view.state t) → GoesWell s r t
+  pub gone_well : (s t : S) (gone : Result Unit FsError) (r : Line) → r ≡ line_of gone → Usual (view.state s) gone (view.state t) → GoesWell s r t
   gone_well s t (Ok x) r is usual = record { counts = usual.counts; fine = rw is tt }
   gone_well s t (Err e) r is usual = record { counts = usual.counts; fine = rw is (usual_listed {T = Unit} s t e usual) }
 
@@ -122,7 +122,7 @@ module _ {S C F L E : Type 0} (view : View S C F) (lists : Listings S C L E) (wr
   one_well (Whole path true) works rest s t (Err e) (inr (inr (shallow, members, has, is))) =
       record { counts = members_count path members s t has; fine = rw is (inl refl) }
 
-  work_well : (works : List Work) (s t : S) (r : Line) → Removes view lists c works s r t → GoesWell s r t
+  pub work_well : (works : List Work) (s t : S) (r : Line) → Removes view lists c works s r t → GoesWell s r t
   work_well works s t r (no_work a) = record { counts = omega arith; fine = tt }
   work_well works s t r (cut_short others a) = record { counts = omega arith; fine = inl refl }
   work_well works s t r (goes work others rest a m b line one more) =
@@ -138,15 +138,21 @@ module _ {S C F L E : Type 0} (view : View S C F) (lists : Listings S C L E) (wr
       let well = work_well (Whole path dir ∷ []) s t all removes in
       record { counts = well.counts; answers = rw is (unless_fine (Rises s t) all silent well.fine (inr refl)) }
 
+  -- a look, links not followed, and what follows by what it found
+  pub well_linked : (path : WebPath) (run : Result Info FsError → Run S)
+      → ((found : Result Info FsError) (s m : S) (r : Given) (t : S) → Usual (view.state s) found (view.state m) → run found m r t → AnswersWell view s r t)
+      → RunsWell view (LooksAtLink view lists c path run)
+  well_linked path run well s r t (found, m, look, inl short) = well_short view s m t r (few.looks_at_link s m path found look).counts short
+  well_linked path run well s r t (found, m, look, inr on) = well found s m r t (few.looks_at_link s m path found look) on
+
   abbrev Behind : WebPath → Fields → Result Info FsError → Run S
   Behind path fields found = Unless (may_delete fields found) (RemovesAll view lists c path (is_dir_there found))
 
   looked_well : (path : WebPath) (fields : Fields) → RunsWell view (LooksAtLink view lists c path (Behind path fields))
-  looked_well path fields s r t (found, m, look, inl short) = well_short view s m t r (few.looks_at_link s m path found look).counts short
-  looked_well path fields s r t (found, m, look, inr on) =
-      let usual = few.looks_at_link s m path found look in
-      well_unless view (may_delete fields found) (RemovesAll view lists c path (is_dir_there found)) s m r t usual.counts
-      (delete_fine (view.state s) (view.state m) fields found usual.refused) (all_well path (is_dir_there found)) on
+  looked_well path fields =
+      well_linked path (Behind path fields)
+      (λ found s m r t usual on. well_unless view (may_delete fields found) (RemovesAll view lists c path (is_dir_there found)) s m r t usual.counts
+      (delete_fine (view.state s) (view.state m) fields found usual.refused) (all_well path (is_dir_there found)) on)
 
   pub delete_listed : (path : WebPath) (fields : Fields) → RunsWell view (Deletes view lists c path fields)
   delete_listed path fields s r t on =

@@ -6,6 +6,7 @@ mod asked;
 mod carrying;
 mod child;
 mod conditions;
+mod copy_laws;
 mod copying;
 mod destination;
 mod fields;
@@ -26,6 +27,7 @@ mod work;
 
 pub use carrying::{copy, move_to};
 pub use conditions::{if_match, ifrange_match, ranges_are_heard, reads};
+pub use copy_laws::copies_are_listed;
 pub use fields::first_value;
 pub use laws::{answers_are_listed, writes_follow_their_plans};
 pub use making::{mkaddressbook, mkcalendar, mkcol};
