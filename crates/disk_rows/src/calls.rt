@@ -1,6 +1,7 @@
 //! Calls of a disk.
 //!
 //!     meta PATH               what stands at a path
+//!     link PATH               the same, a link at its end not followed
 //!     mkdir PATH              makes a directory
 //!     rmdir PATH              removes a directory
 //!     rm PATH                 removes a file
@@ -126,6 +127,7 @@ fn call_path<D: Disk>(
     let (path, to) = paths;
     match kind {
         "meta" => show_looked(alloc, line, disk.meta(path)),
+        "link" => show_looked(alloc, line, disk.link_meta(path)),
         "mkdir" => show_done(alloc, line, disk.create_dir(path, true)),
         "rmdir" => show_done(alloc, line, disk.remove_dir(path)),
         "rm" => show_done(alloc, line, disk.remove_file(path)),

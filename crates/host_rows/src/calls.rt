@@ -47,8 +47,8 @@ fn show_meta(line: &mut String, meta: Meta) -> Result<()> {
     Ok(())
 }
 
-fn look<D: Disk>(disk: &mut D, path: &FsPath, line: &mut String) -> Result<()> {
-    match disk.meta(path) {
+fn show_looked(line: &mut String, answer: Result<Meta, DiskError>) -> Result<()> {
+    match answer {
         Ok(meta) => show_meta(line, meta),
         Err(error) => Ok(write!(line, "{error}")?),
     }
@@ -122,7 +122,8 @@ fn call<D: Disk>(alloc: Global, disk: &mut D, part: &str, line: &mut String) -> 
     let path = path_of(alloc, words.next().unwrap_or(""))?;
     let place = words.next().unwrap_or("").parse::<u64>().unwrap_or(0);
     match kind {
-        "look" => look(disk, &path, line)?,
+        "look" => show_looked(line, disk.meta(&path))?,
+        "link" => show_looked(line, disk.link_meta(&path))?,
         "read" => read(disk, &path, place, line)?,
         "list" => list(alloc, disk, &path, line)?,
         "turn" => {

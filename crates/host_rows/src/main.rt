@@ -3,6 +3,7 @@
 //!
 //!     folder PATH             makes a folder, and those that it stands in
 //!     file PATH TEXT          writes a file
+//!     symlink PATH TEXT       makes a symbolic link that leads to a text
 //!     disk ROOT | CALL..      calls of a disk below a folder, with `|` between them
 //!     take PATH               what two reads of a stream from a file give
 //!     put PATH TEXT           what a stream into a new file took of a text
@@ -11,7 +12,8 @@
 //!     clock                   whether the clock shows a moment behind the year 2020, and no earlier one afterwards
 //!     #                       is written as it stands
 //!
-//! A disk's calls are `look PATH`, which tells what stands at a path; `read PATH PLACE`, which opens a file and reads at
+//! A disk's calls are `look PATH`, which tells what stands at a path; `link PATH`, which tells the same without following
+//! a link at its end; `read PATH PLACE`, which opens a file and reads at
 //! most four bytes; `list PATH`, which tells the first two names of a folder; `turn`; and those that change what stands:
 //! `write PATH HOW PLACE TEXT`, which opens a file as letters say and writes a text (`r` and `w` read and write, `a`
 //! append, `t` truncate, `c` create, `n` create_new, `-` none), `make PATH` and `clear PATH` of folders, `remove PATH` of
@@ -25,7 +27,7 @@ mod streams;
 
 use anyhow::Result;
 use std::alloc::Global;
-use std::os::unix::fs::MetadataExt;
+use std::os::unix::fs::{MetadataExt, symlink};
 use std::{fs, io};
 
 /// A text of its own.
@@ -46,6 +48,10 @@ fn answer(rt: &HostRuntime, row: &str) -> Result<String> {
         }
         "file" => {
             fs::write(rt, path, text)?;
+            said(alloc, "made")
+        }
+        "symlink" => {
+            symlink(rt, text, path)?;
             said(alloc, "made")
         }
         "disk" => calls::calls(rt, path, text),
