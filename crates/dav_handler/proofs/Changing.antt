@@ -11,7 +11,7 @@ use Rattle.dav_core.specs.declared.method.DavMethod.TheVariants.{Delete, MkAddre
 use Rattle.dav_core.specs.DavPath.{WebPath}
 use Rattle.dav_core.specs.Disk.{DiskState}
 use Rattle.dav_core.specs.Statuses.{closes, lacks_memory, status_of}
-use Rattle.dav_core.specs.World.{World}
+use Rattle.dav_core.specs.World.{IsWorld, World}
 use Rattle.dav_model.specs.declared.outcome.Outcome.{Outcome}
 use Rattle.dav_model.specs.declared.settings.Settings.{Settings}
 use Rattle.dav_model.specs.declared.target.Target.TheVariants.{Writes}
@@ -23,22 +23,19 @@ use Rattle.dav_model.specs.Rules.{plain_rules}
 use Rattle.dav_model.specs.Sizes.{read_size_of}
 use Rattle.dav_model.specs.Written.{ByActs, EndsAs, IsWriteReply, Makes, MakesIn, PartOf, ask_of, made, silent}
 use Rattle.dav_store.specs.Frames.{KeepsOpen}
-use Rattle.dav_methods.specs.Answers.{IsAnswer}
+use Rattle.dav_methods.specs.Answers.{IsAnswer, RefusesUsually}
 use Rattle.dav_store.specs.View.{View, Listings}
 use Rattle.dav_plain.specs.declared.entry.PlainDir.{PlainDir}
 use Rattle.dav_plain.specs.declared.entry.PlainEntry.{PlainEntry}
 use Rattle.dav_plain.specs.declared.file.PlainFile.{PlainFile}
 use Rattle.dav_methods.specs.Changing.{Changes}
-use Rattle.dav_methods.specs.Follows.{RightIn, answer_or}
+use Rattle.dav_methods.specs.Follows.{Follows, RightIn, answer_or}
 use Rattle.dav_methods.specs.Pouring.{Writes as FileWrites}
 use Rattle.dav_methods.proofs.AnswersListed.{mkcalendar_listed, mkcol_listed, put_listed}
 use Rattle.dav_methods.proofs.DeleteRight.{deletes_right}
 use Rattle.dav_methods.proofs.MakingFollows.{mkcalendar_follows, mkcol_follows}
 use Rattle.dav_methods.proofs.PutFollows.{put_follows}
 use Rattle.dav_methods.proofs.RemovalsListed.{delete_listed}
-use Rattle.dav_follows.proofs.PlainFollows.{plain_follows}
-use Rattle.dav_follows.proofs.PlainStore.{IsPlainStore}
-use Rattle.dav_follows.proofs.PlainUsual.{plain_usual}
 use Rattle.dav_methods.specs.Lines.{Given}
 use Rattle.dav_methods.specs.Lines as lines
 use Rattle.dav_handler.specs.declared.found.Found.{Found}
@@ -122,29 +119,30 @@ module _ (settings : Settings) (method : DavMethod) (path : WebPath) (said : Sai
 -- ---- over the plain store
 
 module _ {S C : Type 0} (view : View S C PlainFile) (lists : Listings S C PlainDir PlainEntry) (writes : FileWrites PlainFile) (c : C)
-    (plain : IsPlainStore view lists writes c) (path : WebPath) (said : Said) (s : S) (r : Given) (t : S) where
+    (usual : RefusesUsually view lists writes c) (worlds : (s : S) (w : World) → (view.state s).told ≡ Some w → IsWorld w)
+    (path : WebPath) (said : Said) (s : S) (r : Given) (t : S) where
   listed : (method : DavMethod) → Changes view lists writes c method path said.fields said.body s r t
       → IsAnswer (Rose (view.state s).faults (view.state t).faults) r
-  listed Put run = (put_listed view lists writes c (plain_usual view lists writes c plain) path said.fields said.body s r t run).answers
-  listed MkCol run = (mkcol_listed view lists writes c (plain_usual view lists writes c plain) path said.fields s r t run).answers
-  listed Delete run = (delete_listed view lists writes c (plain_usual view lists writes c plain) path said.fields s r t run).answers
-  listed other run = (mkcalendar_listed view lists writes c (plain_usual view lists writes c plain) path s r t run).answers
+  listed Put run = (put_listed view lists writes c usual path said.fields said.body s r t run).answers
+  listed MkCol run = (mkcol_listed view lists writes c usual path said.fields s r t run).answers
+  listed Delete run = (delete_listed view lists writes c usual path said.fields s r t run).answers
+  listed other run = (mkcalendar_listed view lists writes c usual path s r t run).answers
 
-  right : (settings : Settings) (method : DavMethod) → Changes view lists writes c method path said.fields said.body s r t → is_planned method ≡ true
+  right : (settings : Settings) → Follows view lists writes c (plain_rules settings) s → (method : DavMethod) → Changes view lists writes c method path said.fields said.body s r t → is_planned method ≡ true
       → Both (view.state s).told (view.state t).told (λ v w. RightIn view lists writes c (plain_rules settings) (ask_of method path said.fields said.body) s r t v w)
-  right settings Put run planned = put_follows view lists writes c plain.worlds (plain_rules settings) s (plain_follows view lists writes c plain settings s)
+  right settings follows Put run planned = put_follows view lists writes c worlds (plain_rules settings) s follows
       refl refl refl (ask_of Put path said.fields said.body) refl r t run
-  right settings MkCol run planned = mkcol_follows view lists writes c plain.worlds (plain_rules settings) s (plain_follows view lists writes c plain settings s)
+  right settings follows MkCol run planned = mkcol_follows view lists writes c worlds (plain_rules settings) s follows
       refl refl refl (ask_of MkCol path said.fields said.body) refl r t run
-  right settings MkCalendar run planned = mkcalendar_follows view lists writes c plain.worlds (plain_rules settings) s (plain_follows view lists writes c plain settings s)
+  right settings follows MkCalendar run planned = mkcalendar_follows view lists writes c worlds (plain_rules settings) s follows
       refl refl refl (ask_of MkCalendar path said.fields said.body) (inl refl) r t run
-  right settings MkAddressbook run planned = mkcalendar_follows view lists writes c plain.worlds (plain_rules settings) s (plain_follows view lists writes c plain settings s)
+  right settings follows MkAddressbook run planned = mkcalendar_follows view lists writes c worlds (plain_rules settings) s follows
       refl refl refl (ask_of MkAddressbook path said.fields said.body) (inr refl) r t run
-  right settings Delete run planned = deletes_right view lists writes c (plain_rules settings) path said.fields said.body s (plain_follows view lists writes c plain settings s)
+  right settings follows Delete run planned = deletes_right view lists writes c (plain_rules settings) path said.fields said.body s follows
       refl refl refl r t run
-  right settings other run planned = cc
+  right settings follows other run planned = cc
 
   -- What a method that writes did over the plain store.
-  pub did_change : (settings : Settings) (method : DavMethod) → Changes view lists writes c method path said.fields said.body s r t → KeepsOpen (view.state s) (view.state t)
+  pub did_change : (settings : Settings) → Follows view lists writes c (plain_rules settings) s → (method : DavMethod) → Changes view lists writes c method path said.fields said.body s r t → KeepsOpen (view.state s) (view.state t)
       → Did settings (ask_of method path said.fields said.body) (view.state s) r (view.state t)
-  did_change settings method run keeps = record { keeps = keeps; listed = listed method run; right = right settings method run }
+  did_change settings follows method run keeps = record { keeps = keeps; listed = listed method run; right = right settings follows method run }

@@ -16,6 +16,7 @@ ghost use Rattle.dav_handler.specs.Held.{handle_of};
 use crate::gates::target;
 use dav_config::{refused, refused_by};
 use dav_core::{DavError, DavMethod, DavMethodSet, DavPath, Disk};
+use dav_follows::{plain_stores_follow_rules, plain_stores_refuse_few};
 use dav_get::{GetBody, handle_get};
 use dav_io::{NoMemory, Octets};
 use dav_methods::{delete, mkcalendar, mkcol, options, put_whole};
@@ -138,21 +139,22 @@ fn change<D: Disk>(
     }
 }
 
-// What a method makes of a path: one that writes.
+// What a method makes of a path: one that writes. The laws of the store say what its table means.
 fn write_at<D: Disk>(
     alloc: Global,
     settings: &Settings,
     store: &mut PlainFs<D>,
     method: DavMethod,
     path: &DavPath,
-    request: &Request<Octets>,
+    fields: &HeaderMap,
+    body: &[u8],
 ) -> Result<Found, NoMemory>
-    ensures done { Finds settings.now (D.state store.old.disk) (said_in request.now) (Writes method path.now) result
-        (D.state store.new.disk) }
+    ensures done { Finds settings.now (D.state store.old.disk) (record { fields = fields.now; body = body.now })
+        (Writes method path.now) result (D.state store.new.disk) }
     ensures loan { D.loan store.new.disk ≡ D.loan store.old.disk }
 {
-    let fields = request.headers();
-    let body = request.body().as_slice();
+    plain_stores_refuse_few(store);
+    plain_stores_follow_rules(store, settings);
     match change(alloc, store, method, path, fields, body) {
         Ok(outcome) => Ok(alone(outcome)),
         Err(error) => refuse(alloc, fields, error),
@@ -165,16 +167,18 @@ fn find<D: Disk>(
     settings: &Settings,
     store: &mut PlainFs<D>,
     target: &Target,
-    request: &Request<Octets>,
+    fields: &HeaderMap,
+    body: &[u8],
 ) -> Result<Found, NoMemory>
-    ensures done { Finds settings.now (D.state store.old.disk) (said_in request.now) target.now result
-        (D.state store.new.disk) }
+    ensures done { Finds settings.now (D.state store.old.disk) (record { fields = fields.now; body = body.now })
+        target.now result (D.state store.new.disk) }
     ensures loan { D.loan store.new.disk ≡ D.loan store.old.disk }
 {
-    let fields = request.headers();
     match target {
         Target::At { method, path } => find_at(alloc, settings, store, *method, path, fields),
-        Target::Writes { method, path } => write_at(alloc, settings, store, *method, path, request),
+        Target::Writes { method, path } => write_at(
+            alloc, settings, store, *method, path, fields, body,
+        ),
         Target::Methods => methods(alloc, settings.allow),
         Target::Refused { status, close } => refusal(alloc, fields, *status, *close),
     }
@@ -192,7 +196,14 @@ pub fn find_for<D: Disk>(
     ensures loan { D.loan store.new.disk ≡ D.loan store.old.disk }
 {
     match target(alloc, settings, request) {
-        Ok(asked) => find(alloc, settings, store, &asked, request),
+        Ok(asked) => find(
+            alloc,
+            settings,
+            store,
+            &asked,
+            request.headers(),
+            request.body().as_slice(),
+        ),
         Err(error) => Err(error),
     }
 }
