@@ -27,13 +27,13 @@ use Rattle.dav_store.specs.View.{View, Listings}
 use Rattle.dav_get.proofs.HeardIsRight.{rose_through}
 use Rattle.dav_methods.specs.declared.work.Work.{Work}
 use Rattle.dav_methods.specs.declared.work.Work.TheVariants.{Emptied, Whole}
-use Rattle.dav_methods.specs.Follows as on
 use Rattle.dav_methods.specs.Lines.{Given, Line, above, done_over, fails_when, first_of, found_or_failed, is_dir_there, may_delete, may_make, may_put, no_parent, refused_but_missing, silent, unless, unmet, with_status}
 use Rattle.dav_methods.specs.Pouring.{Poured, Stops, Writes, WritesFile, begun as none_poured, goes as pours_on}
 use Rattle.dav_methods.specs.Putting.{AfterChecks, MayPut, MayReplace, Puts, put_options}
 use Rattle.dav_methods.specs.Reading.{HasMembers, HasNoMembers, ReadRefused}
 use Rattle.dav_methods.specs.Removing.{Deletes, LooksAtLink, RefusesDir, RemovesAll, RemovesOne, Removes, is_root, line_of, done, short, goes as removes_on, stops as stopped}
 use Rattle.dav_methods.specs.Table.{Below, Ends, EndsMade, Looks, MkCalendars, MkCols, Next, Run, Unless}
+use Rattle.dav_config.specs.Ways as on
 use Rattle.dav_config.specs.Writing as one
 use Rattle.dav_config.specs.Writing.{ByMethod, Order, RefusedOnWay, RefusesOne}
 
@@ -197,7 +197,7 @@ ends_same (x ∷ xs) (y ∷ ys) a b e = ends_same xs ys a b cc
 
 module _ {S C F L E : Type 0} (view : View S C F) (lists : Listings S C L E) (writes : Writes F) (c : C) where
   abbrev Reach : S → S → Type 0
-  Reach = on.Reached view lists writes c
+  Reach = on.Leads view lists writes c
 
   abbrev Refuses : S → S → Type 0
   Refuses = RefusesOne view lists writes c
@@ -347,7 +347,7 @@ module _ {S C F L E : Type 0} (view : View S C F) (lists : Listings S C L E) (wr
   walked_came : (s m : S) (l : L) (answers : List Answered) (t : S) (k : L) → Reach s m → Walked view lists m l answers t k → Reach s t
   walked_came s m l answers t k came begun = came
   walked_came s m l answers t k came (walks front n o p i j e r before nexts said lends keeps) =
-      on.says o t e r (on.goes_on n o i k (Ok (Some e)) (walked_came s m l front n i came before) nexts) said lends
+      on.says n o t i k e r (walked_came s m l front n i came before) nexts said
 
   -- the last that was asked was refused
   said_way : (s m t : S) (l k : L) (all front : List Answered) (a : Answered) → a.meta ≡ Err fs.GeneralFailure → all ≡ front ++ a ∷ [] → Reach s m
@@ -357,8 +357,8 @@ module _ {S C F L E : Type 0} (view : View S C F) (lists : Listings S C L E) (wr
   said_way s m t l k all front a is same came (walks before n o p i j e r walked nexts said lends keeps) =
       let last = ends_same before front (record { name = lists.called e; meta = r }) a same in
       let refused : r ≡ Err fs.GeneralFailure = ap (λ (x : Answered). x.meta) last ∙ is in
-      way s o t t (on.goes_on n o i k (Ok (Some e)) (walked_came s m l before n i came walked) nexts)
-      (one.says e (subst (λ x. lists.says e (view.state o) x (view.state t)) refused said)) refl
+      way s n t t (walked_came s m l before n i came walked)
+      (one.says i k e o nexts (subst (λ x. lists.says e (view.state o) x (view.state t)) refused said)) refl
 
   way_on : (s m t : S) → Way s m → ((n : S) → Reach n m → Reach n t) → Way s t
   way_on s m t on_way more = record { before = on_way.before; after = on_way.after; came = on_way.came; fails = on_way.fails; ends = more on_way.after on_way.ends }

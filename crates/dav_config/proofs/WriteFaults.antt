@@ -4,14 +4,14 @@ use Rattle.dav_io.specs.Counts.{Rose}
 use Rattle.dav_store.specs.View.{View, Listings}
 use Rattle.dav_get.proofs.HeardIsRight.{rose_through}
 use Rattle.dav_methods.specs.Answers.{RefusesUsually}
-use Rattle.dav_methods.specs.Follows as on
 use Rattle.dav_methods.specs.Pouring.{Writes}
+use Rattle.dav_config.specs.Ways as on
 use Rattle.dav_config.specs.Writing as one
 use Rattle.dav_config.specs.Writing.{RefusedOnWay, RefusesOne}
 
 module _ {S C F L E : Type 0} (view : View S C F) (lists : Listings S C L E) (writes : Writes F) (c : C) (usual : RefusesUsually view lists writes c) where
   -- no call forgets a fault
-  reached_counts : (s t : S) → on.Reached view lists writes c s t → (view.state s).faults ≤ (view.state t).faults
+  reached_counts : (s t : S) → on.Leads view lists writes c s t → (view.state s).faults ≤ (view.state t).faults
   reached_counts s t on.here = omega arith
   reached_counts s t (on.looks m n path r before call) = let first = reached_counts s m before in let last = (usual.looks m n path r call).counts in omega arith
   reached_counts s t (on.looks_at_link m n path r before call) = let first = reached_counts s m before in let last = (usual.looks_at_link m n path r call).counts in omega arith
@@ -22,11 +22,10 @@ module _ {S C F L E : Type 0} (view : View S C F) (lists : Listings S C L E) (wr
   reached_counts s t (on.makes_dir m n path r before call) = let first = reached_counts s m before in let last = (usual.makes_dir m n path r call).counts in omega arith
   reached_counts s t (on.removes_dir m n path r before call) = let first = reached_counts s m before in let last = (usual.removes_dir m n path r call).counts in omega arith
   reached_counts s t (on.removes_file m n path r before call) = let first = reached_counts s m before in let last = (usual.removes_file m n path r call).counts in omega arith
-  reached_counts s t (on.renames m n from to r before call) = let first = reached_counts s m before in let last = (usual.renames m n from to r call).counts in omega arith
-  reached_counts s t (on.copies m n from to r before call) = let first = reached_counts s m before in let last = (usual.copies m n from to r call).counts in omega arith
   reached_counts s t (on.begins m n path how r before call) = let first = reached_counts s m before in let last = (usual.begins m n path how r call).counts in omega arith
   reached_counts s t (on.goes_on m n l k r before call) = let first = reached_counts s m before in let last = (usual.goes_on m n l k r call).counts in omega arith
-  reached_counts s t (on.says m n e r before call lends) = let first = reached_counts s m before in let last = (usual.says (view.state m) (view.state n) e r call).counts in omega arith
+  reached_counts s t (on.says m n o l k e r before gives says) =
+      let first = reached_counts s m before in let last = (usual.says m n o l k e r gives says).counts in omega arith
   reached_counts s t (on.ends_list m n l before call) = let first = reached_counts s m before in let last = usual.ends m n l call in omega arith
 
   one_rose : (m n : S) → RefusesOne view lists writes c m n → Rose (view.state m).faults (view.state n).faults
@@ -39,7 +38,7 @@ module _ {S C F L E : Type 0} (view : View S C F) (lists : Listings S C L E) (wr
   one_rose m n (one.removes_file path call) = (usual.removes_file m n path _ call).refused.1 refl
   one_rose m n (one.begins path how call) = (usual.begins m n path how _ call).refused.1 refl
   one_rose m n (one.goes_on l k call) = (usual.goes_on m n l k _ call).refused.1 refl
-  one_rose m n (one.says e call) = (usual.says (view.state m) (view.state n) e _ call).refused.1 refl
+  one_rose m n (one.says l k e o gives call) = (usual.says m o n l k e _ gives call).refused.1 refl
 
   pub way_rose : (s t : S) → RefusedOnWay view lists writes c s t → Rose (view.state s).faults (view.state t).faults
   way_rose s t way =

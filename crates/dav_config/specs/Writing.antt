@@ -18,13 +18,13 @@ use Rattle.dav_store.specs.View.{View, Listings}
 use Rattle.dav_model.specs.declared.outcome.Outcome.{Outcome}
 use Rattle.dav_model.specs.Conditions.{Fields, writes as is_writing}
 use Rattle.dav_model.specs.Head.{Reply, refusal}
-use Rattle.dav_methods.specs.Follows.{Reached}
 use Rattle.dav_methods.specs.Lines.{Given}
 use Rattle.dav_methods.specs.Pouring.{Writes, WritesFile}
 use Rattle.dav_methods.specs.Putting.{Puts}
 use Rattle.dav_methods.specs.Removing.{Deletes}
 use Rattle.dav_methods.specs.Table.{MkCalendars, MkCols, Run}
 use Rattle.dav_config.specs.Responses.{IsBare, Responded}
+use Rattle.dav_config.specs.Ways.{Leads}
 
 -- ---- which requests write
 
@@ -97,15 +97,16 @@ module _ {S C F L E : Type 0} (view : View S C F) (lists : Listings S C L E) (wr
     removes_file : (path : WebPath) → view.removes_file m c path (Err GeneralFailure) n → RefusesOne m n
     begins : (path : WebPath) (how : ReadDirMeta) → lists.lists m c path how (Err GeneralFailure) n → RefusesOne m n
     goes_on : (l k : L) → lists.lists_on m l (Err GeneralFailure) n k → RefusesOne m n
-    says : (e : E) → lists.says e (view.state m) (Err GeneralFailure) (view.state n) → RefusesOne m n
+    -- (an entry that was given)
+    says : (l k : L) (e : E) (o : S) → lists.lists_on m l (Ok (Some e)) o k → lists.says e (view.state o) (Err GeneralFailure) (view.state n) → RefusesOne m n
 
   -- On the way from a store to another a call was refused so.
   pub record RefusedOnWay (s t : S) : Type 0 where
     pub before : S
     pub after : S
-    pub came : Reached view lists writes c s before
+    pub came : Leads view lists writes c s before
     pub fails : RefusesOne before after
-    pub ends : Reached view lists writes c after t
+    pub ends : Leads view lists writes c after t
 
   -- the same of a store that there is, once its moment is set
   pub record RefusedIn (set : S → S) (old new : Option S) : Type 0 where
