@@ -6,3 +6,6 @@ pub mod Parts
 pub mod Queries
 pub mod Values
 pub mod Walks
+pub mod Due
+pub mod Selected
+pub mod Linked

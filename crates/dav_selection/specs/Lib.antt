@@ -6,3 +6,4 @@ pub mod Reports
 pub mod Taken
 pub mod Visits
 pub mod Selection
+pub mod Shown
