@@ -1,5 +1,5 @@
 -- What came of a resource is what is due of it, where the store shows what stands there.
-use Rattle.std.proofs.Common.{◌≡◌, ◌≤◌, ◌⊎◌, ◌&&◌, inl, inr, ℕ, List, [], take, Bool, true, false, Option, None, Some, Result, Ok, Err, IfSome, OnErr, refl, sym, ap, subst, ◌∙◌, if◌then◌else◌, arith}
+use Rattle.std.proofs.Common.{◌≡◌, ◌≤◌, ◌⊎◌, inl, inr, ℕ, List, [], take, Bool, true, false, Option, None, Some, Result, Ok, Err, IfSome, OnErr, refl, sym, ap, subst, ◌∙◌, if◌then◌else◌, arith}
 use Rattle.std.specs.Option.{option_map}
 use Rattle.dav_io.specs.Counts.{Rose}
 use Rattle.dav_core.specs.declared.error.FsError.{FsError}
@@ -17,12 +17,12 @@ use Rattle.dav_store.specs.Reached.{Reached, ShowsOn, by_file, by_opening}
 use Rattle.dav_store.specs.Shows.{IsThere, OpensThere, seen_of}
 use Rattle.dav_store.specs.Standing.{Agrees, AgreesOpen, Seen, Standing}
 use Rattle.dav_store.specs.View.{View, Listings, seen_in}
-use Rattle.dav_store.proofs.Reached.{opening_stays, reached_stays}
+use Rattle.dav_store.proofs.Reached.{opening_stays}
 use Rattle.dav_store.proofs.Reading.{rose_from, rose_on}
 use Rattle.dav_report.specs.declared.answer.Record.{Record}
 use Rattle.dav_selection.specs.declared.resource.Resource.{Resource}
 use Rattle.dav_selection.specs.declared.resource.Unread.{Unread}
-use Rattle.dav_selection.specs.declared.resource.Unread.TheVariants.{Unsaid, Refused, NoMemory}
+use Rattle.dav_selection.specs.declared.resource.Unread.TheVariants.{Unsaid, Refused}
 use Rattle.dav_selection.specs.Answered.{given}
 use Rattle.dav_selection.specs.Reports.{HadMemory}
 use Rattle.dav_selection.specs.Resources.{AfterKind, AfterMeta, AfterOpen, Fetches, content_of, resource, unread}

@@ -9,3 +9,4 @@ pub mod Walks
 pub mod Due
 pub mod Selected
 pub mod Linked
+pub mod OfTheTree

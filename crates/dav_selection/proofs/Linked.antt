@@ -1,12 +1,11 @@
 -- The records of links, and the links that are missing, are those of what the store shows.
-use Rattle.std.proofs.Common.{◌≡◌, ◌≤◌, ◌++◌, ◌⊎◌, inl, inr, ℕ, List, [], ◌∷◌, All, length, map, Option, None, Some, Result, Ok, Err, refl, sym, ap, subst, ◌∙◌, append-nil}
+use Rattle.std.proofs.Common.{◌≡◌, ◌≤◌, ◌++◌, ◌⊎◌, inl, inr, ℕ, List, [], ◌∷◌, All, map, Option, None, Some, Result, Ok, Err, refl, sym, ap, subst, ◌∙◌, append-nil}
 use Rattle.std.specs.List.{AllByRecursion, flat_map}
 use Rattle.std.specs.Option.{option_map, option_to_list}
 use Rattle.std.proofs.lemmas.Grind.{flat_map-append}
 use Rattle.std.proofs.lemmas.List.{map-append}
 use Rattle.std.proofs.lemmas.List.Elements.{recursion_from_All}
 use Rattle.dav_io.specs.Counts.{Rose}
-use Rattle.dav_core.specs.declared.parse_error.ParseError.{ParseError}
 use Rattle.dav_core.specs.DavPath.{WebPath}
 use Rattle.dav_core.specs.Grammar.{parsed}
 use Rattle.dav_store.specs.Reached.{Reached, by_none}
@@ -20,8 +19,8 @@ use Rattle.dav_report.specs.declared.error.ReportError.TheVariants as error
 use Rattle.dav_selection.specs.declared.resource.Resource.{Resource}
 use Rattle.dav_selection.specs.declared.resource.Unread.{Unread}
 use Rattle.dav_selection.specs.Answered.{Answer, Link, answer_given, given, is_given, linked, missing, record_of, unless}
-use Rattle.dav_selection.specs.Reports.{Followed, Follows, HadMemory, Leads, LinksAsked, began, leads}
-use Rattle.dav_selection.specs.Shown.{AreLinked, IsDueOr, IsFollowed, ShowsAt, ShowsBy, Stock, due_at, due_of}
+use Rattle.dav_selection.specs.Reports.{Followed, Follows, Leads, LinksAsked, began, leads}
+use Rattle.dav_selection.specs.Shown.{AreLinked, IsDueOr, IsFollowed, ShowsAt, ShowsBy, Stock, due_of}
 use Rattle.dav_selection.proofs.Due.{fetch_due, fetch_reached}
 use Rattle.dav_selection.proofs.Selected.{all_from, all_split, due_later}
 

@@ -9,7 +9,6 @@ use Rattle.std.proofs.lemmas.List.Elements.{All-from_recursion, recursion_from_A
 use Rattle.std.proofs.lemmas.List.Sorted.{All-permutation}
 use Rattle.dav_io.specs.Counts.{Rose}
 use Rattle.dav_core.specs.declared.error.FsError.{FsError}
-use Rattle.dav_core.specs.declared.error.FsError.TheVariants.{GeneralFailure}
 use Rattle.dav_core.specs.declared.member.Member.{Member}
 use Rattle.dav_core.specs.DavPath.{WebPath}
 use Rattle.dav_core.specs.Unchanged.{Keeps}
@@ -25,9 +24,8 @@ use Rattle.dav_selection.specs.declared.resource.Resource.{Resource}
 use Rattle.dav_selection.specs.declared.resource.Unread.{Unread}
 use Rattle.dav_selection.specs.declared.resource.Unread.TheVariants.{Unsaid, Refused, NoMemory}
 use Rattle.dav_selection.specs.Answered.{Answer, Wants, given, record_of, records}
-use Rattle.dav_selection.specs.Reports.{AfterWalk, AreInOrder, Asked, HadMemory, IsPassable, Listed, Selects, Sought, Walks, begun, goes, member_path}
-use Rattle.dav_selection.specs.Resources.{Fetches}
-use Rattle.dav_selection.specs.Shown.{AreGiven, AreSelected, IsDueOr, IsQueried, ShowsAt, ShowsDir, Stock, at_most, due_at}
+use Rattle.dav_selection.specs.Reports.{AreInOrder, Asked, HadMemory, IsPassable, Selects, Sought, Walks, begun, goes, member_path}
+use Rattle.dav_selection.specs.Shown.{AreGiven, IsDueOr, IsQueried, ShowsAt, Stock, at_most, due_at}
 use Rattle.dav_selection.proofs.Due.{fetch_due, fetch_reached, fetch_refused}
 
 -- ---- of all elements of a list
@@ -53,7 +51,7 @@ all_front : {A : Type 0} (P : A → Type 0) (xs ys : List A) → AllByRecursion 
 all_front P [] ys all = tt
 all_front P (x ∷ xs) ys all = (all.0, all_front P xs ys all.1)
 
-all_to : {A B : Type 0} (P : B → Type 0) (f : A → B) (xs : List A) → AllByRecursion (λ x. P (f x)) xs → AllByRecursion P (map f xs)
+pub all_to : {A B : Type 0} (P : B → Type 0) (f : A → B) (xs : List A) → AllByRecursion (λ x. P (f x)) xs → AllByRecursion P (map f xs)
 all_to P f [] all = tt
 all_to P f (x ∷ xs) all = (all.0, all_to P f xs all.1)
 

@@ -7,3 +7,4 @@ pub mod Taken
 pub mod Visits
 pub mod Selection
 pub mod Shown
+pub mod Told
