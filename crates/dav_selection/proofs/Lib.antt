@@ -10,3 +10,4 @@ pub mod Due
 pub mod Selected
 pub mod Linked
 pub mod OfTheTree
+pub mod Exact

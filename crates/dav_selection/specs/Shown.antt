@@ -1,5 +1,6 @@
 -- The report that is right for what a store shows: which resources stand, which are wanted, and in which order.
 use Rattle.std.specs.Prelude.{◌≡◌, ◌⊎◌, ◌++◌, ◌∷◌, ℕ, List, [], All, map, take, Option, None, Some, Result, Ok, Err, if◌then◌else◌}
+use Rattle.std.specs.List.{flat_map}
 use Rattle.std.specs.List.Sorted.{IsPermutation}
 use Rattle.dav_core.specs.declared.error.FsError.{FsError}
 use Rattle.dav_core.specs.declared.error.FsError.TheVariants.{GeneralFailure}
@@ -16,7 +17,7 @@ use Rattle.dav_report.specs.declared.answer.Record.{Record}
 use Rattle.dav_report.specs.declared.answer.Report.{Report}
 use Rattle.dav_report.specs.declared.error.ReportError.{ReportError}
 use Rattle.dav_report.specs.declared.error.ReportError.TheVariants.{Fs}
-use Rattle.dav_selection.specs.Answered.{given}
+use Rattle.dav_selection.specs.Answered.{given, is_given, unless}
 use Rattle.dav_selection.specs.Reports.{AreInOrder, LinksAsked, Sought, member_path}
 use Rattle.dav_selection.specs.Resources.{resource}
 use Rattle.dav_selection.specs.Selection.{Selection, queries, follows, refuses, of_records}
@@ -59,6 +60,10 @@ AreLinked due fault [] records missing = (records ≡ []) × (missing ≡ [])
 AreLinked due fault (href ∷ hrefs) records missing =
     ((r : Record) × (rest : List Record) × (due href ≡ r ∷ []) × (records ≡ r ∷ rest) × AreLinked due fault hrefs rest missing)
     ⊎ ((rest : List (List ℕ)) × ((due href ≡ []) ⊎ fault) × (missing ≡ href ∷ rest) × AreLinked due fault hrefs records rest)
+
+-- the links of which nothing is due
+abbrev pub lacking : (List ℕ → List Record) → List (List ℕ) → List (List ℕ)
+lacking due hrefs = flat_map (λ href. unless (is_given (due href)) href) hrefs
 
 -- as many as are wanted at most
 abbrev pub at_most : Option ℕ → List Record → List Record

@@ -4,6 +4,7 @@
 mod calendars;
 mod cards;
 mod following;
+pub mod laws;
 mod matching;
 mod reading;
 mod resource;
