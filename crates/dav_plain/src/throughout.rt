@@ -14,7 +14,8 @@ use dav_store::{DavDirEntry, DavFile, GuardedFileSystem};
 /// Where the disk tells its world, the store shows what stands in the world at each path on the way to which no link
 /// stands, also after looks, openings for reading, calls of open files and listings.
 pub fn shows_throughout<D: Disk>(_fs: &PlainFs<D>)
-    ensures { (w : World) → (D.state _fs.now.disk).told ≡ Some w → (path : WebPath) → is_linked w.tree path.names ≡ false
+    ensures { (w : World) → (D.state _fs.now.disk).told ≡ Some w → (path : WebPath)
+        → is_linked w.tree path.names ≡ false
         → ShowsOn (the_view ⟦<PlainFs<D> as GuardedFileSystem<()>>⟧ D.Disk ⟦<PlainFile as DavFile<D>>⟧)
         (the_listings ⟦<PlainFs<D> as GuardedFileSystem<()>>⟧ ⟦<PlainEntry as DavDirEntry<D>>⟧) _fs.now tt path
         (opened w path) }

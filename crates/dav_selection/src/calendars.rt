@@ -24,6 +24,9 @@ use std::alloc::Global;
 /// read to the length that its metadata gives, and is closed again; it gives a record where it is a calendar object that
 /// the filter of the query matches. What can't be opened or read is passed over.
 ///
+/// `table` tells which calls of the store gave the report; `shown` says that it is right for what the store shows
+/// wherever it looks, or for what may stand in its place where a fault was met.
+///
 /// Errors: `BadRequest` where the element asks for no report, `FreeBusy` where it asks for free-busy times, `Fs` where
 /// the listing of a query, or the metadata of one of its files, is refused; and want of memory.
 pub fn calendar_report<S: GuardedFileSystem<C>, C>(

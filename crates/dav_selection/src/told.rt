@@ -20,8 +20,8 @@ use dav_report::{Report, ReportError};
 use dav_store::{DavDirEntry, DavFile, GuardedFileSystem};
 use std::alloc::Global;
 
-/// Where the disk tells its world, and no link is met, the store shows what stands in the world to a selection, to a query
-/// of the directory at the path. A law: the call does nothing.
+/// Where the disk tells its world, and no link is met, the store shows a selection what stands in the world; a query is
+/// one of the directory at the path. A law: the call does nothing.
 pub fn shows_the_tree<D: Disk>(_fs: &PlainFs<D>, _path: &DavPath)
     ensures { (w : World) → (D.state _fs.now.disk).told ≡ Some w → (q : Selection) → IsOf _path.now q → MeetsNoLink w q
         → ShowsFor (the_view ⟦<PlainFs<D> as GuardedFileSystem<()>>⟧ D.Disk ⟦<PlainFile as DavFile<D>>⟧)
@@ -32,8 +32,8 @@ pub fn shows_the_tree<D: Disk>(_fs: &PlainFs<D>, _path: &DavPath)
     shows_throughout(_fs);
 }
 
-/// `calendar_report` over a plain store: where its disk tells its world, and no link is met, the report of what stands in
-/// that world.
+/// `calendar_report` over a plain store: where its disk tells its world, and no link is met, the report of what stands
+/// in that world, or may stand in its place where a fault was met.
 pub fn plain_calendar_report<D: Disk>(
     alloc: Global,
     root: &Element,
