@@ -142,7 +142,7 @@ each_numbered tree (r ∷ rows) up = (
 )
 
 -- The number of a row that is found stands in the tree.
-found_numbered : (tree : List Row) (path : Names) (row : Row) → look tree path ≡ Ok row → is_numbered tree row.number ≡ true
+pub found_numbered : (tree : List Row) (path : Names) (row : Row) → look tree path ≡ Ok row → is_numbered tree row.number ≡ true
 found_numbered tree path row e = look_all (λ r. is_numbered tree r.number ≡ true) tree path row (each_numbered tree tree (λ n e. e)) e
 
 meta_back : (w x : World) (path : Names) (row : Row) (meta : Meta) → SameBesidesOpens w x → look x.tree path ≡ Ok row → IsMetaOf x row meta

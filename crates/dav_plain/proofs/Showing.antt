@@ -119,7 +119,7 @@ opened_err : (w v : World) (path : WebPath) (e : DiskError) (kind : Option Kind)
 opened_err w v path e kind s t flat linked (same, r) asks =
     elim (refused {V = PlainFile} e (look w.tree path.names) (Err e) s t (r linked) refl asks) [ inl f ↦ inl (rw f refl) | inr x ↦ inr x ]
 
-opens_in : (w : World) (path : WebPath) (answer : Result Handle DiskError) (s t : DiskState) → IsWorld w → s.told ≡ Some w → path.slash ≡ false → is_linked w.tree path.names ≡ false
+pub opens_in : (w : World) (path : WebPath) (answer : Result Handle DiskError) (s t : DiskState) → IsWorld w → s.told ≡ Some w → path.slash ≡ false → is_linked w.tree path.names ≡ false
     → Opens s path.names reading answer t → OpensThere seen_by (looked w path) (filed answer) t ⊎ Spoiled s (filed answer) t
 opens_in w path (Ok h) s t is told flat linked opens =
     let (v, at, now) = told_after s.told t.told (OpenedIn path.names (Ok h) (kind_opened (Ok h) t)) w opens.told told in

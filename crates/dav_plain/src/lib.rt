@@ -6,6 +6,7 @@ mod file;
 mod fs;
 pub mod laws;
 mod meta;
+pub mod throughout;
 mod writing;
 
 pub use entry::{EntryMeta, PlainDir, PlainEntry};

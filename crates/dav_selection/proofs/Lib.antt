@@ -6,3 +6,8 @@ pub mod Parts
 pub mod Queries
 pub mod Values
 pub mod Walks
+pub mod Due
+pub mod Selected
+pub mod Linked
+pub mod OfTheTree
+pub mod Exact

@@ -6,3 +6,5 @@ pub mod Reports
 pub mod Taken
 pub mod Visits
 pub mod Selection
+pub mod Shown
+pub mod Told

@@ -1,11 +1,12 @@
 -- How a resource of a store is read: which calls are made, and what came of them.
-use Rattle.std.specs.Prelude.{◌≡◌, ◌≤◌, ◌⊎◌, ℕ, List, [], length, take, true, Option, Some, Result, Ok, Err, IfOk, OnErr, unwrap_or}
+use Rattle.std.specs.Prelude.{◌≡◌, ◌≤◌, ◌⊎◌, ℕ, List, [], length, take, Bool, true, false, Option, Some, Result, Ok, Err, IfOk, OnErr, unwrap_or}
 use Rattle.dav_core.specs.declared.error.FsError.{FsError}
 use Rattle.dav_core.specs.declared.error.FsError.TheVariants as fs
 use Rattle.dav_core.specs.DavPath.{WebPath}
 use Rattle.dav_core.specs.Disk.{can_read}
 use Rattle.dav_core.specs.Info.{Info}
 use Rattle.dav_core.specs.Options.{reading}
+use Rattle.dav_core.specs.Tree.{is_file}
 use Rattle.dav_core.specs.Unchanged.{KeepsBut}
 use Rattle.dav_store.specs.Files.{Spoiled, rest_of}
 use Rattle.dav_store.specs.Frames.{OpensOne}
@@ -40,12 +41,17 @@ module _ {S C F : Type 0} (view : View S C F) where
     pub within : IfOk result (λ bytes. length bytes ≤ len)
     pub told : (f : Seen) → seen_in view s file ≡ Some f → IfOk result (λ bytes. bytes ≡ take len (rest_of f))
 
-  abbrev pub AfterMeta : Result Info FsError → F → S → Result Resource Unread → S → Type 0
-  AfterMeta (Err e) file s result t = Closes view s file t × (result ≡ Err (Unsaid e))
-  AfterMeta (Ok info) file s result t = (read : Result (List ℕ) FsError) × (g : F) × (m : S)
+  -- What is no regular file isn't read.
+  abbrev pub AfterKind : Bool → Info → F → S → Result Resource Unread → S → Type 0
+  AfterKind false info file s result t = Closes view s file t × (result ≡ Err Refused)
+  AfterKind true info file s result t = (read : Result (List ℕ) FsError) × (g : F) × (m : S)
       × ReadsTo s file info.len read m g × Closes view m g t × (result ≡ content_of info read)
 
-  -- a file that was opened: it is asked for its metadata, read to its length, and closed
+  abbrev pub AfterMeta : Result Info FsError → F → S → Result Resource Unread → S → Type 0
+  AfterMeta (Err e) file s result t = Closes view s file t × (result ≡ Err (Unsaid e))
+  AfterMeta (Ok info) file s result t = AfterKind (is_file info.kind) info file s result t
+
+  -- a file that was opened: it is asked for its metadata, read to its length, and closed again
   abbrev pub AfterOpen : Result F FsError → S → Result Resource Unread → S → Type 0
   AfterOpen (Err e) s result t = (t ≡ s) × (result ≡ Err (unread e))
   AfterOpen (Ok file) s result t = ((said : Result Info FsError) × (g : F) × (m : S)

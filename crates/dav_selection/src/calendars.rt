@@ -1,9 +1,11 @@
 //! Calendar reports.
 ghost use Rattle.std.specs.Prelude.{◌≡◌, ◌⊎◌, Err};
+ghost use Rattle.dav_io.specs.Counts.{Rose};
 ghost use Rattle.dav_core.specs.Unchanged.{Keeps};
 ghost use Rattle.dav_store.specs.View.{the_listings, the_view};
 ghost use Rattle.dav_report.specs.Calendars.{calendar_report as report_asked};
 ghost use Rattle.dav_selection.specs.Selection.{Reports, calendar_selection};
+ghost use Rattle.dav_selection.specs.Shown.{IsRight, ShowsFor, Stock};
 
 use crate::following::follow;
 use crate::walking::{query_dir, report_of};
@@ -22,6 +24,9 @@ use std::alloc::Global;
 /// read to the length that its metadata gives, and is closed again; it gives a record where it is a calendar object that
 /// the filter of the query matches. What can't be opened or read is passed over.
 ///
+/// `table` tells which calls of the store gave the report; `shown` says that it is right for what the store shows
+/// wherever it looks, or for what may stand in its place where a fault was met.
+///
 /// Errors: `BadRequest` where the element asks for no report, `FreeBusy` where it asks for free-busy times, `Fs` where
 /// the listing of a query, or the metadata of one of its files, is refused; and want of memory.
 pub fn calendar_report<S: GuardedFileSystem<C>, C>(
@@ -36,6 +41,12 @@ pub fn calendar_report<S: GuardedFileSystem<C>, C>(
     ensures table { Reports (the_view S.GuardedFileSystem S.Disk.Disk S.File.DavFile)
         (the_listings S.GuardedFileSystem S.Entry.DavDirEntry) credentials.now
         (calendar_selection path.now prefix.now (report_asked root.now)) fs.old result fs.new
+        ⊎ (result ≡ Err ReportError.NoMemory) }
+    ensures shown { (stock : Stock) → ShowsFor (the_view S.GuardedFileSystem S.Disk.Disk S.File.DavFile)
+        (the_listings S.GuardedFileSystem S.Entry.DavDirEntry) fs.old credentials.now stock
+        (calendar_selection path.now prefix.now (report_asked root.now))
+        → IsRight (calendar_selection path.now prefix.now (report_asked root.now)) stock
+        (Rose (S.Disk.state (S.inside fs.old)).faults (S.Disk.state (S.inside fs.new)).faults) result
         ⊎ (result ≡ Err ReportError.NoMemory) }
     ensures keeps { Keeps (S.Disk.state (S.inside fs.old)) (S.Disk.state (S.inside fs.new)) }
     ensures admits { S.admits fs.new }

@@ -1,9 +1,12 @@
 // Following the links of a multiget.
 ghost use Rattle.std.specs.Prelude.{◌≡◌, ◌⊎◌, ◌++◌, IfOk, OnOk, Option, Ok, Err};
+ghost use Rattle.dav_io.specs.Counts.{Rose};
 ghost use Rattle.dav_core.specs.Unchanged.{Keeps};
-ghost use Rattle.dav_store.specs.View.{the_view};
+ghost use Rattle.dav_store.specs.View.{the_listings, the_view};
 ghost use Rattle.dav_selection.specs.Answered.{Answer, answer_given, is_given, unless};
 ghost use Rattle.dav_selection.specs.Reports.{Follows, Leads};
+ghost use Rattle.dav_selection.specs.Selection.{follows};
+ghost use Rattle.dav_selection.specs.Shown.{IsFollowed, ShowsFor, Stock};
 ghost use Rattle.dav_selection.specs.Taken.{taken};
 ghost use Rattle.dav_selection.specs.Visits.{followed_by, links_asked};
 
@@ -78,6 +81,12 @@ pub(crate) fn follow<S: GuardedFileSystem<C>, C>(
 ) -> Result<Report, ReportError>
     ensures table { Follows (the_view S.GuardedFileSystem S.Disk.Disk S.File.DavFile) credentials.now
         (links_asked prefix.now hrefs.now wanted.entry) fs.old result fs.new ⊎ (result ≡ Err ReportError.NoMemory) }
+    ensures shown { (stock : Stock) → ShowsFor (the_view S.GuardedFileSystem S.Disk.Disk S.File.DavFile)
+        (the_listings S.GuardedFileSystem S.Entry.DavDirEntry) fs.old credentials.now stock
+        (follows (links_asked prefix.now hrefs.now wanted.entry))
+        → IsFollowed (links_asked prefix.now hrefs.now wanted.entry) stock
+        (Rose (S.Disk.state (S.inside fs.old)).faults (S.Disk.state (S.inside fs.new)).faults) result
+        ⊎ (result ≡ Err ReportError.NoMemory) }
     ensures keeps { Keeps (S.Disk.state (S.inside fs.old)) (S.Disk.state (S.inside fs.new)) }
     ensures admits { S.admits fs.old → S.admits fs.new }
     ensures loan { S.Disk.loan (S.inside fs.new) ≡ S.Disk.loan (S.inside fs.old) }

@@ -4,13 +4,16 @@
 mod calendars;
 mod cards;
 mod following;
+pub mod laws;
 mod matching;
 mod reading;
 mod resource;
 mod texts;
+mod told;
 mod walking;
 mod wanted;
 
 pub use calendars::calendar_report;
 pub use cards::addressbook_report;
 pub use matching::{address_matches, calendar_matches};
+pub use told::{plain_addressbook_report, plain_calendar_report, shows_the_tree};

@@ -105,7 +105,7 @@ fn with_tag<M: DavMetaData>(
     }
 }
 
-// Reads the file to the length that its metadata gave, and closes it.
+// Reads a regular file to the length that its metadata gave, and closes it. All else is closed unread.
 fn read_content<S: GuardedFileSystem<C>, C>(
     alloc: Global,
     fs: &mut S,
@@ -118,6 +118,10 @@ fn read_content<S: GuardedFileSystem<C>, C>(
     ensures closed { ClosesAfter (the_view S.GuardedFileSystem S.Disk.Disk S.File.DavFile) (S.File.handle file) fs.old
         fs.new }
 {
+    if !meta.is_file() {
+        file_close(fs, file);
+        return Err(Unread::Refused);
+    }
     let mut file = file;
     let read = read_to(alloc, fs, &mut file, meta.len());
     file_close(fs, file);

@@ -4,6 +4,7 @@ ghost use Rattle.std.specs.Cmp.Lexicographic.{slice_cmp};
 ghost use Rattle.std.specs.List.{AllByRecursion};
 ghost use Rattle.std.specs.List.Sorted.{IsPermutation, IsSortedByKey};
 ghost use Rattle.std.specs.Ordering.{nat_cmp};
+ghost use Rattle.dav_io.specs.Counts.{Rose};
 ghost use Rattle.dav_core.specs.Unchanged.{Keeps};
 ghost use Rattle.dav_store.specs.Members.{IsNamedPlain};
 ghost use Rattle.dav_store.specs.View.{the_listings, the_view};
@@ -13,6 +14,7 @@ ghost use Rattle.dav_selection.specs.Answered.{Wants};
 ghost use Rattle.dav_selection.specs.Reports.{Queries, Selects, member_path as the_member_path, name_of};
 ghost use Rattle.dav_selection.specs.Resources.{Fetches};
 ghost use Rattle.dav_selection.specs.Selection.{of_records};
+ghost use Rattle.dav_selection.specs.Shown.{IsQueried, ShowsDir, Stock};
 ghost use Rattle.dav_selection.specs.Taken.{taken};
 ghost use Rattle.dav_selection.specs.Visits.{Adds, passed as the_passed, sought};
 
@@ -148,6 +150,11 @@ pub(crate) fn query_dir<S: GuardedFileSystem<C>, C>(
     ensures table { Queries (the_view S.GuardedFileSystem S.Disk.Disk S.File.DavFile)
         (the_listings S.GuardedFileSystem S.Entry.DavDirEntry) credentials.now (sought dir.now limit wanted.entry)
         fs.old result fs.new ⊎ (result ≡ Err ReportError.NoMemory) }
+    ensures shown { (stock : Stock) → ShowsDir (the_view S.GuardedFileSystem S.Disk.Disk S.File.DavFile)
+        (the_listings S.GuardedFileSystem S.Entry.DavDirEntry) fs.old credentials.now stock dir.now
+        → IsQueried (sought dir.now limit wanted.entry) (stock.listed dir.now) stock
+        (Rose (S.Disk.state (S.inside fs.old)).faults (S.Disk.state (S.inside fs.new)).faults) result
+        ⊎ (result ≡ Err ReportError.NoMemory) }
     ensures keeps { Keeps (S.Disk.state (S.inside fs.old)) (S.Disk.state (S.inside fs.new)) }
     ensures admits { S.admits fs.new }
     ensures loan { S.Disk.loan (S.inside fs.new) ≡ S.Disk.loan (S.inside fs.old) }

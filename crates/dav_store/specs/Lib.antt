@@ -8,3 +8,4 @@ pub mod Shows
 pub mod Members
 pub mod Void
 pub mod OneBody
+pub mod Reached

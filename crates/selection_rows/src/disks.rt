@@ -2,7 +2,7 @@
 
 use crate::texts::{read, word};
 use anyhow::{Result, bail};
-use dav_core::{DavPath, FileTime, FsPath};
+use dav_core::{Change, DavPath, Disk, FileTime, FsPath};
 use dav_disk::MemDisk;
 use std::alloc::Global;
 
@@ -52,6 +52,42 @@ fn fail(disk: &mut MemDisk, call: u64) -> Result<()> {
     Ok(())
 }
 
+// The lengths of the next reads.
+fn lens_of(alloc: Global, row: &str) -> Result<Vec<usize>> {
+    let mut lens: Vec<usize> = Vec::new(alloc);
+    for word in row.split(' ').skip(1) {
+        lens.push(number(word) as usize)?;
+    }
+    Ok(lens)
+}
+
+fn shorten(alloc: Global, disk: &mut MemDisk, row: &str) -> Result<()> {
+    let lens = lens_of(alloc, row)?;
+    if !lens.iter().all(|len| 0 < *len) {
+        bail!("a read of no bytes");
+    }
+    disk.short(lens);
+    Ok(())
+}
+
+fn change_of(alloc: Global, row: &str) -> Result<Change> {
+    let path = path_of(alloc, word(row, 1))?;
+    match word(row, 0) {
+        "cut" => Ok(Change::Cut(path, number(word(row, 2)))),
+        "rename" => Ok(Change::Rename(path, path_of(alloc, word(row, 2))?)),
+        _ => Ok(Change::Remove(path)),
+    }
+}
+
+// Lets the outside make one change.
+fn turn(alloc: Global, disk: &mut MemDisk, row: &str) -> Result<()> {
+    let mut batch = Vec::new(alloc);
+    batch.push(change_of(alloc, row)?)?;
+    disk.script(batch)?;
+    disk.turn()?;
+    Ok(())
+}
+
 // The characters of a text below 256, a byte each.
 fn bytes_of(alloc: Global, text: &str) -> Result<Vec<u8>> {
     let mut bytes = Vec::new(alloc);
@@ -90,6 +126,8 @@ pub fn change(alloc: Global, disk: MemDisk, row: &str) -> Result<MemDisk> {
             add_file(&mut disk, &path, number(word(row, 2)), text.as_bytes())?;
         }
         "fail" => fail(&mut disk, number(word(row, 1)))?,
+        "short" => shorten(alloc, &mut disk, row)?,
+        "cut" | "rename" | "remove" => turn(alloc, &mut disk, row)?,
         _ => {}
     }
     Ok(disk)

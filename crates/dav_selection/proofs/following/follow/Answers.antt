@@ -1,10 +1,12 @@
 use Rattle.std.proofs.Common.{◌≡◌, ◌++◌, [], refl, inl, ◌∙◌}
 use Rattle.std.proofs.lemmas.List.{take_all}
 use Rattle.dav_core.proofs.UnchangedLemmas.{keeps_same, keeps_then}
-use Rattle.dav_store.specs.View.{the_view}
+use Rattle.dav_store.specs.View.{the_listings, the_view}
 use Rattle.dav_selection.specs.Answered.{unless}
 use Rattle.dav_selection.specs.Reports.{began}
 use Rattle.dav_selection.specs.Taken.{taken}
+use Rattle.dav_selection.specs.Visits.{links_asked}
+use Rattle.dav_selection.proofs.Linked.{followed_or}
 use Rattle.dav_selection.proofs.Links.{links_more, ok_then}
 use Rattle.dav_selection.proofs.following.follow.Goals as goal
 
@@ -45,3 +47,7 @@ returns-clause-table g c =
       given = c.new.ensures ∙ links.3;
       lost = c.new-2.ensures ∙ links.4;
     })
+
+pub returns-clause-shown : goal.returns-clause-shown
+returns-clause-shown g c = λ stock shows. followed_or (the_view g.S.GuardedFileSystem g.S.Disk.Disk g.S.File.DavFile) (the_listings g.S.GuardedFileSystem g.S.Entry.DavDirEntry)
+    c.args.fs.now c.args.credentials.now stock (links_asked c.args.prefix.now c.args.hrefs.now c.args.wanted) c.loop-href.fs _ (returns-clause-table g c) shows

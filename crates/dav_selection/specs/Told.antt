@@ -1,0 +1,31 @@
+-- What stands in a told world, as a report finds it.
+use Rattle.std.specs.Prelude.{◌≡◌, All, false, Result, Ok, Err}
+use Rattle.dav_core.specs.declared.parse_error.ParseError.{ParseError}
+use Rattle.dav_core.specs.DavPath.{WebPath}
+use Rattle.dav_core.specs.Grammar.{parsed}
+use Rattle.dav_core.specs.Tree.{is_linked}
+use Rattle.dav_core.specs.World.{World}
+use Rattle.dav_plain.specs.Standing.{HasNoLinks, members_found, opened}
+use Rattle.dav_selection.specs.Selection.{Selection, queries, follows, refuses}
+use Rattle.dav_selection.specs.Shown.{Stock}
+
+-- the members of the world's directories, and what is opened at its paths
+abbrev pub stock_of : World → Stock
+stock_of w = record { listed = members_found w; opened = opened w }
+
+-- No link stands on the way to where a link of a request leads.
+abbrev pub IsFreeBy : World → Result WebPath ParseError → Type 0
+IsFreeBy w (Ok path) = is_linked w.tree path.names ≡ false
+IsFreeBy w (Err e) = Unit {0}
+
+-- No link stands on the way to what a selection looks at.
+abbrev pub MeetsNoLink : World → Selection → Type 0
+MeetsNoLink w (queries q) = HasNoLinks w q.dir.names
+MeetsNoLink w (follows asked) = All (λ href. IsFreeBy w (parsed href asked.prefix)) asked.hrefs
+MeetsNoLink w (refuses e) = Unit {0}
+
+-- a query is one of this directory
+abbrev pub IsOf : WebPath → Selection → Type 0
+IsOf dir (queries q) = q.dir ≡ dir
+IsOf dir (follows asked) = Unit {0}
+IsOf dir (refuses e) = Unit {0}
