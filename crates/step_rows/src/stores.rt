@@ -1,6 +1,7 @@
 //! Calls of the plain store, one after the other.
 //!
 //!     look PATH               what stands at a path: its kind and length
+//!     link PATH               the same, a link at its end not followed
 //!     times PATH              the four times of what stands there
 //!     tag PATH TAG            its entity tag, whether TAG is it, and whether its owner may run it
 //!     home PATH PLACE         whether it would lie in a calendar or an address book at a place
@@ -53,8 +54,8 @@ fn tell_length<M: DavMetaData>(line: &mut Line, meta: &M) {
     line.add_number(" ", meta.len());
 }
 
-fn look(line: &mut Line, store: &mut Store, path: &DavPath) {
-    match GuardedFileSystem::metadata(store, path, &()) {
+fn tell_looked(line: &mut Line, answer: Result<PlainMeta, FsError>) {
+    match answer {
         Ok(meta) => tell_length(line, &meta),
         Err(error) => line.add_value(&error),
     }
@@ -371,10 +372,9 @@ fn tell_members(line: &mut Line, members: &[Member]) {
     }
 }
 
-// What the calls answer that no disk has so far.
-fn unbuilt(store: &mut Store, path: &DavPath) -> [Result<(), FsError>; 6] {
+// What the calls answer that change what stands.
+fn changes(store: &mut Store, path: &DavPath) -> [Result<(), FsError>; 5] {
     [
-        GuardedFileSystem::symlink_metadata(store, path, &()).map(|_| ()),
         GuardedFileSystem::create_dir(store, path, &()),
         GuardedFileSystem::remove_dir(store, path, &()),
         GuardedFileSystem::remove_file(store, path, &()),
@@ -384,7 +384,7 @@ fn unbuilt(store: &mut Store, path: &DavPath) -> [Result<(), FsError>; 6] {
 }
 
 fn rest(line: &mut Line, store: &mut Store, path: &DavPath) {
-    for answer in unbuilt(store, path) {
+    for answer in changes(store, path) {
         tell_done(line, answer);
         line.add(", ");
     }
@@ -397,7 +397,8 @@ fn rest(line: &mut Line, store: &mut Store, path: &DavPath) {
 fn call_at(alloc: Global, line: &mut Line, store: &mut Store, path: &DavPath, part: &str) {
     let third = part.split(' ').nth(2).unwrap_or("");
     match part.split(' ').next().unwrap_or("") {
-        "look" => look(line, store, path),
+        "look" => tell_looked(line, GuardedFileSystem::metadata(store, path, &())),
+        "link" => tell_looked(line, GuardedFileSystem::symlink_metadata(store, path, &())),
         "times" => times(line, store, path),
         "tag" => tag(alloc, line, store, path, third),
         "home" => home(alloc, line, store, path, third),
