@@ -37,7 +37,7 @@ HasThreeDigits status = status < 1000
 three_digits : (status : ℕ) → is_among status reply_statuses ≡ true → status < 1000
 three_digits status listed =
     among_all HasThreeDigits reply_statuses
-    (omega arith, (omega arith, (omega arith, (omega arith, (omega arith, (omega arith, (omega arith, (omega arith, (omega arith, (omega arith, (omega arith, (omega arith, (omega arith, (omega arith, tt))))))))))))))
+    (omega arith, (omega arith, (omega arith, (omega arith, (omega arith, (omega arith, (omega arith, (omega arith, (omega arith, (omega arith, (omega arith, (omega arith, (omega arith, (omega arith, (omega arith, (omega arith, (omega arith, tt)))))))))))))))))
     status listed
 
 well_is_read : (x : Exchange) → IsWellFormed x.status x.fields → HasHead x
