@@ -19,3 +19,5 @@ pub mod LookLemmas
 pub mod HeldStays
 pub mod AllowedRows
 pub mod PlaceLemmas
+pub mod TimesLemmas
+pub mod FilesLemmas

@@ -11,7 +11,7 @@ use Rattle.dav_core.specs.declared.handle.Handle.{Handle}
 use Rattle.dav_core.specs.declared.handle.OpenOptions.{OpenOptions}
 use Rattle.dav_core.specs.declared.handle.DiskError.{DiskError}
 use Rattle.dav_core.specs.declared.handle.DiskError.TheVariants.{NotFound, Exists, NotDir, IsDir, NotEmpty, Failed, NoMemory}
-use Rattle.dav_core.specs.Path.{Names}
+use Rattle.dav_core.specs.Path.{Names, parent_of}
 use Rattle.dav_core.specs.Tree.{look, row_at, is_linked, is_file}
 use Rattle.dav_core.specs.World.{World, OpenFile, Holds, SameHeld, SameBesidesOpens, put, bytes_of, time_of}
 use Rattle.dav_core.specs.Changes.{turned}
@@ -79,12 +79,28 @@ MayRefuseMeta NotDir = Unit {0}
 MayRefuseMeta Failed = Unit {0}
 MayRefuseMeta e = ⊥
 
-pub record Metas (old : DiskState) (path : Names) (result : Result Meta DiskError) (new : DiskState) : Type 0 where
+-- The way on which no link may stand: the whole path where a link at its end is followed, and else what comes before its
+-- last name.
+abbrev pub way_to : Bool → Names → Names
+way_to true path = path
+way_to false path = parent_of path
+
+-- What stands at a path is asked, where `follows` says so with a link at its end followed.
+pub record MetasBy (follows : Bool) (old : DiskState) (path : Names) (result : Result Meta DiskError) (new : DiskState)
+    : Type 0 where
   pub asks : Asks result old new
   pub only : IfErr result MayRefuseMeta
   pub world : new.told ≡ old.told
   pub live : new.live ≡ old.live
-  pub told : (w : World) → old.told ≡ Some w → is_linked w.tree path ≡ false → MetaIn path result w
+  pub told : (w : World) → old.told ≡ Some w → is_linked w.tree (way_to follows path) ≡ false → MetaIn path result w
+
+-- what stands at a path, links followed
+abbrev pub Metas : DiskState → Names → Result Meta DiskError → DiskState → Type 0
+Metas old path result new = MetasBy true old path result new
+
+-- what stands at a path, a link at its end not followed
+abbrev pub LinkMetas : DiskState → Names → Result Meta DiskError → DiskState → Type 0
+LinkMetas old path result new = MetasBy false old path result new
 
 -- an open file of this number at its first byte
 abbrev pub at_start : ℕ → OpenFile

@@ -1,7 +1,7 @@
 ghost use Rattle.std.specs.Prelude.{◌≡◌, ◌<◌, length, IsSome, Option, None, Some};
 ghost use Rattle.std.specs.Borrow.{GName};
 ghost use Rattle.dav_core.specs.World.{World, IsWorld};
-ghost use Rattle.dav_core.specs.Disk.{DiskState, TellsLive, Metas, FileMetas, Opens, Seeks, Reads, Closes, Turns};
+ghost use Rattle.dav_core.specs.Disk.{DiskState, TellsLive, Metas, LinkMetas, FileMetas, Opens, Seeks, Reads, Closes, Turns};
 ghost use Rattle.dav_core.specs.Writing.{CreatesDir, RemovesDir, RemovesFile, Renames, Copies, Writes};
 ghost use Rattle.dav_core.specs.Listing.{Lists, ListsOn, EndsListing};
 
@@ -22,6 +22,11 @@ pub trait Disk {
     /// What stands at a path, links followed.
     fn meta(&mut self, path: &FsPath) -> Result<Meta, DiskError>
         ensures done { Metas (state self.old) path.now result (state self.new) }
+        ensures loan { loan self.new ≡ loan self.old };
+
+    /// What stands at a path, a link at its end not followed.
+    fn link_meta(&mut self, path: &FsPath) -> Result<Meta, DiskError>
+        ensures done { LinkMetas (state self.old) path.now result (state self.new) }
         ensures loan { loan self.new ≡ loan self.old };
 
     /// Opens what stands at a path, at its first byte. With `create` or `create_new` a file is made where nothing stands,
@@ -128,6 +133,10 @@ impl<D: Disk> Disk for &mut D {
 
     fn meta(&mut self, path: &FsPath) -> Result<Meta, DiskError> {
         Disk::meta(&mut **self, path)
+    }
+
+    fn link_meta(&mut self, path: &FsPath) -> Result<Meta, DiskError> {
+        Disk::link_meta(&mut **self, path)
     }
 
     fn open(&mut self, path: &FsPath, how: OpenOptions, public: bool) -> Result<Handle, DiskError> {

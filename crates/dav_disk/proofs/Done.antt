@@ -14,7 +14,7 @@ use Rattle.dav_core.specs.Tree.{look, IsTreeRefusal}
 use Rattle.dav_core.proofs.LookLemmas.{look_err}
 use Rattle.dav_core.specs.World.{World, is_numbered, put}
 use Rattle.dav_core.proofs.UnchangedLemmas.{put_same}
-use Rattle.dav_core.specs.Disk.{Live, IsCounted, Refused, Metas, MayRefuseMeta, Opens, MayRefuseOpen, Closes}
+use Rattle.dav_core.specs.Disk.{Live, IsCounted, Refused, MetasBy, MayRefuseMeta, Opens, MayRefuseOpen, Closes}
 use Rattle.dav_core.proofs.HeldStays.{same_held}
 use Rattle.dav_core.proofs.RefusedLemmas.{refused_of}
 use Rattle.dav_disk.proofs.Changed.{look_in}
@@ -45,16 +45,16 @@ may_meta e (inr h) = rw h tt
 same_world : (v w : World) → Some v ≡ Some w → v ≡ w
 same_world v w e = cc
 
-pub meta_done : (k : Known) (f a : ℕ) (x : Bool) (g b : ℕ) (y : Bool) (path : Names) (result : Result Meta DiskError) → Counted f a x g b y → FindsMeta k.world path result
-    → Metas (state_of k f a x) path result (state_of k g b y)
-meta_done k f a x g b y path (Ok meta) c found = record {
+pub meta_done : (follows : Bool) (k : Known) (f a : ℕ) (x : Bool) (g b : ℕ) (y : Bool) (path : Names) (result : Result Meta DiskError) → Counted f a x g b y → FindsMeta k.world path result
+    → MetasBy follows (state_of k f a x) path result (state_of k g b y)
+meta_done follows k f a x g b y path (Ok meta) c found = record {
   asks = record { counted = counted_ok meta k k f a x g b y c; listers = refl };
   only = tt;
   world = refl;
   live = refl;
   told = λ w e linked. (let same = same_world k.world w e in rw (← same) found);
 }
-meta_done k f a x g b y path (Err e) c found = record {
+meta_done follows k f a x g b y path (Err e) c found = record {
   asks = record { counted = counted_err e k k f a x g b y (no_fault e (look_err k.world.tree path e found)) c; listers = refl };
   only = may_meta e (look_err k.world.tree path e found);
   world = refl;

@@ -18,7 +18,8 @@ use Rattle.dav_core.specs.Edits.{Edit, makes, fills, takes, moves, Edited, Edite
 use Rattle.dav_core.proofs.UnchangedLemmas.{same_besides, equal_keys}
 use Rattle.dav_disk.specs.Making.{edited, edited_by, filled_at}
 use Rattle.dav_disk.proofs.Trees.{same_yes, not_both}
-use Rattle.dav_disk.proofs.GivenStay.{IsTick, ticked, not_after_itself, not_after_then}
+use Rattle.dav_core.proofs.TimesLemmas.{not_after_itself, not_after_then}
+use Rattle.dav_disk.proofs.GivenStay.{IsTick, ticked}
 
 -- ---- times
 

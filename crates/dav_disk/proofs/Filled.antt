@@ -14,7 +14,8 @@ use Rattle.dav_core.proofs.UnchangedLemmas.{put_same, put_other, equal_keys, oth
 use Rattle.dav_disk.specs.Files.{IsStored, AreStored}
 use Rattle.dav_disk.proofs.Trees.{In, parts_of, Maps, mapped_tree, in_map, parent_row}
 use Rattle.dav_disk.proofs.Changed.{Good}
-use Rattle.dav_disk.proofs.GivenStay.{IsTick, ticked, given_still, not_after_itself, Bounded, bounded_of, given_of, put_given}
+use Rattle.dav_core.proofs.TimesLemmas.{not_after_itself}
+use Rattle.dav_disk.proofs.GivenStay.{IsTick, ticked, given_still, Bounded, bounded_of, given_of, put_given}
 use Rattle.dav_disk.proofs.Turned.{Kept, kept_of, good_of}
 use Rattle.dav_core.specs.declared.handle.DiskError.{DiskError}
 use Rattle.dav_core.specs.declared.handle.DiskError.TheVariants.{Failed, NoMemory}

@@ -17,6 +17,7 @@ use Rattle.dav_core.specs.declared.handle.DiskError.{DiskError}
 use Rattle.dav_core.specs.Path.{Names, same_names, parent_of, is_front}
 use Rattle.dav_core.specs.Tree.{look}
 use Rattle.dav_core.specs.World.{World, Stored, OpenFile, NotAfter, IsGiven, AreGiven, put}
+use Rattle.dav_core.proofs.TimesLemmas.{not_after_itself, not_after_then}
 use Rattle.dav_core.proofs.UnchangedLemmas.{equal_keys}
 use Rattle.dav_core.specs.Changes.{tick, timed_row, touched_at, touched, then_touched, is_free_in, added_at, added, stored_in, made_or, dir_added, file_added, cut_at_time, cut_kind, cut_found, without, removed_found, moved_row, renames_to, parents_touched, renamed_found, changed, all_changed, turned, turned_by, resized}
 use Rattle.dav_disk.specs.declared.tables.Opened.{Opened}
@@ -32,20 +33,6 @@ use Rattle.dav_disk.proofs.Trees.{In, in_map, in_filter, each_at, each_in}
 use Rattle.dav_disk.proofs.Changed.{in_more, look_in}
 
 -- ---- times
-
-pub not_after_itself : (t : FileTime) → NotAfter t t
-not_after_itself t = (omega (arith, ints), λ e. omega arith)
-
-pub not_after_then : (a b c : FileTime) → NotAfter a b → NotAfter b c → NotAfter a c
-not_after_then a b c (p, f) (q, g) = (
-  omega (arith, ints),
-  λ e.
-      let ab : a.secs ≡ b.secs = omega (arith, ints) in
-      let bc : b.secs ≡ c.secs = omega (arith, ints) in
-      let x : a.nanos ≤ b.nanos = f ab in
-      let y : b.nanos ≤ c.nanos = g bc in
-      omega arith,
-)
 
 -- a time of an earlier second
 before_second : (a b : FileTime) → a.secs <ℤ b.secs → NotAfter a b

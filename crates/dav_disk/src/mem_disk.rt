@@ -150,7 +150,7 @@ impl MemDisk {
 }
 
 impl Disk for MemDisk {
-    ghost use Rattle.dav_core.specs.Disk.{Metas, FileMetas, Opens, Seeks, Reads, Closes, Turns};
+    ghost use Rattle.dav_core.specs.Disk.{Metas, LinkMetas, FileMetas, Opens, Seeks, Reads, Closes, Turns};
     ghost use Rattle.dav_core.specs.Listing.{Lists, ListsOn, EndsListing};
     ghost use Rattle.dav_core.specs.Allowed.{making_dir, taking_dir, taking_file, moving, copying, opening};
     ghost use Rattle.dav_core.specs.Writing.{CreatesDir, RemovesDir, RemovesFile, Renames, Copies, Writes};
@@ -165,6 +165,19 @@ impl Disk for MemDisk {
 
     fn meta(&mut self, path: &FsPath) -> Result<Meta, DiskError>
         ensures done { Metas (mem_state self.old) path.now result (mem_state self.new) }
+        ensures more { IfOk result SaysNoMore }
+        ensures loan { ⟦<MemDisk as Disk>⟧.loan self.new ≡ ⟦<MemDisk as Disk>⟧.loan self.old }
+        ensures schedule { Follows self.old result self.new }
+        ensures lens { lens_left self.new ≡ lens_left self.old }
+    {
+        if self.faults.next() {
+            return Err(DiskError::Failed);
+        }
+        self.memory.meta(path)
+    }
+
+    fn link_meta(&mut self, path: &FsPath) -> Result<Meta, DiskError>
+        ensures done { LinkMetas (mem_state self.old) path.now result (mem_state self.new) }
         ensures more { IfOk result SaysNoMore }
         ensures loan { ⟦<MemDisk as Disk>⟧.loan self.new ≡ ⟦<MemDisk as Disk>⟧.loan self.old }
         ensures schedule { Follows self.old result self.new }

@@ -91,7 +91,7 @@ impl SureDisk {
 }
 
 impl Disk for SureDisk {
-    ghost use Rattle.dav_core.specs.Disk.{Metas, FileMetas, Opens};
+    ghost use Rattle.dav_core.specs.Disk.{Metas, LinkMetas, FileMetas, Opens};
     ghost use Rattle.dav_disk.specs.Files.{SaysNoMore};
     ghost use Rattle.dav_core.specs.Allowed.{making_dir, taking_dir, taking_file, moving, copying, opening};
     ghost use Rattle.dav_core.specs.Writing.{CreatesDir, RemovesDir, RemovesFile, Renames, Copies, Writes};
@@ -104,6 +104,15 @@ impl Disk for SureDisk {
 
     fn meta(&mut self, path: &FsPath) -> Result<Meta, DiskError>
         ensures done { Metas (sure_state self.old) path.now result (sure_state self.new) }
+        ensures loan { ⟦<SureDisk as Disk>⟧.loan self.new ≡ ⟦<SureDisk as Disk>⟧.loan self.old }
+        ensures more { IfOk result SaysNoMore }
+    {
+        self.asked = self.asked.saturating_add(1);
+        self.memory.meta(path)
+    }
+
+    fn link_meta(&mut self, path: &FsPath) -> Result<Meta, DiskError>
+        ensures done { LinkMetas (sure_state self.old) path.now result (sure_state self.new) }
         ensures loan { ⟦<SureDisk as Disk>⟧.loan self.new ≡ ⟦<SureDisk as Disk>⟧.loan self.old }
         ensures more { IfOk result SaysNoMore }
     {

@@ -12,7 +12,9 @@ use crate::opens::{
 };
 use crate::paths::{ROOM, lay_path};
 use crate::refusals::{list_refusal, open_refusal};
-use crate::writing::{copy_file, look_at, make_dir, move_to, take_dir, take_file, way_of};
+use crate::writing::{
+    copy_file, look_at, look_at_link, make_dir, move_to, take_dir, take_file, way_of,
+};
 use dav_core::{Disk, DiskError, FsPath, Handle, Lister, Meta, OpenOptions};
 use dav_io::{NoMemory, Text};
 use std::alloc::Global;
@@ -104,6 +106,19 @@ impl<R: Files + AllocGlobal + Clone + Drop> Disk for HostDisk<R> {
             return Err(self.fault());
         }
         match look_at(&self.rt, self.path.as_str()) {
+            Ok(meta) => Ok(meta),
+            Err(Some(e)) => Err(e),
+            Err(None) => Err(self.fault()),
+        }
+    }
+
+    fn link_meta(&mut self, path: &FsPath) -> Result<Meta, DiskError> {
+        self.asked = self.asked.saturating_add(1);
+        if !lay_path(&mut self.path, self.root.as_str(), path.as_slice()) {
+            return Err(self.fault());
+        }
+        let is_root = path.as_slice().is_empty();
+        match look_at_link(&self.rt, self.path.as_str(), is_root) {
             Ok(meta) => Ok(meta),
             Err(Some(e)) => Err(e),
             Err(None) => Err(self.fault()),

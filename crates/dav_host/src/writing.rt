@@ -13,14 +13,31 @@ use std::os::unix::fs::{DirBuilderExt, MetadataExt, OpenOptionsExt};
 use std::rt::Files;
 use std::{fs, io};
 
+// What a look of the machine says.
+fn looked(answer: io::Result<Metadata>) -> Result<Meta, Option<DiskError>>
+    ensures { IfErr result (λ e. IfSome e IsWalkRefusal) }
+{
+    match answer {
+        Ok(found) => meta_of(&found).ok_or(None),
+        Err(error) => Err(refusal(&error)),
+    }
+}
+
 // What stands at a path.
 pub fn look_at<R: Files>(rt: &R, path: &str) -> Result<Meta, Option<DiskError>>
     ensures { IfErr result (λ e. IfSome e IsWalkRefusal) }
 {
-    match fs::metadata(rt, path) {
-        Ok(found) => meta_of(&found).ok_or(None),
-        Err(error) => Err(refusal(&error)),
+    looked(fs::metadata(rt, path))
+}
+
+// What stands at a path, a link at its end not followed. The root is a directory, also where a link leads to it.
+pub fn look_at_link<R: Files>(rt: &R, path: &str, is_root: bool) -> Result<Meta, Option<DiskError>>
+    ensures { IfErr result (λ e. IfSome e IsWalkRefusal) }
+{
+    if is_root {
+        return look_at(rt, path);
     }
+    looked(fs::symlink_metadata(rt, path))
 }
 
 // Why a call doesn't change the root: what the look at a path says, or else this refusal.

@@ -37,11 +37,6 @@ abbrev pub line_of : Result Unit FsError → Line
 line_of (Ok x) = Ok tt
 line_of (Err e) = Err (of_fs e)
 
--- What a store remembers may be remembered still after it removed something.
-pub record RemembersRemoved {S C F L E : Type 0} (view : View S C F) (lists : Listings S C L E) (c : C) : Type 0 where
-  pub file : (s t : S) (path : WebPath) (r : Result Unit FsError) → view.removes_file s c path r t → lists.admits s → lists.admits t
-  pub dir : (s t : S) (path : WebPath) (r : Result Unit FsError) → view.removes_dir s c path r t → lists.admits s → lists.admits t
-
 module _ {S C F L E : Type 0} (view : View S C F) (lists : Listings S C L E) (c : C) where
   -- A directory isn't walked into: it is too deep, its members weren't read, or no memory was left for them.
   abbrev pub RefusesDir : WebPath → S → DavError → S → Type 0

@@ -22,6 +22,7 @@ fn make<S: GuardedFileSystem<C>, C>(
     ensures table { Next (EndsMade (the_view S.GuardedFileSystem S.Disk.Disk S.File.DavFile) credentials.now path.now)
         fs.old result fs.new }
     ensures keeps { KeepsOpen (S.Disk.state (S.inside fs.old)) (S.Disk.state (S.inside fs.new)) }
+    ensures admits { S.admits fs.old → S.admits fs.new }
     ensures loan { S.Disk.loan (S.inside fs.new) ≡ S.Disk.loan (S.inside fs.old) }
 {
     let outcome = created(alloc)?;
@@ -42,6 +43,7 @@ fn make_below<S: GuardedFileSystem<C>, C>(
         (EndsMade (the_view S.GuardedFileSystem S.Disk.Disk S.File.DavFile) credentials.now path.now))
         fs.old result fs.new }
     ensures keeps { KeepsOpen (S.Disk.state (S.inside fs.old)) (S.Disk.state (S.inside fs.new)) }
+    ensures admits { S.admits fs.old → S.admits fs.new }
     ensures loan { S.Disk.loan (S.inside fs.new) ≡ S.Disk.loan (S.inside fs.old) }
 {
     let above = path.parent()?;
@@ -61,6 +63,7 @@ fn make_if<S: GuardedFileSystem<C>, C>(
         path.now (EndsMade (the_view S.GuardedFileSystem S.Disk.Disk S.File.DavFile) credentials.now path.now)))
         fs.old result fs.new }
     ensures keeps { KeepsOpen (S.Disk.state (S.inside fs.old)) (S.Disk.state (S.inside fs.new)) }
+    ensures admits { S.admits fs.old → S.admits fs.new }
     ensures loan { S.Disk.loan (S.inside fs.new) ≡ S.Disk.loan (S.inside fs.old) }
 {
     match may {
@@ -84,6 +87,7 @@ pub fn mkcol<S: GuardedFileSystem<C>, C>(
     ensures table { MkCols (the_view S.GuardedFileSystem S.Disk.Disk S.File.DavFile) credentials.now path.now
         fields.now fs.old result fs.new }
     ensures keeps { KeepsOpen (S.Disk.state (S.inside fs.old)) (S.Disk.state (S.inside fs.new)) }
+    ensures admits { S.admits fs.old → S.admits fs.new }
     ensures loan { S.Disk.loan (S.inside fs.new) ≡ S.Disk.loan (S.inside fs.old) }
 {
     let Err(refusal) = fs.metadata(path, credentials) else {
@@ -103,6 +107,7 @@ fn make_unless_there<S: GuardedFileSystem<C>, C>(
     ensures table { MkCalendars (the_view S.GuardedFileSystem S.Disk.Disk S.File.DavFile) credentials.now path.now
         fs.old result fs.new }
     ensures keeps { KeepsOpen (S.Disk.state (S.inside fs.old)) (S.Disk.state (S.inside fs.new)) }
+    ensures admits { S.admits fs.old → S.admits fs.new }
     ensures loan { S.Disk.loan (S.inside fs.new) ≡ S.Disk.loan (S.inside fs.old) }
 {
     match fs.metadata(path, credentials) {
@@ -129,6 +134,7 @@ pub fn mkcalendar<S: GuardedFileSystem<C>, C>(
     ensures table { MkCalendars (the_view S.GuardedFileSystem S.Disk.Disk S.File.DavFile) credentials.now path.now
         fs.old result fs.new }
     ensures keeps { KeepsOpen (S.Disk.state (S.inside fs.old)) (S.Disk.state (S.inside fs.new)) }
+    ensures admits { S.admits fs.old → S.admits fs.new }
     ensures loan { S.Disk.loan (S.inside fs.new) ≡ S.Disk.loan (S.inside fs.old) }
 {
     make_unless_there(alloc, fs, credentials, path)
@@ -145,6 +151,7 @@ pub fn mkaddressbook<S: GuardedFileSystem<C>, C>(
     ensures table { MkCalendars (the_view S.GuardedFileSystem S.Disk.Disk S.File.DavFile) credentials.now path.now
         fs.old result fs.new }
     ensures keeps { KeepsOpen (S.Disk.state (S.inside fs.old)) (S.Disk.state (S.inside fs.new)) }
+    ensures admits { S.admits fs.old → S.admits fs.new }
     ensures loan { S.Disk.loan (S.inside fs.new) ≡ S.Disk.loan (S.inside fs.old) }
 {
     make_unless_there(alloc, fs, credentials, path)

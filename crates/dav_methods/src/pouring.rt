@@ -17,8 +17,9 @@ fn file_write<S: GuardedFileSystem<C>, C>(
     bytes: &[u8],
 ) -> Result<(), FsError>
     requires { IsSome ((S.Disk.state (S.inside fs.old)).live (S.File.handle file.old)) }
-    ensures { WritesFile (the_view S.GuardedFileSystem S.Disk.Disk S.File.DavFile) S.File.writes fs.old file.old
+    ensures writes { WritesFile (the_view S.GuardedFileSystem S.Disk.Disk S.File.DavFile) S.File.writes fs.old file.old
         bytes.now result fs.new file.new }
+    ensures admits { S.admits fs.old → S.admits fs.new }
 {
     file.write_bytes(fs.disk(), bytes)
 }
@@ -32,8 +33,9 @@ fn write_piece<S: GuardedFileSystem<C>, C>(
 ) -> Result<u64, DavError>
     requires live { IsSome ((S.Disk.state (S.inside fs.old)).live (S.File.handle file.old)) }
     requires short { total < most_bytes }
-    ensures { TakesPiece (the_view S.GuardedFileSystem S.Disk.Disk S.File.DavFile) S.File.writes total fs.old
+    ensures takes { TakesPiece (the_view S.GuardedFileSystem S.Disk.Disk S.File.DavFile) S.File.writes total fs.old
         file.old piece.now result fs.new file.new }
+    ensures admits { S.admits fs.old → S.admits fs.new }
 {
     let sum = total.saturating_add(piece.len() as u64);
     if sum >= MOST_BYTES {
@@ -56,6 +58,7 @@ pub fn pour<S: GuardedFileSystem<C>, C, B: BodyReader>(
     requires { IsSome ((S.Disk.state (S.inside fs.old)).live (S.File.handle file.old)) }
     ensures pours { Pours (the_view S.GuardedFileSystem S.Disk.Disk S.File.DavFile) S.File.writes fs.old file.old
         (B.state body.old) result fs.new file.new (B.state body.new) }
+    ensures admits { S.admits fs.old → S.admits fs.new }
     ensures body_loan { B.loan body.new ≡ B.loan body.old }
 {
     let mut total: u64 = 0;

@@ -60,6 +60,7 @@ fn may_replace<S: GuardedFileSystem<C>, C>(
     ensures table { MayReplace (the_view S.GuardedFileSystem S.Disk.Disk S.File.DavFile) credentials.now path.now
         fields.now fs.old result fs.new }
     ensures keeps { Keeps (S.Disk.state (S.inside fs.old)) (S.Disk.state (S.inside fs.new)) }
+    ensures admits { S.admits fs.old → S.admits fs.new }
     ensures loan { S.Disk.loan (S.inside fs.new) ≡ S.Disk.loan (S.inside fs.old) }
 {
     match fs.metadata(path, credentials) {
@@ -79,6 +80,7 @@ fn check<S: GuardedFileSystem<C>, C>(
     ensures table { MayPut (the_view S.GuardedFileSystem S.Disk.Disk S.File.DavFile) credentials.now path.now
         fields.now fs.old result fs.new }
     ensures keeps { Keeps (S.Disk.state (S.inside fs.old)) (S.Disk.state (S.inside fs.new)) }
+    ensures admits { S.admits fs.old → S.admits fs.new }
     ensures loan { S.Disk.loan (S.inside fs.new) ≡ S.Disk.loan (S.inside fs.old) }
 {
     if path.is_collection() {
@@ -100,6 +102,7 @@ fn put_body<S: GuardedFileSystem<C>, C, B: BodyReader>(
     ensures table { AfterChecks (the_view S.GuardedFileSystem S.Disk.Disk S.File.DavFile) S.File.writes
         credentials.now (Ok outcome) path.now (B.state body.old) fs.old result fs.new (B.state body.new) }
     ensures keeps { KeepsOpen (S.Disk.state (S.inside fs.old)) (S.Disk.state (S.inside fs.new)) }
+    ensures admits { S.admits fs.old → S.admits fs.new }
     ensures loan { S.Disk.loan (S.inside fs.new) ≡ S.Disk.loan (S.inside fs.old) }
     ensures body_loan { B.loan body.new ≡ B.loan body.old }
 {
@@ -133,6 +136,7 @@ pub fn put<S: GuardedFileSystem<C>, C, B: BodyReader>(
         path.now fields.now (B.state body.old) fs.old result fs.new (B.state body.new) }
     ensures read { IfOk result (λ _. (B.state body.new).ended ≡ true) }
     ensures keeps { KeepsOpen (S.Disk.state (S.inside fs.old)) (S.Disk.state (S.inside fs.new)) }
+    ensures admits { S.admits fs.old → S.admits fs.new }
     ensures loan { S.Disk.loan (S.inside fs.new) ≡ S.Disk.loan (S.inside fs.old) }
     ensures body_loan { B.loan body.new ≡ B.loan body.old }
 {

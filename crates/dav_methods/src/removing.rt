@@ -3,7 +3,7 @@ ghost use Rattle.std.specs.Prelude.{◌≡◌, ◌<◌, ◌∷◌, [], true, Ok,
 ghost use Rattle.dav_core.specs.declared.error.FsError.{FsError};
 ghost use Rattle.dav_store.specs.Frames.{KeepsOpen};
 ghost use Rattle.dav_store.specs.View.{the_listings, the_view};
-ghost use Rattle.dav_methods.specs.Removing.{Deletes, RemembersRemoved, Removes, RemovesAll, RemovesOne, is_deep as the_is_deep, is_root as the_is_root, line_of as the_line_of, works_in};
+ghost use Rattle.dav_methods.specs.Removing.{Deletes, Removes, RemovesAll, RemovesOne, is_deep as the_is_deep, is_root as the_is_root, line_of as the_line_of, works_in};
 ghost use Rattle.dav_methods.specs.Table.{Next, Unless};
 ghost use Rattle.dav_methods.specs.declared.work.Work.TheVariants.{Whole};
 ghost use Rattle.dav_methods.specs.Weights.{weight};
@@ -102,8 +102,6 @@ fn remove_file<S: GuardedFileSystem<C>, C>(
     path: &DavPath,
 ) -> Result<(), DavError>
     requires admits { S.admits fs.old }
-    requires remembers { RemembersRemoved (the_view S.GuardedFileSystem S.Disk.Disk S.File.DavFile)
-        (the_listings S.GuardedFileSystem S.Entry.DavDirEntry) credentials.now }
     ensures removes { (gone : Result Unit FsError) × S.removes_file fs.old credentials.now path.now gone fs.new
         × (result ≡ the_line_of gone) }
     ensures keeps { KeepsOpen (S.Disk.state (S.inside fs.old)) (S.Disk.state (S.inside fs.new)) }
@@ -120,8 +118,6 @@ fn remove_dir<S: GuardedFileSystem<C>, C>(
     path: &DavPath,
 ) -> Result<(), DavError>
     requires admits { S.admits fs.old }
-    requires remembers { RemembersRemoved (the_view S.GuardedFileSystem S.Disk.Disk S.File.DavFile)
-        (the_listings S.GuardedFileSystem S.Entry.DavDirEntry) credentials.now }
     ensures removes { (gone : Result Unit FsError) × S.removes_dir fs.old credentials.now path.now gone fs.new
         × (result ≡ the_line_of gone) }
     ensures keeps { KeepsOpen (S.Disk.state (S.inside fs.old)) (S.Disk.state (S.inside fs.new)) }
@@ -140,8 +136,6 @@ fn remove_one<S: GuardedFileSystem<C>, C>(
     works: &mut VecDeque<Work>,
 ) -> Result<(), DavError>
     requires admits { S.admits fs.old }
-    requires remembers { RemembersRemoved (the_view S.GuardedFileSystem S.Disk.Disk S.File.DavFile)
-        (the_listings S.GuardedFileSystem S.Entry.DavDirEntry) credentials.now }
     ensures removes { RemovesOne (the_view S.GuardedFileSystem S.Disk.Disk S.File.DavFile)
         (the_listings S.GuardedFileSystem S.Entry.DavDirEntry) credentials.now work works.old.items fs.old result
         fs.new works.new.items }
@@ -175,8 +169,6 @@ pub fn remove_all<S: GuardedFileSystem<C>, C>(
     dir: bool,
 ) -> Result<(), DavError>
     requires admits { S.admits fs.old }
-    requires remembers { RemembersRemoved (the_view S.GuardedFileSystem S.Disk.Disk S.File.DavFile)
-        (the_listings S.GuardedFileSystem S.Entry.DavDirEntry) credentials.now }
     ensures removes { Removes (the_view S.GuardedFileSystem S.Disk.Disk S.File.DavFile)
         (the_listings S.GuardedFileSystem S.Entry.DavDirEntry) credentials.now (Whole path.now dir ∷ []) fs.old
         result fs.new }
@@ -208,8 +200,6 @@ fn delete_if<S: GuardedFileSystem<C>, C>(
     may: Result<(), DavError>,
 ) -> Result<Outcome, DavError>
     requires admits { S.admits fs.old }
-    requires remembers { RemembersRemoved (the_view S.GuardedFileSystem S.Disk.Disk S.File.DavFile)
-        (the_listings S.GuardedFileSystem S.Entry.DavDirEntry) credentials.now }
     ensures table { Next (Unless may (RemovesAll (the_view S.GuardedFileSystem S.Disk.Disk S.File.DavFile)
         (the_listings S.GuardedFileSystem S.Entry.DavDirEntry) credentials.now path.now dir)) fs.old result fs.new }
     ensures keeps { KeepsOpen (S.Disk.state (S.inside fs.old)) (S.Disk.state (S.inside fs.new)) }
@@ -236,8 +226,7 @@ fn is_root(path: &DavPath) -> bool
 ///
 /// Errors, in this order: 403 for the root; a refused look; 412 where a precondition isn't met; and then, what was
 /// removed staying removed, the first refusal of a listing, of a member's metadata or of a removal, and 403 where a
-/// directory's path has more than 65,536 names. `table` tells which call of the store gave the answer. `remembers` asks
-/// that what the store remembers may be remembered still after a removal.
+/// directory's path has more than 65,536 names. `table` tells which call of the store gave the answer.
 pub fn delete<S: GuardedFileSystem<C>, C>(
     alloc: Global,
     fs: &mut S,
@@ -246,8 +235,6 @@ pub fn delete<S: GuardedFileSystem<C>, C>(
     fields: &HeaderMap,
 ) -> Result<Outcome, DavError>
     requires admits { S.admits fs.old }
-    requires remembers { RemembersRemoved (the_view S.GuardedFileSystem S.Disk.Disk S.File.DavFile)
-        (the_listings S.GuardedFileSystem S.Entry.DavDirEntry) credentials.now }
     ensures table { Deletes (the_view S.GuardedFileSystem S.Disk.Disk S.File.DavFile)
         (the_listings S.GuardedFileSystem S.Entry.DavDirEntry) credentials.now path.now fields.now fs.old result
         fs.new }

@@ -28,6 +28,7 @@ use Rattle.dav_core.specs.Unchanged.{SameBesidesOpens}
 use Rattle.dav_core.specs.World.{World, IsWorld, bytes_or_none, is_numbered, put}
 use Rattle.dav_core.proofs.LookLemmas.{look_all}
 use Rattle.dav_core.proofs.UnchangedLemmas.{put_same, same_besides_then}
+use Rattle.dav_store.specs.declared.entry.ReadDirMeta.{ReadDirMeta}
 use Rattle.dav_store.specs.declared.entry.ReadDirMeta.TheVariants.{Data}
 use Rattle.dav_store.specs.Files.{Spoiled}
 use Rattle.dav_store.specs.Members.{Answered, AreOf, BeginsThere, EndsThere, IsAnswerOf, SaysOrRose, ShowsMembers, Walked, begun, goes}
@@ -40,7 +41,7 @@ use Rattle.dav_plain.specs.declared.entry.PlainEntry.{PlainEntry}
 use Rattle.dav_plain.specs.declared.file.PlainFile.{PlainFile}
 use Rattle.dav_plain.specs.Calls.{said_by}
 use Rattle.dav_plain.specs.Entries.{Says, said_info}
-use Rattle.dav_plain.specs.Listing.{AfterName, Begins, GivesEntry, IsKnown, NextEntry, NextOf, next_of}
+use Rattle.dav_plain.specs.Listing.{AfterName, Begins, GivesEntry, IsKnown, NextEntry, NextOf, WasRead, next_of}
 use Rattle.dav_plain.specs.Standing.{HasNoLinks, members_found, members_of}
 use Rattle.dav_plain.proofs.Found.{StandsIn, listed_dir, rows_stand}
 use Rattle.dav_plain.proofs.Showing.{IsPlain, looked_told}
@@ -172,9 +173,12 @@ record ReadOf (mid n o : DiskState) (path : Names) (r : Result Info FsError) : T
   is : r ≡ said_info (said_by said)
   same : o ≡ n
 
-read_of : (meta : EntryMeta) (reads : Bool) (mid n o : DiskState) (path : Names) (r : Result Info FsError) → reads ≡ true → IsKnown meta reads mid path n → Says meta n r o → ReadOf mid n o path r
-read_of (Read answer) reads mid n o path r on told says = record { said = told.1.0; metas = told.1.1; is = says.0 ∙ ap said_info told.1.2; same = says.1 }
-read_of (At place) reads mid n o path r on told says = let never : true ≡ false = sym on ∙ told.0 in cc
+read_by : (meta : EntryMeta) (mid n o : DiskState) (path : Names) (r : Result Info FsError) → WasRead true meta mid path n → Says meta n r o → ReadOf mid n o path r
+read_by (Read answer) mid n o path r told says = record { said = told.0; metas = told.1; is = says.0 ∙ ap said_info told.2; same = says.1 }
+read_by (At place) mid n o path r told says = absurd told
+
+read_of : (meta : EntryMeta) (wanted : ReadDirMeta) (mid n o : DiskState) (path : Names) (r : Result Info FsError) → wanted ≡ Data → IsKnown meta wanted mid path n → Says meta n r o → ReadOf mid n o path r
+read_of meta wanted mid n o path r on told says = read_by meta mid n o path r (subst (λ (x : ReadDirMeta). IsKnown meta x mid path n) on told) says
 
 given_is : (given : Result PlainEntry FsError) (e : PlainEntry) → Ok (Some e) ≡ next_of given → given ≡ Ok e
 given_is (Ok entry) e is = cc
@@ -215,7 +219,7 @@ are_answers w dir from now (a ∷ answers) (row ∷ given) names told free =
 
 -- the calls of listings are those of a plain store
 pub record ListsPlain {S C F : Type 0} (view : View S C F) (lists : Listings S C PlainDir PlainEntry) : Type 0 where
-  pub lists_so : (s : S) (c : C) (path : WebPath) (r : Result PlainDir FsError) (t : S) → lists.lists s c path Data r t → Begins (view.state s) path.names true r (view.state t)
+  pub lists_so : (s : S) (c : C) (path : WebPath) (r : Result PlainDir FsError) (t : S) → lists.lists s c path Data r t → Begins (view.state s) path.names Data r (view.state t)
   pub next_so : (s : S) (d : PlainDir) (r : Result (Option PlainEntry) FsError) (t : S) (e : PlainDir) → lists.lists_on s d r t e → NextEntry (view.state s) d r (view.state t) e
   pub called_so : (e : PlainEntry) → lists.called e ≡ e.name
   pub says_so : (e : PlainEntry) (s : DiskState) (r : Result Info FsError) (t : DiskState) → lists.says e s r t → Says e.meta s r t
@@ -244,12 +248,12 @@ module _ {S C F : Type 0} (view : View S C F) (lists : Listings S C PlainDir Pla
 
   -- A name was given: it is the first of those that were to come.
   by_name : (l : PlainDir) (w : World) (names dir : Names) (from : ℕ) (answers : List Answered) (m n o : S) (k j : PlainDir) (e : PlainEntry) (r : Result Info FsError)
-      → l.reads ≡ true → l.path ≡ dir → Front l w names dir from answers m k → (name : List ℕ) (mid : DiskState) → ListsOn (view.state m) l.lister.0 (Ok (Some name)) mid
+      → l.wanted ≡ Data → l.path ≡ dir → Front l w names dir from answers m k → (name : List ℕ) (mid : DiskState) → ListsOn (view.state m) l.lister.0 (Ok (Some name)) mid
       → GivesEntry name l mid (Ok e) (view.state n) → j ≡ l → Says e.meta (view.state n) r (view.state o)
       → Front l w names dir from (answers ++ record { name = lists.called e; meta = r } ∷ []) o j
   by_name l w names dir from answers m n o k j e r reads path f name mid on gives same says =
       let (x, at, next) = told_after (view.state m).told mid.told (NextIn l.lister.0 (Ok (Some name))) f.now on.told f.told in
-      let read = read_of e.meta l.reads mid (view.state n) (view.state o) (l.path ++ name ∷ []) r reads gives.1 says in
+      let read = read_of e.meta l.wanted mid (view.state n) (view.state o) (l.path ++ name ∷ []) r reads gives.1 says in
       let called : name ≡ lists.called e = sym (plain.called_so e ∙ gives.0) in
       let first : f.rest ≡ name ∷ next.0 = (let h : Some f.rest ≡ Some (name ∷ next.0) = sym f.listing ∙ next.1 in cc) in
       let place : l.path ++ name ∷ [] ≡ dir ++ lists.called e ∷ [] = ap (λ d. d ++ name ∷ []) path ∙ ap (λ z. dir ++ z ∷ []) called in
@@ -273,7 +277,7 @@ module _ {S C F : Type 0} (view : View S C F) (lists : Listings S C PlainDir Pla
       }
 
   by_answer : (l : PlainDir) (w : World) (names dir : Names) (from : ℕ) (answers : List Answered) (m n o : S) (k j : PlainDir) (e : PlainEntry) (r : Result Info FsError)
-      → l.reads ≡ true → l.path ≡ dir → Front l w names dir from answers m k → (answer : Result (Option (List ℕ)) DiskError) (mid : DiskState) → ListsOn (view.state m) l.lister.0 answer mid
+      → l.wanted ≡ Data → l.path ≡ dir → Front l w names dir from answers m k → (answer : Result (Option (List ℕ)) DiskError) (mid : DiskState) → ListsOn (view.state m) l.lister.0 answer mid
       → AfterName answer mid l (Ok (Some e)) (view.state n) j → Says e.meta (view.state n) r (view.state o)
       → Front l w names dir from (answers ++ record { name = lists.called e; meta = r } ∷ []) o j
   by_answer l w names dir from answers m n o k j e r reads path f (Ok (Some name)) mid on (given, gives, is, same) says =
@@ -294,7 +298,7 @@ module _ {S C F : Type 0} (view : View S C F) (lists : Listings S C PlainDir Pla
       let next = subst (λ (d : PlainDir). NextEntry (view.state m) d r (view.state n) j) same (plain.next_so m k r n j on) in
       subst (λ b. NextOf b (view.state m) l r (view.state n) j) going next
 
-  front : (n : S) (l : PlainDir) (w : World) (names dir : Names) (from : ℕ) (answers : List Answered) (o : S) (k : PlainDir) → l.over ≡ false → l.reads ≡ true → l.path ≡ dir
+  front : (n : S) (l : PlainDir) (w : World) (names dir : Names) (from : ℕ) (answers : List Answered) (o : S) (k : PlainDir) → l.over ≡ false → l.wanted ≡ Data → l.path ≡ dir
       → Front l w names dir from [] n l → Walked view lists n l answers o k → Front l w names dir from answers o k
   front n l w names dir from answers o k going reads path f begun = f
   front n l w names dir from answers o k going reads path f (goes before m p q d j e r walk on says lends keeps) =
@@ -305,23 +309,23 @@ module _ {S C F : Type 0} (view : View S C F) (lists : Listings S C PlainDir Pla
   -- the listing as it was begun
   record Start (w : World) (dir : Names) (from : ℕ) (n : S) (l : PlainDir) : Type 0 where
     going : l.over ≡ false
-    reads : l.reads ≡ true
+    reads : l.wanted ≡ Data
     path : l.path ≡ dir
     names : Names
     first : Front l w names dir from [] n l
     listed : IsOk (listable (look w.tree dir))
     order : IsPermutation (names_in w.tree dir) names
 
-  start : (w : World) (dir : Names) (m n : S) (l : PlainDir) → (view.state m).told ≡ Some w → is_linked w.tree dir ≡ false → Begins (view.state m) dir true (Ok l) (view.state n)
+  start : (w : World) (dir : Names) (m n : S) (l : PlainDir) → (view.state m).told ≡ Some w → is_linked w.tree dir ≡ false → Begins (view.state m) dir Data (Ok l) (view.state n)
       → Start w dir (view.state m).faults n l
   start w dir m n l told linked (inl refused) = let e = refused.0 in cc
   start w dir m n l told linked (inr (Err e, begins, is)) = cc
   start w dir m n l told linked (inr (Ok lister, begins, is)) =
       let (v, at, listed) = told_after (view.state m).told (view.state n).told (ListedIn dir (Ok lister)) w begins.told told in
-      let dir_is : l ≡ record { lister = lister; path = dir; reads = true; over = false } = cc in
+      let dir_is : l ≡ record { lister = lister; path = dir; wanted = Data; over = false } = cc in
       record {
         going = ap (λ d. d.over) dir_is;
-        reads = ap (λ d. d.reads) dir_is;
+        reads = ap (λ d. d.wanted) dir_is;
         path = ap (λ d. d.path) dir_is;
         names = listed.0;
         first = record {
@@ -407,12 +411,12 @@ refused_there NotEmpty w dir found s t r counted = inl (rw r refl)
 refused_there Failed w dir found s t r counted = inr (inl (refl, counted.rose refl))
 refused_there NoMemory w dir found s t r counted = inr (inr refl)
 
-begins_there : (w : World) (dir : Names) (r : Result PlainDir FsError) (s t : DiskState) → s.told ≡ Some w → is_linked w.tree dir ≡ false → Begins s dir true r t
+begins_there : (w : World) (dir : Names) (r : Result PlainDir FsError) (s t : DiskState) → s.told ≡ Some w → is_linked w.tree dir ≡ false → Begins s dir Data r t
     → BeginsThere (members_of w dir (listable (look w.tree dir))) r ⊎ Spoiled s r t
 begins_there w dir r s t told linked (inl refused) = inr (inr refused.0)
 begins_there w dir r s t told linked (inr (Ok lister, begins, is)) =
     let (v, at, listed) = told_after s.told t.told (ListedIn dir (Ok lister)) w begins.told told in
-    rw is (inl (ok_there w dir (listable (look w.tree dir)) (record { lister = lister; path = dir; reads = true; over = false }) (listed.2 linked).0))
+    rw is (inl (ok_there w dir (listable (look w.tree dir)) (record { lister = lister; path = dir; wanted = Data; over = false }) (listed.2 linked).0))
 begins_there w dir r s t told linked (inr (Err d, begins, is)) =
     let (v, at, listed) = told_after s.told t.told (ListedIn dir (Err d)) w begins.told told in
     rw is (refused_there d w dir (listable (look w.tree dir)) s t (listed.1 linked) begins.counted)

@@ -28,7 +28,7 @@ use Rattle.dav_store.specs.Shows.{Shows, Looked, here, looks, looks_at_link, Loo
 use Rattle.dav_store.specs.Standing.{Agrees, Seen, Standing}
 use Rattle.dav_store.specs.View.{View}
 use Rattle.dav_plain.specs.declared.file.PlainFile.{PlainFile}
-use Rattle.dav_plain.specs.Calls.{IsOpening, Looks, filed, looked_as, seen_by}
+use Rattle.dav_plain.specs.Calls.{IsOpening, Looks, LooksAtLink, filed, looked_as, seen_by}
 use Rattle.dav_plain.specs.Standing.{looked, opened, seen_in, seen_with, standing_as, standing_of, under_slash}
 
 -- a refusal that the tree calls for, or a fault or want of memory
@@ -138,7 +138,7 @@ flat_opened w path o s t e h = subst (λ (there : Result Standing FsError). Open
 -- The calls of a view are those of a plain store.
 pub record IsPlain {S C : Type 0} (view : View S C PlainFile) : Type 0 where
   pub looks_so : (s : S) (c : C) (path : WebPath) (r : Result Info FsError) (t : S) → view.looks s c path r t → Looks (view.state s) path r (view.state t)
-  pub links_so : (s : S) (c : C) (path : WebPath) (r : Result Info FsError) (t : S) → view.looks_at_link s c path r t → view.state t ≡ view.state s
+  pub links_so : (s : S) (c : C) (path : WebPath) (r : Result Info FsError) (t : S) → view.looks_at_link s c path r t → LooksAtLink (view.state s) path r (view.state t)
   pub opens_so : (s : S) (c : C) (path : WebPath) (how : OpenOptions) (o : Result PlainFile FsError) (t : S) → view.opens s c path how o t → IsOpening (view.state s) path how o (view.state t)
   pub seen_so : view.seen ≡ seen_by
 
@@ -147,7 +147,7 @@ module _ {S C : Type 0} (view : View S C PlainFile) (plain : IsPlain view) (s : 
   pub looked_told : (m : S) → Looked view s c m → (view.state m).told ≡ (view.state s).told
   looked_told m here = refl
   looked_told m (looks k l path r more look) = (plain.looks_so k c path r l look).1.world ∙ looked_told k more
-  looked_told m (looks_at_link k l path r more look) = ap (λ x. x.told) (plain.links_so k c path r l look) ∙ looked_told k more
+  looked_told m (looks_at_link k l path r more look) = (plain.links_so k c path r l look).1.world ∙ looked_told k more
 
   looks_there : (path : WebPath) (w : World) (m n : S) (r : Result Info FsError) → (view.state m).told ≡ Some w → is_linked w.tree path.names ≡ false → view.looks m c path r n
       → LooksThere (looked w path) r ⊎ Spoiled (view.state m) r (view.state n)

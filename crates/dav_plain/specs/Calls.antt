@@ -7,7 +7,7 @@ use Rattle.dav_core.specs.declared.handle.Handle.{Handle}
 use Rattle.dav_core.specs.declared.handle.Meta.{Meta}
 use Rattle.dav_core.specs.declared.handle.OpenOptions.{OpenOptions}
 use Rattle.dav_core.specs.DavPath.{WebPath}
-use Rattle.dav_core.specs.Disk.{DiskState, FileMetas, Metas, Opens, Reads, Seeks}
+use Rattle.dav_core.specs.Disk.{DiskState, FileMetas, MetasBy, Opens, Reads, Seeks}
 use Rattle.dav_core.specs.Errors.{fs_error_of}
 use Rattle.dav_core.specs.Info.{Info, info_of}
 use Rattle.dav_core.specs.Writing.{Copies, CreatesDir, RemovesDir, RemovesFile, Renames}
@@ -25,8 +25,16 @@ abbrev pub looked_as : Bool → Result Meta DiskError → Result Info FsError
 looked_as slash (Ok m) = under_slash slash m.kind (info_of m)
 looked_as slash (Err e) = Err (fs_error_of e)
 
+-- a look at a path is one call of the disk, where `follows` says so with a link at its end followed
+abbrev pub LooksBy : Bool → DiskState → WebPath → Result Info FsError → DiskState → Type 0
+LooksBy follows s path result t = (answer : Result Meta DiskError) × MetasBy follows s path.names answer t
+    × (result ≡ looked_as path.slash answer)
+
 abbrev pub Looks : DiskState → WebPath → Result Info FsError → DiskState → Type 0
-Looks s path result t = (answer : Result Meta DiskError) × Metas s path.names answer t × (result ≡ looked_as path.slash answer)
+Looks s path result t = LooksBy true s path result t
+
+abbrev pub LooksAtLink : DiskState → WebPath → Result Info FsError → DiskState → Type 0
+LooksAtLink s path result t = LooksBy false s path result t
 
 abbrev pub filed : Result Handle DiskError → Result PlainFile FsError
 filed (Ok h) = Ok (record { handle = h })

@@ -6,8 +6,7 @@ use Rattle.dav_core.specs.declared.handle.DiskError.{DiskError}
 use Rattle.dav_core.specs.declared.handle.DiskError.TheVariants.{NoMemory}
 use Rattle.dav_core.specs.declared.handle.Lister.{Lister}
 use Rattle.dav_core.specs.declared.handle.Meta.{Meta}
-use Rattle.dav_core.specs.DavPath.{WebPath}
-use Rattle.dav_core.specs.Disk.{DiskState, Metas}
+use Rattle.dav_core.specs.Disk.{DiskState, MetasBy}
 use Rattle.dav_core.specs.Errors.{fs_error_of}
 use Rattle.dav_core.specs.Listing.{Lists, ListsOn}
 use Rattle.dav_core.specs.Path.{Names}
@@ -22,28 +21,33 @@ use Rattle.dav_plain.specs.Calls.{Refuses, said_by}
 abbrev pub ended : PlainDir → PlainDir
 ended d = record d { over = true }
 
-abbrev pub dir_of : Names → Bool → Result Lister DiskError → Result PlainDir FsError
-dir_of path reads (Ok l) = Ok (record { lister = l; path = path; reads = reads; over = false })
-dir_of path reads (Err e) = Err (fs_error_of e)
+abbrev pub dir_of : Names → ReadDirMeta → Result Lister DiskError → Result PlainDir FsError
+dir_of path wanted (Ok l) = Ok (record { lister = l; path = path; wanted = wanted; over = false })
+dir_of path wanted (Err e) = Err (fs_error_of e)
 
-abbrev pub Begins : DiskState → Names → Bool → Result PlainDir FsError → DiskState → Type 0
-Begins s path reads result t = Refuses fs.NoMemory s result t
-    ⊎ ((answer : Result Lister DiskError) × Lists s path answer t × (result ≡ dir_of path reads answer))
+abbrev pub Begins : DiskState → Names → ReadDirMeta → Result PlainDir FsError → DiskState → Type 0
+Begins s path wanted result t = Refuses fs.NoMemory s result t
+    ⊎ ((answer : Result Lister DiskError) × Lists s path answer t × (result ≡ dir_of path wanted answer))
 
--- No disk says so far what a link itself is.
-abbrev pub BeginsDir : DiskState → WebPath → ReadDirMeta → Result PlainDir FsError → DiskState → Type 0
-BeginsDir s path wanted.Data result t = Begins s path.names true result t
-BeginsDir s path wanted.DataSymlink result t = Refuses fs.NotImplemented s result t
-BeginsDir s path wanted.None result t = Begins s path.names false result t
+-- What the disk said at this path was read, where `follows` says so with a link followed.
+abbrev pub WasRead : Bool → EntryMeta → DiskState → Names → DiskState → Type 0
+WasRead follows (Read answer) s path t = (said : Result Meta DiskError) × MetasBy follows s path said t × (answer ≡ said_by said)
+WasRead follows (At place) s path t = ⊥
 
--- Its metadata was read at this path, where the listing reads, and else is to be asked there.
-abbrev pub IsKnown : EntryMeta → Bool → DiskState → Names → DiskState → Type 0
-IsKnown (Read answer) reads s path t = (reads ≡ true) × ((said : Result Meta DiskError) × Metas s path said t × (answer ≡ said_by said))
-IsKnown (At place) reads s path t = (reads ≡ false) × (place ≡ path) × (t ≡ s)
+-- It is to be asked at this path, and nothing was read.
+abbrev pub IsAsked : EntryMeta → DiskState → Names → DiskState → Type 0
+IsAsked (Read answer) s path t = ⊥
+IsAsked (At place) s path t = (place ≡ path) × (t ≡ s)
+
+-- An entry's metadata was read at its path, links followed or not, or is to be asked there: as the listing wants it.
+abbrev pub IsKnown : EntryMeta → ReadDirMeta → DiskState → Names → DiskState → Type 0
+IsKnown meta wanted.Data s path t = WasRead true meta s path t
+IsKnown meta wanted.DataSymlink s path t = WasRead false meta s path t
+IsKnown meta wanted.None s path t = IsAsked meta s path t
 
 -- The entry of a name that the disk gave. Where the memory of its path is refused, the name is lost.
 abbrev pub GivesEntry : List ℕ → PlainDir → DiskState → Result PlainEntry FsError → DiskState → Type 0
-GivesEntry name d s (Ok entry) t = (entry.name ≡ name) × IsKnown entry.meta d.reads s (d.path ++ name ∷ []) t
+GivesEntry name d s (Ok entry) t = (entry.name ≡ name) × IsKnown entry.meta d.wanted s (d.path ++ name ∷ []) t
 GivesEntry name d s (Err e) t = (e ≡ fs.NoMemory) × (t ≡ s)
 
 abbrev pub next_of : Result PlainEntry FsError → Result (Option PlainEntry) FsError

@@ -5,15 +5,15 @@ use crate::PlainMeta;
 use crate::meta::said;
 use dav_core::{Disk, FsError, FsPath, Lister};
 use dav_io::Text;
-use dav_store::DavDirEntry;
+use dav_store::{DavDirEntry, ReadDirMeta};
 
-/// A listing: the disk's lister, the path of the directory, whether each entry's metadata is read with it, and whether
-/// it is over. Once over, it asks the disk nothing.
+/// A listing: the disk's lister, the path of the directory, what is read of each entry with it, and whether it is over.
+/// Once over, it asks the disk nothing.
 #[derive(Drop)]
 pub struct PlainDir {
     pub(crate) lister: Lister,
     pub(crate) path: FsPath,
-    pub(crate) reads: bool,
+    pub(crate) wanted: ReadDirMeta,
     pub(crate) over: bool,
 }
 

@@ -1,15 +1,16 @@
 ghost use Rattle.std.specs.Prelude.{◌≡◌, ℕ, true, false, Option, Some, Result, refl};
 ghost use Rattle.dav_core.specs.Path.{is_plain};
+ghost use Rattle.dav_core.specs.Unchanged.{Keeps};
 ghost use Rattle.dav_plain.specs.Listing.{Begins, GivesEntry};
 
-use crate::meta::{done, said};
+use crate::meta::{done, looked_as, said};
 use crate::{EntryMeta, PlainDir, PlainEntry, PlainFile, PlainMeta};
-use dav_core::{DavPath, Disk, DiskError, FsError, FsPath, Kind, OpenOptions};
+use dav_core::{DavPath, Disk, DiskError, FsError, FsPath, OpenOptions};
 use dav_io::{Moment, Text};
 use dav_store::{DavFileSystem, ReadDirMeta};
 
 /// A disk from its root on. It has no folding, no rules of an operating system and no memory. What it makes is open to its
-/// owner alone. Metadata of a link itself is `NotImplemented`.
+/// owner alone.
 #[derive(Drop)]
 pub struct PlainFs<D> {
     disk: D,
@@ -39,8 +40,8 @@ impl<D> PlainFs<D> {
 }
 
 // Begins a listing. The memory for its path is taken before the disk is asked.
-fn begin<D: Disk>(disk: &mut D, path: &FsPath, reads: bool) -> Result<PlainDir, FsError>
-    ensures done { Begins (D.state disk.old) path.now reads result (D.state disk.new) }
+fn begin<D: Disk>(disk: &mut D, path: &FsPath, wanted: ReadDirMeta) -> Result<PlainDir, FsError>
+    ensures done { Begins (D.state disk.old) path.now wanted result (D.state disk.new) }
     ensures loan { D.loan disk.new ≡ D.loan disk.old }
 {
     let Ok(names) = path.try_clone() else {
@@ -50,7 +51,7 @@ fn begin<D: Disk>(disk: &mut D, path: &FsPath, reads: bool) -> Result<PlainDir, 
         Ok(lister) => Ok(PlainDir {
             lister,
             path: names,
-            reads,
+            wanted,
             over: false,
         }),
         Err(error) => Err(error.into()),
@@ -61,24 +62,25 @@ fn begin<D: Disk>(disk: &mut D, path: &FsPath, reads: bool) -> Result<PlainDir, 
 fn entry_of<D: Disk>(disk: &mut D, dir: &PlainDir, name: Text) -> Result<PlainEntry, FsError>
     requires { is_plain name ≡ true }
     ensures done { GivesEntry name dir.now (D.state disk.old) result (D.state disk.new) }
+    ensures keeps { Keeps (D.state disk.old) (D.state disk.new) }
     ensures loan { D.loan disk.new ≡ D.loan disk.old }
 {
     let Ok(path) = dir.path.child(name.as_str()) else {
         return Err(FsError::NoMemory);
     };
-    if !dir.reads {
-        return Ok(PlainEntry::new(name, EntryMeta::At(path)));
-    }
-    let answer = said(disk.meta(&path));
-    Ok(PlainEntry::new(name, EntryMeta::Read(answer)))
+    let meta = match dir.wanted {
+        ReadDirMeta::Data => EntryMeta::Read(said(disk.meta(&path))),
+        ReadDirMeta::DataSymlink => EntryMeta::Read(said(disk.link_meta(&path))),
+        ReadDirMeta::None => EntryMeta::At(path),
+    };
+    Ok(PlainEntry::new(name, meta))
 }
 
 impl<D: Disk> DavFileSystem for PlainFs<D> {
-    ghost use Rattle.dav_core.specs.declared.error.FsError.TheVariants.{NotImplemented};
     ghost use Rattle.dav_core.specs.Listing.{EndsListing};
     ghost use Rattle.dav_plain.specs.Calls.{AsksToCopy, AsksToMake, AsksToMove, AsksToTakeDir, AsksToTakeFile};
-    ghost use Rattle.dav_plain.specs.Calls.{IsOpening, Looks, Refuses};
-    ghost use Rattle.dav_plain.specs.Listing.{BeginsDir, NextEntry, to_come};
+    ghost use Rattle.dav_plain.specs.Calls.{IsOpening, Looks, LooksAtLink};
+    ghost use Rattle.dav_plain.specs.Listing.{NextEntry, to_come};
 
     type Disk = D;
 
@@ -102,7 +104,7 @@ impl<D: Disk> DavFileSystem for PlainFs<D> {
 
     ghost looks = { λ s path result t. Looks (D.state s.disk) path result (D.state t.disk) };
 
-    ghost looks_at_link = { λ s _ result t. Refuses NotImplemented s result t };
+    ghost looks_at_link = { λ s path result t. LooksAtLink (D.state s.disk) path result (D.state t.disk) };
 
     ghost opens = { λ s path how result t. IsOpening (D.state s.disk) path how result (D.state t.disk) };
 
@@ -110,7 +112,7 @@ impl<D: Disk> DavFileSystem for PlainFs<D> {
 
     ghost to_come = { to_come };
 
-    ghost lists = { λ s path wanted result t. BeginsDir (D.state s.disk) path wanted result (D.state t.disk) };
+    ghost lists = { λ s path wanted result t. Begins (D.state s.disk) path.names wanted result (D.state t.disk) };
 
     ghost lists_on = { λ s d result t e. NextEntry (D.state s.disk) d result (D.state t.disk) e };
 
@@ -141,15 +143,11 @@ impl<D: Disk> DavFileSystem for PlainFs<D> {
     }
 
     fn metadata(&mut self, path: &DavPath) -> Result<PlainMeta, FsError> {
-        match self.disk.meta(path.names()) {
-            Ok(meta) if path.is_collection() && meta.kind != Kind::Dir => Err(FsError::Forbidden),
-            Ok(meta) => Ok(PlainMeta(meta)),
-            Err(e) => Err(e.into()),
-        }
+        looked_as(path.is_collection(), self.disk.meta(path.names()))
     }
 
-    fn symlink_metadata(&mut self, _path: &DavPath) -> Result<PlainMeta, FsError> {
-        Err(FsError::NotImplemented)
+    fn symlink_metadata(&mut self, path: &DavPath) -> Result<PlainMeta, FsError> {
+        looked_as(path.is_collection(), self.disk.link_meta(path.names()))
     }
 
     fn open(&mut self, path: &DavPath, options: OpenOptions) -> Result<PlainFile, FsError> {
@@ -163,11 +161,7 @@ impl<D: Disk> DavFileSystem for PlainFs<D> {
     }
 
     fn read_dir(&mut self, path: &DavPath, meta: ReadDirMeta) -> Result<PlainDir, FsError> {
-        match meta {
-            ReadDirMeta::Data => begin(&mut self.disk, path.names(), true),
-            ReadDirMeta::DataSymlink => Err(FsError::NotImplemented),
-            ReadDirMeta::None => begin(&mut self.disk, path.names(), false),
-        }
+        begin(&mut self.disk, path.names(), meta)
     }
 
     fn next_entry(&mut self, dir: &mut PlainDir) -> Result<Option<PlainEntry>, FsError> {
@@ -225,4 +219,6 @@ impl<D: Disk> DavFileSystem for PlainFs<D> {
     ghost puts_back = { λ s. refl };
 
     ghost admits_lent = { λ s d keeps admits. admits };
+
+    ghost admits_written = { λ s d keeps admits. admits };
 }

@@ -3,9 +3,10 @@ ghost use Rattle.dav_core.specs.DavPath.{is_in_home};
 ghost use Rattle.dav_core.specs.Info.{info_of};
 ghost use Rattle.dav_core.specs.InfoInYears.{info_in_years};
 ghost use Rattle.dav_core.specs.TagBytes.{info_has_tag_bytes};
-ghost use Rattle.dav_plain.specs.Calls.{done_by, said_by};
+ghost use Rattle.dav_plain.specs.Calls.{done_by, looked_as as the_looked_as, said_by};
+ghost use Rattle.dav_store.specs.Standing.{info_in};
 
-use dav_core::{DavMetaData, DavPath, DiskError, FileTime, FsError, Meta};
+use dav_core::{DavMetaData, DavPath, DiskError, FileTime, FsError, Kind, Meta};
 use dav_io::{NoMemory, Text};
 use std::alloc::Global;
 
@@ -20,6 +21,16 @@ pub fn said(answer: Result<Meta, DiskError>) -> Result<PlainMeta, FsError>
     match answer {
         Ok(meta) => Ok(PlainMeta(meta)),
         Err(error) => Err(error.into()),
+    }
+}
+
+// What a disk's answer says at a path, with a slash at its end or without.
+pub fn looked_as(slash: bool, answer: Result<Meta, DiskError>) -> Result<PlainMeta, FsError>
+    ensures { info_in (λ m. info_of m.0) result ≡ the_looked_as slash answer }
+{
+    match answer {
+        Ok(meta) if slash && meta.kind != Kind::Dir => Err(FsError::Forbidden),
+        answer => said(answer),
     }
 }
 

@@ -7,7 +7,7 @@ use Rattle.dav_core.specs.declared.error.FsError.{FsError}
 use Rattle.dav_core.specs.declared.error.FsError.TheVariants.{GeneralFailure, NoMemory}
 use Rattle.dav_core.specs.Disk.{DiskState, Live, can_read, kind_at}
 use Rattle.dav_core.specs.Info.{Info}
-use Rattle.dav_core.specs.Unchanged.{Keeps, KeepsBut, SameOpen}
+use Rattle.dav_core.specs.Unchanged.{Keeps, KeepsBut, SameBesidesFiles, SameOpen}
 use Rattle.dav_core.specs.Writing.{can_write, written}
 use Rattle.dav_store.specs.Frames.{KeepsOpenBut}
 use Rattle.dav_store.specs.Standing.{Seen, AgreesOpen}
@@ -145,6 +145,8 @@ WritesIn l from (Err e) f g = (g ≡ f) ⊎ ((n : ℕ) × (0 < n) × (n ≤ leng
 pub record FileWrites (s : DiskState) (h : ℕ) (seen : Option Seen) (from : List ℕ) (result : Result Unit FsError) (t : DiskState) (after : Option Seen) : Type 0 where
   pub keeps : KeepsOpenBut h s t
   pub live : t.live h ≡ s.live h
+  -- of the world only bytes and times
+  pub world : Both s.told t.told SameBesidesFiles
   -- a file that was opened for it is refused only where a fault was met, or want of memory
   pub refused : can_write (s.live h) ≡ true → OnErr result (Spoiled s result t)
   pub told : Both seen after (WritesIn (s.live h) from result)

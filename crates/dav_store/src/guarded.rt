@@ -5,7 +5,7 @@ ghost use Rattle.dav_core.specs.declared.error.FsError.{FsError};
 ghost use Rattle.dav_core.specs.declared.handle.OpenOptions.{OpenOptions};
 ghost use Rattle.dav_core.specs.DavPath.{WebPath};
 ghost use Rattle.dav_core.specs.Info.{Info};
-ghost use Rattle.dav_core.specs.Unchanged.{Keeps, SameBesidesOpens};
+ghost use Rattle.dav_core.specs.Unchanged.{Keeps, SameBesidesFiles, SameBesidesOpens};
 ghost use Rattle.dav_io.specs.Told.{Both};
 ghost use Rattle.dav_store.specs.Standing.{info_in};
 ghost use Rattle.dav_store.specs.Frames.{KeepsOpen, OpensOne};
@@ -60,8 +60,9 @@ pub trait GuardedFileSystem<C> {
     /// How many answers a listing has to come, by what the disk has of its lister.
     ghost to_come: { Self.Dir → Option ℕ → ℕ };
 
-    /// Whether the store may remember what a listing gives now. It speaks of its memory and of the tree, so all that only
-    /// reads keeps it.
+    /// Whether the store may remember what a listing gives now. It speaks of its memory and of the tree, where a
+    /// memory knows names of a directory at a time: all that only reads keeps it, and so does all that gives a directory
+    /// with other names a new time.
     ghost admits: { Self → Type 0 } = { λ _. Unit {0} };
 
     /// What the beginning of a listing may answer.
@@ -167,30 +168,35 @@ pub trait GuardedFileSystem<C> {
     fn create_dir(&mut self, path: &DavPath, credentials: &C) -> Result<(), FsError>
         ensures done { makes_dir self.old credentials.now path.now result self.new }
         ensures keeps { KeepsOpen (Self.Disk.state (inside self.old)) (Self.Disk.state (inside self.new)) }
+        ensures admits { admits self.old → admits self.new }
         ensures loan { Self.Disk.loan (inside self.new) ≡ Self.Disk.loan (inside self.old) };
 
     /// Removes the directory at a path.
     fn remove_dir(&mut self, path: &DavPath, credentials: &C) -> Result<(), FsError>
         ensures done { removes_dir self.old credentials.now path.now result self.new }
         ensures keeps { KeepsOpen (Self.Disk.state (inside self.old)) (Self.Disk.state (inside self.new)) }
+        ensures admits { admits self.old → admits self.new }
         ensures loan { Self.Disk.loan (inside self.new) ≡ Self.Disk.loan (inside self.old) };
 
     /// Removes the file at a path.
     fn remove_file(&mut self, path: &DavPath, credentials: &C) -> Result<(), FsError>
         ensures done { removes_file self.old credentials.now path.now result self.new }
         ensures keeps { KeepsOpen (Self.Disk.state (inside self.old)) (Self.Disk.state (inside self.new)) }
+        ensures admits { admits self.old → admits self.new }
         ensures loan { Self.Disk.loan (inside self.new) ≡ Self.Disk.loan (inside self.old) };
 
     /// Moves what stands at a path to another.
     fn rename(&mut self, from: &DavPath, to: &DavPath, credentials: &C) -> Result<(), FsError>
         ensures done { renames self.old credentials.now from.now to.now result self.new }
         ensures keeps { KeepsOpen (Self.Disk.state (inside self.old)) (Self.Disk.state (inside self.new)) }
+        ensures admits { admits self.old → admits self.new }
         ensures loan { Self.Disk.loan (inside self.new) ≡ Self.Disk.loan (inside self.old) };
 
     /// Copies a file's bytes to another path.
     fn copy(&mut self, from: &DavPath, to: &DavPath, credentials: &C) -> Result<(), FsError>
         ensures done { copies self.old credentials.now from.now to.now result self.new }
         ensures keeps { KeepsOpen (Self.Disk.state (inside self.old)) (Self.Disk.state (inside self.new)) }
+        ensures admits { admits self.old → admits self.new }
         ensures loan { Self.Disk.loan (inside self.new) ≡ Self.Disk.loan (inside self.old) };
 
     /// What is put inside is inside.
@@ -205,5 +211,11 @@ pub trait GuardedFileSystem<C> {
     /// A disk put inside whose told world has the same tree, script and bytes keeps what the store may remember.
     ghost admits_lent: { (s : Self) (d : Self.Disk)
         → Both (Self.Disk.state (inside s)).told (Self.Disk.state d).told SameBesidesOpens
+        → admits s → admits (with_disk s d) };
+
+    /// A disk put inside whose told world has the same things at the same places, each with its time or a new one, keeps
+    /// what the store may remember: a write to a file leaves such a world.
+    ghost admits_written: { (s : Self) (d : Self.Disk)
+        → Both (Self.Disk.state (inside s)).told (Self.Disk.state d).told SameBesidesFiles
         → admits s → admits (with_disk s d) };
 }

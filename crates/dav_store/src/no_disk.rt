@@ -1,5 +1,5 @@
 ghost use Rattle.std.specs.Prelude.{◌≡◌, ◌≤◌, Err, refl};
-ghost use Rattle.dav_core.specs.Disk.{Closes, FileMetas, Metas, Opens, Reads, Seeks};
+ghost use Rattle.dav_core.specs.Disk.{Closes, FileMetas, LinkMetas, Metas, Opens, Reads, Seeks};
 ghost use Rattle.dav_core.specs.Listing.{EndsListing, Lists, ListsOn};
 ghost use Rattle.dav_core.specs.Untold.{untold_live};
 ghost use Rattle.dav_core.specs.Writing.{Copies, CreatesDir, RemovesDir, RemovesFile, Renames, Writes};
@@ -56,6 +56,16 @@ impl Disk for NoDisk {
 
     fn meta(&mut self, _path: &FsPath) -> Result<Meta, DiskError>
         ensures done { Metas (no_disk_state self.old.faults self.old.asked) _path.now result
+            (no_disk_state self.new.faults self.new.asked) }
+        ensures loan { ⟦<NoDisk as Disk>⟧.loan self.new ≡ ⟦<NoDisk as Disk>⟧.loan self.old }
+        ensures refused { result ≡ Err DiskError.NotFound }
+    {
+        self.count();
+        Err(DiskError::NotFound)
+    }
+
+    fn link_meta(&mut self, _path: &FsPath) -> Result<Meta, DiskError>
+        ensures done { LinkMetas (no_disk_state self.old.faults self.old.asked) _path.now result
             (no_disk_state self.new.faults self.new.asked) }
         ensures loan { ⟦<NoDisk as Disk>⟧.loan self.new ≡ ⟦<NoDisk as Disk>⟧.loan self.old }
         ensures refused { result ≡ Err DiskError.NotFound }

@@ -5,7 +5,7 @@ ghost use Rattle.dav_core.specs.declared.error.FsError.{FsError};
 ghost use Rattle.dav_core.specs.declared.handle.OpenOptions.{OpenOptions};
 ghost use Rattle.dav_core.specs.DavPath.{WebPath};
 ghost use Rattle.dav_core.specs.Info.{Info};
-ghost use Rattle.dav_core.specs.Unchanged.{Keeps, SameBesidesOpens};
+ghost use Rattle.dav_core.specs.Unchanged.{Keeps, SameBesidesFiles, SameBesidesOpens};
 ghost use Rattle.dav_io.specs.Told.{Both};
 ghost use Rattle.dav_store.specs.Standing.{info_in};
 ghost use Rattle.dav_store.specs.Frames.{KeepsOpen, OpensOne};
@@ -139,30 +139,35 @@ pub trait DavFileSystem {
     fn create_dir(&mut self, path: &DavPath) -> Result<(), FsError>
         ensures done { makes_dir self.old path.now result self.new }
         ensures keeps { KeepsOpen (Self.Disk.state (inside self.old)) (Self.Disk.state (inside self.new)) }
+        ensures admits { admits self.old → admits self.new }
         ensures loan { Self.Disk.loan (inside self.new) ≡ Self.Disk.loan (inside self.old) };
 
     /// Removes the directory at a path.
     fn remove_dir(&mut self, path: &DavPath) -> Result<(), FsError>
         ensures done { removes_dir self.old path.now result self.new }
         ensures keeps { KeepsOpen (Self.Disk.state (inside self.old)) (Self.Disk.state (inside self.new)) }
+        ensures admits { admits self.old → admits self.new }
         ensures loan { Self.Disk.loan (inside self.new) ≡ Self.Disk.loan (inside self.old) };
 
     /// Removes the file at a path.
     fn remove_file(&mut self, path: &DavPath) -> Result<(), FsError>
         ensures done { removes_file self.old path.now result self.new }
         ensures keeps { KeepsOpen (Self.Disk.state (inside self.old)) (Self.Disk.state (inside self.new)) }
+        ensures admits { admits self.old → admits self.new }
         ensures loan { Self.Disk.loan (inside self.new) ≡ Self.Disk.loan (inside self.old) };
 
     /// Moves what stands at a path to another.
     fn rename(&mut self, from: &DavPath, to: &DavPath) -> Result<(), FsError>
         ensures done { renames self.old from.now to.now result self.new }
         ensures keeps { KeepsOpen (Self.Disk.state (inside self.old)) (Self.Disk.state (inside self.new)) }
+        ensures admits { admits self.old → admits self.new }
         ensures loan { Self.Disk.loan (inside self.new) ≡ Self.Disk.loan (inside self.old) };
 
     /// Copies a file's bytes to another path.
     fn copy(&mut self, from: &DavPath, to: &DavPath) -> Result<(), FsError>
         ensures done { copies self.old from.now to.now result self.new }
         ensures keeps { KeepsOpen (Self.Disk.state (inside self.old)) (Self.Disk.state (inside self.new)) }
+        ensures admits { admits self.old → admits self.new }
         ensures loan { Self.Disk.loan (inside self.new) ≡ Self.Disk.loan (inside self.old) };
 
     ghost puts_inside: { (s : Self) (d : Self.Disk) → inside (with_disk s d) ≡ d };
@@ -173,6 +178,10 @@ pub trait DavFileSystem {
 
     ghost admits_lent: { (s : Self) (d : Self.Disk)
         → Both (Self.Disk.state (inside s)).told (Self.Disk.state d).told SameBesidesOpens
+        → admits s → admits (with_disk s d) };
+
+    ghost admits_written: { (s : Self) (d : Self.Disk)
+        → Both (Self.Disk.state (inside s)).told (Self.Disk.state d).told SameBesidesFiles
         → admits s → admits (with_disk s d) };
 }
 
@@ -302,4 +311,6 @@ impl<S: DavFileSystem> GuardedFileSystem<()> for S {
     ghost puts_back = { S.puts_back };
 
     ghost admits_lent = { S.admits_lent };
+
+    ghost admits_written = { S.admits_written };
 }

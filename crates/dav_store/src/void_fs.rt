@@ -163,4 +163,6 @@ impl<C> GuardedFileSystem<C> for VoidFs<C> {
     ghost puts_back = { λ s. refl };
 
     ghost admits_lent = { λ s d keeps admits. admits };
+
+    ghost admits_written = { λ s d keeps admits. admits };
 }

@@ -8,6 +8,7 @@ abbrev pub invariant-pieces : goal.invariant-pieces
 invariant-pieces g l = record {
   far : SoFar (the_view g.S.GuardedFileSystem g.S.Disk.Disk g.S.File.DavFile) g.S.File.DavFile.writes l.initial.fs l.initial.file (g.B.BodyReader.state l.initial.body) l.total
       l.fs l.file (g.B.BodyReader.state l.body);
+  admits : g.S.GuardedFileSystem.admits l.initial.fs → g.S.GuardedFileSystem.admits l.fs;
   body_loan : g.B.BodyReader.loan l.body ≡ g.B.BodyReader.loan l.initial.body;
 }
 

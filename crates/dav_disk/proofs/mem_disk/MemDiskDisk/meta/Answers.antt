@@ -1,10 +1,10 @@
 use Rattle.dav_disk.specs.Memory.{known_of}
-use Rattle.std.proofs.Common.{rules}
+use Rattle.std.proofs.Common.{true, rules}
 use Rattle.dav_disk.proofs.Done.{meta_done, meta_no_fault, not_scheduled}
 use Rattle.dav_disk.proofs.mem_disk.MemDiskDisk.meta.Goals as goal
 
 pub returns-clause-done : goal.returns-clause-done
-returns-clause-done c = meta_done (known_of c.args.self.now.memory) _ _ _ _ _ _ c.args.path.now c.meta.result
+returns-clause-done c = meta_done true (known_of c.args.self.now.memory) _ _ _ _ _ _ c.args.path.now c.meta.result
     (record { rises = c.next.ensures.counts; counts = c.next.ensures.asked; goes = c.next.ensures.more; keeps = λ whole. whole }) c.meta.ensures.found
 
 pub returns-clause-schedule : goal.returns-clause-schedule
