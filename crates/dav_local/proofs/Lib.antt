@@ -8,3 +8,6 @@ pub mod Rows
 pub mod Stepping
 pub mod Coming
 pub mod Resolved
+pub mod Keeping
+pub mod Filling
+pub mod Framing

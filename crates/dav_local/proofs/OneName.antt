@@ -1,7 +1,8 @@
 -- Paths of one name.
-use Rattle.std.proofs.Common.{◌≡◌, ◌≢◌, ◌&&◌, Bool, true, false, ℕ, List, [], ◌∷◌, length, refl}
+use Rattle.std.proofs.Common.{◌≡◌, ◌≢◌, ◌&&◌, Bool, true, false, ℕ, List, [], ◌∷◌, ◌++◌, length, take, refl}
 use Rattle.std.specs.Str.{bytes_eq}
-use Rattle.dav_core.specs.Path.{Names, same_names}
+use Rattle.dav_core.specs.Path.{Names, all_plain, same_names}
+use Rattle.dav_core.proofs.Plain.{plain_take}
 
 and_true : (b : Bool) → b ≡ (b && true)
 and_true true = refl
@@ -18,3 +19,7 @@ pub other_names : (names : Names) (name : List ℕ) → length names ≢ 1 → f
 other_names [] name other = refl
 other_names (x ∷ []) name other = absurd (other refl)
 other_names (x ∷ y ∷ names) name other = and_false (bytes_eq x name)
+
+-- a front of a path is plain
+pub front_is_plain : (path names kept items : Names) (n : ℕ) → all_plain path ≡ true → names ≡ path → kept ≡ [] → items ≡ kept ++ take n names → all_plain items ≡ true
+front_is_plain path names kept items n plain same none is = rw (is, none, same) (plain_take n path plain)

@@ -12,9 +12,10 @@ use Rattle.dav_core.specs.Disk.{DiskState, Live}
 use Rattle.dav_core.specs.Edits.{SameOpens}
 use Rattle.dav_core.specs.Errors.{fs_error_of}
 use Rattle.dav_core.specs.Path.{Names}
-use Rattle.dav_core.specs.Unchanged.{SameListing, SameOpen}
+use Rattle.dav_core.specs.Unchanged.{SameBesidesFiles, SameListing, SameOpen}
 use Rattle.dav_core.specs.World.{OpenFile, SameBesidesOpens, World}
 use Rattle.dav_core.specs.Writing.{Writes, WrittenIn, WroteIn, appends, can_write}
+use Rattle.dav_core.proofs.FilesLemmas.{files_same, files_then, write_leaves}
 use Rattle.dav_core.proofs.UnchangedLemmas.{put_other, same_listing_then, same_open_then}
 use Rattle.dav_store.specs.Files.{FileWrites, IsWritten, Spoiled, WritesIn, write_place}
 use Rattle.dav_store.specs.Frames.{KeepsOpenBut}
@@ -105,6 +106,12 @@ all_keep h s from result t (refused a b xs piece e chunk some writes) = write_ke
 all_keep h s from result t (more a m b xs piece n r chunk writes rest) =
     keeps_then h a m b (write_keeps h piece (Ok n) a m writes) (all_keep h m (drop n xs) r b rest)
 
+all_leave : (h : ℕ) (s : DiskState) (from : List ℕ) (result : Result Unit FsError) (t : DiskState) → WritesAll h s from result t → Both s.told t.told SameBesidesFiles
+all_leave h s from result t (nothing a) = both_same a.told a.told SameBesidesFiles files_same refl
+all_leave h s from result t (refused a b xs piece e chunk some writes) = write_leaves h piece (Err e) a b writes
+all_leave h s from result t (more a m b xs piece n r chunk writes rest) =
+    both_then a.told m.told b.told SameBesidesFiles SameBesidesFiles SameBesidesFiles files_then (write_leaves h piece (Ok n) a m writes) (all_leave h m (drop n xs) r b rest)
+
 all_live : (h : ℕ) (s : DiskState) (from : List ℕ) (result : Result Unit FsError) (t : DiskState) → WritesAll h s from result t → t.live h ≡ s.live h
 all_live h s from result t (nothing a) = refl
 all_live h s from result t (refused a b xs piece e chunk some writes) = ap (λ (f : ℕ → Option Live). f h) writes.live
@@ -179,6 +186,7 @@ pub all_written : (h : ℕ) (s : DiskState) (from : List ℕ) (result : Result U
 all_written h s from result t all = record {
   keeps = all_keep h s from result t all;
   live = all_live h s from result t all;
+  world = all_leave h s from result t all;
   refused = all_refused h s from result t all;
   told = all_told h s from result t all;
 }

@@ -1,5 +1,5 @@
 -- What a local store's file answers, by what its disk answers.
-use Rattle.std.specs.Prelude.{◌≡◌, ℕ, List, Option, Result, Ok, Err}
+use Rattle.std.specs.Prelude.{◌≡◌, ℕ, List, Bool, Option, Result, Ok, Err}
 use Rattle.dav_core.specs.declared.error.FsError.{FsError}
 use Rattle.dav_core.specs.declared.handle.DiskError.{DiskError}
 use Rattle.dav_core.specs.declared.handle.Handle.{Handle}
@@ -12,7 +12,7 @@ use Rattle.dav_store.specs.Void.{empty_info}
 use Rattle.dav_local.specs.declared.file.LocalFsFile.{LocalFsFile}
 use Rattle.dav_local.specs.declared.meta.LocalFsMetaData.{LocalFsMetaData}
 use Rattle.dav_local.specs.declared.meta.LocalFsMetaData.TheVariants.{Found, Empty}
-use Rattle.dav_local.specs.Standing.{seen_at}
+use Rattle.dav_local.specs.Standing.{seen_at, under_slash}
 
 -- what metadata says: the disk's by its rule
 abbrev pub local_info : LocalFsMetaData → Info
@@ -22,6 +22,11 @@ local_info Empty = empty_info
 abbrev pub said_by : Result Meta DiskError → Result LocalFsMetaData FsError
 said_by (Ok m) = Ok (Found m)
 said_by (Err e) = Err (fs_error_of e)
+
+-- what metadata is, where the path ends with a slash that is looked at, or doesn't
+abbrev pub looked_as : Bool → Result Meta DiskError → Result Info FsError
+looked_as slash (Ok m) = under_slash slash m.kind (info_of m)
+looked_as slash (Err e) = Err (fs_error_of e)
 
 -- what a call that changes what stands is answered
 abbrev pub done_by : Result Unit DiskError → Result Unit FsError

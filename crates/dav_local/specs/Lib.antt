@@ -7,3 +7,5 @@ pub mod LocalStays
 pub mod Ways
 pub mod Resolving
 pub mod Walking
+pub mod Listing
+pub mod Calls

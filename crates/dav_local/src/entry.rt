@@ -1,21 +1,11 @@
-ghost use Rattle.std.specs.Prelude.{◌≡◌, true, ℕ, Result};
+ghost use Rattle.std.specs.Prelude.{◌≡◌, true};
 ghost use Rattle.dav_core.specs.Path.{is_plain};
 
 use crate::LocalFsMetaData;
 use crate::meta::said;
-use dav_core::{Disk, FsError, FsPath, Lister};
+use dav_core::{Disk, FsError, FsPath};
 use dav_io::Text;
 use dav_store::DavDirEntry;
-
-/// A listing: the disk's lister, the path of the directory, whether each entry's metadata is read with it, and whether
-/// it is over. Once over, it asks the disk nothing.
-#[derive(Drop)]
-pub struct LocalFsReadDir {
-    pub(crate) lister: Lister,
-    pub(crate) path: FsPath,
-    pub(crate) reads: bool,
-    pub(crate) over: bool,
-}
 
 /// What is known of the metadata of an entry: what the listing read, or why it couldn't; or the path at which the disk
 /// is to be asked.

@@ -2,15 +2,21 @@
 //! with a memory of where paths were found.
 #![tactic(auto)]
 
+mod acts;
 mod entry;
 mod file;
+mod fs;
+mod listing;
 mod lists;
 mod meta;
+mod store;
 mod walk;
 mod ways;
 mod writing;
 
 pub use entry::{EntryMeta, LocalFsDirEntry};
 pub use file::LocalFsFile;
+pub use fs::LocalFs;
+pub use listing::LocalFsReadDir;
 pub use meta::LocalFsMetaData;
 pub use ways::Ways;

@@ -1,6 +1,6 @@
 // A look and the calls of a listing of a disk, each with what it leaves of all else.
 ghost use Rattle.std.specs.Prelude.{◌≡◌, IsSome, Some};
-ghost use Rattle.dav_core.specs.Disk.{Metas};
+ghost use Rattle.dav_core.specs.Disk.{Metas, MetasBy};
 ghost use Rattle.dav_core.specs.Unchanged.{Keeps};
 ghost use Rattle.dav_core.specs.Listing.{EndsListing, Lists, ListsOn};
 ghost use Rattle.dav_store.specs.Listings.{EndsList, GoesOn};
@@ -17,6 +17,18 @@ pub fn look<D: Disk>(disk: &mut D, path: &FsPath) -> Result<Meta, DiskError>
     ensures loan { D.loan disk.new ≡ D.loan disk.old }
 {
     disk.meta(path)
+}
+
+// What stands at a path, where `follows` says so with a link at its end followed.
+pub fn look_by<D: Disk>(disk: &mut D, follows: bool, path: &FsPath) -> Result<Meta, DiskError>
+    ensures done { MetasBy follows (D.state disk.old) path.now result (D.state disk.new) }
+    ensures keeps { Keeps (D.state disk.old) (D.state disk.new) }
+    ensures loan { D.loan disk.new ≡ D.loan disk.old }
+{
+    if follows {
+        return disk.meta(path);
+    }
+    disk.link_meta(path)
 }
 
 // Begins a listing of the directory at a path.

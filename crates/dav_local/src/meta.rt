@@ -1,8 +1,9 @@
 ghost use Rattle.std.specs.Prelude.{◌≡◌, codes};
-ghost use Rattle.dav_local.specs.Files.{done_by, local_info, said_by};
+ghost use Rattle.dav_store.specs.Standing.{info_in};
+ghost use Rattle.dav_local.specs.Files.{looked_as as the_looked_as, done_by, local_info, said_by};
 ghost use Rattle.dav_local.specs.Metadata.{in_years, lies_in, tag_bytes};
 
-use dav_core::{DavMetaData, DavPath, DiskError, FileTime, FsError, Meta};
+use dav_core::{DavMetaData, DavPath, DiskError, FileTime, FsError, Kind, Meta};
 use dav_io::{NoMemory, Text};
 use dav_store::EmptyMetaData;
 use std::alloc::Global;
@@ -23,6 +24,16 @@ pub fn said(answer: Result<Meta, DiskError>) -> Result<LocalFsMetaData, FsError>
     match answer {
         Ok(meta) => Ok(LocalFsMetaData::Found(meta)),
         Err(error) => Err(error.into()),
+    }
+}
+
+// What a disk's answer says at a path, with a slash at its end that is looked at or without.
+pub fn looked_as(slash: bool, answer: Result<Meta, DiskError>) -> Result<LocalFsMetaData, FsError>
+    ensures { info_in local_info result ≡ the_looked_as slash answer }
+{
+    match answer {
+        Ok(meta) if slash && meta.kind != Kind::Dir => Err(FsError::Forbidden),
+        answer => said(answer),
     }
 }
 

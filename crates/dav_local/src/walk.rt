@@ -1,7 +1,7 @@
 // A path that is found by folding, over any disk: as it stands, or else by a walk from the root, which at each directory
 // takes the name as it stands or the entry that folds alike. Of a listing one name at a time is in memory.
 ghost use Rattle.std.specs.Prelude.{◌≡◌, ◌++◌, Err, IfOk, IsSome, OnErr, OnOk, true};
-ghost use Rattle.dav_core.specs.Path.{all_plain, is_plain};
+ghost use Rattle.dav_core.specs.Path.{all_plain, is_plain, parent_of};
 ghost use Rattle.dav_model.specs.Folds as folds;
 ghost use Rattle.dav_local.specs.Resolving.{Resolves};
 ghost use Rattle.dav_local.specs.Walking.{Searches, SearchesIn, Steps, Walks};
@@ -174,4 +174,14 @@ pub fn resolved<D: Disk>(disk: &mut D, ways: &Ways, path: &FsPath) -> Result<FsP
         None if ways.folds => walked(disk, path),
         None => copied(path),
     }
+}
+
+// The path without its last name.
+pub fn parent(path: &FsPath) -> Result<FsPath, NoMemory>
+    ensures { IfOk result (λ dir. dir ≡ parent_of path.now) }
+{
+    let names = path.as_slice();
+    let mut kept = Vec::new(path.allocator());
+    append(&mut kept, &names[..names.len().saturating_sub(1)])?;
+    Ok(FsPath::new(kept))
 }

@@ -1,5 +1,8 @@
 ghost use Rattle.std.specs.Prelude.{◌≡◌, ◌||◌, ◌∷◌, [], codes};
+ghost use Rattle.dav_core.specs.DavPath.{last_name};
+ghost use Rattle.dav_core.specs.Listing.{or_empty};
 ghost use Rattle.dav_core.specs.Path.{same_names};
+ghost use Rattle.dav_model.specs.Folds.{is_dot};
 ghost use Rattle.dav_model.specs.Finding as finding;
 ghost use Rattle.dav_local.specs.Ways.{rules_of};
 
@@ -70,5 +73,25 @@ pub fn is_localized(path: &FsPath) -> bool
     match path.as_slice().last() {
         Some(name) => name.as_slice() == b".localized".as_slice(),
         None => false,
+    }
+}
+
+// Whether the last name begins with `._`.
+pub fn is_dot_name(path: &FsPath) -> bool
+    ensures { result ≡ is_dot (or_empty (last_name path.now)) }
+{
+    match path.as_slice().last() {
+        Some(name) => begins_dot(name.as_slice()),
+        None => false,
+    }
+}
+
+// Whether the bytes of a name begin with `._`.
+fn begins_dot(name: &[u8]) -> bool
+    ensures { result ≡ is_dot name.now }
+{
+    match name {
+        [a, b, ..] => *a == b'.' && *b == b'_',
+        _ => false,
     }
 }
