@@ -11,3 +11,6 @@ pub mod Resolved
 pub mod Keeping
 pub mod Filling
 pub mod Framing
+pub mod Showing
+pub mod ByRules
+pub mod Allowed

@@ -374,14 +374,17 @@ stood_loosely tree at (x ∷ found) (n ∷ names) row e f =
 
 -- ---- the names in a directory
 
-name_pushed : (at : Names) (name : Name) (row : Row) → row.path ≡ at ++ name ∷ [] → name_of row ≡ name
-name_pushed at name row path = ap (λ p. or_empty (last_name p)) path ∙ ap or_empty last
+last_pushed : (at : Names) (name : Name) → or_empty (last_name (at ++ name ∷ [])) ≡ name
+last_pushed at name = ap or_empty last
   where
     last : last_name (at ++ name ∷ []) ≡ Some name
     last =
         let long : length (at ++ name ∷ []) ≡ length at + 1 = length-append at (name ∷ []) in
         let place : length (at ++ name ∷ []) - 1 ≡ length at = omega (arith, long) in
         ap (slice_get (at ++ name ∷ [])) place ∙ slice_get-get_or (at ++ name ∷ []) (length at) name (omega (arith, long)) ∙ ap (λ x. Some x) (get_or-append_seam at name [] name)
+
+name_pushed : (at : Names) (name : Name) (row : Row) → row.path ≡ at ++ name ∷ [] → name_of row ≡ name
+name_pushed at name row path = ap (λ p. or_empty (last_name p)) path ∙ last_pushed at name
 
 pub name_in : (at : Names) (name : Name) (row : Row) → row.path ≡ at ++ name ∷ [] → (stands_in at row ≡ true) × (name_of row ≡ name)
 name_in at name row path = (both (length row.path == length at + 1) (is_front at row.path) long front, name_pushed at name row path)
@@ -409,3 +412,10 @@ path_in at row stands =
     let (x, is) = last_at row.path (length at) (omega (arith, long)) in
     let path : row.path ≡ at ++ x ∷ [] = is ∙ ap (λ z. z ++ x ∷ []) (sym front) in
     path ∙ ap (λ z. at ++ z ∷ []) (sym (name_pushed at x row path))
+
+-- a path that has names is its parent's and its last
+pub splits : (at : Names) → 0 < length at → at ≡ parent_of at ++ or_empty (last_name at) ∷ []
+splits at some =
+    let (x, is) = last_at at (length at - 1) (omega (arith, some)) in
+    let name : or_empty (last_name at) ≡ x = ap (λ p. or_empty (last_name p)) is ∙ last_pushed (parent_of at) x in
+    is ∙ ap (λ z. parent_of at ++ z ∷ []) (sym name)

@@ -1,16 +1,18 @@
 -- What a local store answers, by what its disk and its memory answer: one call of the disk at the place where a path is
 -- found.
-use Rattle.std.specs.Prelude.{◌≡◌, ◌&&◌, ◌||◌, Bool, true, false, Result, Ok, Err, IfOk, OnErr}
+use Rattle.std.specs.Prelude.{◌≡◌, ◌&&◌, ◌||◌, Bool, true, false, Result, Ok, Err, IfOk, OnErr, ◌⊎◌, ◌∷◌, [], codes}
 use Rattle.dav_io.specs.declared.failure.NoMemory.{NoMemory}
 use Rattle.dav_core.specs.declared.error.FsError.{FsError}
 use Rattle.dav_core.specs.declared.error.FsError.TheVariants as fs
 use Rattle.dav_core.specs.declared.error.FsError.TheVariants.{Forbidden, NotFound}
 use Rattle.dav_core.specs.declared.handle.DiskError.{DiskError}
+use Rattle.dav_core.specs.declared.handle.DiskError.TheVariants as disk
 use Rattle.dav_core.specs.declared.handle.DiskError.TheVariants.{NotDir}
 use Rattle.dav_core.specs.declared.handle.Meta.{Meta}
 use Rattle.dav_core.specs.declared.handle.OpenOptions.{OpenOptions}
 use Rattle.dav_core.specs.DavPath.{WebPath, last_name}
 use Rattle.dav_core.specs.Disk.{DiskState, Metas, MetasBy, Opens}
+use Rattle.dav_core.specs.Errors.{fs_error_of}
 use Rattle.dav_core.specs.Info.{Info}
 use Rattle.dav_core.specs.Listing.{or_empty}
 use Rattle.dav_core.specs.Path.{Names, parent_of}
@@ -20,7 +22,7 @@ use Rattle.dav_store.specs.declared.entry.ReadDirMeta.{ReadDirMeta}
 use Rattle.dav_store.specs.Void.{empty_info}
 use Rattle.dav_cache.specs.Memory.{MemoryState, Negates}
 use Rattle.dav_model.specs.Finding.{has_slash, is_forbidden, is_localized, is_virtual}
-use Rattle.dav_model.specs.Folds.{is_dot}
+use Rattle.dav_model.specs.Folds.{Name, is_dot}
 use Rattle.dav_local.specs.declared.file.LocalFsFile.{LocalFsFile}
 use Rattle.dav_local.specs.declared.fs.LocalFs.{LocalFs}
 use Rattle.dav_local.specs.Files.{done_by, filed, looked_as}
@@ -148,3 +150,28 @@ MovesAt at into p result q = (answer : Result Unit DiskError) × (m : DiskState)
 
 abbrev pub AsksToMove : Place → WebPath → WebPath → Result Unit FsError → Place → Type 0
 AsksToMove p from to result q = FindsBoth p from to MovesAt result q
+
+-- ---- the directories that a store has from its start
+
+-- A directory is made where nothing stands.
+abbrev pub AfterMissing : Result Meta DiskError → Names → DiskState → Result Unit FsError → DiskState → Type 0
+AfterMissing (Ok m) at s result t = (result ≡ Ok tt) × (t ≡ s)
+AfterMissing (Err disk.NotFound) at s result t = (answer : Result Unit DiskError) × CreatesDir s at answer t × (result ≡ done_by answer)
+AfterMissing (Err e) at s result t = (result ≡ Err (fs_error_of e)) × (t ≡ s)
+
+abbrev pub MakesMissing : Names → DiskState → Result Unit FsError → DiskState → Type 0
+MakesMissing at s result t = (answer : Result Meta DiskError) × (m : DiskState) × Metas s at answer m × AfterMissing answer at m result t
+
+abbrev pub MakesMissingAt : Names → Place → Result Unit FsError → Place → Type 0
+MakesMissingAt at p result q = (t : DiskState) × MakesMissing at p.disk result t × (q ≡ record p { disk = t })
+
+-- a directory of this name in the root, where memory for its path was had
+abbrev pub MakesOne : Name → Place → Result Unit FsError → Place → Type 0
+MakesOne name p result q = Refuses fs.NoMemory p result q ⊎ Finds p (name ∷ []) MakesMissingAt result q
+
+abbrev pub AfterFirst : Result Unit FsError → Place → Result Unit FsError → Place → Type 0
+AfterFirst (Err e) p result q = (result ≡ Err e) × (q ≡ p)
+AfterFirst (Ok x) p result q = MakesOne (codes "addressbooks") p result q
+
+abbrev pub MakesDefaults : Place → Result Unit FsError → Place → Type 0
+MakesDefaults p result q = (first : Result Unit FsError) × (m : Place) × MakesOne (codes "calendars") p first m × AfterFirst first m result q

@@ -9,3 +9,4 @@ pub mod Resolving
 pub mod Walking
 pub mod Listing
 pub mod Calls
+pub mod Shown

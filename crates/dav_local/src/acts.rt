@@ -5,7 +5,7 @@ ghost use Rattle.dav_core.specs.declared.handle.Handle.{Handle};
 ghost use Rattle.dav_core.specs.Disk.{DiskState, Opens};
 ghost use Rattle.dav_core.specs.Writing.{Copies, CreatesDir, RemovesDir, RemovesFile, Renames};
 ghost use Rattle.dav_store.specs.Frames.{KeepsOpen, OpensOne};
-ghost use Rattle.dav_local.specs.Calls.{AfterMove, MovesAgain, found_dir};
+ghost use Rattle.dav_local.specs.Calls.{AfterMove, MakesMissing, MovesAgain, found_dir};
 ghost use Rattle.dav_local.specs.Files.{done_by, filed, seen_by};
 
 use crate::LocalFsFile;
@@ -116,5 +116,18 @@ pub fn move_at<D: Disk>(disk: &mut D, from: &FsPath, to: &FsPath) -> Result<(), 
             Err(FsError::Forbidden)
         }
         answer => done(answer),
+    }
+}
+
+// Makes a directory where nothing stands.
+pub fn make_missing<D: Disk>(disk: &mut D, at: &FsPath, public: bool) -> Result<(), FsError>
+    ensures done { MakesMissing at.now (D.state disk.old) result (D.state disk.new) }
+    ensures keeps { KeepsOpen (D.state disk.old) (D.state disk.new) }
+    ensures loan { D.loan disk.new ≡ D.loan disk.old }
+{
+    match look(disk, at) {
+        Ok(_) => Ok(()),
+        Err(DiskError::NotFound) => make_at(disk, at, public),
+        Err(error) => Err(error.into()),
     }
 }

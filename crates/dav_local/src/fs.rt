@@ -2,7 +2,7 @@ ghost use Rattle.std.specs.Prelude.{◌≡◌, ◌||◌, ℕ, Bool, IfOk, OnErr,
 ghost use Rattle.std.specs.Borrow.{sem, Lends};
 ghost use Rattle.dav_core.specs.DavPath.{last_name};
 ghost use Rattle.dav_core.specs.Listing.{or_empty};
-ghost use Rattle.dav_core.specs.Path.{parent_of};
+ghost use Rattle.dav_core.specs.Path.{is_plain, parent_of};
 ghost use Rattle.dav_core.specs.Tree.{is_linked};
 ghost use Rattle.dav_core.specs.Unchanged.{Keeps};
 ghost use Rattle.dav_core.specs.World.{World};
@@ -10,13 +10,15 @@ ghost use Rattle.dav_cache.specs.Memory.{Negates};
 ghost use Rattle.dav_model.specs.Finding as finding;
 ghost use Rattle.dav_model.specs.Folds.{is_dot};
 ghost use Rattle.dav_model.specs.Valid.{no_twins};
+ghost use Rattle.dav_store.specs.Frames.{KeepsOpen};
 ghost use Rattle.dav_store.specs.Standing.{info_in};
-ghost use Rattle.dav_local.specs.Calls.{Looks, LooksAt, Stays, TellsAbsent, is_shut as the_is_shut, place_of};
+ghost use Rattle.dav_local.specs.Calls.{Looks, LooksAt, MakesDefaults, MakesOne, Stays, TellsAbsent, is_shut as the_is_shut, place_of};
 ghost use Rattle.dav_local.specs.contracts.fs.LocalFs.{the_row};
 ghost use Rattle.dav_local.specs.Files.{local_info};
 ghost use Rattle.dav_local.specs.Resolving.{Resolves};
 ghost use Rattle.dav_local.specs.Ways.{resolved_by, rules_of};
 
+use crate::acts::make_missing;
 use crate::lists::look_by;
 use crate::meta::looked_as;
 use crate::walk::{parent, resolved};
@@ -25,6 +27,7 @@ use crate::{LocalFsMetaData, Ways};
 use dav_cache::Remember;
 use dav_core::{DavPath, Disk, FsError, FsPath};
 use dav_io::{Moment, NoMemory};
+use std::alloc::Global;
 
 /// A disk from its root on, or one file of it, as a store. Names may be found that fold like those asked, the rules for
 /// clients of macOS may hold, and a memory is asked whether a name that begins with `._` is absent.
@@ -216,6 +219,37 @@ impl<D: Disk, R: Remember> LocalFs<D, R> {
         let slash = self.ways.has_slash(path);
         match self.resolve(path) {
             Ok(at) => self.look_at(&at, follows, slash),
+            Err(error) => Err(error),
+        }
+    }
+
+    /// Makes the directories `/calendars` and `/addressbooks` where nothing stands. A file there counts as standing.
+    pub fn create_defaults(&mut self, alloc: Global) -> Result<(), FsError>
+        ensures done { MakesDefaults (place_of D.state R.state self.old) result (place_of D.state R.state self.new) }
+        ensures keeps { KeepsOpen (D.state self.old.disk) (D.state self.new.disk) }
+        ensures stays { Stays self.old self.new }
+        ensures loan { D.loan self.new.disk ≡ D.loan self.old.disk }
+    {
+        match self.make_one(alloc, "calendars") {
+            Ok(()) => self.make_one(alloc, "addressbooks"),
+            Err(error) => Err(error),
+        }
+    }
+
+    // Makes a directory of this name in the root where nothing stands.
+    fn make_one(&mut self, alloc: Global, name: &str) -> Result<(), FsError>
+        requires { is_plain name.now ≡ true }
+        ensures done { MakesOne name.now (place_of D.state R.state self.old) result (place_of D.state R.state self.new) }
+        ensures keeps { KeepsOpen (D.state self.old.disk) (D.state self.new.disk) }
+        ensures stays { Stays self.old self.new }
+        ensures loan { D.loan self.new.disk ≡ D.loan self.old.disk }
+    {
+        let root = FsPath::new(Vec::new(alloc));
+        let Ok(path) = root.child(name) else {
+            return Err(FsError::NoMemory);
+        };
+        match resolved(&mut self.disk, &self.ways, &path) {
+            Ok(at) => make_missing(&mut self.disk, &at, self.public),
             Err(error) => Err(error),
         }
     }

@@ -6,6 +6,7 @@ mod acts;
 mod entry;
 mod file;
 mod fs;
+pub mod laws;
 mod listing;
 mod lists;
 mod meta;
