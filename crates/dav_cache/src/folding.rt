@@ -61,9 +61,9 @@ impl Hash for FoldedPath {
     }
 }
 
-// A name by Unicode's default full case folding.
+/// Folds a name by Unicode's default full case folding.
 #[tactic(auto, unfolding(crate::specs::Trees::fold_name))]
-fn fold_text(alloc: Global, name: &Text) -> Result<Text, NoMemory>
+pub fn fold_text(alloc: Global, name: &Text) -> Result<Text, NoMemory>
     ensures { IfOk result (λ folded. folded ≡ fold_name name.now) }
 {
     Ok(Text::new(default_case_fold_str(alloc, name.as_str())?))

@@ -20,7 +20,7 @@ pub use builder::DUCacheBuilder;
 pub use cache::{Cache, PathEntry};
 pub use du_cache::{DuCache, Sealed};
 pub use event::{Event, Told};
-pub use folding::{FoldedPath, fold};
+pub use folding::{FoldedPath, fold, fold_text};
 pub use key::{DuEntry, DuKey};
 pub use owned::Owned;
 pub use place::{Listing, Names, Place};

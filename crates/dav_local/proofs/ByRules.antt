@@ -1,0 +1,354 @@
+-- Each look and each opening of a local store is answered by the rules.
+use Rattle.std.proofs.Common.{◌≡◌, ◌==◌, ◌&&◌, ◌||◌, ◌≤◌, ◌<◌, ◌⊎◌, inl, inr, ℕ, Bool, true, false, cond, codes, List, [], ◌∷◌, ◌++◌, length, Option, None, Some, Result, Ok, Err, refl, sym, ap, subst, ◌∙◌, arith}
+use Rattle.std.specs.Option.{option_map}
+use Rattle.std.specs.Str.{bytes_eq}
+use Rattle.std.proofs.lemmas.Bool.{and_parts}
+use Rattle.std.proofs.lemmas.Bool.Decides.{nat_tests}
+use Rattle.dav_io.specs.declared.failure.NoMemory.{NoMemory as Starved}
+use Rattle.dav_io.proofs.ToldLemmas.{told_after}
+use Rattle.dav_core.specs.declared.error.FsError.{FsError}
+use Rattle.dav_core.specs.declared.error.FsError.TheVariants as fs
+use Rattle.dav_core.specs.declared.handle.DiskError.{DiskError}
+use Rattle.dav_core.specs.declared.handle.Meta.{Meta}
+use Rattle.dav_core.specs.declared.time.FileTime.{FileTime}
+use Rattle.dav_core.specs.declared.tree.Kind.{Kind}
+use Rattle.dav_core.specs.declared.tree.Row.{Row}
+use Rattle.dav_core.specs.DavPath.{WebPath, last_name}
+use Rattle.dav_core.specs.Disk.{DiskState, Live, Metas, Opens}
+use Rattle.dav_core.specs.Info.{Info}
+use Rattle.dav_core.specs.Listing.{or_empty}
+use Rattle.dav_core.specs.Options.{reading}
+use Rattle.dav_core.specs.Path.{Names, parent_of}
+use Rattle.dav_core.specs.Tree.{is_dir, is_linked, look}
+use Rattle.dav_core.specs.Unchanged.{Keeps, SameBesidesOpens}
+use Rattle.dav_core.specs.World.{IsWorld, OpenFile, World, bytes_of}
+use Rattle.dav_core.proofs.UnchangedLemmas.{keeps_same, keeps_then}
+use Rattle.dav_store.specs.Files.{Spoiled}
+use Rattle.dav_store.specs.Shows.{LooksThere, OpensThere}
+use Rattle.dav_store.specs.Standing.{Seen}
+use Rattle.dav_store.specs.Void.{empty_info}
+use Rattle.dav_store.proofs.Reading.{rose_from}
+use Rattle.dav_cache.specs.Memory as cache
+use Rattle.dav_cache.specs.Memory.{AsksMeta, Denied, MemoryState, Negates}
+use Rattle.dav_model.specs.Finding.{Denies, EndsLoosely, has_slash, is_localized, is_named, is_virtual}
+use Rattle.dav_model.specs.Folds.{Name, dir_time, dir_time_of, is_dot}
+use Rattle.dav_model.specs.Rules.{MayDeny}
+use Rattle.dav_model.proofs.LooseWalks.{exactly_may}
+use Rattle.dav_model.proofs.PlainWalks.{linked_below}
+use Rattle.dav_local.specs.declared.file.LocalFsFile.{LocalFsFile}
+use Rattle.dav_local.specs.Calls.{AfterFound, Asks, IsOpening, Looks, LooksAt, AfterAbsent, Place, TellsAbsent, asks_memory, is_shut}
+use Rattle.dav_local.specs.Files.{filed, looked_as, seen_by}
+use Rattle.dav_local.specs.Resolving.{Leads, Resolves}
+use Rattle.dav_local.specs.Shown.{LooksByRules, OpensByRules, empty_standing, knowledge_of, looked_by, opened_by}
+use Rattle.dav_local.specs.Standing.{found, seen_in, seen_with}
+use Rattle.dav_local.specs.Ways.{Ways, resolved_by, rules_of}
+use Rattle.dav_local.proofs.Keeping.{metas_keep}
+use Rattle.dav_local.proofs.Rows.{splits}
+use Rattle.dav_local.proofs.Showing.{looks_there, opens_there}
+
+option_bytes : (w : World) (kind : Kind) (o : Option OpenFile) (f : Seen) → option_map (seen_in w kind) o ≡ Some f → f.stands.bytes ≡ bytes_of w f.stands.number
+option_bytes w kind None f e = cc
+option_bytes w kind (Some o) f e = let g : seen_in w kind o ≡ f = cc in rw (← g) refl
+
+bytes_with : (w : World) (live : Option Live) (h : ℕ) (f : Seen) → seen_with (Some w) live h ≡ Some f → f.stands.bytes ≡ bytes_of w f.stands.number
+bytes_with w None h f e = cc
+bytes_with w (Some l) h f e = option_bytes w l.kind (w.opens h) f e
+
+-- an open file has the bytes of its number
+pub bytes_seen : (file : LocalFsFile) (s : DiskState) (w : World) (f : Seen) → s.told ≡ Some w → seen_by file s ≡ Some f → f.stands.bytes ≡ bytes_of w f.stands.number
+bytes_seen file s w f told e = bytes_with w (s.live file.handle.0) file.handle.0 f (ap (λ told. seen_with told (s.live file.handle.0) file.handle.0) (sym told) ∙ e)
+
+-- ---- whether a path is called absent
+
+true_or_false : (b : Bool) → (b ≡ true) ⊎ (b ≡ false)
+true_or_false true = inl refl
+true_or_false false = inr refl
+
+never : {A : Type 0} (b : Bool) → b ≡ true → b ≡ false → A
+never b e f = cc
+
+asked_keeps : (s t : DiskState) → AsksMeta s t → Keeps s t
+asked_keeps s t (inl same) = subst (Keeps s) (sym same) (keeps_same s)
+asked_keeps s t (inr (path, answer, metas)) = metas_keep true s path answer t metas
+
+-- What asks whether a path is absent leaves all of the disk as it was.
+tells_keeps : (p q : Place) (at : Names) (r : Result Bool Starved) → TellsAbsent p at r q → Keeps p.disk q.disk
+tells_keeps p q at (Err e) tells = subst (λ (x : Place). Keeps p.disk x.disk) (sym tells.starved) (keeps_same p.disk)
+tells_keeps p q at (Ok b) tells = elim (true_or_false (asks_memory p.ways at)) [
+  | inl asks ↦ asked_keeps p.disk q.disk (tells.dots asks).asks
+  | inr none ↦ subst (λ (x : Place). Keeps p.disk x.disk) (sym (tells.plain none).0) (keeps_same p.disk)
+]
+
+equal_numbers : (n k : ℕ) → (n == k) ≡ true → n ≡ k
+equal_numbers n k t = grind (arith, nat_tests)
+
+no_dot : (x y : Bool) → (x && (false && y)) ≡ false
+no_dot true y = refl
+no_dot false y = refl
+
+dot_apart : (name : Name) → is_dot name ≡ true → bytes_eq name (codes ".localized") ≡ false
+dot_apart [] dot = cc
+dot_apart (a ∷ []) dot = cc
+dot_apart (a ∷ b ∷ rest) dot =
+    let second : b ≡ 95 = equal_numbers b 95 (and_parts (a == 46) (b == 95) dot).1 in
+    rw second (no_dot (a == 46) (bytes_eq rest (codes "ocalized")))
+
+-- a name that begins with `._` isn't `.localized`
+not_localized : (at : Names) → is_dot (or_empty (last_name at)) ≡ true → is_localized at ≡ false
+not_localized at dot = by_last (last_name at) dot
+  where
+    by_last : (last : Option Name) → is_dot (or_empty last) ≡ true → is_named (codes ".localized") last ≡ false
+    by_last None dot = refl
+    by_last (Some last) dot = dot_apart last dot
+
+ok_same : (a b : Bool) → ◌≡◌ {A = Result Bool Starved} (Ok a) (Ok b) → a ≡ b
+ok_same a b e = cc
+
+-- a path that isn't called absent isn't `.localized`
+present : (p q : Place) (at : Names) → TellsAbsent p at (Ok false) q → (p.ways.macos && is_localized at) ≡ false
+present p q at tells = elim (true_or_false (asks_memory p.ways at)) [
+  | inl asks ↦ and_false p.ways.macos (is_localized at) (not_localized at (and_parts p.ways.macos (is_dot (or_empty (last_name at))) asks).1)
+  | inr none ↦ sym (ok_same false (p.ways.macos && is_localized at) (tells.plain none).1)
+]
+  where
+    and_false : (a b : Bool) → b ≡ false → (a && b) ≡ false
+    and_false true b e = e
+    and_false false b e = refl
+
+false_by : (b : Bool) → (b ≡ true → ⊥) → b ≡ false
+false_by true h = absurd (h refl)
+false_by false h = refl
+
+clear_above : (tree : List Row) (dir : Names) (name : Name) → is_linked tree (dir ++ name ∷ []) ≡ false → is_linked tree dir ≡ false
+clear_above tree dir name clear = false_by (is_linked tree dir) (λ linked. never (is_linked tree (dir ++ name ∷ [])) (linked_below tree dir (name ∷ []) linked) clear)
+
+some_time : (a b : FileTime) → ◌≡◌ {A = Option FileTime} (Some a) (Some b) → a ≡ b
+some_time a b e = cc
+
+timed : (tree : List Row) (dir : Names) (time : FileTime) (row : Row) → look tree dir ≡ Ok row → is_dir row.kind ≡ true → row.time ≡ time → dir_time tree dir ≡ Some time
+timed tree dir time row stands kind same = ap dir_time_of stands ∙ ap (λ b. cond b (Some row.time) None) kind ∙ ap (λ t. Some t) same
+
+some_names : (at : Names) → is_dot (or_empty (last_name at)) ≡ true → 0 < length at
+some_names [] dot = cc
+some_names (x ∷ at) dot = omega arith
+
+swapped : (m : MemoryState) (dir : Names) (time : FileTime) (name : Name) → cache.MayDeny m dir time name → MayDeny (knowledge_of m) dir time name
+swapped m dir time name (inl known) = inr known
+swapped m dir time name (inr open_at) = inl open_at
+
+-- What the memory denies, it may deny.
+denied_by : (memory : MemoryState) (s t : DiskState) (v : World) (at : Names) → s.told ≡ Some v → is_linked v.tree at ≡ false → is_dot (or_empty (last_name at)) ≡ true
+    → Denied memory (parent_of at) (or_empty (last_name at)) s t → Denies (knowledge_of memory) v.tree at
+denied_by memory s t v at told clear dot (meta, time, metas, dir, modified, may) =
+    let is = splits at (some_names at dot) in
+    let above = clear_above v.tree (parent_of at) (or_empty (last_name at)) (ap (is_linked v.tree) (sym is) ∙ clear) in
+    let (row, stands, same) = metas.told v told above in
+    record {
+      dir = parent_of at;
+      name = or_empty (last_name at);
+      is = is;
+      dot = dot;
+      time = time;
+      there = timed v.tree (parent_of at) time row stands (ap is_dir (sym same.kind) ∙ dir) (some_time row.time time (sym same.modified ∙ modified));
+      may = swapped memory (parent_of at) time (or_empty (last_name at)) may;
+    }
+
+-- A path that is called absent is `.localized`, or the memory may deny it.
+absent_why : (p q : Place) (at : Names) (v : World) → p.disk.told ≡ Some v → is_linked v.tree at ≡ false → TellsAbsent p at (Ok true) q
+    → ((p.ways.macos && is_localized at) ≡ true) ⊎ ((p.ways.macos ≡ true) × Denies (knowledge_of p.memory) v.tree at)
+absent_why p q at v told clear tells = elim (true_or_false (asks_memory p.ways at)) [
+  | inl asks ↦
+      let (macos, dot) = and_parts p.ways.macos (is_dot (or_empty (last_name at))) asks in
+      inr (macos, denied_by p.memory p.disk q.disk v at told clear dot ((tells.dots asks).denied refl))
+  | inr none ↦ inl (sym (ok_same true (p.ways.macos && is_localized at) (tells.plain none).1))
+]
+
+-- ---- looks
+
+spoiled_by : {T U : Type 0} (s m t : DiskState) (e : FsError) (r : Result U FsError) → s.faults ≤ m.faults → r ≡ Err e → Spoiled {T = T} m (Err e) t → Spoiled s r t
+spoiled_by s m t e r le is (inl (general, rose)) = inl (is ∙ (let f : e ≡ fs.GeneralFailure = cc in ap (λ x. Err x) f), rose_from s.faults m.faults t.faults le rose)
+spoiled_by s m t e r le is (inr none) = inr (is ∙ (let f : e ≡ fs.NoMemory = cc in ap (λ x. Err x) f))
+
+spoiled_later : {T : Type 0} (s m t : DiskState) (r : Result T FsError) → s.faults ≤ m.faults → Spoiled m r t → Spoiled s r t
+spoiled_later s m t r le (inl (is, rose)) = inl (is, rose_from s.faults m.faults t.faults le rose)
+spoiled_later s m t r le (inr none) = inr none
+
+-- where nothing of the place is asked
+somewhere : (ways : Ways) (tree : List Row) (names : Names) → EndsLoosely ways.alone ways.folds tree names (resolved_by ways tree names)
+somewhere ways tree names = (exactly_may (rules_of ways) (record { names = λ dir time. None; is_open = λ dir time. false }) tree).looks names
+
+looked_absent : (ways : Ways) (w : World) (end : Names) (denies : Bool) (path : WebPath) → is_virtual (rules_of ways) path ≡ false → ((ways.macos && is_localized end) || denies) ≡ true
+    → looked_by ways w end denies path ≡ Err fs.NotFound
+looked_absent ways w end denies path plain absent =
+    ap (λ b. cond b (Ok empty_standing) (cond ((ways.macos && is_localized end) || denies) (Err fs.NotFound) (found w (has_slash ways.alone path) (look w.tree end)))) plain
+    ∙ ap (λ b. cond b (Err fs.NotFound) (found w (has_slash ways.alone path) (look w.tree end))) absent
+
+looked_found : (ways : Ways) (w : World) (end : Names) (path : WebPath) → is_virtual (rules_of ways) path ≡ false → (ways.macos && is_localized end) ≡ false
+    → looked_by ways w end false path ≡ found w (has_slash ways.alone path) (look w.tree end)
+looked_found ways w end path plain here =
+    ap (λ b. cond b (Ok empty_standing) (cond ((ways.macos && is_localized end) || false) (Err fs.NotFound) (found w (has_slash ways.alone path) (look w.tree end)))) plain
+    ∙ ap (λ b. cond (b || false) (Err fs.NotFound) (found w (has_slash ways.alone path) (look w.tree end))) here
+
+or_true : (b : Bool) → (b || true) ≡ true
+or_true true = refl
+or_true false = refl
+
+or_left : (a b : Bool) → a ≡ true → (a || b) ≡ true
+or_left a b e = ap (λ x. x || b) e
+
+abbrev Looked : Place → World → WebPath → Result Info FsError → Place → Type 0
+Looked p w path result q = LooksByRules p.ways (knowledge_of p.memory) w path p.disk result q.disk
+
+-- what is refused because of a fault or want of memory, wherever the path ends
+looked_spoiled : (p q : Place) (w : World) (path : WebPath) (result : Result Info FsError) → Spoiled p.disk result q.disk → Looked p w path result q
+looked_spoiled p q w path result spoiled = record {
+  end = resolved_by p.ways w.tree path.names;
+  loosely = somewhere p.ways w.tree path.names;
+  denies = false;
+  denied = λ e. cc;
+  shows = λ clear. inr spoiled;
+}
+
+looked_missing : (p n q : Place) (w v : World) (m : DiskState) (path : WebPath) (at : Names) (result : Result Info FsError) → is_virtual (rules_of p.ways) path ≡ false
+    → Leads p.ways w.tree path.names at → m.told ≡ Some v → v.tree ≡ w.tree → TellsAbsent (record p { disk = m }) at (Ok true) n → result ≡ Err fs.NotFound → Looked p w path result q
+looked_missing p n q w v m path at result plain leads told tree tells is = by_link (is_linked w.tree leads.end) refl
+  where
+    missing : (denies : Bool) → ((p.ways.macos && is_localized leads.end) || denies) ≡ true → LooksThere (looked_by p.ways w leads.end denies path) result
+    missing denies absent =
+        subst (λ r. LooksThere (looked_by p.ways w leads.end denies path) r) (sym is)
+        (subst (λ there. LooksThere there (Err fs.NotFound)) (sym (looked_absent p.ways w leads.end denies path plain absent)) refl)
+
+    by_why : is_linked w.tree leads.end ≡ false → at ≡ leads.end
+        → ((p.ways.macos && is_localized at) ≡ true) ⊎ ((p.ways.macos ≡ true) × Denies (knowledge_of p.memory) v.tree at) → Looked p w path result q
+    by_why clear here (inl localized) = record {
+      end = leads.end;
+      loosely = leads.loosely;
+      denies = false;
+      denied = λ e. cc;
+      shows = λ c. inl (missing false (or_left (p.ways.macos && is_localized leads.end) false (ap (λ z. p.ways.macos && is_localized z) (sym here) ∙ localized)));
+    }
+    by_why clear here (inr (macos, denies)) = record {
+      end = leads.end;
+      loosely = leads.loosely;
+      denies = true;
+      denied = λ e. (macos, subst (λ z. Denies (knowledge_of p.memory) w.tree z) here (subst (λ z. Denies (knowledge_of p.memory) z at) tree denies));
+      shows = λ c. inl (missing true (or_true (p.ways.macos && is_localized leads.end)));
+    }
+
+    by_link : (b : Bool) → is_linked w.tree leads.end ≡ b → Looked p w path result q
+    by_link true linked = record { end = leads.end; loosely = leads.loosely; denies = false; denied = λ e. cc; shows = λ clear. never (is_linked w.tree leads.end) linked clear }
+    by_link false clear =
+        let here = leads.here clear in
+        by_why clear here (absent_why (record p { disk = m }) n at v told (ap (λ z. is_linked z at) tree ∙ ap (is_linked w.tree) here ∙ clear) tells)
+
+looked_at : (p n q : Place) (w v : World) (m : DiskState) (path : WebPath) (at : Names) (answer : Result Meta DiskError) (t : DiskState) (result : Result Info FsError)
+    → is_virtual (rules_of p.ways) path ≡ false → Leads p.ways w.tree path.names at → SameBesidesOpens w v → n.disk.told ≡ Some v → p.disk.faults ≤ n.disk.faults
+    → TellsAbsent (record p { disk = m }) at (Ok false) n → Metas n.disk at answer t → result ≡ looked_as (has_slash p.ways.alone path) answer → q.disk ≡ t → Looked p w path result q
+looked_at p n q w v m path at answer t result plain leads same told le tells metas is ends = record {
+  end = leads.end;
+  loosely = leads.loosely;
+  denies = false;
+  denied = λ e. cc;
+  shows = shows;
+}
+  where
+    there : is_linked w.tree leads.end ≡ false → LooksThere (looked_by p.ways w leads.end false path) result ⊎ Spoiled n.disk result t
+    there clear =
+        let here = leads.here clear in
+        let local : (p.ways.macos && is_localized leads.end) ≡ false = ap (λ z. p.ways.macos && is_localized z) (sym here) ∙ present (record p { disk = m }) n at tells in
+        let found_so : found w (has_slash p.ways.alone path) (look w.tree at) ≡ looked_by p.ways w leads.end false path =
+        ap (λ z. found w (has_slash p.ways.alone path) (look w.tree z)) here ∙ sym (looked_found p.ways w leads.end path plain local) in
+        subst (λ r. LooksThere (looked_by p.ways w leads.end false path) r ⊎ Spoiled n.disk r t) (sym is)
+        (subst (λ x. LooksThere x (looked_as (has_slash p.ways.alone path) answer) ⊎ Spoiled n.disk (looked_as (has_slash p.ways.alone path) answer) t) found_so
+        (looks_there w v at (has_slash p.ways.alone path) answer n.disk t same told (ap (is_linked w.tree) here ∙ clear) metas))
+
+    shows : is_linked w.tree leads.end ≡ false → LooksThere (looked_by p.ways w leads.end false path) result ⊎ Spoiled p.disk result q.disk
+    shows clear = elim (there clear) [ inl x ↦ inl x | inr spoiled ↦ inr (subst (λ d. Spoiled p.disk result d) (sym ends) (spoiled_later p.disk n.disk t result le spoiled)) ]
+
+after_absent : (p n q : Place) (w v u : World) (m : DiskState) (path : WebPath) (at : Names) (absent : Result Bool Starved) (result : Result Info FsError) → is_virtual (rules_of p.ways) path ≡ false
+    → Leads p.ways w.tree path.names at → Keeps p.disk m → Keeps m n.disk → m.told ≡ Some v → v.tree ≡ w.tree → SameBesidesOpens w u → n.disk.told ≡ Some u
+    → TellsAbsent (record p { disk = m }) at absent n → AfterAbsent absent true (has_slash p.ways.alone path) at n result q → Looked p w path result q
+after_absent p n q w v u m path at (Err e) result plain leads first then_kept told tree same later tells (is, ends) = looked_spoiled p q w path result (inr is)
+after_absent p n q w v u m path at (Ok true) result plain leads first then_kept told tree same later tells (is, ends) = looked_missing p n q w v m path at result plain leads told tree tells is
+after_absent p n q w v u m path at (Ok false) result plain leads first then_kept told tree same later tells (answer, t, metas, is, ends) =
+    looked_at p n q w u m path at answer t result plain leads same later (omega (arith, first.counts, then_kept.counts)) tells metas is (ap (λ (x : Place). x.disk) ends)
+
+looked_in : (p q : Place) (w : World) (path : WebPath) (found_at : Result Names FsError) (m : DiskState) (result : Result Info FsError) → p.disk.told ≡ Some w → is_virtual (rules_of p.ways) path ≡ false
+    → Resolves p.ways p.disk path.names found_at m → AfterFound found_at (record p { disk = m }) (LooksAt true (has_slash p.ways.alone path)) result q → Looked p w path result q
+looked_in p q w path (Err e) m result told plain resolves (is, ends) =
+    looked_spoiled p q w path result (subst (λ (x : Place). Spoiled p.disk result x.disk) (sym ends) (spoiled_by p.disk p.disk m e result (omega arith) is resolves.refused))
+looked_in p q w path (Ok at) m result told plain resolves (absent, n, tells, after) =
+    let kept = tells_keeps (record p { disk = m }) n at absent tells in
+    let (v, now, same) = told_after p.disk.told m.told SameBesidesOpens w resolves.keeps.world told in
+    let all = keeps_then p.disk m n.disk resolves.keeps kept in
+    let (u, later, other) = told_after p.disk.told n.disk.told SameBesidesOpens w all.world told in
+    after_absent p n q w v u m path at absent result plain (resolves.told w told) resolves.keeps kept now same.tree other later tells after
+
+-- Each look is answered by the rules.
+pub looks_by_rules : (p q : Place) (w : World) (path : WebPath) (result : Result Info FsError) → p.disk.told ≡ Some w → Looks true p path result q → Looked p w path result q
+looks_by_rules p q w path result told looks = by_virtual (is_virtual (rules_of p.ways) path) refl
+  where
+    by_virtual : (b : Bool) → is_virtual (rules_of p.ways) path ≡ b → Looked p w path result q
+    by_virtual true e = record {
+      end = resolved_by p.ways w.tree path.names;
+      loosely = somewhere p.ways w.tree path.names;
+      denies = false;
+      denied = λ f. cc;
+      shows = λ clear. inl (subst (λ r. LooksThere (looked_by p.ways w (resolved_by p.ways w.tree path.names) false path) r) (sym (looks.empty e).0)
+          (subst (λ there. LooksThere there (Ok empty_info)) (sym (virtual e)) (record { kind = refl; len = refl; modified = refl; tag = refl })));
+    }
+      where
+        virtual : is_virtual (rules_of p.ways) path ≡ true → looked_by p.ways w (resolved_by p.ways w.tree path.names) false path ≡ Ok empty_standing
+        virtual e = ap (λ b. cond b (Ok empty_standing) (cond ((p.ways.macos && is_localized (resolved_by p.ways w.tree path.names)) || false) (Err fs.NotFound)
+            (found w (has_slash p.ways.alone path) (look w.tree (resolved_by p.ways w.tree path.names))))) e
+    by_virtual false e = let (found_at, m, resolves, after) = looks.asked e in looked_in p q w path found_at m result told e resolves after
+
+-- ---- openings
+
+abbrev Opened : Place → World → WebPath → Result LocalFsFile FsError → Place → Type 0
+Opened p w path result q = OpensByRules p.ways w path p.disk result q.disk
+
+opened_shut : (ways : Ways) (w : World) (end : Names) (path : WebPath) (b : Bool) → is_shut ways path ≡ b → opened_by ways w end path ≡ cond b (Err fs.Forbidden) (found w false (look w.tree end))
+opened_shut ways w end path b e = ap (λ b. cond b (Err fs.Forbidden) (found w false (look w.tree end))) e
+
+opened_in : (p q : Place) (w : World) (path : WebPath) (found_at : Result Names FsError) (m : DiskState) (result : Result LocalFsFile FsError) → p.disk.told ≡ Some w → IsWorld w
+    → is_shut p.ways path ≡ false → Resolves p.ways p.disk path.names found_at m
+    → AfterFound found_at (record p { disk = m }) (λ at. Asks (λ s answer t. Opens s at reading answer t) filed) result q → Opened p w path result q
+opened_in p q w path (Err e) m result told world open_at resolves (is, ends) = record {
+  end = resolved_by p.ways w.tree path.names;
+  loosely = somewhere p.ways w.tree path.names;
+  shows = λ clear. inr (subst (λ (x : Place). Spoiled p.disk result x.disk) (sym ends) (spoiled_by p.disk p.disk m e result (omega arith) is resolves.refused));
+}
+opened_in p q w path (Ok at) m result told world open_at resolves (answer, t, opens, is, ends) =
+    let leads = resolves.told w told in
+    let (v, now, same) = told_after p.disk.told m.told SameBesidesOpens w resolves.keeps.world told in
+    record {
+      end = leads.end;
+      loosely = leads.loosely;
+      shows = λ clear. shows leads clear v now same;
+    }
+  where
+    shows : (leads : Leads p.ways w.tree path.names at) → is_linked w.tree leads.end ≡ false → (v : World) → m.told ≡ Some v → SameBesidesOpens w v
+        → OpensThere seen_by (opened_by p.ways w leads.end path) result q.disk ⊎ Spoiled p.disk result q.disk
+    shows leads clear v now same =
+        let here = leads.here clear in
+        let found_so : found w false (look w.tree at) ≡ opened_by p.ways w leads.end path = ap (λ z. found w false (look w.tree z)) here ∙ sym (opened_shut p.ways w leads.end path false open_at) in
+        let ended : q.disk ≡ t = ap (λ (x : Place). x.disk) ends in
+        elim (opens_there w v at answer m t world same now (ap (is_linked w.tree) here ∙ clear) opens) [
+          | inl x ↦ inl (subst (λ d. OpensThere seen_by (opened_by p.ways w leads.end path) result d) (sym ended)
+              (subst (λ r. OpensThere seen_by (opened_by p.ways w leads.end path) r t) (sym is) (subst (λ there. OpensThere seen_by there (filed answer) t) found_so x)))
+          | inr spoiled ↦ inr (subst (λ d. Spoiled p.disk result d) (sym ended) (spoiled_later p.disk m t result resolves.keeps.counts (subst (λ r. Spoiled m r t) (sym is) spoiled)))
+        ]
+
+-- Each opening for reading is answered by the rules.
+pub opens_by_rules : (p q : Place) (w : World) (path : WebPath) (result : Result LocalFsFile FsError) → p.disk.told ≡ Some w → IsWorld w → IsOpening p path reading result q → Opened p w path result q
+opens_by_rules p q w path result told world opening = by_shut (is_shut p.ways path) refl
+  where
+    by_shut : (b : Bool) → is_shut p.ways path ≡ b → Opened p w path result q
+    by_shut true e = record {
+      end = resolved_by p.ways w.tree path.names;
+      loosely = somewhere p.ways w.tree path.names;
+      shows = λ clear. inl (subst (λ r. OpensThere seen_by (opened_by p.ways w (resolved_by p.ways w.tree path.names) path) r q.disk) (sym (opening.forbidden e).0)
+          (subst (λ there. OpensThere {F = LocalFsFile} seen_by there (Err fs.Forbidden) q.disk) (sym (opened_shut p.ways w (resolved_by p.ways w.tree path.names) path true e)) refl));
+    }
+    by_shut false e = let (found_at, m, resolves, after) = opening.asked e in opened_in p q w path found_at m result told world e resolves after

@@ -1,0 +1,16 @@
+pub mod WrittenBytes
+pub mod WrittenFiles
+pub mod Written
+pub mod WriteLoops
+pub mod OneName
+pub mod Seeking
+pub mod Rows
+pub mod Stepping
+pub mod Coming
+pub mod Resolved
+pub mod Keeping
+pub mod Filling
+pub mod Framing
+pub mod Showing
+pub mod ByRules
+pub mod Allowed

@@ -1,0 +1,12 @@
+pub mod Standing
+pub mod Files
+pub mod Metadata
+pub mod Writing
+pub mod Entries
+pub mod LocalStays
+pub mod Ways
+pub mod Resolving
+pub mod Walking
+pub mod Listing
+pub mod Calls
+pub mod Shown

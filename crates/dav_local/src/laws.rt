@@ -1,0 +1,68 @@
+//! What the local store shows, as laws about its definitions. The calls do nothing.
+ghost use Rattle.std.specs.Prelude.{◌≡◌, Bool, Result, Some, false, true};
+ghost use Rattle.dav_core.specs.declared.error.FsError.{FsError};
+ghost use Rattle.dav_core.specs.Info.{Info};
+ghost use Rattle.dav_core.specs.Options.{reading};
+ghost use Rattle.dav_core.specs.Path.{Names};
+ghost use Rattle.dav_core.specs.Tree.{is_linked};
+ghost use Rattle.dav_core.specs.World.{World, bytes_of};
+ghost use Rattle.dav_model.specs.declared.settings.Settings.{Settings};
+ghost use Rattle.dav_model.specs.Finding as finding;
+ghost use Rattle.dav_model.specs.Finding.{Denies, EndsLoosely, MayFind, looked_at, opened_at};
+ghost use Rattle.dav_model.specs.Rules.{Knowledge, Rules};
+ghost use Rattle.dav_store.specs.Standing.{Seen};
+ghost use Rattle.dav_local.specs.declared.file.LocalFsFile.{LocalFsFile};
+ghost use Rattle.dav_local.specs.declared.fs.LocalFs.{LocalFs};
+ghost use Rattle.dav_local.specs.Shown.{LooksByRules, OpensByRules, as_stood, finding_of, found_at, knowledge_of, looked_by, opened_by};
+ghost use Rattle.dav_local.specs.Standing.{seen_at};
+ghost use Rattle.dav_local.specs.Ways.{Ways, rules_with};
+
+use crate::{LocalFs, LocalFsFile};
+use dav_cache::Remember;
+use dav_core::{DavPath, Disk};
+use dav_store::DavFileSystem;
+
+/// Over a told disk each look is answered by the rules for a place where a loose walk of the path ends, whatever the memory
+/// knows and however many names fold alike.
+pub fn looks_are_by_the_rules<D: Disk, R: Remember>(_fs: &LocalFs<D, R>, _path: &DavPath)
+    ensures { (w : World) (result : Result Info FsError) (t : LocalFs D R)
+        → (D.state _fs.now.disk).told ≡ Some w
+        → ⟦<LocalFs<D, R> as DavFileSystem>⟧.looks _fs.now _path.now result t
+        → LooksByRules _fs.now.ways (knowledge_of (R.state _fs.now.memory)) w _path.now (D.state _fs.now.disk) result
+        (D.state t.disk) }
+{}
+
+/// Over a told disk each opening for reading likewise.
+pub fn openings_are_by_the_rules<D: Disk, R: Remember>(_fs: &LocalFs<D, R>, _path: &DavPath)
+    ensures { (w : World) (result : Result LocalFsFile FsError) (t : LocalFs D R)
+        → (D.state _fs.now.disk).told ≡ Some w
+        → ⟦<LocalFs<D, R> as DavFileSystem>⟧.opens _fs.now _path.now reading result t
+        → OpensByRules _fs.now.ways w _path.now (D.state _fs.now.disk) result (D.state t.disk) }
+{}
+
+/// What the store shows at a place is what the rules show of a path that is found there, where no link stands on the way.
+pub fn the_rules_show_the_same(_path: &DavPath)
+    ensures looked { (settings : Settings) (ways : Ways) (w : World) (end : Names) (denies : Bool)
+        → is_linked w.tree end ≡ false → as_stood (looked_by ways w end denies _path.now)
+        ≡ looked_at (rules_with settings ways) w (found_at end denies) _path.now }
+    ensures opened { (settings : Settings) (ways : Ways) (w : World) (end : Names)
+        → is_linked w.tree end ≡ false → as_stood (opened_by ways w end _path.now)
+        ≡ opened_at (rules_with settings ways) w (found_at end false) _path.now }
+{}
+
+/// Where a path was looked at, one opened and one listed, each at a place where a loose walk ends, a store may find them
+/// there: so the answers are of one that the rules allow.
+pub fn answers_are_of_one_finding()
+    ensures { (rules : Rules) (k : Knowledge) (w : World) (looked opened listed : Names × Names) (denies : Bool)
+        → EndsLoosely rules.alone rules.folds w.tree looked.0 looked.1
+        → EndsLoosely rules.alone rules.folds w.tree opened.0 opened.1
+        → EndsLoosely rules.alone rules.folds w.tree listed.0 listed.1
+        → (denies ≡ true → (rules.macos ≡ true) × Denies k w.tree looked.1)
+        → MayFind rules k w.tree (finding_of rules w looked opened listed denies) }
+{}
+
+/// Where the disk tells its world, an open file has the bytes that stand under its number.
+pub fn files_have_their_bytes<D: Disk>(_disk: &D, _file: &LocalFsFile)
+    ensures { (w : World) (f : Seen) → (D.state _disk.now).told ≡ Some w
+        → seen_at (D.state _disk.now) _file.now.handle.0 ≡ Some f → f.stands.bytes ≡ bytes_of w f.stands.number }
+{}

@@ -1,0 +1,23 @@
+//! The local store: a disk from its root on, whose names may be found by folding, with the rules for clients of macOS, and
+//! with a memory of where paths were found.
+#![tactic(auto)]
+
+mod acts;
+mod entry;
+mod file;
+mod fs;
+pub mod laws;
+mod listing;
+mod lists;
+mod meta;
+mod store;
+mod walk;
+mod ways;
+mod writing;
+
+pub use entry::{EntryMeta, LocalFsDirEntry};
+pub use file::LocalFsFile;
+pub use fs::LocalFs;
+pub use listing::LocalFsReadDir;
+pub use meta::LocalFsMetaData;
+pub use ways::Ways;

@@ -1,0 +1,180 @@
+ghost use Rattle.std.specs.Prelude.{◌≡◌, Option, Some, refl};
+ghost use Rattle.dav_local.specs.Calls.{AsksToCopy, AsksToMake, AsksToMove, AsksToTakeDir, AsksToTakeFile};
+ghost use Rattle.dav_local.specs.Calls.{BeginsAt, Finds, IsOpening, Looks, Stays, place_of};
+ghost use Rattle.dav_local.specs.Listing.{NextEntry, to_come};
+
+use crate::acts::{copy_at, make_at, move_at, open_at, take_dir_at, take_file_at};
+use crate::listing::{begin, next};
+use crate::lists::end_list;
+use crate::{LocalFs, LocalFsDirEntry, LocalFsFile, LocalFsMetaData, LocalFsReadDir};
+use dav_cache::Remember;
+use dav_core::{DavPath, Disk, FsError, OpenOptions};
+use dav_io::Moment;
+use dav_store::{DavFileSystem, ReadDirMeta};
+
+impl<D: Disk, R: Remember> DavFileSystem for LocalFs<D, R> {
+    ghost use Rattle.std.specs.Prelude.{true, false};
+    ghost use Rattle.dav_core.specs.Listing.{EndsListing};
+
+    type Disk = D;
+
+    type Meta = LocalFsMetaData;
+
+    type File = LocalFsFile;
+
+    type Dir = LocalFsReadDir;
+
+    type Entry = LocalFsDirEntry;
+
+    ghost inside = { λ s. s.disk };
+
+    ghost with_disk = { λ s d. record s { disk = d } };
+
+    ghost with_now = { λ s now. record s { moment = now } };
+
+    ghost folding = { λ s. s.ways.folds };
+
+    ghost void = { λ _. false };
+
+    ghost looks = { λ s path result t. Looks true (place_of D.state R.state s) path result (place_of D.state R.state t) × Stays s t };
+
+    ghost looks_at_link = { λ s path result t. Looks false (place_of D.state R.state s) path result (place_of D.state R.state t) × Stays s t };
+
+    ghost opens = { λ s path how result t. IsOpening (place_of D.state R.state s) path how result (place_of D.state R.state t) × Stays s t };
+
+    ghost lister = { λ d. Some d.lister.0 };
+
+    ghost to_come = { to_come };
+
+    ghost lists = { λ s path wanted result t. Finds (place_of D.state R.state s) path.names (BeginsAt wanted) result (place_of D.state R.state t) × Stays s t };
+
+    ghost lists_on = { λ s d result t e. NextEntry (D.state s.disk) d result (D.state t.disk) e
+        × (t ≡ record s { disk = t.disk }) };
+
+    ghost ends_list = { λ s d t. EndsListing (D.state s.disk) d.lister.0 (D.state t.disk)
+        × (t ≡ record s { disk = t.disk }) };
+
+    ghost makes_dir = { λ s path result t. AsksToMake (place_of D.state R.state s) path result (place_of D.state R.state t) × Stays s t };
+
+    ghost removes_dir = { λ s path result t. AsksToTakeDir (place_of D.state R.state s) path result (place_of D.state R.state t) × Stays s t };
+
+    ghost removes_file = { λ s path result t. AsksToTakeFile (place_of D.state R.state s) path result (place_of D.state R.state t) × Stays s t };
+
+    ghost renames = { λ s from to result t. AsksToMove (place_of D.state R.state s) from to result (place_of D.state R.state t) × Stays s t };
+
+    ghost copies = { λ s from to result t. AsksToCopy (place_of D.state R.state s) from to result (place_of D.state R.state t) × Stays s t };
+
+    fn disk(&mut self) -> &mut D {
+        &mut self.disk
+    }
+
+    fn set_now(&mut self, now: Moment) {
+        self.moment = now;
+    }
+
+    fn folds(&self) -> bool {
+        self.ways.folds
+    }
+
+    fn is_void(&self) -> bool {
+        false
+    }
+
+    fn metadata(&mut self, path: &DavPath) -> Result<LocalFsMetaData, FsError> {
+        self.look(path, true)
+    }
+
+    fn symlink_metadata(&mut self, path: &DavPath) -> Result<LocalFsMetaData, FsError> {
+        self.look(path, false)
+    }
+
+    fn open(&mut self, path: &DavPath, options: OpenOptions) -> Result<LocalFsFile, FsError> {
+        if self.is_shut(path) {
+            return Err(FsError::Forbidden);
+        }
+        match self.resolve(path) {
+            Ok(at) => open_at(&mut self.disk, &at, options, self.public),
+            Err(error) => Err(error),
+        }
+    }
+
+    fn read_dir(&mut self, path: &DavPath, meta: ReadDirMeta) -> Result<LocalFsReadDir, FsError> {
+        match self.resolve(path) {
+            Ok(at) => begin(&mut self.disk, at, meta),
+            Err(error) => Err(error),
+        }
+    }
+
+    fn next_entry(&mut self, dir: &mut LocalFsReadDir) -> Result<Option<LocalFsDirEntry>, FsError> {
+        next(&mut self.disk, dir)
+    }
+
+    fn end_dir(&mut self, dir: LocalFsReadDir) {
+        end_list(&mut self.disk, dir.lister());
+    }
+
+    fn create_dir(&mut self, path: &DavPath) -> Result<(), FsError> {
+        if self.is_forbidden(path) {
+            return Err(FsError::Forbidden);
+        }
+        match self.resolve(path) {
+            Ok(at) => make_at(&mut self.disk, &at, self.public),
+            Err(error) => Err(error),
+        }
+    }
+
+    fn remove_dir(&mut self, path: &DavPath) -> Result<(), FsError> {
+        match self.resolve(path) {
+            Ok(at) => take_dir_at(&mut self.disk, &at),
+            Err(error) => Err(error),
+        }
+    }
+
+    fn remove_file(&mut self, path: &DavPath) -> Result<(), FsError> {
+        if self.is_shut(path) {
+            return Err(FsError::Forbidden);
+        }
+        match self.resolve(path) {
+            Ok(at) => take_file_at(&mut self.disk, &at),
+            Err(error) => Err(error),
+        }
+    }
+
+    fn rename(&mut self, from: &DavPath, to: &DavPath) -> Result<(), FsError> {
+        if self.is_forbidden(from) || self.is_forbidden(to) {
+            return Err(FsError::Forbidden);
+        }
+        let at = match self.resolve(from) {
+            Ok(at) => at,
+            Err(error) => return Err(error),
+        };
+        match self.resolve(to) {
+            Ok(into) => move_at(&mut self.disk, &at, &into),
+            Err(error) => Err(error),
+        }
+    }
+
+    fn copy(&mut self, from: &DavPath, to: &DavPath) -> Result<(), FsError> {
+        if self.is_forbidden(from) || self.is_forbidden(to) {
+            return Err(FsError::Forbidden);
+        }
+        let at = match self.resolve(from) {
+            Ok(at) => at,
+            Err(error) => return Err(error),
+        };
+        match self.resolve(to) {
+            Ok(into) => copy_at(&mut self.disk, &at, &into),
+            Err(error) => Err(error),
+        }
+    }
+
+    ghost puts_inside = { λ s d. refl };
+
+    ghost puts_over = { λ s d e. refl };
+
+    ghost puts_back = { λ s. refl };
+
+    ghost admits_lent = { λ s d keeps admits. admits };
+
+    ghost admits_written = { λ s d keeps admits. admits };
+}

@@ -1,0 +1,212 @@
+//! Calls of the local store.
+//!
+//!     look PATH         what stands at a path: its kind and length, and its entity tag
+//!     link PATH         the same, a link at its end not followed
+//!     where PATH        where it is found
+//!     read PATH         the bytes of a file, at most 64
+//!     write PATH BYTES  makes a file, or empties the one that stands there, and writes bytes
+//!     list PATH         the members of a directory, each with its kind
+//!     mkdir PATH        makes a directory; `rmdir`, `rm`, `mv`, `cp` likewise
+//!     defaults          makes the directories that a store has from its start
+//!     rules PATH        whether the path is one of the two empty files, and whether it is forbidden
+//!     asked             how many calls the disk was asked so far
+//!     out mv PATH PATH  what others do on the disk: a rename, or with `cp` a copy. Its paths are the disk's.
+use crate::scene::path_of;
+use anyhow::{Result, bail};
+use dav_cache::Owned;
+use dav_core::{DavMetaData, DavPath, Disk, FsError, FsPath, Kind, Member, OpenOptions};
+use dav_disk::MemDisk;
+use dav_local::{LocalFs, LocalFsMetaData};
+use dav_rows::Line;
+use dav_store::{DavFile, DavFileSystem, GuardedFileSystem, file_close, file_read, read_members};
+use std::alloc::Global;
+
+type Store = LocalFs<MemDisk, Owned>;
+
+// The most bytes that are read of a file.
+const MOST_BYTES: usize = 64;
+
+fn kind_word(kind: Kind) -> &'static str {
+    match kind {
+        Kind::Dir => "dir",
+        Kind::File => "file",
+        Kind::Link => "link",
+    }
+}
+
+fn tell_meta(alloc: Global, line: &mut Line, meta: &LocalFsMetaData) {
+    line.add(if meta.is_dir() { "dir" } else { "file" });
+    line.add_number(" ", meta.len());
+    match meta.etag(alloc) {
+        Ok(Some(tag)) => line.tell(" ", tag.as_str()),
+        Ok(None) => line.add(" untagged"),
+        Err(_) => line.refuse(),
+    }
+}
+
+fn tell_looked(alloc: Global, line: &mut Line, answer: Result<LocalFsMetaData, FsError>) {
+    match answer {
+        Ok(meta) => tell_meta(alloc, line, &meta),
+        Err(error) => line.add_value(&error),
+    }
+}
+
+fn tell_done(line: &mut Line, answer: Result<(), FsError>) {
+    match answer {
+        Ok(()) => line.add("done"),
+        Err(error) => line.add_value(&error),
+    }
+}
+
+fn tell_path(line: &mut Line, path: &FsPath) {
+    if path.as_slice().is_empty() {
+        line.add("/");
+    }
+    for name in path.as_slice() {
+        line.tell("/", name.as_str());
+    }
+}
+
+fn tell_members(line: &mut Line, answer: Result<Vec<Member>, FsError>) {
+    match answer {
+        Ok(members) => {
+            line.add_number("members ", members.len() as u64);
+            for member in members.as_slice() {
+                line.tell(", ", member.name.as_str());
+                line.tell(" ", kind_word(member.kind));
+            }
+        }
+        Err(error) => line.add_value(&error),
+    }
+}
+
+fn read(line: &mut Line, store: &mut Store, path: &DavPath) {
+    match GuardedFileSystem::open(store, path, OpenOptions::read(), &()) {
+        Ok(mut file) => {
+            let mut into = [0u8; MOST_BYTES];
+            let read = file_read::<Store, ()>(store, &mut file, &mut into);
+            file_close::<Store, ()>(store, file);
+            match read {
+                Ok(count) => {
+                    let text = str::from_utf8(into.get(..count).unwrap_or(b"?"));
+                    line.tell("read ", text.unwrap_or("?"));
+                }
+                Err(error) => line.add_value(&error),
+            }
+        }
+        Err(error) => line.add_value(&error),
+    }
+}
+
+fn write(line: &mut Line, store: &mut Store, path: &DavPath, bytes: &str) {
+    let options = OpenOptions {
+        read: false,
+        write: true,
+        append: false,
+        truncate: true,
+        create: true,
+        create_new: false,
+    };
+    match GuardedFileSystem::open(store, path, options, &()) {
+        Ok(mut file) => {
+            let disk = DavFileSystem::disk(store);
+            let written = file.write_bytes(disk, bytes.as_bytes());
+            file.close(disk);
+            tell_done(line, written);
+        }
+        Err(error) => line.add_value(&error),
+    }
+}
+
+fn outside(alloc: Global, line: &mut Line, store: &mut Store, part: &str) -> Result<()> {
+    let mut words = part.split(' ').skip(1);
+    let kind = words.next().unwrap_or("");
+    let from = path_of(alloc, words.next().unwrap_or(""))?;
+    let to = path_of(alloc, words.next().unwrap_or(""))?;
+    let disk = DavFileSystem::disk(store);
+    let answer = match kind {
+        "mv" => disk.rename(&from, &to),
+        "cp" => disk.copy(&from, &to),
+        _ => bail!("nobody does this: {kind}"),
+    };
+    match answer {
+        Ok(()) => line.add("done"),
+        Err(error) => line.add_value(&error),
+    }
+    Ok(())
+}
+
+fn look(alloc: Global, line: &mut Line, store: &mut Store, path: &DavPath, kind: &str) {
+    let answer = if kind == "look" {
+        DavFileSystem::metadata(store, path)
+    } else {
+        DavFileSystem::symlink_metadata(store, path)
+    };
+    tell_looked(alloc, line, answer);
+}
+
+fn find(line: &mut Line, store: &mut Store, path: &DavPath) {
+    match store.resolve(path) {
+        Ok(at) => tell_path(line, &at),
+        Err(error) => line.add_value(&error),
+    }
+}
+
+// Makes a call that changes what stands at one path or two.
+fn change(
+    line: &mut Line,
+    store: &mut Store,
+    kind: &str,
+    path: &DavPath,
+    to: &DavPath,
+) -> Result<()> {
+    let answer = match kind {
+        "mkdir" => DavFileSystem::create_dir(store, path),
+        "rmdir" => DavFileSystem::remove_dir(store, path),
+        "rm" => DavFileSystem::remove_file(store, path),
+        "mv" => DavFileSystem::rename(store, path, to),
+        "cp" => DavFileSystem::copy(store, path, to),
+        _ => bail!("no call: {kind}"),
+    };
+    tell_done(line, answer);
+    Ok(())
+}
+
+// Makes the call of a part that has paths.
+fn call_at(alloc: Global, line: &mut Line, store: &mut Store, part: &str) -> Result<()> {
+    let mut words = part.split(' ');
+    let kind = words.next().unwrap_or("");
+    let Ok(path) = DavPath::new(alloc, words.next().unwrap_or("/")) else {
+        bail!("no path: {part}");
+    };
+    let third = words.next().unwrap_or("/");
+    match kind {
+        "look" | "link" => look(alloc, line, store, &path, kind),
+        "where" => find(line, store, &path),
+        "read" => read(line, store, &path),
+        "write" => write(line, store, &path, third),
+        "list" => tell_members(line, read_members(alloc, store, &path, &())),
+        "rules" => {
+            line.add_whether("empty ", store.is_virtual(&path));
+            line.add_whether(", forbidden ", store.is_forbidden(&path));
+        }
+        _ => {
+            let Ok(to) = DavPath::new(alloc, third) else {
+                bail!("no path: {part}");
+            };
+            change(line, store, kind, &path, &to)?;
+        }
+    }
+    Ok(())
+}
+
+/// Makes the call of a part.
+pub fn call(alloc: Global, store: &mut Store, part: &str, line: &mut Line) -> Result<()> {
+    match part.split(' ').next().unwrap_or("") {
+        "asked" => line.add_number("asked ", DavFileSystem::disk(store).asked()),
+        "defaults" => tell_done(line, store.create_defaults(alloc)),
+        "out" => return outside(alloc, line, store, part),
+        _ => return call_at(alloc, line, store, part),
+    }
+    Ok(())
+}
