@@ -10,16 +10,18 @@ use Rattle.dav_core.specs.Path.{Names, same_names}
 use Rattle.dav_core.specs.Tree.{is_linked, look}
 use Rattle.dav_core.specs.World.{World}
 use Rattle.dav_store.specs.Files.{Spoiled}
+use Rattle.dav_store.specs.Members.{BeginsThere}
 use Rattle.dav_store.specs.Shows.{LooksThere, OpensThere}
 use Rattle.dav_store.specs.Standing.{Standing}
 use Rattle.dav_store.specs.Void.{empty_info}
 use Rattle.dav_cache.specs.Memory.{MemoryState}
-use Rattle.dav_model.specs.Finding.{Denies, EndsLoosely, Finding, has_slash, is_localized, is_virtual, resolved}
+use Rattle.dav_model.specs.Finding.{Denies, EndsLoosely, Finding, has_slash, is_localized, is_virtual, listed_in, resolved}
 use Rattle.dav_model.specs.Head.{Stood}
 use Rattle.dav_model.specs.Rules.{Knowledge, Rules}
 use Rattle.dav_local.specs.declared.file.LocalFsFile.{LocalFsFile}
 use Rattle.dav_local.specs.Calls.{is_shut}
 use Rattle.dav_local.specs.Files.{seen_by}
+use Rattle.dav_local.specs.Listing.{ListingState}
 use Rattle.dav_local.specs.Standing.{found}
 use Rattle.dav_local.specs.Ways.{Ways, rules_of}
 
@@ -80,3 +82,9 @@ finding_of rules w looked opened listed denies = record {
   lists = one_found rules w listed;
   denies = λ path. denies && same_names path looked.1;
 }
+
+-- A listing that is begun likewise: of a directory that stands where the path is found.
+pub record ListsByRules (ways : Ways) (w : World) (path : WebPath) (s : DiskState) (result : Result ListingState FsError) (t : DiskState) : Type 0 where
+  pub end : Names
+  pub loosely : EndsLoosely ways.alone ways.folds w.tree path.names end
+  pub shows : is_linked w.tree end ≡ false → BeginsThere (listed_in w end) result ⊎ Spoiled s result t

@@ -13,7 +13,9 @@ ghost use Rattle.dav_model.specs.Rules.{Knowledge, Rules};
 ghost use Rattle.dav_store.specs.Standing.{Seen};
 ghost use Rattle.dav_local.specs.declared.file.LocalFsFile.{LocalFsFile};
 ghost use Rattle.dav_local.specs.declared.fs.LocalFs.{LocalFs};
-ghost use Rattle.dav_local.specs.Shown.{LooksByRules, OpensByRules, as_stood, finding_of, found_at, knowledge_of, looked_by, opened_by};
+ghost use Rattle.dav_local.specs.Shown.{ListsByRules, LooksByRules, OpensByRules, as_stood, finding_of, found_at, knowledge_of, looked_by, opened_by};
+ghost use Rattle.dav_local.specs.Listing.{ListingState};
+ghost use Rattle.dav_store.specs.declared.entry.ReadDirMeta.{ReadDirMeta};
 ghost use Rattle.dav_local.specs.Standing.{seen_at};
 ghost use Rattle.dav_local.specs.Ways.{Ways, rules_with};
 
@@ -38,6 +40,14 @@ pub fn openings_are_by_the_rules<D: Disk, R: Remember>(_fs: &LocalFs<D, R>, _pat
         → (D.state _fs.now.disk).told ≡ Some w
         → ⟦<LocalFs<D, R> as DavFileSystem>⟧.opens _fs.now _path.now reading result t
         → OpensByRules _fs.now.ways w _path.now (D.state _fs.now.disk) result (D.state t.disk) }
+{}
+
+/// Over a told disk each beginning of a listing likewise.
+pub fn listings_are_by_the_rules<D: Disk, R: Remember>(_fs: &LocalFs<D, R>, _path: &DavPath)
+    ensures { (w : World) (wanted : ReadDirMeta) (result : Result ListingState FsError) (t : LocalFs D R)
+        → (D.state _fs.now.disk).told ≡ Some w
+        → ⟦<LocalFs<D, R> as DavFileSystem>⟧.lists _fs.now _path.now wanted result t
+        → ListsByRules _fs.now.ways w _path.now (D.state _fs.now.disk) result (D.state t.disk) }
 {}
 
 /// What the store shows at a place is what the rules show of a path that is found there, where no link stands on the way.
