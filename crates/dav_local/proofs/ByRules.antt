@@ -394,12 +394,23 @@ begun_by w v at (Ok row) (Err e) there = absurd there
 begun_by w v at (Err e) (Ok d) there = absurd there
 begun_by w v at (Err e) (Err f) there = there
 
+no_listing : {A : Type 0} (d : ListingState) (e : FsError) → ◌≡◌ {A = Result ListingState FsError} (Ok d) (Err e) → A
+no_listing d e is = cc
+
+-- the path of a listing is that of its directory
+listed_path : (at : Names) (wanted : ReadDirMeta) (answer : Result Lister DiskError) (d : ListingState) → dir_of at wanted answer ≡ Ok d → d.path ≡ at
+listed_path at wanted (Ok lister) d is =
+    let same : record { lister = lister; path = at; wanted = wanted; batch = []; refused = None; over = false } ≡ d = cc in
+    ap (λ (x : ListingState). x.path) (sym same)
+listed_path at wanted (Err e) d is = no_listing d (fs_error_of e) (sym is)
+
 listed_in_by : (p q : Place) (w : World) (path : WebPath) (wanted : ReadDirMeta) (found_at : Result Names FsError) (m : DiskState) (result : Result ListingState FsError) → p.disk.told ≡ Some w
     → Resolves p.ways p.disk path.names found_at m → AfterFound found_at (record p { disk = m }) (BeginsAt wanted) result q → Listed p w path result q
 listed_in_by p q w path wanted (Err e) m result told resolves (is, ends) = record {
   end = resolved_by p.ways w.tree path.names;
   loosely = somewhere p.ways w.tree path.names;
   shows = λ clear. inr (subst (λ (x : Place). Spoiled p.disk result x.disk) (sym ends) (spoiled_by p.disk p.disk m e result (omega arith) is resolves.refused));
+  at_end = λ d ok clear. no_listing d e (sym ok ∙ is);
 }
 listed_in_by p q w path wanted (Ok at) m result told resolves (t, (answer, lists, is), ends) =
     let leads = resolves.told w told in
@@ -408,6 +419,7 @@ listed_in_by p q w path wanted (Ok at) m result told resolves (t, (answer, lists
       end = leads.end;
       loosely = leads.loosely;
       shows = λ clear. shows leads clear v now same;
+      at_end = λ d ok clear. listed_path at wanted answer d (sym is ∙ ok) ∙ leads.here clear;
     }
   where
     shows : (leads : Leads p.ways w.tree path.names at) → is_linked w.tree leads.end ≡ false → (v : World) → m.told ≡ Some v → SameBesidesOpens w v

@@ -1,7 +1,10 @@
 -- What a local store shows of a world, by where a path is found in its tree and whether the memory calls it absent.
-use Rattle.std.specs.Prelude.{◌≡◌, ◌⊎◌, ◌&&◌, ◌||◌, [], Bool, true, false, cond, None, Result, Ok, Err}
+use Rattle.std.specs.Prelude.{◌≡◌, ◌⊎◌, ◌&&◌, ◌||◌, ℕ, List, [], length, Option, Some, Bool, true, false, cond, None, Result, Ok, Err}
 use Rattle.dav_core.specs.declared.error.FsError.{FsError}
+use Rattle.dav_core.specs.declared.error.FsError.TheVariants as fs
 use Rattle.dav_core.specs.declared.error.FsError.TheVariants.{Forbidden, NotFound}
+use Rattle.dav_core.specs.declared.member.Member.{Member}
+use Rattle.dav_io.specs.Counts.{Rose}
 use Rattle.dav_core.specs.declared.tree.Kind.TheVariants.{File}
 use Rattle.dav_core.specs.DavPath.{WebPath}
 use Rattle.dav_core.specs.Disk.{DiskState}
@@ -10,7 +13,7 @@ use Rattle.dav_core.specs.Path.{Names, same_names}
 use Rattle.dav_core.specs.Tree.{is_linked, look}
 use Rattle.dav_core.specs.World.{World}
 use Rattle.dav_store.specs.Files.{Spoiled}
-use Rattle.dav_store.specs.Members.{BeginsThere}
+use Rattle.dav_store.specs.Members.{Answered, BeginsThere}
 use Rattle.dav_store.specs.Shows.{LooksThere, OpensThere}
 use Rattle.dav_store.specs.Standing.{Standing}
 use Rattle.dav_store.specs.Void.{empty_info}
@@ -18,6 +21,7 @@ use Rattle.dav_cache.specs.Memory.{MemoryState}
 use Rattle.dav_model.specs.Finding.{Denies, EndsLoosely, Finding, has_slash, is_localized, is_virtual, listed_in, resolved}
 use Rattle.dav_model.specs.Head.{Stood}
 use Rattle.dav_model.specs.Rules.{Knowledge, Rules}
+use Rattle.dav_local.specs.declared.entry.LocalFsDirEntry.{LocalFsDirEntry}
 use Rattle.dav_local.specs.declared.file.LocalFsFile.{LocalFsFile}
 use Rattle.dav_local.specs.Calls.{is_shut}
 use Rattle.dav_local.specs.Files.{seen_by}
@@ -88,3 +92,16 @@ pub record ListsByRules (ways : Ways) (w : World) (path : WebPath) (s : DiskStat
   pub end : Names
   pub loosely : EndsLoosely ways.alone ways.folds w.tree path.names end
   pub shows : is_linked w.tree end ≡ false → BeginsThere (listed_in w end) result ⊎ Spoiled s result t
+  pub at_end : (d : ListingState) → result ≡ Ok d → is_linked w.tree end ≡ false → d.path ≡ end
+
+-- ---- walks over listings
+
+-- why a listing answers an error: want of memory, or a fault that was met since it was begun
+abbrev pub WhyRefused : ℕ → ℕ → FsError → Type 0
+WhyRefused from now e = (e ≡ fs.NoMemory) ⊎ ((e ≡ fs.GeneralFailure) × Rose from now)
+
+-- what stands behind the last entry
+abbrev pub EndsBy : ℕ → List Member → List Answered → Result (Option LocalFsDirEntry) FsError → ℕ → Type 0
+EndsBy from all answers (Ok None) now = length answers ≡ length all
+EndsBy from all answers (Ok (Some entry)) now = Unit {0}
+EndsBy from all answers (Err e) now = WhyRefused from now e
