@@ -1,5 +1,5 @@
 -- Each look and each opening of a local store is answered by the rules.
-use Rattle.std.proofs.Common.{◌≡◌, ◌==◌, ◌&&◌, ◌||◌, ◌≤◌, ◌<◌, ◌⊎◌, inl, inr, ℕ, Bool, true, false, cond, codes, List, [], ◌∷◌, ◌++◌, length, Option, None, Some, Result, Ok, Err, refl, sym, ap, subst, ◌∙◌, arith}
+use Rattle.std.proofs.Common.{◌≡◌, ◌==◌, ◌&&◌, ◌||◌, ◌≤◌, ◌<◌, ◌⊎◌, inl, inr, ℕ, Bool, true, false, cond, codes, List, [], ◌∷◌, ◌++◌, length, Option, None, Some, Result, Ok, Err, IsOk, refl, sym, ap, subst, ◌∙◌, arith}
 use Rattle.std.specs.Option.{option_map}
 use Rattle.std.specs.Str.{bytes_eq}
 use Rattle.std.proofs.lemmas.Bool.{and_parts}
@@ -9,14 +9,17 @@ use Rattle.dav_io.proofs.ToldLemmas.{told_after}
 use Rattle.dav_core.specs.declared.error.FsError.{FsError}
 use Rattle.dav_core.specs.declared.error.FsError.TheVariants as fs
 use Rattle.dav_core.specs.declared.handle.DiskError.{DiskError}
+use Rattle.dav_core.specs.declared.handle.DiskError.TheVariants as disk
+use Rattle.dav_core.specs.declared.handle.Lister.{Lister}
 use Rattle.dav_core.specs.declared.handle.Meta.{Meta}
 use Rattle.dav_core.specs.declared.time.FileTime.{FileTime}
 use Rattle.dav_core.specs.declared.tree.Kind.{Kind}
 use Rattle.dav_core.specs.declared.tree.Row.{Row}
 use Rattle.dav_core.specs.DavPath.{WebPath, last_name}
-use Rattle.dav_core.specs.Disk.{DiskState, Live, Metas, Opens}
+use Rattle.dav_core.specs.Disk.{DiskState, IsCounted, Live, Metas, Opens, Refused}
 use Rattle.dav_core.specs.Info.{Info}
-use Rattle.dav_core.specs.Listing.{or_empty}
+use Rattle.dav_core.specs.Listing.{ListedIn, Lists, listable, or_empty}
+use Rattle.dav_core.specs.Errors.{fs_error_of}
 use Rattle.dav_core.specs.Options.{reading}
 use Rattle.dav_core.specs.Path.{Names, parent_of}
 use Rattle.dav_core.specs.Tree.{is_dir, is_linked, look}
@@ -24,22 +27,25 @@ use Rattle.dav_core.specs.Unchanged.{Keeps, SameBesidesOpens}
 use Rattle.dav_core.specs.World.{IsWorld, OpenFile, World, bytes_of}
 use Rattle.dav_core.proofs.UnchangedLemmas.{keeps_same, keeps_then}
 use Rattle.dav_store.specs.Files.{Spoiled}
+use Rattle.dav_store.specs.declared.entry.ReadDirMeta.{ReadDirMeta}
+use Rattle.dav_store.specs.Members.{BeginsThere}
 use Rattle.dav_store.specs.Shows.{LooksThere, OpensThere}
 use Rattle.dav_store.specs.Standing.{Seen}
 use Rattle.dav_store.specs.Void.{empty_info}
 use Rattle.dav_store.proofs.Reading.{rose_from}
 use Rattle.dav_cache.specs.Memory as cache
 use Rattle.dav_cache.specs.Memory.{AsksMeta, Denied, MemoryState, Negates}
-use Rattle.dav_model.specs.Finding.{Denies, EndsLoosely, has_slash, is_localized, is_named, is_virtual}
+use Rattle.dav_model.specs.Finding.{Denies, EndsLoosely, has_slash, is_localized, is_named, is_virtual, listed_in, members_or}
 use Rattle.dav_model.specs.Folds.{Name, dir_time, dir_time_of, is_dot}
 use Rattle.dav_model.specs.Rules.{MayDeny}
 use Rattle.dav_model.proofs.LooseWalks.{exactly_may}
 use Rattle.dav_model.proofs.PlainWalks.{linked_below}
 use Rattle.dav_local.specs.declared.file.LocalFsFile.{LocalFsFile}
-use Rattle.dav_local.specs.Calls.{AfterFound, Asks, IsOpening, Looks, LooksAt, AfterAbsent, Place, TellsAbsent, asks_memory, is_shut}
+use Rattle.dav_local.specs.Calls.{AfterFound, Asks, BeginsAt, Finds, IsOpening, Looks, LooksAt, AfterAbsent, Place, TellsAbsent, asks_memory, is_shut}
 use Rattle.dav_local.specs.Files.{filed, looked_as, seen_by}
+use Rattle.dav_local.specs.Listing.{ListingState, dir_of}
 use Rattle.dav_local.specs.Resolving.{Leads, Resolves}
-use Rattle.dav_local.specs.Shown.{LooksByRules, OpensByRules, empty_standing, knowledge_of, looked_by, opened_by}
+use Rattle.dav_local.specs.Shown.{ListsByRules, LooksByRules, OpensByRules, empty_standing, knowledge_of, looked_by, opened_by}
 use Rattle.dav_local.specs.Standing.{found, seen_in, seen_with}
 use Rattle.dav_local.specs.Ways.{Ways, resolved_by, rules_of}
 use Rattle.dav_local.proofs.Keeping.{metas_keep}
@@ -352,3 +358,83 @@ opens_by_rules p q w path result told world opening = by_shut (is_shut p.ways pa
           (subst (λ there. OpensThere {F = LocalFsFile} seen_by there (Err fs.Forbidden) q.disk) (sym (opened_shut p.ways w (resolved_by p.ways w.tree path.names) path true e)) refl));
     }
     by_shut false e = let (found_at, m, resolves, after) = opening.asked e in opened_in p q w path found_at m result told world e resolves after
+
+-- ---- listings
+
+abbrev Listed : Place → World → WebPath → Result ListingState FsError → Place → Type 0
+Listed p w path result q = ListsByRules p.ways w path p.disk result q.disk
+
+members_there : (w : World) (dir : Names) (stands : Result Row DiskError) (d : ListingState) → IsOk stands → BeginsThere (members_or w dir stands) (Ok d)
+members_there w dir (Ok row) d listed = tt
+members_there w dir (Err e) d listed = cc
+
+refused_there : (e : DiskError) (w : World) (dir : Names) (stands : Result Row DiskError) (s t : DiskState) → Refused e stands → IsCounted {T = Lister} (Err e) s t
+    → BeginsThere {L = ListingState} (members_or w dir stands) (Err (fs_error_of e)) ⊎ Spoiled {T = ListingState} s (Err (fs_error_of e)) t
+refused_there disk.NotFound w dir stands s t r counted = inl (rw r refl)
+refused_there disk.NotDir w dir stands s t r counted = inl (rw r refl)
+refused_there disk.IsDir w dir stands s t r counted = inl (rw r refl)
+refused_there disk.Exists w dir stands s t r counted = inl (rw r refl)
+refused_there disk.NotEmpty w dir stands s t r counted = inl (rw r refl)
+refused_there disk.Failed w dir stands s t r counted = inr (inl (refl, counted.rose refl))
+refused_there disk.NoMemory w dir stands s t r counted = inr (inr refl)
+
+begins_there : (v : World) (at : Names) (wanted : ReadDirMeta) (answer : Result Lister DiskError) (s t : DiskState) → s.told ≡ Some v → is_linked v.tree at ≡ false → Lists s at answer t
+    → BeginsThere (members_or v at (listable (look v.tree at))) (dir_of at wanted answer) ⊎ Spoiled s (dir_of at wanted answer) t
+begins_there v at wanted (Ok lister) s t told clear lists =
+    let (x, now, listed) = told_after s.told t.told (ListedIn at (Ok lister)) v lists.told told in
+    inl (members_there v at (listable (look v.tree at)) (record { lister = lister; path = at; wanted = wanted; batch = []; refused = None; over = false }) (listed.2 clear).0)
+begins_there v at wanted (Err e) s t told clear lists =
+    let (x, now, listed) = told_after s.told t.told (ListedIn at (Err e)) v lists.told told in
+    refused_there e v at (listable (look v.tree at)) s t (listed.1 clear) lists.counted
+
+-- whether a listing is begun doesn't ask what is open
+begun_by : (w v : World) (at : Names) (stands : Result Row DiskError) (r : Result ListingState FsError) → BeginsThere (members_or v at stands) r → BeginsThere (members_or w at stands) r
+begun_by w v at (Ok row) (Ok d) there = tt
+begun_by w v at (Ok row) (Err e) there = absurd there
+begun_by w v at (Err e) (Ok d) there = absurd there
+begun_by w v at (Err e) (Err f) there = there
+
+no_listing : {A : Type 0} (d : ListingState) (e : FsError) → ◌≡◌ {A = Result ListingState FsError} (Ok d) (Err e) → A
+no_listing d e is = cc
+
+-- the path of a listing is that of its directory
+listed_path : (at : Names) (wanted : ReadDirMeta) (answer : Result Lister DiskError) (d : ListingState) → dir_of at wanted answer ≡ Ok d → d.path ≡ at
+listed_path at wanted (Ok lister) d is =
+    let same : record { lister = lister; path = at; wanted = wanted; batch = []; refused = None; over = false } ≡ d = cc in
+    ap (λ (x : ListingState). x.path) (sym same)
+listed_path at wanted (Err e) d is = no_listing d (fs_error_of e) (sym is)
+
+listed_in_by : (p q : Place) (w : World) (path : WebPath) (wanted : ReadDirMeta) (found_at : Result Names FsError) (m : DiskState) (result : Result ListingState FsError) → p.disk.told ≡ Some w
+    → Resolves p.ways p.disk path.names found_at m → AfterFound found_at (record p { disk = m }) (BeginsAt wanted) result q → Listed p w path result q
+listed_in_by p q w path wanted (Err e) m result told resolves (is, ends) = record {
+  end = resolved_by p.ways w.tree path.names;
+  loosely = somewhere p.ways w.tree path.names;
+  shows = λ clear. inr (subst (λ (x : Place). Spoiled p.disk result x.disk) (sym ends) (spoiled_by p.disk p.disk m e result (omega arith) is resolves.refused));
+  at_end = λ d ok clear. no_listing d e (sym ok ∙ is);
+}
+listed_in_by p q w path wanted (Ok at) m result told resolves (t, (answer, lists, is), ends) =
+    let leads = resolves.told w told in
+    let (v, now, same) = told_after p.disk.told m.told SameBesidesOpens w resolves.keeps.world told in
+    record {
+      end = leads.end;
+      loosely = leads.loosely;
+      shows = λ clear. shows leads clear v now same;
+      at_end = λ d ok clear. listed_path at wanted answer d (sym is ∙ ok) ∙ leads.here clear;
+    }
+  where
+    shows : (leads : Leads p.ways w.tree path.names at) → is_linked w.tree leads.end ≡ false → (v : World) → m.told ≡ Some v → SameBesidesOpens w v
+        → BeginsThere (listed_in w leads.end) result ⊎ Spoiled p.disk result q.disk
+    shows leads clear v now same =
+        let here = leads.here clear in
+        let ended : q.disk ≡ t = ap (λ (x : Place). x.disk) ends in
+        elim (begins_there v at wanted answer m t now (ap (λ rows. is_linked rows at) same.tree ∙ ap (is_linked w.tree) here ∙ clear) lists) [
+          | inl there ↦ inl (subst (λ z. BeginsThere (listed_in w z) result) here
+              (subst (λ rows. BeginsThere (members_or w at (listable (look rows at))) result) same.tree
+              (begun_by w v at (listable (look v.tree at)) result (subst (λ r. BeginsThere (members_or v at (listable (look v.tree at))) r) (sym is) there))))
+          | inr spoiled ↦ inr (subst (λ d. Spoiled p.disk result d) (sym ended) (spoiled_later p.disk m t result resolves.keeps.counts (subst (λ r. Spoiled m r t) (sym is) spoiled)))
+        ]
+
+-- Each beginning of a listing is answered by the rules.
+pub lists_by_rules : (p q : Place) (w : World) (path : WebPath) (wanted : ReadDirMeta) (result : Result ListingState FsError) → p.disk.told ≡ Some w
+    → Finds p path.names (BeginsAt wanted) result q → Listed p w path result q
+lists_by_rules p q w path wanted result told (found_at, m, resolves, after) = listed_in_by p q w path wanted found_at m result told resolves after

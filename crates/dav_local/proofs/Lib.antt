@@ -14,3 +14,4 @@ pub mod Framing
 pub mod Showing
 pub mod ByRules
 pub mod Allowed
+pub mod Walked

@@ -290,7 +290,9 @@ front_stands (suc fuel) tree l n is o long =
     let (d, there, kind) = dir_above tree l is o (omega (arith, long)) in
     let (od, path) = row_is tree (parent_of l.path) d there in
     let short : length (parent_of l.path) ≡ length l.path - 1 = length-take-le (length l.path - 1) l.path (omega arith) in
-    let (e, oe, at) = front_stands fuel tree d n is od (ap length path ∙ short ∙ omega (arith, long)) in
+    let same : length d.path ≡ length (parent_of l.path) = ap length path in
+    let shorter : length d.path ≡ n + fuel = omega (arith, same, short, long) in
+    let (e, oe, at) = front_stands fuel tree d n is od shorter in
     (e, oe, at ∙ ap (take n) path ∙ take-take n (length l.path - 1) l.path (omega (arith, long)))
 
 -- Where a link stands on the way to a path, a walk comes to it.

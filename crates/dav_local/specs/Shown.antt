@@ -1,7 +1,10 @@
 -- What a local store shows of a world, by where a path is found in its tree and whether the memory calls it absent.
-use Rattle.std.specs.Prelude.{◌≡◌, ◌⊎◌, ◌&&◌, ◌||◌, [], Bool, true, false, cond, None, Result, Ok, Err}
+use Rattle.std.specs.Prelude.{◌≡◌, ◌⊎◌, ◌&&◌, ◌||◌, ℕ, List, [], length, Option, Some, Bool, true, false, cond, None, Result, Ok, Err}
 use Rattle.dav_core.specs.declared.error.FsError.{FsError}
+use Rattle.dav_core.specs.declared.error.FsError.TheVariants as fs
 use Rattle.dav_core.specs.declared.error.FsError.TheVariants.{Forbidden, NotFound}
+use Rattle.dav_core.specs.declared.member.Member.{Member}
+use Rattle.dav_io.specs.Counts.{Rose}
 use Rattle.dav_core.specs.declared.tree.Kind.TheVariants.{File}
 use Rattle.dav_core.specs.DavPath.{WebPath}
 use Rattle.dav_core.specs.Disk.{DiskState}
@@ -10,16 +13,19 @@ use Rattle.dav_core.specs.Path.{Names, same_names}
 use Rattle.dav_core.specs.Tree.{is_linked, look}
 use Rattle.dav_core.specs.World.{World}
 use Rattle.dav_store.specs.Files.{Spoiled}
+use Rattle.dav_store.specs.Members.{Answered, BeginsThere}
 use Rattle.dav_store.specs.Shows.{LooksThere, OpensThere}
 use Rattle.dav_store.specs.Standing.{Standing}
 use Rattle.dav_store.specs.Void.{empty_info}
 use Rattle.dav_cache.specs.Memory.{MemoryState}
-use Rattle.dav_model.specs.Finding.{Denies, EndsLoosely, Finding, has_slash, is_localized, is_virtual, resolved}
+use Rattle.dav_model.specs.Finding.{Denies, EndsLoosely, Finding, has_slash, is_localized, is_virtual, listed_in, resolved}
 use Rattle.dav_model.specs.Head.{Stood}
 use Rattle.dav_model.specs.Rules.{Knowledge, Rules}
+use Rattle.dav_local.specs.declared.entry.LocalFsDirEntry.{LocalFsDirEntry}
 use Rattle.dav_local.specs.declared.file.LocalFsFile.{LocalFsFile}
 use Rattle.dav_local.specs.Calls.{is_shut}
 use Rattle.dav_local.specs.Files.{seen_by}
+use Rattle.dav_local.specs.Listing.{ListingState}
 use Rattle.dav_local.specs.Standing.{found}
 use Rattle.dav_local.specs.Ways.{Ways, rules_of}
 
@@ -80,3 +86,22 @@ finding_of rules w looked opened listed denies = record {
   lists = one_found rules w listed;
   denies = λ path. denies && same_names path looked.1;
 }
+
+-- A listing that is begun likewise: of a directory that stands where the path is found.
+pub record ListsByRules (ways : Ways) (w : World) (path : WebPath) (s : DiskState) (result : Result ListingState FsError) (t : DiskState) : Type 0 where
+  pub end : Names
+  pub loosely : EndsLoosely ways.alone ways.folds w.tree path.names end
+  pub shows : is_linked w.tree end ≡ false → BeginsThere (listed_in w end) result ⊎ Spoiled s result t
+  pub at_end : (d : ListingState) → result ≡ Ok d → is_linked w.tree end ≡ false → d.path ≡ end
+
+-- ---- walks over listings
+
+-- why a listing answers an error: want of memory, or a fault that was met since it was begun
+abbrev pub WhyRefused : ℕ → ℕ → FsError → Type 0
+WhyRefused from now e = (e ≡ fs.NoMemory) ⊎ ((e ≡ fs.GeneralFailure) × Rose from now)
+
+-- what stands behind the last entry
+abbrev pub EndsBy : ℕ → List Member → List Answered → Result (Option LocalFsDirEntry) FsError → ℕ → Type 0
+EndsBy from all answers (Ok None) now = length answers ≡ length all
+EndsBy from all answers (Ok (Some entry)) now = Unit {0}
+EndsBy from all answers (Err e) now = WhyRefused from now e

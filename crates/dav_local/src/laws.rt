@@ -1,5 +1,5 @@
 //! What the local store shows, as laws about its definitions. The calls do nothing.
-ghost use Rattle.std.specs.Prelude.{◌≡◌, Bool, Result, Some, false, true};
+ghost use Rattle.std.specs.Prelude.{◌≡◌, Bool, List, Ok, Option, Result, Some, false, true};
 ghost use Rattle.dav_core.specs.declared.error.FsError.{FsError};
 ghost use Rattle.dav_core.specs.Info.{Info};
 ghost use Rattle.dav_core.specs.Options.{reading};
@@ -10,17 +10,24 @@ ghost use Rattle.dav_model.specs.declared.settings.Settings.{Settings};
 ghost use Rattle.dav_model.specs.Finding as finding;
 ghost use Rattle.dav_model.specs.Finding.{Denies, EndsLoosely, MayFind, looked_at, opened_at};
 ghost use Rattle.dav_model.specs.Rules.{Knowledge, Rules};
+ghost use Rattle.dav_core.specs.Members.{members};
+ghost use Rattle.dav_store.specs.declared.entry.ReadDirMeta.TheVariants.{Data};
+ghost use Rattle.dav_store.specs.Members.{Answered, AreOf, Walked};
 ghost use Rattle.dav_store.specs.Standing.{Seen};
+ghost use Rattle.dav_store.specs.View.{the_listings, the_view};
+ghost use Rattle.dav_local.specs.declared.entry.LocalFsDirEntry.{LocalFsDirEntry};
 ghost use Rattle.dav_local.specs.declared.file.LocalFsFile.{LocalFsFile};
 ghost use Rattle.dav_local.specs.declared.fs.LocalFs.{LocalFs};
-ghost use Rattle.dav_local.specs.Shown.{LooksByRules, OpensByRules, as_stood, finding_of, found_at, knowledge_of, looked_by, opened_by};
-ghost use Rattle.dav_local.specs.Standing.{seen_at};
+ghost use Rattle.dav_local.specs.Shown.{EndsBy, ListsByRules, LooksByRules, OpensByRules, as_stood, finding_of, found_at, knowledge_of, looked_by, opened_by};
+ghost use Rattle.dav_local.specs.Listing.{ListingState};
+ghost use Rattle.dav_store.specs.declared.entry.ReadDirMeta.{ReadDirMeta};
+ghost use Rattle.dav_local.specs.Standing.{HasNoLinks, seen_at};
 ghost use Rattle.dav_local.specs.Ways.{Ways, rules_with};
 
-use crate::{LocalFs, LocalFsFile};
+use crate::{LocalFs, LocalFsDirEntry, LocalFsFile};
 use dav_cache::Remember;
 use dav_core::{DavPath, Disk};
-use dav_store::DavFileSystem;
+use dav_store::{DavDirEntry, DavFile, DavFileSystem, GuardedFileSystem};
 
 /// Over a told disk each look is answered by the rules for a place where a loose walk of the path ends, whatever the memory
 /// knows and however many names fold alike.
@@ -38,6 +45,33 @@ pub fn openings_are_by_the_rules<D: Disk, R: Remember>(_fs: &LocalFs<D, R>, _pat
         → (D.state _fs.now.disk).told ≡ Some w
         → ⟦<LocalFs<D, R> as DavFileSystem>⟧.opens _fs.now _path.now reading result t
         → OpensByRules _fs.now.ways w _path.now (D.state _fs.now.disk) result (D.state t.disk) }
+{}
+
+/// Over a told disk each beginning of a listing likewise.
+pub fn listings_are_by_the_rules<D: Disk, R: Remember>(_fs: &LocalFs<D, R>, _path: &DavPath)
+    ensures { (w : World) (wanted : ReadDirMeta) (result : Result ListingState FsError) (t : LocalFs D R)
+        → (D.state _fs.now.disk).told ≡ Some w
+        → ⟦<LocalFs<D, R> as DavFileSystem>⟧.lists _fs.now _path.now wanted result t
+        → ListsByRules _fs.now.ways w _path.now (D.state _fs.now.disk) result (D.state t.disk) }
+{}
+
+/// Over a told disk, a walk over the listing of a directory, where no link stands on the way to it or at one of its members, is
+/// told of its members, each once. It ends where all were given, for want of memory, or because of a fault that was met
+/// since the listing was asked for.
+pub fn walks_tell_the_members<D: Disk, R: Remember>(_fs: &LocalFs<D, R>, _path: &DavPath)
+    ensures each { (w : World) (n o : LocalFs D R) (l k : ListingState) (answers : List Answered)
+        → (D.state _fs.now.disk).told ≡ Some w
+        → ⟦<LocalFs<D, R> as DavFileSystem>⟧.lists _fs.now _path.now Data (Ok l) n → HasNoLinks w l.path
+        → Walked (the_view ⟦<LocalFs<D, R> as GuardedFileSystem<()>>⟧ D.Disk ⟦<LocalFsFile as DavFile<D>>⟧)
+        (the_listings ⟦<LocalFs<D, R> as GuardedFileSystem<()>>⟧ ⟦<LocalFsDirEntry as DavDirEntry<D>>⟧) n l answers o k
+        → AreOf (members w l.path) (D.state _fs.now.disk).faults (D.state o.disk).faults answers }
+    ensures ends { (w : World) (n o t : LocalFs D R) (l k j : ListingState) (answers : List Answered)
+        (last : Result (Option LocalFsDirEntry) FsError) → (D.state _fs.now.disk).told ≡ Some w
+        → ⟦<LocalFs<D, R> as DavFileSystem>⟧.lists _fs.now _path.now Data (Ok l) n → HasNoLinks w l.path
+        → Walked (the_view ⟦<LocalFs<D, R> as GuardedFileSystem<()>>⟧ D.Disk ⟦<LocalFsFile as DavFile<D>>⟧)
+        (the_listings ⟦<LocalFs<D, R> as GuardedFileSystem<()>>⟧ ⟦<LocalFsDirEntry as DavDirEntry<D>>⟧) n l answers o k
+        → ⟦<LocalFs<D, R> as DavFileSystem>⟧.lists_on o k last t j
+        → EndsBy (D.state _fs.now.disk).faults (members w l.path) answers last (D.state t.disk).faults }
 {}
 
 /// What the store shows at a place is what the rules show of a path that is found there, where no link stands on the way.
