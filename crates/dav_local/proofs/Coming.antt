@@ -208,17 +208,3 @@ walk_whole s t names at m metas keeps same = record {
 pub walk_copied : (s t : DiskState) (names : Names) (m : Meta) (r : Result Names FsError) → Metas s names (Ok m) t → Keeps s t → IfOk r (λ at. at ≡ names) → OnErr r (r ≡ Err FsError.NoMemory) → Walks s names r t
 walk_copied s t names m (Ok at) metas keeps same starved = walk_whole s t names at m metas keeps same
 walk_copied s t names m (Err e) metas keeps same starved = let is : e ≡ FsError.NoMemory = cc in rw is (walk_starved s t names keeps)
-
--- A walk after a look that found nothing.
-pub walk_after : (s m t : DiskState) (names : Names) (r : Result Names FsError) → Keeps s m → m.told ≡ s.told → Walks m names r t → Walks s names r t
-walk_after s m t names (Err e) keeps same walks = record { keeps = keeps_then s m t keeps walks.keeps; refused = spoiled walks.refused; alike = tt; told = tt }
-  where
-    spoiled : Spoiled {T = Names} m (Err e) t → Spoiled {T = Names} s (Err e) t
-    spoiled (inl (is, rose)) = inl (is, rose_from s.faults m.faults t.faults keeps.counts rose)
-    spoiled (inr none) = inr none
-walk_after s m t names (Ok at) keeps same walks = record {
-  keeps = keeps_then s m t keeps walks.keeps;
-  refused = tt;
-  alike = walks.alike;
-  told = λ w told. walks.told w (same ∙ told);
-}

@@ -13,12 +13,12 @@ use Rattle.dav_core.proofs.UnchangedLemmas.{keeps_same, put_same}
 use Rattle.dav_store.specs.declared.entry.ReadDirMeta.{ReadDirMeta}
 use Rattle.dav_store.specs.declared.entry.ReadDirMeta.TheVariants.{Data, DataSymlink}
 use Rattle.dav_store.specs.declared.entry.ReadDirMeta.TheVariants as wanted
-use Rattle.dav_store.specs.Listings.{GoesOn, HasLister, Nearer}
-use Rattle.dav_store.proofs.Walking.{walk_same, walk_then}
+use Rattle.dav_store.specs.Listings.{GoesOn}
+use Rattle.dav_store.proofs.Walking.{walk_then}
 use Rattle.dav_local.specs.declared.entry.EntryMeta.{EntryMeta}
 use Rattle.dav_local.specs.declared.entry.EntryMeta.TheVariants.{Read, At}
 use Rattle.dav_local.specs.declared.entry.LocalFsDirEntry.{LocalFsDirEntry}
-use Rattle.dav_local.specs.Listing.{Filled, Fills, GivesEntry, Gives, IsKnown, ListingState, ReadsOne, Refilled, Refills, come, is_ended, pending, to_come, with_given}
+use Rattle.dav_local.specs.Listing.{Filled, Fills, GivesEntry, IsKnown, ListingState, ReadsOne, Refills, come, is_ended, pending, to_come, with_given}
 use Rattle.dav_local.proofs.Keeping.{metas_keep}
 use Rattle.dav_local.specs.Listing.Fills.{full, ended, more}
 
@@ -131,44 +131,6 @@ read_bound s t d e open_still live (Err Exists, m, on, (same, is)) = failed_by s
 read_bound s t d e open_still live (Err NotEmpty, m, on, (same, is)) = failed_by s t d e _ open_still live is
 read_bound s t d e open_still live (Err Failed, m, on, (same, is)) = failed_by s t d e _ open_still live is
 
-nearer_by : (batch : List LocalFsDirEntry) (refused : Option FsError) (before : ℕ) (f e : ListingState) (left : Option ℕ) (result : Result (Option LocalFsDirEntry) FsError)
-    → f.batch ≡ batch → f.refused ≡ refused → Gives batch refused f result e → to_come f left ≤ before → Nearer before result (to_come e left)
-nearer_by (entry ∷ batch) refused before f e left result is none (gives, same) le =
-    let long : length f.batch ≡ suc (length batch) = ap length is in
-    subst (λ (r : Result (Option LocalFsDirEntry) FsError). Nearer before r (to_come e left)) (sym gives)
-    (subst (λ x. to_come x left < before) (sym same) (omega (arith, long, le)))
-nearer_by [] None before f e left result is none (gives, same) le =
-    subst (λ (r : Result (Option LocalFsDirEntry) FsError). Nearer before r (to_come e left)) (sym gives) (subst (λ x. to_come x left ≤ before) (sym same) le)
-nearer_by [] (Some x) before f e left result is none (gives, same) le =
-    subst (λ (r : Result (Option LocalFsDirEntry) FsError). Nearer before r (to_come e left)) (sym gives)
-    (subst (λ y. Nearer {E = LocalFsDirEntry} before (Err x) (to_come y left)) (sym same) (by_error x (rw none at le)))
-  where
-    by_error : (x : FsError) → length f.batch + (pending (Some x) + come f.over left) ≤ before → Nearer {E = LocalFsDirEntry} before (Err x) (length f.batch + (0 + come f.over left))
-    by_error fs.NotImplemented le = omega (arith, le)
-    by_error fs.GeneralFailure le = omega (arith, le)
-    by_error fs.Exists le = omega (arith, le)
-    by_error fs.NotFound le = omega (arith, le)
-    by_error fs.Forbidden le = omega (arith, le)
-    by_error fs.InsufficientStorage le = omega (arith, le)
-    by_error fs.LoopDetected le = omega (arith, le)
-    by_error fs.PathTooLong le = omega (arith, le)
-    by_error fs.TooLarge le = omega (arith, le)
-    by_error fs.IsRemote le = omega (arith, le)
-    by_error fs.NoMemory le = omega (arith, le)
-
--- What was given leaves fewer answers to come.
-pub gives_nearer : (before : ℕ) (f e : ListingState) (left : Option ℕ) (result : Result (Option LocalFsDirEntry) FsError) → Gives f.batch f.refused f result e → to_come f left ≤ before
-    → Nearer before result (to_come e left)
-gives_nearer before f e left result gives le = nearer_by f.batch f.refused before f e left result refl refl gives le
-
-gives_lister_by : (batch : List LocalFsDirEntry) (refused : Option FsError) (f e : ListingState) (result : Result (Option LocalFsDirEntry) FsError) → Gives batch refused f result e → e.lister ≡ f.lister
-gives_lister_by (entry ∷ batch) refused f e result (gives, same) = ap (λ (d : ListingState). d.lister) same
-gives_lister_by [] None f e result (gives, same) = ap (λ (d : ListingState). d.lister) same
-gives_lister_by [] (Some x) f e result (gives, same) = ap (λ (d : ListingState). d.lister) same
-
-pub gives_lister : (f e : ListingState) (result : Result (Option LocalFsDirEntry) FsError) → Gives f.batch f.refused f result e → e.lister ≡ f.lister
-gives_lister f e result gives = gives_lister_by f.batch f.refused f e result gives
-
 -- ---- a batch
 
 pub record Filling (s : DiskState) (d : ListingState) (left : ℕ) (t : DiskState) (e : ListingState) : Type 0 where
@@ -176,9 +138,6 @@ pub record Filling (s : DiskState) (d : ListingState) (left : ℕ) (t : DiskStat
   pub goes : GoesOn s (Some d.lister.0) t
   pub lister : e.lister ≡ d.lister
   pub bound : to_come e (t.listers d.lister.0) ≤ to_come d (s.listers d.lister.0)
-
-pub filling_first : (s : DiskState) (d : ListingState) → HasLister s (Some d.lister.0) → Filling s d 256 s d
-filling_first s d live = record { all = λ u f fills. fills; goes = record { keeps = walk_same (Some d.lister.0) s; live = live }; lister = refl; bound = omega arith }
 
 goes_then : (own : Option ℕ) (s m t : DiskState) → GoesOn s own m → GoesOn m own t → GoesOn s own t
 goes_then own s m t p q = record { keeps = walk_then own s m t p.keeps q.keeps; live = q.live }
@@ -210,21 +169,6 @@ filled_full s t d e left filling none = filled_by s t d e left filling (subst (�
 pub filled_ended : (s t : DiskState) (d e : ListingState) (left : ℕ) → Filling s d left t e → is_ended e ≡ true → Filled s d t e
 filled_ended s t d e left filling over = filled_by s t d e left filling (ended left t e over)
 
-refills_by : (batch : List LocalFsDirEntry) (s t : DiskState) (d e : ListingState) → length batch ≡ 0 → Fills 256 s d t e → Refills batch s d t e
-refills_by [] s t d e none fills = fills
-refills_by (x ∷ batch) s t d e none fills = absurd (omega (arith, none))
-
-pub refilled_empty : (s t : DiskState) (d e : ListingState) → length d.batch ≡ 0 → Filled s d t e → Refilled s d t e
-refilled_empty s t d e none filled = record { refills = refills_by d.batch s t d e none filled.fills; goes = filled.goes; lister = filled.lister; bound = filled.bound }
-
 same_by : (batch : List LocalFsDirEntry) (s : DiskState) (d : ListingState) → 0 < length batch → Refills batch s d s d
 same_by [] s d some = absurd (omega arith)
 same_by (x ∷ batch) s d some = (refl, refl)
-
-pub refilled_same : (s : DiskState) (d : ListingState) → HasLister s (Some d.lister.0) → 0 < length d.batch → Refilled s d s d
-refilled_same s d live some = record {
-  refills = same_by d.batch s d some;
-  goes = record { keeps = walk_same (Some d.lister.0) s; live = live };
-  lister = refl;
-  bound = omega arith;
-}

@@ -56,10 +56,6 @@ opens_after handle seen how s m t (Ok file) keeps opened = record {
     sym_then same none = rw same at none
 opens_after handle seen how s m t (Err e) keeps opened = record { others = open_after s m t keeps opened.others; kept = λ reads. keeps_then s m t keeps (opened.kept reads) }
 
--- nothing was opened where the path was refused
-pub opens_none : {F : Type 0} (handle : F → ℕ) (seen : F → DiskState → Option Seen) (how : OpenOptions) (s t : DiskState) (e : FsError) → Keeps s t → OpensOne {F = F} handle seen how s (Err e) t
-opens_none handle seen how s t e keeps = record { others = keeps_open s t keeps; kept = λ reads. keeps }
-
 -- a listing that was begun after a path was found
 pub lists_after : {L : Type 0} (lister : L → Option ℕ) (s m t : DiskState) (r : Result L FsError) → Keeps s m → ListsOne lister m r t → ListsOne lister s r t
 lists_after lister s m t (Err e) keeps listed = keeps_then s m t keeps listed

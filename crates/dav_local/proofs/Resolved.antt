@@ -6,7 +6,7 @@ use Rattle.dav_core.specs.declared.tree.Row.{Row}
 use Rattle.dav_core.specs.Disk.{DiskState}
 use Rattle.dav_core.specs.Path.{Names}
 use Rattle.dav_core.specs.Tree.{is_linked}
-use Rattle.dav_core.specs.World.{IsWorld, World}
+use Rattle.dav_core.specs.World.{World}
 use Rattle.dav_core.proofs.UnchangedLemmas.{keeps_same}
 use Rattle.dav_model.specs.Finding.{EndsLoosely, IsLoose, or_walk}
 use Rattle.dav_model.specs.Folds.{fold_path}
@@ -15,7 +15,6 @@ use Rattle.dav_model.specs.Valid.{no_twins}
 use Rattle.dav_model.proofs.LooseWalks.{found_exactly, walk_is_loose}
 use Rattle.dav_model.proofs.PlainWalks.{plain_resolved}
 use Rattle.dav_local.specs.Resolving.{Leads, Resolves}
-use Rattle.dav_local.specs.Walking.{Walks}
 use Rattle.dav_local.specs.Ways.{Ways, is_known, resolved_by, rules_of}
 
 unfolded : (tree : List Row) (names : Names) → IsLoose false tree [] names names
@@ -48,45 +47,10 @@ known_by : (ways : Ways) (s : DiskState) (names known : Names) (r : Result Names
 known_by ways s names known (Ok at) is_known same copy starved = resolves_known ways s names at is_known (copy ∙ same)
 known_by ways s names known (Err e) is_known same copy starved = let is : e ≡ FsError.NoMemory = cc in rw is (resolves_starved ways s names)
 
-pub resolves_alone : (ways : Ways) (s : DiskState) (names file : Names) (r : Result Names FsError) → ways.alone ≡ Some file → IfOk r (λ at. at ≡ file) → OnErr r (r ≡ Err FsError.NoMemory)
-    → Resolves ways s names r s
-resolves_alone ways s names file r alone copy starved =
-    known_by ways s names file r (ap (λ a. is_some a || not ways.folds) alone) (sym (ap (λ a. or_walk a names) alone)) copy starved
-
 pub resolves_plain : (ways : Ways) (s : DiskState) (names : Names) (r : Result Names FsError) → ways.alone ≡ None → ways.folds ≡ false → IfOk r (λ at. at ≡ names) → OnErr r (r ≡ Err FsError.NoMemory)
     → Resolves ways s names r s
 resolves_plain ways s names r alone folds copy starved =
     known_by ways s names names r (ap (λ a. is_some a || not ways.folds) alone ∙ ap not folds) (sym (ap (λ a. or_walk a names) alone)) copy starved
-
-not_known : {A : Type 0} (alone : Option Names) (folds : Bool) → alone ≡ None → folds ≡ true → (is_some alone || not folds) ≡ true → A
-not_known None true none on e = cc
-not_known None false none on e = cc
-not_known (Some file) folds none on e = cc
-
-folding_loosely : (alone : Option Names) (folds : Bool) (tree : List Row) (names end : Names) → alone ≡ None → folds ≡ true → IsLoose true tree [] names end → EndsLoosely alone folds tree names end
-folding_loosely None true tree names end none on loose = loose
-folding_loosely None false tree names end none on loose = cc
-folding_loosely (Some file) folds tree names end none on loose = cc
-
--- A path that is found by folding.
-pub resolves_walked : (ways : Ways) (s t : DiskState) (names : Names) (r : Result Names FsError) → ((w : World) → s.told ≡ Some w → IsWorld w) → ways.alone ≡ None → ways.folds ≡ true → Walks s names r t
-    → Resolves ways s names r t
-resolves_walked ways s t names (Err e) worlds none on walks = record {
-  keeps = walks.keeps;
-  refused = walks.refused;
-  known = λ known. not_known ways.alone ways.folds none on known;
-  alike = tt;
-  told = tt;
-}
-resolves_walked ways s t names (Ok at) worlds none on walks = record {
-  keeps = walks.keeps;
-  refused = tt;
-  known = λ known. not_known ways.alone ways.folds none on known;
-  alike = λ alone. walks.alike;
-  told = λ w told.
-      (let (end, loose, here) = walks.told w told (worlds w told) in
-      record { end = end; loosely = folding_loosely ways.alone ways.folds w.tree names end none on loose; here = here });
-}
 
 -- In a tree without twins, where no link stands on the way, it is found where the rules say.
 pub leads_exactly : (ways : Ways) (tree : List Row) (names at : Names) → (ways.folds ≡ true → no_twins tree ≡ true) → is_linked tree (resolved_by ways tree names) ≡ false → Leads ways tree names at

@@ -1,23 +1,17 @@
 -- A name that is sought by its folding, in a listing.
-use Rattle.std.proofs.Common.{◌≡◌, ◌≤◌, ◌<◌, ◌||◌, inl, inr, ℕ, true, false, [], ◌∷◌, Option, None, Some, IsSome, Ok, Err, refl, sym, ap, ◌∙◌, subst, arith}
+use Rattle.std.proofs.Common.{◌≡◌, ◌||◌, inl, inr, ℕ, true, false, [], ◌∷◌, Option, None, Some, IsSome, Ok, refl, sym, ap, ◌∙◌, subst}
 use Rattle.std.specs.List.{list_any}
 use Rattle.std.specs.Str.{bytes_eq}
 use Rattle.std.proofs.lemmas.Slice.Eq.{slice_eq-Decides}
 use Rattle.std.specs.Cmp.{unsigned_Decides}
 use Rattle.dav_io.proofs.ToldLemmas.{told_after}
-use Rattle.dav_core.specs.declared.error.FsError.{FsError}
-use Rattle.dav_core.specs.declared.handle.DiskError.{DiskError}
-use Rattle.dav_core.specs.declared.handle.DiskError.TheVariants.{NotFound, NotDir, IsDir, Exists, NotEmpty, Failed, NoMemory}
-use Rattle.dav_core.specs.Disk.{DiskState, IsCounted}
-use Rattle.dav_core.specs.Errors.{fs_error_of}
-use Rattle.dav_core.specs.Listing.{ListsOn, MayRefuseNext, NextIn}
+use Rattle.dav_core.specs.Disk.{DiskState}
+use Rattle.dav_core.specs.Listing.{ListsOn, NextIn}
 use Rattle.dav_core.specs.Path.{Names}
 use Rattle.dav_core.specs.World.{World}
 use Rattle.dav_core.proofs.UnchangedLemmas.{put_same}
-use Rattle.dav_store.specs.Files.{Spoiled}
 use Rattle.dav_store.specs.Listings.{GoesOn, KeepsButLister}
-use Rattle.dav_store.proofs.Reading.{rose_from}
-use Rattle.dav_store.proofs.Walking.{walk_same, walk_then}
+use Rattle.dav_store.proofs.Walking.{walk_then}
 use Rattle.dav_model.specs.Folds.{Name, fold_name}
 use Rattle.dav_local.specs.Walking.{Searches, Sought}
 
@@ -43,13 +37,6 @@ pub record Seeks (s : DiskState) (l : ℕ) (folded : Name) (t : DiskState) : Typ
   pub live : IsSome (t.listers l)
   pub told : (w : World) (names : Names) → s.told ≡ Some w → w.listings l ≡ Some names → Rest names l folded t
 
-pub seeks_first : (s : DiskState) (l : ℕ) (folded : Name) → IsSome (s.listers l) → Seeks s l folded s
-seeks_first s l folded live = record {
-  keeps = walk_same (Some l) s;
-  live = live;
-  told = λ w names told listing. record { now = w; told = told; rest = names; listing = listing; all = λ found is. is };
-}
-
 none_more : (folded x : Name) (rest : Names) → bytes_eq (fold_name x) folded ≡ false → (found : Option Name) → Sought rest folded found → Sought (x ∷ rest) folded found
 none_more folded x rest other None none = ap (λ b. b || list_any (λ y. bytes_eq (fold_name y) folded) rest) other ∙ none
 none_more folded x rest other (Some name) among = inr among
@@ -74,43 +61,6 @@ seeks_on s m t l folded name seeks on goes other = record {
           listing = ap (λ u. u.listings l) next.2 ∙ put_same l (Some next.0) r.now.listings;
           all = λ found sought. r.all found (subst (λ z. Sought z folded found) (sym first) (none_more folded name next.0 other found sought));
         }
-
--- After each name the bound is lower.
-pub bound_falls : (m t : DiskState) (l : ℕ) (name : Name) → ListsOn m l (Ok (Some name)) t → bound (t.listers l) < bound (m.listers l)
-bound_falls m t l name on =
-    let (k, before, after) = on.listers in
-    let now : t.listers l ≡ Some k = ap (λ f. f l) after ∙ put_same l (Some k) m.listers in
-    rw (before, now) (omega arith)
-
-next_refused : {T : Type 0} (e : DiskError) (from : ℕ) (s m t : DiskState) → MayRefuseNext e → IsCounted {T = Option Name} (Err e) m t → s.faults ≤ m.faults → Spoiled {T = T} s (Err (fs_error_of e)) t
-next_refused Failed from s m t may counted le = inl (refl, rose_from s.faults m.faults t.faults le (counted.rose refl))
-next_refused NoMemory from s m t may counted le = inr refl
-next_refused NotFound from s m t may counted le = absurd may
-next_refused NotDir from s m t may counted le = absurd may
-next_refused IsDir from s m t may counted le = absurd may
-next_refused Exists from s m t may counted le = absurd may
-next_refused NotEmpty from s m t may counted le = absurd may
-
-pub search_refused : (s m t : DiskState) (l : ℕ) (folded : Name) (e : DiskError) (f : FsError) → Seeks s l folded m → ListsOn m l (Err e) t → GoesOn m (Some l) t → f ≡ fs_error_of e
-    → Searches s l folded (Err f) t
-search_refused s m t l folded e f seeks on goes is = record {
-  keeps = walk_then (Some l) s m t seeks.keeps goes.keeps;
-  live = goes.live;
-  refused = subst (λ x. Spoiled {T = Option Name} s (Err x) t) (sym is) (next_refused e 0 s m t on.only on.counted seeks.keeps.counts);
-  plain = tt;
-  alike = tt;
-  told = tt;
-}
-
-pub search_starved : (s m t : DiskState) (l : ℕ) (folded name : Name) → Seeks s l folded m → ListsOn m l (Ok (Some name)) t → GoesOn m (Some l) t → Searches s l folded (Err FsError.NoMemory) t
-search_starved s m t l folded name seeks on goes = record {
-  keeps = walk_then (Some l) s m t seeks.keeps goes.keeps;
-  live = goes.live;
-  refused = inr refl;
-  plain = tt;
-  alike = tt;
-  told = tt;
-}
 
 pub search_over : (s m t : DiskState) (l : ℕ) (folded : Name) → Seeks s l folded m → ListsOn m l (Ok None) t → GoesOn m (Some l) t → Searches s l folded (Ok None) t
 search_over s m t l folded seeks on goes = record {

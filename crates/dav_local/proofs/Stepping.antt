@@ -1,5 +1,5 @@
 -- The steps of a walk that finds names by folding.
-use Rattle.std.proofs.Common.{◌≡◌, ◌≤◌, ◌||◌, ◌⊎◌, inl, inr, Bool, true, false, List, [], ◌∷◌, ◌++◌, map, Option, None, Some, Result, Ok, Err, refl, sym, ap, subst, ◌∙◌, cond, arith}
+use Rattle.std.proofs.Common.{◌≡◌, ◌≤◌, ◌||◌, ◌⊎◌, inl, inr, Bool, true, false, List, [], ◌∷◌, ◌++◌, map, Option, None, Some, Result, Ok, Err, refl, sym, ap, subst, ◌∙◌, cond}
 use Rattle.std.specs.List.{AllByRecursion, filter, list_any}
 use Rattle.std.specs.List.Sorted.{IsPermutation}
 use Rattle.std.specs.Str.{bytes_eq}
@@ -22,7 +22,7 @@ use Rattle.dav_core.specs.Path.{Names}
 use Rattle.dav_core.specs.Tree.{below_kind, is_linked, look}
 use Rattle.dav_core.specs.Unchanged.{Keeps}
 use Rattle.dav_core.specs.World.{World}
-use Rattle.dav_core.proofs.UnchangedLemmas.{keeps_then, put_same}
+use Rattle.dav_core.proofs.UnchangedLemmas.{put_same}
 use Rattle.dav_store.specs.Files.{Spoiled}
 use Rattle.dav_store.specs.Listings.{EndsList, IsListed}
 use Rattle.dav_store.proofs.Reading.{rose_from, rose_on}
@@ -179,16 +179,6 @@ pub steps_none : (s t : DiskState) (at : Names) (name folding : Name) (found : O
 steps_none s t at name folding found searches is folds =
     none_step s t at name (subst (λ f. SearchesIn s at f (Ok None) t) folds (subst (λ f. SearchesIn s at folding (Ok f) t) is searches))
 
-pub steps_refused : (s t : DiskState) (at : Names) (name folding : Name) (e : FsError) → SearchesIn s at folding (Err e) t → Steps s at name (Err e) t
-steps_refused s t at name folding e searches = record { keeps = searches.keeps; refused = starved searches.refused; alike = tt; told = tt }
-  where
-    starved : Spoiled {T = Option Name} s (Err e) t → Spoiled {T = Option Names} s (Err e) t
-    starved (inl (is, rose)) = inl (cc, rose)
-    starved (inr none) = inr (cc)
-
-pub steps_starved : (s t : DiskState) (at : Names) (name : Name) → Keeps s t → Steps s at name (Err FsError.NoMemory) t
-steps_starved s t at name keeps = record { keeps = keeps; refused = inr refl; alike = tt; told = tt }
-
 meta_step : (s t : DiskState) (at : Names) (name : Name) (m : Meta) → Metas s (at ++ name ∷ []) (Ok m) t → Keeps s t → Steps s at name (Ok (Some (at ++ name ∷ []))) t
 meta_step s t at name m metas keeps = record {
   keeps = keeps;
@@ -210,18 +200,3 @@ pub steps_meta : (s t : DiskState) (at path : Names) (name spelled : Name) (m : 
 steps_meta s t at path name spelled m metas keeps spells place =
     let here : path ≡ at ++ name ∷ [] = place ∙ ap (λ z. at ++ z ∷ []) spells in
     subst (λ p. Steps s at name (Ok (Some p)) t) (sym here) (meta_step s t at name m (subst (λ p. Metas s p (Ok m) t) here metas) keeps)
-
--- A step after a look that found nothing.
-pub steps_after : (s m t : DiskState) (at : Names) (name : Name) (r : Result (Option Names) FsError) → Keeps s m → m.told ≡ s.told → Steps m at name r t → Steps s at name r t
-steps_after s m t at name (Err e) keeps same steps = record {
-  keeps = keeps_then s m t keeps steps.keeps;
-  refused = spoiled_from s m t t (Err e) keeps.counts (omega arith) steps.refused;
-  alike = tt;
-  told = tt;
-}
-steps_after s m t at name (Ok found) keeps same steps = record {
-  keeps = keeps_then s m t keeps steps.keeps;
-  refused = tt;
-  alike = steps.alike;
-  told = λ w told. steps.told w (same ∙ told);
-}

@@ -278,10 +278,6 @@ entries_push P (y ∷ xs) x all last = (all.0, entries_push P xs x all.1 last)
 abbrev called : LocalFsDirEntry → List ℕ
 called e = e.name
 
-why_later : (from x y : ℕ) (e : FsError) → x ≤ y → WhyRefused from x e → WhyRefused from y e
-why_later from x y e le (inl none) = inl none
-why_later from x y e le (inr (is, rose)) = inr (is, rose_on from x y rose le)
-
 -- ---- where a listing stands: what was given, and what is to be given
 
 record Front (b : Begun) (given : Names) (t : DiskState) (k : ListingState) : Type 0 where
