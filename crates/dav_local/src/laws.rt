@@ -29,8 +29,8 @@ use dav_cache::Remember;
 use dav_core::{DavPath, Disk};
 use dav_store::{DavDirEntry, DavFile, DavFileSystem, GuardedFileSystem};
 
-/// Over a told disk each look is answered by the rules for a place where a loose walk of the path ends, whatever the memory
-/// knows and however many names fold alike.
+/// Over a told disk each look is answered by the rules for a place where a loose walk of the path ends, whatever the
+/// memory knows and however many names fold alike.
 pub fn looks_are_by_the_rules<D: Disk, R: Remember>(_fs: &LocalFs<D, R>, _path: &DavPath)
     ensures { (w : World) (result : Result Info FsError) (t : LocalFs D R)
         → (D.state _fs.now.disk).told ≡ Some w
@@ -55,9 +55,9 @@ pub fn listings_are_by_the_rules<D: Disk, R: Remember>(_fs: &LocalFs<D, R>, _pat
         → ListsByRules _fs.now.ways w _path.now (D.state _fs.now.disk) result (D.state t.disk) }
 {}
 
-/// Over a told disk, a walk over the listing of a directory, where no link stands on the way to it or at one of its members, is
-/// told of its members, each once. It ends where all were given, for want of memory, or because of a fault that was met
-/// since the listing was asked for.
+/// Over a told disk, a walk over the listing of a directory, where no link stands on the way to it or at one of its
+/// members, is told of its members, each once. It ends where all were given, for want of memory, or because of a fault
+/// that was met since the listing was asked for.
 pub fn walks_tell_the_members<D: Disk, R: Remember>(_fs: &LocalFs<D, R>, _path: &DavPath)
     ensures each { (w : World) (n o : LocalFs D R) (l k : ListingState) (answers : List Answered)
         → (D.state _fs.now.disk).told ≡ Some w
@@ -74,7 +74,8 @@ pub fn walks_tell_the_members<D: Disk, R: Remember>(_fs: &LocalFs<D, R>, _path: 
         → EndsBy (D.state _fs.now.disk).faults (members w l.path) answers last (D.state t.disk).faults }
 {}
 
-/// What the store shows at a place is what the rules show of a path that is found there, where no link stands on the way.
+/// What the store shows at a place is what the rules show of a path that is found there, where no link stands on the
+/// way.
 pub fn the_rules_show_the_same(_path: &DavPath)
     ensures looked { (settings : Settings) (ways : Ways) (w : World) (end : Names) (denies : Bool)
         → is_linked w.tree end ≡ false → as_stood (looked_by ways w end denies _path.now)
@@ -84,8 +85,8 @@ pub fn the_rules_show_the_same(_path: &DavPath)
         ≡ opened_at (rules_with settings ways) w (found_at end false) _path.now }
 {}
 
-/// Where a path was looked at, one opened and one listed, each at a place where a loose walk ends, a store may find them
-/// there: so the answers are of one that the rules allow.
+/// Where a path was looked at, one opened and one listed, each at a place where a loose walk ends, a store may find
+/// them there: so the answers are of one that the rules allow.
 pub fn answers_are_of_one_finding()
     ensures { (rules : Rules) (k : Knowledge) (w : World) (looked opened listed : Names × Names) (denies : Bool)
         → EndsLoosely rules.alone rules.folds w.tree looked.0 looked.1
