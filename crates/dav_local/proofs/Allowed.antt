@@ -1,5 +1,5 @@
 -- What a local store shows is what the rules show, and what it finds a store may find.
-use Rattle.std.proofs.Common.{◌≡◌, ◌&&◌, ◌||◌, Bool, true, false, cond, Result, Ok, Err, refl, sym, ap, subst, ◌∙◌}
+use Rattle.std.proofs.Common.{◌≡◌, ◌&&◌, ◌||◌, Bool, true, false, cond, List, Some, Result, Ok, Err, refl, sym, ap, subst, ◌∙◌}
 use Rattle.std.proofs.lemmas.Bool.{and_parts}
 use Rattle.dav_core.specs.declared.error.FsError.{FsError}
 use Rattle.dav_core.specs.declared.error.FsError.TheVariants as fs
@@ -14,12 +14,14 @@ use Rattle.dav_core.specs.World.{World}
 use Rattle.dav_core.proofs.Plain.{names_same}
 use Rattle.dav_store.specs.Standing.{Standing}
 use Rattle.dav_model.specs.declared.settings.Settings.{Settings}
-use Rattle.dav_model.specs.Finding.{Denies, EndsLoosely, MayFind, has_slash, is_localized, is_virtual, looked_at, opened_at, resolved, stood_at}
+use Rattle.dav_core.specs.declared.member.Member.{Member}
+use Rattle.dav_model.specs.Finding.{Denies, EndsLoosely, Finding, MayFind, MayShow, empty_file, has_slash, is_clear, is_forbidden, is_localized, is_virtual, listed_in, looked_at, opened_at, resolved, stood_at}
+use Rattle.dav_model.specs.Head.{Stood}
 use Rattle.dav_model.specs.Rules.{Knowledge, Rules}
-use Rattle.dav_model.proofs.LooseWalks.{exactly_may}
+use Rattle.dav_model.proofs.LooseWalks.{exactly_may, names_equal}
 use Rattle.dav_model.proofs.PlainWalks.{unlinked_row}
 use Rattle.dav_local.specs.Calls.{is_shut}
-use Rattle.dav_local.specs.Shown.{as_stood, empty_standing, finding_of, found_at, looked_by, one_found, opened_by}
+use Rattle.dav_local.specs.Shown.{as_stood, empty_standing, finding_of, found_at, looked_by, one_found, opened_by, shown_where}
 use Rattle.dav_local.specs.Standing.{found, standing_of, under_slash}
 use Rattle.dav_local.specs.Ways.{Ways, rules_of, rules_with}
 
@@ -81,3 +83,43 @@ may_find rules k w looked opened listed denies looks opens lists denied = record
       let (macos, may) = denied on in
       (macos, subst (λ z. Denies k w.tree z) (sym (names_same path looked.1 same)) may));
 }
+
+-- ---- one store that shows all of it
+
+pub may_show : (rules : Rules) (k : Knowledge) (w : World) (f : Finding) (looked opened : Result Stood FsError) (listed : Result (List Member) FsError) → MayFind rules k w.tree f
+    → MayShow rules k (Some w) (shown_where rules w f looked opened listed)
+may_show rules k w f looked opened listed may = record {
+  finding = f;
+  may = may;
+  looked = λ path clear. ap (λ b. cond b looked (looked_at rules w f path)) clear;
+  opened = λ path clear. ap (λ b. cond b opened (opened_at rules w f path)) clear;
+  listed = λ path clear. ap (λ b. cond b (listed_in w (f.lists path.names)) listed) clear;
+}
+
+found_here : (rules : Rules) (w : World) (at : Names × Names) (names : Names) → names ≡ at.0 → one_found rules w at names ≡ at.1
+found_here rules w at names is = ap (λ b. cond b at.1 (resolved rules w.tree names)) (names_equal names at.0 is)
+
+and_true : (b : Bool) → (b && true) ≡ b
+and_true true = refl
+and_true false = refl
+
+denied_here : (denies : Bool) (end : Names) → (denies && same_names end end) ≡ denies
+denied_here denies end = ap (λ b. denies && b) (names_equal end end refl) ∙ and_true denies
+
+-- What is shown at the path that was looked at, at the one that was opened, and of the directory that was listed.
+pub looked_here : (rules : Rules) (w : World) (at opens lists : Names × Names) (denies : Bool) (looked opened : Result Stood FsError) (listed : Result (List Member) FsError) (path : WebPath) → path.names ≡ at.0
+    → (shown_where rules w (finding_of rules w at opens lists denies) looked opened listed).looked path ≡ cond (is_linked w.tree at.1) looked (looked_at rules w (found_at at.1 denies) path)
+looked_here rules w at opens lists denies looked opened listed path is =
+    ap (λ z. cond (is_linked w.tree z) looked (cond (is_virtual rules path) (Ok empty_file)
+    (cond ((rules.macos && is_localized z) || (denies && same_names z at.1)) (Err fs.NotFound) (stood_at (has_slash rules.alone path) w (look w.tree z))))) (found_here rules w at path.names is)
+    ∙ ap (λ b. cond (is_linked w.tree at.1) looked (cond (is_virtual rules path) (Ok empty_file)
+    (cond ((rules.macos && is_localized at.1) || b) (Err fs.NotFound) (stood_at (has_slash rules.alone path) w (look w.tree at.1))))) (denied_here denies at.1)
+
+pub opened_here : (rules : Rules) (w : World) (looks at lists : Names × Names) (denies : Bool) (looked opened : Result Stood FsError) (listed : Result (List Member) FsError) (path : WebPath) → path.names ≡ at.0
+    → (shown_where rules w (finding_of rules w looks at lists denies) looked opened listed).opened path ≡ cond (is_linked w.tree at.1) opened (opened_at rules w (found_at at.1 false) path)
+opened_here rules w looks at lists denies looked opened listed path is =
+    ap (λ z. cond (is_linked w.tree z) opened (cond (is_forbidden rules path || has_slash rules.alone path) (Err fs.Forbidden) (stood_at false w (look w.tree z)))) (found_here rules w at path.names is)
+
+pub listed_here : (rules : Rules) (w : World) (looks opens at : Names × Names) (denies : Bool) (looked opened : Result Stood FsError) (listed : Result (List Member) FsError) (path : WebPath) → path.names ≡ at.0
+    → (shown_where rules w (finding_of rules w looks opens at denies) looked opened listed).listed path ≡ cond (is_clear w.tree at.1) (listed_in w at.1) listed
+listed_here rules w looks opens at denies looked opened listed path is = ap (λ z. cond (is_clear w.tree z) (listed_in w z) listed) (found_here rules w at path.names is)

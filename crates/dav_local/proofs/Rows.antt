@@ -280,6 +280,9 @@ behind_link tree l (n ∷ names) is o link = inr (none_of (is_alike true l.path 
 
 -- ---- each front of a row's path stands
 
+take_parent : (n : ℕ) (path above front : Names) → front ≡ take n above → above ≡ parent_of path → n ≤ length path - 1 → front ≡ take n path
+take_parent n path above front is parent le = is ∙ ap (take n) parent ∙ take-take n (length path - 1) path le
+
 pub front_stands : (fuel : ℕ) (tree : List Row) (l : Row) (n : ℕ) → IsTree tree → IsOf l tree → length l.path ≡ n + fuel → (d : Row) × IsOf d tree × (d.path ≡ take n l.path)
 front_stands zero tree l n is o long = (l, o, sym (ap (λ k. take k l.path) (let e : n ≡ length l.path = omega (arith, long) in e) ∙ whole l.path))
   where
@@ -293,7 +296,7 @@ front_stands (suc fuel) tree l n is o long =
     let same : length d.path ≡ length (parent_of l.path) = ap length path in
     let shorter : length d.path ≡ n + fuel = omega (arith, same, short, long) in
     let (e, oe, at) = front_stands fuel tree d n is od shorter in
-    (e, oe, at ∙ ap (take n) path ∙ take-take n (length l.path - 1) l.path (omega (arith, long)))
+    (e, oe, take_parent n l.path d.path e.path at path (omega (arith, long)))
 
 -- Where a link stands on the way to a path, a walk comes to it.
 pub linked_loosely : (tree : List Row) (at names : Names) → IsTree tree → IsClearAt tree at → is_linked tree (at ++ names) ≡ true → IsLoose true tree at names (at ++ names)

@@ -18,9 +18,10 @@ use Rattle.dav_store.specs.Shows.{LooksThere, OpensThere}
 use Rattle.dav_store.specs.Standing.{Standing}
 use Rattle.dav_store.specs.Void.{empty_info}
 use Rattle.dav_cache.specs.Memory.{MemoryState}
-use Rattle.dav_model.specs.Finding.{Denies, EndsLoosely, Finding, has_slash, is_localized, is_virtual, listed_in, resolved}
+use Rattle.dav_model.specs.Finding.{Denies, EndsLoosely, Finding, has_slash, is_clear, is_localized, is_virtual, listed_in, looked_at, opened_at, resolved}
 use Rattle.dav_model.specs.Head.{Stood}
 use Rattle.dav_model.specs.Rules.{Knowledge, Rules}
+use Rattle.dav_model.specs.Shown.{Shown}
 use Rattle.dav_local.specs.declared.entry.LocalFsDirEntry.{LocalFsDirEntry}
 use Rattle.dav_local.specs.declared.file.LocalFsFile.{LocalFsFile}
 use Rattle.dav_local.specs.Calls.{is_shut}
@@ -105,3 +106,13 @@ abbrev pub EndsBy : ℕ → List Member → List Answered → Result (Option Loc
 EndsBy from all answers (Ok None) now = length answers ≡ length all
 EndsBy from all answers (Ok (Some entry)) now = Unit {0}
 EndsBy from all answers (Err e) now = WhyRefused from now e
+
+-- ---- one store that shows all of it
+
+-- By a finding what the rules show, and where a link is met what was heard.
+abbrev pub shown_where : Rules → World → Finding → Result Stood FsError → Result Stood FsError → Result (List Member) FsError → Shown
+shown_where rules w f looked opened listed = record {
+  looked = λ path. cond (is_linked w.tree (f.looks path.names)) looked (looked_at rules w f path);
+  opened = λ path. cond (is_linked w.tree (f.opens path.names)) opened (opened_at rules w f path);
+  listed = λ path. cond (is_clear w.tree (f.lists path.names)) (listed_in w (f.lists path.names)) listed;
+}

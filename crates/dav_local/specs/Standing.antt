@@ -5,18 +5,15 @@ use Rattle.std.specs.Option.{option_map}
 use Rattle.dav_core.specs.declared.error.FsError.{FsError}
 use Rattle.dav_core.specs.declared.error.FsError.TheVariants.{Forbidden}
 use Rattle.dav_core.specs.declared.handle.DiskError.{DiskError}
-use Rattle.dav_core.specs.declared.member.Member.{Member}
 use Rattle.dav_core.specs.declared.time.FileTime.{FileTime}
 use Rattle.dav_core.specs.declared.tree.Kind.{Kind}
 use Rattle.dav_core.specs.declared.tree.Row.{Row}
-use Rattle.dav_core.specs.DavPath.{WebPath}
 use Rattle.dav_core.specs.Disk.{DiskState, Live}
 use Rattle.dav_core.specs.Errors.{fs_error_of}
 use Rattle.dav_core.specs.Info.{known, tag_of}
-use Rattle.dav_core.specs.Listing.{listable, stands_in}
-use Rattle.dav_core.specs.Members.{members}
+use Rattle.dav_core.specs.Listing.{stands_in}
 use Rattle.dav_core.specs.Path.{Names}
-use Rattle.dav_core.specs.Tree.{is_dir, is_linked, look}
+use Rattle.dav_core.specs.Tree.{is_dir, is_linked}
 use Rattle.dav_core.specs.World.{World, OpenFile, bytes_of, time_of}
 use Rattle.dav_store.specs.Standing.{Standing, Seen}
 
@@ -43,14 +40,6 @@ abbrev pub found : World → Bool → Result Row DiskError → Result Standing F
 found w slash (Ok row) = under_slash slash row.kind (standing_of w row)
 found w slash (Err e) = Err (fs_error_of e)
 
--- what a look finds at a path
-abbrev pub looked : World → WebPath → Result Standing FsError
-looked w path = found w path.slash (look w.tree path.names)
-
--- what is opened for reading at a path: nothing where a slash ends it
-abbrev pub opened : World → WebPath → Result Standing FsError
-opened w path = if path.slash then Err Forbidden else looked w path
-
 -- an open file of this kind, as the world has it
 abbrev pub seen_in : World → Kind → OpenFile → Seen
 seen_in w kind o = record { stands = standing_as kind o.number (time_of w o.number) (bytes_of w o.number); place = o.place }
@@ -63,14 +52,6 @@ seen_with (Some w) (Some l) h = option_map (seen_in w l.kind) (w.opens h)
 -- the open file of a handle, where it is told
 abbrev pub seen_at : DiskState → ℕ → Option Seen
 seen_at s h = seen_with s.told (s.live h) h
-
-abbrev pub members_of : World → Names → Result Row DiskError → Result (List Member) FsError
-members_of w dir (Ok row) = Ok (members w dir)
-members_of w dir (Err e) = Err (fs_error_of e)
-
--- the members of the directory at a path, or why it can't be listed
-abbrev pub members_found : World → WebPath → Result (List Member) FsError
-members_found w path = members_of w path.names (listable (look w.tree path.names))
 
 -- No link stands on the way to a directory or at one of its members.
 pub record HasNoLinks (w : World) (dir : Names) : Type 0 where

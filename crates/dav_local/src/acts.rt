@@ -20,8 +20,8 @@ pub fn open_at<D: Disk>(
     options: OpenOptions,
     public: bool,
 ) -> Result<LocalFsFile, FsError>
-    ensures done { (answer : Result Handle DiskError) × Opens (D.state disk.old) at.now options answer (D.state disk.new)
-        × (result ≡ filed answer) }
+    ensures done { (answer : Result Handle DiskError)
+        × Opens (D.state disk.old) at.now options answer (D.state disk.new) × (result ≡ filed answer) }
     ensures one { OpensOne (λ f. f.handle.0) seen_by options (D.state disk.old) result (D.state disk.new) }
     ensures loan { D.loan disk.new ≡ D.loan disk.old }
 {

@@ -71,7 +71,8 @@ impl<D: Disk> DavFile<D> for LocalFsFile {
         }
     }
 
-    /// Reads bytes from its place on, by one call of the disk. What is no regular file opened for reading may be forbidden.
+    /// Reads bytes from its place on, by one call of the disk. What is no regular file opened for reading may be
+    /// forbidden.
     fn read_into(&mut self, disk: &mut D, into: &mut [u8]) -> Result<usize, FsError>
         requires live { IsSome ((D.state disk.old).live self.old.handle.0) }
         requires room { 0 < length into.old }

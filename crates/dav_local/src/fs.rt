@@ -138,7 +138,8 @@ impl<D: Disk, R: Remember> LocalFs<D, R> {
         self.ways.is_virtual(path)
     }
 
-    /// Whether nothing may be made, opened or removed at the path by the rules for clients of macOS. It takes no memory.
+    /// Whether nothing may be made, opened or removed at the path by the rules for clients of macOS. It takes no
+    /// memory.
     pub fn is_forbidden(&self, path: &DavPath) -> bool
         ensures { result ≡ finding.is_forbidden (rules_of self.now.ways) path.now }
     {
@@ -152,10 +153,11 @@ impl<D: Disk, R: Remember> LocalFs<D, R> {
         self.is_forbidden(path) || self.ways.has_slash(path)
     }
 
-    /// Whether a path that was found is called absent by these rules: one whose last name is `.localized`, and one whose
-    /// last name begins with `._` where the memory says that its directory hasn't it.
+    /// Whether a path that was found is called absent by these rules: one whose last name is `.localized`, and one
+    /// whose last name begins with `._` where the memory says that its directory hasn't it.
     pub fn is_notfound(&mut self, path: &FsPath) -> Result<bool, NoMemory>
-        ensures done { TellsAbsent (place_of D.state R.state self.old) path.now result (place_of D.state R.state self.new) }
+        ensures done { TellsAbsent (place_of D.state R.state self.old) path.now result
+            (place_of D.state R.state self.new) }
         ensures keeps { Keeps (D.state self.old.disk) (D.state self.new.disk) }
         ensures stays { Stays self.old self.new }
         ensures loan { D.loan self.new.disk ≡ D.loan self.old.disk }
@@ -239,7 +241,8 @@ impl<D: Disk, R: Remember> LocalFs<D, R> {
     // Makes a directory of this name in the root where nothing stands.
     fn make_one(&mut self, alloc: Global, name: &str) -> Result<(), FsError>
         requires { is_plain name.now ≡ true }
-        ensures done { MakesOne name.now (place_of D.state R.state self.old) result (place_of D.state R.state self.new) }
+        ensures done { MakesOne name.now (place_of D.state R.state self.old) result
+            (place_of D.state R.state self.new) }
         ensures keeps { KeepsOpen (D.state self.old.disk) (D.state self.new.disk) }
         ensures stays { Stays self.old self.new }
         ensures loan { D.loan self.new.disk ≡ D.loan self.old.disk }

@@ -1,5 +1,5 @@
-//! The local store: a disk from its root on, whose names may be found by folding, with the rules for clients of macOS, and
-//! with a memory of where paths were found.
+//! The local store: a disk from its root on, or one file of it, whose names may be found by folding, with the rules for
+//! clients of macOS, and with a memory.
 #![tactic(auto)]
 
 mod acts;

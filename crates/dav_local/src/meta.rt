@@ -13,7 +13,8 @@ use std::alloc::Global;
 pub enum LocalFsMetaData {
     /// What the disk says of it.
     Found(Meta),
-    /// It is one of the two files that clients of macOS look for in the root: an empty file, of which the disk isn't asked.
+    /// It is one of the two files that clients of macOS look for in the root: an empty file, of which the disk isn't
+    /// asked.
     Empty,
 }
 

@@ -36,17 +36,21 @@ impl<D: Disk, R: Remember> DavFileSystem for LocalFs<D, R> {
 
     ghost void = { λ _. false };
 
-    ghost looks = { λ s path result t. Looks true (place_of D.state R.state s) path result (place_of D.state R.state t) × Stays s t };
+    ghost looks = { λ s path result t. Looks true (place_of D.state R.state s) path result
+        (place_of D.state R.state t) × Stays s t };
 
-    ghost looks_at_link = { λ s path result t. Looks false (place_of D.state R.state s) path result (place_of D.state R.state t) × Stays s t };
+    ghost looks_at_link = { λ s path result t. Looks false (place_of D.state R.state s) path result
+        (place_of D.state R.state t) × Stays s t };
 
-    ghost opens = { λ s path how result t. IsOpening (place_of D.state R.state s) path how result (place_of D.state R.state t) × Stays s t };
+    ghost opens = { λ s path how result t. IsOpening (place_of D.state R.state s) path how result
+        (place_of D.state R.state t) × Stays s t };
 
     ghost lister = { λ d. Some d.lister.0 };
 
     ghost to_come = { to_come };
 
-    ghost lists = { λ s path wanted result t. Finds (place_of D.state R.state s) path.names (BeginsAt wanted) result (place_of D.state R.state t) × Stays s t };
+    ghost lists = { λ s path wanted result t. Finds (place_of D.state R.state s) path.names (BeginsAt wanted) result
+        (place_of D.state R.state t) × Stays s t };
 
     ghost lists_on = { λ s d result t e. NextEntry (D.state s.disk) d result (D.state t.disk) e
         × (t ≡ record s { disk = t.disk }) };
@@ -54,15 +58,20 @@ impl<D: Disk, R: Remember> DavFileSystem for LocalFs<D, R> {
     ghost ends_list = { λ s d t. EndsListing (D.state s.disk) d.lister.0 (D.state t.disk)
         × (t ≡ record s { disk = t.disk }) };
 
-    ghost makes_dir = { λ s path result t. AsksToMake (place_of D.state R.state s) path result (place_of D.state R.state t) × Stays s t };
+    ghost makes_dir = { λ s path result t. AsksToMake (place_of D.state R.state s) path result
+        (place_of D.state R.state t) × Stays s t };
 
-    ghost removes_dir = { λ s path result t. AsksToTakeDir (place_of D.state R.state s) path result (place_of D.state R.state t) × Stays s t };
+    ghost removes_dir = { λ s path result t. AsksToTakeDir (place_of D.state R.state s) path result
+        (place_of D.state R.state t) × Stays s t };
 
-    ghost removes_file = { λ s path result t. AsksToTakeFile (place_of D.state R.state s) path result (place_of D.state R.state t) × Stays s t };
+    ghost removes_file = { λ s path result t. AsksToTakeFile (place_of D.state R.state s) path result
+        (place_of D.state R.state t) × Stays s t };
 
-    ghost renames = { λ s from to result t. AsksToMove (place_of D.state R.state s) from to result (place_of D.state R.state t) × Stays s t };
+    ghost renames = { λ s from to result t. AsksToMove (place_of D.state R.state s) from to result
+        (place_of D.state R.state t) × Stays s t };
 
-    ghost copies = { λ s from to result t. AsksToCopy (place_of D.state R.state s) from to result (place_of D.state R.state t) × Stays s t };
+    ghost copies = { λ s from to result t. AsksToCopy (place_of D.state R.state s) from to result
+        (place_of D.state R.state t) × Stays s t };
 
     fn disk(&mut self) -> &mut D {
         &mut self.disk

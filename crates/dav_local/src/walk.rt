@@ -1,5 +1,5 @@
-// A path that is found by folding, over any disk: as it stands, or else by a walk from the root, which at each directory
-// takes the name as it stands or the entry that folds alike. Of a listing one name at a time is in memory.
+// A path that is found by folding, over any disk: as it stands, or else by a walk from the root, which at each
+// directory takes the name as it stands or the entry that folds alike. Of a listing one name at a time is in memory.
 ghost use Rattle.std.specs.Prelude.{◌≡◌, ◌++◌, Err, IfOk, IsSome, OnErr, OnOk, true};
 ghost use Rattle.dav_core.specs.Path.{all_plain, is_plain, parent_of};
 ghost use Rattle.dav_model.specs.Folds as folds;

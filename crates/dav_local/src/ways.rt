@@ -20,16 +20,16 @@ pub struct Ways {
 }
 
 impl Ways {
-    /// Whether the path is one of the two files that clients of macOS look for in the root, as it is written. It takes no
-    /// memory.
+    /// Whether the path is one of the two files that clients of macOS look for in the root, as it is written. It takes
+    /// no memory.
     pub fn is_virtual(&self, path: &DavPath) -> bool
         ensures { result ≡ finding.is_virtual (rules_of self.now) path.now }
     {
         self.macos && (!path.is_collection() && is_looked_for(path.names()))
     }
 
-    /// Whether what is made, opened or removed at the path is forbidden: the two files, and a last name `.localized`. It
-    /// takes no memory.
+    /// Whether what is made, opened or removed at the path is forbidden: the two files, and a last name `.localized`.
+    /// It takes no memory.
     pub fn is_forbidden(&self, path: &DavPath) -> bool
         ensures { result ≡ finding.is_forbidden (rules_of self.now) path.now }
     {
