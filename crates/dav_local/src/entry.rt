@@ -24,6 +24,7 @@ pub struct LocalFsDirEntry {
 }
 
 impl LocalFsDirEntry {
+    /// An entry of this name, which must be plain, with what is known of its metadata.
     pub fn new(name: Text, meta: EntryMeta) -> Self
         requires { is_plain name ≡ true }
         ensures name { result.name ≡ name }
