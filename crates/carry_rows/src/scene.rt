@@ -15,7 +15,10 @@ const TIME: FileTime = FileTime { secs: 1, nanos: 0 };
 
 /// Whether a part sets something.
 pub fn is_set(part: &str) -> bool {
-    matches!(part.split(' ').next().unwrap_or(""), "dir" | "file" | "fail")
+    matches!(
+        part.split(' ').next().unwrap_or(""),
+        "dir" | "file" | "fail"
+    )
 }
 
 fn number(word: &str) -> Result<u64> {
