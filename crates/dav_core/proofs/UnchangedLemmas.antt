@@ -9,7 +9,7 @@ use Rattle.dav_core.specs.declared.handle.Handle.{Handle}
 use Rattle.dav_core.specs.declared.handle.OpenOptions.{OpenOptions}
 use Rattle.dav_core.specs.declared.handle.DiskError.{DiskError}
 use Rattle.dav_core.specs.Path.{Names}
-use Rattle.dav_core.specs.World.{World, OpenFile, SameHeld, put}
+use Rattle.dav_core.specs.World.{World, OpenFile, put}
 use Rattle.dav_core.specs.Disk.{Live, DiskState, Metas, FileMetas, Opens, OpenedIn, kind_opened, Seeks, SoughtIn, Reads, ReadIn, placed, Closes, ClosedIn}
 use Rattle.dav_core.specs.Unchanged.{SameBesidesOpens, SameOpen, SameListing, KeepsBut, Keeps}
 
@@ -27,10 +27,6 @@ same_besides_then a b c p q = record {
   latest = q.latest ∙ p.latest;
   script = q.script ∙ p.script;
 }
-
--- a world that forgot nothing
-pub same_held : (v w : World) → w ≡ v → SameHeld v w
-same_held v w e = rw e (record { same = refl; files = λ number held. refl })
 
 pub same_open_then : (h : ℕ) (a b c : World) → SameOpen h a b → SameOpen h b c → SameOpen h a c
 same_open_then h a b c p q = q ∙ p

@@ -13,8 +13,9 @@ use Rattle.dav_core.specs.Path.{Names}
 use Rattle.dav_core.specs.Tree.{look, IsTreeRefusal}
 use Rattle.dav_core.proofs.LookLemmas.{look_err}
 use Rattle.dav_core.specs.World.{World, is_numbered, put}
-use Rattle.dav_core.proofs.UnchangedLemmas.{put_same, same_held}
+use Rattle.dav_core.proofs.UnchangedLemmas.{put_same}
 use Rattle.dav_core.specs.Disk.{Live, IsCounted, Refused, MetasBy, MayRefuseMeta, Opens, MayRefuseOpen, Closes}
+use Rattle.dav_core.proofs.HeldStays.{same_held}
 use Rattle.dav_core.proofs.RefusedLemmas.{refused_of}
 use Rattle.dav_disk.proofs.Changed.{look_in}
 use Rattle.dav_disk.proofs.Trees.{In}
