@@ -9,7 +9,7 @@ ghost use Rattle.dav_core.specs.Methods.{same_method};
 ghost use Rattle.dav_core.specs.declared.method.DavMethod.TheVariants.{Options};
 ghost use Rattle.dav_core.specs.Statuses.{path_status as the_path_status};
 ghost use Rattle.dav_model.specs.Conditions.{reads as the_reads, writes as the_writes};
-ghost use Rattle.dav_model.specs.Gates.{admitted as the_admitted, asked as the_asked, has_field as the_has_field, in_allowed, is_allowed as the_is_allowed, is_built as the_is_built, of_body as the_of_body, takes_much as the_takes_much, takes_some as the_takes_some, weighed as the_weighed, with_path as the_with_path};
+ghost use Rattle.dav_model.specs.Gates.{admitted as the_admitted, asked as the_asked, has_field as the_has_field, in_allowed, is_allowed as the_is_allowed, is_built as the_is_built, is_partial as the_is_partial, of_body as the_of_body, takes_much as the_takes_much, takes_some as the_takes_some, weighed as the_weighed, with_path as the_with_path};
 ghost use Rattle.dav_model.specs.declared.target.Target.TheVariants.{Refused};
 ghost use Rattle.dav_config.specs.Names.{is_short as the_is_short};
 ghost use Rattle.dav_config.specs.Reading.{seen_as};
@@ -89,6 +89,16 @@ fn is_method_built(method: DavMethod) -> bool
     method == DavMethod::Options
 }
 
+// Whether a request puts a part of a file, which would stand there as the whole.
+fn is_partial(fields: &HeaderMap, method: DavMethod) -> bool
+    ensures { result ≡ the_is_partial fields.now method }
+{
+    if method != DavMethod::Put {
+        return false;
+    }
+    fields.get("content-range").is_some()
+}
+
 // Whether the form of a request is built.
 fn is_built(fields: &HeaderMap, method: DavMethod) -> bool
     ensures { result ≡ the_is_built fields.now method }
@@ -96,7 +106,10 @@ fn is_built(fields: &HeaderMap, method: DavMethod) -> bool
     if !is_method_built(method) {
         return false;
     }
-    !has_if(fields)
+    if has_if(fields) {
+        return false;
+    }
+    !is_partial(fields, method)
 }
 
 /// Whether a method stores a body of any length.

@@ -69,12 +69,17 @@ of_body method some = unless (takes_some method) 415 false
 of_body method much = cond (takes_much method) None (Some (Refused 413 false))
 of_body method broken = Some (Refused 500 false)
 
--- Gates 7 and 8, of the head again: a form that isn't built. Some methods aren't, nor is the field `if`.
+-- Gates 7 and 8, of the head again: a form that isn't built. Some methods aren't, nor is the field `if`, nor a PUT of a part of
+-- a file.
 abbrev pub has_field : Fields → List ℕ → Bool
 has_field fields name = is_some (get fields name)
 
+abbrev pub is_partial : Fields → DavMethod → Bool
+is_partial fields method = same_method method Put && has_field fields (codes "content-range")
+
 abbrev pub is_built : Fields → DavMethod → Bool
-is_built fields method = (reads method || (writes method || same_method method Options)) && not (has_field fields (codes "if"))
+is_built fields method = (reads method || (writes method || same_method method Options))
+    && not (has_field fields (codes "if") || is_partial fields method)
 
 abbrev pub or_refused : Option Target → Option Target → Target → Target
 or_refused None None target = target
