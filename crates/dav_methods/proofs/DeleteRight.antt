@@ -27,10 +27,11 @@ use Rattle.dav_model.specs.Conditions.{Fields, condition, condition_of, strong}
 use Rattle.dav_model.specs.Due.{failure}
 use Rattle.dav_model.specs.Finding.{is_forbidden, is_virtual, resolved, stood_at}
 use Rattle.dav_model.specs.Head.{Stood, refusal, stood_in}
-use Rattle.dav_model.specs.Plans.{Act, Ask, Halt, delete_plan, failing, first, has_link_below, halts, is_too_deep, line, meets_link, plan, refused, removal, removals, removing, stands, unless, unmet, when}
+use Rattle.dav_model.specs.Plans.{Act, Ask, Halt, delete_plan, failing, first, has_link_below, is_too_deep, line, meets_link, plan, refused, removal, removals, removing, stands, unless, unmet, when}
 use Rattle.dav_model.specs.Rules.{Rules}
 use Rattle.dav_model.specs.Walks.{members_first, walk}
 use Rattle.dav_model.specs.Written.{ByActs, EndsAs, PartOf}
+use Rattle.dav_model.proofs.JoiningLemmas.{part_none}
 use Rattle.dav_model.proofs.PlainWalks.{plain_resolved, unlinked_row}
 use Rattle.dav_methods.specs.declared.work.Work.TheVariants.{Whole}
 use Rattle.dav_methods.specs.Follows.{Agrees, Finds, Follows, LooksBy, Reached, RightIn, Told, here, looks_at_link}
@@ -40,9 +41,9 @@ use Rattle.dav_methods.specs.Pouring.{Writes}
 use Rattle.dav_methods.specs.Removing.{Deletes, LooksAtLink, Removes, RemovesAll}
 use Rattle.dav_methods.specs.Removing as own
 use Rattle.dav_methods.specs.Table.{Next, Unless}
-use Rattle.dav_methods.proofs.RemovalRun.{Case, Comes, Goes, acts, comes_after, removed, short_comes, spoiled_comes}
+use Rattle.dav_methods.proofs.ActsJoined.{Comes, Halted, acts_by, comes_after, done_acts, halted_acts, halted_comes, removals_none, short_comes, spoiled_comes}
+use Rattle.dav_methods.proofs.RemovalRun.{Case, Goes, acts, deep_in, removed}
 use Rattle.dav_methods.proofs.RemovalWork.{Left}
-use Rattle.dav_methods.proofs.TakenAfter.{acts_by, none_done}
 use Rattle.dav_methods.proofs.TreeRows.{front_itself, not_both, parts_of, row_at_in}
 use Rattle.dav_methods.proofs.WalkOrder.{In, path_in, paths}
 use Rattle.dav_methods.proofs.WorkCovers.{AllFit, Covers, going, in_walked, walked, walked_ascends, walked_in}
@@ -240,18 +241,18 @@ module _ {S C F L E : Type 0} (view : View S C F) (lists : Listings S C L E) (wr
   ToldIn m n P = Told view lists writes c m n P
 
   abbrev Came : Line → List Act → S → World → World → Type 0
-  Came l all t v w = Comes view lists writes c rules fields start follows plain l all t v w
+  Came l all t v w = Comes view fields start l all t v w
 
   -- What acts came to is what is answered.
   right_of : (all : Line) (t : S) (v w : World) (acts : List Act) → (delete_plan rules v ask).acts ≡ acts → Came all acts t v w → Right (the.unless all the.silent) t v w
-  right_of (Ok x) t v w acts e h (Ok reply) is clear = inl (rw e (subst (λ z. ByActs fields acts 204 z v w) (sym is) h))
+  right_of (Ok x) t v w acts e h (Ok reply) is clear = inl (rw e (subst (λ z. ByActs fields acts 204 z v w) (sym is) (done_acts fields acts 204 v w h)))
   right_of (Ok x) t v w acts e h (Err y) is clear = absurd is
   right_of (Err d) t v w acts e h (Ok reply) is clear = by (h.said is.0)
     where
-      by : ByActs fields acts 204 (refusal fields (status_of d) (closes d)) v w
+      by : Halted fields (refusal fields (status_of d) (closes d)) acts v w
           ⊎ ((refusal fields (status_of d) (closes d) ≡ failure) × Rose (view.state start).faults (view.state t).faults × PartOf acts v w)
           → EndsAs fields (plan rules v ask) (Ok reply) (Rose (view.state start).faults (view.state t).faults) v w
-      by (inl done) = inl (rw e (subst (λ z. ByActs fields acts 204 z v w) (sym is.1) done))
+      by (inl halted) = inl (rw e (subst (λ z. ByActs fields acts 204 z v w) (sym is.1) (halted_acts fields (refusal fields (status_of d) (closes d)) acts 204 v w halted)))
       by (inr (failed, rose, part)) = inr (is.1 ∙ failed, rose, rw e part)
   right_of (Err d) t v w acts e h (Err y) is clear = rw e (h.short is)
 
@@ -261,12 +262,12 @@ module _ {S C F L E : Type 0} (view : View S C F) (lists : Listings S C L E) (wr
 
   short_right : (r : Given) (t : S) (v w : World) → r ≡ Err dav.NoMemory → SameBesidesOpens v w → Right r t v w
   short_right r t v w is same =
-      refused_right dav.NoMemory r t v w (delete_plan rules v ask).acts is refl (short_comes view lists writes c rules fields start follows plain (delete_plan rules v ask).acts t v w same)
+      refused_right dav.NoMemory r t v w (delete_plan rules v ask).acts is refl (short_comes view fields start (delete_plan rules v ask).acts t v w same)
 
   line_came : (d : DavError) (o : Option Halt) (more : List Act) (t : S) (v w : World) → IsLine o d → SameBesidesOpens v w → Came (Err d) (unless o more) t v w
   line_came d o more t v w l same =
       subst (λ z. Came (Err d) (unless z more) t v w) (sym l.is)
-      (record { short = λ z. none_done (halts l.halt ∷ []) v w same; said = λ z. inl (ap (λ n. refusal fields n (closes d)) l.status ∙ ap (refusal fields l.halt.status) l.close, same) })
+      (halted_comes view fields start d l.halt [] t v w l.status l.close same)
 
   -- Where a link is met nothing is said.
   where_clear : (r : Given) (t : S) (v w : World) → ((is_linked v.tree path.names ≡ false) × (has_link_below v.tree path.names ≡ false) → Right r t v w) → Right r t v w
@@ -291,8 +292,8 @@ module _ {S C F L E : Type 0} (view : View S C F) (lists : Listings S C L E) (wr
       spoiled f g bad =
           let same_error : d ≡ of_fs f = (let k : may_delete fields (Err f) ≡ Err d = ap (may_delete fields) (sym g) ∙ e in cc) in
           refused_right d r t v u (delete_plan rules v ask).acts is refl
-          (spoiled_comes view lists writes c rules fields start follows plain f d (delete_plan rules v ask).acts start t v u same_error (omega arith)
-          (subst (λ n. Spoiled {T = Unit} (view.state start) (Err f) (view.state n)) (sym same) bad) (none_done (delete_plan rules v ask).acts v u looks.0))
+          (spoiled_comes view fields start f d (delete_plan rules v ask).acts start t v u same_error (omega arith)
+          (subst (λ n. Spoiled {T = Unit} (view.state start) (Err f) (view.state n)) (sym same) bad) (part_none (delete_plan rules v ask).acts v u looks.0))
 
       by : Finds (stands rules v path) found ⊎ Spoiled (view.state start) found (view.state m) → Right r t v u
       by (inl finds) =
@@ -331,7 +332,7 @@ module _ {S C F L E : Type 0} (view : View S C F) (lists : Listings S C L E) (wr
       let fit : AllFit path.names v.tree (Whole path (is_dir_there found) ∷ []) =
       ((record { row = stood.row; in_tree = stood.in_tree; at = stood.at; kind = dir }, λ e. stood.slash (sym pass.dir ∙ e) clear, inl refl), tt) in
       let left : Left path.names v.tree u.tree (to_go v) = subst (λ rows. Left path.names v.tree rows (to_go v)) (sym same.tree) (all_left v world) in
-      let came = comes_after view lists writes c rules fields start follows plain all x (to_go v) t v u w same (goes x (to_go v) covers fit left) in
+      let came = comes_after view fields start all (acts x (to_go v)) t v u w (removals_none (deep_in x) (to_go v)) same (goes x (to_go v) covers fit left).0 in
       right_of all t v w (acts x (to_go v)) (plan_lines rules v path fields body macos some ∙ (ap (λ o. unless o (removing rules v path)) pass.none ∙ planned rules v path folds alone)) came
 
   removes_later : (m t : S) (found : Result Info FsError) (r : Given) → 0 < length path.names → Reached view lists writes c start m → may_delete fields found ≡ Ok tt

@@ -20,7 +20,7 @@ mod WalkOrder
 mod TreeRows
 mod RemovalWork
 mod WorkCovers
-mod TakenAfter
+mod ActsJoined
 mod RemovalRun
 pub mod DeleteRight
 pub mod RemovalsListed

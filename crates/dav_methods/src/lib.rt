@@ -2,7 +2,6 @@
 //! write, over any store.
 #![tactic(auto)]
 
-mod asked;
 mod carrying;
 mod child;
 mod conditions;
