@@ -422,7 +422,7 @@ not_its : (b : Bool) (n greatest : ℕ) (row : Row) (rest : Bool) → (n == row.
 not_its true n greatest row rest e le lt more = absurd (let same = equal_keys n row.number e in omega arith)
 not_its false n greatest row rest e le lt more = ap (λ x. x || rest) e ∙ more
 
-above_all : (n greatest : ℕ) (rows : List Row) → AllByRecursion (λ (row : Row). row.number ≤ greatest) rows → greatest < n → is_numbered rows n ≡ false
+pub above_all : (n greatest : ℕ) (rows : List Row) → AllByRecursion (λ (row : Row). row.number ≤ greatest) rows → greatest < n → is_numbered rows n ≡ false
 above_all n greatest [] all lt = refl
 above_all n greatest (row ∷ rows) all lt = not_its (n == row.number) n greatest row (is_numbered rows n) refl all.0 lt (above_all n greatest rows all.1 lt)
 

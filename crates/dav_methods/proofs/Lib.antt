@@ -23,6 +23,11 @@ mod WorkCovers
 mod ActsJoined
 mod RemovalRun
 pub mod DeleteRight
+mod CallDone
+mod Beside
+mod FreePlaces
+pub mod CarryRight
+pub mod MoveDone
 pub mod RemovalsListed
 mod Addresses
 mod Overlaps

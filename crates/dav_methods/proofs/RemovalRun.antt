@@ -1,5 +1,5 @@
 -- Over a store that follows rules, what work does to the told world is what the removals that it covers do, in their order.
-use Rattle.std.proofs.Common.{◌≡◌, ◌<◌, ◌&&◌, ◌==◌, ◌+◌, ◌++◌, List, [], ◌∷◌, length, Bool, true, false, not, Option, None, Some, Result, Ok, Err, refl, sym, ap, subst, ◌∙◌, inl, inr}
+use Rattle.std.proofs.Common.{◌≡◌, ◌<◌, ◌&&◌, ◌==◌, ◌+◌, ◌++◌, List, [], ◌∷◌, length, Bool, true, false, not, Option, None, Some, Result, Ok, Err, refl, sym, ap, subst, ◌∙◌, inl, inr, append-nil}
 use Rattle.std.specs.List.{filter, list_all}
 use Rattle.std.proofs.lemmas.Bool.{and_parts}
 use Rattle.dav_io.specs.Told.{Both}
@@ -34,10 +34,10 @@ use Rattle.dav_methods.specs.Pouring.{Writes}
 use Rattle.dav_methods.specs.Reading.{HasMembers, HasNoMembers}
 use Rattle.dav_methods.specs.Removing.{Removes, RemovesOne, goes, is_deep, line_of, short as cut_short, stops, works_in, done as no_work}
 use Rattle.dav_methods.proofs.ActsJoined.{Comes, FillsNone, acts_by, comes_after, comes_behind, halted_comes, removals_none, short_comes, spoiled_comes}
-use Rattle.dav_methods.proofs.RemovalWork.{Left, dir_allowed, file_allowed, left_same, left_taken, one_file, stands_now, unlinked}
-use Rattle.dav_methods.proofs.TreeRows.{all_in, at_row, front_then, in_filter, parts_of}
-use Rattle.dav_methods.proofs.WalkOrder.{In, in_left}
-use Rattle.dav_methods.proofs.WorkCovers.{AllFit, Covers, emptied_shallow, file_shallow, going, opened_covers, opened_fit, whole_deep}
+use Rattle.dav_methods.proofs.RemovalWork.{Left, StandsAs, dir_allowed, file_allowed, left_same, left_taken, one_file, stands_now, unlinked}
+use Rattle.dav_methods.proofs.TreeRows.{all_in, at_row, front_itself, front_then, in_filter, parts_of}
+use Rattle.dav_methods.proofs.WalkOrder.{In, in_left, path_in}
+use Rattle.dav_methods.proofs.WorkCovers.{AllFit, Covers, emptied_shallow, file_shallow, going, in_walked, opened_covers, opened_fit, walked, walked_ascends, walked_in, whole_deep}
 
 -- a fact of what is told before or after a call
 pub both_with : {A : Type 0} (old new : Option A) (P : A → A → Type 0) (Q : A → Type 0) → Both old new P → ((b : A) → new ≡ Some b → Q b) → Both old new (λ a b. P a b × Q b)
@@ -60,6 +60,20 @@ deep_in x path = is_too_deep (going x.top x.old) path
 
 abbrev pub acts : Case → List Names → List Act
 acts x left = acts_by (deep_in x) left
+
+-- All at and below a path is to go.
+abbrev pub began : (top : Names) (v : World) → IsWorld v → 0 < length top → is_linked v.tree top ≡ false → has_link_below v.tree top ≡ false → Case
+began top v world some clear below = record { top = top; old = v.tree; some = some; tree = world.tree; below = below; clear = clear }
+
+all_left : (top : Names) (v : World) → IsWorld v → Left top v.tree v.tree (walked v.tree top)
+all_left top v world = record {
+  tree = world.tree;
+  from = λ r i. (r, i, refl, refl);
+  stands = λ p i. (in_walked v.tree top p i).0;
+  all = λ p i front. walked_in v.tree top p i front;
+  below = λ p i. (in_walked v.tree top p i).1;
+  ascends = walked_ascends v.tree top (parts_of v.tree world.tree).once;
+}
 
 module _ {S C F L E : Type 0} (view : View S C F) (lists : Listings S C L E) (writes : Writes F) (c : C) (rules : Rules) (fields : Fields) (start : S)
     (follows : Follows view lists writes c rules start) (plain : (tree : List Row) (names : Names) → resolved rules tree names ≡ names) where
@@ -339,3 +353,24 @@ module _ {S C F L E : Type 0} (view : View S C F) (lists : Listings S C L E) (wr
       (λ v u w h k x left covers fit l. (let to = h x left covers fit l in let came = k x to.more to.covers to.fit to.now in (to.back line b w came.0, came.1)))
       step.1 (removed rest m b line more step.0)
   removed works s t r (stops work others rest a b e one) reached = stop_told work others rest a b e reached one
+
+  -- The store that is left where all was done was reached.
+  pub gone_reached : (works : List Work) (s t : S) (r : Line) → Removes view lists c works s r t → r ≡ Ok tt → Here s → Here t
+  gone_reached works s t r (no_work a) ok reached = reached
+  gone_reached works s t r (cut_short others a) ok reached = cc
+  gone_reached works s t r (goes work others rest a m b line one more) ok reached = gone_reached rest m b line more ok (step_told work others rest a m reached one).0
+  gone_reached works s t r (stops work others rest a b e one) ok reached = cc
+
+  -- What stands at a path and below it went, or was to go.
+  pub removed_whole : (path : WebPath) (dir : Bool) (all : Line) (t : S) (v u w : World) (world : IsWorld v) (some : 0 < length path.names) (clear : is_linked v.tree path.names ≡ false)
+      (below : has_link_below v.tree path.names ≡ false) → StandsAs v.tree path.names dir → (dir ≡ false → path.slash ≡ false) → SameBesidesOpens v u → Goes (Whole path dir ∷ []) all t u w
+      → Came all (acts (began path.names v world some clear below) (walked v.tree path.names)) t v w × Ended all (began path.names v world some clear below) w
+  removed_whole path dir all t v u w world some clear below stood flat same work_goes =
+      let x = began path.names v world some clear below in
+      let to_go = walked v.tree path.names in
+      let own_path : In path.names to_go = walked_in v.tree path.names path.names (path_in path.names stood.row v.tree stood.in_tree stood.at) (front_itself path.names) in
+      let covers : Covers (Whole path dir ∷ []) to_go = (to_go, [], sym (append-nil to_go), λ p i. (in_walked v.tree path.names p i).1, λ p i. absurd i, own_path, refl) in
+      let fit : AllFit path.names v.tree (Whole path dir ∷ []) = ((stood, flat, inl refl), tt) in
+      let left : Left path.names v.tree u.tree to_go = subst (λ rows. Left path.names v.tree rows to_go) (sym same.tree) (all_left path.names v world) in
+      let came = work_goes x to_go covers fit left in
+      (comes_after view fields start all (acts x to_go) t v u w (none_filled x to_go) same came.0, came.1)

@@ -56,25 +56,25 @@ stands_now top old now left p dir parts l i s =
     let one : o ≡ s.row = only_row old o s.row parts k s.in_tree (same ∙ (at ∙ sym s.at)) in
     record { row = r; in_tree = j; at = at; kind = ap is_dir (sym kind) ∙ (ap (λ (x : Row). is_dir x.kind) one ∙ s.kind) }
 
-timed_path : (b : Bool) (q : Names) (t : FileTime) (r : Row) → same_names q r.path ≡ b → (timed_row q t r).path ≡ r.path
+pub timed_path : (b : Bool) (q : Names) (t : FileTime) (r : Row) → same_names q r.path ≡ b → (timed_row q t r).path ≡ r.path
 timed_path true q t r e = rw e refl
 timed_path false q t r e = rw e refl
 
-timed_kind : (b : Bool) (q : Names) (t : FileTime) (r : Row) → same_names q r.path ≡ b → (timed_row q t r).kind ≡ r.kind
+pub timed_kind : (b : Bool) (q : Names) (t : FileTime) (r : Row) → same_names q r.path ≡ b → (timed_row q t r).kind ≡ r.kind
 timed_kind true q t r e = rw e refl
 timed_kind false q t r e = rw e refl
 
-in_map : (f : Row → Row) (rows : List Row) (y : Row) → In y (map f rows) → (x : Row) × In x rows × (y ≡ f x)
+pub in_map : (f : Row → Row) (rows : List Row) (y : Row) → In y (map f rows) → (x : Row) × In x rows × (y ≡ f x)
 in_map f [] y i = absurd i
 in_map f (x ∷ rows) y (inl e) = (x, inl refl, e)
 in_map f (x ∷ rows) y (inr i) = let t = in_map f rows y i in (t.0, inr t.1, t.2)
 
-map_in : (f : Row → Row) (rows : List Row) (x : Row) → In x rows → In (f x) (map f rows)
+pub map_in : (f : Row → Row) (rows : List Row) (x : Row) → In x rows → In (f x) (map f rows)
 map_in f [] x i = absurd i
 map_in f (y ∷ rows) x (inl e) = inl (ap f e)
 map_in f (y ∷ rows) x (inr i) = inr (map_in f rows x i)
 
-not_false : (b : Bool) → b ≡ false → not b ≡ true
+pub not_false : (b : Bool) → b ≡ false → not b ≡ true
 not_false true e = cc
 not_false false e = refl
 
@@ -135,7 +135,7 @@ left_leaf top old now p left l = all_in (λ row. not (is_front p row.path) || sa
     by r i false e = rw e refl
     by r i true e = rw (e, here r e (l.all r.path (paths_in r now i) (front_then top p r.path (l.below p (inl refl)) e))) refl
 
-some_names : (path : Names) → 0 < length path → is_root path ≡ false
+pub some_names : (path : Names) → 0 < length path → is_root path ≡ false
 some_names [] lt = absurd (omega (arith, lt))
 some_names (name ∷ path) lt = grind (arith, nat_tests)
 
@@ -167,7 +167,7 @@ file_allowed top old now p left parts l s =
 
 -- ---- links
 
-none_any : (q : Row → Bool) (rows : List Row) (r : Row) → list_any q rows ≡ false → In r rows → q r ≡ false
+pub none_any : (q : Row → Bool) (rows : List Row) (r : Row) → list_any q rows ≡ false → In r rows → q r ≡ false
 none_any q [] r e i = absurd i
 none_any q (x ∷ rows) r e (inl same) = ap q same ∙ first (q x) (list_any q rows) e
   where

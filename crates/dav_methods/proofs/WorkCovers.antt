@@ -61,13 +61,13 @@ walked_ascends now path once = order_ascends (filter (λ row. is_front path row.
 
 -- ---- the members of a directory
 
-abbrev members : Names → List Row → List Row
+abbrev pub members : Names → List Row → List Row
 members at now = in_order members_first (filter (stands_in at) now)
 
-record IsMember (at : Names) (now : List Row) (r : Row) : Type 0 where
-  in_tree : In r now
-  long : length r.path ≡ length at + 1
-  front : is_front at r.path ≡ true
+pub record IsMember (at : Names) (now : List Row) (r : Row) : Type 0 where
+  pub in_tree : In r now
+  pub long : length r.path ≡ length at + 1
+  pub front : is_front at r.path ≡ true
 
 nat_same : (a b : ℕ) → (a == b) ≡ true → a ≡ b
 nat_same a b e = grind (arith, nat_tests)
@@ -75,31 +75,31 @@ nat_same a b e = grind (arith, nat_tests)
 same_nat : (a b : ℕ) → a ≡ b → (a == b) ≡ true
 same_nat a b e = grind (arith, nat_tests)
 
-is_member : (at : Names) (now : List Row) (r : Row) → In r (filter (stands_in at) now) → IsMember at now r
+pub is_member : (at : Names) (now : List Row) (r : Row) → In r (filter (stands_in at) now) → IsMember at now r
 is_member at now r i =
     let (j, here) = in_filter (stands_in at) now r i in
     let (long, front) = and_parts (length r.path == length at + 1) (is_front at r.path) here in
     record { in_tree = j; long = nat_same (length r.path) (length at + 1) long; front = front }
 
-abbrev AreMembers : Names → List Row → List Row → Type 0
+abbrev pub AreMembers : Names → List Row → List Row → Type 0
 AreMembers at now rows = (r : Row) → In r rows → IsMember at now r
 
-all_members : (at : Names) (now : List Row) → AreMembers at now (members at now)
+pub all_members : (at : Names) (now : List Row) → AreMembers at now (members at now)
 all_members at now r i = is_member at now r (from_order r (filter (stands_in at) now) i)
 
-in_members : (at : Names) (now : List Row) (r : Row) → In r now → length r.path ≡ length at + 1 → is_front at r.path ≡ true → In r (members at now)
+pub in_members : (at : Names) (now : List Row) (r : Row) → In r now → length r.path ≡ length at + 1 → is_front at r.path ≡ true → In r (members at now)
 in_members at now r i long front =
     into_order r (filter (stands_in at) now) (filter_in (stands_in at) now r
     (both (length r.path == length at + 1) (is_front at r.path) (same_nat (length r.path) (length at + 1) long) front) i)
 
 -- the same rows as the order puts them that lists directories first
-listed_members : (at : Names) (now : List Row) → in_order dir_first (filter (stands_in at) now) ≡ members at now
+pub listed_members : (at : Names) (now : List Row) → in_order dir_first (filter (stands_in at) now) ≡ members at now
 listed_members at now = order_either (length at + 1) (filter (stands_in at) now) (λ r i. (is_member at now r i).long)
 
 members_ascend : (at : Names) (now : List Row) → Once (paths now) → Ascends (paths (members at now))
 members_ascend at now once = order_ascends (filter (stands_in at) now) (filter_once (stands_in at) now once)
 
-one_name : {A : Type 0} (xs : List A) → length xs ≡ 1 → (x : A) × (xs ≡ x ∷ [])
+pub one_name : {A : Type 0} (xs : List A) → length xs ≡ 1 → (x : A) × (xs ≡ x ∷ [])
 one_name [] e = absurd (omega (arith, e))
 one_name (x ∷ []) e = (x, refl)
 one_name (x ∷ y ∷ xs) e = absurd (omega (arith, e))
@@ -109,7 +109,7 @@ last_of [] x = refl
 last_of (y ∷ xs) x = last_of xs x
 
 -- a member's path is its directory's with its name behind it
-member_path : (at : Names) (now : List Row) (r : Row) → IsMember at now r → r.path ≡ at ++ name_of r ∷ []
+pub member_path : (at : Names) (now : List Row) (r : Row) → IsMember at now r → r.path ≡ at ++ name_of r ∷ []
 member_path at now r m =
     let rest = front_rest at r.path m.front in
     let long : length (drop (length at) r.path) ≡ 1 = omega (arith, m.long, ap length rest, length-append at (drop (length at) r.path)) in
@@ -259,7 +259,7 @@ opened_covers top old now path left works l (whole, more, e, below, apart, i, co
 
 -- ---- the work of the members is of what stood there
 
-not_deep : (path : WebPath) → is_deep path ≡ false → length path.names ≤ 65536
+pub not_deep : (path : WebPath) → is_deep path ≡ false → length path.names ≤ 65536
 not_deep path e = by (nat_lt 65536 (length path.names)) refl
   where
     by : (b : Bool) → nat_lt 65536 (length path.names) ≡ b → length path.names ≤ 65536

@@ -2,6 +2,7 @@
 //! write, over any store.
 #![tactic(auto)]
 
+mod carry_plan_laws;
 mod carrying;
 mod child;
 mod conditions;
@@ -24,6 +25,7 @@ mod telling;
 mod transfer;
 mod work;
 
+pub use carry_plan_laws::moves_follow_their_plan;
 pub use carrying::{copy, move_to};
 pub use conditions::{if_match, ifrange_match, ranges_are_heard, reads};
 pub use copy_laws::copies_are_listed;
