@@ -154,9 +154,9 @@ beside_taken from to p v u apart under (t, new, e) = record {
   up = λ r i other. (
     timed_row (parent_of p) t r,
     subst (In (timed_row (parent_of p) t r)) (sym e.tree)
-    (map_in (timed_row (parent_of p) t) (without p v.tree) r
-    (filter_in (λ row. not (is_front p row.path)) v.tree r
-    (not_false (is_front p r.path) (false_or (is_front p r.path) (λ f. not_both (is_front to r.path) (front_then to p r.path under f) other))) i)),
+        (map_in (timed_row (parent_of p) t) (without p v.tree) r
+        (filter_in (λ row. not (is_front p row.path)) v.tree r
+        (not_false (is_front p r.path) (false_or (is_front p r.path) (λ f. not_both (is_front to r.path) (front_then to p r.path under f) other))) i)),
     timed_path (same_names (parent_of p) r.path) (parent_of p) t r refl,
     timed_kind (same_names (parent_of p) r.path) (parent_of p) t r refl,
   );

@@ -480,10 +480,11 @@ module _ {S C F L E : Type 0} (view : View S C F) (lists : Listings S C L E) (wr
       (λ v clear. ap (is_linked v.tree) (plain_resolved x.settings v.tree x.ask.path.names) ∙ (from_links x v clear).0)
       (Leaves view lists c x.ask.path x.ask.fields asked found) found x.s m r t here (x.follows.looks x.s m x.ask.path found here look)
       (at_first view lists writes c (carry_by asked) (links_by asked) x _ (λ v. (
-      ap (λ l. unless l (all_acts x v))
-      (four_lines (refused (Stands x v x.ask.path)) (when (overlap false x.ask.path.names asked.to.names) 403) (parent_line x v) (unmet_line x v) (refused_there (Stands x v asked.to))
-      (when (is_found (Stands x v asked.to) && not asked.replaces) 412)),
-      tt)))
+        ap (λ l. unless l (all_acts x v))
+            (four_lines (refused (Stands x v x.ask.path)) (when (overlap false x.ask.path.names asked.to.names) 403) (parent_line x v) (unmet_line x v) (refused_there (Stands x v asked.to))
+            (when (is_found (Stands x v asked.to) && not asked.replaces) 412)),
+        tt,
+      )))
       (λ at goes. from_parent x right found m r t (looks x.s m x.ask.path found here look)
       (at_map view lists writes c (carry_by asked) (links_by asked) x m _ _ (λ v clear p. (p.0, (p.1.0.1, p.1.1))) at) goes) next
 

@@ -28,6 +28,11 @@ mod Beside
 mod FreePlaces
 pub mod CarryRight
 pub mod MoveDone
+mod CopyOrder
+mod CopyCovers
+mod CopyWork
+mod CopyRun
+pub mod CopyActs
 pub mod RemovalsListed
 mod Addresses
 mod Overlaps

@@ -120,8 +120,7 @@ module _ {S C F L E : Type 0} (view : View S C F) (lists : Listings S C L E) (wr
       let allowed = allowed_in x.ask.path asked.to (is_dir_there found) v u.tree p (parts_of u.tree ready.world.tree) (source_now x.ask.path asked.to (is_dir_there found) v u p ready p.row p.in_tree own)
       (dir_stays x.ask.path.names asked.to.names v u ready.beside (some_to x.ask.path.names asked.to.names p.apart) p.up) ready.free in
       let resolves = ap (λ z. moving u.tree z (resolved (plain_rules settings) u.tree asked.to.names)) (plain_resolved settings u.tree x.ask.path.names)
-      ∙ (ap (moving u.tree x.ask.path.names) (plain_resolved settings u.tree asked.to.names) ∙ allowed) in
-      (
+      ∙ (ap (moving u.tree x.ask.path.names) (plain_resolved settings u.tree asked.to.names) ∙ allowed) in (
         subst FillsNone (sym is) tt,
         subst (λ a. Comes view x.ask.fields x.s (line_of moved) a t u w) (sym is)
             (call_comes view lists writes c x.ask.fields x.s (moving u.tree (resolved (plain_rules settings) u.tree x.ask.path.names) (resolved (plain_rules settings) u.tree asked.to.names))

@@ -65,7 +65,7 @@ acts x left = acts_by (deep_in x) left
 abbrev pub began : (top : Names) (v : World) → IsWorld v → 0 < length top → is_linked v.tree top ≡ false → has_link_below v.tree top ≡ false → Case
 began top v world some clear below = record { top = top; old = v.tree; some = some; tree = world.tree; below = below; clear = clear }
 
-all_left : (top : Names) (v : World) → IsWorld v → Left top v.tree v.tree (walked v.tree top)
+pub all_left : (top : Names) (v : World) → IsWorld v → Left top v.tree v.tree (walked v.tree top)
 all_left top v world = record {
   tree = world.tree;
   from = λ r i. (r, i, refl, refl);
@@ -257,7 +257,7 @@ module _ {S C F L E : Type 0} (view : View S C F) (lists : Listings S C L E) (wr
   walked_reached m l n k answers reached (walk_goes before a b o i j e r walk on said lent keeps) =
       says b o e r (goes_on a b i j (Ok (Some e)) (walked_reached m l a i before reached walk) on) said lent
 
-  members_reached : (path : WebPath) (members : List Child) (m n : S) → Here m → HasMembers view lists m c path members n → Here n
+  pub members_reached : (path : WebPath) (members : List Child) (m n : S) → Here m → HasMembers view lists m c path members n → Here n
   members_reached path members m n reached has =
       let was = has.was in
       let began = begins m was.begin path _ (Ok was.listing) reached was.begins in
