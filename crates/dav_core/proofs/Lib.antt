@@ -1,4 +1,3 @@
-pub mod Apart
 pub mod Hex
 pub mod Dots
 pub mod Kept
@@ -16,7 +15,6 @@ pub mod RefusedLemmas
 pub mod UnchangedLemmas
 pub mod TablesLemmas
 pub mod LookLemmas
-pub mod HeldStays
 pub mod AllowedRows
 pub mod PlaceLemmas
 pub mod TimesLemmas

@@ -1,6 +1,5 @@
 -- A plain store over a told disk shows what stands in the world.
-use Rattle.std.proofs.Common.{◌≡◌, ◌≤◌, ◌<◌, ℕ, suc, Bool, true, false, List, [], ◌∷◌, length, get_or, Option, None, Some, Result, Ok, Err, refl, sym, ap, subst, ◌∙◌, if◌then◌else◌, inl, inr, ◌⊎◌, arith}
-use Rattle.std.specs.List.{AllByRecursion}
+use Rattle.std.proofs.Common.{◌≡◌, ℕ, Bool, true, false, List, [], ◌∷◌, Option, None, Some, Result, Ok, Err, refl, sym, ap, subst, ◌∙◌, if◌then◌else◌, inl, inr, ◌⊎◌}
 use Rattle.std.specs.Option.{option_map}
 use Rattle.dav_io.proofs.ToldLemmas.{told_after}
 use Rattle.dav_core.specs.declared.error.FsError.{FsError}
@@ -21,8 +20,8 @@ use Rattle.dav_core.proofs.UnchangedLemmas.{put_same}
 use Rattle.dav_core.specs.Options.{reading}
 use Rattle.dav_core.specs.Path.{Names}
 use Rattle.dav_core.specs.Tree.{is_file, is_linked, look}
-use Rattle.dav_core.proofs.LookLemmas.{look_all}
-use Rattle.dav_core.specs.World.{World, IsWorld, OpenFile, bytes_of, time_of, put}
+use Rattle.dav_core.proofs.LookLemmas.{stored_time}
+use Rattle.dav_core.specs.World.{World, IsWorld, OpenFile, bytes_of, put}
 use Rattle.dav_store.specs.Files.{Spoiled}
 use Rattle.dav_store.specs.Shows.{Shows, Looked, here, looks, looks_at_link, LooksThere, OpensThere, IsThere}
 use Rattle.dav_store.specs.Standing.{Agrees, Seen, Standing}
@@ -64,18 +63,6 @@ looks_in : (w : World) (path : WebPath) (answer : Result Meta DiskError) (s t : 
     → LooksThere (looked w path) (looked_as path.slash answer) ⊎ Spoiled s (looked_as path.slash answer) t
 looks_in w path (Ok m) s t (row, stands, is) asks = inl (rw stands (under_kinds path.slash row.kind m.kind (info_of m) (standing_of w row) is.kind (agrees m w row is)))
 looks_in w path (Err e) s t r asks = elim (refused {V = Info} e (look w.tree path.names) (Err e) s t r refl asks) [ inl f ↦ inl (rw f refl) | inr x ↦ inr x ]
-
--- what holds at each place of a list holds of each element
-each_holds : (P : Row → Type 0) (rows : List Row) → ((k : ℕ) (d : Row) → k < length rows → P (get_or rows k d)) → AllByRecursion P rows
-each_holds P [] h = tt
-each_holds P (row ∷ rows) h = (h 0 row (omega arith), each_holds P rows (λ k d lt. h (suc k) d (omega arith)))
-
-abbrev IsStored : World → Row → Type 0
-IsStored w row = row.kind ≡ File → time_of w row.number ≡ Some row.time
-
--- a file of a told tree is stored with its row's time
-stored_time : (w : World) (path : Names) (row : Row) → IsWorld w → look w.tree path ≡ Ok row → row.kind ≡ File → time_of w row.number ≡ Some row.time
-stored_time w path row is stands file = look_all (IsStored w) w.tree path row (each_holds (IsStored w) w.tree (λ k d lt. is.stored k d lt)) stands file
 
 a_file : (kind : Kind) → is_file kind ≡ true → kind ≡ File
 a_file Dir e = cc

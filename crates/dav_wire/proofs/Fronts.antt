@@ -12,7 +12,8 @@ range_same buf n a b start end =
     ap (λ k. take (b - a) (drop a (take k buf))) (sym whole) ∙ ap (take (b - a)) (drop-take a (n - a) buf) ∙ take-take (b - a) (n - a) (drop a buf) (omega arith)
 
 -- The front of a buffer has what spans within it cover of the whole.
-pub front_same : (buf : List ℕ) (n : ℕ) (spans : List HeaderSpan) → All (IsHeaderWithin n) spans → map (header_bytes (take n buf)) spans ≡ map (header_bytes buf) spans
+pub front_same : (buf : List ℕ) (n : ℕ) (spans : List HeaderSpan) → All (IsHeaderWithin n) spans
+    → map (header_bytes (take n buf)) spans ≡ map (header_bytes buf) spans
 front_same buf n [] within = refl
 front_same buf n (span ∷ spans) within =
     let here : IsHeaderWithin n span = All-head (IsHeaderWithin n) span spans within in

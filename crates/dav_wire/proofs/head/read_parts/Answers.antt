@@ -37,6 +37,8 @@ returns-clause-ok c =
         method = c.in-Ok-read_method.ensures ∙ c.of-2.ensures ∙ at.method;
         uri = subst (λ (text : List ℕ). Spells text c.in-Ok.uri) (c.of.ensures ∙ at.path) c.in-Ok.ensures.ok;
         version = rw (← at.version) c.version-version.ensures;
-        headers = c.in-Ok-read_fields.ensures ∙ ap (append_all []) (kept_alike _ _ _ (front_same c.args.buf.now _ _ c.requires.within.section.headers_fit ∙ at.fields));
+        headers =
+            c.in-Ok-read_fields.ensures
+            ∙ ap (append_all []) (kept_alike _ _ _ (front_same c.args.buf.now _ _ c.requires.within.section.headers_fit ∙ at.fields));
       };
     }
