@@ -17,8 +17,9 @@ use Rattle.dav_core.specs.World.{IsWorld, SameBesidesOpens, World}
 use Rattle.dav_core.specs.Writing.{LeftBy}
 use Rattle.dav_core.proofs.UnchangedLemmas.{same_besides, same_besides_then}
 use Rattle.dav_store.specs.View.{Listings, View}
+use Rattle.dav_model.specs.declared.settings.Settings.{Settings}
 use Rattle.dav_model.specs.Finding.{is_forbidden, resolved}
-use Rattle.dav_model.specs.Plans.{Act, Ask, Halt, above, closing_when, does, edits_of, first, has_parent, is_found, line, making, mkcalendar_plan, not_allowed, plan_as, refused_there, stands, unless, unmet, when}
+use Rattle.dav_model.specs.Plans.{Act, Ask, Halt, above, closing_when, does, edits_of, first, has_parent, is_found, line, making, mkcalendar_plan, not_allowed, plan, plan_as, refused_there, stands, unless, unmet, when}
 use Rattle.dav_model.specs.Rules.{Rules, plain_rules}
 use Rattle.dav_model.specs.Written.{PartOf}
 use Rattle.dav_model.proofs.PlainWalks.{plain_resolved}
@@ -40,6 +41,14 @@ part_made : (at : Names) (v u w : World) → SameBesidesOpens v u → LeftBy tru
 part_made at v u w same (inl left) = inl (same_besides_then v u w same left)
 part_made at v u w same (inr (part, (n, e), edited)) =
     inr (inl (makes at Dir (take n []), (n, refl), made_after at Dir (take n []) v u w same (subst (λ x. Edited x u w) e edited)))
+
+-- Its plan is that of a calendar.
+abbrev pub HasCalendarPlan : Settings → Ask → Type 0
+HasCalendarPlan settings ask = (v : World) → plan (plain_rules settings) v ask ≡ mkcalendar_plan (plain_rules settings) v ask
+
+pub calendar_plan : (settings : Settings) (ask : Ask) → (ask.method ≡ MkCalendar) ⊎ (ask.method ≡ MkAddressbook) → HasCalendarPlan settings ask
+calendar_plan settings ask (inl is) v = ap (λ m. plan_as m (plain_rules settings) v ask) is
+calendar_plan settings ask (inr is) v = ap (λ m. plan_as m (plain_rules settings) v ask) is
 
 module _ {S C F L E : Type 0} (view : View S C F) (lists : Listings S C L E) (writes : Writes F) (c : C) where
   -- No link stands on the way to the path, or to the directory above.
@@ -141,21 +150,15 @@ module _ {S C F L E : Type 0} (view : View S C F) (lists : Listings S C L E) (wr
       (λ n reached at goes. making_stage x (λ v. ap (λ m. (plan_as m rules v x.ask).done) is) n r t reached at goes) goes)
       run
 
-  -- MKCALENDAR and MKADDRESSBOOK have one plan.
-  calendar_plan : (x : Case view lists writes c planned linked) (v : World) → (x.ask.method ≡ MkCalendar) ⊎ (x.ask.method ≡ MkAddressbook)
-      → plan_of view lists writes c planned linked x v ≡ mkcalendar_plan (plain_rules x.settings) v x.ask
-  calendar_plan x v (inl is) = ap (λ m. plan_as m (plain_rules x.settings) v x.ask) is
-  calendar_plan x v (inr is) = ap (λ m. plan_as m (plain_rules x.settings) v x.ask) is
-
-  pub mkcalendar_right : (x : Case view lists writes c planned linked) → (x.ask.method ≡ MkCalendar) ⊎ (x.ask.method ≡ MkAddressbook) → (r : Given) (t : S) → MkCalendars view c x.ask.path x.s r t
+  pub mkcalendar_right : (x : Case view lists writes c planned linked) → HasCalendarPlan x.settings x.ask → (r : Given) (t : S) → MkCalendars view c x.ask.path x.s r t
       → Right view lists writes c planned linked x r t
   mkcalendar_right x is r t run =
       let rules = plain_rules x.settings in
       look_stage view lists writes c planned linked x (Right view lists writes c planned linked x) (λ d t right. right) x.ask.path found_or_failed (record { failed = refl; short = refl })
       (λ v. closing_when (is_found (stands rules v x.ask.path)) 405) (making_lines x) (making_edits x)
       (λ v found finds. calendar_match (stands rules v x.ask.path) found (stands_plainly x.settings v x.ask.path) finds) (free_here x) (λ found. EndsMade view c x.ask.path) x.s r t here
-      (at_first view lists writes c planned linked x _ (λ v. ap (λ p. p.acts) (calendar_plan x v is)))
-      (λ found n reached at goes. making_stage x (λ v. ap (λ p. p.done) (calendar_plan x v is)) n r t reached (at_map view lists writes c planned linked x n _ _ (λ v clear p. p.0) at) goes)
+      (at_first view lists writes c planned linked x _ (λ v. ap (λ p. p.acts) (is v)))
+      (λ found n reached at goes. making_stage x (λ v. ap (λ p. p.done) (is v)) n r t reached (at_map view lists writes c planned linked x n _ _ (λ v clear p. p.0) at) goes)
       run
 
   pub mkcol_follows : ((s : S) (w : World) → (view.state s).told ≡ Some w → IsWorld w) → (rules : Rules) (s : S) → Follows view lists writes c rules s
@@ -166,7 +169,7 @@ module _ {S C F L E : Type 0} (view : View S C F) (lists : Listings S C L E) (wr
       (λ plain. mkcol_right (record { settings = rules.settings; ask = ask; s = s; follows = plain }) is r t run)
 
   pub mkcalendar_follows : ((s : S) (w : World) → (view.state s).told ≡ Some w → IsWorld w) → (rules : Rules) (s : S) → Follows view lists writes c rules s
-      → rules.folds ≡ false → rules.macos ≡ false → rules.alone ≡ None → (ask : Ask) → (ask.method ≡ MkCalendar) ⊎ (ask.method ≡ MkAddressbook) → (r : Given) (t : S) → MkCalendars view c ask.path s r t
+      → rules.folds ≡ false → rules.macos ≡ false → rules.alone ≡ None → (ask : Ask) → HasCalendarPlan rules.settings ask → (r : Given) (t : S) → MkCalendars view c ask.path s r t
       → Told view lists writes c s t (RightIn view lists writes c rules ask s r t)
   mkcalendar_follows worlds rules s follows folds macos alone ask is r t run =
       right_in view lists writes c worlds rules s follows folds macos alone ask r t
