@@ -15,6 +15,7 @@ pub mod RefusedLemmas
 pub mod UnchangedLemmas
 pub mod TablesLemmas
 pub mod LookLemmas
+pub mod HeldStays
 pub mod AllowedRows
 pub mod PlaceLemmas
 pub mod TimesLemmas
