@@ -4,7 +4,7 @@ use Rattle.dav_io.proofs.ToldLemmas.{both_map, both_same}
 use Rattle.dav_core.specs.declared.error.FsError.{FsError}
 use Rattle.dav_core.specs.declared.handle.DiskError.{DiskError}
 use Rattle.dav_core.specs.declared.handle.Handle.{Handle}
-use Rattle.dav_core.specs.Allowed.{Allowed, making_dir, opening, taking_dir, taking_file}
+use Rattle.dav_core.specs.Allowed.{Allowed, copying, making_dir, moving, opening, taking_dir, taking_file}
 use Rattle.dav_core.specs.DavPath.{WebPath}
 use Rattle.dav_core.specs.Disk.{DiskState, IsCounted, OpenedOver, at_start, kind_at, kind_opened}
 use Rattle.dav_core.specs.Edits.{Edit}
@@ -29,29 +29,29 @@ use Rattle.dav_plain.specs.Calls.{AsksToTakeFile, done_by, filed}
 use Rattle.dav_follows.proofs.PlainLooks.{called_for, clear_plain}
 use Rattle.dav_follows.proofs.PlainStore.{IsPlainStore}
 
--- what a refused call left, where it may leave no part
-left_same : (allowed : Allowed) (v w : World) → LeftBy false allowed v w → SameBesidesOpens v w
-left_same (Ok (Some e)) v w left = left
-left_same (Ok None) v w left = left
-left_same (Err d) v w left = left
+-- what a call left that the tree calls to refuse
+left_called : (may : Bool) (d : DiskError) (v w : World) → LeftBy may (Err d) v w → SameBesidesOpens v w
+left_called true d v w left = left
+left_called false d v w left = left
 
-left_more : (allowed : Allowed) (v w : World) → LeftBy false allowed v w → LeftBy true allowed v w
-left_more (Ok (Some e)) v w left = inl left
-left_more (Ok None) v w left = left
-left_more (Err d) v w left = left
+left_more : (may : Bool) (allowed : Allowed) (v w : World) → LeftBy may allowed v w → LeftBy true allowed v w
+left_more true allowed v w left = left
+left_more false (Ok (Some e)) v w left = inl left
+left_more false (Ok None) v w left = left
+left_more false (Err d) v w left = left
 
 calls_for : (allowed : Allowed) (d : DiskError) → allowed ≡ Err d → CallsFor allowed (fs_error_of d)
 calls_for allowed d e = rw e refl
 
 module _ {S C : Type 0} (view : View S C PlainFile) (lists : Listings S C PlainDir PlainEntry) (writes : Writes PlainFile) (c : C) (plain : IsPlainStore view lists writes c) (settings : Settings) where
   -- A call that is handed on to the disk does what the disk does.
-  calls_of : (allowed : Allowed) (answer : Result Unit DiskError) (m n : S) (v w : World) → DoesIn false allowed answer v w → IsCounted answer (view.state m) (view.state n)
+  calls_of : (may : Bool) (allowed : Allowed) (answer : Result Unit DiskError) (m n : S) (v w : World) → DoesIn may allowed answer v w → IsCounted answer (view.state m) (view.state n)
       → Calls view lists writes c allowed m (done_by answer) n v w
-  calls_of allowed (Ok x) m n v w done counted = done
-  calls_of allowed (Err d) m n v w (refused, left) counted =
+  calls_of may allowed (Ok x) m n v w done counted = done
+  calls_of may allowed (Err d) m n v w (refused, left) counted =
       elim (called_for Unit (Option Edit) Unit d allowed (view.state m) (view.state n) refused counted) [
-        | inl called ↦ inl (calls_for allowed d called, left_same allowed v w left)
-        | inr spoiled ↦ inr (spoiled, left_more allowed v w left)
+        | inl called ↦ inl (calls_for allowed d called, left_called may d v w (subst (λ a. LeftBy may a v w) called left))
+        | inr spoiled ↦ inr (spoiled, left_more may allowed v w left)
       ]
 
   done_of : (may : DiskError → Type 0) (allowed : World → Names → Allowed) (path : WebPath) (answer : Result Unit DiskError) (r : Result Unit FsError) (m n : S)
@@ -60,7 +60,7 @@ module _ {S C : Type 0} (view : View S C PlainFile) (lists : Listings S C PlainD
       → Calls view lists writes c (allowed v (resolved (plain_rules settings) v.tree path.names)) m r n v w)
   done_of may allowed path answer r m n does is =
       both_map _ _ (λ v w. is_linked v.tree path.names ≡ false → DoesIn false (allowed v path.names) answer v w) _
-      (λ v w done clear. rw is (calls_of (allowed v (resolved (plain_rules settings) v.tree path.names)) answer m n v w
+      (λ v w done clear. rw is (calls_of false (allowed v (resolved (plain_rules settings) v.tree path.names)) answer m n v w
       (subst (λ names. DoesIn false (allowed v names) answer v w) (sym (plain_resolved settings v.tree path.names)) (done (clear_plain settings v.tree path.names clear))) does.asks.counted))
       does.told
 
@@ -96,6 +96,39 @@ module _ {S C : Type 0} (view : View S C PlainFile) (lists : Listings S C PlainD
       → Told view lists writes c m n (λ v w. path.slash ≡ false → is_linked v.tree (resolved (plain_rules settings) v.tree path.names) ≡ false
       → Calls view lists writes c (taking_file v.tree (resolved (plain_rules settings) v.tree path.names)) m r n v w)
   removes_file_told m n path r h = removed_by path.slash m n path r refl (plain.removes_file m n path r h)
+
+  -- ---- two paths
+
+  done_between : (may : DiskError → Type 0) (allowed : World → Names → Names → Allowed) (from to : WebPath) (answer : Result Unit DiskError) (r : Result Unit FsError) (m n : S)
+      → Does may (λ v w. is_linked v.tree from.names ≡ false → is_linked v.tree to.names ≡ false → DoesIn true (allowed v from.names to.names) answer v w) (view.state m) answer (view.state n)
+      → r ≡ done_by answer
+      → Told view lists writes c m n (λ v w. is_linked v.tree (resolved (plain_rules settings) v.tree from.names) ≡ false
+      → is_linked v.tree (resolved (plain_rules settings) v.tree to.names) ≡ false
+      → Calls view lists writes c (allowed v (resolved (plain_rules settings) v.tree from.names) (resolved (plain_rules settings) v.tree to.names)) m r n v w)
+  done_between may allowed from to answer r m n does is =
+      both_map _ _ (λ v w. is_linked v.tree from.names ≡ false → is_linked v.tree to.names ≡ false → DoesIn true (allowed v from.names to.names) answer v w) _
+      (λ v w done clear free.
+      rw is (calls_of true (allowed v (resolved (plain_rules settings) v.tree from.names) (resolved (plain_rules settings) v.tree to.names)) answer m n v w
+      (subst (λ names. DoesIn true (allowed v names (resolved (plain_rules settings) v.tree to.names)) answer v w) (sym (plain_resolved settings v.tree from.names))
+      (subst (λ names. DoesIn true (allowed v from.names names) answer v w) (sym (plain_resolved settings v.tree to.names))
+      (done (clear_plain settings v.tree from.names clear) (clear_plain settings v.tree to.names free)))) does.asks.counted))
+      does.told
+
+  pub renames_told : (m n : S) (from to : WebPath) (r : Result Unit FsError) → view.renames m c from to r n
+      → Told view lists writes c m n (λ v w. is_linked v.tree (resolved (plain_rules settings) v.tree from.names) ≡ false
+      → is_linked v.tree (resolved (plain_rules settings) v.tree to.names) ≡ false
+      → Calls view lists writes c (moving v.tree (resolved (plain_rules settings) v.tree from.names) (resolved (plain_rules settings) v.tree to.names)) m r n v w)
+  renames_told m n from to r h =
+      let (answer, does, is) = plain.renames m n from to r h in
+      done_between _ (λ v a b. moving v.tree a b) from to answer r m n does is
+
+  pub copies_told : (m n : S) (from to : WebPath) (r : Result Unit FsError) → view.copies m c from to r n
+      → Told view lists writes c m n (λ v w. is_linked v.tree (resolved (plain_rules settings) v.tree from.names) ≡ false
+      → is_linked v.tree (resolved (plain_rules settings) v.tree to.names) ≡ false
+      → Calls view lists writes c (copying v (resolved (plain_rules settings) v.tree from.names) (resolved (plain_rules settings) v.tree to.names)) m r n v w)
+  copies_told m n from to r h =
+      let (answer, does, is) = plain.copies m n from to r h in
+      done_between _ (λ v a b. copying v a b) from to answer r m n does is
 
   -- ---- opening
 

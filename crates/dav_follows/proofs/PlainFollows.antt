@@ -22,7 +22,7 @@ use Rattle.dav_methods.specs.Reading.{HasMembers, HasNoMembers}
 use Rattle.dav_plain.specs.declared.entry.PlainDir.{PlainDir}
 use Rattle.dav_plain.specs.declared.entry.PlainEntry.{PlainEntry}
 use Rattle.dav_plain.specs.declared.file.PlainFile.{PlainFile}
-use Rattle.dav_follows.proofs.PlainDone.{makes_told, opens_told, removes_dir_told, removes_file_told}
+use Rattle.dav_follows.proofs.PlainDone.{copies_told, makes_told, opens_told, removes_dir_told, removes_file_told, renames_told}
 use Rattle.dav_follows.proofs.PlainLooks.{both_with, looks_told}
 use Rattle.dav_follows.proofs.PlainMembers.{members_read, members_unread}
 use Rattle.dav_follows.proofs.PlainReached.{reached_counts}
@@ -76,12 +76,15 @@ module _ {S C : Type 0} (view : View S C PlainFile) (lists : Listings S C PlainD
   pub plain_follows : (s : S) → Follows view lists writes c (plain_rules settings) s
   plain_follows s = record {
     counts = λ n reached. reached_counts view lists writes c plain s n reached;
+    folds = λ n reached. plain.folds n;
     trees = λ n w reached told. plain.worlds n w told;
     looks = λ m n path r reached h. looks_told settings true path (view.state m) r (view.state n) (plain.looks m n path r h);
     looks_at_link = λ m n path r reached h. looks_told settings false path (view.state m) r (view.state n) (plain.looks_at_link m n path r h);
     makes_dir = λ m n path r reached h. makes_told view lists writes c plain settings m n path r h;
     removes_dir = λ m n path r reached h. removes_dir_told view lists writes c plain settings m n path r h;
     removes_file = λ m n path r reached h. removes_file_told view lists writes c plain settings m n path r h;
+    renames = λ m n from to r reached h. renames_told view lists writes c plain settings m n from to r h;
+    copies = λ m n from to r reached h. copies_told view lists writes c plain settings m n from to r h;
     opens = λ m n path r reached h flat. opens_told view lists writes c plain settings m n path r h flat;
     writes_file = λ m n f g bytes r reached h end. writes_file_told m n f g bytes r h end;
     members = λ m n path members reached has. members_told m n path members has;

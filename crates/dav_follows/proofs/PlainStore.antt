@@ -1,5 +1,5 @@
 -- The calls of a plain store, of its files and of its listings, by a view of it.
-use Rattle.std.proofs.Common.{◌≡◌, ℕ, List, Option, Some, Result}
+use Rattle.std.proofs.Common.{◌≡◌, ℕ, false, List, Option, Some, Result}
 use Rattle.dav_core.specs.declared.error.FsError.{FsError}
 use Rattle.dav_core.specs.declared.handle.OpenOptions.{OpenOptions}
 use Rattle.dav_core.specs.DavPath.{WebPath}
@@ -22,6 +22,8 @@ module _ {S C : Type 0} (view : View S C PlainFile) (lists : Listings S C PlainD
   pub record IsPlainStore : Type 0 where
     -- each world that the disk tells is one
     pub worlds : (s : S) (w : World) → (view.state s).told ≡ Some w → IsWorld w
+    -- it folds no names
+    pub folds : (s : S) → view.folding s ≡ false
     pub looks : (s t : S) (path : WebPath) (r : Result Info FsError) → view.looks s c path r t → Looks (view.state s) path r (view.state t)
     pub looks_at_link : (s t : S) (path : WebPath) (r : Result Info FsError) → view.looks_at_link s c path r t → LooksAtLink (view.state s) path r (view.state t)
     pub opens : (s t : S) (path : WebPath) (how : OpenOptions) (r : Result PlainFile FsError) → view.opens s c path how r t → IsOpening (view.state s) path how r (view.state t)

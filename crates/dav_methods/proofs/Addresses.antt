@@ -14,7 +14,7 @@ use Rattle.dav_core.specs.DavPath.{WebPath}
 use Rattle.dav_core.specs.Grammar.{and_then, before_query, begins_with_slash, is_path_byte, names_in, parsed, placed, prefix_names, readable, segments}
 use Rattle.dav_core.specs.declared.parse_error.ParseError.{ParseError}
 use Rattle.dav_core.specs.declared.parse_error.ParseError.TheVariants.{InvalidPath, NoMemory}
-use Rattle.dav_methods.specs.Destination.{IsNoAddress}
+use Rattle.dav_model.specs.Destination.{IsNoAddress}
 
 -- Another URI of the text has no scheme either.
 pub without_scheme : (text : List ℕ) (uri : Target) → Spells text uri → uri_scheme uri ≡ None → IsNoAddress text

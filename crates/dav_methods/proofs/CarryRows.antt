@@ -11,8 +11,8 @@ use Rattle.dav_methods.specs.declared.child.Child.{Child}
 use Rattle.dav_methods.specs.declared.transfer.Transfer.{Transfer}
 use Rattle.dav_methods.specs.Carrying.{may_leave, may_take_place}
 use Rattle.dav_methods.specs.Copying.{transfers_in}
-use Rattle.dav_methods.specs.Destination.{IsDestination, asked_by, depth_of, overwrite_of}
-use Rattle.dav_methods.specs.Overlap.{overlap}
+use Rattle.dav_model.specs.Destination.{IsDestination, asked_by, depth_of, overwrite_of}
+use Rattle.dav_model.specs.Overlap.{overlap}
 use Rattle.dav_methods.specs.Reading.{child_named}
 
 abbrev at : List (List ℕ) → Bool → WebPath

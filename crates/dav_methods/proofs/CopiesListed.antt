@@ -11,15 +11,16 @@ use Rattle.dav_core.specs.Tree.{is_dir}
 use Rattle.dav_store.specs.View.{Listings, View}
 use Rattle.dav_model.specs.declared.outcome.Outcome.{Outcome}
 use Rattle.dav_model.specs.Conditions.{Fields, first_bytes, reads}
-use Rattle.dav_methods.specs.declared.asked.Asked.{Asked}
+use Rattle.dav_model.specs.declared.asked.Asked.{Asked}
 use Rattle.dav_methods.specs.declared.transfer.Transfer.{Transfer}
 use Rattle.dav_methods.specs.declared.work.Work.TheVariants.{Whole}
 use Rattle.dav_methods.specs.Answers.{RefusesUsually, Usual}
-use Rattle.dav_methods.specs.Carrying.{Arrives, Carries, CopyMoves, Goes, Leaves, Replaces, TakesPlace, may_leave, may_take_place, method_of, transfer}
+use Rattle.dav_methods.specs.Carrying.{Arrives, Carries, CopyMoves, Goes, Leaves, Replaces, TakesPlace, may_leave, may_take_place, transfer}
 use Rattle.dav_methods.specs.Copying.{AfterMaking, Copies, CopiesBy, CopiesDir, CopiesOne, Enters, ReadsInto, goes, stops, done as no_work, short as cut_short}
-use Rattle.dav_methods.specs.Destination.{Asks, IsDestination, IsPlace, asked_by, depth_of, overwrite_of, path_or_refusal}
+use Rattle.dav_model.specs.CarryPlans.{method_of}
+use Rattle.dav_model.specs.Destination.{Asks, IsDestination, IsPlace, asked_by, depth_of, overwrite_of, path_or_refusal}
 use Rattle.dav_methods.specs.Lines.{Given, Line, fails_when, is_there, made, refused, refused_but_missing, silent, unmet}
-use Rattle.dav_methods.specs.Overlap.{overlap}
+use Rattle.dav_model.specs.Overlap.{overlap}
 use Rattle.dav_methods.specs.Pouring.{Writes}
 use Rattle.dav_methods.specs.Removing.{LooksAtLink, is_deep}
 use Rattle.dav_methods.specs.Table.{Next, Unless}

@@ -27,10 +27,11 @@ use Rattle.dav_model.specs.Conditions.{Fields, condition, condition_of, strong}
 use Rattle.dav_model.specs.Due.{failure}
 use Rattle.dav_model.specs.Finding.{is_forbidden, is_virtual, resolved, stood_at}
 use Rattle.dav_model.specs.Head.{Stood, refusal, stood_in}
-use Rattle.dav_model.specs.Plans.{Act, Ask, Halt, delete_plan, failing, first, has_link_below, halts, is_too_deep, line, meets_link, plan, refused, removal, removals, removing, stands, unless, unmet, when}
+use Rattle.dav_model.specs.Plans.{Act, Ask, Halt, delete_plan, failing, first, has_link_below, is_too_deep, line, meets_link, plan, refused, removal, removals, removing, stands, unless, unmet, when}
 use Rattle.dav_model.specs.Rules.{Rules}
 use Rattle.dav_model.specs.Walks.{members_first, walk}
 use Rattle.dav_model.specs.Written.{ByActs, EndsAs, PartOf}
+use Rattle.dav_model.proofs.JoiningLemmas.{part_none}
 use Rattle.dav_model.proofs.PlainWalks.{plain_resolved, unlinked_row}
 use Rattle.dav_methods.specs.declared.work.Work.TheVariants.{Whole}
 use Rattle.dav_methods.specs.Follows.{Agrees, Finds, Follows, LooksBy, Reached, RightIn, Told, here, looks_at_link}
@@ -40,12 +41,11 @@ use Rattle.dav_methods.specs.Pouring.{Writes}
 use Rattle.dav_methods.specs.Removing.{Deletes, LooksAtLink, Removes, RemovesAll}
 use Rattle.dav_methods.specs.Removing as own
 use Rattle.dav_methods.specs.Table.{Next, Unless}
-use Rattle.dav_methods.proofs.RemovalRun.{Case, Comes, Goes, acts, comes_after, removed, short_comes, spoiled_comes}
-use Rattle.dav_methods.proofs.RemovalWork.{Left}
-use Rattle.dav_methods.proofs.TakenAfter.{acts_by, none_done}
-use Rattle.dav_methods.proofs.TreeRows.{front_itself, not_both, parts_of, row_at_in}
-use Rattle.dav_methods.proofs.WalkOrder.{In, path_in, paths}
-use Rattle.dav_methods.proofs.WorkCovers.{AllFit, Covers, going, in_walked, walked, walked_ascends, walked_in}
+use Rattle.dav_methods.proofs.ActsJoined.{Comes, Halted, acts_by, done_acts, halted_acts, halted_comes, short_comes, spoiled_comes}
+use Rattle.dav_methods.proofs.RemovalRun.{Goes, acts, began, removed, removed_whole}
+use Rattle.dav_methods.proofs.TreeRows.{not_both, row_at_in}
+use Rattle.dav_methods.proofs.WalkOrder.{In, paths}
+use Rattle.dav_methods.proofs.WorkCovers.{going, walked}
 
 -- ---- what a path is found as
 
@@ -62,7 +62,7 @@ below_row (Some r) found row e = by_kind r.kind e
     by_kind File e = cc
     by_kind Link e = cc
 
-look_there : (tree : List Row) (at names : Names) (row : Row) → look_from tree at names ≡ Ok row → row_at tree (at ++ names) ≡ Some row
+pub look_there : (tree : List Row) (at names : Names) (row : Row) → look_from tree at names ≡ Ok row → row_at tree (at ++ names) ≡ Some row
 look_there tree at [] row e = subst (λ z. row_at tree z ≡ Some row) (sym (append-nil at)) (standing_row (row_at tree at) row e)
 look_there tree at (name ∷ names) row e =
     subst (λ z. row_at tree z ≡ Some row) (append_assoc at (name ∷ []) names)
@@ -78,17 +78,17 @@ not_virtual rules path macos = rw macos refl
 not_forbidden : (rules : Rules) (path : WebPath) → rules.macos ≡ false → is_forbidden rules path ≡ false
 not_forbidden rules path macos = rw macos refl
 
-stands_plainly : (rules : Rules) (w : World) (path : WebPath) → rules.folds ≡ false → rules.macos ≡ false → rules.alone ≡ None
+pub stands_plainly : (rules : Rules) (w : World) (path : WebPath) → rules.folds ≡ false → rules.macos ≡ false → rules.alone ≡ None
     → stands rules w path ≡ stood_at path.slash w (look w.tree path.names)
 stands_plainly rules w path folds macos alone = rw (macos, alone, folds) (ap (λ z. stood_at path.slash w (look w.tree z)) (plain_resolved rules.settings w.tree path.names))
 
 -- what was found stands there, and a file was asked for without a slash
-record Found (w : World) (path : WebPath) (there : Stood) : Type 0 where
-  row : Row
-  in_tree : In row w.tree
-  at : row.path ≡ path.names
-  kind : is_dir there.kind ≡ is_dir row.kind
-  slash : is_dir there.kind ≡ false → is_linked w.tree path.names ≡ false → path.slash ≡ false
+pub record Found (w : World) (path : WebPath) (there : Stood) : Type 0 where
+  pub row : Row
+  pub in_tree : In row w.tree
+  pub at : row.path ≡ path.names
+  pub kind : is_dir there.kind ≡ is_dir row.kind
+  pub slash : is_dir there.kind ≡ false → is_linked w.tree path.names ≡ false → path.slash ≡ false
 
 -- a kind that is none of the three is none
 file_or : (kind : Kind) → is_dir kind ≡ false → is_link kind ≡ false → is_file kind ≡ true
@@ -96,7 +96,7 @@ file_or Dir e f = cc
 file_or File e f = refl
 file_or Link e f = cc
 
-found_at : (w : World) (path : WebPath) (there : Stood) (r : Result Row DiskError) → look w.tree path.names ≡ r → stood_at path.slash w r ≡ Ok there → Found w path there
+pub found_at : (w : World) (path : WebPath) (there : Stood) (r : Result Row DiskError) → look w.tree path.names ≡ r → stood_at path.slash w r ≡ Ok there → Found w path there
 found_at w path there (Err e) at is = cc
 found_at w path there (Ok row) at is = by (path.slash && is_file row.kind) refl is
   where
@@ -210,7 +210,7 @@ plan_lines : (rules : Rules) (w : World) (path : WebPath) (fields : Fields) (bod
     → (delete_plan rules w (ask_for path fields body)).acts ≡ unless (lines fields (stands rules w path)) (removing rules w path)
 plan_lines rules w path fields body macos some = rw (not_root path.names some, not_forbidden rules path macos) refl
 
-planned : (rules : Rules) (w : World) (path : WebPath) → rules.folds ≡ false → rules.alone ≡ None → removing rules w path ≡ acts_by (is_too_deep (going path.names w.tree)) (walked w.tree path.names)
+pub planned : (rules : Rules) (w : World) (path : WebPath) → rules.folds ≡ false → rules.alone ≡ None → removing rules w path ≡ acts_by (is_too_deep (going path.names w.tree)) (walked w.tree path.names)
 planned rules w path folds alone =
     ap (λ z. removals (walk members_first z w.tree)) (resolved_itself rules w.tree path.names folds alone)
     ∙ removals_are (is_too_deep (going path.names w.tree)) (going path.names w.tree) (going path.names w.tree) (λ p. refl)
@@ -221,7 +221,7 @@ both_from None (Some b) P Q both h = absurd both
 both_from (Some a) None P Q both h = absurd both
 both_from (Some a) (Some b) P Q both h = (h a refl, both)
 
-clear_of : (a b : Bool) → (a || b) ≡ false → (a ≡ false) × (b ≡ false)
+pub clear_of : (a b : Bool) → (a || b) ≡ false → (a ≡ false) × (b ≡ false)
 clear_of true b e = cc
 clear_of false b e = (refl, e)
 
@@ -240,18 +240,18 @@ module _ {S C F L E : Type 0} (view : View S C F) (lists : Listings S C L E) (wr
   ToldIn m n P = Told view lists writes c m n P
 
   abbrev Came : Line → List Act → S → World → World → Type 0
-  Came l all t v w = Comes view lists writes c rules fields start follows plain l all t v w
+  Came l all t v w = Comes view fields start l all t v w
 
   -- What acts came to is what is answered.
   right_of : (all : Line) (t : S) (v w : World) (acts : List Act) → (delete_plan rules v ask).acts ≡ acts → Came all acts t v w → Right (the.unless all the.silent) t v w
-  right_of (Ok x) t v w acts e h (Ok reply) is clear = inl (rw e (subst (λ z. ByActs fields acts 204 z v w) (sym is) h))
+  right_of (Ok x) t v w acts e h (Ok reply) is clear = inl (rw e (subst (λ z. ByActs fields acts 204 z v w) (sym is) (done_acts fields acts 204 v w h)))
   right_of (Ok x) t v w acts e h (Err y) is clear = absurd is
   right_of (Err d) t v w acts e h (Ok reply) is clear = by (h.said is.0)
     where
-      by : ByActs fields acts 204 (refusal fields (status_of d) (closes d)) v w
+      by : Halted fields (refusal fields (status_of d) (closes d)) acts v w
           ⊎ ((refusal fields (status_of d) (closes d) ≡ failure) × Rose (view.state start).faults (view.state t).faults × PartOf acts v w)
           → EndsAs fields (plan rules v ask) (Ok reply) (Rose (view.state start).faults (view.state t).faults) v w
-      by (inl done) = inl (rw e (subst (λ z. ByActs fields acts 204 z v w) (sym is.1) done))
+      by (inl halted) = inl (rw e (subst (λ z. ByActs fields acts 204 z v w) (sym is.1) (halted_acts fields (refusal fields (status_of d) (closes d)) acts 204 v w halted)))
       by (inr (failed, rose, part)) = inr (is.1 ∙ failed, rose, rw e part)
   right_of (Err d) t v w acts e h (Err y) is clear = rw e (h.short is)
 
@@ -261,12 +261,12 @@ module _ {S C F L E : Type 0} (view : View S C F) (lists : Listings S C L E) (wr
 
   short_right : (r : Given) (t : S) (v w : World) → r ≡ Err dav.NoMemory → SameBesidesOpens v w → Right r t v w
   short_right r t v w is same =
-      refused_right dav.NoMemory r t v w (delete_plan rules v ask).acts is refl (short_comes view lists writes c rules fields start follows plain (delete_plan rules v ask).acts t v w same)
+      refused_right dav.NoMemory r t v w (delete_plan rules v ask).acts is refl (short_comes view fields start (delete_plan rules v ask).acts t v w same)
 
   line_came : (d : DavError) (o : Option Halt) (more : List Act) (t : S) (v w : World) → IsLine o d → SameBesidesOpens v w → Came (Err d) (unless o more) t v w
   line_came d o more t v w l same =
       subst (λ z. Came (Err d) (unless z more) t v w) (sym l.is)
-      (record { short = λ z. none_done (halts l.halt ∷ []) v w same; said = λ z. inl (ap (λ n. refusal fields n (closes d)) l.status ∙ ap (refusal fields l.halt.status) l.close, same) })
+      (halted_comes view fields start d l.halt [] t v w l.status l.close same)
 
   -- Where a link is met nothing is said.
   where_clear : (r : Given) (t : S) (v w : World) → ((is_linked v.tree path.names ≡ false) × (has_link_below v.tree path.names ≡ false) → Right r t v w) → Right r t v w
@@ -291,8 +291,8 @@ module _ {S C F L E : Type 0} (view : View S C F) (lists : Listings S C L E) (wr
       spoiled f g bad =
           let same_error : d ≡ of_fs f = (let k : may_delete fields (Err f) ≡ Err d = ap (may_delete fields) (sym g) ∙ e in cc) in
           refused_right d r t v u (delete_plan rules v ask).acts is refl
-          (spoiled_comes view lists writes c rules fields start follows plain f d (delete_plan rules v ask).acts start t v u same_error (omega arith)
-          (subst (λ n. Spoiled {T = Unit} (view.state start) (Err f) (view.state n)) (sym same) bad) (none_done (delete_plan rules v ask).acts v u looks.0))
+          (spoiled_comes view fields start f d (delete_plan rules v ask).acts start t v u same_error (omega arith)
+          (subst (λ n. Spoiled {T = Unit} (view.state start) (Err f) (view.state n)) (sym same) bad) (part_none (delete_plan rules v ask).acts v u looks.0))
 
       by : Finds (stands rules v path) found ⊎ Spoiled (view.state start) found (view.state m) → Right r t v u
       by (inl finds) =
@@ -302,37 +302,16 @@ module _ {S C F L E : Type 0} (view : View S C F) (lists : Listings S C L E) (wr
       by (inr (inr g)) = spoiled fs.NoMemory g (inr refl)
 
   -- no line fits: what stands there goes
-  abbrev began : (v : World) → IsWorld v → 0 < length path.names → is_linked v.tree path.names ≡ false → has_link_below v.tree path.names ≡ false → Case
-  began v world some clear below = record { top = path.names; old = v.tree; some = some; tree = world.tree; below = below; clear = clear }
-
-  abbrev to_go : World → List Names
-  to_go v = walked v.tree path.names
-
-  all_left : (v : World) → IsWorld v → Left path.names v.tree v.tree (to_go v)
-  all_left v world = record {
-    tree = world.tree;
-    from = λ r i. (r, i, refl, refl);
-    stands = λ p i. (in_walked v.tree path.names p i).0;
-    all = λ p i front. walked_in v.tree path.names p i front;
-    below = λ p i. (in_walked v.tree path.names p i).1;
-    ascends = walked_ascends v.tree path.names (parts_of v.tree world.tree).once;
-  }
-
   removes_right : (all : Line) (m t : S) (found : Result Info FsError) (v u w : World) → IsWorld v → 0 < length path.names → is_linked v.tree path.names ≡ false → has_link_below v.tree path.names ≡ false
       → SameBesidesOpens v u → Passed fields (stands rules v path) found → Goes view lists writes c rules fields start follows plain (Whole path (is_dir_there found) ∷ []) all t u w
       → Right (the.unless all the.silent) t v w
   removes_right all m t found v u w world some clear below same pass goes =
       let stood = found_at v path pass.there (look v.tree path.names) refl (sym (stands_plainly rules v path folds macos alone) ∙ pass.was) in
-      let x = began v world some clear below in
       let dir : is_dir stood.row.kind ≡ is_dir_there found = sym (pass.dir ∙ stood.kind) in
-      let own_path : In path.names (to_go v) = walked_in v.tree path.names path.names (path_in path.names stood.row v.tree stood.in_tree stood.at) (front_itself path.names) in
-      let covers : Covers (Whole path (is_dir_there found) ∷ []) (to_go v) =
-      (to_go v, [], sym (append-nil (to_go v)), λ p i. (in_walked v.tree path.names p i).1, λ p i. absurd i, own_path, refl) in
-      let fit : AllFit path.names v.tree (Whole path (is_dir_there found) ∷ []) =
-      ((record { row = stood.row; in_tree = stood.in_tree; at = stood.at; kind = dir }, λ e. stood.slash (sym pass.dir ∙ e) clear, inl refl), tt) in
-      let left : Left path.names v.tree u.tree (to_go v) = subst (λ rows. Left path.names v.tree rows (to_go v)) (sym same.tree) (all_left v world) in
-      let came = comes_after view lists writes c rules fields start follows plain all x (to_go v) t v u w same (goes x (to_go v) covers fit left) in
-      right_of all t v w (acts x (to_go v)) (plan_lines rules v path fields body macos some ∙ (ap (λ o. unless o (removing rules v path)) pass.none ∙ planned rules v path folds alone)) came
+      let came = (removed_whole view lists writes c rules fields start follows plain path (is_dir_there found) all t v u w world some clear below
+      (record { row = stood.row; in_tree = stood.in_tree; at = stood.at; kind = dir }) (λ e. stood.slash (sym pass.dir ∙ e) clear) same goes).0 in
+      right_of all t v w (acts (began path.names v world some clear below) (walked v.tree path.names))
+      (plan_lines rules v path fields body macos some ∙ (ap (λ o. unless o (removing rules v path)) pass.none ∙ planned rules v path folds alone)) came
 
   removes_later : (m t : S) (found : Result Info FsError) (r : Given) → 0 < length path.names → Reached view lists writes c start m → may_delete fields found ≡ Ok tt
       → RemovesAll view lists c path (is_dir_there found) m r t → ToldIn m t (Later m found r t)

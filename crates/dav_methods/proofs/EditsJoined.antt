@@ -8,8 +8,8 @@ use Rattle.dav_core.specs.declared.time.FileTime.{FileTime}
 use Rattle.dav_core.specs.declared.tree.Kind.{Kind}
 use Rattle.dav_core.specs.declared.tree.Kind.TheVariants.{File}
 use Rattle.dav_core.specs.declared.tree.Row.{Row}
-use Rattle.dav_core.specs.Changes.{timed_row, without}
-use Rattle.dav_core.specs.Edits.{Becomes, Edit, Edited, IsNew, IsNext, fills, filled, made, makes, moves, stored_as, taken, takes, timed_number, touched_to}
+use Rattle.dav_core.specs.Changes.{moved_row, timed_row, without}
+use Rattle.dav_core.specs.Edits.{Becomes, Edit, Edited, IsNew, IsNext, fills, filled, made, makes, moved, moves, stored_as, taken, takes, timed_number, touched_to}
 use Rattle.dav_core.specs.Path.{Names, is_front, parent_of, same_names}
 use Rattle.dav_core.specs.Tree.{row_at}
 use Rattle.dav_core.specs.World.{Holds, NotAfter, SameBesidesOpens, Stored, World, bytes_of, bytes_or_none, is_numbered, put}
@@ -119,6 +119,24 @@ taken_held path dir n t u (inl h) = h
 taken_held path dir n t u (inr (inl s)) = inl (numbered_without path n u.tree (sym (numbered_map (timed_row dir t) n (without path u.tree) (timed_keeps dir t)) ∙ s))
 taken_held path dir n t u (inr (inr o)) = inr o
 
+moved_keeps : (from to : Names) (row : Row) → (moved_row from to row).number ≡ row.number
+moved_keeps from to row = by (is_front from row.path) refl
+  where
+    by : (b : Bool) → is_front from row.path ≡ b → (moved_row from to row).number ≡ row.number
+    by true e = rw e refl
+    by false e = rw e refl
+
+-- what is held after a move was held before
+moved_held : (from to old new : Names) (n : ℕ) (t p : FileTime) (u : World) → Holds u n ⊎ Holds (touched_to new p (touched_to old t (moved from to u))) n → Holds u n
+moved_held from to old new n t p u (inl h) = h
+moved_held from to old new n t p u (inr (inl s)) =
+    let left = map (moved_row from to) (without to u.tree) in
+    let same : is_numbered (map (timed_row new p) (map (timed_row old t) left)) n ≡ is_numbered (without to u.tree) n =
+    numbered_map (timed_row new p) n (map (timed_row old t) left) (timed_keeps new p)
+    ∙ (numbered_map (timed_row old t) n left (timed_keeps old t) ∙ numbered_map (moved_row from to) n (without to u.tree) (moved_keeps from to)) in
+    inl (numbered_without to n u.tree (sym same ∙ s))
+moved_held from to old new n t p u (inr (inr o)) = inr o
+
 -- ---- what changes nothing, before an edit
 
 new_after : (v u w : World) (t : FileTime) → SameBesidesOpens v u → IsNew u t w → IsNew v t w
@@ -134,6 +152,25 @@ taken_after path v u w same (t, new, e) = (
     files = λ n h.
         (let back = e.files n h in
         let first = same.files n (taken_held path (parent_of path) n t u back.0) in
+        (inl first.0, back.1 ∙ first.1));
+    script = e.script ∙ same.script;
+    greatest = rw (← same.greatest) e.greatest;
+    latest = rw (← same.latest) e.latest;
+  },
+)
+
+-- So is a move.
+pub moved_after : (from to : Names) (v u w : World) → SameBesidesOpens v u → Edited (moves from to) u w → Edited (moves from to) v w
+moved_after from to v u w same (t, p, new, more, e) = (
+  t,
+  p,
+  new_after v u w t same new,
+  new_after v u w p same more,
+  record {
+    tree = e.tree ∙ ap (λ tree. map (timed_row (parent_of to) p) (map (timed_row (parent_of from) t) (map (moved_row from to) (without to tree)))) same.tree;
+    files = λ n h.
+        (let back = e.files n h in
+        let first = same.files n (moved_held from to (parent_of from) (parent_of to) n t p u back.0) in
         (inl first.0, back.1 ∙ first.1));
     script = e.script ∙ same.script;
     greatest = rw (← same.greatest) e.greatest;
@@ -385,7 +422,7 @@ not_its : (b : Bool) (n greatest : ℕ) (row : Row) (rest : Bool) → (n == row.
 not_its true n greatest row rest e le lt more = absurd (let same = equal_keys n row.number e in omega arith)
 not_its false n greatest row rest e le lt more = ap (λ x. x || rest) e ∙ more
 
-above_all : (n greatest : ℕ) (rows : List Row) → AllByRecursion (λ (row : Row). row.number ≤ greatest) rows → greatest < n → is_numbered rows n ≡ false
+pub above_all : (n greatest : ℕ) (rows : List Row) → AllByRecursion (λ (row : Row). row.number ≤ greatest) rows → greatest < n → is_numbered rows n ≡ false
 above_all n greatest [] all lt = refl
 above_all n greatest (row ∷ rows) all lt = not_its (n == row.number) n greatest row (is_numbered rows n) refl all.0 lt (above_all n greatest rows all.1 lt)
 

@@ -8,9 +8,10 @@ use Rattle.dav_core.specs.Info.{Info}
 use Rattle.dav_core.specs.Tree.{is_dir}
 use Rattle.dav_store.specs.View.{View, Listings}
 use Rattle.dav_model.specs.Conditions.{Fields}
-use Rattle.dav_methods.specs.declared.asked.Asked.{Asked}
+use Rattle.dav_model.specs.declared.asked.Asked.{Asked}
 use Rattle.dav_methods.specs.declared.transfer.Transfer.{Transfer}
-use Rattle.dav_methods.specs.Carrying.{Arrives, Leaves, method_of}
+use Rattle.dav_model.specs.CarryPlans.{method_of}
+use Rattle.dav_methods.specs.Carrying.{Arrives, Leaves}
 use Rattle.dav_methods.specs.Lines.{Given, Line, above, no_parent, unmet}
 use Rattle.dav_methods.specs.Removing.{LooksAtLink}
 use Rattle.dav_methods.specs.Table.{Next, Run, Unless}

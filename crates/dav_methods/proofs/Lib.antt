@@ -20,9 +20,19 @@ mod WalkOrder
 mod TreeRows
 mod RemovalWork
 mod WorkCovers
-mod TakenAfter
+mod ActsJoined
 mod RemovalRun
 pub mod DeleteRight
+mod CallDone
+mod Beside
+mod FreePlaces
+pub mod CarryRight
+pub mod MoveDone
+mod CopyOrder
+mod CopyCovers
+mod CopyWork
+mod CopyRun
+pub mod CopyActs
 pub mod RemovalsListed
 mod Addresses
 mod Overlaps

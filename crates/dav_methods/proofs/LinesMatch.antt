@@ -53,7 +53,7 @@ when_match true false status e = cc
 when_match false true status e = cc
 when_match false false status e = tt
 
-there_found : (x : Result Stood FsError) (found : Result Info FsError) → Finds x found → is_there found ≡ is_found x
+pub there_found : (x : Result Stood FsError) (found : Result Info FsError) → Finds x found → is_there found ≡ is_found x
 there_found (Ok there) (Ok info) finds = refl
 there_found (Ok there) (Err f) finds = absurd finds
 there_found (Err e) (Ok info) finds = absurd finds
@@ -78,7 +78,7 @@ missing_error fs.TooLarge = (refl, refl)
 missing_error fs.IsRemote = (refl, refl)
 missing_error fs.NoMemory = (refl, refl)
 
-missing_match : (x : Result Stood FsError) (found : Result Info FsError) → Finds x found → Matches (refused_but_missing found) (refused_there x)
+pub missing_match : (x : Result Stood FsError) (found : Result Info FsError) → Finds x found → Matches (refused_but_missing found) (refused_there x)
 missing_match (Ok there) (Ok info) finds = tt
 missing_match (Ok there) (Err f) finds = absurd finds
 missing_match (Err e) (Ok info) finds = absurd finds

@@ -76,7 +76,7 @@ numbers_given : (greatest : ℕ) (latest : FileTime) (rows : List Row) → AllBy
 numbers_given greatest latest [] all = tt
 numbers_given greatest latest (row ∷ rows) all = (all.0.within, numbers_given greatest latest rows all.1)
 
-world_numbers : (w : World) → IsWorld w → AllByRecursion (λ (r : Row). r.number ≤ w.greatest) w.tree
+pub world_numbers : (w : World) → IsWorld w → AllByRecursion (λ (r : Row). r.number ≤ w.greatest) w.tree
 world_numbers w is = numbers_given w.greatest w.latest w.tree (recursion_from_All (λ (r : Row). IsGiven w.greatest w.latest r.number r.time) w.tree is.given.rows)
 
 -- ---- bytes

@@ -3,7 +3,7 @@ use Rattle.std.proofs.Common.{◌≡◌, ◌&&◌, ◌||◌, ◌<◌, ℕ, zero,
 use Rattle.std.proofs.lemmas.Slice.Eq.{bytes_eq-Decides}
 use Rattle.dav_core.specs.Path.{Names, is_front}
 use Rattle.dav_model.specs.Folds.{fold_name, fold_path}
-use Rattle.dav_methods.specs.Overlap.{overlap, same_name}
+use Rattle.dav_model.specs.Overlap.{overlap, same_name}
 
 bytes_eq_back : (x y : List ℕ) → bytes_eq y x ≡ bytes_eq x y
 bytes_eq_back x y = by (bytes_eq x y) (bytes_eq y x) refl refl

@@ -35,7 +35,7 @@ use Rattle.dav_methods.specs.Table.{Below, Ends, Next, Run, Unless}
 use Rattle.dav_methods.proofs.LinesMatch.{first_three, put_match, when_match}
 use Rattle.dav_methods.proofs.MakingFollows.{below_stage, free_here}
 use Rattle.dav_methods.proofs.OpenedFile.{Into, fill_of, live_can, never_appends, put_into}
-use Rattle.dav_methods.proofs.Stages.{Acts, At, Case, Clear, EndsFor, Right, at_first, at_map, ends_done, ends_halted, ends_spoiled, fs_line, line_stage, look_stage, nothing_done, plan_of, right_in, short_stage, spoiled_from}
+use Rattle.dav_methods.proofs.Stages.{Acts, At, Case, Clear, EndsFor, Right, at_first, at_map, ends_done, ends_halted, ends_spoiled, fs_line, line_stage, linked, look_stage, nothing_done, plan_of, planned, right_in, short_stage, spoiled_from}
 
 -- ---- the checks
 
@@ -63,34 +63,34 @@ done_found (Err e) (Err f) finds = refl
 
 module _ {S C F L E : Type 0} (view : View S C F) (lists : Listings S C L E) (writes : Writes F) (c : C) where
   -- the lines and the acts that are left where a file is to be opened
-  abbrev put_lines : Case view lists writes c → World → List (Option Halt)
+  abbrev put_lines : Case view lists writes c planned linked → World → List (Option Halt)
   put_lines x v = when (is_forbidden (plain_rules x.settings) x.ask.path) 403 ∷ not_allowed (putting (plain_rules x.settings) v x.ask.path) ∷ []
 
-  abbrev put_edits : Case view lists writes c → World → List Act
+  abbrev put_edits : Case view lists writes c planned linked → World → List Act
   put_edits x v = put_acts x.ask.body (putting (plain_rules x.settings) v x.ask.path)
 
   -- what the path itself is judged by
-  abbrev put_line : Case view lists writes c → World → Option Halt
+  abbrev put_line : Case view lists writes c planned linked → World → Option Halt
   put_line x v = first (refused_there (stands (plain_rules x.settings) v x.ask.path) ∷ when (is_dir_found (stands (plain_rules x.settings) v x.ask.path)) 405
       ∷ unmet Put x.ask.fields (stands (plain_rules x.settings) v x.ask.path) ∷ [])
 
   -- what is known after the checks, by what they gave
-  record Known (x : Case view lists writes c) (outcome : Outcome) (v : World) : Type 0 where
-    acts : Acts view lists writes c x (put_lines x) (put_edits x) v
-    done : done_reply (plan_of view lists writes c x v).done ≡ reply_as outcome
+  record Known (x : Case view lists writes c planned linked) (outcome : Outcome) (v : World) : Type 0 where
+    acts : Acts view lists writes c planned linked x (put_lines x) (put_edits x) v
+    done : done_reply (plan_of view lists writes c planned linked x v).done ≡ reply_as outcome
 
-  abbrev Checked : Case view lists writes c → Given → S → Type 0
-  Checked x (Err d) m = Right view lists writes c x (Err d) m
-  Checked x (Ok outcome) m = Reached view lists writes c x.s m × At view lists writes c x m (Known x outcome)
+  abbrev Checked : Case view lists writes c planned linked → Given → S → Type 0
+  Checked x (Err d) m = Right view lists writes c planned linked x (Err d) m
+  Checked x (Ok outcome) m = Reached view lists writes c x.s m × At view lists writes c planned linked x m (Known x outcome)
 
-  replaced : (x : Case view lists writes c) → x.ask.method ≡ Put → (m : S) (may : Given) (n : S) → Reached view lists writes c x.s m
-      → At view lists writes c x m (Acts view lists writes c x (λ v. put_line x v ∷ put_lines x v) (put_edits x)) → MayReplace view c x.ask.path x.ask.fields m may n → Checked x may n
+  replaced : (x : Case view lists writes c planned linked) → x.ask.method ≡ Put → (m : S) (may : Given) (n : S) → Reached view lists writes c x.s m
+      → At view lists writes c planned linked x m (Acts view lists writes c planned linked x (λ v. put_line x v ∷ put_lines x v) (put_edits x)) → MayReplace view c x.ask.path x.ask.fields m may n → Checked x may n
   replaced x is m may n reached at (found, k, look, goes) =
-      look_stage view lists writes c x (Checked x) (λ d t right. right) x.ask.path (may_put x.ask.fields) (record { failed = refl; short = refl }) (put_line x) (put_lines x) (put_edits x)
+      look_stage view lists writes c planned linked x (Checked x) (λ d t right. right) x.ask.path (may_put x.ask.fields) (record { failed = refl; short = refl }) (put_line x) (put_lines x) (put_edits x)
       (λ v found finds. put_match x.ask.fields (stands (plain_rules x.settings) v x.ask.path) found finds) (free_here view lists writes c x) (λ found. Ends (Ok (done_over found))) m may n reached at
       (λ found n reached at ends. rw (ends.0, ends.1) (
         reached,
-        at_map view lists writes c x n _ _ (λ v clear p. record {
+        at_map view lists writes c planned linked x n _ _ (λ v clear p. record {
           acts = p.0;
           done = ap (λ m. done_reply (plan_as m (plain_rules x.settings) v x.ask).done) is ∙ done_found (stands (plain_rules x.settings) v x.ask.path) found p.1;
         }) at,
@@ -101,72 +101,72 @@ module _ {S C F L E : Type 0} (view : View S C F) (lists : Listings S C L E) (wr
       by (inl short) = inl short
       by (inr ends) = inr (ends_unless (may_put x.ask.fields found) (done_over found) k may n ends)
 
-  below_checked : (x : Case view lists writes c) → x.ask.method ≡ Put → (may : Given) (m : S)
-      → At view lists writes c x x.s (Acts view lists writes c x (λ v. when (not (has_parent (plain_rules x.settings) v x.ask.path)) 409 ∷ put_line x v ∷ put_lines x v) (put_edits x))
+  below_checked : (x : Case view lists writes c planned linked) → x.ask.method ≡ Put → (may : Given) (m : S)
+      → At view lists writes c planned linked x x.s (Acts view lists writes c planned linked x (λ v. when (not (has_parent (plain_rules x.settings) v x.ask.path)) 409 ∷ put_line x v ∷ put_lines x v) (put_edits x))
       → Next (Below view c x.ask.path (MayReplace view c x.ask.path x.ask.fields)) x.s may m → Checked x may m
-  below_checked x is may m at (inl short) = short_stage view lists writes c x (Checked x) (λ d t right. right) _ x.s may m at short
+  below_checked x is may m at (inl short) = short_stage view lists writes c planned linked x (Checked x) (λ d t right. right) _ x.s may m at short
   below_checked x is may m at (inr goes) =
       below_stage view lists writes c x (Checked x) (λ d t right. right) (λ v. put_line x v ∷ put_lines x v) (put_edits x) (MayReplace view c x.ask.path x.ask.fields) x.s may m here at
       (λ n reached at goes. replaced x is n may m reached at goes) goes
 
-  checked : (x : Case view lists writes c) → x.ask.method ≡ Put → (may : Given) (m : S) → MayPut view c x.ask.path x.ask.fields x.s may m → Checked x may m
+  checked : (x : Case view lists writes c planned linked) → x.ask.method ≡ Put → (may : Given) (m : S) → MayPut view c x.ask.path x.ask.fields x.s may m → Checked x may m
   checked x is may m run =
       let rules = plain_rules x.settings in
-      line_stage view lists writes c x (Checked x) (λ d t right. right) (fails_when x.ask.path.slash 405) (λ v. when x.ask.path.slash 405)
+      line_stage view lists writes c planned linked x (Checked x) (λ d t right. right) (fails_when x.ask.path.slash 405) (λ v. when x.ask.path.slash 405)
       (λ v. when (not (has_parent rules v x.ask.path)) 409 ∷ put_line x v ∷ put_lines x v) (put_edits x) (λ v. Unit {0}) x.s (Next (Below view c x.ask.path (MayReplace view c x.ask.path x.ask.fields)))
       may m
-      (at_first view lists writes c x _ (λ v. (
+      (at_first view lists writes c planned linked x _ (λ v. (
         ap (λ m. (plan_as m rules v x.ask).acts) is
             ∙ ap (λ l. unless l (put_edits x v)) (first_under (when x.ask.path.slash 405) _ _ (first_under (when (not (has_parent rules v x.ask.path)) 409) _ _
             (first_three (refused_there (stands rules v x.ask.path)) (when (is_dir_found (stands rules v x.ask.path)) 405) (unmet Put x.ask.fields (stands rules v x.ask.path)) (put_lines x v)))),
         inl (when_match x.ask.path.slash x.ask.path.slash 405 refl, tt),
       )))
-      (λ at goes. below_checked x is may m (at_map view lists writes c x x.s _ _ (λ v clear p. p.0) at) goes) run
+      (λ at goes. below_checked x is may m (at_map view lists writes c planned linked x x.s _ _ (λ v clear p. p.0) at) goes) run
 
   -- ---- the opening
 
-  passed : (x : Case view lists writes c) (v : World) (outcome : Outcome) (edit : Option Edit) → Known x outcome v → putting (plain_rules x.settings) v x.ask.path ≡ Ok edit
-      → (plan_of view lists writes c x v).acts ≡ put_edits x v
+  passed : (x : Case view lists writes c planned linked) (v : World) (outcome : Outcome) (edit : Option Edit) → Known x outcome v → putting (plain_rules x.settings) v x.ask.path ≡ Ok edit
+      → (plan_of view lists writes c planned linked x v).acts ≡ put_edits x v
   passed x v outcome edit known allows = known.acts ∙ ap (λ a. unless (first (not_allowed a ∷ [])) (put_edits x v)) allows
 
-  refused_as : (x : Case view lists writes c) (allowed : Allowed) (e : FsError) (more : List Act) (t : S) (v w : World) → CallsFor allowed e
-      → (plan_of view lists writes c x v).acts ≡ unless (first (not_allowed allowed ∷ [])) more → SameBesidesOpens v w → EndsFor view lists writes c x (Err (of_fs e)) t v w
+  refused_as : (x : Case view lists writes c planned linked) (allowed : Allowed) (e : FsError) (more : List Act) (t : S) (v w : World) → CallsFor allowed e
+      → (plan_of view lists writes c planned linked x v).acts ≡ unless (first (not_allowed allowed ∷ [])) more → SameBesidesOpens v w → EndsFor view lists writes c planned linked x (Err (of_fs e)) t v w
   refused_as x (Ok edit) e more t v w calls acts same = absurd calls
   refused_as x (Err d) e more t v w calls acts same =
-      subst (λ z. EndsFor view lists writes c x (Err (of_fs z)) t v w) (sym calls)
-      (ends_halted view lists writes c x (line (fs_status (fs_error_of d))) [] (of_fs (fs_error_of d)) t v w acts (fs_line (fs_error_of d)).0 (fs_line (fs_error_of d)).1 same)
+      subst (λ z. EndsFor view lists writes c planned linked x (Err (of_fs z)) t v w) (sym calls)
+      (ends_halted view lists writes c planned linked x (line (fs_status (fs_error_of d))) [] (of_fs (fs_error_of d)) t v w acts (fs_line (fs_error_of d)).0 (fs_line (fs_error_of d)).1 same)
 
   -- what is allowed after looks is what was allowed before
-  putting_same : (x : Case view lists writes c) (v u : World) → SameBesidesOpens v u → putting (plain_rules x.settings) u x.ask.path ≡ putting (plain_rules x.settings) v x.ask.path
+  putting_same : (x : Case view lists writes c planned linked) (v u : World) → SameBesidesOpens v u → putting (plain_rules x.settings) u x.ask.path ≡ putting (plain_rules x.settings) v x.ask.path
   putting_same x v u same = ap (λ (tree : List Row). opening tree (resolved (plain_rules x.settings) tree x.ask.path.names) put_options) same.tree
 
-  free_after : (x : Case view lists writes c) (v u : World) → SameBesidesOpens v u → Clear view lists writes c x v → is_linked u.tree (resolved (plain_rules x.settings) u.tree x.ask.path.names) ≡ false
+  free_after : (x : Case view lists writes c planned linked) (v u : World) → SameBesidesOpens v u → Clear view lists writes c planned linked x v → is_linked u.tree (resolved (plain_rules x.settings) u.tree x.ask.path.names) ≡ false
   free_after x v u same clear =
       subst (λ (tree : List Row). is_linked tree (resolved (plain_rules x.settings) tree x.ask.path.names) ≡ false) (sym same.tree) (free_here view lists writes c x v clear)
 
-  unopened : (x : Case view lists writes c) (outcome : Outcome) (m n : S) (e : FsError) (v u a : World) → (view.state x.s).faults ≤ (view.state m).faults → Clear view lists writes c x v
+  unopened : (x : Case view lists writes c planned linked) (outcome : Outcome) (m n : S) (e : FsError) (v u a : World) → (view.state x.s).faults ≤ (view.state m).faults → Clear view lists writes c planned linked x v
       → SameBesidesOpens v u → Known x outcome v
       → (is_linked u.tree (resolved (plain_rules x.settings) u.tree x.ask.path.names) ≡ false → OpensBy view lists writes c (plain_rules x.settings) x.ask.path m (Err e) n u a)
-      → EndsFor view lists writes c x (Err (of_fs e)) n v a
+      → EndsFor view lists writes c planned linked x (Err (of_fs e)) n v a
   unopened x outcome m n e v u a le clear same known opens = by (opens (free_after x v u same clear))
     where
-      by : OpensBy view lists writes c (plain_rules x.settings) x.ask.path m (Err e) n u a → EndsFor view lists writes c x (Err (of_fs e)) n v a
+      by : OpensBy view lists writes c (plain_rules x.settings) x.ask.path m (Err e) n u a → EndsFor view lists writes c planned linked x (Err (of_fs e)) n v a
       by (kept, inl calls) =
           refused_as x (putting (plain_rules x.settings) v x.ask.path) e (put_edits x v) n v a (subst (λ z. CallsFor z e) (putting_same x v u same) calls) known.acts
           (same_besides_then v u a same kept)
       by (kept, inr spoiled) =
-          ends_spoiled view lists writes c {T = F} x e n v a (spoiled_from view lists writes c {T = F} x.s m n (Err e) le spoiled)
-          (nothing_done (plan_of view lists writes c x v).acts v a (same_besides_then v u a same kept))
+          ends_spoiled view lists writes c planned linked {T = F} x e n v a (spoiled_from view lists writes c planned linked {T = F} x.s m n (Err e) le spoiled)
+          (nothing_done (plan_of view lists writes c planned linked x v).acts v a (same_besides_then v u a same kept))
 
   -- A file is open that the body goes into as the plan says.
-  record Opened (x : Case view lists writes c) (outcome : Outcome) (n : S) (f : F) (v a : World) : Type 0 where
+  record Opened (x : Case view lists writes c planned linked) (outcome : Outcome) (n : S) (f : F) (v a : World) : Type 0 where
     known : Known x outcome v
     row : Row
     into : Into x.ask.fields (putting (plain_rules x.settings) v x.ask.path) x.ask.body v a row
     place : a.opens (view.handle f) ≡ Some (at_start row.number)
     kind : kind_at (view.state n) (view.handle f) ≡ Some row.kind
 
-  opened_as : (x : Case view lists writes c) (outcome : Outcome) (m n : S) (f : F) (v u a : World) → Clear view lists writes c x v → SameBesidesOpens v u → Known x outcome v
+  opened_as : (x : Case view lists writes c planned linked) (outcome : Outcome) (m n : S) (f : F) (v u a : World) → Clear view lists writes c planned linked x v → SameBesidesOpens v u → Known x outcome v
       → (is_linked u.tree (resolved (plain_rules x.settings) u.tree x.ask.path.names) ≡ false → OpensBy view lists writes c (plain_rules x.settings) x.ask.path m (Ok f) n u a)
       → Opened x outcome n f v a
   opened_as x outcome m n f v u a clear same known opens = by (opens (free_after x v u same clear))
@@ -187,7 +187,7 @@ module _ {S C F L E : Type 0} (view : View S C F) (lists : Listings S C L E) (wr
 
   -- ---- the write
 
-  record Filled (x : Case view lists writes c) (outcome : Outcome) (n : S) (f : F) (ended : Result Unit FsError) (v b : World) : Type 0 where
+  record Filled (x : Case view lists writes c planned linked) (outcome : Outcome) (n : S) (f : F) (ended : Result Unit FsError) (v b : World) : Type 0 where
     known : Known x outcome v
     row : Row
     a : World
@@ -195,26 +195,26 @@ module _ {S C F L E : Type 0} (view : View S C F) (lists : Listings S C L E) (wr
     kind : kind_at (view.state n) (view.handle f) ≡ Some row.kind
     did : WritesBy view lists writes c (view.handle f) x.ask.body ended (at_start row.number) a b
 
-  filled_as : (x : Case view lists writes c) (outcome : Outcome) (n : S) (f : F) (ended : Result Unit FsError) (v a b : World) → Opened x outcome n f v a
+  filled_as : (x : Case view lists writes c planned linked) (outcome : Outcome) (n : S) (f : F) (ended : Result Unit FsError) (v a b : World) → Opened x outcome n f v a
       → ((o : OpenFile) → a.opens (view.handle f) ≡ Some o → o.place ≤ length (bytes_of a o.number) → WritesBy view lists writes c (view.handle f) x.ask.body ended o a b)
       → Filled x outcome n f ended v b
   filled_as x outcome n f ended v a b opened goes =
       record { known = opened.known; row = opened.row; a = a; into = opened.into; kind = opened.kind; did = goes (at_start opened.row.number) opened.place (omega arith) }
 
-  written_right : (x : Case view lists writes c) (outcome : Outcome) (n t : S) (f : F) (ended : Result Unit FsError) (v b w : World)
+  written_right : (x : Case view lists writes c planned linked) (outcome : Outcome) (n t : S) (f : F) (ended : Result Unit FsError) (v b w : World)
       → (can_write ((view.state n).live (view.handle f)) ≡ true → OnErr ended (Spoiled (view.state x.s) ended (view.state t)))
       → ((l : Live) → (view.state n).live (view.handle f) ≡ Some l → l.how ≡ put_options) → Filled x outcome n f ended v b → SameBesidesOpens b w
-      → EndsFor view lists writes c x (answer_unless (line_of ended) outcome) t v w
+      → EndsFor view lists writes c planned linked x (answer_unless (line_of ended) outcome) t v w
   written_right x outcome n t f (Ok y) v b w refused how filled same =
       let acts = passed x v outcome filled.into.edit filled.known filled.into.allows in
-      ends_done view lists writes c x outcome t v w filled.known.done
-      (λ reply is. subst (λ acts. ByActs x.ask.fields acts (plan_of view lists writes c x v).done reply v w) (sym acts)
-      (filled.into.whole w (fill_of filled.row.number x.ask.body filled.a b w filled.into.empty filled.did.0 same) (plan_of view lists writes c x v).done reply is))
+      ends_done view lists writes c planned linked x outcome t v w filled.known.done
+      (λ reply is. subst (λ acts. ByActs x.ask.fields acts (plan_of view lists writes c planned linked x v).done reply v w) (sym acts)
+      (filled.into.whole w (fill_of filled.row.number x.ask.body filled.a b w filled.into.empty filled.did.0 same) (plan_of view lists writes c planned linked x v).done reply is))
   written_right x outcome n t f (Err e) v b w refused how filled same =
       let acts = passed x v outcome filled.into.edit filled.known filled.into.allows in
       let can = live_can ((view.state n).live (view.handle f)) filled.row.kind filled.kind filled.into.kind how in
       let (count, edited) = filled.did in
-      ends_spoiled view lists writes c {T = Unit} x e t v w (refused can)
+      ends_spoiled view lists writes c planned linked {T = Unit} x e t v w (refused can)
       (subst (λ acts. PartOf acts v w) (sym acts)
       (filled.into.part count w (fill_of filled.row.number (take count x.ask.body) filled.a b w filled.into.empty edited same)))
 
@@ -224,17 +224,17 @@ module _ {S C F L E : Type 0} (view : View S C F) (lists : Listings S C L E) (wr
   still_spoiled (Err e) s n k t le same (inl (f, rose)) = inl (f, rw same (rose_before (view.state s).faults (view.state n).faults (view.state k).faults le rose))
   still_spoiled (Err e) s n k t le same (inr f) = inr f
 
-  opened_stage : (x : Case view lists writes c) (outcome : Outcome) (opened : Result F FsError) (m n : S) (r : Given) (t : S) → x.ask.path.slash ≡ false → Reached view lists writes c x.s m
-      → At view lists writes c x m (Known x outcome) → view.opens m c x.ask.path put_options opened n → OpensOne view.handle view.seen put_options (view.state m) opened (view.state n)
-      → AfterOpeningWhole view writes c opened outcome x.ask.body n r t → Right view lists writes c x r t
+  opened_stage : (x : Case view lists writes c planned linked) (outcome : Outcome) (opened : Result F FsError) (m n : S) (r : Given) (t : S) → x.ask.path.slash ≡ false → Reached view lists writes c x.s m
+      → At view lists writes c planned linked x m (Known x outcome) → view.opens m c x.ask.path put_options opened n → OpensOne view.handle view.seen put_options (view.state m) opened (view.state n)
+      → AfterOpeningWhole view writes c opened outcome x.ask.body n r t → Right view lists writes c planned linked x r t
   opened_stage x outcome (Err e) m n r t slash reached at call one ends =
       rw (ends.0, ends.1) (both_then (view.state x.s).told (view.state m).told (view.state n).told _ _ _
       (λ v u a p q clear. unopened x outcome m n e v u a (x.follows.counts m reached) clear p.0 (p.1 clear) q) at (x.follows.opens m n x.ask.path (Err e) reached call slash))
   opened_stage x outcome (Ok f) m n r t slash reached at call one into =
       let next = opened_from m n x.ask.path put_options (Ok f) reached call in
-      let first_world = both_then (view.state x.s).told (view.state m).told (view.state n).told _ _ (λ v a. Clear view lists writes c x v → Opened x outcome n f v a)
+      let first_world = both_then (view.state x.s).told (view.state m).told (view.state n).told _ _ (λ v a. Clear view lists writes c planned linked x v → Opened x outcome n f v a)
       (λ v u a p q clear. opened_as x outcome m n f v u a clear p.0 (p.1 clear) q) at (x.follows.opens m n x.ask.path (Ok f) reached call slash) in
-      let second_world = both_then (view.state x.s).told (view.state n).told (view.state into.full).told _ _ (λ v b. Clear view lists writes c x v → Filled x outcome n f into.ended v b)
+      let second_world = both_then (view.state x.s).told (view.state n).told (view.state into.full).told _ _ (λ v b. Clear view lists writes c planned linked x v → Filled x outcome n f into.ended v b)
       (λ v a b p q clear. filled_as x outcome n f into.ended v a b (p clear) q) first_world
       (x.follows.writes_file n into.full f into.file x.ask.body into.ended next into.written (never_appends ((view.state n).live (view.handle f)) one.options)) in
       rw into.answer (both_then (view.state x.s).told (view.state into.full).told (view.state t).told _ _ _
@@ -244,12 +244,12 @@ module _ {S C F L E : Type 0} (view : View S C F) (lists : Listings S C L E) (wr
 
   -- ---- the method
 
-  after_checks : (x : Case view lists writes c) (may : Given) (m : S) (r : Given) (t : S) → Checked x may m → ((outcome : Outcome) → may ≡ Ok outcome → x.ask.path.slash ≡ false)
-      → AfterChecksWhole view writes c may x.ask.path x.ask.body m r t → Right view lists writes c x r t
+  after_checks : (x : Case view lists writes c planned linked) (may : Given) (m : S) (r : Given) (t : S) → Checked x may m → ((outcome : Outcome) → may ≡ Ok outcome → x.ask.path.slash ≡ false)
+      → AfterChecksWhole view writes c may x.ask.path x.ask.body m r t → Right view lists writes c planned linked x r t
   after_checks x (Err d) m r t right slash (e, f) = rw (e, f) right
   after_checks x (Ok outcome) m r t (reached, at) slash (opened, n, call, one, on) = opened_stage x outcome opened m n r t (slash outcome refl) reached at call one on
 
-  put_right : (x : Case view lists writes c) → x.ask.method ≡ Put → (r : Given) (t : S) → PutsWhole view writes c x.ask.path x.ask.fields x.ask.body x.s r t → Right view lists writes c x r t
+  put_right : (x : Case view lists writes c planned linked) → x.ask.method ≡ Put → (r : Given) (t : S) → PutsWhole view writes c x.ask.path x.ask.fields x.ask.body x.s r t → Right view lists writes c planned linked x r t
   put_right x is r t (may, m, checks, on) =
       after_checks x may m r t (checked x is may m checks)
       (λ outcome e. unslashed x.ask.path.slash (Next (Below view c x.ask.path (MayReplace view c x.ask.path x.ask.fields))) outcome x.s m

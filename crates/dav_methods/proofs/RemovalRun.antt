@@ -1,36 +1,30 @@
 -- Over a store that follows rules, what work does to the told world is what the removals that it covers do, in their order.
-use Rattle.std.proofs.Common.{◌≡◌, ◌≤◌, ◌<◌, ◌⊎◌, ◌&&◌, ◌==◌, ◌+◌, ◌++◌, List, [], ◌∷◌, length, Bool, true, false, not, Option, None, Some, Result, Ok, Err, refl, sym, ap, subst, ◌∙◌, inl, inr}
+use Rattle.std.proofs.Common.{◌≡◌, ◌<◌, ◌&&◌, ◌==◌, ◌+◌, ◌++◌, List, [], ◌∷◌, length, Bool, true, false, not, Option, None, Some, Result, Ok, Err, refl, sym, ap, subst, ◌∙◌, inl, inr, append-nil}
 use Rattle.std.specs.List.{filter, list_all}
 use Rattle.std.proofs.lemmas.Bool.{and_parts}
-use Rattle.dav_io.specs.Counts.{Rose}
 use Rattle.dav_io.specs.Told.{Both}
-use Rattle.dav_io.proofs.AppendingLemmas.{rose_before}
 use Rattle.dav_io.proofs.ToldLemmas.{both_map, both_same, both_then}
 use Rattle.dav_core.specs.declared.dav_error.DavError.{DavError}
 use Rattle.dav_core.specs.declared.dav_error.DavError.TheVariants as dav
 use Rattle.dav_core.specs.declared.error.FsError.{FsError}
-use Rattle.dav_core.specs.declared.error.FsError.TheVariants as fs
 use Rattle.dav_core.specs.declared.tree.Row.{Row}
 use Rattle.dav_core.specs.Allowed.{Allowed, taking_dir, taking_file}
 use Rattle.dav_core.specs.DavPath.{WebPath}
 use Rattle.dav_core.specs.Edits.{Edited, EditedBy, takes}
 use Rattle.dav_core.specs.Listing.{stands_in}
 use Rattle.dav_core.specs.Path.{Names, is_front}
-use Rattle.dav_core.specs.Statuses.{closes, lacks_memory, of_fs, status_of}
+use Rattle.dav_core.specs.Statuses.{of_fs}
 use Rattle.dav_core.specs.Tree.{has_dir, is_dir, is_dir_row, is_linked, is_tree}
 use Rattle.dav_core.specs.World.{IsWorld, SameBesidesOpens, World}
 use Rattle.dav_core.specs.Writing.{LeftBy}
 use Rattle.dav_core.proofs.UnchangedLemmas.{same_besides}
-use Rattle.dav_store.specs.Files.{Spoiled}
 use Rattle.dav_store.specs.Members.{Answered, Walked, begun, goes as walk_goes}
 use Rattle.dav_store.specs.View.{Listings, View}
 use Rattle.dav_model.specs.Conditions.{Fields}
-use Rattle.dav_model.specs.Due.{failure}
 use Rattle.dav_model.specs.Finding.{is_clear, resolved}
-use Rattle.dav_model.specs.Head.{refusal}
-use Rattle.dav_model.specs.Plans.{Act, has_link_below, is_too_deep}
+use Rattle.dav_model.specs.Plans.{Act, has_link_below, is_too_deep, line}
 use Rattle.dav_model.specs.Rules.{Rules}
-use Rattle.dav_model.specs.Written.{ByActs, PartOf, silent}
+use Rattle.dav_model.proofs.JoiningLemmas.{part_none}
 use Rattle.dav_methods.specs.declared.child.Child.{Child}
 use Rattle.dav_methods.specs.declared.work.Work.{Work}
 use Rattle.dav_methods.specs.declared.work.Work.TheVariants.{Emptied, Whole}
@@ -39,11 +33,11 @@ use Rattle.dav_methods.specs.Lines.{Line}
 use Rattle.dav_methods.specs.Pouring.{Writes}
 use Rattle.dav_methods.specs.Reading.{HasMembers, HasNoMembers}
 use Rattle.dav_methods.specs.Removing.{Removes, RemovesOne, goes, is_deep, line_of, short as cut_short, stops, works_in, done as no_work}
-use Rattle.dav_methods.proofs.RemovalWork.{Left, dir_allowed, file_allowed, left_same, left_taken, one_file, stands_now, unlinked}
-use Rattle.dav_methods.proofs.TakenAfter.{acts_after, acts_by, none_done, part_after}
-use Rattle.dav_methods.proofs.TreeRows.{all_in, at_row, front_then, in_filter, parts_of}
-use Rattle.dav_methods.proofs.WalkOrder.{In, in_left}
-use Rattle.dav_methods.proofs.WorkCovers.{AllFit, Covers, emptied_shallow, file_shallow, going, opened_covers, opened_fit, whole_deep}
+use Rattle.dav_methods.proofs.ActsJoined.{Comes, FillsNone, acts_by, comes_after, comes_behind, halted_comes, removals_none, short_comes, spoiled_comes}
+use Rattle.dav_methods.proofs.RemovalWork.{Left, StandsAs, dir_allowed, file_allowed, left_same, left_taken, one_file, stands_now, unlinked}
+use Rattle.dav_methods.proofs.TreeRows.{all_in, at_row, front_itself, front_then, in_filter, parts_of}
+use Rattle.dav_methods.proofs.WalkOrder.{In, in_left, path_in}
+use Rattle.dav_methods.proofs.WorkCovers.{AllFit, Covers, emptied_shallow, file_shallow, going, in_walked, opened_covers, opened_fit, walked, walked_ascends, walked_in, whole_deep}
 
 -- a fact of what is told before or after a call
 pub both_with : {A : Type 0} (old new : Option A) (P : A → A → Type 0) (Q : A → Type 0) → Both old new P → ((b : A) → new ≡ Some b → Q b) → Both old new (λ a b. P a b × Q b)
@@ -67,6 +61,20 @@ deep_in x path = is_too_deep (going x.top x.old) path
 abbrev pub acts : Case → List Names → List Act
 acts x left = acts_by (deep_in x) left
 
+-- All at and below a path is to go.
+abbrev pub began : (top : Names) (v : World) → IsWorld v → 0 < length top → is_linked v.tree top ≡ false → has_link_below v.tree top ≡ false → Case
+began top v world some clear below = record { top = top; old = v.tree; some = some; tree = world.tree; below = below; clear = clear }
+
+pub all_left : (top : Names) (v : World) → IsWorld v → Left top v.tree v.tree (walked v.tree top)
+all_left top v world = record {
+  tree = world.tree;
+  from = λ r i. (r, i, refl, refl);
+  stands = λ p i. (in_walked v.tree top p i).0;
+  all = λ p i front. walked_in v.tree top p i front;
+  below = λ p i. (in_walked v.tree top p i).1;
+  ascends = walked_ascends v.tree top (parts_of v.tree world.tree).once;
+}
+
 module _ {S C F L E : Type 0} (view : View S C F) (lists : Listings S C L E) (writes : Writes F) (c : C) (rules : Rules) (fields : Fields) (start : S)
     (follows : Follows view lists writes c rules start) (plain : (tree : List Row) (names : Names) → resolved rules tree names ≡ names) where
   abbrev Here : S → Type 0
@@ -75,69 +83,23 @@ module _ {S C F L E : Type 0} (view : View S C F) (lists : Listings S C L E) (wr
   abbrev ToldIn : S → S → (World → World → Type 0) → Type 0
   ToldIn m n P = Told view lists writes c m n P
 
-  -- ---- what the removals came to
+  abbrev Came : Line → List Act → S → World → World → Type 0
+  Came r all t v w = Comes view fields start r all t v w
 
-  -- what acts and the error of a line make of a world
-  pub record ComesTo (e : DavError) (all : List Act) (t : S) (v w : World) : Type 0 where
-    pub short : lacks_memory e ≡ true → PartOf all v w
-    pub said : lacks_memory e ≡ false → ByActs fields all 204 (refusal fields (status_of e) (closes e)) v w
-        ⊎ ((refusal fields (status_of e) (closes e) ≡ failure) × Rose (view.state start).faults (view.state t).faults × PartOf all v w)
-
-  abbrev pub Comes : Line → List Act → S → World → World → Type 0
-  Comes (Ok x) all t v w = ByActs fields all 204 silent v w
-  Comes (Err e) all t v w = ComesTo e all t v w
+  -- where all went, what is left of the tree
+  abbrev pub Ended : Line → Case → World → Type 0
+  Ended (Ok y) x w = Left x.top x.old w.tree []
+  Ended (Err e) x w = Unit {0}
 
   -- what work that is left comes to
   abbrev pub Goes : List Work → Line → S → World → World → Type 0
-  Goes works r t v w = (x : Case) (left : List Names) → Covers works left → AllFit x.top x.old works → Left x.top x.old v.tree left → Comes r (acts x left) t v w
+  Goes works r t v w = (x : Case) (left : List Names) → Covers works left → AllFit x.top x.old works → Left x.top x.old v.tree left → Came r (acts x left) t v w × Ended r x w
 
-  pub spoiled_comes : (f : FsError) (e : DavError) (all : List Act) (n t : S) (v w : World) → e ≡ of_fs f → (view.state start).faults ≤ (view.state n).faults
-      → Spoiled {T = Unit} (view.state n) (Err f) (view.state t) → PartOf all v w → Comes (Err e) all t v w
-  spoiled_comes f e all n t v w is le (inl (fault, rose)) part =
-      let g : f ≡ fs.GeneralFailure = cc in
-      let h : e ≡ dav.Fs fs.GeneralFailure = is ∙ ap of_fs g in
-      subst (λ x. ComesTo x all t v w) (sym h) (record {
-        short = λ z. cc;
-        said = λ z. inr (refl, rose_before (view.state start).faults (view.state n).faults (view.state t).faults le rose, part);
-      })
-  spoiled_comes f e all n t v w is le (inr none) part =
-      let g : f ≡ fs.NoMemory = cc in
-      let h : e ≡ dav.NoMemory = is ∙ ap of_fs g in
-      subst (λ x. ComesTo x all t v w) (sym h) (record { short = λ z. part; said = λ z. cc })
+  behind : (r : Line) (x : Case) (p : Names) (more : List Names) (t : S) (v u w : World) → deep_in x p ≡ false → Edited (takes p) v u → Came r (acts x more) t u w → Came r (acts x (p ∷ more)) t v w
+  behind r x p more t v u w shallow edited h = rw shallow (comes_behind view fields start r (takes p) (acts x more) t v u w edited h)
 
-  pub short_comes : (all : List Act) (t : S) (v w : World) → SameBesidesOpens v w → Comes (Err dav.NoMemory) all t v w
-  short_comes all t v w same = record { short = λ z. none_done all v w same; said = λ z. cc }
-
-  -- after looks
-  pub comes_after : (r : Line) (x : Case) (left : List Names) (t : S) (v u w : World) → SameBesidesOpens v u → Comes r (acts x left) t u w → Comes r (acts x left) t v w
-  comes_after (Ok y) x left t v u w same h = acts_after (deep_in x) fields left 204 silent v u w same h
-  comes_after (Err e) x left t v u w same h = record {
-    short = λ z. part_after (deep_in x) left v u w same (h.short z);
-    said = λ z. by (h.said z);
-  }
-    where
-      by : ByActs fields (acts x left) 204 (refusal fields (status_of e) (closes e)) u w
-          ⊎ ((refusal fields (status_of e) (closes e) ≡ failure) × Rose (view.state start).faults (view.state t).faults × PartOf (acts x left) u w)
-          → ByActs fields (acts x left) 204 (refusal fields (status_of e) (closes e)) v w
-          ⊎ ((refusal fields (status_of e) (closes e) ≡ failure) × Rose (view.state start).faults (view.state t).faults × PartOf (acts x left) v w)
-      by (inl done) = inl (acts_after (deep_in x) fields left 204 (refusal fields (status_of e) (closes e)) v u w same done)
-      by (inr (is, rose, part)) = inr (is, rose, part_after (deep_in x) left v u w same part)
-
-  -- after a removal
-  comes_behind : (r : Line) (x : Case) (p : Names) (more : List Names) (t : S) (v u w : World) → deep_in x p ≡ false → Edited (takes p) v u → Comes r (acts x more) t u w
-      → Comes r (acts x (p ∷ more)) t v w
-  comes_behind (Ok y) x p more t v u w shallow edited h = rw shallow (u, edited, h)
-  comes_behind (Err e) x p more t v u w shallow edited h = record {
-    short = λ z. rw shallow (inr (inr (u, edited, h.short z)));
-    said = λ z. by (h.said z);
-  }
-    where
-      by : ByActs fields (acts x more) 204 (refusal fields (status_of e) (closes e)) u w
-          ⊎ ((refusal fields (status_of e) (closes e) ≡ failure) × Rose (view.state start).faults (view.state t).faults × PartOf (acts x more) u w)
-          → ByActs fields (acts x (p ∷ more)) 204 (refusal fields (status_of e) (closes e)) v w
-          ⊎ ((refusal fields (status_of e) (closes e) ≡ failure) × Rose (view.state start).faults (view.state t).faults × PartOf (acts x (p ∷ more)) v w)
-      by (inl done) = inl (rw shallow (u, edited, done))
-      by (inr (is, rose, part)) = inr (is, rose, rw shallow (inr (inr (u, edited, part))))
+  none_filled : (x : Case) (left : List Names) → FillsNone (acts x left)
+  none_filled x left = removals_none (deep_in x) left
 
   -- ---- one step
 
@@ -147,7 +109,7 @@ module _ {S C F L E : Type 0} (view : View S C F) (lists : Listings S C L E) (wr
     covers : Covers works more
     fit : AllFit x.top x.old works
     now : Left x.top x.old u.tree more
-    back : (r : Line) (t : S) (w : World) → Comes r (acts x more) t u w → Comes r (acts x left) t v w
+    back : (r : Line) (t : S) (w : World) → Came r (acts x more) t u w → Came r (acts x left) t v w
 
   abbrev Steps : List Work → List Work → World → World → Type 0
   Steps works rest v u = (x : Case) (left : List Names) → Covers works left → AllFit x.top x.old works → Left x.top x.old v.tree left → Step x rest left v u
@@ -170,7 +132,7 @@ module _ {S C F L E : Type 0} (view : View S C F) (lists : Listings S C L E) (wr
     covers = covers;
     fit = fit;
     now = taken_left x p more v u (subst (Left x.top x.old v.tree) e l) edited tree;
-    back = λ r t w h. subst (λ z. Comes r (acts x z) t v w) (sym e) (comes_behind r x p more t v u w shallow edited h);
+    back = λ r t w h. subst (λ z. Came r (acts x z) t v w) (sym e) (behind r x p more t v u w shallow edited h);
   }
 
   clear_at : (x : Case) (left : List Names) (p : Names) (v : World) → Left x.top x.old v.tree left → is_front x.top p ≡ true → is_linked v.tree p ≡ false
@@ -284,7 +246,7 @@ module _ {S C F L E : Type 0} (view : View S C F) (lists : Listings S C L E) (wr
         covers = subst (λ z. Covers (works_in path z works) left) (sym are) (opened_covers x.top x.old v.tree path left works l covers);
         fit = subst (λ z. AllFit x.top x.old (works_in path z works)) (sym are) (opened_fit x.top x.old v.tree left path works l shallow fit);
         now = left_same x.top x.old v.tree u.tree left h.0.tree l;
-        back = λ r t w k. comes_after r x left t v u w h.0 k;
+        back = λ r t w k. comes_after view fields start r (acts x left) t v u w (none_filled x left) h.0 k;
       }))
       (follows.members m n path members reached has)
 
@@ -295,7 +257,7 @@ module _ {S C F L E : Type 0} (view : View S C F) (lists : Listings S C L E) (wr
   walked_reached m l n k answers reached (walk_goes before a b o i j e r walk on said lent keeps) =
       says b o e r (goes_on a b i j (Ok (Some e)) (walked_reached m l a i before reached walk) on) said lent
 
-  members_reached : (path : WebPath) (members : List Child) (m n : S) → Here m → HasMembers view lists m c path members n → Here n
+  pub members_reached : (path : WebPath) (members : List Child) (m n : S) → Here m → HasMembers view lists m c path members n → Here n
   members_reached path members m n reached has =
       let was = has.was in
       let began = begins m was.begin path _ (Ok was.listing) reached was.begins in
@@ -317,12 +279,12 @@ module _ {S C F L E : Type 0} (view : View S C F) (lists : Listings S C L E) (wr
 
   -- a removal that is allowed fails only by a fault or want of memory, and leaves all as it was
   refused_comes : (allowed : Allowed) (p : Names) (x : Case) (left : List Names) (m t : S) (gone : Result Unit FsError) (e : DavError) (v w : World) → Here m → allowed ≡ Ok (Some (takes p))
-      → Err e ≡ line_of gone → Calls view lists writes c allowed m gone t v w → Comes (Err e) (acts x left) t v w
+      → Err e ≡ line_of gone → Calls view lists writes c allowed m gone t v w → Came (Err e) (acts x left) t v w
   refused_comes allowed p x left m t (Ok ok) e v w reached is line h = cc
   refused_comes allowed p x left m t (Err f) e v w reached is line (inl (called, same)) = absurd (subst (λ a. CallsFor a f) is called)
   refused_comes allowed p x left m t (Err f) e v w reached is line (inr (spoiled, part)) =
       let g : e ≡ of_fs f = cc in
-      spoiled_comes f e (acts x left) m t v w g (follows.counts m reached) spoiled (none_done (acts x left) v w (kept (subst (λ a. LeftBy true a v w) is part)))
+      spoiled_comes view fields start f e (acts x left) m t v w g (follows.counts m reached) spoiled (part_none (acts x left) v w (kept (subst (λ a. LeftBy true a v w) is part)))
     where
       kept : LeftBy true (Ok (Some (takes p))) v w → SameBesidesOpens v w
       kept (inl same) = same
@@ -337,55 +299,78 @@ module _ {S C F L E : Type 0} (view : View S C F) (lists : Listings S C L E) (wr
       both_map (view.state m).told (view.state t).told _ _
       (λ v w h x left covers fit l. (let here = front_of_whole x path works left v covers l in
       let now = stands_now x.top x.old v.tree left path.names true (parts_of x.old x.tree) l here.0 fit.0.0 in
-      let stands : has_dir v.tree path.names ≡ true = ap (has_dir v.tree) (sym now.at) ∙ dir_there _ now.row (at_row v.tree now.row (parts_of v.tree l.tree).once now.in_tree) now.kind in
-      spoiled_comes f e (acts x left) m t v w is (follows.counts m reached)
-      (h.1 (clear_dir x path left v here.1 l) (ap (has_dir v.tree) (plain v.tree path.names) ∙ stands)) (none_done (acts x left) v w h.0)))
+      let stands : has_dir v.tree path.names ≡ true = ap (has_dir v.tree) (sym now.at) ∙ dir_there _ now.row (at_row v.tree now.row (parts_of v.tree l.tree).once now.in_tree) now.kind in (
+        spoiled_comes view fields start f e (acts x left) m t v w is (follows.counts m reached)
+            (h.1 (clear_dir x path left v here.1 l) (ap (has_dir v.tree) (plain v.tree path.names) ∙ stands)) (part_none (acts x left) v w h.0),
+        tt,
+      )))
       (follows.no_members m t path f reached has)
 
   deep_comes : (x : Case) (path : WebPath) (works : List Work) (left : List Names) (t : S) (v : World) → is_deep path ≡ true → Covers (Whole path true ∷ works) left
-      → AllFit x.top x.old (Whole path true ∷ works) → Left x.top x.old v.tree left → Comes (Err (dav.Status 403)) (acts x left) t v v
+      → AllFit x.top x.old (Whole path true ∷ works) → Left x.top x.old v.tree left → Came (Err (dav.Status 403)) (acts x left) t v v
   deep_comes x path works left t v deep (whole, more, e, below, apart, i, covers) fit l =
-      subst (λ z. Comes (Err (dav.Status 403)) (acts x z) t v v) (sym e) (by whole below i (l.below path.names (subst (In path.names) (sym e) (in_left path.names whole more i))))
+      subst (λ z. Came (Err (dav.Status 403)) (acts x z) t v v) (sym e) (by whole below i (l.below path.names (subst (In path.names) (sym e) (in_left path.names whole more i))))
     where
       by : (seg : List Names) → ((p : Names) → In p seg → is_front path.names p ≡ true) → In path.names seg → is_front x.top path.names ≡ true
-          → Comes (Err (dav.Status 403)) (acts x (seg ++ more)) t v v
+          → Came (Err (dav.Status 403)) (acts x (seg ++ more)) t v v
       by [] under j front = absurd j
       by (p ∷ seg) under j front =
           let is = whole_deep x.top x.old path p fit.0.0 front deep (under p (inl refl)) in
-          record { short = λ z. cc; said = λ z. inl (rw is (refl, same_besides v)) }
+          rw is (halted_comes view fields start (dav.Status 403) (line 403) (acts x (seg ++ more)) t v v refl refl (same_besides v))
 
   stop_told : (work : Work) (works rest : List Work) (m t : S) (e : DavError) → Here m → RemovesOne view lists c work works m (Err e) t rest → ToldIn m t (Goes (work ∷ works) (Err e) t)
   stop_told (Whole path false) works rest m t e reached (gone, call, line, same) =
       both_map (view.state m).told (view.state t).told _ _
       (λ v w h x left covers fit l. (let g = file_goes x path works left v covers fit l in
-      refused_comes _ path.names x left m t gone e v w reached g.allowed line (h g.slash g.unlinked)))
+      (refused_comes _ path.names x left m t gone e v w reached g.allowed line (h g.slash g.unlinked), tt)))
       (follows.removes_file m t path gone reached call)
   stop_told (Emptied path) works rest m t e reached (gone, call, line, same) =
       both_map (view.state m).told (view.state t).told _ _
       (λ v w h x left covers fit l. (let g = dir_goes x path works left v covers fit l in
-      refused_comes _ path.names x left m t gone e v w reached g.allowed line (h g.unlinked)))
+      (refused_comes _ path.names x left m t gone e v w reached g.allowed line (h g.unlinked), tt)))
       (follows.removes_dir m t path gone reached call)
   stop_told (Whole path true) works rest m t e reached (inl (deep, is, same)) =
       both_same (view.state m).told (view.state t).told _
-      (λ v x left covers fit l. subst (λ z. Comes (Err z) (acts x left) t v v) (sym is) (deep_comes x path works left t v deep covers fit l)) (ap (λ z. (view.state z).told) same)
+      (λ v x left covers fit l. (subst (λ z. Came (Err z) (acts x left) t v v) (sym is) (deep_comes x path works left t v deep covers fit l), tt)) (ap (λ z. (view.state z).told) same)
   stop_told (Whole path true) works rest m t e reached (inr (inl (shallow, f, has, is))) = unread_comes path works m t f e reached has is
   stop_told (Whole path true) works rest m t e reached (inr (inr (shallow, members, has, is))) =
       both_map (view.state m).told (view.state t).told _ _
-      (λ v w h x left covers fit l. subst (λ z. Comes (Err z) (acts x left) t v w) (sym is) (short_comes (acts x left) t v w h.0))
+      (λ v w h x left covers fit l. (subst (λ z. Came (Err z) (acts x left) t v w) (sym is) (short_comes view fields start (acts x left) t v w h.0), tt))
       (follows.members m t path members reached has)
 
   -- ---- all of the work
 
-  done_comes : (x : Case) (left : List Names) (t : S) (v : World) → left ≡ [] → Comes (Ok tt) (acts x left) t v v
-  done_comes x left t v e = subst (λ z. Comes (Ok tt) (acts x z) t v v) (sym e) (refl, same_besides v)
+  done_comes : (x : Case) (left : List Names) (t : S) (v : World) → left ≡ [] → Left x.top x.old v.tree left → Came (Ok tt) (acts x left) t v v × Left x.top x.old v.tree []
+  done_comes x left t v e l = (subst (λ z. Came (Ok tt) (acts x z) t v v) (sym e) (same_besides v), subst (Left x.top x.old v.tree) e l)
 
   -- What work comes to is what the removals that it covers make of the told world.
   pub removed : (works : List Work) (s t : S) (r : Line) → Removes view lists c works s r t → Here s → ToldIn s t (Goes works r t)
-  removed works s t r (no_work a) reached = both_same (view.state a).told (view.state a).told _ (λ v x left covers fit l. done_comes x left a v covers) refl
-  removed works s t r (cut_short others a) reached = both_same (view.state a).told (view.state a).told _ (λ v x left covers fit l. short_comes (acts x left) a v v (same_besides v)) refl
+  removed works s t r (no_work a) reached = both_same (view.state a).told (view.state a).told _ (λ v x left covers fit l. done_comes x left a v covers l) refl
+  removed works s t r (cut_short others a) reached = both_same (view.state a).told (view.state a).told _ (λ v x left covers fit l. (short_comes view fields start (acts x left) a v v (same_besides v), tt)) refl
   removed works s t r (goes work others rest a m b line one more) reached =
       let step = step_told work others rest a m reached one in
       both_then (view.state a).told (view.state m).told (view.state b).told _ _ _
-      (λ v u w h k x left covers fit l. (let to = h x left covers fit l in to.back line b w (k x to.more to.covers to.fit to.now)))
+      (λ v u w h k x left covers fit l. (let to = h x left covers fit l in let came = k x to.more to.covers to.fit to.now in (to.back line b w came.0, came.1)))
       step.1 (removed rest m b line more step.0)
   removed works s t r (stops work others rest a b e one) reached = stop_told work others rest a b e reached one
+
+  -- The store that is left where all was done was reached.
+  pub gone_reached : (works : List Work) (s t : S) (r : Line) → Removes view lists c works s r t → r ≡ Ok tt → Here s → Here t
+  gone_reached works s t r (no_work a) ok reached = reached
+  gone_reached works s t r (cut_short others a) ok reached = cc
+  gone_reached works s t r (goes work others rest a m b line one more) ok reached = gone_reached rest m b line more ok (step_told work others rest a m reached one).0
+  gone_reached works s t r (stops work others rest a b e one) ok reached = cc
+
+  -- What stands at a path and below it went, or was to go.
+  pub removed_whole : (path : WebPath) (dir : Bool) (all : Line) (t : S) (v u w : World) (world : IsWorld v) (some : 0 < length path.names) (clear : is_linked v.tree path.names ≡ false)
+      (below : has_link_below v.tree path.names ≡ false) → StandsAs v.tree path.names dir → (dir ≡ false → path.slash ≡ false) → SameBesidesOpens v u → Goes (Whole path dir ∷ []) all t u w
+      → Came all (acts (began path.names v world some clear below) (walked v.tree path.names)) t v w × Ended all (began path.names v world some clear below) w
+  removed_whole path dir all t v u w world some clear below stood flat same work_goes =
+      let x = began path.names v world some clear below in
+      let to_go = walked v.tree path.names in
+      let own_path : In path.names to_go = walked_in v.tree path.names path.names (path_in path.names stood.row v.tree stood.in_tree stood.at) (front_itself path.names) in
+      let covers : Covers (Whole path dir ∷ []) to_go = (to_go, [], sym (append-nil to_go), λ p i. (in_walked v.tree path.names p i).1, λ p i. absurd i, own_path, refl) in
+      let fit : AllFit path.names v.tree (Whole path dir ∷ []) = ((stood, flat, inl refl), tt) in
+      let left : Left path.names v.tree u.tree to_go = subst (λ rows. Left path.names v.tree rows to_go) (sym same.tree) (all_left path.names v world) in
+      let came = work_goes x to_go covers fit left in
+      (comes_after view fields start all (acts x to_go) t v u w (none_filled x to_go) same came.0, came.1)

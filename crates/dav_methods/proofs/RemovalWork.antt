@@ -13,7 +13,7 @@ use Rattle.dav_core.specs.Tree.{is_dir, is_link, is_linked, is_tree, look}
 use Rattle.dav_model.specs.Plans.{has_link_below}
 use Rattle.dav_model.specs.Walks.{members_first}
 use Rattle.dav_methods.proofs.TreeRows.{Parts, above, all_at, all_in, any_none, both, false_or, filter_in, front_itself, front_length, front_rest, front_then, fronts_meet, in_filter, look_row, not_both, not_true, only_row, parts_of, same_of, same_yes}
-use Rattle.dav_methods.proofs.WalkOrder.{Ascends, In, ascends_left, below_first, in_left, in_paths, not_itself, path_in, path_then, paths, paths_in}
+use Rattle.dav_methods.proofs.WalkOrder.{Ascends, In, IsOrder, ascends_left, below_first, in_left, in_paths, members_order, not_itself, path_in, path_then, paths, paths_in}
 
 -- ---- order and place
 
@@ -43,7 +43,7 @@ pub record Left (top : Names) (old now : List Row) (left : List Names) : Type 0 
   pub stands : (p : Names) → In p left → In p (paths now)
   pub all : (p : Names) → In p (paths now) → is_front top p ≡ true → In p left
   pub below : (p : Names) → In p left → is_front top p ≡ true
-  pub ascends : Ascends left
+  pub ascends : Ascends members_first left
 
 pub left_same : (top : Names) (old v w : List Row) (left : List Names) → w ≡ v → Left top old v left → Left top old w left
 left_same top old v w left e l = subst (λ t. Left top old t left) (sym e) l
@@ -56,25 +56,25 @@ stands_now top old now left p dir parts l i s =
     let one : o ≡ s.row = only_row old o s.row parts k s.in_tree (same ∙ (at ∙ sym s.at)) in
     record { row = r; in_tree = j; at = at; kind = ap is_dir (sym kind) ∙ (ap (λ (x : Row). is_dir x.kind) one ∙ s.kind) }
 
-timed_path : (b : Bool) (q : Names) (t : FileTime) (r : Row) → same_names q r.path ≡ b → (timed_row q t r).path ≡ r.path
+pub timed_path : (b : Bool) (q : Names) (t : FileTime) (r : Row) → same_names q r.path ≡ b → (timed_row q t r).path ≡ r.path
 timed_path true q t r e = rw e refl
 timed_path false q t r e = rw e refl
 
-timed_kind : (b : Bool) (q : Names) (t : FileTime) (r : Row) → same_names q r.path ≡ b → (timed_row q t r).kind ≡ r.kind
+pub timed_kind : (b : Bool) (q : Names) (t : FileTime) (r : Row) → same_names q r.path ≡ b → (timed_row q t r).kind ≡ r.kind
 timed_kind true q t r e = rw e refl
 timed_kind false q t r e = rw e refl
 
-in_map : (f : Row → Row) (rows : List Row) (y : Row) → In y (map f rows) → (x : Row) × In x rows × (y ≡ f x)
+pub in_map : (f : Row → Row) (rows : List Row) (y : Row) → In y (map f rows) → (x : Row) × In x rows × (y ≡ f x)
 in_map f [] y i = absurd i
 in_map f (x ∷ rows) y (inl e) = (x, inl refl, e)
 in_map f (x ∷ rows) y (inr i) = let t = in_map f rows y i in (t.0, inr t.1, t.2)
 
-map_in : (f : Row → Row) (rows : List Row) (x : Row) → In x rows → In (f x) (map f rows)
+pub map_in : (f : Row → Row) (rows : List Row) (x : Row) → In x rows → In (f x) (map f rows)
 map_in f [] x i = absurd i
 map_in f (y ∷ rows) x (inl e) = inl (ap f e)
 map_in f (y ∷ rows) x (inr i) = inr (map_in f rows x i)
 
-not_false : (b : Bool) → b ≡ false → not b ≡ true
+pub not_false : (b : Bool) → b ≡ false → not b ≡ true
 not_false true e = cc
 not_false false e = refl
 
@@ -135,7 +135,7 @@ left_leaf top old now p left l = all_in (λ row. not (is_front p row.path) || sa
     by r i false e = rw e refl
     by r i true e = rw (e, here r e (l.all r.path (paths_in r now i) (front_then top p r.path (l.below p (inl refl)) e))) refl
 
-some_names : (path : Names) → 0 < length path → is_root path ≡ false
+pub some_names : (path : Names) → 0 < length path → is_root path ≡ false
 some_names [] lt = absurd (omega (arith, lt))
 some_names (name ∷ path) lt = grind (arith, nat_tests)
 
@@ -167,7 +167,7 @@ file_allowed top old now p left parts l s =
 
 -- ---- links
 
-none_any : (q : Row → Bool) (rows : List Row) (r : Row) → list_any q rows ≡ false → In r rows → q r ≡ false
+pub none_any : (q : Row → Bool) (rows : List Row) (r : Row) → list_any q rows ≡ false → In r rows → q r ≡ false
 none_any q [] r e i = absurd i
 none_any q (x ∷ rows) r e (inl same) = ap q same ∙ first (q x) (list_any q rows) e
   where
@@ -180,7 +180,7 @@ none_any q (x ∷ rows) r e (inr i) = none_any q rows r (second (q x) (list_any 
     second true b f = cc
     second false b f = f
 
-no_link_below : (old : List Row) (top : Names) (o : Row) → has_link_below old top ≡ false → In o old → is_link o.kind ≡ true → is_front top o.path ≡ true → ⊥
+pub no_link_below : (old : List Row) (top : Names) (o : Row) → has_link_below old top ≡ false → In o old → is_link o.kind ≡ true → is_front top o.path ≡ true → ⊥
 no_link_below old top o none i link front =
     let all = negated (list_all (λ (row : Row). not (is_link row.kind && is_front top row.path)) old) none in
     let one = all_at (λ (row : Row). not (is_link row.kind && is_front top row.path)) old o all i in
@@ -208,17 +208,18 @@ unlinked top old now left p none clear l front = any_none (λ row. is_link row.k
 
 -- ---- one file
 
-all_itself : (p : Names) (seg : List Names) → Ascends seg → ((q : Names) → In q seg → q ≡ p) → In p seg → seg ≡ p ∷ []
-all_itself p [] a e i = absurd i
-all_itself p (q ∷ []) a e i = ap (λ x. x ∷ []) (e q (inl refl))
-all_itself p (q ∷ r ∷ seg) a e i =
-    let before : members_first q r ≡ true = a.0 r (inl refl) in
-    absurd (not_itself q (subst (λ x. members_first q x ≡ true) (e r (inr (inl refl)) ∙ sym (e q (inl refl))) before))
+-- a list that ascends has a path once
+pub all_itself : (before : Names → Names → Bool) → IsOrder before → (p : Names) (seg : List Names) → Ascends before seg → ((q : Names) → In q seg → q ≡ p) → In p seg → seg ≡ p ∷ []
+all_itself before order p [] a e i = absurd i
+all_itself before order p (q ∷ []) a e i = ap (λ x. x ∷ []) (e q (inl refl))
+all_itself before order p (q ∷ r ∷ seg) a e i =
+    let first : before q r ≡ true = a.0 r (inl refl) in
+    absurd (order.itself q (subst (λ x. before q x ≡ true) (e r (inr (inl refl)) ∙ sym (e q (inl refl))) first))
 
 -- At a file nothing but the file goes.
 pub one_file : (top : Names) (old now : List Row) (p : Names) (seg more : List Names) → Parts old → Left top old now (seg ++ more) → StandsAs old p false
     → ((q : Names) → In q seg → is_front p q ≡ true) → In p seg → seg ≡ p ∷ []
-one_file top old now p seg more parts l s below i = all_itself p seg (ascends_left seg more l.ascends) (λ q j. only q j (same_names p q) refl) i
+one_file top old now p seg more parts l s below i = all_itself members_first members_order p seg (ascends_left members_first seg more l.ascends) (λ q j. only q j (same_names p q) refl) i
   where
     only : (q : Names) → In q seg → (b : Bool) → same_names p q ≡ b → q ≡ p
     only q j true same = sym (same_yes p q same)

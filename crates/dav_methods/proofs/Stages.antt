@@ -34,10 +34,10 @@ use Rattle.dav_model.specs.Head.{Reply, Stood, refusal}
 use Rattle.dav_model.specs.Plans.{Act, Ask, Halt, Plan, does, first, halts, line, meets_link, plan, stands, unless}
 use Rattle.dav_model.specs.Rules.{Rules, plain_rules}
 use Rattle.dav_model.specs.Written.{ByActs, EndsAs, PartOf, done_reply}
-use Rattle.dav_methods.specs.Follows.{Finds, Follows, Reached, RightIn, Told, answer_or, looks}
+use Rattle.dav_methods.specs.Follows.{Finds, Follows, LooksBy, Reached, RightIn, Told, answer_or, looks}
 use Rattle.dav_methods.specs.Lines.{Given, Line}
 use Rattle.dav_methods.specs.Pouring.{Writes}
-use Rattle.dav_methods.specs.Table.{Ends, Looks, Run, Unless}
+use Rattle.dav_methods.specs.Table.{Ends, Looks, Next, Run, Unless}
 
 -- ---- what a look finds
 
@@ -163,7 +163,14 @@ halted l fields = refusal fields l.status l.close
 refusal_same : (fields : Fields) (a b : ℕ) (x y : Bool) → a ≡ b → x ≡ y → refusal fields a x ≡ refusal fields b y
 refusal_same fields a b x y e f = ap (λ n. refusal fields n x) e ∙ ap (refusal fields b) f
 
-module _ {S C F L E : Type 0} (view : View S C F) (lists : Listings S C L E) (writes : Writes F) (c : C) where
+-- The plan of a request by its method alone, and whether it meets a link.
+abbrev pub planned : Settings → Ask → World → Plan
+planned settings ask v = plan (plain_rules settings) v ask
+
+abbrev pub linked : Settings → Ask → World → Bool
+linked settings ask v = meets_link ask.method v.tree (resolved (plain_rules settings) v.tree ask.path.names)
+
+module _ {S C F L E : Type 0} (view : View S C F) (lists : Listings S C L E) (writes : Writes F) (c : C) (plans : Settings → Ask → World → Plan) (meets : Settings → Ask → World → Bool) where
   -- a request to a store that follows the rules of a plain one
   pub record Case : Type 0 where
     pub settings : Settings
@@ -172,12 +179,12 @@ module _ {S C F L E : Type 0} (view : View S C F) (lists : Listings S C L E) (wr
     pub follows : Follows view lists writes c (plain_rules settings) s
 
   abbrev pub plan_of : Case → World → Plan
-  plan_of x v = plan (plain_rules x.settings) v x.ask
+  plan_of x v = plans x.settings x.ask v
 
   -- It meets no link.
   pub record Clear (x : Case) (v : World) : Type 0 where
     pub world : IsWorld v
-    pub links : meets_link x.ask.method v.tree (resolved (plain_rules x.settings) v.tree x.ask.path.names) ≡ false
+    pub links : meets x.settings x.ask v ≡ false
 
   abbrev pub EndsFor : Case → Given → S → World → World → Type 0
   EndsFor x r t v w = (result : Result Reply Wanting) → answer_or x.ask.fields r result
@@ -262,28 +269,34 @@ module _ {S C F L E : Type 0} (view : View S C F) (lists : Listings S C L E) (wr
       let here : d ≡ of_fs e = cc in
       subst (λ z. EndsFor x (Err z) t v w) (sym here) (ends_spoiled {T = Unit} x e t v w spoiled (nothing_done (plan_of x v).acts v w same))
 
-  passes_by : (o : Option Halt) (rest : List (Option Halt)) → Matches (Ok tt) o → first (o ∷ rest) ≡ first rest
-  passes_by None rest matches = refl
+  passes_by : (o : Option Halt) (rest : List (Option Halt)) → Matches (Ok tt) o → (first (o ∷ rest) ≡ first rest) × (o ≡ None)
+  passes_by None rest matches = (refl, refl)
   passes_by (Some l) rest matches = absurd matches
 
   passes_as : (x : Case) (o : Option Halt) (rest : List (Option Halt)) (more : List Act) (n : S) (v : World) (Q : Type 0) → (plan_of x v).acts ≡ unless (first (o ∷ rest)) more
-      → (Matches (Ok tt) o × Q) ⊎ FailsAs x (Ok tt) n → ((plan_of x v).acts ≡ unless (first rest) more) × Q
-  passes_as x o rest more n v Q acts (inl (matches, q)) = (acts ∙ ap (λ l. unless l more) (passes_by o rest matches), q)
+      → (Matches (Ok tt) o × Q) ⊎ FailsAs x (Ok tt) n → ((plan_of x v).acts ≡ unless (first rest) more) × (Q × (o ≡ None))
+  passes_as x o rest more n v Q acts (inl (matches, q)) = let p = passes_by o rest matches in (acts ∙ ap (λ l. unless l more) p.0, (q, p.1))
   passes_as x o rest more n v Q acts (inr (e, is, spoiled)) = cc
 
   -- a goal that is met where the request ended with an error
   abbrev pub Embeds : Case → (Given → S → Type 0) → Type 0
   Embeds x G = (d : DavError) (t : S) → Right x (Err d) t → G (Err d) t
 
-  -- A line of the table that is the plan's next, and what follows it.
+  -- A line of the table that is the plan's next, and what follows where it doesn't fit.
+  pub passed_stage : (x : Case) (G : Given → S → Type 0) → Embeds x G → (line : Line) (h : World → Option Halt) (rest : World → List (Option Halt)) (more : World → List Act) (Q : World → Type 0)
+      → (n : S) (run : Run S) (r : Given) (t : S) → At x n (λ v. Acts x (λ v. h v ∷ rest v) more v × ((Matches line (h v) × Q v) ⊎ FailsAs x line n))
+      → (At x n (λ v. Acts x rest more v × (Q v × (h v ≡ None))) → run n r t → G r t) → Unless line run n r t → G r t
+  passed_stage x G embeds (Ok u) h rest more Q n run r t at on goes =
+      on (at_map x n _ _ (λ v clear p. passes_as x (h v) (rest v) (more v) n v (Q v) p.0 p.1) at) goes
+  passed_stage x G embeds (Err d) h rest more Q n run r t at on (e, f) =
+      rw (e, f) (embeds d n (both_map (view.state x.s).told (view.state n).told _ _
+      (λ v u p clear. let q = p.1 clear in ends_as x (h v) (rest v) (more v) d n v u (Q v) q.0 q.1 p.0) at))
+
   pub line_stage : (x : Case) (G : Given → S → Type 0) → Embeds x G → (line : Line) (h : World → Option Halt) (rest : World → List (Option Halt)) (more : World → List Act) (Q : World → Type 0)
       → (n : S) (run : Run S) (r : Given) (t : S) → At x n (λ v. Acts x (λ v. h v ∷ rest v) more v × ((Matches line (h v) × Q v) ⊎ FailsAs x line n))
       → (At x n (λ v. Acts x rest more v × Q v) → run n r t → G r t) → Unless line run n r t → G r t
-  line_stage x G embeds (Ok u) h rest more Q n run r t at on goes =
-      on (at_map x n _ _ (λ v clear p. passes_as x (h v) (rest v) (more v) n v (Q v) p.0 p.1) at) goes
-  line_stage x G embeds (Err d) h rest more Q n run r t at on (e, f) =
-      rw (e, f) (embeds d n (both_map (view.state x.s).told (view.state n).told _ _
-      (λ v u p clear. let q = p.1 clear in ends_as x (h v) (rest v) (more v) d n v u (Q v) q.0 q.1 p.0) at))
+  line_stage x G embeds line h rest more Q n run r t at on goes =
+      passed_stage x G embeds line h rest more Q n run r t at (λ at. on (at_map x n _ _ (λ v clear p. (p.0, p.1.0)) at)) goes
 
   pub short_stage : (x : Case) (G : Given → S → Type 0) → Embeds x G → (P : World → Type 0) (n : S) (r : Given) (t : S) → At x n P → Ends (Err dav.NoMemory) n r t → G r t
   short_stage x G embeds P n r t at (e, f) =
@@ -291,7 +304,8 @@ module _ {S C F L E : Type 0} (view : View S C F) (lists : Listings S C L E) (wr
       (λ v u p clear. ends_short x n v u (nothing_done (plan_of x v).acts v u p.0)) at))
 
   -- what is known after a look
-  pub looked : (x : Case) (P : World → Type 0) (path : WebPath) (found : Result Info FsError) (m n : S) → Reached view lists writes c x.s m → view.looks m c path found n
+  pub looked : (x : Case) (P : World → Type 0) (path : WebPath) (found : Result Info FsError) (m n : S) → Reached view lists writes c x.s m
+      → Told view lists writes c m n (LooksBy view lists writes c (plain_rules x.settings) path m found n)
       → ((v : World) → Clear x v → is_linked v.tree (resolved (plain_rules x.settings) v.tree path.names) ≡ false) → At x m P
       → At x n (λ v. P v × (Finds (stands (plain_rules x.settings) v path) found ⊎ Spoiled (view.state x.s) found (view.state n)))
   looked x P path found m n reached look free at =
@@ -300,7 +314,7 @@ module _ {S C F L E : Type 0} (view : View S C F) (lists : Listings S C L E) (wr
         same_besides_then v u a p.0 q.0,
         λ clear. (p.1 clear, on v u p.0 (q.1 (subst (λ (tree : List Row). is_linked tree (resolved (plain_rules x.settings) tree path.names) ≡ false) (sym p.0.tree) (free v clear)))),
       ))
-      at (x.follows.looks m n path found reached look)
+      at look
     where
       on : (v u : World) → SameBesidesOpens v u → Finds (stands (plain_rules x.settings) u path) found ⊎ Spoiled (view.state m) found (view.state n)
           → Finds (stands (plain_rules x.settings) v path) found ⊎ Spoiled (view.state x.s) found (view.state n)
@@ -316,6 +330,26 @@ module _ {S C F L E : Type 0} (view : View S C F) (lists : Listings S C L E) (wr
   fails_as x judge says found n (inl (f, rose)) = (fs.GeneralFailure, ap judge f ∙ says.failed, inl (refl, rose))
   fails_as x judge says found n (inr f) = (fs.NoMemory, ap judge f ∙ says.short, inr refl)
 
+  -- What follows a look, by its line, where more is known.
+  pub seen_stage : (x : Case) (G : Given → S → Type 0) → Embeds x G → (path : WebPath) (judge : Result Info FsError → Line) → SaysFaults judge → (h : World → Option Halt)
+      → (rest : World → List (Option Halt)) (more : World → List Act) (K : World → Type 0)
+      → ((v : World) (found : Result Info FsError) → Finds (stands (plain_rules x.settings) v path) found → Matches (judge found) (h v))
+      → ((v : World) → Clear x v → is_linked v.tree (resolved (plain_rules x.settings) v.tree path.names) ≡ false)
+      → (run : Run S) (found : Result Info FsError) (m n : S) (r : Given) (t : S) → Reached view lists writes c x.s m
+      → Told view lists writes c m n (LooksBy view lists writes c (plain_rules x.settings) path m found n) → At x m (λ v. Acts x (λ v. h v ∷ rest v) more v × K v)
+      → (At x n (λ v. Acts x rest more v × ((K v × Finds (stands (plain_rules x.settings) v path) found) × (h v ≡ None))) → run n r t → G r t)
+      → Next (Unless (judge found) run) n r t → G r t
+  seen_stage x G embeds path judge says h rest more K agrees free run found m n r t reached look at on (inl short) =
+      short_stage x G embeds _ n r t (looked x (λ v. Acts x (λ v. h v ∷ rest v) more v × K v) path found m n reached look free at) short
+  seen_stage x G embeds path judge says h rest more K agrees free run found m n r t reached look at on (inr goes) =
+      passed_stage x G embeds (judge found) h rest more (λ v. K v × Finds (stands (plain_rules x.settings) v path) found) n run r t
+      (at_map x n _ _ (λ v clear p. (p.0.0, judged v p.0.1 p.1)) (looked x (λ v. Acts x (λ v. h v ∷ rest v) more v × K v) path found m n reached look free at)) on goes
+    where
+      judged : (v : World) → K v → Finds (stands (plain_rules x.settings) v path) found ⊎ Spoiled (view.state x.s) found (view.state n)
+          → (Matches (judge found) (h v) × (K v × Finds (stands (plain_rules x.settings) v path) found)) ⊎ FailsAs x (judge found) n
+      judged v known (inl finds) = inl (agrees v found finds, (known, finds))
+      judged v known (inr spoiled) = inr (fails_as x judge says found n spoiled)
+
   -- A look, its line, and what follows.
   pub look_stage : (x : Case) (G : Given → S → Type 0) → Embeds x G → (path : WebPath) (judge : Result Info FsError → Line) → SaysFaults judge → (h : World → Option Halt)
       → (rest : World → List (Option Halt)) (more : World → List Act)
@@ -324,17 +358,10 @@ module _ {S C F L E : Type 0} (view : View S C F) (lists : Listings S C L E) (wr
       → (run : Result Info FsError → Run S) (m : S) (r : Given) (t : S) → Reached view lists writes c x.s m → At x m (Acts x (λ v. h v ∷ rest v) more)
       → ((found : Result Info FsError) (n : S) → Reached view lists writes c x.s n → At x n (λ v. Acts x rest more v × Finds (stands (plain_rules x.settings) v path) found) → run found n r t → G r t)
       → Looks view c path (λ found. Unless (judge found) (run found)) m r t → G r t
-  look_stage x G embeds path judge says h rest more agrees free run m r t reached at on (found, n, look, inl short) =
-      short_stage x G embeds _ n r t (looked x (Acts x (λ v. h v ∷ rest v) more) path found m n reached look free at) short
-  look_stage x G embeds path judge says h rest more agrees free run m r t reached at on (found, n, look, inr goes) =
-      line_stage x G embeds (judge found) h rest more (λ v. Finds (stands (plain_rules x.settings) v path) found) n (run found) r t
-      (at_map x n _ _ (λ v clear p. (p.0, judged v p.1)) (looked x (Acts x (λ v. h v ∷ rest v) more) path found m n reached look free at))
-      (on found n (looks m n path found reached look)) goes
-    where
-      judged : (v : World) → Finds (stands (plain_rules x.settings) v path) found ⊎ Spoiled (view.state x.s) found (view.state n)
-          → (Matches (judge found) (h v) × Finds (stands (plain_rules x.settings) v path) found) ⊎ FailsAs x (judge found) n
-      judged v (inl finds) = inl (agrees v found finds, finds)
-      judged v (inr spoiled) = inr (fails_as x judge says found n spoiled)
+  look_stage x G embeds path judge says h rest more agrees free run m r t reached at on (found, n, look, next) =
+      seen_stage x G embeds path judge says h rest more (λ v. Unit {0}) agrees free (run found) found m n r t reached (x.follows.looks m n path found reached look)
+      (at_map x m _ _ (λ v clear p. (p, tt)) at)
+      (λ at. on found n (looks m n path found reached look) (at_map x n _ _ (λ v clear p. (p.0, p.1.0.1)) at)) next
 
 -- ---- all worlds
 
@@ -356,7 +383,7 @@ module _ {S C F L E : Type 0} (view : View S C F) (lists : Listings S C L E) (wr
   -- What ended as its plan says is right, by what holds of every told world.
   pub right_in : ((s : S) (w : World) → (view.state s).told ≡ Some w → IsWorld w) → (rules : Rules) (s : S) → Follows view lists writes c rules s
       → rules.folds ≡ false → rules.macos ≡ false → rules.alone ≡ None → (ask : Ask) (r : Given) (t : S)
-      → ((follows : Follows view lists writes c (plain_rules rules.settings) s) → Right view lists writes c (record { settings = rules.settings; ask = ask; s = s; follows = follows }) r t) → Told view lists writes c s t (RightIn view lists writes c rules ask s r t)
+      → ((follows : Follows view lists writes c (plain_rules rules.settings) s) → Right view lists writes c planned linked (record { settings = rules.settings; ask = ask; s = s; follows = follows }) r t) → Told view lists writes c s t (RightIn view lists writes c rules ask s r t)
   right_in worlds rules s follows folds macos alone ask r t right =
       let plain : rules ≡ plain_rules rules.settings = plain_are rules folds macos alone in
       subst (λ z. Told view lists writes c s t (RightIn view lists writes c z ask s r t)) (sym plain)

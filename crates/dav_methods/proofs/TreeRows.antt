@@ -217,7 +217,7 @@ parent_dir : (rows : List Row) (r : Row) → Parts rows → In r rows → (lengt
 parent_dir rows r parts i some =
     dir_at rows (parent_of r.path) (below_root (length r.path == 0) (is_dir r.kind) (has_dir rows (parent_of r.path)) some (all_at (is_placed rows) rows r parts.placed i))
 
-parent_length : (path : Names) → length (parent_of path) ≡ length path - 1
+pub parent_length : (path : Names) → length (parent_of path) ≡ length path - 1
 parent_length path = simp length-take (omega arith)
 
 above_by : (n : ℕ) (rows : List Row) (r : Row) (path : Names) → length r.path ≤ n → Parts rows → In r rows → is_front path r.path ≡ true → (path ≡ r.path → ⊥) → DirAt rows path
@@ -241,7 +241,7 @@ above_by (suc n) rows r path le parts i e differ = by_case (front_parent path r.
 pub above : (rows : List Row) (r : Row) (path : Names) → Parts rows → In r rows → is_front path r.path ≡ true → (path ≡ r.path → ⊥) → DirAt rows path
 above rows r path parts i e differ = above_by (length r.path) rows r path (omega arith) parts i e differ
 
-dir_kind : (k : Kind) → is_dir k ≡ true → k ≡ Dir
+pub dir_kind : (k : Kind) → is_dir k ≡ true → k ≡ Dir
 dir_kind Dir e = refl
 dir_kind File e = cc
 dir_kind Link e = cc
@@ -249,7 +249,7 @@ dir_kind Link e = cc
 below_dir : (o : Option Row) (d : Row) (found : Result Row DiskError) → o ≡ Some d → is_dir d.kind ≡ true → below o found ≡ found
 below_dir o d found e dir = ap (λ x. below x found) e ∙ ap (λ k. below_kind k found) (dir_kind d.kind dir)
 
-longer : (at names : Names) (name : List ℕ) → at ≡ at ++ name ∷ names → ⊥
+pub longer : (at names : Names) (name : List ℕ) → at ≡ at ++ name ∷ names → ⊥
 longer at names name e = let l = ap length e in omega (arith, l, length-append at (name ∷ names))
 
 walks : (rows : List Row) (r : Row) (at names : Names) → Parts rows → In r rows → r.path ≡ at ++ names → look_from rows at names ≡ Ok r

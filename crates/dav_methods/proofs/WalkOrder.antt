@@ -90,7 +90,7 @@ names_heads a b x y false true e f (earlier c) = earlier (rw (e, f, c) refl)
 names_heads a b x y false true e f (equal c) = equal (let n = nat_equal a b f in cc)
 names_heads a b x y false true e f (later c) = later (rw (nat_equal a b f, not_below b, is_itself b, c) refl)
 
-names_compared : (a b : List ℕ) → Compared name_before a b
+pub names_compared : (a b : List ℕ) → Compared name_before a b
 names_compared [] [] = equal refl
 names_compared [] (b ∷ y) = earlier refl
 names_compared (a ∷ x) [] = later refl
@@ -117,7 +117,7 @@ name_cases a b c x y z more (inl e) (inr f) = less_heads a c x z (rw (← f.0) e
 name_cases a b c x y z more (inr e) (inl f) = less_heads a c x z (rw e.0 f)
 name_cases a b c x y z more (inr e) (inr f) = rw (e.0, f.0) (same_heads c x z (more e.1 f.1))
 
-name_then : (a b c : List ℕ) → name_before a b ≡ true → name_before b c ≡ true → name_before a c ≡ true
+pub name_then : (a b c : List ℕ) → name_before a b ≡ true → name_before b c ≡ true → name_before a c ≡ true
 name_then [] [] c e f = cc
 name_then [] (b ∷ y) [] e f = cc
 name_then [] (b ∷ y) (c ∷ z) e f = refl
@@ -140,7 +140,7 @@ paths_compared [] (b ∷ y) = later refl
 paths_compared (a ∷ x) [] = earlier refl
 paths_compared (a ∷ x) (b ∷ y) = paths_heads a b x y (names_compared a b) (paths_compared x y)
 
-path_by : (a b : List ℕ) (less same below : Bool) → name_before a b ≡ less → bytes_eq a b ≡ same → (same ≡ true → a ≡ b) → (less || (same && below)) ≡ true
+pub path_by : (a b : List ℕ) (less same below : Bool) → name_before a b ≡ less → bytes_eq a b ≡ same → (same ≡ true → a ≡ b) → (less || (same && below)) ≡ true
     → (name_before a b ≡ true) ⊎ ((a ≡ b) × (below ≡ true))
 path_by a b true same below e f g h = inl e
 path_by a b false true below e f g h = inr (g refl, h)
@@ -150,7 +150,7 @@ byte_same : (a b : ℕ) (x y : List ℕ) (same : Bool) → (a == b) ≡ same →
 byte_same a b x y true e more h = let n = nat_equal a b e in let m = more h in cc
 byte_same a b x y false e more h = cc
 
-bytes_same : (a b : List ℕ) → bytes_eq a b ≡ true → a ≡ b
+pub bytes_same : (a b : List ℕ) → bytes_eq a b ≡ true → a ≡ b
 bytes_same [] [] e = refl
 bytes_same [] (b ∷ y) e = cc
 bytes_same (a ∷ x) [] e = cc
@@ -212,138 +212,151 @@ both_orders [] (b ∷ q) long = absurd (omega (arith, long))
 both_orders (a ∷ p) [] long = absurd (omega (arith, long))
 both_orders (a ∷ p) (b ∷ q) long = ap (λ c. name_before a b || (bytes_eq a b && c)) (both_orders p q (omega (arith, long)))
 
--- ---- lists that ascend
+-- ---- orders of paths
 
--- each comes before all that stand behind it
-abbrev pub Ascends : List Names → Type 0
-Ascends [] = Unit {0}
-Ascends (p ∷ ps) = ((q : Names) → In q ps → members_first p q ≡ true) × Ascends ps
+-- Of two paths that differ one comes before the other; nothing comes before itself.
+pub record IsOrder (before : Names → Names → Bool) : Type 0 where
+  pub compared : (p q : Names) → Compared before p q
+  pub further : (p q r : Names) → before p q ≡ true → before q r ≡ true → before p r ≡ true
+  pub itself : (p : Names) → before p p ≡ true → ⊥
 
-pub ascends_join : (ps qs : List Names) → Ascends ps → Ascends qs → ((p q : Names) → In p ps → In q qs → members_first p q ≡ true) → Ascends (ps ++ qs)
-ascends_join [] qs a b c = b
-ascends_join (p ∷ ps) qs a b c = (λ q i. by q (in_either q ps qs i), ascends_join ps qs a.1 b (λ x y i j. c x y (inr i) j))
-  where
-    by : (q : Names) → In q ps ⊎ In q qs → members_first p q ≡ true
-    by q (inl i) = a.0 q i
-    by q (inr i) = c p q (inl refl) i
-
-pub ascends_left : (ps qs : List Names) → Ascends (ps ++ qs) → Ascends ps
-ascends_left [] qs a = tt
-ascends_left (p ∷ ps) qs a = (λ q i. a.0 q (in_left q ps qs i), ascends_left ps qs a.1)
-
-pub ascends_right : (ps qs : List Names) → Ascends (ps ++ qs) → Ascends qs
-ascends_right [] qs a = a
-ascends_right (p ∷ ps) qs a = ascends_right ps qs a.1
-
-pub ascends_across : (ps qs : List Names) (p q : Names) → Ascends (ps ++ qs) → In p ps → In q qs → members_first p q ≡ true
-ascends_across [] qs p q a i j = absurd i
-ascends_across (x ∷ ps) qs p q a (inl e) j = subst (λ y. members_first y q ≡ true) (sym e) (a.0 q (in_right q ps qs j))
-ascends_across (x ∷ ps) qs p q a (inr i) j = ascends_across ps qs p q a.1 i j
-
-first_same : (p q : Names) (ps qs : List Names) → Ascends (p ∷ ps) → Ascends (q ∷ qs) → In p (q ∷ qs) → In q (p ∷ ps) → p ≡ q
-first_same p q ps qs a b (inl e) j = e
-first_same p q ps qs a b (inr i) (inl f) = sym f
-first_same p q ps qs a b (inr i) (inr j) = absurd (not_itself p (path_then p q p (a.0 q j) (b.0 p i)))
-
-rest_in : (p q x : Names) (ps qs : List Names) → Ascends (p ∷ ps) → p ≡ q → In x ps → In x (q ∷ qs) → In x qs
-rest_in p q x ps qs a e i (inr j) = j
-rest_in p q x ps qs a e i (inl f) = absurd (not_itself p (subst (λ y. members_first p y ≡ true) (f ∙ sym e) (a.0 x i)))
-
--- Of given paths one list ascends.
-pub one_list : (ps qs : List Names) → Ascends ps → Ascends qs → ((p : Names) → In p ps → In p qs) → ((p : Names) → In p qs → In p ps) → ps ≡ qs
-one_list [] [] a b i j = refl
-one_list [] (q ∷ qs) a b i j = absurd (j q (inl refl))
-one_list (p ∷ ps) [] a b i j = absurd (i p (inl refl))
-one_list (p ∷ ps) (q ∷ qs) a b i j =
-    let e = first_same p q ps qs a b (i p (inl refl)) (j q (inl refl)) in
-    let rest = one_list ps qs a.1 b.1 (λ x h. rest_in p q x ps qs a e h (i x (inr h))) (λ x h. rest_in q p x qs ps b (sym e) h (j x (inr h))) in
-    cc
-
--- ---- rows brought into the order
+pub members_order : IsOrder members_first
+members_order = record { compared = paths_compared; further = path_then; itself = not_itself }
 
 -- no path stands twice
 abbrev pub Once : List Names → Type 0
 Once [] = Unit {0}
 Once (p ∷ ps) = (In p ps → ⊥) × Once ps
 
-abbrev put : Row → List Row → List Row
-put row rows = put_by members_first row rows
+-- ---- lists that ascend
 
-put_before : (r s : Row) (rows : List Row) → members_first r.path s.path ≡ true → put r (s ∷ rows) ≡ r ∷ s ∷ rows
-put_before r s rows e = rw e refl
+module _ (before : Names → Names → Bool) where
+  -- each comes before all that stand behind it
+  abbrev pub Ascends : List Names → Type 0
+  Ascends [] = Unit {0}
+  Ascends (p ∷ ps) = ((q : Names) → In q ps → before p q ≡ true) × Ascends ps
 
-put_behind : (r s : Row) (rows : List Row) → members_first r.path s.path ≡ false → put r (s ∷ rows) ≡ s ∷ put r rows
-put_behind r s rows e = rw e refl
+  pub ascends_join : (ps qs : List Names) → Ascends ps → Ascends qs → ((p q : Names) → In p ps → In q qs → before p q ≡ true) → Ascends (ps ++ qs)
+  ascends_join [] qs a b c = b
+  ascends_join (p ∷ ps) qs a b c = (λ q i. by q (in_either q ps qs i), ascends_join ps qs a.1 b (λ x y i j. c x y (inr i) j))
+    where
+      by : (q : Names) → In q ps ⊎ In q qs → before p q ≡ true
+      by q (inl i) = a.0 q i
+      by q (inr i) = c p q (inl refl) i
 
-from_put_by : (b : Bool) (t r s : Row) (rows : List Row) → members_first r.path s.path ≡ b → (In t (put r rows) → In t (r ∷ rows)) → In t (put r (s ∷ rows)) → In t (r ∷ s ∷ rows)
-from_put_by true t r s rows e more i = subst (In t) (put_before r s rows e) i
-from_put_by false t r s rows e more i = behind (subst (In t) (put_behind r s rows e) i)
-  where
-    one_more : In t (r ∷ rows) → In t (r ∷ s ∷ rows)
-    one_more (inl f) = inl f
-    one_more (inr j) = inr (inr j)
+  pub ascends_left : (ps qs : List Names) → Ascends (ps ++ qs) → Ascends ps
+  ascends_left [] qs a = tt
+  ascends_left (p ∷ ps) qs a = (λ q i. a.0 q (in_left q ps qs i), ascends_left ps qs a.1)
 
-    behind : In t (s ∷ put r rows) → In t (r ∷ s ∷ rows)
-    behind (inl f) = inr (inl f)
-    behind (inr j) = one_more (more j)
+  pub ascends_right : (ps qs : List Names) → Ascends (ps ++ qs) → Ascends qs
+  ascends_right [] qs a = a
+  ascends_right (p ∷ ps) qs a = ascends_right ps qs a.1
 
-from_put : (t r : Row) (rows : List Row) → In t (put r rows) → In t (r ∷ rows)
-from_put t r [] i = i
-from_put t r (s ∷ rows) i = from_put_by (members_first r.path s.path) t r s rows refl (from_put t r rows) i
+  pub ascends_across : (ps qs : List Names) (p q : Names) → Ascends (ps ++ qs) → In p ps → In q qs → before p q ≡ true
+  ascends_across [] qs p q a i j = absurd i
+  ascends_across (x ∷ ps) qs p q a (inl e) j = subst (λ y. before y q ≡ true) (sym e) (a.0 q (in_right q ps qs j))
+  ascends_across (x ∷ ps) qs p q a (inr i) j = ascends_across ps qs p q a.1 i j
 
-into_put_by : (b : Bool) (t r s : Row) (rows : List Row) → members_first r.path s.path ≡ b → (In t (r ∷ rows) → In t (put r rows)) → In t (r ∷ s ∷ rows) → In t (put r (s ∷ rows))
-into_put_by true t r s rows e more i = subst (In t) (sym (put_before r s rows e)) i
-into_put_by false t r s rows e more i = subst (In t) (sym (put_behind r s rows e)) (behind i)
-  where
-    behind : In t (r ∷ s ∷ rows) → In t (s ∷ put r rows)
-    behind (inl f) = inr (more (inl f))
-    behind (inr (inl f)) = inl f
-    behind (inr (inr j)) = inr (more (inr j))
+  -- ---- rows brought into the order
 
-into_put : (t r : Row) (rows : List Row) → In t (r ∷ rows) → In t (put r rows)
-into_put t r [] i = i
-into_put t r (s ∷ rows) i = into_put_by (members_first r.path s.path) t r s rows refl (into_put t r rows) i
+  abbrev put : Row → List Row → List Row
+  put row rows = put_by before row rows
 
-pub from_order : (t : Row) (rows : List Row) → In t (in_order members_first rows) → In t rows
-from_order t [] i = i
-from_order t (r ∷ rows) i = in_more t r (in_order members_first rows) rows (from_order t rows) (from_put t r (in_order members_first rows) i)
+  put_before : (r s : Row) (rows : List Row) → before r.path s.path ≡ true → put r (s ∷ rows) ≡ r ∷ s ∷ rows
+  put_before r s rows e = rw e refl
 
-pub into_order : (t : Row) (rows : List Row) → In t rows → In t (in_order members_first rows)
-into_order t [] i = i
-into_order t (r ∷ rows) i = into_put t r (in_order members_first rows) (in_more t r rows (in_order members_first rows) (into_order t rows) i)
+  put_behind : (r s : Row) (rows : List Row) → before r.path s.path ≡ false → put r (s ∷ rows) ≡ s ∷ put r rows
+  put_behind r s rows e = rw e refl
 
--- a row that doesn't come before another, and has another path, comes behind it
-behind : (b : Bool) (p q : Names) → members_first p q ≡ b → b ≡ false → (p ≡ q → ⊥) → Compared members_first p q → members_first q p ≡ true
-behind b p q e f apart (earlier c) = let g : members_first p q ≡ false = e ∙ f in cc
-behind b p q e f apart (equal c) = absurd (apart c)
-behind b p q e f apart (later c) = c
+  from_put_by : (b : Bool) (t r s : Row) (rows : List Row) → before r.path s.path ≡ b → (In t (put r rows) → In t (r ∷ rows)) → In t (put r (s ∷ rows)) → In t (r ∷ s ∷ rows)
+  from_put_by true t r s rows e more i = subst (In t) (put_before r s rows e) i
+  from_put_by false t r s rows e more i = behind (subst (In t) (put_behind r s rows e) i)
+    where
+      one_more : In t (r ∷ rows) → In t (r ∷ s ∷ rows)
+      one_more (inl f) = inl f
+      one_more (inr j) = inr (inr j)
 
-put_by_ascends : (b : Bool) (r s : Row) (rows : List Row) → members_first r.path s.path ≡ b → (r.path ≡ s.path → ⊥) → Ascends (paths (s ∷ rows)) → Ascends (paths (put r rows))
-    → Ascends (paths (put r (s ∷ rows)))
-put_by_ascends true r s rows e apart a more = subst (λ x. Ascends (paths x)) (sym (put_before r s rows e)) (first, a)
-  where
-    first : (q : Names) → In q (paths (s ∷ rows)) → members_first r.path q ≡ true
-    first q (inl f) = subst (λ x. members_first r.path x ≡ true) (sym f) e
-    first q (inr i) = path_then r.path s.path q e (a.0 q i)
-put_by_ascends false r s rows e apart a more = subst (λ x. Ascends (paths x)) (sym (put_behind r s rows e)) (first, more)
-  where
-    by : (t : Row) → In t (r ∷ rows) → members_first s.path t.path ≡ true
-    by t (inl f) = subst (λ (x : Row). members_first s.path x.path ≡ true) (sym f) (behind false r.path s.path e refl apart (paths_compared r.path s.path))
-    by t (inr j) = a.0 t.path (paths_in t rows j)
+      behind : In t (s ∷ put r rows) → In t (r ∷ s ∷ rows)
+      behind (inl f) = inr (inl f)
+      behind (inr j) = one_more (more j)
 
-    first : (q : Names) → In q (paths (put r rows)) → members_first s.path q ≡ true
-    first q i = let (t, j, f) = in_paths q (put r rows) i in subst (λ x. members_first s.path x ≡ true) f (by t (from_put t r rows j))
+  from_put : (t r : Row) (rows : List Row) → In t (put r rows) → In t (r ∷ rows)
+  from_put t r [] i = i
+  from_put t r (s ∷ rows) i = from_put_by (before r.path s.path) t r s rows refl (from_put t r rows) i
 
-put_ascends : (r : Row) (rows : List Row) → (In r.path (paths rows) → ⊥) → Ascends (paths rows) → Ascends (paths (put r rows))
-put_ascends r [] apart a = (λ q i. absurd i, tt)
-put_ascends r (s ∷ rows) apart a = put_by_ascends (members_first r.path s.path) r s rows refl (λ e. apart (inl e)) a (put_ascends r rows (λ i. apart (inr i)) a.1)
+  into_put_by : (b : Bool) (t r s : Row) (rows : List Row) → before r.path s.path ≡ b → (In t (r ∷ rows) → In t (put r rows)) → In t (r ∷ s ∷ rows) → In t (put r (s ∷ rows))
+  into_put_by true t r s rows e more i = subst (In t) (sym (put_before r s rows e)) i
+  into_put_by false t r s rows e more i = subst (In t) (sym (put_behind r s rows e)) (behind i)
+    where
+      behind : In t (r ∷ s ∷ rows) → In t (s ∷ put r rows)
+      behind (inl f) = inr (more (inl f))
+      behind (inr (inl f)) = inl f
+      behind (inr (inr j)) = inr (more (inr j))
 
-pub order_ascends : (rows : List Row) → Once (paths rows) → Ascends (paths (in_order members_first rows))
-order_ascends [] a = tt
-order_ascends (r ∷ rows) a = put_ascends r (in_order members_first rows) none (order_ascends rows a.1)
-  where
-    none : In r.path (paths (in_order members_first rows)) → ⊥
-    none i = let (t, j, e) = in_paths r.path (in_order members_first rows) i in a.0 (path_in r.path t rows (from_order t rows j) e)
+  into_put : (t r : Row) (rows : List Row) → In t (r ∷ rows) → In t (put r rows)
+  into_put t r [] i = i
+  into_put t r (s ∷ rows) i = into_put_by (before r.path s.path) t r s rows refl (into_put t r rows) i
+
+  pub from_order : (t : Row) (rows : List Row) → In t (in_order before rows) → In t rows
+  from_order t [] i = i
+  from_order t (r ∷ rows) i = in_more t r (in_order before rows) rows (from_order t rows) (from_put t r (in_order before rows) i)
+
+  pub into_order : (t : Row) (rows : List Row) → In t rows → In t (in_order before rows)
+  into_order t [] i = i
+  into_order t (r ∷ rows) i = into_put t r (in_order before rows) (in_more t r rows (in_order before rows) (into_order t rows) i)
+
+module _ (before : Names → Names → Bool) (order : IsOrder before) where
+  first_same : (p q : Names) (ps qs : List Names) → Ascends before (p ∷ ps) → Ascends before (q ∷ qs) → In p (q ∷ qs) → In q (p ∷ ps) → p ≡ q
+  first_same p q ps qs a b (inl e) j = e
+  first_same p q ps qs a b (inr i) (inl f) = sym f
+  first_same p q ps qs a b (inr i) (inr j) = absurd (order.itself p (order.further p q p (a.0 q j) (b.0 p i)))
+
+  rest_in : (p q x : Names) (ps qs : List Names) → Ascends before (p ∷ ps) → p ≡ q → In x ps → In x (q ∷ qs) → In x qs
+  rest_in p q x ps qs a e i (inr j) = j
+  rest_in p q x ps qs a e i (inl f) = absurd (order.itself p (subst (λ y. before p y ≡ true) (f ∙ sym e) (a.0 x i)))
+
+  -- Of given paths one list ascends.
+  pub one_list : (ps qs : List Names) → Ascends before ps → Ascends before qs → ((p : Names) → In p ps → In p qs) → ((p : Names) → In p qs → In p ps) → ps ≡ qs
+  one_list [] [] a b i j = refl
+  one_list [] (q ∷ qs) a b i j = absurd (j q (inl refl))
+  one_list (p ∷ ps) [] a b i j = absurd (i p (inl refl))
+  one_list (p ∷ ps) (q ∷ qs) a b i j =
+      let e = first_same p q ps qs a b (i p (inl refl)) (j q (inl refl)) in
+      let rest = one_list ps qs a.1 b.1 (λ x h. rest_in p q x ps qs a e h (i x (inr h))) (λ x h. rest_in q p x qs ps b (sym e) h (j x (inr h))) in
+      cc
+
+  -- a row that doesn't come before another, and has another path, comes behind it
+  behind : (b : Bool) (p q : Names) → before p q ≡ b → b ≡ false → (p ≡ q → ⊥) → Compared before p q → before q p ≡ true
+  behind b p q e f apart (earlier c) = let g : before p q ≡ false = e ∙ f in cc
+  behind b p q e f apart (equal c) = absurd (apart c)
+  behind b p q e f apart (later c) = c
+
+  put_by_ascends : (b : Bool) (r s : Row) (rows : List Row) → before r.path s.path ≡ b → (r.path ≡ s.path → ⊥) → Ascends before (paths (s ∷ rows)) → Ascends before (paths (put before r rows))
+      → Ascends before (paths (put before r (s ∷ rows)))
+  put_by_ascends true r s rows e apart a more = subst (λ x. Ascends before (paths x)) (sym (put_before before r s rows e)) (first, a)
+    where
+      first : (q : Names) → In q (paths (s ∷ rows)) → before r.path q ≡ true
+      first q (inl f) = subst (λ x. before r.path x ≡ true) (sym f) e
+      first q (inr i) = order.further r.path s.path q e (a.0 q i)
+  put_by_ascends false r s rows e apart a more = subst (λ x. Ascends before (paths x)) (sym (put_behind before r s rows e)) (first, more)
+    where
+      by : (t : Row) → In t (r ∷ rows) → before s.path t.path ≡ true
+      by t (inl f) = subst (λ (x : Row). before s.path x.path ≡ true) (sym f) (behind false r.path s.path e refl apart (order.compared r.path s.path))
+      by t (inr j) = a.0 t.path (paths_in t rows j)
+
+      first : (q : Names) → In q (paths (put before r rows)) → before s.path q ≡ true
+      first q i = let (t, j, f) = in_paths q (put before r rows) i in subst (λ x. before s.path x ≡ true) f (by t (from_put before t r rows j))
+
+  put_ascends : (r : Row) (rows : List Row) → (In r.path (paths rows) → ⊥) → Ascends before (paths rows) → Ascends before (paths (put before r rows))
+  put_ascends r [] apart a = (λ q i. absurd i, tt)
+  put_ascends r (s ∷ rows) apart a = put_by_ascends (before r.path s.path) r s rows refl (λ e. apart (inl e)) a (put_ascends r rows (λ i. apart (inr i)) a.1)
+
+  pub order_ascends : (rows : List Row) → Once (paths rows) → Ascends before (paths (in_order before rows))
+  order_ascends [] a = tt
+  order_ascends (r ∷ rows) a = put_ascends r (in_order before rows) none (order_ascends rows a.1)
+    where
+      none : In r.path (paths (in_order before rows)) → ⊥
+      none i = let (t, j, e) = in_paths r.path (in_order before rows) i in a.0 (path_in r.path t rows (from_order before t rows j) e)
 
 -- ---- rows of one directory
 
@@ -360,4 +373,4 @@ pub order_either : (n : ℕ) (rows : List Row) → AreLong n rows → in_order d
 order_either n [] all = refl
 order_either n (r ∷ rows) all =
     ap (put_by dir_first r) (order_either n rows (λ t i. all t (inr i)))
-    ∙ put_either n r (in_order members_first rows) (all r (inl refl)) (λ t i. all t (inr (from_order t rows i)))
+    ∙ put_either n r (in_order members_first rows) (all r (inl refl)) (λ t i. all t (inr (from_order members_first t rows i)))

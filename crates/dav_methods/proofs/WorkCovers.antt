@@ -17,7 +17,7 @@ use Rattle.dav_methods.specs.Follows.{child_of, children_in}
 use Rattle.dav_methods.specs.Removing.{is_deep, works_in}
 use Rattle.dav_methods.proofs.RemovalWork.{Left, StandsAs, behind_not_below}
 use Rattle.dav_methods.proofs.TreeRows.{Parts, above, any_none, both, false_or, filter_in, filter_once, front_equal, front_itself, front_length, front_rest, front_then, fronts_meet, in_filter, not_both, only_row, parts_of, same_of, same_yes}
-use Rattle.dav_methods.proofs.WalkOrder.{Ascends, In, Once, apart_first, ascends_across, ascends_join, ascends_left, ascends_right, below_first, from_order, in_either, in_left, in_paths, in_right, into_order, one_list, order_ascends, order_either, path_in, paths, paths_in}
+use Rattle.dav_methods.proofs.WalkOrder.{Ascends, In, IsOrder, Once, apart_first, ascends_across, ascends_join, ascends_left, ascends_right, below_first, from_order, in_either, in_left, in_paths, in_right, into_order, members_order, one_list, order_ascends, order_either, path_in, paths, paths_in}
 
 -- ---- what work covers
 
@@ -39,35 +39,49 @@ AllFit top old (work ∷ works) = Fits top old work × AllFit top old works
 
 -- ---- the walk at a path
 
--- the paths at and below one, in the order of the removal
-abbrev pub walked : List Row → Names → List Names
-walked now path = paths (walk members_first path now)
+-- the paths at and below one, in an order
+abbrev pub walked_by : (Names → Names → Bool) → List Row → Names → List Names
+walked_by before now path = paths (walk before path now)
 
-pub in_walked : (now : List Row) (path p : Names) → In p (walked now path) → In p (paths now) × (is_front path p ≡ true)
-in_walked now path p i =
+pub in_walked_by : (before : Names → Names → Bool) (now : List Row) (path p : Names) → In p (walked_by before now path) → In p (paths now) × (is_front path p ≡ true)
+in_walked_by before now path p i =
     let keep : Row → Bool = λ row. is_front path row.path in
-    let (r, j, at) = in_paths p (walk members_first path now) i in
-    let (k, front) = in_filter keep now r (from_order r (filter keep now) j) in
+    let (r, j, at) = in_paths p (walk before path now) i in
+    let (k, front) = in_filter keep now r (from_order before r (filter keep now) j) in
     (path_in p r now k at, subst (λ x. is_front path x ≡ true) at front)
 
-pub walked_in : (now : List Row) (path p : Names) → In p (paths now) → is_front path p ≡ true → In p (walked now path)
-walked_in now path p i front =
+pub walked_in_by : (before : Names → Names → Bool) (now : List Row) (path p : Names) → In p (paths now) → is_front path p ≡ true → In p (walked_by before now path)
+walked_in_by before now path p i front =
     let keep : Row → Bool = λ row. is_front path row.path in
     let (r, j, at) = in_paths p now i in
-    path_in p r (walk members_first path now) (into_order r (filter keep now) (filter_in keep now r (subst (λ x. is_front path x ≡ true) (sym at) front) j)) at
+    path_in p r (walk before path now) (into_order before r (filter keep now) (filter_in keep now r (subst (λ x. is_front path x ≡ true) (sym at) front) j)) at
 
-pub walked_ascends : (now : List Row) (path : Names) → Once (paths now) → Ascends (walked now path)
-walked_ascends now path once = order_ascends (filter (λ row. is_front path row.path) now) (filter_once (λ row. is_front path row.path) now once)
+pub walked_by_ascends : (before : Names → Names → Bool) → IsOrder before → (now : List Row) (path : Names) → Once (paths now) → Ascends before (walked_by before now path)
+walked_by_ascends before order now path once =
+    order_ascends before order (filter (λ row. is_front path row.path) now) (filter_once (λ row. is_front path row.path) now once)
+
+-- in the order of the removal
+abbrev pub walked : List Row → Names → List Names
+walked now path = walked_by members_first now path
+
+pub in_walked : (now : List Row) (path p : Names) → In p (walked now path) → In p (paths now) × (is_front path p ≡ true)
+in_walked now path p i = in_walked_by members_first now path p i
+
+pub walked_in : (now : List Row) (path p : Names) → In p (paths now) → is_front path p ≡ true → In p (walked now path)
+walked_in now path p i front = walked_in_by members_first now path p i front
+
+pub walked_ascends : (now : List Row) (path : Names) → Once (paths now) → Ascends members_first (walked now path)
+walked_ascends now path once = walked_by_ascends members_first members_order now path once
 
 -- ---- the members of a directory
 
-abbrev members : Names → List Row → List Row
+abbrev pub members : Names → List Row → List Row
 members at now = in_order members_first (filter (stands_in at) now)
 
-record IsMember (at : Names) (now : List Row) (r : Row) : Type 0 where
-  in_tree : In r now
-  long : length r.path ≡ length at + 1
-  front : is_front at r.path ≡ true
+pub record IsMember (at : Names) (now : List Row) (r : Row) : Type 0 where
+  pub in_tree : In r now
+  pub long : length r.path ≡ length at + 1
+  pub front : is_front at r.path ≡ true
 
 nat_same : (a b : ℕ) → (a == b) ≡ true → a ≡ b
 nat_same a b e = grind (arith, nat_tests)
@@ -75,31 +89,31 @@ nat_same a b e = grind (arith, nat_tests)
 same_nat : (a b : ℕ) → a ≡ b → (a == b) ≡ true
 same_nat a b e = grind (arith, nat_tests)
 
-is_member : (at : Names) (now : List Row) (r : Row) → In r (filter (stands_in at) now) → IsMember at now r
+pub is_member : (at : Names) (now : List Row) (r : Row) → In r (filter (stands_in at) now) → IsMember at now r
 is_member at now r i =
     let (j, here) = in_filter (stands_in at) now r i in
     let (long, front) = and_parts (length r.path == length at + 1) (is_front at r.path) here in
     record { in_tree = j; long = nat_same (length r.path) (length at + 1) long; front = front }
 
-abbrev AreMembers : Names → List Row → List Row → Type 0
+abbrev pub AreMembers : Names → List Row → List Row → Type 0
 AreMembers at now rows = (r : Row) → In r rows → IsMember at now r
 
-all_members : (at : Names) (now : List Row) → AreMembers at now (members at now)
-all_members at now r i = is_member at now r (from_order r (filter (stands_in at) now) i)
+pub all_members : (at : Names) (now : List Row) → AreMembers at now (members at now)
+all_members at now r i = is_member at now r (from_order members_first r (filter (stands_in at) now) i)
 
-in_members : (at : Names) (now : List Row) (r : Row) → In r now → length r.path ≡ length at + 1 → is_front at r.path ≡ true → In r (members at now)
+pub in_members : (at : Names) (now : List Row) (r : Row) → In r now → length r.path ≡ length at + 1 → is_front at r.path ≡ true → In r (members at now)
 in_members at now r i long front =
-    into_order r (filter (stands_in at) now) (filter_in (stands_in at) now r
+    into_order members_first r (filter (stands_in at) now) (filter_in (stands_in at) now r
     (both (length r.path == length at + 1) (is_front at r.path) (same_nat (length r.path) (length at + 1) long) front) i)
 
 -- the same rows as the order puts them that lists directories first
-listed_members : (at : Names) (now : List Row) → in_order dir_first (filter (stands_in at) now) ≡ members at now
+pub listed_members : (at : Names) (now : List Row) → in_order dir_first (filter (stands_in at) now) ≡ members at now
 listed_members at now = order_either (length at + 1) (filter (stands_in at) now) (λ r i. (is_member at now r i).long)
 
-members_ascend : (at : Names) (now : List Row) → Once (paths now) → Ascends (paths (members at now))
-members_ascend at now once = order_ascends (filter (stands_in at) now) (filter_once (stands_in at) now once)
+pub members_ascend : (at : Names) (now : List Row) → Once (paths now) → Ascends members_first (paths (members at now))
+members_ascend at now once = order_ascends members_first members_order (filter (stands_in at) now) (filter_once (stands_in at) now once)
 
-one_name : {A : Type 0} (xs : List A) → length xs ≡ 1 → (x : A) × (xs ≡ x ∷ [])
+pub one_name : {A : Type 0} (xs : List A) → length xs ≡ 1 → (x : A) × (xs ≡ x ∷ [])
 one_name [] e = absurd (omega (arith, e))
 one_name (x ∷ []) e = (x, refl)
 one_name (x ∷ y ∷ xs) e = absurd (omega (arith, e))
@@ -109,7 +123,7 @@ last_of [] x = refl
 last_of (y ∷ xs) x = last_of xs x
 
 -- a member's path is its directory's with its name behind it
-member_path : (at : Names) (now : List Row) (r : Row) → IsMember at now r → r.path ≡ at ++ name_of r ∷ []
+pub member_path : (at : Names) (now : List Row) (r : Row) → IsMember at now r → r.path ≡ at ++ name_of r ∷ []
 member_path at now r m =
     let rest = front_rest at r.path m.front in
     let long : length (drop (length at) r.path) ≡ 1 = omega (arith, m.long, ap length rest, length-append at (drop (length at) r.path)) in
@@ -122,11 +136,11 @@ member_path at now r m =
 
 -- ---- the walks of members, one after the other, and then their directory
 
-abbrev all_walked : Names → List Row → List Row → List Names
+abbrev pub all_walked : Names → List Row → List Row → List Names
 all_walked at now [] = at ∷ []
 all_walked at now (r ∷ rows) = walked now r.path ++ all_walked at now rows
 
-in_all : (at : Names) (now rows : List Row) (q : Names) → In q (all_walked at now rows) → (q ≡ at) ⊎ ((r : Row) × In r rows × In q (walked now r.path))
+pub in_all : (at : Names) (now rows : List Row) (q : Names) → In q (all_walked at now rows) → (q ≡ at) ⊎ ((r : Row) × In r rows × In q (walked now r.path))
 in_all at now [] q (inl e) = inl e
 in_all at now [] q (inr i) = absurd i
 in_all at now (r ∷ rows) q i = by (in_either q (walked now r.path) (all_walked at now rows) i) (in_all at now rows q)
@@ -156,10 +170,10 @@ strictly_first at q front lt = by (drop (length at) q) (front_rest at q front)
     by [] e = absurd (omega (arith, lt, ap length (e ∙ append-nil at)))
     by (name ∷ names) e = subst (λ x. members_first x at ≡ true) (sym e) (below_first at name names)
 
-all_ascend : (at : Names) (now rows : List Row) → Once (paths now) → AreMembers at now rows → Ascends (paths rows) → Ascends (all_walked at now rows)
+all_ascend : (at : Names) (now rows : List Row) → Once (paths now) → AreMembers at now rows → Ascends members_first (paths rows) → Ascends members_first (all_walked at now rows)
 all_ascend at now [] once are a = (λ q i. absurd i, tt)
 all_ascend at now (r ∷ rows) once are a =
-    ascends_join (walked now r.path) (all_walked at now rows) (walked_ascends now r.path once) (all_ascend at now rows once (λ s i. are s (inr i)) a.1) (λ p q i j. by p q (in_walked now r.path p i).1 (in_all at now rows q j))
+    ascends_join members_first (walked now r.path) (all_walked at now rows) (walked_ascends now r.path once) (all_ascend at now rows once (λ s i. are s (inr i)) a.1) (λ p q i j. by p q (in_walked now r.path p i).1 (in_all at now rows q j))
   where
     by : (p q : Names) → is_front r.path p ≡ true → (q ≡ at) ⊎ ((s : Row) × In s rows × In q (walked now s.path)) → members_first p q ≡ true
     by p q front (inl e) =
@@ -174,7 +188,7 @@ all_ascend at now (r ∷ rows) once are a =
         (subst (λ x. members_first (r.path ++ drop (length r.path) p) x ≡ true) (sym (front_rest s.path q (in_walked now s.path q j).1)) first)
 
 -- each path at or below the directory is come to
-all_come : (at : Names) (now : List Row) (q : Names) → Parts now → In q (paths now) → is_front at q ≡ true → In q (all_walked at now (members at now))
+pub all_come : (at : Names) (now : List Row) (q : Names) → Parts now → In q (paths now) → is_front at q ≡ true → In q (all_walked at now (members at now))
 all_come at now q parts i front = by (cases_lt (length at) (length q))
   where
     up : Names
@@ -205,7 +219,7 @@ opened_whole : (top : Names) (old now : List Row) (at : Names) (whole more : Lis
     → ((p : Names) → In p whole → is_front at p ≡ true) → ((p : Names) → In p more → is_front at p ≡ false) → In at whole → whole ≡ all_walked at now (members at now)
 opened_whole top old now at whole more l front below apart i =
     let parts = parts_of now l.tree in
-    one_list whole (all_walked at now (members at now)) (ascends_left whole more l.ascends)
+    one_list members_first members_order whole (all_walked at now (members at now)) (ascends_left members_first whole more l.ascends)
     (all_ascend at now (members at now) parts.once (all_members at now) (members_ascend at now parts.once))
     (λ q j. all_come at now q parts (l.stands q (in_left q whole more j)) (below q j))
     (λ q j. by_place q (in_all at now (members at now) q j))
@@ -226,7 +240,7 @@ opened_whole top old now at whole more l front below apart i =
 abbrev works_of : WebPath → List Row → List Work → List Work
 works_of path rows works = works_in path (map (child_of path) rows) works
 
-rows_cover : (path : WebPath) (now rows : List Row) (more : List Names) (works : List Work) → AreMembers path.names now rows → Ascends (all_walked path.names now rows ++ more) → Covers works more
+rows_cover : (path : WebPath) (now rows : List Row) (more : List Names) (works : List Work) → AreMembers path.names now rows → Ascends members_first (all_walked path.names now rows ++ more) → Covers works more
     → Covers (works_of path rows works) (all_walked path.names now rows ++ more)
 rows_cover path now [] more works are a covers = (more, refl, covers)
 rows_cover path now (r ∷ rows) more works are a covers =
@@ -235,14 +249,14 @@ rows_cover path now (r ∷ rows) more works are a covers =
     let here : In r.path (walked now r.path) = walked_in now r.path r.path (paths_in r now m.in_tree) (front_itself r.path) in
     let rest = all_walked path.names now rows ++ more in
     let joined = append_assoc (walked now r.path) (all_walked path.names now rows) more in
-    let ascends = subst Ascends joined a in (
+    let ascends = subst (Ascends members_first) joined a in (
       walked now r.path,
       rest,
       joined,
       λ p i. subst (λ x. is_front x p ≡ true) own (in_walked now r.path p i).1,
-      λ p i. subst (λ x. is_front x p ≡ false) own (false_or (is_front r.path p) (behind_not_below r.path p (ascends_across (walked now r.path) rest r.path p ascends here i))),
+      λ p i. subst (λ x. is_front x p ≡ false) own (false_or (is_front r.path p) (behind_not_below r.path p (ascends_across members_first (walked now r.path) rest r.path p ascends here i))),
       subst (λ x. In x (walked now r.path)) own here,
-      rows_cover path now rows more works (λ s i. are s (inr i)) (ascends_right (walked now r.path) rest ascends) covers,
+      rows_cover path now rows more works (λ s i. are s (inr i)) (ascends_right members_first (walked now r.path) rest ascends) covers,
     )
 
 -- The members of a directory cover, with it, what it covered.
@@ -255,11 +269,11 @@ opened_covers top old now path left works l (whole, more, e, below, apart, i, co
     let cut : left ≡ all_walked path.names now (members path.names now) ++ more = e ∙ ap (λ x. x ++ more) same in
     subst (λ rows. Covers (works_of path rows works) left) (sym (listed_members path.names now))
     (subst (Covers (works_of path (members path.names now) works)) (sym cut)
-    (rows_cover path now (members path.names now) more works (all_members path.names now) (subst Ascends cut l.ascends) covers))
+    (rows_cover path now (members path.names now) more works (all_members path.names now) (subst (Ascends members_first) cut l.ascends) covers))
 
 -- ---- the work of the members is of what stood there
 
-not_deep : (path : WebPath) → is_deep path ≡ false → length path.names ≤ 65536
+pub not_deep : (path : WebPath) → is_deep path ≡ false → length path.names ≤ 65536
 not_deep path e = by (nat_lt 65536 (length path.names)) refl
   where
     by : (b : Bool) → nat_lt 65536 (length path.names) ≡ b → length path.names ≤ 65536
@@ -300,7 +314,7 @@ abbrev pub going : Names → List Row → List Row
 going top old = walk members_first top old
 
 in_going : (top : Names) (old : List Row) (r : Row) → In r (going top old) → In r old × (is_front top r.path ≡ true)
-in_going top old r i = in_filter (λ row. is_front top row.path) old r (from_order r (filter (λ row. is_front top row.path) old) i)
+in_going top old r i = in_filter (λ row. is_front top row.path) old r (from_order members_first r (filter (λ row. is_front top row.path) old) i)
 
 -- a directory that lies at or above a path, and has too many names
 deep_above : (r : Row) (p : Names) → (is_deep_dir r && is_front r.path p) ≡ true → (is_dir r.kind ≡ true) × (65537 ≤ length r.path) × (is_front r.path p ≡ true)
@@ -340,7 +354,7 @@ pub whole_deep : (top : Names) (old : List Row) (path : WebPath) (q : Names) →
     → is_too_deep (going top old) q ≡ true
 whole_deep top old path q s under deep below =
     any_some (λ row. is_deep_dir row && is_front row.path q) (going top old) s.row
-    (into_order s.row (filter (λ row. is_front top row.path) old) (filter_in (λ row. is_front top row.path) old s.row (subst (λ x. is_front top x ≡ true) (sym s.at) under) s.in_tree))
+    (into_order members_first s.row (filter (λ row. is_front top row.path) old) (filter_in (λ row. is_front top row.path) old s.row (subst (λ x. is_front top x ≡ true) (sym s.at) under) s.in_tree))
     (both (is_deep_dir s.row) (is_front s.row.path q)
     (both (is_dir s.row.kind) (nat_lt 65536 (length s.row.path)) s.kind (ap (λ x. nat_lt 65536 (length x)) s.at ∙ deep))
     (subst (λ x. is_front x q ≡ true) (sym s.at) below))

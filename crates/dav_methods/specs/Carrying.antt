@@ -3,27 +3,22 @@
 use Rattle.std.specs.Prelude.{◌≡◌, ◌&&◌, ℕ, List, [], ◌∷◌, Bool, true, false, not, Result, Ok, Err}
 use Rattle.dav_core.specs.declared.dav_error.DavError.{DavError}
 use Rattle.dav_core.specs.declared.error.FsError.{FsError}
-use Rattle.dav_core.specs.declared.method.DavMethod.{DavMethod}
-use Rattle.dav_core.specs.declared.method.DavMethod.TheVariants.{Copy, Move}
 use Rattle.dav_core.specs.DavPath.{WebPath}
 use Rattle.dav_core.specs.Info.{Info}
 use Rattle.dav_core.specs.Tree.{is_dir}
 use Rattle.dav_store.specs.View.{View, Listings}
 use Rattle.dav_model.specs.declared.outcome.Outcome.{Outcome}
+use Rattle.dav_model.specs.CarryPlans.{method_of}
 use Rattle.dav_model.specs.Conditions.{Fields}
-use Rattle.dav_methods.specs.declared.asked.Asked.{Asked}
+use Rattle.dav_model.specs.declared.asked.Asked.{Asked}
 use Rattle.dav_methods.specs.declared.transfer.Transfer.{Transfer}
 use Rattle.dav_methods.specs.declared.work.Work.TheVariants.{Whole}
 use Rattle.dav_methods.specs.Copying.{Copies}
-use Rattle.dav_methods.specs.Destination.{Asks}
+use Rattle.dav_model.specs.Destination.{Asks}
 use Rattle.dav_methods.specs.Lines.{Line, fails_when, first_of, is_dir_there, is_there, made, refused, refused_but_missing, silent, unless, unmet}
-use Rattle.dav_methods.specs.Overlap.{overlap}
+use Rattle.dav_model.specs.Overlap.{overlap}
 use Rattle.dav_methods.specs.Removing.{LooksAtLink, Removes}
 use Rattle.dav_methods.specs.Table.{Below, Ends, Looks, Next, Run, Unless, answered}
-
-abbrev pub method_of : Bool → DavMethod
-method_of true = Move
-method_of false = Copy
 
 -- What was found at the source lets a request go on.
 abbrev pub may_leave : Bool → WebPath → WebPath → Result Info FsError → Line

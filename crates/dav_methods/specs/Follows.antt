@@ -1,6 +1,6 @@
 -- A store that stands over a told disk by rules: what each of its calls does to the told world. Where a link stands on the way to a
 -- path nothing is said.
-use Rattle.std.specs.Prelude.{◌≤◌, ◌≡◌, ◌⊎◌, ◌+◌, ℕ, List, [], map, take, length, true, false, Option, Some, Result, Ok, Err}
+use Rattle.std.specs.Prelude.{◌≤◌, ◌≡◌, ◌⊎◌, ◌+◌, ℕ, List, [], map, take, length, Bool, true, false, Option, Some, Result, Ok, Err}
 use Rattle.std.specs.List.{filter}
 use Rattle.dav_io.specs.Counts.{Rose}
 use Rattle.dav_io.specs.Told.{Both}
@@ -8,7 +8,7 @@ use Rattle.dav_io.specs.declared.failure.NoMemory.{NoMemory as Wanting}
 use Rattle.dav_core.specs.declared.error.FsError.{FsError}
 use Rattle.dav_core.specs.declared.handle.OpenOptions.{OpenOptions}
 use Rattle.dav_core.specs.declared.tree.Row.{Row}
-use Rattle.dav_core.specs.Allowed.{Allowed, taking_dir, taking_file}
+use Rattle.dav_core.specs.Allowed.{Allowed, copying, moving, taking_dir, taking_file}
 use Rattle.dav_core.specs.DavPath.{WebPath}
 use Rattle.dav_core.specs.Disk.{at_start, kind_at}
 use Rattle.dav_core.specs.Edits.{Edit, Edited, EditedBy, fills}
@@ -29,7 +29,7 @@ use Rattle.dav_model.specs.Head.{Reply, Stood, refusal}
 use Rattle.dav_model.specs.Plans.{Ask, making, meets_link, plan, put_options, putting, stands}
 use Rattle.dav_model.specs.Rules.{Rules}
 use Rattle.dav_model.specs.Walks.{dir_first, in_order}
-use Rattle.dav_model.specs.Written.{EndsAs}
+use Rattle.dav_model.specs.Written.{CarriesIn, EndsAs}
 use Rattle.dav_methods.specs.declared.child.Child.{Child}
 use Rattle.dav_methods.specs.Lines.{Given}
 use Rattle.dav_methods.specs.Pouring.{Writes, WritesFile}
@@ -132,6 +132,8 @@ module _ {S C F L E : Type 0} (view : View S C F) (lists : Listings S C L E) (wr
   pub record Follows (rules : Rules) (s : S) : Type 0 where
     -- no count of faults falls
     pub counts : (n : S) → Reached s n → (view.state s).faults ≤ (view.state n).faults
+    -- it folds names where the rules say so
+    pub folds : (n : S) → Reached s n → view.folding n ≡ rules.folds
     -- the rows of each told world are a tree
     pub trees : (n : S) (w : World) → Reached s n → (view.state n).told ≡ Some w → IsWorld w
     pub looks : (m n : S) (path : WebPath) (r : Result Info FsError) → Reached s m → view.looks m c path r n
@@ -147,6 +149,14 @@ module _ {S C F L E : Type 0} (view : View S C F) (lists : Listings S C L E) (wr
     pub removes_file : (m n : S) (path : WebPath) (r : Result Unit FsError) → Reached s m → view.removes_file m c path r n
         → Told m n (λ v w. path.slash ≡ false → is_linked v.tree (resolved rules v.tree path.names) ≡ false
         → Calls (taking_file v.tree (resolved rules v.tree path.names)) m r n v w)
+    pub renames : (m n : S) (from to : WebPath) (r : Result Unit FsError) → Reached s m → view.renames m c from to r n
+        → Told m n (λ v w. is_linked v.tree (resolved rules v.tree from.names) ≡ false
+        → is_linked v.tree (resolved rules v.tree to.names) ≡ false
+        → Calls (moving v.tree (resolved rules v.tree from.names) (resolved rules v.tree to.names)) m r n v w)
+    pub copies : (m n : S) (from to : WebPath) (r : Result Unit FsError) → Reached s m → view.copies m c from to r n
+        → Told m n (λ v w. is_linked v.tree (resolved rules v.tree from.names) ≡ false
+        → is_linked v.tree (resolved rules v.tree to.names) ≡ false
+        → Calls (copying v (resolved rules v.tree from.names) (resolved rules v.tree to.names)) m r n v w)
     pub opens : (m n : S) (path : WebPath) (r : Result F FsError) → Reached s m → view.opens m c path put_options r n
         → path.slash ≡ false
         → Told m n (λ v w. is_linked v.tree (resolved rules v.tree path.names) ≡ false → OpensBy rules path m r n v w)
@@ -167,3 +177,8 @@ module _ {S C F L E : Type 0} (view : View S C F) (lists : Listings S C L E) (wr
   RightIn rules ask s r t v w = (result : Result Reply Wanting) → answer_or ask.fields r result
       → meets_link ask.method v.tree (resolved rules v.tree ask.path.names) ≡ false
       → EndsAs ask.fields (plan rules v ask) result (Rose (view.state s).faults (view.state t).faults) v w
+
+  -- the same of a COPY or a MOVE, whose plan is by what its fields ask for
+  abbrev pub CarriedIn : Rules → Bool → Ask → S → Given → S → World → World → Type 0
+  CarriedIn rules moves ask s r t v w = (result : Result Reply Wanting) → answer_or ask.fields r result
+      → CarriesIn rules moves ask result (Rose (view.state s).faults (view.state t).faults) v w

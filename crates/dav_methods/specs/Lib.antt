@@ -10,7 +10,5 @@ pub mod Weights
 pub mod Answers
 pub mod Follows
 pub mod Changing
-pub mod Destination
-pub mod Overlap
 pub mod Copying
 pub mod Carrying

@@ -5,10 +5,10 @@ ghost use Rattle.http_uri.specs.Uri.{uri_path};
 ghost use Rattle.dav_core.specs.Grammar as grammar;
 ghost use Rattle.dav_core.specs.Grammar.{parsed};
 ghost use Rattle.dav_model.specs.Conditions.{first_bytes};
-ghost use Rattle.dav_methods.specs.Destination.{Asks, IsAddress, IsDestination, IsPlace, asked_by as the_asked_by, depth_of as the_depth_of, overwrite_of as the_overwrite_of, path_or_refusal};
+ghost use Rattle.dav_model.specs.Destination.{Asks, IsAddress, IsDestination, IsPlace, asked_by as the_asked_by, depth_of as the_depth_of, overwrite_of as the_overwrite_of, path_or_refusal};
 
-use crate::asked::Asked;
 use dav_core::{DavError, DavPath, ParseError};
+use dav_model::Asked;
 use http::{HeaderMap, StatusCode};
 use http_uri::{Uri, UriError};
 use std::alloc::Global;

@@ -2,7 +2,7 @@
 //! write, over any store.
 #![tactic(auto)]
 
-mod asked;
+mod carry_plan_laws;
 mod carrying;
 mod child;
 mod conditions;
@@ -25,6 +25,7 @@ mod telling;
 mod transfer;
 mod work;
 
+pub use carry_plan_laws::{copies_follow_their_plan, moves_follow_their_plan};
 pub use carrying::{copy, move_to};
 pub use conditions::{if_match, ifrange_match, ranges_are_heard, reads};
 pub use copy_laws::copies_are_listed;

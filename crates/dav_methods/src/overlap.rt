@@ -1,6 +1,6 @@
 // Paths that lie one inside the other.
 ghost use Rattle.std.specs.Prelude.{◌≡◌, IfOk, true};
-ghost use Rattle.dav_methods.specs.Overlap.{overlap, same_name};
+ghost use Rattle.dav_model.specs.Overlap.{overlap, same_name};
 
 use caseless::default_case_fold_str;
 use dav_core::DavPath;

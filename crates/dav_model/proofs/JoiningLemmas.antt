@@ -8,6 +8,8 @@ use Rattle.dav_io.specs.declared.failure.NoMemory.{NoMemory}
 use Rattle.dav_core.specs.declared.time.FileTime.{FileTime}
 use Rattle.dav_core.specs.Unchanged.{SameBesidesOpens}
 use Rattle.dav_core.proofs.UnchangedLemmas.{put_same, same_besides, same_besides_then}
+use Rattle.dav_core.specs.declared.method.DavMethod.{DavMethod}
+use Rattle.dav_core.specs.declared.method.DavMethod.TheVariants as writing
 use Rattle.dav_core.specs.Path.{Names}
 use Rattle.dav_core.specs.World.{World}
 use Rattle.dav_model.specs.declared.step.Step.{Step}
@@ -21,11 +23,11 @@ use Rattle.dav_model.specs.Sizes.{read_size_of}
 use Rattle.dav_model.specs.Folds.{Name, has_name}
 use Rattle.dav_model.specs.Rules.{Rules, Knowledge, Learns, Forgets, WasKnown, HasNames, SameDots}
 use Rattle.dav_model.specs.Head.{Reply}
-use Rattle.dav_model.specs.Plans.{Act, does, halts, plan}
+use Rattle.dav_model.specs.Plans.{Act, Ask, does, halts, plan}
 use Rattle.http.specs.Request.{body_of}
 use Rattle.dav_model.specs.Conditions.{Fields}
-use Rattle.dav_model.specs.Requests.{Asked, fields_of}
-use Rattle.dav_model.specs.Written.{Makes, MakesIn, PartOf, ask_of}
+use Rattle.dav_model.specs.Requests.{fields_of}
+use Rattle.dav_model.specs.Written.{Makes, MakesAs, PartOf, ask_of}
 use Rattle.dav_model.specs.Trail.{Point, Move, Goes, Leaves, is_writing, step_leaves, target_of, last_of, steps_of, answers_of, points_of}
 use Rattle.dav_model.specs.Valid.{Valid, Occurs}
 use Rattle.dav_model.specs.Play.{AreFull, AsksUnanswered, MakesUnanswered, Playing, Stage, Stands, Stepped, StaysOpen, Plays, Ends, Played, Learned}
@@ -334,11 +336,16 @@ part_none (does e ∷ acts) v w same = inl same
 pub leaves_same : (s : Point) → Leaves s s
 leaves_same s = both_same s.told s.told SameBesidesOpens same_besides refl
 
+kept_as : (m : DavMethod) (rules : Rules) (ask : Ask) (e : NoMemory) (rose : Type 0) (v w : World) → SameBesidesOpens v w → MakesAs m rules ask (Err e) rose v w
+kept_as writing.Copy rules ask e rose v w same = inl same
+kept_as writing.Move rules ask e rose v w same = inl same
+kept_as other rules ask e rose v w same = λ clear. part_none (plan rules v ask).acts v w same
+
 -- Where nothing changed, nothing of a plan was made.
 pub makes_kept : (target : Target) (rules : Rules) (fields : Fields) (body : List ℕ) (e : NoMemory) (s t : Point) → Leaves s t → Makes target rules fields body (Err e) s t
-makes_kept (Writes method path) rules fields body e s t leaves = λ folds macos alone planned.
-    both_map s.told t.told SameBesidesOpens (MakesIn rules (ask_of method path fields body) (Err e) (Rose s.faults t.faults))
-    (λ v w same clear. part_none (plan rules v (ask_of method path fields body)).acts v w same) leaves
+makes_kept (Writes method path) rules fields body e s t leaves = λ folds macos alone.
+    both_map s.told t.told SameBesidesOpens (MakesAs method rules (ask_of method path fields body) (Err e) (Rose s.faults t.faults))
+    (kept_as method rules (ask_of method path fields body) e (Rose s.faults t.faults)) leaves
 makes_kept (At method path) rules fields body e s t leaves = leaves
 makes_kept Methods rules fields body e s t leaves = leaves
 makes_kept (Refused status close) rules fields body e s t leaves = leaves

@@ -18,3 +18,4 @@ pub mod WellFormedReplies
 pub mod GateStatuses
 pub mod WellFormedRuns
 pub mod NoneUnder
+mod CarryPlanRows

@@ -1,7 +1,10 @@
 pub mod Sizes
 pub mod Unset
 pub mod Walks
+pub mod Destination
+pub mod Overlap
 pub mod Plans
+pub mod CarryPlans
 pub mod Written
 pub mod Bodies
 pub mod Calls

@@ -7,7 +7,7 @@ use Rattle.dav_core.specs.declared.error.FsError.{FsError}
 use Rattle.dav_core.specs.declared.error.FsError.TheVariants as fs
 use Rattle.dav_core.specs.declared.handle.OpenOptions.{OpenOptions}
 use Rattle.dav_core.specs.declared.method.DavMethod.{DavMethod}
-use Rattle.dav_core.specs.declared.method.DavMethod.TheVariants.{Delete, MkAddressbook, MkCalendar, MkCol, Put}
+use Rattle.dav_core.specs.declared.method.DavMethod.TheVariants.{Delete, MkCol, Put}
 use Rattle.dav_core.specs.declared.tree.Row.{Row}
 use Rattle.dav_core.specs.Allowed.{Allowed, is_root, making_dir, opening}
 use Rattle.dav_core.specs.DavPath.{WebPath}
@@ -226,16 +226,8 @@ delete_plan rules w ask = record {
 
 -- ---- all of them
 
--- The methods that have a plan here.
-abbrev pub is_planned : DavMethod → Bool
-is_planned Put = true
-is_planned MkCol = true
-is_planned MkCalendar = true
-is_planned MkAddressbook = true
-is_planned Delete = true
-is_planned other = false
-
--- The plan of a method. (Only methods that write and have one are asked for theirs.)
+-- The plan of a method. (Only methods that write are asked for theirs. COPY and MOVE have plans of their own, by what their fields
+-- ask for.)
 abbrev pub plan_as : DavMethod → Rules → World → Ask → Plan
 plan_as Put rules w ask = put_plan rules w ask
 plan_as MkCol rules w ask = mkcol_plan rules w ask

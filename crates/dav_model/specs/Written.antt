@@ -3,17 +3,22 @@ use Rattle.std.specs.Prelude.{◌≡◌, ◌==◌, ◌⊎◌, ℕ, Bool, true, f
 use Rattle.dav_io.specs.Counts.{Rose}
 use Rattle.dav_io.specs.Told.{Both}
 use Rattle.dav_io.specs.declared.failure.NoMemory.{NoMemory}
+use Rattle.dav_core.specs.declared.dav_error.DavError.{DavError}
 use Rattle.dav_core.specs.declared.method.DavMethod.{DavMethod}
+use Rattle.dav_core.specs.declared.method.DavMethod.TheVariants.{Copy, Move}
 use Rattle.dav_core.specs.DavPath.{WebPath}
 use Rattle.dav_core.specs.Edits.{Edit, Edited, IsPart}
 use Rattle.dav_core.specs.World.{World, SameBesidesOpens}
+use Rattle.dav_model.specs.declared.asked.Asked.{Asked}
 use Rattle.dav_model.specs.declared.target.Target.{Target}
 use Rattle.dav_model.specs.declared.target.Target.TheVariants.{At, Methods, Refused, Writes}
+use Rattle.dav_model.specs.CarryPlans.{carries_link, carry_plan}
 use Rattle.dav_model.specs.Conditions.{Fields}
+use Rattle.dav_model.specs.Destination.{Asks}
 use Rattle.dav_model.specs.Due.{failure}
 use Rattle.dav_model.specs.Finding.{resolved}
 use Rattle.dav_model.specs.Head.{Reply, field, refusal}
-use Rattle.dav_model.specs.Plans.{Act, Ask, Plan, does, halts, is_planned, meets_link, plan}
+use Rattle.dav_model.specs.Plans.{Act, Ask, Plan, does, halts, meets_link, plan}
 use Rattle.dav_model.specs.Rules.{Rules}
 use Rattle.dav_model.specs.Trail.{Leaves, Point}
 use Rattle.dav_model.specs.WellFormed.{is_among}
@@ -79,12 +84,29 @@ abbrev pub MakesIn : Rules → Ask → Result Reply NoMemory → Type 0 → Worl
 MakesIn rules ask result rose v w = meets_link ask.method v.tree (resolved rules v.tree ask.path.names) ≡ false
     → EndsAs ask.fields (plan rules v ask) result rose v w
 
+-- The fields of a COPY or a MOVE ask for something, and what it makes of a told world is what it asked for, where it meets no
+-- link.
+abbrev pub CarriesBy : Rules → Bool → Ask → Result Reply NoMemory → Type 0 → World → World → Type 0
+CarriesBy rules moving ask result rose v w = (asked : Result Asked DavError)
+    × Asks moving rules.settings.prefix ask.fields asked
+    × (carries_link rules v.tree ask.path asked ≡ false → EndsAs ask.fields (carry_plan rules v ask asked) result rose v w)
+
+-- (Memory may be refused before its fields were read.)
+abbrev pub CarriesIn : Rules → Bool → Ask → Result Reply NoMemory → Type 0 → World → World → Type 0
+CarriesIn rules moving ask (Ok reply) rose v w = CarriesBy rules moving ask (Ok reply) rose v w
+CarriesIn rules moving ask (Err e) rose v w = SameBesidesOpens v w ⊎ CarriesBy rules moving ask (Err e) rose v w
+
+-- what a request of a method makes of a told world
+abbrev pub MakesAs : DavMethod → Rules → Ask → Result Reply NoMemory → Type 0 → World → World → Type 0
+MakesAs Copy rules ask = CarriesIn rules false ask
+MakesAs Move rules ask = CarriesIn rules true ask
+MakesAs other rules ask = MakesIn rules ask
+
 -- Only a request that writes changes what stands. Of a store that finds names that fold alike, has the rules of macOS, or
--- serves one file alone, nothing is said, nor of a method that has no plan.
+-- serves one file alone, nothing is said.
 abbrev pub Makes : Target → Rules → Fields → List ℕ → Result Reply NoMemory → Point → Point → Type 0
 Makes (Writes method path) rules fields body result s t = rules.folds ≡ false → rules.macos ≡ false → rules.alone ≡ None
-    → is_planned method ≡ true → Both s.told t.told
-    (MakesIn rules (ask_of method path fields body) result (Rose s.faults t.faults))
+    → Both s.told t.told (MakesAs method rules (ask_of method path fields body) result (Rose s.faults t.faults))
 Makes (At method path) rules fields body result s t = Leaves s t
 Makes Methods rules fields body result s t = Leaves s t
 Makes (Refused status close) rules fields body result s t = Leaves s t

@@ -4,6 +4,7 @@
 #![tactic(auto)]
 
 mod answer;
+mod asked;
 pub mod laws;
 mod outcome;
 mod ranges;
@@ -13,6 +14,7 @@ mod step;
 mod target;
 
 pub use answer::Answer;
+pub use asked::Asked;
 pub use outcome::Outcome;
 pub use ranges::{Ranges, Slice, Slices};
 pub use sent::Sent;

@@ -5,6 +5,7 @@ use Rattle.dav_follows.proofs.plain_stores_follow_rules.Goals as goal
 pub returns : goal.returns
 returns g c = plain_follows _ _ _ tt (record {
   worlds = λ s w told. g.met.D.Disk.world s.disk w told;
+  folds = λ s. refl;
   looks = λ s t path r h. h;
   looks_at_link = λ s t path r h. h;
   opens = λ s t path how r h. h;

@@ -1,5 +1,5 @@
 use Rattle.std.proofs.Common.{◌≡◌, ◌<◌, ℕ, true, [], get_or}
-use Rattle.dav_methods.specs.Overlap.{same_name}
+use Rattle.dav_model.specs.Overlap.{same_name}
 use Rattle.dav_methods.proofs.overlap.meets.Given as goal
 
 abbrev pub invariant-loop-at : goal.invariant-loop-at

@@ -11,7 +11,7 @@ use Rattle.dav_core.specs.DavPath.{WebPath}
 use Rattle.dav_core.specs.Grammar.{begins_with_slash, parsed}
 use Rattle.dav_core.specs.Statuses.{of_path}
 use Rattle.dav_model.specs.Conditions.{Fields, first_bytes}
-use Rattle.dav_methods.specs.declared.asked.Asked.{Asked}
+use Rattle.dav_model.specs.declared.asked.Asked.{Asked}
 
 -- ---- Destination
 

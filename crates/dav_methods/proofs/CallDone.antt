@@ -1,0 +1,34 @@
+-- A call that does what is allowed comes to its act, or to a part of it.
+use Rattle.std.proofs.Common.{◌≡◌, ◌≤◌, [], ◌∷◌, true, Some, Result, Ok, Err, refl, sym, subst, ◌∙◌, inl, inr}
+use Rattle.dav_core.specs.declared.error.FsError.{FsError}
+use Rattle.dav_core.specs.Allowed.{Allowed}
+use Rattle.dav_core.specs.Edits.{Edit, Edited, EditedBy}
+use Rattle.dav_core.specs.Statuses.{of_fs}
+use Rattle.dav_core.specs.World.{World}
+use Rattle.dav_core.specs.Writing.{LeftBy}
+use Rattle.dav_core.proofs.UnchangedLemmas.{same_besides}
+use Rattle.dav_store.specs.View.{Listings, View}
+use Rattle.dav_model.specs.Conditions.{Fields}
+use Rattle.dav_model.specs.Plans.{does}
+use Rattle.dav_model.specs.Written.{PartOf}
+use Rattle.dav_methods.specs.Follows.{Calls, CallsFor}
+use Rattle.dav_methods.specs.Pouring.{Writes}
+use Rattle.dav_methods.specs.Removing.{line_of}
+use Rattle.dav_methods.proofs.ActsJoined.{Comes, spoiled_comes}
+
+part_left : (edit : Edit) (u w : World) → LeftBy true (Ok (Some edit)) u w → PartOf (does edit ∷ []) u w
+part_left edit u w (inl same) = inl same
+part_left edit u w (inr (part, is, edited)) = inr (inl (part, is, edited))
+
+module _ {S C F L E : Type 0} (view : View S C F) (lists : Listings S C L E) (writes : Writes F) (c : C) (fields : Fields) (start : S) where
+  -- what was allowed was done
+  pub call_done : (allowed : Allowed) (edit : Edit) (m t : S) (x : Unit) (u w : World) → allowed ≡ Ok (Some edit) → Calls view lists writes c allowed m (Ok x) t u w → Edited edit u w
+  call_done allowed edit m t x u w is (some, e, done) =
+      let same : some ≡ Some edit = (let f : Ok some ≡ Ok (Some edit) = sym e ∙ is in cc) in subst (λ o. EditedBy o u w) same done
+
+  pub call_comes : (allowed : Allowed) (edit : Edit) (m t : S) (answer : Result Unit FsError) (u w : World) → allowed ≡ Ok (Some edit) → (view.state start).faults ≤ (view.state m).faults
+      → Calls view lists writes c allowed m answer t u w → Comes view fields start (line_of answer) (does edit ∷ []) t u w
+  call_comes allowed edit m t (Ok x) u w is le calls = (w, call_done allowed edit m t x u w is calls, same_besides w)
+  call_comes allowed edit m t (Err f) u w is le (inl (called, same)) = absurd (subst (λ a. CallsFor a f) is called)
+  call_comes allowed edit m t (Err f) u w is le (inr (spoiled, left)) =
+      spoiled_comes view fields start f (of_fs f) (does edit ∷ []) m t u w refl le spoiled (part_left edit u w (subst (λ a. LeftBy true a u w) is left))

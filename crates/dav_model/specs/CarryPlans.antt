@@ -1,0 +1,124 @@
+-- The tables of COPY and MOVE over a world (RFC 4918, sections 9.8 and 9.9): the line that refuses a request, or the changes that
+-- it makes, in their order. What stands at the destination goes first.
+use Rattle.std.specs.Prelude.{◌&&◌, ◌||◌, ◌++◌, ℕ, List, [], ◌∷◌, map, drop, Bool, true, false, cond, not, length, Option, None, Some, Result, Ok, Err}
+use Rattle.std.specs.List.{filter}
+use Rattle.dav_core.specs.declared.dav_error.DavError.{DavError}
+use Rattle.dav_core.specs.declared.method.DavMethod.{DavMethod}
+use Rattle.dav_core.specs.declared.method.DavMethod.TheVariants.{Copy, Move}
+use Rattle.dav_core.specs.declared.tree.Row.{Row}
+use Rattle.dav_core.specs.Allowed.{Allowed, moving}
+use Rattle.dav_core.specs.Changes.{without}
+use Rattle.dav_core.specs.DavPath.{WebPath}
+use Rattle.dav_core.specs.Edits.{makes}
+use Rattle.dav_core.specs.Errors.{fs_error_of}
+use Rattle.dav_core.specs.Path.{Names, same_names}
+use Rattle.dav_core.specs.Statuses.{closes, fs_status, status_of}
+use Rattle.dav_core.specs.Tree.{is_dir, is_linked}
+use Rattle.dav_core.specs.World.{World, bytes_of}
+use Rattle.dav_model.specs.declared.asked.Asked.{Asked}
+use Rattle.dav_model.specs.Finding.{is_forbidden, resolved}
+use Rattle.dav_model.specs.Overlap.{overlap}
+use Rattle.dav_model.specs.Plans.{Act, Ask, Halt, Plan, does, first, halts, has_link_below, has_parent, is_deep_dir, is_dir_found, is_found, line, refused, refused_there, removing, stands, status_over, unless, unmet, when}
+use Rattle.dav_model.specs.Rules.{Rules}
+use Rattle.dav_model.specs.Walks.{dir_first, walk}
+
+abbrev pub method_of : Bool → DavMethod
+method_of true = Move
+method_of false = Copy
+
+-- ---- lines
+
+-- The source is judged before the destination, but for the directory above that.
+abbrev pub may_carry : Rules → World → Ask → Asked → Option Halt
+may_carry rules w ask asked = first (
+    refused (stands rules w ask.path)
+    ∷ when (overlap rules.folds ask.path.names asked.to.names) 403
+    ∷ when (not (has_parent rules w asked.to)) 409
+    ∷ unmet (method_of asked.moving) ask.fields (stands rules w ask.path)
+    ∷ refused_there (stands rules w asked.to)
+    ∷ when (is_found (stands rules w asked.to) && not asked.replaces) 412
+    ∷ [])
+
+-- ---- what stands at the destination
+
+-- the tree without what stands at a path, where something was found there
+abbrev pub cleared : Rules → World → WebPath → List Row
+cleared rules w to = cond (is_found (stands rules w to)) (without (resolved rules w.tree to.names) w.tree) w.tree
+
+abbrev pub clearing : Rules → World → WebPath → List Act
+clearing rules w to = cond (is_found (stands rules w to))
+    (unless (when (is_forbidden rules to) 403) (removing rules w to)) []
+
+-- ---- MOVE
+
+abbrev pub act_of : Allowed → List Act
+act_of (Ok (Some e)) = does e ∷ []
+act_of (Ok None) = []
+act_of (Err e) = halts (line (fs_status (fs_error_of e))) ∷ []
+
+-- Where the destination is found is judged in the tree without what stood there: so the name asked for is made.
+abbrev pub move_acts : Rules → World → WebPath → WebPath → List Act
+move_acts rules w path to = unless (when (is_forbidden rules path || is_forbidden rules to) 403)
+    (act_of (moving (cleared rules w to) (resolved rules w.tree path.names) (resolved rules (cleared rules w to) to.names)))
+
+-- ---- COPY
+
+-- a path that lies as far below another as a row does below a place
+abbrev pub path_below : WebPath → Names → Row → WebPath
+path_below path at row = record path { names = path.names ++ drop (length at) row.path; slash = is_dir row.kind }
+
+-- what clients of macOS may not make, and what of theirs no file stands for
+abbrev pub denies_copy : Rules → WebPath → WebPath → Row → Bool
+denies_copy rules from to row = is_forbidden rules to || (not (is_dir row.kind) && is_forbidden rules from)
+
+-- the bytes with which a row is made again: a directory has none
+abbrev pub bytes_in : World → Row → List ℕ
+bytes_in w row = cond (is_dir row.kind) [] (bytes_of w row.number)
+
+-- A row at or below one place is made again at or below another. No directory is copied whose path has more than 65,536
+-- names.
+abbrev pub copy_act : Rules → World → WebPath → WebPath → Names → Names → Row → Act
+copy_act rules w path to at new row = cond (is_deep_dir row
+    || denies_copy rules (path_below path at row) (path_below to at row) row) (halts (line 403))
+    (does (makes (new ++ drop (length at) row.path) row.kind (bytes_in w row)))
+
+-- the rows that are copied, a directory before its members; or what stands at the place alone
+abbrev pub copied_rows : Bool → Names → List Row → List Row
+copied_rows true at tree = filter (λ row. same_names at row.path) tree
+copied_rows false at tree = walk dir_first at tree
+
+-- (What a look finds may be a file that the tree hasn't.)
+abbrev pub copy_acts : Rules → World → WebPath → WebPath → Bool → List Act
+copy_acts rules w path to alone = unless (when (is_forbidden rules path && not (is_dir_found (stands rules w path))) 403)
+    (map (copy_act rules w path to (resolved rules w.tree path.names) (resolved rules (cleared rules w to) to.names))
+    (copied_rows alone (resolved rules w.tree path.names) w.tree))
+
+-- ---- both
+
+abbrev pub carrying : Bool → Rules → World → WebPath → Asked → List Act
+carrying true rules w path asked = move_acts rules w path asked.to
+carrying false rules w path asked = copy_acts rules w path asked.to asked.alone
+
+-- the plan of what the fields ask for, or are refused with
+abbrev pub carry_plan : Rules → World → Ask → Result Asked DavError → Plan
+carry_plan rules w ask (Err e) = record {
+  acts = halts (record { status = status_of e; close = closes e }) ∷ [];
+  done = 201;
+}
+carry_plan rules w ask (Ok asked) = record {
+  acts = unless (may_carry rules w ask asked)
+      (clearing rules w asked.to ++ carrying asked.moving rules w ask.path asked);
+  done = status_over (stands rules w asked.to);
+}
+
+-- ---- links
+
+-- A link stands on the way to a path, at it or below it.
+abbrev pub has_link_about : List Row → Names → Bool
+has_link_about tree path = is_linked tree path || has_link_below tree path
+
+-- A request that is carried out meets one about its source or about its destination. Of such a request nothing is said.
+abbrev pub carries_link : Rules → List Row → WebPath → Result Asked DavError → Bool
+carries_link rules tree path (Err e) = false
+carries_link rules tree path (Ok asked) = has_link_about tree (resolved rules tree path.names)
+    || has_link_about tree (resolved rules tree asked.to.names)
