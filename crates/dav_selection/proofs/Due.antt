@@ -43,7 +43,8 @@ no_said fs.IsRemote e is = cc
 no_said fs.NoMemory e is = cc
 
 -- a regular file that was opened for reading can be read
-can : (live : Option Live) (kind : Kind) → option_map (λ (l : Live). l.kind) live ≡ Some kind → is_file kind ≡ true → ((l : Live) → live ≡ Some l → l.how ≡ reading) → can_read live ≡ true
+can : (live : Option Live) (kind : Kind) → option_map (λ (l : Live). l.kind) live ≡ Some kind → is_file kind ≡ true
+    → ((l : Live) → live ≡ Some l → l.how ≡ reading) → can_read live ≡ true
 can None kind is file how = cc
 can (Some l) kind is file how =
     let same : l.kind ≡ kind = cc in
@@ -54,28 +55,34 @@ no_record : (taken : List ℕ → Option (List ℕ)) (path : WebPath) (fault : T
 no_record taken path fault stands got u is met = inr (ap (given taken path) is, met)
 
 module _ {S C F L E : Type 0} (view : View S C F) (lists : Listings S C L E) (s : S) (c : C) where
-  after_kind : (b : Bool) (info : Info) (n t : S) (g : F) (got : Result Resource Unread) → Reached view lists s c n → AfterKind view b info g n got t → Reached view lists s c t
+  after_kind : (b : Bool) (info : Info) (n t : S) (g : F) (got : Result Resource Unread) → Reached view lists s c n → AfterKind view b info g n got t
+      → Reached view lists s c t
   after_kind false info n t g got reached (closes, is) = by_file n t (view.handle g) reached closes.done.keeps closes.lent.store
   after_kind true info n t g got reached (read, h, k, reads, closes, is) =
       by_file k t (view.handle h) (by_file n k (view.handle g) reached reads.keeps reads.lent.store) closes.done.keeps closes.lent.store
 
-  after_meta : (said : Result Info FsError) (n t : S) (g : F) (got : Result Resource Unread) → Reached view lists s c n → AfterMeta view said g n got t → Reached view lists s c t
+  after_meta : (said : Result Info FsError) (n t : S) (g : F) (got : Result Resource Unread) → Reached view lists s c n
+      → AfterMeta view said g n got t → Reached view lists s c t
   after_meta (Err e) n t g got reached (closes, is) = by_file n t (view.handle g) reached closes.done.keeps closes.lent.store
   after_meta (Ok info) n t g got reached after = after_kind (is_file info.kind) info n t g got reached after
 
-  after_open : (opened : Result F FsError) (m t : S) (got : Result Resource Unread) → Reached view lists s c m → AfterOpen view opened m got t → HadMemory got → Reached view lists s c t
+  after_open : (opened : Result F FsError) (m t : S) (got : Result Resource Unread) → Reached view lists s c m → AfterOpen view opened m got t
+      → HadMemory got → Reached view lists s c t
   after_open (Err e) m t got reached (same, is) memory = subst (Reached view lists s c) (sym same) reached
   after_open (Ok file) m t got reached (inl (said, g, n, says, after)) memory =
       after_meta said n t g got (by_file m n (view.handle file) reached (keeps_but (view.handle file) (view.state m) (view.state n) says.done.keeps) says.lent.store) after
   after_open (Ok file) m t got reached (inr is) memory = absurd (subst HadMemory is memory)
 
   -- the calls that fetch a resource are a reader's
-  pub fetch_reached : (m t : S) (path : WebPath) (got : Result Resource Unread) → Reached view lists s c m → Fetches view c path m got t → HadMemory got → Reached view lists s c t
-  fetch_reached m t path got reached (opened, k, opens, one, after) memory = after_open opened k t got (by_opening m k path opened reached opens one) after memory
+  pub fetch_reached : (m t : S) (path : WebPath) (got : Result Resource Unread) → Reached view lists s c m → Fetches view c path m got t
+      → HadMemory got → Reached view lists s c t
+  fetch_reached m t path got reached (opened, k, opens, one, after) memory =
+      after_open opened k t got (by_opening m k path opened reached opens one) after memory
 
 module _ {S C F : Type 0} (view : View S C F) (taken : List ℕ → Option (List ℕ)) (path : WebPath) where
   -- a regular file was read
-  read_due : (there : Standing) (f : Seen) (info : Info) (bytes : List ℕ) (fault : Type 0) (got : Result Resource Unread) → IsThere there f → AgreesOpen info f.stands → is_file there.kind ≡ true
+  read_due : (there : Standing) (f : Seen) (info : Info) (bytes : List ℕ) (fault : Type 0) (got : Result Resource Unread) → IsThere there f
+      → AgreesOpen info f.stands → is_file there.kind ≡ true
       → bytes ≡ take info.len (rest_of f) → got ≡ content_of info (Ok bytes) → IsDueOr fault (due taken path (Ok there)) (given taken path got)
   read_due there f info bytes fault got is agrees file read so =
       let same : f ≡ seen_of there = is.file file in
@@ -86,8 +93,10 @@ module _ {S C F : Type 0} (view : View S C F) (taken : List ℕ → Option (List
       let content : got ≡ Ok (resource there.tag (take there.len there.bytes)) = so ∙ (ap (λ t. Ok (resource t bytes)) tag ∙ ap (λ b. Ok (resource there.tag b)) whole) in
       inl (ap (given taken path) content ∙ sym (ap (λ b. if b then given taken path (Ok (resource there.tag (take there.len there.bytes))) else []) file))
 
-  kind_due : (b : Bool) (there : Standing) (f : Seen) (info : Info) (n t : S) (g : F) (got : Result Resource Unread) → is_file info.kind ≡ b → IsThere there f → AgreesOpen info f.stands
-      → seen_in view n g ≡ Some f → (is_file info.kind ≡ true → can_read ((view.state n).live (view.handle g)) ≡ true) → AfterKind view b info g n got t → HadMemory got
+  kind_due : (b : Bool) (there : Standing) (f : Seen) (info : Info) (n t : S) (g : F) (got : Result Resource Unread) → is_file info.kind ≡ b
+      → IsThere there f → AgreesOpen info f.stands
+      → seen_in view n g ≡ Some f → (is_file info.kind ≡ true → can_read ((view.state n).live (view.handle g)) ≡ true)
+      → AfterKind view b info g n got t → HadMemory got
       → IsDueOr (Rose (view.state n).faults (view.state t).faults) (due taken path (Ok there)) (given taken path got)
   kind_due false there f info n t g got kind is agrees seen reads (closes, so) memory =
       let none : is_file there.kind ≡ false = ap is_file (sym (agrees.kind ∙ is.kind)) ∙ kind in
@@ -97,7 +106,8 @@ module _ {S C F : Type 0} (view : View S C F) (taken : List ℕ → Option (List
       read_due there f info bytes (Rose (view.state n).faults (view.state t).faults) got is agrees file (read.told f seen) so
   kind_due true there f info n t g got kind is agrees seen reads (Err e, h, k, read, closes, so) memory = by (read.refused (reads kind))
     where
-      by : Spoiled {T = List ℕ} (view.state n) (Err e) (view.state k) → IsDueOr (Rose (view.state n).faults (view.state t).faults) (due taken path (Ok there)) (given taken path got)
+      by : Spoiled {T = List ℕ} (view.state n) (Err e) (view.state k)
+          → IsDueOr (Rose (view.state n).faults (view.state t).faults) (due taken path (Ok there)) (given taken path got)
       by (inl fault) = no_record taken path (Rose (view.state n).faults (view.state t).faults) (Ok there) got (unread e) so
           (rose_on (view.state n).faults (view.state k).faults (view.state t).faults fault.1 (omega (arith, closes.done.counts)))
       by (inr none) =
@@ -105,7 +115,8 @@ module _ {S C F : Type 0} (view : View S C F) (taken : List ℕ → Option (List
           absurd (subst HadMemory (so ∙ ap (λ x. Err (unread x)) same) memory)
 
   -- the file that was opened is what stands there
-  opened_due : (there : Standing) (f : Seen) (file : F) (m k t : S) (got : Result Resource Unread) → OpensOne view.handle view.seen reading (view.state m) (Ok file) (view.state k)
+  opened_due : (there : Standing) (f : Seen) (file : F) (m k t : S) (got : Result Resource Unread)
+      → OpensOne view.handle view.seen reading (view.state m) (Ok file) (view.state k)
       → view.seen file (view.state k) ≡ Some f → IsThere there f → AfterOpen view (Ok file) k got t → HadMemory got
       → IsDueOr (Rose (view.state m).faults (view.state t).faults) (due taken path (Ok there)) (given taken path got)
   opened_due there f file m k t got one seen is (inr none) memory = absurd (subst HadMemory none memory)
@@ -128,7 +139,8 @@ module _ {S C F : Type 0} (view : View S C F) (taken : List ℕ → Option (List
       later (inl same) up = inl same
       later (inr (none, fault)) up = inr (none, up fault)
 
-  there_due : (stands : Result Standing FsError) (opened : Result F FsError) (m k t : S) (got : Result Resource Unread) → OpensOne view.handle view.seen reading (view.state m) opened (view.state k)
+  there_due : (stands : Result Standing FsError) (opened : Result F FsError) (m k t : S) (got : Result Resource Unread)
+      → OpensOne view.handle view.seen reading (view.state m) opened (view.state k)
       → OpensThere view.seen stands opened (view.state k) → AfterOpen view opened k got t → HadMemory got
       → IsDueOr (Rose (view.state m).faults (view.state t).faults) (due taken path stands) (given taken path got)
   there_due (Ok there) (Ok file) m k t got one (f, seen, is) after memory = opened_due there f file m k t got one seen is after memory
@@ -136,8 +148,10 @@ module _ {S C F : Type 0} (view : View S C F) (taken : List ℕ → Option (List
   there_due (Err e) (Ok file) m k t got one shown after memory = absurd shown
   there_due (Err e) (Err x) m k t got one shown after memory = inl (ap (given taken path) after.1)
 
-  pub answer_due : (stands : Result Standing FsError) (opened : Result F FsError) (m k t : S) (got : Result Resource Unread) → OpensOne view.handle view.seen reading (view.state m) opened (view.state k)
-      → OpensThere view.seen stands opened (view.state k) ⊎ Spoiled (view.state m) opened (view.state k) → AfterOpen view opened k got t → HadMemory got
+  pub answer_due : (stands : Result Standing FsError) (opened : Result F FsError) (m k t : S) (got : Result Resource Unread)
+      → OpensOne view.handle view.seen reading (view.state m) opened (view.state k)
+      → OpensThere view.seen stands opened (view.state k) ⊎ Spoiled (view.state m) opened (view.state k) → AfterOpen view opened k got t
+      → HadMemory got
       → IsDueOr (Rose (view.state m).faults (view.state t).faults) (due taken path stands) (given taken path got)
   answer_due stands opened m k t got one (inl shown) after memory = there_due stands opened m k t got one shown after memory
   answer_due stands opened m k t got one (inr (inl fault)) after memory =
@@ -148,7 +162,8 @@ module _ {S C F : Type 0} (view : View S C F) (taken : List ℕ → Option (List
       absurd (subst HadMemory so memory)
 
   -- metadata is refused by a fault
-  said_refused : (said : Result Info FsError) (g : F) (k n t : S) (e : FsError) (got : Result Resource Unread) → got ≡ Err (Unsaid e) → AfterMeta view said g n got t
+  said_refused : (said : Result Info FsError) (g : F) (k n t : S) (e : FsError) (got : Result Resource Unread) → got ≡ Err (Unsaid e)
+      → AfterMeta view said g n got t
       → OnErr said (IsFault (view.state k) said (view.state n)) → (e ≡ fs.GeneralFailure) × Rose (view.state k).faults (view.state t).faults
   said_refused (Err x) g k n t e got is (closes, so) fault =
       let same : x ≡ e = cc in
@@ -161,7 +176,8 @@ module _ {S C F : Type 0} (view : View S C F) (taken : List ℕ → Option (List
       by true (Ok bytes, h, j, reads, closes, so) = cc
       by true (Err x, h, j, reads, closes, so) = no_said x e (cc)
 
-  pub fetch_refused : (c : C) (m t : S) (e : FsError) (got : Result Resource Unread) → got ≡ Err (Unsaid e) → Fetches view c path m got t → (e ≡ fs.GeneralFailure) × Rose (view.state m).faults (view.state t).faults
+  pub fetch_refused : (c : C) (m t : S) (e : FsError) (got : Result Resource Unread) → got ≡ Err (Unsaid e) → Fetches view c path m got t
+      → (e ≡ fs.GeneralFailure) × Rose (view.state m).faults (view.state t).faults
   fetch_refused c m t e got is (Err x, k, opens, one, (same, so)) = absurd (no_said x e (cc))
   fetch_refused c m t e got is (Ok file, k, opens, one, inr none) = cc
   fetch_refused c m t e got is (Ok file, k, opens, one, inl (said, g, n, says, after)) =

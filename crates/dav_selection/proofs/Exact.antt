@@ -18,12 +18,14 @@ module _ (fault : Type 0) (never : fault → ⊥) where
   first_due due given (inl same) = same
   first_due due given (inr (none, met)) = absurd (never met)
 
-  given_exact : (due : WebPath → List Record) (paths : List WebPath) (records : List Record) → AreGiven due fault paths records → records ≡ flat_map due paths
+  given_exact : (due : WebPath → List Record) (paths : List WebPath) (records : List Record) → AreGiven due fault paths records
+      → records ≡ flat_map due paths
   given_exact due [] records none = none
   given_exact due (path ∷ paths) records (first, rest, e, is, more) =
       e ∙ (ap (λ z. z ++ rest) (first_due (due path) first is) ∙ ap (λ z. due path ++ z) (given_exact due paths rest more))
 
-  linked_exact : (due : List ℕ → List Record) (hrefs : List (List ℕ)) (records : List Record) (lost : List (List ℕ)) → AreLinked due fault hrefs records lost
+  linked_exact : (due : List ℕ → List Record) (hrefs : List (List ℕ)) (records : List Record) (lost : List (List ℕ))
+      → AreLinked due fault hrefs records lost
       → (records ≡ flat_map due hrefs) × (lost ≡ lacking due hrefs)
   linked_exact due [] records lost none = none
   linked_exact due (href ∷ hrefs) records lost (inl (r, rest, is, e, more)) =
@@ -39,7 +41,8 @@ module _ (fault : Type 0) (never : fault → ⊥) where
   linked_exact due (href ∷ hrefs) records lost (inr (rest, inr met, e, more)) = absurd (never met)
 
   -- no member is lost
-  none_lost : (all listed lost sorted : List Member) → IsPermutation all (listed ++ lost) → (lost ≡ []) ⊎ fault → AreInOrder listed sorted → AreInOrder all sorted
+  none_lost : (all listed lost sorted : List Member) → IsPermutation all (listed ++ lost) → (lost ≡ []) ⊎ fault → AreInOrder listed sorted
+      → AreInOrder all sorted
   none_lost all listed lost sorted each (inr met) order = absurd (never met)
   none_lost all listed lost sorted each (inl none) order =
       let whole : listed ++ lost ≡ listed = ap (λ z. listed ++ z) none ∙ append-nil listed in
@@ -53,7 +56,8 @@ module _ (fault : Type 0) (never : fault → ⊥) where
     is.first ∙ ap (at_most q.limit) (given_exact (due_at q.taken stock) (map (member_path q.dir) is.sorted) is.all_given is.gives),
   )
 
-  pub query_exact : (q : Sought) (stock : Stock) (all : List Member) (report : Report) → stock.listed q.dir ≡ Ok all → IsRight (queries q) stock fault (Ok report)
+  pub query_exact : (q : Sought) (stock : Stock) (all : List Member) (report : Report) → stock.listed q.dir ≡ Ok all
+      → IsRight (queries q) stock fault (Ok report)
       → (sorted : List Member) × AreInOrder all sorted × (report.records ≡ at_most q.limit (flat_map (due_at q.taken stock) (map (member_path q.dir) sorted))) × (report.missing ≡ [])
   query_exact q stock all report listed (Ok records, is, same) =
       let told = subst (λ (found : Result (List Member) FsError). IsQueried q found stock fault (Ok records)) listed is in

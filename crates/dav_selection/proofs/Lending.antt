@@ -29,11 +29,13 @@ spoiled_from s m t e le (inl fault) = let same = fault.0 in inl (cc, rose_from s
 spoiled_from s m t e le (inr memory) = inr cc
 
 -- the front that was read, and the next bytes
-front_more : (k n : ℕ) (rest bytes new : List ℕ) → bytes ≡ take k rest → length bytes ≡ k → k ≤ length rest → n ≤ length (drop k rest) → new ≡ bytes ++ take n (drop k rest) → new ≡ take (k + n) rest
+front_more : (k n : ℕ) (rest bytes new : List ℕ) → bytes ≡ take k rest → length bytes ≡ k → k ≤ length rest → n ≤ length (drop k rest)
+    → new ≡ bytes ++ take n (drop k rest) → new ≡ take (k + n) rest
 front_more k n rest bytes new front long within more e = e ∙ (ap (λ xs. xs ++ take n (drop k rest)) front ∙ sym (take-add k n rest))
 
 -- all that stands was read
-all_there : (len : ℕ) (rest bytes : List ℕ) → bytes ≡ take (length bytes) rest → length bytes ≤ length rest → length bytes ≤ len → drop (length bytes) rest ≡ [] → bytes ≡ take len rest
+all_there : (len : ℕ) (rest bytes : List ℕ) → bytes ≡ take (length bytes) rest → length bytes ≤ length rest → length bytes ≤ len
+    → drop (length bytes) rest ≡ [] → bytes ≡ take len rest
 all_there len rest bytes front within le none =
     let whole : bytes ≡ rest = front ∙ (sym (append-nil (take (length bytes) rest)) ∙ (ap (λ xs. take (length bytes) rest ++ xs) (sym none) ∙ take-append-drop (length bytes) rest)) in
     let short : length rest ≤ len = subst (λ xs. length xs ≤ len) whole le in
@@ -48,7 +50,8 @@ module _ {S C F : Type 0} (view : View S C F) where
     lent = record { store = same; loan = refl };
   }
 
-  pub touches_then : ((a b c : S) → view.lends a b → view.lends b c → view.lends a c) → (s m t : S) (file g h : F) → Touches view s file m g → Touches view m g t h → Touches view s file t h
+  pub touches_then : ((a b c : S) → view.lends a b → view.lends b c → view.lends a c) → (s m t : S) (file g h : F) → Touches view s file m g
+      → Touches view m g t h → Touches view s file t h
   touches_then then s m t file g h p q = record {
     keeps = but_then (view.handle file) (view.state s) (view.state m) (view.state t) p.keeps (subst (λ n. KeepsBut n (view.state m) (view.state t)) p.handle q.keeps);
     live = subst (λ n. (view.state t).live n ≡ (view.state m).live n) p.handle q.live ∙ p.live;
@@ -56,14 +59,16 @@ module _ {S C F : Type 0} (view : View S C F) where
     lent = record { store = then s m t p.lent.store q.lent.store; loan = q.lent.loan ∙ p.lent.loan };
   }
 
-  pub closes_then : ((a b c : S) → view.lends a b → view.lends b c → view.lends a c) → (s m t : S) (file g : F) → Touches view s file m g → Closes view m g t → ClosesAfter view (view.handle file) s t
+  pub closes_then : ((a b c : S) → view.lends a b → view.lends b c → view.lends a c) → (s m t : S) (file g : F) → Touches view s file m g
+      → Closes view m g t → ClosesAfter view (view.handle file) s t
   closes_then then s m t file g p q = record {
     keeps = but_then (view.handle file) (view.state s) (view.state m) (view.state t) p.keeps (subst (λ n. KeepsBut n (view.state m) (view.state t)) p.handle q.done.keeps);
     live = subst (λ n. (view.state t).live n ≡ None) p.handle q.done.live;
     lent = record { store = then s m t p.lent.store q.lent.store; loan = q.lent.loan ∙ p.lent.loan };
   }
 
-  pub closes_before : ((a b c : S) → view.lends a b → view.lends b c → view.lends a c) → (s m t : S) (file g : F) → Touches view s file m g → ClosesAfter view (view.handle g) m t → ClosesAfter view (view.handle file) s t
+  pub closes_before : ((a b c : S) → view.lends a b → view.lends b c → view.lends a c) → (s m t : S) (file g : F) → Touches view s file m g
+      → ClosesAfter view (view.handle g) m t → ClosesAfter view (view.handle file) s t
   closes_before then s m t file g p q = record {
     keeps = but_then (view.handle file) (view.state s) (view.state m) (view.state t) p.keeps (subst (λ n. KeepsBut n (view.state m) (view.state t)) p.handle q.keeps);
     live = subst (λ n. (view.state t).live n ≡ None) p.handle q.live;
@@ -77,7 +82,8 @@ module _ {S C F : Type 0} (view : View S C F) where
     within = omega arith;
   }
 
-  pub so_far_more : (f : Seen) (bytes new : List ℕ) (n : ℕ) (m t : S) (file g : F) → ReadSoFar view f bytes m file → Appends view (moved_by (length bytes) f) bytes (Ok n) new t g
+  pub so_far_more : (f : Seen) (bytes new : List ℕ) (n : ℕ) (m t : S) (file g : F) → ReadSoFar view f bytes m file
+      → Appends view (moved_by (length bytes) f) bytes (Ok n) new t g
       → length new ≡ length bytes + n → ReadSoFar view f new t g
   so_far_more f bytes new n m t file g far (at, within, is, none) long =
       let rest : rest_of (moved_by (length bytes) f) ≡ drop (length bytes) (rest_of f) = sym (drop-drop (length bytes) f.place f.stands.bytes) in
@@ -102,8 +108,10 @@ module _ {S C F : Type 0} (view : View S C F) where
   }
 
   -- a read was refused
-  pub stops_after : ((a b c : S) → view.lends a b → view.lends b c → view.lends a c) → (s m t : S) (file g h : F) (len : ℕ) (e : FsError) → Touches view s file m g → Touches view m g t h
-      → (can_read ((view.state m).live (view.handle g)) ≡ true → Spoiled {T = ℕ} (view.state m) (Err e) (view.state t)) → ReadsTo view s file len (Err e) t h
+  pub stops_after : ((a b c : S) → view.lends a b → view.lends b c → view.lends a c) → (s m t : S) (file g h : F) (len : ℕ) (e : FsError)
+      → Touches view s file m g → Touches view m g t h
+      → (can_read ((view.state m).live (view.handle g)) ≡ true → Spoiled {T = ℕ} (view.state m) (Err e) (view.state t))
+      → ReadsTo view s file len (Err e) t h
   stops_after then s m t file g h len e p q refused =
       let all = touches_then then s m t file g h p q in
       record {
@@ -118,7 +126,8 @@ module _ {S C F : Type 0} (view : View S C F) where
       }
 
   -- so many bytes were read
-  pub full_after : (s t : S) (file h : F) (len : ℕ) (bytes : List ℕ) → Touches view s file t h → ((f : Seen) → seen_in view s file ≡ Some f → ReadSoFar view f bytes t h)
+  pub full_after : (s t : S) (file h : F) (len : ℕ) (bytes : List ℕ) → Touches view s file t h
+      → ((f : Seen) → seen_in view s file ≡ Some f → ReadSoFar view f bytes t h)
       → length bytes ≡ len → ReadsTo view s file len (Ok bytes) t h
   full_after s t file h len bytes p told long = record {
     keeps = p.keeps;
@@ -131,8 +140,10 @@ module _ {S C F : Type 0} (view : View S C F) where
   }
 
   -- no byte came
-  pub ends_after : ((a b c : S) → view.lends a b → view.lends b c → view.lends a c) → (s m t : S) (file g h : F) (len left n : ℕ) (bytes new : List ℕ) → Touches view s file m g → Touches view m g t h
-      → ((f : Seen) → seen_in view s file ≡ Some f → ReadSoFar view f bytes m g) → ((f : Seen) → seen_in view m g ≡ Some f → Appends view f bytes (Ok n) new t h)
+  pub ends_after : ((a b c : S) → view.lends a b → view.lends b c → view.lends a c) → (s m t : S) (file g h : F) (len left n : ℕ) (bytes new : List ℕ)
+      → Touches view s file m g → Touches view m g t h
+      → ((f : Seen) → seen_in view s file ≡ Some f → ReadSoFar view f bytes m g)
+      → ((f : Seen) → seen_in view m g ≡ Some f → Appends view f bytes (Ok n) new t h)
       → n ≡ 0 → length bytes + left ≡ len → length new ≡ length bytes + n → ReadsTo view s file len (Ok new) t h
   ends_after then s m t file g h len left n bytes new p q told next none count long =
       let all = touches_then then s m t file g h p q in

@@ -24,11 +24,13 @@ use Rattle.dav_selection.specs.Shown.{AreLinked, IsDueOr, IsFollowed, ShowsAt, S
 use Rattle.dav_selection.proofs.Due.{fetch_due, fetch_reached}
 use Rattle.dav_selection.proofs.Selected.{all_from, all_split, due_later}
 
-linked_later : {A B : Type 0} (due : List ℕ → List Record) (hrefs : List (List ℕ)) (records : List Record) (lost : List (List ℕ)) → (A → B) → AreLinked due A hrefs records lost → AreLinked due B hrefs records lost
+linked_later : {A B : Type 0} (due : List ℕ → List Record) (hrefs : List (List ℕ)) (records : List Record) (lost : List (List ℕ)) → (A → B)
+    → AreLinked due A hrefs records lost → AreLinked due B hrefs records lost
 linked_later due [] records lost up none = none
 linked_later due (href ∷ hrefs) records lost up (inl (r, rest, is, e, more)) = inl (r, rest, is, e, linked_later due hrefs rest lost up more)
 linked_later due (href ∷ hrefs) records lost up (inr (rest, inl none, e, more)) = inr (rest, inl none, e, linked_later due hrefs records rest up more)
-linked_later due (href ∷ hrefs) records lost up (inr (rest, inr fault, e, more)) = inr (rest, inr (up fault), e, linked_later due hrefs records rest up more)
+linked_later due (href ∷ hrefs) records lost up (inr (rest, inr fault, e, more)) =
+    inr (rest, inr (up fault), e, linked_later due hrefs records rest up more)
 
 -- a resource gives one record at most
 abbrev IsShort : List Record → Type 0
@@ -45,16 +47,21 @@ given_short taken path (Ok r) = option_short (option_map (record_of path r.etag)
 given_short taken path (Err e) = tt
 
 -- one more link
-one_linked : (due : List ℕ → List Record) (fault : Type 0) (href : List ℕ) (records : List Record) (lost : List (List ℕ)) (given : List Record) → records ≡ [] → lost ≡ [] → IsDueOr fault (due href) given
+one_linked : (due : List ℕ → List Record) (fault : Type 0) (href : List ℕ) (records : List Record) (lost : List (List ℕ)) (given : List Record)
+    → records ≡ [] → lost ≡ [] → IsDueOr fault (due href) given
     → IsShort given → AreLinked due fault (href ∷ []) (records ++ given) (lost ++ unless (is_given given) href)
-one_linked due fault href records lost [] none_r none_l (inl same) few = inr ([], inl (sym same), ap (λ z. z ++ href ∷ []) none_l, (ap (λ z. z ++ []) none_r, refl))
-one_linked due fault href records lost [] none_r none_l (inr (none, met)) few = inr ([], inr met, ap (λ z. z ++ href ∷ []) none_l, (ap (λ z. z ++ []) none_r, refl))
-one_linked due fault href records lost (r ∷ []) none_r none_l (inl same) few = inl (r, [], sym same, ap (λ z. z ++ r ∷ []) none_r, (refl, ap (λ z. z ++ []) none_l))
+one_linked due fault href records lost [] none_r none_l (inl same) few =
+    inr ([], inl (sym same), ap (λ z. z ++ href ∷ []) none_l, (ap (λ z. z ++ []) none_r, refl))
+one_linked due fault href records lost [] none_r none_l (inr (none, met)) few =
+    inr ([], inr met, ap (λ z. z ++ href ∷ []) none_l, (ap (λ z. z ++ []) none_r, refl))
+one_linked due fault href records lost (r ∷ []) none_r none_l (inl same) few =
+    inl (r, [], sym same, ap (λ z. z ++ r ∷ []) none_r, (refl, ap (λ z. z ++ []) none_l))
 one_linked due fault href records lost (r ∷ []) none_r none_l (inr (none, met)) few = cc
 one_linked due fault href records lost (r ∷ q ∷ rest) none_r none_l is few = absurd few
 
 linked_push : (due : List ℕ → List Record) (fault : Type 0) (hrefs : List (List ℕ)) (href : List ℕ) (records : List Record) (lost : List (List ℕ)) (given : List Record)
-    → AreLinked due fault hrefs records lost → IsDueOr fault (due href) given → IsShort given → AreLinked due fault (hrefs ++ href ∷ []) (records ++ given) (lost ++ unless (is_given given) href)
+    → AreLinked due fault hrefs records lost → IsDueOr fault (due href) given → IsShort given
+    → AreLinked due fault (hrefs ++ href ∷ []) (records ++ given) (lost ++ unless (is_given given) href)
 linked_push due fault [] href records lost given (none_r, none_l) is few = one_linked due fault href records lost given none_r none_l is few
 linked_push due fault (first ∷ hrefs) href records lost given (inl (r, rest, has, e, more)) is few =
     inl (r, rest ++ given, has, ap (λ z. z ++ given) e, linked_push due fault hrefs href rest lost given more is few)
@@ -72,7 +79,8 @@ module _ {S C F L E : Type 0} (view : View S C F) (lists : Listings S C L E) (s 
     gives : IsDueOr (Rose (view.state m).faults (view.state t).faults) (due_of asked stock href) (answer_given asked.taken answer)
     few : IsShort (answer_given asked.taken answer)
 
-  led : (m t : S) (href : List ℕ) (answer : Option Answer) → Reached view lists s c m → Leads view c asked.prefix href m answer t → ShowsBy view lists s c stock (parsed href asked.prefix) → Led m t href answer
+  led : (m t : S) (href : List ℕ) (answer : Option Answer) → Reached view lists s c m → Leads view c asked.prefix href m answer t
+      → ShowsBy view lists s c stock (parsed href asked.prefix) → Led m t href answer
   led m t href None reached (same, (fault, is)) shows = record {
     reached = subst (Reached view lists s c) (sym same) reached;
     counts = subst (λ x. (view.state m).faults ≤ (view.state x).faults) (sym same) ((reached_stays view lists m c m by_none).counts);
@@ -91,7 +99,8 @@ module _ {S C F L E : Type 0} (view : View S C F) (lists : Listings S C L E) (s 
   abbrev href_of : Link → List ℕ
   href_of l = l.href
 
-  followed_due : (t : S) (links : List Link) → Followed view c asked.prefix s links t → AllByRecursion (λ (l : Link). ShowsBy view lists s c stock (parsed l.href asked.prefix)) links
+  followed_due : (t : S) (links : List Link) → Followed view c asked.prefix s links t
+      → AllByRecursion (λ (l : Link). ShowsBy view lists s c stock (parsed l.href asked.prefix)) links
       → Reached view lists s c t
       × AreLinked (due_of asked stock) (Rose (view.state s).faults (view.state t).faults) (map href_of links) (linked asked.taken links) (missing asked.taken links)
   followed_due t links began shows = (by_none, (refl, refl))
@@ -118,7 +127,8 @@ module _ {S C F L E : Type 0} (view : View S C F) (lists : Listings S C L E) (s 
             (subst (AreLinked due fault (map href_of links ++ href ∷ []) (linked asked.taken links ++ given)) lost all)),
       )
 
-  followed_right : (t : S) (result : Result Report ReportError) → Follows view c asked s result t → All (λ href. ShowsBy view lists s c stock (parsed href asked.prefix)) asked.hrefs
+  followed_right : (t : S) (result : Result Report ReportError) → Follows view c asked s result t
+      → All (λ href. ShowsBy view lists s c stock (parsed href asked.prefix)) asked.hrefs
       → IsFollowed asked stock (Rose (view.state s).faults (view.state t).faults) result
   followed_right t (Ok report) leading shows =
       let each = recursion_from_All (λ href. ShowsBy view lists s c stock (parsed href asked.prefix)) asked.hrefs shows in
@@ -131,7 +141,8 @@ module _ {S C F L E : Type 0} (view : View S C F) (lists : Listings S C L E) (s 
       (subst (AreLinked due fault (map href_of leading.links) (linked asked.taken leading.links)) (sym leading.lost) (followed_due t leading.links leading.followed each_link).1))
   followed_right t (Err e) never shows = absurd never
 
-  pub followed_or : (t : S) (result : Result Report ReportError) → Follows view c asked s result t ⊎ (result ≡ Err error.NoMemory) → All (λ href. ShowsBy view lists s c stock (parsed href asked.prefix)) asked.hrefs
+  pub followed_or : (t : S) (result : Result Report ReportError) → Follows view c asked s result t ⊎ (result ≡ Err error.NoMemory)
+      → All (λ href. ShowsBy view lists s c stock (parsed href asked.prefix)) asked.hrefs
       → IsFollowed asked stock (Rose (view.state s).faults (view.state t).faults) result ⊎ (result ≡ Err error.NoMemory)
   followed_or t result (inl follows) shows = inl (followed_right t result follows shows)
   followed_or t result (inr none) shows = inr none

@@ -11,7 +11,8 @@ use Rattle.dav_report.specs.declared.error.ReportError.{ReportError}
 use Rattle.dav_report.specs.declared.error.ReportError.TheVariants.{NoMemory}
 use Rattle.dav_selection.specs.Reports.{AreInOrder, Queries, Selects, Sought, name_of}
 
-pub in_order : (members sorted slice : List Member) → IsPermutation members sorted → IsSortedByKey name_of (slice_cmp nat_cmp) sorted → slice ≡ sorted → AreInOrder members slice
+pub in_order : (members sorted slice : List Member) → IsPermutation members sorted → IsSortedByKey name_of (slice_cmp nat_cmp) sorted → slice ≡ sorted
+    → AreInOrder members slice
 in_order members sorted slice each order same = subst (AreInOrder members) (sym same) (record { each = each; order = order })
 
 pub listed_then : {S C F L E : Type 0} (view : View S C F) (lists : Listings S C L E) (c : C) (q : Sought) (s begin t : S) (members sorted slice : List Member) (result : Result (List Record) ReportError)

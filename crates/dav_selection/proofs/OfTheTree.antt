@@ -28,11 +28,13 @@ abbrev IsFreeAt : World → Names → Row → Type 0
 IsFreeAt w dir row = is_linked w.tree (dir ++ name_of row ∷ []) ≡ false
 
 -- no link stands at the paths of rows that stand in a directory
-free_rows : (w : World) (dir : Names) (rows : List Row) → AllByRecursion (StandsIn w.tree dir) rows → AllByRecursion (λ row. is_linked w.tree row.path ≡ false) rows → AllByRecursion (IsFreeAt w dir) rows
+free_rows : (w : World) (dir : Names) (rows : List Row) → AllByRecursion (StandsIn w.tree dir) rows
+    → AllByRecursion (λ row. is_linked w.tree row.path ≡ false) rows → AllByRecursion (IsFreeAt w dir) rows
 free_rows w dir [] stand free = tt
 free_rows w dir (row ∷ rows) stand free = (ap (is_linked w.tree) (sym stand.0.path) ∙ free.0, free_rows w dir rows stand.1 free.1)
 
-free_found : (w : World) (dir : Names) (found : Result Row DiskError) (all : List Member) → found ≡ listable (look w.tree dir) → members_of w dir found ≡ Ok all → IsWorld w → HasNoLinks w dir
+free_found : (w : World) (dir : Names) (found : Result Row DiskError) (all : List Member) → found ≡ listable (look w.tree dir)
+    → members_of w dir found ≡ Ok all → IsWorld w → HasNoLinks w dir
     → AllByRecursion (λ (m : Member). is_linked w.tree (dir ++ m.name ∷ []) ≡ false) all
 free_found w dir (Err e) all is told world links = cc
 free_found w dir (Ok row) all is told world links =
@@ -49,15 +51,18 @@ module _ {S C F L E : Type 0} (view : View S C F) (lists : Listings S C L E) (s 
   led_by (Ok path) free = files path free
   led_by (Err e) free = tt
 
-  pub tree_shown : (dir : WebPath) (q : Selection) → IsWorld w → (HasNoLinks w dir.names → ShowsMembers view lists s c dir (members_found w dir)) → IsOf dir q → MeetsNoLink w q
+  pub tree_shown : (dir : WebPath) (q : Selection) → IsWorld w → (HasNoLinks w dir.names → ShowsMembers view lists s c dir (members_found w dir))
+      → IsOf dir q → MeetsNoLink w q
       → ShowsFor view lists s c (stock_of w) q
   tree_shown dir (queries q) world lists_so is links = record {
-    members = subst (λ d. ShowsMembers view lists s c d (members_found w d)) (sym is) (lists_so (subst (λ (d : WebPath). HasNoLinks w d.names) is links));
+    members =
+        subst (λ d. ShowsMembers view lists s c d (members_found w d)) (sym is) (lists_so (subst (λ (d : WebPath). HasNoLinks w d.names) is links));
     files = λ all told. All-from_recursion (λ m. ShowsAt view lists s c (stock_of w) (member_path q.dir m)) all
         (all_map (λ (m : Member). is_linked w.tree (q.dir.names ++ m.name ∷ []) ≡ false) (λ m. ShowsAt view lists s c (stock_of w) (member_path q.dir m)) all
         (λ m free. files (member_path q.dir m) free) (free_found w q.dir.names (listable (look w.tree q.dir.names)) all refl told world links));
   }
-  tree_shown dir (follows asked) world lists_so is links = All-from_recursion (λ href. ShowsBy view lists s c (stock_of w) (parsed href asked.prefix)) asked.hrefs
+  tree_shown dir (follows asked) world lists_so is links =
+      All-from_recursion (λ href. ShowsBy view lists s c (stock_of w) (parsed href asked.prefix)) asked.hrefs
       (all_map (λ href. IsFreeBy w (parsed href asked.prefix)) (λ href. ShowsBy view lists s c (stock_of w) (parsed href asked.prefix)) asked.hrefs (λ href free. led_by (parsed href asked.prefix) free)
       (recursion_from_All (λ href. IsFreeBy w (parsed href asked.prefix)) asked.hrefs links))
   tree_shown dir (refuses e) world lists_so is links = tt

@@ -65,7 +65,8 @@ pub due_later : {A B : Type 0} (due given : List Record) → (A → B) → IsDue
 due_later due given up (inl same) = inl same
 due_later due given up (inr (none, fault)) = inr (none, up fault)
 
-given_then : (due : WebPath → List Record) (fault : Type 0) (xs ys : List WebPath) (a b : List Record) → AreGiven due fault xs a → AreGiven due fault ys b → AreGiven due fault (xs ++ ys) (a ++ b)
+given_then : (due : WebPath → List Record) (fault : Type 0) (xs ys : List WebPath) (a b : List Record) → AreGiven due fault xs a
+    → AreGiven due fault ys b → AreGiven due fault (xs ++ ys) (a ++ b)
 given_then due fault [] ys a b e more = subst (AreGiven due fault ys) (ap (λ z. z ++ b) (sym e)) more
 given_then due fault (x ∷ xs) ys a b (first, rest, e, is, before) more =
     (first, rest ++ b, ap (λ z. z ++ b) e ∙ append_assoc first rest b, is, given_then due fault xs ys rest b before more)
@@ -81,7 +82,8 @@ AnswersDue taken stock fault answers = AllByRecursion (λ (a : Answer). IsDueOr 
 given_of : (taken : List ℕ → Option (List ℕ)) (stock : Stock) (fault : Type 0) (answers : List Answer) → AnswersDue taken stock fault answers
     → AreGiven (due_at taken stock) fault (map (λ (a : Answer). a.path) answers) (records taken answers)
 given_of taken stock fault [] all = refl
-given_of taken stock fault (a ∷ answers) all = (given taken a.path a.got, records taken answers, refl, all.0, given_of taken stock fault answers all.1)
+given_of taken stock fault (a ∷ answers) all =
+    (given taken a.path a.got, records taken answers, refl, all.0, given_of taken stock fault answers all.1)
 
 -- ---- no more than are wanted
 
@@ -93,11 +95,13 @@ short : (taken : List ℕ → Option (List ℕ)) (path : WebPath) (got : Result 
 short taken path (Ok r) = short_option (option_map (record_of path r.etag) (taken r.content))
 short taken path (Err e) = omega arith
 
-records_push : (taken : List ℕ → Option (List ℕ)) (answers : List Answer) (a : Answer) → length (records taken (answers ++ a ∷ [])) ≡ length (records taken answers) + length (given taken a.path a.got)
+records_push : (taken : List ℕ → Option (List ℕ)) (answers : List Answer) (a : Answer)
+    → length (records taken (answers ++ a ∷ [])) ≡ length (records taken answers) + length (given taken a.path a.got)
 records_push taken answers a = ap length (flat_map-append (λ (x : Answer). given taken x.path x.got) answers (a ∷ []) ∙ ap (λ z. records taken answers ++ z) (append-nil (given taken a.path a.got)))
     ∙ length-append (records taken answers) (given taken a.path a.got)
 
-within : (taken : List ℕ → Option (List ℕ)) (limit n : ℕ) (answers : List Answer) → length answers ≡ n → ((k : ℕ) → k < n → length (records taken (take k answers)) < limit)
+within : (taken : List ℕ → Option (List ℕ)) (limit n : ℕ) (answers : List Answer) → length answers ≡ n
+    → ((k : ℕ) → k < n → length (records taken (take k answers)) < limit)
     → length (records taken answers) ≤ limit
 within taken limit n [] long few = omega arith
 within taken limit zero (a ∷ answers) long few = absurd (omega (arith, long))
@@ -108,7 +112,8 @@ within taken limit (suc n) (a ∷ answers) long few =
     let count : length (records taken all) ≡ length (records taken (take n all)) + length (given taken last.path last.got) = ap (λ xs. length (records taken xs)) parts ∙ records_push taken (take n all) last in
     omega (arith, count, few n (omega arith), short taken last.path last.got)
 
-at_limit : (limit : Option ℕ) (rs rest : List Record) → ((l : ℕ) → limit ≡ Some l → length rs ≤ l) → (rest ≡ []) ⊎ (Wants limit (length rs) → ⊥) → rs ≡ at_most limit (rs ++ rest)
+at_limit : (limit : Option ℕ) (rs rest : List Record) → ((l : ℕ) → limit ≡ Some l → length rs ≤ l) → (rest ≡ []) ⊎ (Wants limit (length rs) → ⊥)
+    → rs ≡ at_most limit (rs ++ rest)
 at_limit None rs rest few (inl e) = sym (ap (λ z. rs ++ z) e ∙ append-nil rs)
 at_limit None rs rest few (inr full) = absurd (full tt)
 at_limit (Some l) rs rest few (inl e) = sym (ap (take l) (ap (λ z. rs ++ z) e ∙ append-nil rs) ∙ take_all l rs (few l refl))
@@ -126,24 +131,28 @@ passable_had (Err Refused) p = tt
 passable_had (Err (Unsaid e)) p = tt
 passable_had (Err NoMemory) p = absurd p
 
-all_had : (answers : List Answer) → AllByRecursion (λ (a : Answer). IsPassable a.got) answers → AllByRecursion (λ (a : Answer). HadMemory a.got) answers
+all_had : (answers : List Answer) → AllByRecursion (λ (a : Answer). IsPassable a.got) answers
+    → AllByRecursion (λ (a : Answer). HadMemory a.got) answers
 all_had answers all = all_map (λ (a : Answer). IsPassable a.got) (λ (a : Answer). HadMemory a.got) answers (λ (a : Answer). passable_had a.got) all
 
 -- the calls that fetch resources are a reader's
-asked_reached : {S C F L E : Type 0} (view : View S C F) (lists : Listings S C L E) (s : S) (c : C) (b t : S) (answers : List Answer) → Reached view lists s c b → Asked view c b answers t
+asked_reached : {S C F L E : Type 0} (view : View S C F) (lists : Listings S C L E) (s : S) (c : C) (b t : S) (answers : List Answer)
+    → Reached view lists s c b → Asked view c b answers t
     → AllByRecursion (λ (a : Answer). HadMemory a.got) answers → Reached view lists s c t
 asked_reached view lists s c b t answers reached begun had = reached
 asked_reached view lists s c b t all reached (goes answers m n path got asked fetched) had =
     let hads = all_split (λ (a : Answer). HadMemory a.got) answers (record { path = path; got = got }) had in
     fetch_reached view lists s c m n path got (asked_reached view lists s c b m answers reached asked hads.0) fetched hads.1
 
-asked_counts : {S C F L E : Type 0} (view : View S C F) (lists : Listings S C L E) (c : C) (b t : S) (answers : List Answer) → Asked view c b answers t
+asked_counts : {S C F L E : Type 0} (view : View S C F) (lists : Listings S C L E) (c : C) (b t : S) (answers : List Answer)
+    → Asked view c b answers t
     → AllByRecursion (λ (a : Answer). HadMemory a.got) answers → (view.state b).faults ≤ (view.state t).faults
 asked_counts view lists c b t answers asked had = (reached_stays view lists b c t (asked_reached view lists b c b t answers by_none asked had)).counts
 
 module _ {S C F L E : Type 0} (view : View S C F) (lists : Listings S C L E) (s : S) (c : C) (stock : Stock) where
   -- resources that were asked for, one after the other
-  asked_due : (taken : List ℕ → Option (List ℕ)) (b t : S) (answers : List Answer) → Reached view lists s c b → Asked view c b answers t → AllByRecursion (λ (a : Answer). HadMemory a.got) answers
+  asked_due : (taken : List ℕ → Option (List ℕ)) (b t : S) (answers : List Answer) → Reached view lists s c b → Asked view c b answers t
+      → AllByRecursion (λ (a : Answer). HadMemory a.got) answers
       → AllByRecursion (λ (a : Answer). ShowsAt view lists s c stock a.path) answers
       → Reached view lists s c t × AnswersDue taken stock (Rose (view.state s).faults (view.state t).faults) answers
   asked_due taken b t answers reached begun had shows = (reached, tt)
@@ -162,8 +171,10 @@ module _ {S C F L E : Type 0} (view : View S C F) (lists : Listings S C L E) (s 
             (due_later (due_at taken stock path) (given taken path got) (λ rose. rose_from (view.state s).faults (view.state m).faults (view.state n).faults counts rose) here),
       )
 
-  shown_front : (q : Sought) (sorted : List Member) (answers : List Answer) → map (λ (a : Answer). a.path) answers ≡ map (member_path q.dir) (take (length answers) sorted)
-      → AllByRecursion (λ m. ShowsAt view lists s c stock (member_path q.dir m)) sorted → AllByRecursion (λ (a : Answer). ShowsAt view lists s c stock a.path) answers
+  shown_front : (q : Sought) (sorted : List Member) (answers : List Answer)
+      → map (λ (a : Answer). a.path) answers ≡ map (member_path q.dir) (take (length answers) sorted)
+      → AllByRecursion (λ m. ShowsAt view lists s c stock (member_path q.dir m)) sorted
+      → AllByRecursion (λ (a : Answer). ShowsAt view lists s c stock a.path) answers
   shown_front q sorted answers paths shows =
       all_from (ShowsAt view lists s c stock) (λ (a : Answer). a.path) answers
       (subst (AllByRecursion (ShowsAt view lists s c stock)) (sym paths)
@@ -182,7 +193,8 @@ module _ {S C F L E : Type 0} (view : View S C F) (lists : Listings S C L E) (s 
     gives : AreGiven (due_at q.taken stock) fault (map (member_path q.dir) sorted) all_given
     first : found ≡ at_most q.limit all_given
 
-  ordered : (q : Sought) (sorted : List Member) (b t : S) (answers : List Answer) (fault : Type 0) → Walks view c q sorted b answers t → AnswersDue q.taken stock fault answers
+  ordered : (q : Sought) (sorted : List Member) (b t : S) (answers : List Answer) (fault : Type 0) → Walks view c q sorted b answers t
+      → AnswersDue q.taken stock fault answers
       → (length answers ≡ length sorted) ⊎ (Wants q.limit (length (records q.taken answers)) → ⊥) → Ordered q sorted fault (records q.taken answers)
   ordered q sorted b t answers fault walks due over =
       let n = length answers in
@@ -200,11 +212,13 @@ module _ {S C F L E : Type 0} (view : View S C F) (lists : Listings S C L E) (s 
     where
       none : (length answers ≡ length sorted) ⊎ (Wants q.limit (length (records q.taken answers)) → ⊥)
           → (flat_map (due_at q.taken stock) (map (member_path q.dir) (drop (length answers) sorted)) ≡ []) ⊎ (Wants q.limit (length (records q.taken answers)) → ⊥)
-      none (inl all) = inl (ap (λ z. flat_map (due_at q.taken stock) (map (member_path q.dir) z)) (drop_all (length answers) sorted (omega (arith, all))))
+      none (inl all) =
+          inl (ap (λ z. flat_map (due_at q.taken stock) (map (member_path q.dir) z)) (drop_all (length answers) sorted (omega (arith, all))))
       none (inr full) = inr full
 
   -- the members in order are among those that stand there
-  shown_sorted : (q : Sought) (all listed lost sorted : List Member) → IsPermutation all (listed ++ lost) → AreInOrder listed sorted → All (λ m. ShowsAt view lists s c stock (member_path q.dir m)) all
+  shown_sorted : (q : Sought) (all listed lost sorted : List Member) → IsPermutation all (listed ++ lost) → AreInOrder listed sorted
+      → All (λ m. ShowsAt view lists s c stock (member_path q.dir m)) all
       → AllByRecursion (λ m. ShowsAt view lists s c stock (member_path q.dir m)) sorted
   shown_sorted q all listed lost sorted each order shows =
       let P = λ (m : Member). ShowsAt view lists s c stock (member_path q.dir m) in
@@ -212,7 +226,8 @@ module _ {S C F L E : Type 0} (view : View S C F) (lists : Listings S C L E) (s 
       recursion_from_All P sorted (All-permutation P listed sorted order.each (All-from_recursion P listed front))
 
   pub selected_right : (q : Sought) (all listed sorted : List Member) (b t : S) (result : Result (List Record) ReportError) → Reached view lists s c b
-      → ReadsThere (Ok all) (view.state s).faults listed (view.state b).faults → AreInOrder listed sorted → All (λ m. ShowsAt view lists s c stock (member_path q.dir m)) all
+      → ReadsThere (Ok all) (view.state s).faults listed (view.state b).faults → AreInOrder listed sorted
+      → All (λ m. ShowsAt view lists s c stock (member_path q.dir m)) all
       → Selects view c q sorted b result t → IsQueried q (Ok all) stock (Rose (view.state s).faults (view.state t).faults) result
   selected_right q all listed sorted b t (Ok found) reached (lost, each, why) order shows (answers, m, walks, (same, is, over)) =
       let walked = walk_due q sorted b m answers reached walks (shown_sorted q all listed lost sorted each order shows) in
@@ -232,7 +247,8 @@ module _ {S C F L E : Type 0} (view : View S C F) (lists : Listings S C L E) (s 
         first = is ∙ o.first;
       }
     where
-      lost_why : (view.state b).faults ≤ (view.state t).faults → (lost ≡ []) ⊎ Rose (view.state s).faults (view.state b).faults → (lost ≡ []) ⊎ Rose (view.state s).faults (view.state t).faults
+      lost_why : (view.state b).faults ≤ (view.state t).faults → (lost ≡ []) ⊎ Rose (view.state s).faults (view.state b).faults
+          → (lost ≡ []) ⊎ Rose (view.state s).faults (view.state t).faults
       lost_why on (inl none) = inl none
       lost_why on (inr rose) = inr (rose_on (view.state s).faults (view.state b).faults (view.state t).faults rose on)
   selected_right q all listed sorted b t (Err e) reached (lost, each, why) order shows (answers, m, walks, (fault, path, named, fetched, paths, wants)) =
@@ -242,9 +258,12 @@ module _ {S C F L E : Type 0} (view : View S C F) (lists : Listings S C L E) (s 
 
   -- a directory that was listed, and what its members give
   pub queried : (q : Sought) (found : Result (List Member) FsError) (listed sorted : List Member) (b t : S) (result : Result (List Record) ReportError) → stock.listed q.dir ≡ found
-      → WasListed view lists s c q.dir listed b → Keeps (view.state s) (view.state b) → ReadsThere found (view.state s).faults listed (view.state b).faults
-      → ((all : List Member) → stock.listed q.dir ≡ Ok all → All (λ m. ShowsAt view lists s c stock (member_path q.dir m)) all) → AreInOrder listed sorted
-      → Selects view c q sorted b result t ⊎ (result ≡ Err error.NoMemory) → IsQueried q found stock (Rose (view.state s).faults (view.state t).faults) result ⊎ (result ≡ Err error.NoMemory)
+      → WasListed view lists s c q.dir listed b → Keeps (view.state s) (view.state b)
+      → ReadsThere found (view.state s).faults listed (view.state b).faults
+      → ((all : List Member) → stock.listed q.dir ≡ Ok all → All (λ m. ShowsAt view lists s c stock (member_path q.dir m)) all)
+      → AreInOrder listed sorted
+      → Selects view c q sorted b result t ⊎ (result ≡ Err error.NoMemory)
+      → IsQueried q found stock (Rose (view.state s).faults (view.state t).faults) result ⊎ (result ≡ Err error.NoMemory)
   queried q found listed sorted b t result e was keeps reads shows order (inr none) = inr none
   queried q (Err refusal) listed sorted b t result e was keeps reads shows order (inl selects) = absurd reads
   queried q (Ok all) listed sorted b t result e was keeps reads shows order (inl selects) =

@@ -22,7 +22,8 @@ use Rattle.dav_selection.specs.Resources.{Fetches}
 use Rattle.dav_selection.specs.Visits.{Adds, followed_by}
 
 -- one more of a list, and of what it is a list for
-mapped_more : {A M W : Type 0} (f : A → W) (g : M → W) (done : List A) (a : A) (all : List M) (i : ℕ) (d : M) → map f done ≡ map g (take i all) → i < length all → f a ≡ g (get_or all i d)
+mapped_more : {A M W : Type 0} (f : A → W) (g : M → W) (done : List A) (a : A) (all : List M) (i : ℕ) (d : M) → map f done ≡ map g (take i all)
+    → i < length all → f a ≡ g (get_or all i d)
     → map f (done ++ a ∷ []) ≡ map g (take (suc i) all)
 mapped_more f g done a all i d before within here = map-append f done (a ∷ [])
     ∙ (ap (λ xs. xs ++ f a ∷ []) before ∙ (ap (λ w. map g (take i all) ++ w ∷ []) here
@@ -35,12 +36,14 @@ all_more P (y ∷ xs) x all here = (all.0, all_more P xs x all.1 here)
 flat_more : {A B : Type 0} (f : A → List B) (xs : List A) (x : A) → flat_map f (xs ++ x ∷ []) ≡ flat_map f xs ++ f x
 flat_more f xs x = flat_map-append f xs (x ∷ []) ∙ ap (λ ys. flat_map f xs ++ ys) (append-nil (f x))
 
-pub records_more : (taken : List ℕ → Option (List ℕ)) (answers : List Answer) (path : WebPath) (got : Result Resource Unread) (old new : List Record) → old ≡ records taken answers
+pub records_more : (taken : List ℕ → Option (List ℕ)) (answers : List Answer) (path : WebPath) (got : Result Resource Unread) (old new : List Record)
+    → old ≡ records taken answers
     → new ≡ old ++ given taken path got → new ≡ records taken (answers ++ record { path = path; got = got } ∷ [])
 records_more taken answers path got old new before e =
     e ∙ (ap (λ xs. xs ++ given taken path got) before ∙ sym (flat_more (λ (a : Answer). given taken a.path a.got) answers (record { path = path; got = got })))
 
-wanted_more : {A : Type 0} (P : List A → Type 0) (xs : List A) (x : A) → ((k : ℕ) → k < length xs → P (take k xs)) → P xs → (k : ℕ) → k < suc (length xs) → P (take k (xs ++ x ∷ []))
+wanted_more : {A : Type 0} (P : List A → Type 0) (xs : List A) (x : A) → ((k : ℕ) → k < length xs → P (take k xs)) → P xs → (k : ℕ)
+    → k < suc (length xs) → P (take k (xs ++ x ∷ []))
 wanted_more P xs x before here k within = elim (cases_lt k (length xs)) [
   | inl less ↦ subst P (sym (take-append-le k xs (x ∷ []) (omega arith))) (before k less)
   | inr last ↦ let same : length xs ≡ k = omega arith in subst (λ n. P (take n (xs ++ x ∷ []))) same (subst P (sym (take-append_seam xs (x ∷ []))) here)
@@ -52,7 +55,8 @@ module _ {S C F : Type 0} (view : View S C F) (c : C) where
 
   pub asked_more : (q : Sought) (members : List Member) (s m t : S) (answers : List Answer) (path : WebPath) (got : Result Resource Unread) (d : Member)
       → Walks view c q members s answers m → length answers < length members → path ≡ member_path q.dir (get_or members (length answers) d)
-      → Fetches view c path m got t → IsPassable got → Wants q.limit (length (records q.taken answers)) → Walks view c q members s (answers ++ record { path = path; got = got } ∷ []) t
+      → Fetches view c path m got t → IsPassable got → Wants q.limit (length (records q.taken answers))
+      → Walks view c q members s (answers ++ record { path = path; got = got } ∷ []) t
   asked_more q members s m t answers path got d walks within here fetched passable more =
       let long : length (answers ++ record { path = path; got = got } ∷ []) ≡ suc (length answers) = length_push answers (record { path = path; got = got }) ∙ add-one (length answers) in
       record {
@@ -63,7 +67,8 @@ module _ {S C F : Type 0} (view : View S C F) (c : C) where
         wanted = λ k below. wanted_more (λ xs. Wants q.limit (length (records q.taken xs))) answers (record { path = path; got = got }) walks.wanted more k (subst (λ n. k < n) long below);
       }
 
-  pub path_after : (q : Sought) (members : List Member) (answers : List Answer) (path : WebPath) (d : Member) → map (λ (a : Answer). a.path) answers ≡ map (member_path q.dir) (take (length answers) members)
+  pub path_after : (q : Sought) (members : List Member) (answers : List Answer) (path : WebPath) (d : Member)
+      → map (λ (a : Answer). a.path) answers ≡ map (member_path q.dir) (take (length answers) members)
       → length answers < length members → path ≡ member_path q.dir (get_or members (length answers) d)
       → map (λ (a : Answer). a.path) answers ++ path ∷ [] ≡ map (member_path q.dir) (take (length answers + 1) members)
   path_after q members answers path d before within here =
@@ -76,12 +81,14 @@ module _ {S C F : Type 0} (view : View S C F) (c : C) where
 abbrev pub link_of : List ℕ → Option Answer → Link
 link_of href answer = record { href = href; answer = answer }
 
-pub written_more : (links : List Link) (hrefs : List (List ℕ)) (i : ℕ) (href : List ℕ) (d : List ℕ) (answer : Option Answer) → map (λ (l : Link). l.href) links ≡ take i hrefs → i < length hrefs
+pub written_more : (links : List Link) (hrefs : List (List ℕ)) (i : ℕ) (href : List ℕ) (d : List ℕ) (answer : Option Answer)
+    → map (λ (l : Link). l.href) links ≡ take i hrefs → i < length hrefs
     → href ≡ get_or hrefs i d → map (λ (l : Link). l.href) (links ++ link_of href answer ∷ []) ≡ take (suc i) hrefs
 written_more links hrefs i href d answer before within here = map-append (λ (l : Link). l.href) links (link_of href answer ∷ [])
     ∙ (ap (λ xs. xs ++ href ∷ []) before ∙ (ap (λ h. take i hrefs ++ h ∷ []) here ∙ sym (take-suc hrefs i d within)))
 
-pub linked_more : (taken : List ℕ → Option (List ℕ)) (links : List Link) (href : List ℕ) (answer : Option Answer) (old new : List Record) → old ≡ linked taken links
+pub linked_more : (taken : List ℕ → Option (List ℕ)) (links : List Link) (href : List ℕ) (answer : Option Answer) (old new : List Record)
+    → old ≡ linked taken links
     → new ≡ old ++ answer_given taken answer → new ≡ linked taken (links ++ link_of href answer ∷ [])
 linked_more taken links href answer old new before e =
     e ∙ (ap (λ xs. xs ++ answer_given taken answer) before ∙ sym (flat_more (λ (l : Link). answer_given taken l.answer) links (link_of href answer)))
@@ -110,7 +117,8 @@ module _ {S C F : Type 0} (view : View S C F) (c : C) (taken : List ℕ → Opti
       inl (Some (record { path = path; got = Err (Unsaid e) }), (at, fetched, tt), adds.records, is ∙ ap followed_by adds.answer)
   link_led s t path (Err NoMemory) visited result old new at fetched adds is = inr (is ∙ ap followed_by adds.answer)
 
-  pub link_visited : (s t : S) (path : WebPath) (visited : Result Bool Unread) (result : Result Bool ReportError) (old new : List Record) → parsed href prefix ≡ Ok path
+  pub link_visited : (s t : S) (path : WebPath) (visited : Result Bool Unread) (result : Result Bool ReportError) (old new : List Record)
+      → parsed href prefix ≡ Ok path
       → ((got : Result Resource Unread) × Fetches view c path s got t × Adds taken (record { path = path; got = got }) old visited new) ⊎ (visited ≡ Err NoMemory) → result ≡ followed_by visited
       → ((answer : Option Answer) × Leads view c prefix href s answer t × (new ≡ old ++ answer_given taken answer) × (result ≡ Ok (is_given (answer_given taken answer))))
       ⊎ (result ≡ Err error.NoMemory)

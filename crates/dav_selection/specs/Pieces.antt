@@ -9,7 +9,9 @@ use Rattle.dav_store.specs.View.{View, Lent, seen_in}
 module _ {S C F : Type 0} (view : View S C F) where
   -- So many bytes of the rest stand behind the others. None came only where none is left.
   abbrev pub Appends : Seen → List ℕ → Result ℕ FsError → List ℕ → S → F → Type 0
-  Appends f old (Ok n) new t after = (seen_in view t after ≡ Some (moved_by n f)) × (n ≤ length (rest_of f)) × (new ≡ old ++ take n (rest_of f)) × (n ≡ 0 → rest_of f ≡ [])
+  Appends f old (Ok n) new t after =
+      (seen_in view t after ≡ Some (moved_by n f)) × (n ≤ length (rest_of f)) × (new ≡ old ++ take n (rest_of f))
+      × (n ≡ 0 → rest_of f ≡ [])
   Appends f old (Err e) new t after = Unit {0}
 
   -- what a read does besides giving bytes

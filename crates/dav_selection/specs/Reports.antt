@@ -64,11 +64,12 @@ module _ {S C F : Type 0} (view : View S C F) (c : C) where
   -- These resources were asked for, one after the other.
   pub data Asked (s : S) : List Answer → S → Type 0 where
     begun : Asked s [] s
-    goes : (answers : List Answer) (m t : S) (path : WebPath) (got : Result Resource Unread) → Asked s answers m → Fetches view c path m got t
+    goes : (answers : List Answer) (m t : S) (path : WebPath) (got : Result Resource Unread) → Asked s answers m
+        → Fetches view c path m got t
         → Asked s (answers ++ record { path = path; got = got } ∷ []) t
 
-  -- The resources of these members were asked for from the first on, each only where more records were wanted, and none is
-  -- at fault.
+  -- The resources of these members were asked for from the first on, each only where more records were wanted, and none
+  -- is at fault.
   pub record Walks (q : Sought) (members : List Member) (s : S) (answers : List Answer) (t : S) : Type 0 where
     pub asked : Asked s answers t
     pub paths : map (λ (a : Answer). a.path) answers ≡ map (member_path q.dir) (take (length answers) members)
@@ -81,11 +82,13 @@ module _ {S C F : Type 0} (view : View S C F) (c : C) where
       × ((length answers ≡ length members) ⊎ (Wants q.limit (length given) → ⊥))
   AfterWalk q members answers s (Err e) t = (fault : FsError) × (path : WebPath) × (e ≡ Fs fault)
       × Fetches view c path s (Err (Unsaid fault)) t
-      × (map (λ (a : Answer). a.path) answers ++ path ∷ [] ≡ map (member_path q.dir) (take (length answers + 1) members))
+      × (map (λ (a : Answer). a.path) answers ++ path ∷ []
+      ≡ map (member_path q.dir) (take (length answers + 1) members))
       × Wants q.limit (length (records q.taken answers))
 
   abbrev pub Selects : Sought → List Member → S → Result (List Record) ReportError → S → Type 0
-  Selects q members s result t = (answers : List Answer) × (m : S) × Walks q members s answers m × AfterWalk q members answers m result t
+  Selects q members s result t =
+      (answers : List Answer) × (m : S) × Walks q members s answers m × AfterWalk q members answers m result t
 
   -- A link leads to the path that it gives, whose resource is asked for; one that gives none leads nowhere.
   abbrev pub Leads : List ℕ → List ℕ → S → Option Answer → S → Type 0
@@ -95,7 +98,8 @@ module _ {S C F : Type 0} (view : View S C F) (c : C) where
   -- These links were followed, one after the other.
   pub data Followed (prefix : List ℕ) (s : S) : List Link → S → Type 0 where
     began : Followed prefix s [] s
-    leads : (links : List Link) (m t : S) (href : List ℕ) (answer : Option Answer) → Followed prefix s links m → Leads prefix href m answer t
+    leads : (links : List Link) (m t : S) (href : List ℕ) (answer : Option Answer) → Followed prefix s links m
+        → Leads prefix href m answer t
         → Followed prefix s (links ++ record { href = href; answer = answer } ∷ []) t
 
   -- The links were followed, and give these records; those that give none are missing, as they are written.
@@ -124,4 +128,5 @@ module _ {S C F L E : Type 0} (view : View S C F) (lists : Listings S C L E) (c 
 
   -- A query: the store's refusal of the listing, or what its members give.
   abbrev pub Queries : Sought → S → Result (List Record) ReportError → S → Type 0
-  Queries q s result t = ((e : FsError) × lists.lists s c q.dir Data (Err e) t × (result ≡ Err (Fs e))) ⊎ Listed q s result t
+  Queries q s result t =
+      ((e : FsError) × lists.lists s c q.dir Data (Err e) t × (result ≡ Err (Fs e))) ⊎ Listed q s result t

@@ -37,7 +37,8 @@ module _ {S C F : Type 0} (view : View S C F) where
     pub live : (view.state t).live (view.handle file) ≡ (view.state s).live (view.handle file)
     pub handle : view.handle after ≡ view.handle file
     pub lent : Lent view s t
-    pub refused : can_read ((view.state s).live (view.handle file)) ≡ true → OnErr result (Spoiled (view.state s) result (view.state t))
+    pub refused : can_read ((view.state s).live (view.handle file)) ≡ true
+        → OnErr result (Spoiled (view.state s) result (view.state t))
     pub within : IfOk result (λ bytes. length bytes ≤ len)
     pub told : (f : Seen) → seen_in view s file ≡ Some f → IfOk result (λ bytes. bytes ≡ take len (rest_of f))
 

@@ -30,7 +30,8 @@ pub record Stock : Type 0 where
 -- The record that is due of what is opened at a path: that of a regular file, where its content, read to its length, is
 -- wanted. Of all else none is due.
 abbrev pub due : (List ℕ → Option (List ℕ)) → WebPath → Result Standing FsError → List Record
-due taken path (Ok there) = if is_file there.kind then given taken path (Ok (resource there.tag (take there.len there.bytes))) else []
+due taken path (Ok there) =
+    if is_file there.kind then given taken path (Ok (resource there.tag (take there.len there.bytes))) else []
 due taken path (Err e) = []
 
 abbrev pub due_at : (List ℕ → Option (List ℕ)) → Stock → WebPath → List Record
@@ -58,8 +59,10 @@ AreGiven due fault (path ∷ paths) records = (first : List Record) × (rest : L
 abbrev pub AreLinked : (List ℕ → List Record) → Type 0 → List (List ℕ) → List Record → List (List ℕ) → Type 0
 AreLinked due fault [] records missing = (records ≡ []) × (missing ≡ [])
 AreLinked due fault (href ∷ hrefs) records missing =
-    ((r : Record) × (rest : List Record) × (due href ≡ r ∷ []) × (records ≡ r ∷ rest) × AreLinked due fault hrefs rest missing)
-    ⊎ ((rest : List (List ℕ)) × ((due href ≡ []) ⊎ fault) × (missing ≡ href ∷ rest) × AreLinked due fault hrefs records rest)
+    ((r : Record) × (rest : List Record) × (due href ≡ r ∷ []) × (records ≡ r ∷ rest)
+    × AreLinked due fault hrefs rest missing)
+    ⊎ ((rest : List (List ℕ)) × ((due href ≡ []) ⊎ fault) × (missing ≡ href ∷ rest)
+    × AreLinked due fault hrefs records rest)
 
 -- the links of which nothing is due
 abbrev pub lacking : (List ℕ → List Record) → List (List ℕ) → List (List ℕ)
@@ -72,7 +75,9 @@ at_most (Some limit) records = take limit records
 
 -- The first records, as many as are wanted, that a directory's members give in order of the bytes of their names. A
 -- member is lost only where a fault was met.
-pub record AreSelected (q : Sought) (all : List Member) (stock : Stock) (fault : Type 0) (records : List Record) : Type 0 where
+pub record AreSelected
+    (q : Sought) (all : List Member) (stock : Stock) (fault : Type 0) (records : List Record)
+    : Type 0 where
   pub listed : List Member
   pub lost : List Member
   pub each : IsPermutation all (listed ++ lost)
@@ -84,7 +89,8 @@ pub record AreSelected (q : Sought) (all : List Member) (stock : Stock) (fault :
   pub first : records ≡ at_most q.limit all_given
 
 -- A query is refused as the listing of its directory is, or by a fault that was met.
-abbrev pub IsQueried : Sought → Result (List Member) FsError → Stock → Type 0 → Result (List Record) ReportError → Type 0
+abbrev pub IsQueried : Sought → Result (List Member) FsError → Stock → Type 0 → Result (List Record) ReportError
+    → Type 0
 IsQueried q (Ok all) stock fault (Ok records) = AreSelected q all stock fault records
 IsQueried q (Ok all) stock fault (Err e) = fault × (e ≡ Fs GeneralFailure)
 IsQueried q (Err refusal) stock fault (Ok records) = ⊥
@@ -92,12 +98,15 @@ IsQueried q (Err refusal) stock fault (Err e) = (e ≡ Fs refusal) ⊎ (fault ×
 
 -- a multiget is never refused
 abbrev pub IsFollowed : LinksAsked → Stock → Type 0 → Result Report ReportError → Type 0
-IsFollowed asked stock fault (Ok report) = AreLinked (due_of asked stock) fault asked.hrefs report.records report.missing
+IsFollowed asked stock fault (Ok report) =
+    AreLinked (due_of asked stock) fault asked.hrefs report.records report.missing
 IsFollowed asked stock fault (Err e) = ⊥
 
 -- The report is right for what stands, or what may stand in its place where a fault was met.
 abbrev pub IsRight : Selection → Stock → Type 0 → Result Report ReportError → Type 0
-IsRight (queries q) stock fault result = (given : Result (List Record) ReportError) × IsQueried q (stock.listed q.dir) stock fault given × (result ≡ of_records given)
+IsRight (queries q) stock fault result =
+    (given : Result (List Record) ReportError) × IsQueried q (stock.listed q.dir) stock fault given
+    × (result ≡ of_records given)
 IsRight (follows asked) stock fault result = IsFollowed asked stock fault result
 IsRight (refuses e) stock fault result = result ≡ Err e
 

@@ -26,7 +26,10 @@ added taken (Ok r) = Ok (is_some (taken r.content))
 added taken (Err e) = Err e
 
 -- its record stands behind the others
-pub record Adds (taken : List ℕ → Option (List ℕ)) (a : Answer) (old : List Record) (result : Result Bool Unread) (new : List Record) : Type 0 where
+pub record Adds
+    (taken : List ℕ → Option (List ℕ)) (a : Answer)
+    (old : List Record) (result : Result Bool Unread) (new : List Record)
+    : Type 0 where
   pub answer : result ≡ added taken a.got
   pub records : new ≡ old ++ given taken a.path a.got
 

@@ -7,10 +7,12 @@
 //!     write PATH BYTES  makes a file, or empties the one that stands there, and writes bytes
 //!     list PATH         the members of a directory, each with its kind
 //!     mkdir PATH        makes a directory; `rmdir`, `rm`, `mv`, `cp` likewise
+//!     copy PATH NAME:VALUE..  the status of a COPY with these fields, and of a MOVE at `move`; each `%XX` in a value is a byte
 //!     defaults          makes the directories that a store has from its start
 //!     rules PATH        whether the path is one of the two empty files, and whether it is forbidden
 //!     asked             how many calls the disk was asked so far
 //!     out mv PATH PATH  what others do on the disk: a rename, or with `cp` a copy. Its paths are the disk's.
+use crate::carrying::carry;
 use crate::scene::path_of;
 use anyhow::{Result, bail};
 use dav_cache::Owned;
@@ -206,6 +208,7 @@ pub fn call(alloc: Global, store: &mut Store, part: &str, line: &mut Line) -> Re
         "asked" => line.add_number("asked ", DavFileSystem::disk(store).asked()),
         "defaults" => tell_done(line, store.create_defaults(alloc)),
         "out" => return outside(alloc, line, store, part),
+        "copy" | "move" => return carry(alloc, line, store, part),
         _ => return call_at(alloc, line, store, part),
     }
     Ok(())

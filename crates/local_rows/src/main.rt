@@ -7,6 +7,7 @@
 #![tactic(auto)]
 
 mod calls;
+mod carrying;
 mod scene;
 
 use anyhow::{Result, bail};
