@@ -28,15 +28,16 @@ use Rattle.dav_store.specs.Bodies.{BodyState}
 use Rattle.dav_store.specs.Members.{Answered, Walked, begun, goes as walks}
 use Rattle.dav_store.specs.View.{View, Listings}
 use Rattle.dav_get.proofs.HeardIsRight.{rose_through}
-use Rattle.dav_methods.specs.declared.asked.Asked.{Asked}
+use Rattle.dav_model.specs.declared.asked.Asked.{Asked}
 use Rattle.dav_methods.specs.declared.transfer.Transfer.{Transfer}
 use Rattle.dav_methods.specs.declared.work.Work.{Work}
 use Rattle.dav_methods.specs.declared.work.Work.TheVariants.{Emptied, Whole}
-use Rattle.dav_methods.specs.Carrying.{Arrives, Carries, CopyMoves, Goes, Leaves, TakesPlace, may_leave, may_take_place, method_of, transfer}
+use Rattle.dav_methods.specs.Carrying.{Arrives, Carries, CopyMoves, Goes, Leaves, TakesPlace, may_leave, may_take_place, transfer}
 use Rattle.dav_methods.specs.Copying.{AfterMaking, Copies, CopiesBy, CopiesDir, Enters, ReadsInto, done as all_copied, short as copied_short, goes as copies_on, stops as copies_stopped}
-use Rattle.dav_methods.specs.Destination.{Asks, IsDestination, IsPlace, asked_by, depth_of, overwrite_of, path_or_refusal}
+use Rattle.dav_model.specs.CarryPlans.{method_of}
+use Rattle.dav_model.specs.Destination.{Asks, IsDestination, IsPlace, asked_by, depth_of, overwrite_of, path_or_refusal}
 use Rattle.dav_methods.specs.Lines.{Given, Line, above, done_over, fails_when, first_of, found_or_failed, info_there, is_dir_there, is_there, made, may_delete, may_make, may_put, no_parent, refused_but_missing, silent, unless, unmet, with_status}
-use Rattle.dav_methods.specs.Overlap.{overlap}
+use Rattle.dav_model.specs.Overlap.{overlap}
 use Rattle.dav_methods.specs.Pouring.{Poured, Stops, Writes, WritesFile, begun as none_poured, goes as pours_on}
 use Rattle.dav_methods.specs.Putting.{AfterChecks, MayPut, MayReplace, Puts, put_options}
 use Rattle.dav_methods.specs.Reading.{HasMembers, HasNoMembers, ReadRefused}

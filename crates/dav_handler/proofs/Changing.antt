@@ -1,5 +1,5 @@
 -- What a method that writes is answered, and makes of the told world: from what its table gave to the clause of its step.
-use Rattle.std.proofs.Common.{◌≡◌, ◌⊎◌, inl, inr, ℕ, List, [], ◌∷◌, Bool, true, false, None, Some, Result, Ok, Err, refl, sym, ap, subst, ◌∙◌, true≢false}
+use Rattle.std.proofs.Common.{◌≡◌, inl, inr, ℕ, List, [], ◌∷◌, Bool, true, false, None, Some, Result, Ok, Err, refl, sym, ap, subst, ◌∙◌, true≢false}
 use Rattle.std.specs.Prelude.{IfOk}
 use Rattle.dav_io.specs.Counts.{Rose}
 use Rattle.dav_io.specs.Told.{Both}
@@ -7,7 +7,7 @@ use Rattle.dav_io.proofs.ToldLemmas.{both_map}
 use Rattle.dav_io.specs.declared.failure.NoMemory.{NoMemory}
 use Rattle.dav_core.specs.declared.dav_error.DavError.{DavError}
 use Rattle.dav_core.specs.declared.method.DavMethod.{DavMethod}
-use Rattle.dav_core.specs.declared.method.DavMethod.TheVariants.{Copy, Delete, MkAddressbook, MkCalendar, MkCol, Move, Put}
+use Rattle.dav_core.specs.declared.method.DavMethod.TheVariants.{Copy, Delete, MkCol, Move, Put}
 use Rattle.dav_core.specs.DavPath.{WebPath}
 use Rattle.dav_core.specs.Disk.{DiskState}
 use Rattle.dav_core.specs.Statuses.{closes, lacks_memory, status_of}
@@ -15,32 +15,35 @@ use Rattle.dav_core.specs.World.{IsWorld, World}
 use Rattle.dav_model.specs.declared.outcome.Outcome.{Outcome}
 use Rattle.dav_model.specs.declared.settings.Settings.{Settings}
 use Rattle.dav_model.specs.declared.target.Target.TheVariants.{Writes}
+use Rattle.dav_model.specs.CarryPlans.{carry_plan}
 use Rattle.dav_model.specs.Conditions.{Fields}
-use Rattle.dav_model.specs.Finding.{resolved}
 use Rattle.dav_model.specs.Head.{Reply, refusal}
-use Rattle.dav_model.specs.Plans.{Act, Ask, Plan, does, halts, is_planned, meets_link, plan}
-use Rattle.dav_model.specs.Rules.{plain_rules}
+use Rattle.dav_model.specs.Plans.{Act, Ask, Plan, does, halts, plan}
+use Rattle.dav_model.specs.Rules.{Rules, plain_rules}
 use Rattle.dav_model.specs.Sizes.{read_size_of}
-use Rattle.dav_model.specs.Written.{ByActs, EndsAs, IsWriteReply, Makes, MakesIn, PartOf, ask_of, made, silent}
+use Rattle.dav_model.specs.Written.{ByActs, EndsAs, IsWriteReply, Makes, MakesAs, PartOf, ask_of}
 use Rattle.dav_store.specs.Frames.{KeepsOpen}
 use Rattle.dav_methods.specs.Answers.{IsAnswer, RefusesUsually}
 use Rattle.dav_store.specs.View.{View, Listings}
 use Rattle.dav_plain.specs.declared.entry.PlainDir.{PlainDir}
 use Rattle.dav_plain.specs.declared.entry.PlainEntry.{PlainEntry}
 use Rattle.dav_plain.specs.declared.file.PlainFile.{PlainFile}
+use Rattle.dav_methods.specs.Carrying.{CopiesTo, MovesTo}
 use Rattle.dav_methods.specs.Changing.{Changes}
-use Rattle.dav_methods.specs.Follows.{Follows, RightIn, answer_or}
+use Rattle.dav_methods.specs.Follows.{Follows, answer_or}
 use Rattle.dav_methods.specs.Pouring.{Writes as FileWrites}
 use Rattle.dav_methods.proofs.AnswersListed.{mkcalendar_listed, mkcol_listed, put_listed}
+use Rattle.dav_methods.proofs.CarryRight.{carried_right}
 use Rattle.dav_methods.proofs.CopiesListed.{carry_listed}
+use Rattle.dav_methods.proofs.CopyActs.{copies_right}
 use Rattle.dav_methods.proofs.DeleteRight.{deletes_right}
 use Rattle.dav_methods.proofs.MakingFollows.{mkcalendar_follows, mkcol_follows}
+use Rattle.dav_methods.proofs.MoveDone.{moves_right}
 use Rattle.dav_methods.proofs.PutFollows.{put_follows}
 use Rattle.dav_methods.proofs.RemovalsListed.{delete_listed}
 use Rattle.dav_methods.specs.Lines.{Given}
-use Rattle.dav_methods.specs.Lines as lines
 use Rattle.dav_handler.specs.declared.found.Found.{Found}
-use Rattle.dav_handler.specs.Found.{Answers, Finds, HoldsOnly, IsAlone, IsRefusedBy, Said, reply_of}
+use Rattle.dav_handler.specs.Found.{Answers, Finds, HoldsOnly, IsRefusedBy, Said, reply_of}
 
 -- what was done is a part of what is planned
 acts_part : (fields : Fields) (acts : List Act) (done : ℕ) (reply : Reply) (v w : World) → ByActs fields acts done reply v w → PartOf acts v w
@@ -56,9 +59,14 @@ ends_part fields plan reply rose v w (inr (is, r, part)) = part
 pub record Did (settings : Settings) (ask : Ask) (s : DiskState) (r : Given) (t : DiskState) : Type 0 where
   pub keeps : KeepsOpen s t
   pub listed : IsAnswer (Rose s.faults t.faults) r
-  pub right : is_planned ask.method ≡ true → Both s.told t.told (λ v w. (result : Result Reply NoMemory) → answer_or ask.fields r result
-      → meets_link ask.method v.tree (resolved (plain_rules settings) v.tree ask.path.names) ≡ false
-      → EndsAs ask.fields (plan (plain_rules settings) v ask) result (Rose s.faults t.faults) v w)
+  pub right : Both s.told t.told (λ v w. (result : Result Reply NoMemory) → answer_or ask.fields r result
+      → MakesAs ask.method (plain_rules settings) ask result (Rose s.faults t.faults) v w)
+
+-- Where it is known what was made for an answer, it is known where memory was refused for that.
+lost_as : (method : DavMethod) (rules : Rules) (ask : Ask) (reply : Reply) (e : NoMemory) (rose : Type 0) (v w : World) → MakesAs method rules ask (Ok reply) rose v w → MakesAs method rules ask (Err e) rose v w
+lost_as Copy rules ask reply e rose v w (asked, asks, ends) = inr (asked, asks, λ clear. ends_part ask.fields (carry_plan rules v ask asked) reply rose v w (ends clear))
+lost_as Move rules ask reply e rose v w (asked, asks, ends) = inr (asked, asks, λ clear. ends_part ask.fields (carry_plan rules v ask asked) reply rose v w (ends clear))
+lost_as other rules ask reply e rose v w makes = λ clear. ends_part ask.fields (plan rules v ask) reply rose v w (makes clear)
 
 done_listed : (fields : Fields) (rose : Type 0) (outcome : Outcome) → IsAnswer rose (Ok outcome)
     → IsWriteReply fields rose (record { status = outcome.status; fields = outcome.fields; parts = [] })
@@ -78,15 +86,15 @@ module _ (settings : Settings) (method : DavMethod) (path : WebPath) (said : Sai
   -- what its plan says of this answer, or of want of memory
   made_as : (r : Given) (result : Result Reply NoMemory) → Did settings asks s r t → answer_or said.fields r result
       → Makes (Writes method path) (plain_rules settings) said.fields said.body result s t
-  made_as r result did is = λ folds macos alone planned. both_map s.told t.told _
-      (MakesIn (plain_rules settings) asks result (Rose s.faults t.faults)) (λ v w right. right result is) (did.right planned)
+  made_as r result did is = λ folds macos alone. both_map s.told t.told _
+      (MakesAs method (plain_rules settings) asks result (Rose s.faults t.faults)) (λ v w right. right result is) did.right
 
   -- it was done or refused, and memory was refused for the answer
   made_lost : (r : Given) (reply : Reply) (e : NoMemory) → Did settings asks s r t → answer_or said.fields r (Ok reply)
       → Makes (Writes method path) (plain_rules settings) said.fields said.body (Err e) s t
-  made_lost r reply e did is = λ folds macos alone planned. both_map s.told t.told _
-      (MakesIn (plain_rules settings) asks (Err e) (Rose s.faults t.faults))
-      (λ v w right clear. ends_part said.fields (plan (plain_rules settings) v asks) reply (Rose s.faults t.faults) v w (right (Ok reply) is clear)) (did.right planned)
+  made_lost r reply e did is = λ folds macos alone. both_map s.told t.told _
+      (MakesAs method (plain_rules settings) asks (Err e) (Rose s.faults t.faults))
+      (λ v w right. lost_as method (plain_rules settings) asks reply e (Rose s.faults t.faults) v w (right (Ok reply) is)) did.right
 
   -- It was done.
   pub write_done : (outcome : Outcome) (found : Found) → Did settings asks s (Ok outcome) t → found.outcome ≡ outcome → found.body ≡ None
@@ -131,21 +139,23 @@ module _ {S C : Type 0} (view : View S C PlainFile) (lists : Listings S C PlainD
   listed Move run = (carry_listed view lists writes c usual true prefix path said.fields s r t run).answers
   listed other run = (mkcalendar_listed view lists writes c usual path s r t run).answers
 
-  right : (settings : Settings) → Follows view lists writes c (plain_rules settings) s → (method : DavMethod) → Changes view lists writes c method prefix path said.fields said.body s r t → is_planned method ≡ true
-      → Both (view.state s).told (view.state t).told (λ v w. RightIn view lists writes c (plain_rules settings) (ask_of method path said.fields said.body) s r t v w)
-  right settings follows Put run planned = put_follows view lists writes c worlds (plain_rules settings) s follows
+  right : (settings : Settings) → prefix ≡ settings.prefix → Follows view lists writes c (plain_rules settings) s → (method : DavMethod) → Changes view lists writes c method prefix path said.fields said.body s r t
+      → Both (view.state s).told (view.state t).told (λ v w. (result : Result Reply NoMemory) → answer_or said.fields r result
+      → MakesAs method (plain_rules settings) (ask_of method path said.fields said.body) result (Rose (view.state s).faults (view.state t).faults) v w)
+  right settings own follows Put run = put_follows view lists writes c worlds (plain_rules settings) s follows
       refl refl refl (ask_of Put path said.fields said.body) refl r t run
-  right settings follows MkCol run planned = mkcol_follows view lists writes c worlds (plain_rules settings) s follows
+  right settings own follows MkCol run = mkcol_follows view lists writes c worlds (plain_rules settings) s follows
       refl refl refl (ask_of MkCol path said.fields said.body) refl r t run
-  right settings follows MkCalendar run planned = mkcalendar_follows view lists writes c worlds (plain_rules settings) s follows
-      refl refl refl (ask_of MkCalendar path said.fields said.body) (inl refl) r t run
-  right settings follows MkAddressbook run planned = mkcalendar_follows view lists writes c worlds (plain_rules settings) s follows
-      refl refl refl (ask_of MkAddressbook path said.fields said.body) (inr refl) r t run
-  right settings follows Delete run planned = deletes_right view lists writes c (plain_rules settings) path said.fields said.body s follows
+  right settings own follows Delete run = deletes_right view lists writes c (plain_rules settings) path said.fields said.body s follows
       refl refl refl r t run
-  right settings follows other run planned = cc
+  right settings own follows Copy run = carried_right view lists writes c false (λ asked x moving. copies_right view lists writes c asked x) (plain_rules settings) s follows
+      refl refl refl (ask_of Copy path said.fields said.body) r t (subst (λ z. CopiesTo view lists c z path said.fields s r t) own run)
+  right settings own follows Move run = carried_right view lists writes c true (λ asked x moving. moves_right view lists writes c asked x) (plain_rules settings) s follows
+      refl refl refl (ask_of Move path said.fields said.body) r t (subst (λ z. MovesTo view lists c z path said.fields s r t) own run)
+  right settings own follows other run = mkcalendar_follows view lists writes c worlds (plain_rules settings) s follows
+      refl refl refl (ask_of other path said.fields said.body) (λ v. refl) r t run
 
   -- What a method that writes did over the plain store.
-  pub did_change : (settings : Settings) → Follows view lists writes c (plain_rules settings) s → (method : DavMethod) → Changes view lists writes c method prefix path said.fields said.body s r t → KeepsOpen (view.state s) (view.state t)
+  pub did_change : (settings : Settings) → prefix ≡ settings.prefix → Follows view lists writes c (plain_rules settings) s → (method : DavMethod) → Changes view lists writes c method prefix path said.fields said.body s r t → KeepsOpen (view.state s) (view.state t)
       → Did settings (ask_of method path said.fields said.body) (view.state s) r (view.state t)
-  did_change settings follows method run keeps = record { keeps = keeps; listed = listed method run; right = right settings follows method run }
+  did_change settings own follows method run keeps = record { keeps = keeps; listed = listed method run; right = right settings own follows method run }
