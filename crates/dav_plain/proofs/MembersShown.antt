@@ -369,29 +369,29 @@ module _ {S C F : Type 0} (view : View S C F) (lists : Listings S C PlainDir Pla
       let all : names ≡ map (λ (a : Answered). a.name) answers = are ∙ (ap (λ z. map (λ (a : Answered). a.name) answers ++ z) none ∙ append-nil (map (λ (a : Answered). a.name) answers)) in
       sym (length-map answers (λ (a : Answered). a.name)) ∙ (sym (ap length all) ∙ (length_permutation (names_in w.tree dir) names order ∙ (length-map rows name_of ∙ sym (length-map rows (member_of w)))))
 
-  ends_by : (w : World) (dir : Names) (from : ℕ) (names : Names) (l k j : PlainDir) (answers : List Answered) (r : Result (Option PlainEntry) FsError) (o p : S) → IsPermutation (names_in w.tree dir) names
-      → Front l w names dir from answers o k → (answer : Result (Option (List ℕ)) DiskError) (mid : DiskState) → ListsOn (view.state o) l.lister.0 answer mid → AfterName answer mid l r (view.state p) j
-      → EndsThere view lists (members w dir) answers r o p
-  ends_by w dir from names l k j answers r o p order f (Ok (Some name)) mid on (Ok entry, gives, is, same) = rw is tt
-  ends_by w dir from names l k j answers r o p order f (Ok (Some name)) mid on (Err e, gives, is, same) = rw is (inr (ap Err gives.0))
-  ends_by w dir from names l k j answers r o p order f (Ok None) mid on (is, t, g) =
+  ends_by : (w : World) (dir names : Names) (l k j : PlainDir) (answers : List Answered) (r : Result (Option PlainEntry) FsError) (m o p : S) → IsPermutation (names_in w.tree dir) names
+      → Front l w names dir (view.state m).faults answers o k → (answer : Result (Option (List ℕ)) DiskError) (mid : DiskState) → ListsOn (view.state o) l.lister.0 answer mid → AfterName answer mid l r (view.state p) j
+      → EndsThere view lists (members w dir) answers r m p
+  ends_by w dir names l k j answers r m o p order f (Ok (Some name)) mid on (Ok entry, gives, is, same) = rw is tt
+  ends_by w dir names l k j answers r m o p order f (Ok (Some name)) mid on (Err e, gives, is, same) = rw is (inr (ap Err gives.0))
+  ends_by w dir names l k j answers r m o p order f (Ok None) mid on (is, t, g) =
       let (x, at, next) = told_after (view.state o).told mid.told (NextIn l.lister.0 (Ok None)) f.now on.told f.told in
       let none : f.rest ≡ [] = (let h : Some f.rest ≡ Some [] = sym f.listing ∙ next.0 in cc) in
       rw is (all_given w dir names answers f.rest order f.are none)
-  ends_by w dir from names l k j answers r o p order f (Err NoMemory) mid on (is, t, g) = rw is (inr refl)
-  ends_by w dir from names l k j answers r o p order f (Err Failed) mid on (is, t, g) = rw (is, t) (inl (refl, on.counted.rose refl))
-  ends_by w dir from names l k j answers r o p order f (Err NotFound) mid on after = absurd on.only
-  ends_by w dir from names l k j answers r o p order f (Err Exists) mid on after = absurd on.only
-  ends_by w dir from names l k j answers r o p order f (Err NotDir) mid on after = absurd on.only
-  ends_by w dir from names l k j answers r o p order f (Err IsDir) mid on after = absurd on.only
-  ends_by w dir from names l k j answers r o p order f (Err NotEmpty) mid on after = absurd on.only
+  ends_by w dir names l k j answers r m o p order f (Err NoMemory) mid on (is, t, g) = rw is (inr refl)
+  ends_by w dir names l k j answers r m o p order f (Err Failed) mid on (is, t, g) = rw (is, t) (inl (refl, rose_from (view.state m).faults (view.state o).faults mid.faults f.counts (on.counted.rose refl)))
+  ends_by w dir names l k j answers r m o p order f (Err NotFound) mid on after = absurd on.only
+  ends_by w dir names l k j answers r m o p order f (Err Exists) mid on after = absurd on.only
+  ends_by w dir names l k j answers r m o p order f (Err NotDir) mid on after = absurd on.only
+  ends_by w dir names l k j answers r m o p order f (Err IsDir) mid on after = absurd on.only
+  ends_by w dir names l k j answers r m o p order f (Err NotEmpty) mid on after = absurd on.only
 
-  ends_of : (w : World) (dir : Names) (from : ℕ) (n o p : S) (l k j : PlainDir) (answers : List Answered) (r : Result (Option PlainEntry) FsError) → Start w dir from n l
-      → Walked view lists n l answers o k → lists.lists_on o k r p j → EndsThere view lists (members w dir) answers r o p
-  ends_of w dir from n o p l k j answers r s walk on =
-      let f = front n l w s.names dir from answers o k s.going s.reads s.path s.first walk in
+  ends_of : (w : World) (dir : Names) (m n o p : S) (l k j : PlainDir) (answers : List Answered) (r : Result (Option PlainEntry) FsError) → Start w dir (view.state m).faults n l
+      → Walked view lists n l answers o k → lists.lists_on o k r p j → EndsThere view lists (members w dir) answers r m p
+  ends_of w dir m n o p l k j answers r s walk on =
+      let f = front n l w s.names dir (view.state m).faults answers o k s.going s.reads s.path s.first walk in
       let (answer, mid, lists_on, after) = asked l k o p r j f.same s.going on in
-      ends_by w dir from s.names l k j answers r o p s.order f answer mid lists_on after
+      ends_by w dir s.names l k j answers r m o p s.order f answer mid lists_on after
 
 members_ok : (w : World) (dir : Names) (found : Result Row DiskError) (all : List Member) → members_of w dir found ≡ Ok all → members w dir ≡ all
 members_ok w dir (Ok row) all e = cc
@@ -434,5 +434,5 @@ module _ {S C : Type 0} (view : View S C PlainFile) (lists : Listings S C PlainD
             subst (λ all. AreOf all (view.state m).faults (view.state o).faults answers) (members_ok w dir found all e) (given_of view lists plain w dir (view.state m).faults n o l k answers is links begin walk);
         ends = λ all e m n o p l k j answers r first lists_so walk on.
             let begin = start view lists plain w dir m n l (looked_told view store s c m first ∙ told) links.way (plain.lists_so m c path (Ok l) n lists_so) in
-            subst (λ all. EndsThere view lists all answers r o p) (members_ok w dir found all e) (ends_of view lists plain w dir (view.state m).faults n o p l k j answers r begin walk on);
+            subst (λ all. EndsThere view lists all answers r m p) (members_ok w dir found all e) (ends_of view lists plain w dir m n o p l k j answers r begin walk on);
       }
