@@ -4,7 +4,7 @@ pub mod Refilled
 pub mod PlainWrites
 pub mod PlainLooks
 pub mod PlainDone
-pub mod PlainReached
+pub mod ReachedCounts
 pub mod NameOrder
 pub mod TreeLooks
 pub mod PlainWalked

@@ -25,10 +25,11 @@ use Rattle.dav_plain.specs.declared.file.PlainFile.{PlainFile}
 use Rattle.dav_follows.proofs.PlainDone.{makes_told, opens_told, removes_dir_told, removes_file_told}
 use Rattle.dav_follows.proofs.PlainLooks.{both_with, looks_told}
 use Rattle.dav_follows.proofs.PlainMembers.{members_read, members_unread}
-use Rattle.dav_follows.proofs.PlainReached.{reached_counts}
 use Rattle.dav_follows.proofs.PlainStore.{IsPlainStore}
+use Rattle.dav_follows.proofs.PlainUsual.{plain_usual}
 use Rattle.dav_follows.proofs.PlainWalked.{begins_besides, goes_besides, same_world, walk_besides}
 use Rattle.dav_follows.proofs.PlainWrites.{WrittenFrom, writes_told}
+use Rattle.dav_follows.proofs.ReachedCounts.{reached_counts}
 
 module _ {S C : Type 0} (view : View S C PlainFile) (lists : Listings S C PlainDir PlainEntry) (writes : Writes PlainFile) (c : C) (plain : IsPlainStore view lists writes c) (settings : Settings) where
   writes_file_told : (m n : S) (f g : PlainFile) (bytes : List ℕ) (r : Result Unit FsError) → WritesFile view writes m f bytes r n g → appends ((view.state m).live (view.handle f)) ≡ false
@@ -75,7 +76,7 @@ module _ {S C : Type 0} (view : View S C PlainFile) (lists : Listings S C PlainD
 
   pub plain_follows : (s : S) → Follows view lists writes c (plain_rules settings) s
   plain_follows s = record {
-    counts = λ n reached. reached_counts view lists writes c plain s n reached;
+    counts = λ n reached. reached_counts view lists writes c (plain_usual view lists writes c plain) s n reached;
     trees = λ n w reached told. plain.worlds n w told;
     looks = λ m n path r reached h. looks_told settings true path (view.state m) r (view.state n) (plain.looks m n path r h);
     looks_at_link = λ m n path r reached h. looks_told settings false path (view.state m) r (view.state n) (plain.looks_at_link m n path r h);

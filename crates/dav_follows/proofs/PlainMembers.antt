@@ -60,7 +60,7 @@ names_stand w dir (row ∷ rows) stand clear =
     let parts = and_parts (not (is_linked w.tree row.path)) (list_all (λ (row : Row). not (is_linked w.tree row.path)) rows) clear in
     ((ap (is_linked w.tree) (sym stand.0.path) ∙ not_true (is_linked w.tree row.path) parts.0, (row, stand.0.found)), names_stand w dir rows stand.1 parts.1)
 
-paths_of : (w : World) (dir : Names) (rows : List Row) → AllByRecursion (StandsIn w.tree dir) rows → AllByRecursion (λ (row : Row). row.path ≡ dir ++ name_of row ∷ []) rows
+pub paths_of : (w : World) (dir : Names) (rows : List Row) → AllByRecursion (StandsIn w.tree dir) rows → AllByRecursion (λ (row : Row). row.path ≡ dir ++ name_of row ∷ []) rows
 paths_of w dir [] stand = tt
 paths_of w dir (row ∷ rows) stand = (stand.0.path, paths_of w dir rows stand.1)
 
@@ -70,15 +70,15 @@ front_all P (x ∷ xs) ys all = (all.0, front_all P xs ys all.1)
 
 -- ---- members by their names
 
-abbrev found_dir : Result Row DiskError → Bool
+abbrev pub found_dir : Result Row DiskError → Bool
 found_dir (Ok row) = is_dir row.kind
 found_dir (Err e) = false
 
 -- the member of a name, as the tree has it
-abbrev member : World → WebPath → List ℕ → Child
+abbrev pub member : World → WebPath → List ℕ → Child
 member w path name = child_named path name (found_dir (look w.tree (path.names ++ name ∷ [])))
 
-rows_members : (w : World) (path : WebPath) (rows : List Row) → AllByRecursion (StandsIn w.tree path.names) rows → map (member w path) (map name_of rows) ≡ map (child_of path) rows
+pub rows_members : (w : World) (path : WebPath) (rows : List Row) → AllByRecursion (StandsIn w.tree path.names) rows → map (member w path) (map name_of rows) ≡ map (child_of path) rows
 rows_members w path [] stand = refl
 rows_members w path (row ∷ rows) stand =
     let first : member w path (name_of row) ≡ child_of path row = ap (λ found. child_named path (name_of row) (found_dir found)) stand.0.found in
@@ -101,7 +101,7 @@ names_members w path [] = refl
 names_members w path (name ∷ names) = ap (λ ns. name ∷ ns) (names_members w path names)
 
 -- each is the member of its name
-are_members : (w : World) (path : WebPath) (names : Names) → AllByRecursion (λ (m : Child). m ≡ member w path m.name) (map (member w path) names)
+pub are_members : (w : World) (path : WebPath) (names : Names) → AllByRecursion (λ (m : Child). m ≡ member w path m.name) (map (member w path) names)
 are_members w path [] = tt
 are_members w path (name ∷ names) = (refl, are_members w path names)
 
@@ -111,7 +111,7 @@ by_names w path (m ∷ members) all =
     ap (λ x. x ∷ members) all.0 ∙ ap (λ ms. member w path m.name ∷ ms) (by_names w path members all.1)
 
 -- Members whose names are those of the rows in order are the members of the rows in that order.
-in_name_order : (w : World) (path : WebPath) (rows : List Row) (members : List Child) → AllByRecursion (StandsIn w.tree path.names) rows → AllByRecursion (λ (m : Child). m ≡ member w path m.name) members
+pub in_name_order : (w : World) (path : WebPath) (rows : List Row) (members : List Child) → AllByRecursion (StandsIn w.tree path.names) rows → AllByRecursion (λ (m : Child). m ≡ member w path m.name) members
     → map (λ (m : Child). m.name) members ≡ map name_of (in_order dir_first rows) → members ≡ map (child_of path) (in_order dir_first rows)
 in_name_order w path rows members stand all same =
     by_names w path members all
@@ -183,7 +183,7 @@ last_name : (P : List ℕ → Type 0) (answers : List Answered) (a : Answered) �
 last_name P [] a all = all.0
 last_name P (x ∷ answers) a all = last_name P answers a all.1
 
-clear_parts : (w : World) (dir : Names) → is_clear w.tree dir ≡ true
+pub clear_parts : (w : World) (dir : Names) → is_clear w.tree dir ≡ true
     → (is_linked w.tree dir ≡ false) × (list_all (λ (row : Row). not (is_linked w.tree row.path)) (filter (stands_in dir) w.tree) ≡ true)
 clear_parts w dir clear =
     let parts = and_parts (not (is_linked w.tree dir)) (list_all (λ (row : Row). not (is_linked w.tree row.path)) (filter (stands_in dir) w.tree)) clear in

@@ -17,6 +17,7 @@ use Rattle.dav_core.specs.Path.{Names}
 use Rattle.dav_core.specs.Tree.{is_dir}
 use Rattle.dav_store.specs.declared.entry.ReadDirMeta.{ReadDirMeta}
 use Rattle.dav_store.specs.declared.entry.ReadDirMeta.TheVariants as wanted
+use Rattle.dav_store.specs.Members.{Answered, Walked, begun, goes as walks}
 use Rattle.dav_store.specs.View.{Listings, View}
 use Rattle.dav_store.proofs.Reading.{rose_from}
 use Rattle.dav_methods.specs.Answers.{RefusedUsually, RefusesUsually, Usual, is_usual}
@@ -200,6 +201,10 @@ next_says : (over : Bool) (d k : PlainDir) (e : PlainEntry) (r : Result Info FsE
 next_says true d k e r s t u (is, same, kept) says = cc
 next_says false d k e r s t u (answer, m, on, after) says = usual_from Info r s m u on.counted.counts (after_says answer d k e r m t u after says)
 
+pub says_counts : (meta : EntryMeta) (s : DiskState) (r : Result Info FsError) (t : DiskState) → Says meta s r t → s.faults ≤ t.faults
+says_counts (Read answer) s r t (is, same) = rw same (omega arith)
+says_counts (At path) s r t (answer, metas, is) = metas.asks.counts
+
 -- ---- writing
 
 writing_usual : (h : ℕ) (s : DiskState) (bytes : List ℕ) (r : Result Unit FsError) (t : DiskState) → WritesAll h s bytes r t → Usual s r t
@@ -210,6 +215,23 @@ writing_usual h s bytes r t (more a m b from piece n result chunk writes rest) =
     usual_from Unit result a m b writes.asks.counts (writing_usual h m (drop n from) result b rest)
 
 -- ---- the store
+
+-- no fault is forgotten while a listing is walked
+walk_counts : {S C : Type 0} (view : View S C PlainFile) (lists : Listings S C PlainDir PlainEntry) (writes : Writes PlainFile) (c : C) → IsPlainStore view lists writes c
+    → (n : S) (l : PlainDir) (answers : List Answered) (s : S) (k : PlainDir) → Walked view lists n l answers s k → (view.state n).faults ≤ (view.state s).faults
+walk_counts view lists writes c plain n l answers s k begun = omega arith
+walk_counts view lists writes c plain n l answers s k (walks before a b o i j e r walk on said lent keeps) =
+    let first = walk_counts view lists writes c plain n l before a i walk in
+    let next = (next_usual i.over i j (Ok (Some e)) (view.state a) (view.state b) (plain.goes_on a b i j (Ok (Some e)) on)).counts in
+    omega (arith, first, next, keeps.counts)
+
+-- nor since it was begun
+listed_counts : {S C : Type 0} (view : View S C PlainFile) (lists : Listings S C PlainDir PlainEntry) (writes : Writes PlainFile) (c : C) → IsPlainStore view lists writes c
+    → (b n s : S) (path : WebPath) (how : ReadDirMeta) (l k : PlainDir) (answers : List Answered) → lists.lists b c path how (Ok l) n → Walked view lists n l answers s k
+    → (view.state b).faults ≤ (view.state s).faults
+listed_counts view lists writes c plain b n s path how l k answers begins walk =
+    let first = (begin_usual path.names how (Ok l) (view.state b) (view.state n) (plain.begins b n path how (Ok l) begins)).counts in
+    omega (arith, first, walk_counts view lists writes c plain n l answers s k walk)
 
 pub plain_usual : {S C : Type 0} (view : View S C PlainFile) (lists : Listings S C PlainDir PlainEntry) (writes : Writes PlainFile) (c : C) → IsPlainStore view lists writes c
     → RefusesUsually view lists writes c
@@ -228,7 +250,12 @@ plain_usual view lists writes c plain = record {
   copies = λ s t from to r h. (let (answer, does, is) = plain.copies s t from to r h in
       rw is (record { counts = does.asks.counts; refused = done_usual answer (view.state s) (view.state t) does.asks.counted }));
   begins = λ s t path how r h. begin_usual path.names how r (view.state s) (view.state t) (plain.begins s t path how r h);
-  goes_on = λ s t l k r h. next_usual l.over l k r (view.state s) (view.state t) (plain.goes_on s t l k r h);
-  says = λ s m t l k e r on h. next_says l.over l k e r (view.state s) (view.state m) (view.state t) (plain.goes_on s m l k (Ok (Some e)) on) (plain.says (view.state m) (view.state t) e r h);
+  goes_on = λ b n s t path how first l k answers r begins walk h. usual_from (Option PlainEntry) r (view.state b) (view.state s) (view.state t)
+      (listed_counts view lists writes c plain b n s path how first l answers begins walk) (next_usual l.over l k r (view.state s) (view.state t) (plain.goes_on s t l k r h));
+  says = λ b n s m t path how first l k answers e r begins walk on h. usual_from Info r (view.state b) (view.state s) (view.state t)
+      (listed_counts view lists writes c plain b n s path how first l answers begins walk)
+      (next_says l.over l k e r (view.state s) (view.state m) (view.state t) (plain.goes_on s m l k (Ok (Some e)) on) (plain.says (view.state m) (view.state t) e r h));
+  goes_counts = λ s t l k r h. (next_usual l.over l k r (view.state s) (view.state t) (plain.goes_on s t l k r h)).counts;
+  says_counts = λ s t e r h. says_counts e.meta (view.state s) r (view.state t) (plain.says (view.state s) (view.state t) e r h);
   ends = λ s t l h. (let same = (plain.ends s t l h).counts in omega (arith, same));
 }

@@ -110,11 +110,11 @@ listings_besides v listings = record { tree = refl; files = λ number held. (hel
 pub same_world : (v x : World) (listings : ℕ → Option Names) → x ≡ with_listings v listings → SameBesidesOpens v x
 same_world v x listings e = rw e (listings_besides v listings)
 
-listed_besides : (path : Names) (answer : Result Lister DiskError) (v w : World) → ListedIn path answer v w → SameBesidesOpens v w
+pub listed_besides : (path : Names) (answer : Result Lister DiskError) (v w : World) → ListedIn path answer v w → SameBesidesOpens v w
 listed_besides path (Ok l) v w (names, is, rows) = same_world v w (put l.0 (Some names) v.listings) is
 listed_besides path (Err d) v w (is, rows) = rw is (same_besides v)
 
-next_besides : (l : ℕ) (answer : Result (Option (List ℕ)) DiskError) (v w : World) → NextIn l answer v w → SameBesidesOpens v w
+pub next_besides : (l : ℕ) (answer : Result (Option (List ℕ)) DiskError) (v w : World) → NextIn l answer v w → SameBesidesOpens v w
 next_besides l (Ok (Some name)) v w (rest, first, is) = same_world v w (put l (Some rest) v.listings) is
 next_besides l (Ok None) v w (none, is) = rw is (same_besides v)
 next_besides l (Err d) v w is = rw is (same_besides v)

@@ -1,32 +1,14 @@
--- No count of faults falls in the calls of a plain store.
-use Rattle.std.proofs.Common.{◌≤◌, ℕ, Result, arith}
-use Rattle.dav_core.specs.declared.error.FsError.{FsError}
-use Rattle.dav_core.specs.Disk.{DiskState}
-use Rattle.dav_core.specs.Info.{Info}
+-- No count of faults falls in the calls of a store that refuses few things.
+use Rattle.std.proofs.Common.{◌≤◌, ℕ, arith}
 use Rattle.dav_store.specs.View.{Listings, View}
 use Rattle.dav_methods.specs.Answers.{RefusesUsually}
 use Rattle.dav_methods.specs.Follows.{Reached, begins, copies, ends_file, ends_list, goes_on, here, looks, looks_at_link, makes_dir, opens, removes_dir, removes_file, renames, says, writes_file}
 use Rattle.dav_methods.specs.Pouring.{Writes}
-use Rattle.dav_plain.specs.declared.entry.EntryMeta.{EntryMeta}
-use Rattle.dav_plain.specs.declared.entry.EntryMeta.TheVariants.{At, Read}
-use Rattle.dav_plain.specs.declared.entry.PlainDir.{PlainDir}
-use Rattle.dav_plain.specs.declared.entry.PlainEntry.{PlainEntry}
-use Rattle.dav_plain.specs.declared.file.PlainFile.{PlainFile}
-use Rattle.dav_plain.specs.Entries.{Says}
-use Rattle.dav_follows.proofs.PlainStore.{IsPlainStore}
-use Rattle.dav_follows.proofs.PlainUsual.{plain_usual}
-
-says_counts : (meta : EntryMeta) (s : DiskState) (r : Result Info FsError) (t : DiskState) → Says meta s r t → s.faults ≤ t.faults
-says_counts (Read answer) s r t (is, same) = rw same (omega arith)
-says_counts (At path) s r t (answer, metas, is) = metas.asks.counts
 
 further : (a b c : ℕ) → a ≤ b → b ≤ c → a ≤ c
 further a b c p q = omega arith
 
-module _ {S C : Type 0} (view : View S C PlainFile) (lists : Listings S C PlainDir PlainEntry) (writes : Writes PlainFile) (c : C) (plain : IsPlainStore view lists writes c) where
-  usual : RefusesUsually view lists writes c
-  usual = plain_usual view lists writes c plain
-
+module _ {S C F L E : Type 0} (view : View S C F) (lists : Listings S C L E) (writes : Writes F) (c : C) (usual : RefusesUsually view lists writes c) where
   abbrev count : S → ℕ
   count s = (view.state s).faults
 
@@ -43,7 +25,6 @@ module _ {S C : Type 0} (view : View S C PlainFile) (lists : Listings S C PlainD
   reached_counts s n (renames m k from to r before h) = further (count s) (count m) (count n) (reached_counts s m before) (usual.renames m n from to r h).counts
   reached_counts s n (copies m k from to r before h) = further (count s) (count m) (count n) (reached_counts s m before) (usual.copies m n from to r h).counts
   reached_counts s n (begins m k path how r before h) = further (count s) (count m) (count n) (reached_counts s m before) (usual.begins m n path how r h).counts
-  reached_counts s n (goes_on m k l j r before h) = further (count s) (count m) (count n) (reached_counts s m before) (usual.goes_on m n l j r h).counts
-  reached_counts s n (says m k e r before h lends) =
-      further (count s) (count m) (count n) (reached_counts s m before) (says_counts e.meta (view.state m) r (view.state n) (plain.says (view.state m) (view.state n) e r h))
+  reached_counts s n (goes_on m k l j r before h) = further (count s) (count m) (count n) (reached_counts s m before) (usual.goes_counts m n l j r h)
+  reached_counts s n (says m k e r before h lends) = further (count s) (count m) (count n) (reached_counts s m before) (usual.says_counts m n e r h)
   reached_counts s n (ends_list m k l before h) = further (count s) (count m) (count n) (reached_counts s m before) (usual.ends m n l h)
