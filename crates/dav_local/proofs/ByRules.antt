@@ -78,7 +78,7 @@ asked_keeps s t (inl same) = subst (Keeps s) (sym same) (keeps_same s)
 asked_keeps s t (inr (path, answer, metas)) = metas_keep true s path answer t metas
 
 -- What asks whether a path is absent leaves all of the disk as it was.
-tells_keeps : (p q : Place) (at : Names) (r : Result Bool Starved) → TellsAbsent p at r q → Keeps p.disk q.disk
+pub tells_keeps : (p q : Place) (at : Names) (r : Result Bool Starved) → TellsAbsent p at r q → Keeps p.disk q.disk
 tells_keeps p q at (Err e) tells = subst (λ (x : Place). Keeps p.disk x.disk) (sym tells.starved) (keeps_same p.disk)
 tells_keeps p q at (Ok b) tells = elim (true_or_false (asks_memory p.ways at)) [
   | inl asks ↦ asked_keeps p.disk q.disk (tells.dots asks).asks
@@ -388,7 +388,7 @@ begins_there v at wanted (Err e) s t told clear lists =
     refused_there e v at (listable (look v.tree at)) s t (listed.1 clear) lists.counted
 
 -- whether a listing is begun doesn't ask what is open
-begun_by : (w v : World) (at : Names) (stands : Result Row DiskError) (r : Result ListingState FsError) → BeginsThere (members_or v at stands) r → BeginsThere (members_or w at stands) r
+pub begun_by : (w v : World) (at : Names) (stands : Result Row DiskError) (r : Result ListingState FsError) → BeginsThere (members_or v at stands) r → BeginsThere (members_or w at stands) r
 begun_by w v at (Ok row) (Ok d) there = tt
 begun_by w v at (Ok row) (Err e) there = absurd there
 begun_by w v at (Err e) (Ok d) there = absurd there

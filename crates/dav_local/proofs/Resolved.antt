@@ -35,12 +35,13 @@ resolves_known ways s names at known is = record {
   keeps = keeps_same s;
   refused = tt;
   known = λ e. (refl, is);
+  starved = λ e. tt;
   alike = λ none. alone_names ways.alone at names is none;
   told = λ w told. record { end = or_walk ways.alone names; loosely = known_loosely ways.alone ways.folds w.tree names known; here = λ clear. is };
 }
 
 resolves_starved : (ways : Ways) (s : DiskState) (names : Names) → Resolves ways s names (Err FsError.NoMemory) s
-resolves_starved ways s names = record { keeps = keeps_same s; refused = inr refl; known = λ e. (refl, tt); alike = tt; told = tt }
+resolves_starved ways s names = record { keeps = keeps_same s; refused = inr refl; known = λ e. (refl, tt); starved = λ e. refl; alike = tt; told = tt }
 
 known_by : (ways : Ways) (s : DiskState) (names known : Names) (r : Result Names FsError) → is_known ways ≡ true → known ≡ or_walk ways.alone names → IfOk r (λ at. at ≡ known)
     → OnErr r (r ≡ Err FsError.NoMemory) → Resolves ways s names r s

@@ -1,6 +1,7 @@
 -- Where a local store finds a path, in every run.
-use Rattle.std.specs.Prelude.{◌≡◌, List, true, false, None, Some, Result, IfOk, OnErr}
+use Rattle.std.specs.Prelude.{◌≡◌, List, true, false, None, Some, Result, Err, IfOk, OnErr}
 use Rattle.dav_core.specs.declared.error.FsError.{FsError}
+use Rattle.dav_core.specs.declared.error.FsError.TheVariants.{NoMemory}
 use Rattle.dav_core.specs.declared.tree.Row.{Row}
 use Rattle.dav_core.specs.Disk.{DiskState}
 use Rattle.dav_core.specs.Path.{Names}
@@ -24,6 +25,7 @@ pub record Resolves (ways : Ways) (s : DiskState) (names : Names) (result : Resu
   pub keeps : Keeps s t
   pub refused : OnErr result (Spoiled s result t)
   pub known : is_known ways ≡ true → (t ≡ s) × IfOk result (λ at. at ≡ or_walk ways.alone names)
+  pub starved : is_known ways ≡ true → OnErr result (result ≡ Err NoMemory)
   -- where no file is served alone, what is found folds like the path
   pub alike : IfOk result (λ at. ways.alone ≡ None → fold_path at ≡ fold_path names)
   pub told : IfOk result (λ at. (w : World) → s.told ≡ Some w → Leads ways w.tree names at)
