@@ -1,6 +1,6 @@
 //! GET and HEAD over a store. There is one function for each line of the table from which a file is in hand, so that a
 //! file that was opened is always closed or given to a body.
-ghost use Rattle.std.specs.Prelude.{◌≡◌, ◌<◌, ◌⊎◌, ℕ, List, true, false, IsSome, Some, Result, Ok, Err};
+ghost use Rattle.std.specs.Prelude.{◌≡◌, ◌<◌, ◌⊎◌, ℕ, Bool, List, true, false, IsSome, Some, Result, Ok, Err};
 ghost use Rattle.dav_core.specs.declared.error.FsError.{FsError};
 ghost use Rattle.dav_core.specs.declared.member.Member.{Member};
 ghost use Rattle.dav_core.specs.DavPath.{WebPath};
@@ -474,7 +474,7 @@ fn is_well_known(asked: &Asked<'_>) -> bool
 /// none. `heard` says, of any store, that the answer is right for what its look and its opening or listing answered;
 /// `right`, that it is right for what the store shows at the path, and at the one that is opened or listed for what
 /// stands there, unless a fault was met. Either way memory may be refused. `asks` says, of a store that looks and opens
-/// by one call each, how many calls of the disk it takes, where no page is given.
+/// by one call each, as it is now, how many calls of the disk it takes, where no page is given.
 pub fn handle_get<S: GuardedFileSystem<C>, C>(
     alloc: Global,
     settings: &Settings,
@@ -500,8 +500,8 @@ pub fn handle_get<S: GuardedFileSystem<C>, C>(
         (query settings.now fields.now method path.now) looked opened listed
         → (result ≡ Err DavError.NoMemory) ⊎ IsRightFor (the_view S.GuardedFileSystem S.Disk.Disk S.File.DavFile)
         (query settings.now fields.now method path.now) looked opened listed fs.old result fs.new }
-    ensures asks { AsksByOne (the_view S.GuardedFileSystem S.Disk.Disk S.File.DavFile)
-        (the_listings S.GuardedFileSystem S.Entry.DavDirEntry)
+    ensures asks { (holds : S → Bool) → AsksByOne (the_view S.GuardedFileSystem S.Disk.Disk S.File.DavFile)
+        (the_listings S.GuardedFileSystem S.Entry.DavDirEntry) holds → holds fs.old ≡ true
         → (result ≡ Err DavError.NoMemory) ⊎ AsksUnlessKnown (the_is_well_known settings.now method path.now)
         (is_set settings.now.redirect) (status_given result) (fields_given fields.now result)
         (S.Disk.state (S.inside fs.old)).asked (S.Disk.state (S.inside fs.new)).asked }

@@ -255,7 +255,7 @@ pub given_answers : {S C : Type 0} (view : View S C PlainFile) (lists : Listings
     → Heard view lists (query settings fields method path) c s (Ok r) m
     → ((looked opened : WebPath → Result Standing FsError) (listed : WebPath → Result (List Member) FsError) → ShowsFor view lists s c (query settings fields method path) looked opened listed
     → IsRightFor view (query settings fields method path) looked opened listed s (Ok r) m)
-    → (AsksByOne view lists → (◌≡◌ {A = Given PlainFile} (Ok r) (Err OutOfMemory)) ⊎ AsksUnlessKnown (is_well_known settings method path) (is_set settings.redirect) r.0.status r.0.fields (view.state s).asked (view.state m).asked)
+    → ((holds : S → Bool) → AsksByOne view lists holds → holds s ≡ true → (◌≡◌ {A = Given PlainFile} (Ok r) (Err OutOfMemory)) ⊎ AsksUnlessKnown (is_well_known settings method path) (is_set settings.redirect) r.0.status r.0.fields (view.state s).asked (view.state m).asked)
     → IsHeld handle_of seen_by (view.state m) r.1 → OpensOnly handle_of (view.state s) r.1.file (view.state m) → HasMost (read_size_of settings.read_buf_size) (Ok r)
     → found.outcome ≡ r.0 → Gives (view.state m) r.1 found.body t → Answers settings (view.state s) (record { fields = fields; body = body }) (At method path) found t
 given_answers view lists plain lists_plain settings s m c method path fields body worlds tells r t found hears right asks held opens size outcome gives =
@@ -267,7 +267,7 @@ given_answers view lists plain lists_plain settings s m c method path fields bod
       right = reads_of view lists plain lists_plain (query settings fields method path) c s m worlds (Ok r) (reply_of (view.state m) found) hears right
           (same_given view lists plain lists_plain (query settings fields method path) c s m r found outcome gives' held);
       asks = λ folds macos. subst (λ (o : Outcome). AsksUnlessKnown (is_well_known settings method path) (is_set settings.redirect) o.status o.fields (view.state s).asked (view.state m).asked)
-          (sym outcome) (given_heard r (asks (plain_asks view lists plain lists_plain)));
+          (sym outcome) (given_heard r (asks (λ k. true) (plain_asks view lists plain lists_plain) refl));
     })
 
 -- An answer that is a refusal.
@@ -276,7 +276,7 @@ pub refused_answers : {S C : Type 0} (view : View S C PlainFile) (lists : Listin
     → (◌≡◌ {A = Given PlainFile} (Err e) (Err OutOfMemory)) ⊎ Heard view lists (query settings fields method path) c s (Err e) m → Keeps (view.state s) (view.state m)
     → ((looked opened : WebPath → Result Standing FsError) (listed : WebPath → Result (List Member) FsError) → ShowsFor view lists s c (query settings fields method path) looked opened listed
     → (◌≡◌ {A = Given PlainFile} (Err e) (Err OutOfMemory)) ⊎ IsRightFor view (query settings fields method path) looked opened listed s (Err e) m)
-    → (AsksByOne view lists → (◌≡◌ {A = Given PlainFile} (Err e) (Err OutOfMemory)) ⊎ AsksUnlessKnown (is_well_known settings method path) (is_set settings.redirect) (status_of e) (refusal fields (status_of e) (closes e)).fields (view.state s).asked (view.state m).asked)
+    → ((holds : S → Bool) → AsksByOne view lists holds → holds s ≡ true → (◌≡◌ {A = Given PlainFile} (Err e) (Err OutOfMemory)) ⊎ AsksUnlessKnown (is_well_known settings method path) (is_set settings.redirect) (status_of e) (refusal fields (status_of e) (closes e)).fields (view.state s).asked (view.state m).asked)
     → IfOk result (IsRefusedBy fields e) → Finds settings (view.state s) (record { fields = fields; body = body }) (At method path) result (view.state m)
 refused_answers view lists plain lists_plain settings s m c method path fields body worlds e (Err x) hears keeps right asks is =
     (open_kept (view.state s) (view.state m) keeps, keeps.world, tt)
@@ -291,7 +291,7 @@ refused_answers view lists plain lists_plain settings s m c method path fields b
       asks = λ folds macos. subst (λ n. AsksUnlessKnown (is_well_known settings method path) (is_set settings.redirect) n found.outcome.fields (view.state s).asked (view.state m).asked)
           (sym is.refused.status)
           (subst (λ fs. AsksUnlessKnown (is_well_known settings method path) (is_set settings.redirect) (status_of e) fs (view.state s).asked (view.state m).asked)
-          (sym is.refused.fields) (had (asks (plain_asks view lists plain lists_plain))));
+          (sym is.refused.fields) (had (asks (λ k. true) (plain_asks view lists plain lists_plain) refl)));
     }
   where
     had : {X : Type 0} → (◌≡◌ {A = Given PlainFile} (Err e) (Err OutOfMemory)) ⊎ X → X

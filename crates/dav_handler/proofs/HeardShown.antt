@@ -1,5 +1,5 @@
 -- From what a GET heard of the plain store to what the store could show, in every run.
-use Rattle.std.proofs.Common.{◌≡◌, ℕ, List, Option, Result, Err, subst}
+use Rattle.std.proofs.Common.{◌≡◌, inl, inr, ℕ, List, Option, Result, Err, subst}
 use Rattle.dav_io.specs.Counts.{Rose}
 use Rattle.std.specs.List.{AllByRecursion}
 use Rattle.dav_core.specs.declared.error.FsError.{FsError}
@@ -35,7 +35,7 @@ pub record Rightly (q : Query) (s t : ℕ) (reply : Reply) : Type 0 where
 module _ {S C : Type 0} (view : View S C PlainFile) (lists : Listings S C PlainDir PlainEntry) (plain : IsPlain view) (lists_plain : ListsPlain view lists) where
   pub refuses_few : RefusesFew view lists
   refuses_few = record {
-    looks = λ s t c path e looks. look_refuses (view.state s) (view.state t) path e (plain.looks_so s c path (Err e) t looks);
+    looks = λ s t c path e looks. elim (look_refuses (view.state s) (view.state t) path e (plain.looks_so s c path (Err e) t looks)) [ inl could ↦ inl could | inr fault ↦ inr (inl fault) ];
     opens = λ s t c path e opens. open_refuses (view.state s) (view.state t) path e (plain.opens_so s c path reading (Err e) t opens);
     begins = λ s t c path e listed. list_refuses (view.state s) (view.state t) path.names e (lists_plain.lists_so s c path (Err e) t listed);
   }

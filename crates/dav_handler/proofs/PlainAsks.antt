@@ -20,6 +20,7 @@ use Rattle.dav_plain.specs.Listing.{Begins}
 use Rattle.dav_plain.proofs.MembersShown.{ListsPlain}
 use Rattle.dav_plain.proofs.Showing.{IsPlain}
 use Rattle.dav_get.specs.Calls.{AsksByOne, AsksToOpen}
+use Rattle.dav_get.proofs.Asking.{asked_once}
 
 filed_asks : (answer : Result Handle DiskError) (s t : DiskState) → AsksOnce s t → AsksToOpen (filed answer) s t
 filed_asks (Ok h) s t one = one
@@ -38,9 +39,10 @@ begins_asks : (path : Names) (e : FsError) (s t : DiskState) → Begins s path D
 begins_asks path e s t (inl (is, same)) = inl (ap (λ (d : DiskState). d.asked) same)
 begins_asks path e s t (inr (answer, lists, is)) = refuses_asks answer path e s t lists
 
-pub plain_asks : {S C : Type 0} (view : View S C PlainFile) (lists : Listings S C PlainDir PlainEntry) → IsPlain view → ListsPlain view lists → AsksByOne view lists
+pub plain_asks : {S C : Type 0} (view : View S C PlainFile) (lists : Listings S C PlainDir PlainEntry) → IsPlain view → ListsPlain view lists → AsksByOne view lists (λ s. true)
 plain_asks view lists plain lists_plain = record {
-  looks = λ s t c path r h. (let (answer, metas, is) = plain.looks_so s c path r t h in metas.asks.asked);
-  opens = λ s t c path o h. opens_asks path.slash path o (view.state s) (view.state t) refl (plain.opens_so s c path reading o t h);
-  refuses_list = λ s t c path e h. begins_asks path.names e (view.state s) (view.state t) (lists_plain.lists_so s c path (Err e) t h);
+  looks = λ s t c path r here h. (let (answer, metas, is) = plain.looks_so s c path r t h in asked_once r (view.state s) (view.state t) metas.asks.asked);
+  stays = λ s t c path r here h. refl;
+  opens = λ s t c path o here h. opens_asks path.slash path o (view.state s) (view.state t) refl (plain.opens_so s c path reading o t h);
+  refuses_list = λ s t c path e here h. begins_asks path.names e (view.state s) (view.state t) (lists_plain.lists_so s c path (Err e) t h);
 }
