@@ -1,0 +1,5 @@
+pub mod LocalUsual
+pub mod LocalReads
+pub mod LocalAsks
+pub mod PlainWays
+pub mod LocalFollows
