@@ -1,3 +1,4 @@
+pub mod By
 pub mod Held
 pub mod Found
 pub mod Player

@@ -1,6 +1,6 @@
 // The gates of a request with its whole body.
 ghost use Rattle.std.specs.Prelude.{◌≡◌, IfOk};
-ghost use Rattle.dav_model.specs.Rules.{plain_rules};
+ghost use Rattle.dav_model.specs.Rules.{Rules};
 ghost use Rattle.dav_model.specs.Trail.{target_of};
 
 use dav_config::{admitted, bulk_of, weighed};
@@ -15,7 +15,8 @@ pub fn target(
     settings: &Settings,
     request: &Request<Octets>,
 ) -> Result<Target, NoMemory>
-    ensures { IfOk result (λ target. target ≡ target_of (plain_rules settings.now) request.now) }
+    ensures { IfOk result (λ target. (rules : Rules) → rules.settings ≡ settings.now
+        → target ≡ target_of rules request.now) }
 {
     let target = admitted(alloc, settings, true, request)?;
     let bulk = bulk_of(request.body().as_slice());

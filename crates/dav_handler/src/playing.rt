@@ -3,14 +3,15 @@ ghost use Rattle.dav_handler.specs.Player.{stage_of};
 ghost use Rattle.dav_model.specs.Play.{PlayedOn};
 
 use crate::player::Player;
+use dav_cache::Remember;
 use dav_core::Disk;
 use dav_io::NoMemory;
 use dav_model::{Answer, Step};
 
 /// Answers steps in order: one answer for each, appended to `answers`. After want of memory the answers of the earlier
 /// steps stand, and the bodies that were open before are as they were before the refused step.
-pub fn play<D: Disk>(
-    player: &mut Player<D>,
+pub fn play<D: Disk, R: Remember>(
+    player: &mut Player<D, R>,
     steps: &[Step],
     answers: &mut Vec<Answer>,
 ) -> Result<(), NoMemory>

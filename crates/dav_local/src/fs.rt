@@ -89,6 +89,13 @@ impl<D, R> LocalFs<D, R> {
         }
     }
 
+    /// The disk.
+    pub fn disk(&self) -> &D
+        ensures { result.now ≡ self.now.disk }
+    {
+        &self.disk
+    }
+
     /// Gives the disk and the memory back.
     pub fn into_parts(self) -> (D, R)
         ensures { result ≡ (self.disk, self.memory) }

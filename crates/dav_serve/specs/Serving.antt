@@ -9,7 +9,7 @@ use Rattle.dav_io.specs.Outside.{Stream}
 use Rattle.dav_io.specs.declared.clock.Moment.{Moment}
 use Rattle.dav_model.specs.declared.answer.Answer.TheVariants.{Broken, Done}
 use Rattle.dav_model.specs.declared.settings.Settings.{Settings}
-use Rattle.dav_model.specs.Rules.{Rules, nothing_known, plain_rules}
+use Rattle.dav_model.specs.Rules.{Rules, nothing_known}
 use Rattle.dav_model.specs.Trail.{Point}
 use Rattle.dav_wire.specs.Announced.{announces}
 use Rattle.dav_wire.specs.Answers.{refusal_text}
@@ -29,8 +29,8 @@ pub record Setup : Type 0 where
   pub shown : Option Moment
   pub rules : Rules
 
-abbrev pub setup_with : Option Moment → Settings → Setup
-setup_with shown settings = record { shown = shown; rules = plain_rules settings }
+abbrev pub setup_with : Option Moment → Rules → Setup
+setup_with shown rules = record { shown = shown; rules = rules }
 
 -- a new player over the disk
 abbrev pub ready : Rules → Point → Stage

@@ -9,7 +9,7 @@ ghost use Rattle.dav_serve.specs.Stages.{outlet_of, work_of};
 
 use crate::turns::{poll_turn, request_turn};
 use dav_core::Disk;
-use dav_handler::{Answer, Player};
+use dav_handler::{Answer, Forget, Player};
 use dav_io::{Field, Moment, NoMemory, Octets, Sink};
 use dav_wire::{
     Framing, Output, answer_head, asks_close, framing, is_old, says_close, takes_chunks,
@@ -65,7 +65,7 @@ fn closes_after(parts: &Parts) -> bool
 /// flush.
 pub fn exchange<K: Sink, D: Disk>(
     alloc: Global,
-    player: &mut Player<D>,
+    player: &mut Player<D, Forget>,
     output: &mut Output,
     sink: &mut K,
     now: Moment,

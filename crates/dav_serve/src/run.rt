@@ -1,6 +1,6 @@
 // The top call: all that the program does, over what is handed in.
 ghost use Rattle.std.specs.Prelude.{◌≡◌, ◌↔◌, IfOk, IfSome, None, Ok, OnErr};
-ghost use Rattle.dav_serve.specs.Words.{settings_said};
+ghost use Rattle.dav_serve.specs.Words.{rules_said};
 ghost use Rattle.dav_serve.specs.Serving.{HoldsSoFar, ServeEnds, ServedPartly, setup_with};
 ghost use Rattle.dav_serve.specs.Stages.{outside_of};
 ghost use Rattle.dav_serve.specs.Completing.{StatusIs};
@@ -27,25 +27,25 @@ pub fn run<S: Client<K>, K: Sink, D: Disk, C: Clock>(
     disk: &mut D,
     clock: &mut C,
 ) -> Result<u8, NoMemory>
-    requires waits { IfSome (settings_said words.now) (λ settings. HoldsSoFar
-        (setup_with (C.shows clock.old) settings)
+    requires waits { IfSome (rules_said words.now) (λ rules. HoldsSoFar
+        (setup_with (C.shows clock.old) rules)
         (outside_of (S.stream source.old) (K.stream sink.old) (D.state disk.old))
         (S.may source.old)) }
-    ensures words { (result ≡ Ok 2) ↔ (settings_said words.now ≡ None) }
-    ensures source { settings_said words.now ≡ None → S.stream source.new ≡ S.stream source.old }
-    ensures sink { settings_said words.now ≡ None → K.stream sink.new ≡ K.stream sink.old }
-    ensures disk { settings_said words.now ≡ None → D.state disk.new ≡ D.state disk.old }
+    ensures words { (result ≡ Ok 2) ↔ (rules_said words.now ≡ None) }
+    ensures source { rules_said words.now ≡ None → S.stream source.new ≡ S.stream source.old }
+    ensures sink { rules_said words.now ≡ None → K.stream sink.new ≡ K.stream sink.old }
+    ensures disk { rules_said words.now ≡ None → D.state disk.new ≡ D.state disk.old }
     ensures clock { C.shows clock.new ≡ C.shows clock.old }
-    ensures serves { IfSome (settings_said words.now) (λ settings. IfOk result (ServeEnds
-        (setup_with (C.shows clock.old) settings)
+    ensures serves { IfSome (rules_said words.now) (λ rules. IfOk result (ServeEnds
+        (setup_with (C.shows clock.old) rules)
         (outside_of (S.stream source.old) (K.stream sink.old) (D.state disk.old))
         (outside_of (S.stream source.new) (K.stream sink.new) (D.state disk.new)))) }
-    ensures complete { IfSome (settings_said words.now) (λ settings. IfOk result (StatusIs
-        (setup_with (C.shows clock.old) settings)
+    ensures complete { IfSome (rules_said words.now) (λ rules. IfOk result (StatusIs
+        (setup_with (C.shows clock.old) rules)
         (outside_of (S.stream source.old) (K.stream sink.old) (D.state disk.old))
         (outside_of (S.stream source.new) (K.stream sink.new) (D.state disk.new)))) }
-    ensures memory { IfSome (settings_said words.now) (λ settings. OnErr result (ServedPartly
-        (setup_with (C.shows clock.old) settings)
+    ensures memory { IfSome (rules_said words.now) (λ rules. OnErr result (ServedPartly
+        (setup_with (C.shows clock.old) rules)
         (outside_of (S.stream source.old) (K.stream sink.old) (D.state disk.old))
         (outside_of (S.stream source.new) (K.stream sink.new) (D.state disk.new)))) }
 {

@@ -1,20 +1,19 @@
 // Serving the requests of a source, one after the other.
 ghost use Rattle.std.specs.Prelude.{◌≡◌, ◌++◌, IfOk, OnErr, []};
 ghost use Rattle.dav_handler.specs.Player.{stage_of};
-ghost use Rattle.dav_model.specs.Rules.{plain_rules};
 ghost use Rattle.dav_wire.specs.Answers.{refusal_text as the_refusal_text};
 ghost use Rattle.dav_serve.specs.declared.ending.Ending.TheVariants.{Refused};
 ghost use Rattle.dav_serve.specs.Ends.{Answers, IsAnswerTo, MemoryStopped};
 ghost use Rattle.dav_serve.specs.Serving.{HoldsSoFar, EndsBy, ServedPartly, Starved, Finishes, ready, setup_with};
 ghost use Rattle.dav_serve.specs.Stages.{outlet_of, outside_of, work_of};
-ghost use Rattle.dav_serve.specs.Words.{set_by};
+ghost use Rattle.dav_serve.specs.Words.{set_by, settings_by};
 
 use crate::asking::{Message, Next, next_message};
 use crate::ending::Ending;
 use crate::exchange::{Ended, exchange, manner_of};
 use crate::words::Options;
 use dav_core::Disk;
-use dav_handler::{DavConfig, PlainFs, Player, Settings};
+use dav_handler::{DavConfig, Forget, LocalFs, Player, Settings};
 use dav_io::{Client, Clock, Moment, NoMemory, Sink};
 use dav_wire::{Flaw, Input, Output, ReadError, refusal_text};
 use http::Request;
@@ -27,14 +26,21 @@ struct Held {
     output: Output,
 }
 
-// A player over the disk from its root on, by these settings. It gave no reply yet.
-fn player_over<D: Disk + Drop>(alloc: Global, disk: D, settings: Settings) -> Player<D>
+// A player over the disk from its root on, by these settings, whose store finds names as the options say and remembers
+// nothing. It gave no reply yet.
+fn player_over<D: Disk + Drop>(
+    alloc: Global,
+    disk: D,
+    settings: Settings,
+    options: &Options<'_>,
+) -> Player<D, Forget>
     ensures loan { D.loan result.store.disk ≡ D.loan disk }
-    ensures stage { stage_of result ≡ ready (plain_rules settings) (D.state disk) }
+    ensures stage { settings ≡ settings_by options.now → stage_of result ≡ ready (set_by options.now) (D.state disk) }
 {
+    let store = LocalFs::new(disk, Forget, false, options.fold, options.macos);
     let handler = DavConfig::new(alloc)
         .settings(settings)
-        .filesystem(PlainFs::new(disk))
+        .filesystem(store)
         .build_handler();
     Player::new(handler)
 }
@@ -50,10 +56,10 @@ fn answer<K: Sink, D: Disk>(
     message: Message,
 ) -> Result<Ended, NoMemory>
     ensures ends { IfOk result (λ ended. Answers message.parts message.body now
-        (work_of (K.stream sink.old) output.old (ready (plain_rules (set_by options.now)) (D.state disk.old)))
+        (work_of (K.stream sink.old) output.old (ready (set_by options.now) (D.state disk.old)))
         ended (outlet_of (K.stream sink.new) output.new) (D.state disk.new)) }
     ensures memory { OnErr result (MemoryStopped (IsAnswerTo message.parts message.body now)
-        (work_of (K.stream sink.old) output.old (ready (plain_rules (set_by options.now)) (D.state disk.old)))
+        (work_of (K.stream sink.old) output.old (ready (set_by options.now) (D.state disk.old)))
         (outlet_of (K.stream sink.new) output.new) (D.state disk.new)) }
 {
     let manner = manner_of(&message.parts);
@@ -63,9 +69,9 @@ fn answer<K: Sink, D: Disk>(
         Ok(settings) => settings,
         Err(error) => return Err(error),
     };
-    let mut player = player_over(alloc, &mut *disk, settings);
+    let mut player = player_over(alloc, &mut *disk, settings, options);
     let ended = exchange(alloc, &mut player, output, sink, now, manner, request);
-    let _ = player.into_disk();
+    let _ = player.into_parts();
     ended
 }
 

@@ -7,7 +7,7 @@ ghost use Rattle.dav_model.specs.declared.step.Step.TheVariants.{Poll, Purge, Re
 ghost use Rattle.dav_model.specs.declared.answer.Answer.TheVariants.{Done, Reply as Replied};
 
 use dav_core::Disk;
-use dav_handler::{Answer, Player, Step};
+use dav_handler::{Answer, Forget, Player, Step};
 use dav_io::{Fields, Moment, NoMemory, Octets};
 use http::Request;
 
@@ -20,7 +20,7 @@ pub struct Reply {
 }
 
 /// A turn of the outside and a poll.
-pub fn poll_turn<D: Disk>(player: &mut Player<D>, body: u32) -> Result<Answer, NoMemory>
+pub fn poll_turn<D: Disk>(player: &mut Player<D, Forget>, body: u32) -> Result<Answer, NoMemory>
     requires { player.old.replies + 2 < 2 ^ 32 }
     ensures loan { D.loan player.new.store.disk ≡ D.loan player.old.store.disk }
     ensures replies { OnOk result (player.new.replies ≤ player.old.replies) }
@@ -41,7 +41,7 @@ pub fn poll_turn<D: Disk>(player: &mut Player<D>, body: u32) -> Result<Answer, N
 
 /// A turn of the outside, a purge and a request.
 pub fn request_turn<D: Disk>(
-    player: &mut Player<D>,
+    player: &mut Player<D, Forget>,
     now: Moment,
     request: Request<Octets>,
 ) -> Result<Reply, NoMemory>
