@@ -19,7 +19,7 @@ use dav_core::{DavError, DavMethod, DavMethodSet, DavPath, Disk};
 use dav_follows::{plain_stores_follow_rules, plain_stores_refuse_few};
 use dav_get::{GetBody, handle_get};
 use dav_io::{NoMemory, Octets};
-use dav_methods::{delete, mkcalendar, mkcol, options, put_whole};
+use dav_methods::{copy, delete, mkcalendar, mkcol, move_to, options, put_whole};
 use dav_model::{Outcome, Settings, Target};
 use dav_plain::{PlainEntry, PlainFile, PlainFs};
 use dav_store::{DavDirEntry, DavFile, DavFileSystem, GuardedFileSystem};
@@ -116,7 +116,7 @@ fn find_at<D: Disk>(
     }
 }
 
-// What a method that writes is answered, of a request whose body is in memory.
+// What a method that writes is answered, of a request whose body is in memory. The prefix is that of a destination.
 fn change<D: Disk>(
     alloc: Global,
     store: &mut PlainFs<D>,
@@ -124,10 +124,11 @@ fn change<D: Disk>(
     path: &DavPath,
     fields: &HeaderMap,
     body: &[u8],
+    prefix: &str,
 ) -> Result<Outcome, DavError>
     ensures table { Changes (the_view ⟦<PlainFs<D> as GuardedFileSystem<()>>⟧ D.Disk ⟦<PlainFile as DavFile<D>>⟧)
         (the_listings ⟦<PlainFs<D> as GuardedFileSystem<()>>⟧ ⟦<PlainEntry as DavDirEntry<D>>⟧)
-        ⟦<PlainFile as DavFile<D>>⟧.writes tt method path.now fields.now body.now store.old result store.new }
+        ⟦<PlainFile as DavFile<D>>⟧.writes tt method prefix.now path.now fields.now body.now store.old result store.new }
     ensures keeps { KeepsOpen (D.state store.old.disk) (D.state store.new.disk) }
     ensures loan { D.loan store.new.disk ≡ D.loan store.old.disk }
 {
@@ -135,6 +136,8 @@ fn change<D: Disk>(
         DavMethod::Put => put_whole(alloc, store, &(), path, fields, body),
         DavMethod::MkCol => mkcol(alloc, store, &(), path, fields),
         DavMethod::Delete => delete(alloc, store, &(), path, fields),
+        DavMethod::Copy => copy(alloc, store, &(), path, fields, prefix),
+        DavMethod::Move => move_to(alloc, store, &(), path, fields, prefix),
         _ => mkcalendar(alloc, store, &(), path, fields),
     }
 }
@@ -155,7 +158,8 @@ fn write_at<D: Disk>(
 {
     plain_stores_refuse_few(store);
     plain_stores_follow_rules(store, settings);
-    match change(alloc, store, method, path, fields, body) {
+    let prefix = settings.prefix.as_str();
+    match change(alloc, store, method, path, fields, body, prefix) {
         Ok(outcome) => Ok(alone(outcome)),
         Err(error) => refuse(alloc, fields, error),
     }

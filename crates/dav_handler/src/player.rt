@@ -14,6 +14,7 @@ use dav_plain::PlainFs;
 use dav_store::DavFileSystem;
 use http::Request;
 use std::alloc::Global;
+use std::mem;
 
 /// Answers steps over a disk. It numbers its replies from 0, and keeps the body of each reply of which something is left.
 pub struct Player<D: Disk> {
@@ -28,7 +29,7 @@ pub struct Player<D: Disk> {
 impl<D: Disk> Player<D> {
     ghost use Rattle.dav_handler.specs.Player.{plain_playing, playing_of, stage_of};
     ghost use Rattle.dav_model.specs.Play.{AreFull, StaysOpen, Stepped};
-    ghost use Rattle.dav_model.specs.declared.step.Step.TheVariants.{Abandon, Poll, Turn, Request as Asks};
+    ghost use Rattle.dav_model.specs.declared.step.Step.TheVariants.{Abandon, Poll, Purge, Turn, Request as Asks};
 
     /// A player over the store of a handler, which has one, by the handler's settings. It gave no reply yet.
     pub fn new(handler: DavHandler<PlainFs<D>, ()>) -> Self
@@ -87,8 +88,10 @@ impl<D: Disk> Player<D> {
         store.into_disk()
     }
 
-    // A turn of the outside.
-    fn turn(&mut self) -> Result<Answer, NoMemory>
+    /// A turn of the outside, as its step is answered.
+    pub fn turn(&mut self) -> Result<Answer, NoMemory>
+        ensures held { StaysOpen (D.state self.old.store.disk) (playing_of self.old) }
+        ensures full { AreFull (playing_of self.old) }
         ensures done { Stepped (stage_of self.old) Turn result (stage_of self.new) }
         ensures loan { D.loan self.new.store.disk ≡ D.loan self.old.store.disk }
     {
@@ -107,8 +110,17 @@ impl<D: Disk> Player<D> {
         Answer::Done
     }
 
-    // A request. A file that was opened for it is held by its body, or closed again.
-    fn request(&mut self, request: &Request<Octets>, now: Moment) -> Result<Answer, NoMemory>
+    /// Drops what caches hold too long at this moment, as its step is answered. There are none.
+    pub fn purge(&mut self, now: Moment) -> Answer
+        ensures done { Stepped (stage_of self.old) (Purge now) (Ok result) (stage_of self.new) }
+        ensures loan { D.loan self.new.store.disk ≡ D.loan self.old.store.disk }
+    {
+        let _now = now;
+        Answer::Done
+    }
+
+    /// A request, as its step is answered. A file that was opened for it is held by its body, or closed again.
+    pub fn request(&mut self, request: &Request<Octets>, now: Moment) -> Result<Answer, NoMemory>
         requires { self.old.replies + 1 < 2 ^ 32 }
         ensures done { Stepped (stage_of self.old) (Asks request.now now) result (stage_of self.new) }
         ensures loan { D.loan self.new.store.disk ≡ D.loan self.old.store.disk }
@@ -137,15 +149,25 @@ impl<D: Disk> Player<D> {
         }
     }
 
-    // The next piece of a body. Its memory is taken before the disk is asked.
+    // The next piece of a body.
     fn poll(&mut self, body: u32) -> Result<Answer, NoMemory>
+        ensures done { Stepped (stage_of self.old) (Poll body) result (stage_of self.new) }
+        ensures loan { D.loan self.new.store.disk ≡ D.loan self.old.store.disk }
+    {
+        let mut spare = Vec::new(self.alloc);
+        self.poll_over(body, &mut spare)
+    }
+
+    /// The next piece of a body, as its step is answered. Its memory is that of `spare`, which has none then, and more
+    /// where that isn't enough; it is taken before the disk is asked.
+    pub fn poll_over(&mut self, body: u32, spare: &mut Vec<u8>) -> Result<Answer, NoMemory>
         ensures done { Stepped (stage_of self.old) (Poll body) result (stage_of self.new) }
         ensures loan { D.loan self.new.store.disk ≡ D.loan self.old.store.disk }
     {
         let Some(open) = open_body(&self.bodies, body) else {
             return Ok(Answer::End);
         };
-        let Ok(room) = Vec::with_capacity(self.alloc, open.next_most()) else {
+        let Ok(room) = open.make_room(mem::replace(spare, Vec::new(self.alloc))) else {
             return Err(NoMemory);
         };
         let answer = poll_body(&mut self.bodies, &mut self.store, body, room);
@@ -167,7 +189,7 @@ impl<D: Disk> Player<D> {
             Step::Request { request, now } => self.request(request, *now),
             Step::Poll(body) => self.poll(*body),
             Step::Abandon(body) => Ok(self.abandon(*body)),
-            Step::Purge(_now) => Ok(Answer::Done),
+            Step::Purge(now) => Ok(self.purge(*now)),
             Step::Turn => self.turn(),
         }
     }
