@@ -1,6 +1,6 @@
 #define _GNU_SOURCE
 /* What serving files over standard input and output costs by itself: GET of a regular file, of one range or of the page of a
- * directory, nothing checked. One buffer of 16 KiB; the head and the first bytes leave in one write. It is a yardstick and
+ * directory, and 304 by an equal tag; the fields of a request are read, and nothing is checked. One buffer of 16 KiB; the head and the first bytes leave in one write. It is a yardstick and
  * no server.
  *   floor ROOT */
 #include <dirent.h>
@@ -8,6 +8,7 @@
 #include <stdio.h>
 #include <stdlib.h>
 #include <string.h>
+#include <strings.h>
 #include <sys/stat.h>
 #include <time.h>
 #include <unistd.h>
@@ -24,18 +25,18 @@ static void write_all(const char *bytes, size_t count) {
 }
 
 /* The head of the bytes from `first` on, `count` of them. */
-static size_t head_of(char *into, const struct stat *meta, long long first, long long count) {
+static size_t head_of(char *into, const struct stat *meta, int status, long long first, long long count) {
   struct tm time;
   char date[64], span[96] = "";
   gmtime_r(&meta->st_mtime, &time);
   strftime(date, sizeof date, "%a, %d %b %Y %H:%M:%S GMT", &time);
-  if (count < meta->st_size) {
+  if (status == 206) {
     snprintf(span, sizeof span, "content-range: bytes %lld-%lld/%lld\r\n", first, first + count - 1, (long long)meta->st_size);
   }
   return (size_t)snprintf(into, HEAD,
       "HTTP/1.1 %s\r\naccept-ranges: bytes\r\ncontent-length: %lld\r\n%scontent-type: application/octet-stream\r\n"
       "etag: \"%lx-%lx-%lx\"\r\nlast-modified: %s\r\n\r\n",
-      *span ? "206 Partial Content" : "200 OK", count, span, (long)meta->st_ino, (long)meta->st_size,
+      status == 206 ? "206 Partial Content" : status == 304 ? "304 Not Modified" : "200 OK", count, span, (long)meta->st_ino, (long)meta->st_size,
       (long)(meta->st_mtim.tv_sec * 1000000 + meta->st_mtim.tv_nsec / 1000), date);
 }
 
@@ -91,8 +92,20 @@ static void list(int file, const char *target, int length) {
   closedir(open_dir);
 }
 
-static void answer(const char *root, const char *target, int length, const char *range) {
-  static char path[4096], out[HEAD + PIECE];
+/* What a request asks for besides its target. */
+struct asked {
+  const char *range, *tag;
+  int tag_length;
+};
+
+/* The entity tag of a file. */
+static int tag_of(char *into, size_t room, const struct stat *meta) {
+  return snprintf(into, room, "\"%lx-%lx-%lx\"", (long)meta->st_ino, (long)meta->st_size,
+      (long)(meta->st_mtim.tv_sec * 1000000 + meta->st_mtim.tv_nsec / 1000));
+}
+
+static void answer(const char *root, const char *target, int length, struct asked asked) {
+  static char path[4096], out[HEAD + PIECE], tag[64];
   struct stat meta;
   snprintf(path, sizeof path, "%s%.*s", root, length, target);
   int file = open(path, O_RDONLY);
@@ -102,14 +115,18 @@ static void answer(const char *root, const char *target, int length, const char 
     return;
   }
   long long first = 0, last = meta.st_size - 1;
-  if (range != NULL) {
+  int status = 200;
+  if (asked.tag != NULL && tag_of(tag, sizeof tag, &meta) == asked.tag_length && memcmp(tag, asked.tag, (size_t)asked.tag_length) == 0) {
+    status = 304;
+  } else if (asked.range != NULL) {
     char *dash;
-    first = strtoll(range, &dash, 10);
+    status = 206;
+    first = strtoll(asked.range, &dash, 10);
     last = strtoll(dash + 1, NULL, 10);
     if (lseek(file, first, SEEK_SET) < 0) exit(5);
   }
-  long long left = last + 1 - first;
-  size_t held = head_of(out, &meta, first, left);
+  long long left = status == 304 ? 0 : last + 1 - first;
+  size_t held = head_of(out, &meta, status, first, last + 1 - first);
   while (left > 0) {
     ssize_t count = read(file, out + held, left < PIECE ? (size_t)left : PIECE);
     if (count <= 0) exit(5);
@@ -119,6 +136,20 @@ static void answer(const char *root, const char *target, int length, const char 
   }
   if (held > 0) write_all(out, held);
   close(file);
+}
+
+/* Reads the fields of a head, line by line. */
+static struct asked fields_of(const char *line, const char *last) {
+  struct asked asked = {NULL, NULL, 0};
+  for (; line < last + 2; line = (const char *)memchr(line, '\n', (size_t)(last + 2 - line)) + 1) {
+    if (strncasecmp(line, "range: bytes=", 13) == 0) {
+      asked.range = line + 13;
+    } else if (strncasecmp(line, "if-none-match: ", 15) == 0) {
+      asked.tag = line + 15;
+      asked.tag_length = (int)((const char *)memchr(line, '\r', (size_t)(last + 2 - line)) - asked.tag);
+    }
+  }
+  return asked;
 }
 
 int main(int count, char **words) {
@@ -139,8 +170,8 @@ int main(int count, char **words) {
     char *first = memchr(in + start, ' ', (size_t)(last - in) - start);
     char *behind = first == NULL ? NULL : memchr(first + 1, ' ', (size_t)(last - first - 1));
     if (behind == NULL) return 6;
-    char *range = memmem(behind, (size_t)(last - behind), "Range: bytes=", 13);
-    answer(words[1], first + 1, (int)(behind - first - 1), range == NULL ? NULL : range + 13);
-    start = (size_t)(last - in) + 4;
+    const char *line = (const char *)memchr(behind, '\n', (size_t)(last + 2 - behind)) + 1;
+    answer(words[1], first + 1, (int)(behind - first - 1), fields_of(line, last));
+    start = (size_t)(last + 4 - in);
   }
 }

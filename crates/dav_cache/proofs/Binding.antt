@@ -41,7 +41,8 @@ nothing_more (n ∷ at) = ap (λ (l : Names). n ∷ l) (nothing_more at)
 
 walk_is : (tree : Tree) (at names : Names) (row : Row) → look_from tree at names ≡ Ok row → row_at tree (at ++ names) ≡ Some row
 walk_is tree at [] row e = ap (row_at tree) (nothing_more at) ∙ standing_is (row_at tree at) row e
-walk_is tree at (name ∷ names) row e = ap (row_at tree) (sym (append_assoc at (name ∷ []) names)) ∙ walk_is tree (at ++ name ∷ []) names row (below_is (row_at tree at) _ row e)
+walk_is tree at (name ∷ names) row e =
+    ap (row_at tree) (sym (append_assoc at (name ∷ []) names)) ∙ walk_is tree (at ++ name ∷ []) names row (below_is (row_at tree at) _ row e)
 
 look_is : (tree : Tree) (path : Names) (row : Row) → look tree path ≡ Ok row → row_at tree path ≡ Some row
 look_is tree path row e = walk_is tree [] path row e
@@ -67,7 +68,8 @@ without-twice test (e ∷ es) = (elim (test e.0) as (λ y. test e.0 ≡ y → wi
   | false ↦ λ t. rw (t, t) (ap (λ (l : Paths). e ∷ l) (without-twice test es))
 ]) refl
 
-without-front : (key : Names) (e : PathEntry) (es : Paths) → without (same_path key) ((key, e) ∷ without (same_path key) es) ≡ without (same_path key) es
+without-front : (key : Names) (e : PathEntry) (es : Paths)
+    → without (same_path key) ((key, e) ∷ without (same_path key) es) ≡ without (same_path key) es
 without-front key e es = rw ((path_decides key key).1 refl) (without-twice (same_path key) es)
 
 module _ (s : State) (c : ℕ) (idle : slice_get s.places c ≡ Some Idle) where
@@ -137,7 +139,8 @@ module _ (s : State) (c : ℕ) (idle : slice_get s.places c ≡ Some Idle) where
           let (row, found, known) = metas.told w tells no_link in
           ap is_some (ap (λ (t : Tree). row_at t p) (sym tree) ∙ look_is w.tree p row found)
 
-      by_answer : (e : PathEntry) → lookup (same_path (fold_path path)) s.paths ≡ Some e → (answer : Result Meta DiskError) → Metas before e.path answer after
+      by_answer : (e : PathEntry) → lookup (same_path (fold_path path)) s.paths ≡ Some e → (answer : Result Meta DiskError)
+          → Metas before e.path answer after
           → GetIsEvents s c path (option_map (λ f. f.0) (found_by e.path answer)) (probed (is_ok answer) (fold_path path) e s.paths)
       by_answer e is (Ok meta) metas =
           let all = hit e is (there e.path meta (free e is) metas) in
@@ -157,7 +160,8 @@ module _ (s : State) (c : ℕ) (idle : slice_get s.places c ≡ Some Idle) where
       }
 
       gets-by : (o : Option PathEntry) → lookup (same_path (fold_path path)) s.paths ≡ o → (found : Option (Names × Meta)) (new : PathCache)
-          → Looks o (record { entries = s.paths; size = s.paths_size }) path before found new after → GetIsEvents s c path (option_map (λ f. f.0) found) new.entries
+          → Looks o (record { entries = s.paths; size = s.paths_size }) path before found new after
+          → GetIsEvents s c path (option_map (λ f. f.0) found) new.entries
       gets-by None is found new (none, same, asked) =
           let all = gets ∙ ap found-at is in
           record {
@@ -165,14 +169,17 @@ module _ (s : State) (c : ℕ) (idle : slice_get s.places c ≡ Some Idle) where
             last = Get c;
             row = inl refl;
             tells = ap (λ (t : Turn). t.1) all ∙ ap (λ (f : Option (Names × Meta)). Path (option_map (λ g. g.0) f)) (sym none);
-            leaves = ap (λ (t : Turn). t.0) all ∙ ap (λ (ps : List Place). let t : State = record s { places = ps } in t) (again (Finding path)) ∙ ap (λ (k : PathCache). let t : State = record s { paths = k.entries } in t) (sym same);
+            leaves =
+                ap (λ (t : Turn). t.0) all ∙ ap (λ (ps : List Place). let t : State = record s { places = ps } in t) (again (Finding path))
+                ∙ ap (λ (k : PathCache). let t : State = record s { paths = k.entries } in t) (sym same);
           }
       gets-by (Some e) is found new (answer, metas, tells_, left) =
           subst (λ (f : Option (Names × Meta)). GetIsEvents s c path (option_map (λ g. g.0) f) new.entries) (sym tells_)
           (subst (λ (k : PathCache). GetIsEvents s c path (option_map (λ g. g.0) (found_by e.path answer)) k.entries) (sym left) (by_answer e is answer metas))
 
 pub gets_are_events : GetsAreEvents
-gets_are_events s c path before after w found new idle tells tree free looks = gets-by s c idle path before after w tells tree free (lookup (same_path (fold_path path)) s.paths) refl found new looks
+gets_are_events s c path before after w found new idle tells tree free looks =
+    gets-by s c idle path before after w tells tree free (lookup (same_path (fold_path path)) s.paths) refl found new looks
 
 -- ---- asking whether a name is absent
 
@@ -202,7 +209,8 @@ module _ (s : State) (c : ℕ) (idle : slice_get s.places c ≡ Some Idle) (dir 
     abbrev checked : Bool → Place
     checked b = if b then Passed dir name e.number e.time else Failed dir
 
-    checks : (refused b : Bool) → is_time e.time (time_told refused s.tree dir) ≡ b → run s (Ask c dir name ∷ Peek c ∷ Check c refused ∷ []) ≡ record s { places = slice_set p2 c (checked b) }
+    checks : (refused b : Bool) → is_time e.time (time_told refused s.tree dir) ≡ b
+        → run s (Ask c dir name ∷ Peek c ∷ Check c refused ∷ []) ≡ record s { places = slice_set p2 c (checked b) }
     checks refused b t =
         ap (λ u. step u (Check c refused)) holds
         ∙ ap (λ o. (check (record s { places = p2 }) c refused o).0) placed-held
@@ -213,22 +221,29 @@ module _ (s : State) (c : ℕ) (idle : slice_get s.places c ≡ Some Idle) (dir 
 
     concluded : (refused : Bool) → is_time e.time (time_told refused s.tree dir) ≡ true
         → turn (run s (Ask c dir name ∷ Peek c ∷ Check c refused ∷ [])) (Conclude c) ≡ goes (record s { places = slice_set p2 c (checked true) }) c Idle (Absent (concludes s.dots dir name e.number))
-    concluded refused t = ap (λ u. turn u (Conclude c)) (checks refused true t) ∙ ap (λ o. conclude (record s { places = slice_set p2 c (checked true) }) c o) (placed-checked true)
+    concluded refused t =
+        ap (λ u. turn u (Conclude c)) (checks refused true t)
+        ∙ ap (λ o. conclude (record s { places = slice_set p2 c (checked true) }) c o) (placed-checked true)
 
     dropped_out : (refused : Bool) → is_time e.time (time_told refused s.tree dir) ≡ false
         → turn (run s (Ask c dir name ∷ Peek c ∷ Check c refused ∷ [])) (DropDir c) ≡ goes (record s { places = slice_set p2 c (checked false); dots = without (same_key (dir_key dir)) s.dots }) c Idle (Absent false)
-    dropped_out refused t = ap (λ u. turn u (DropDir c)) (checks refused false t) ∙ ap (λ o. drop_dir (record s { places = slice_set p2 c (checked false) }) c o) (placed-checked false)
+    dropped_out refused t =
+        ap (λ u. turn u (DropDir c)) (checks refused false t)
+        ∙ ap (λ o. drop_dir (record s { places = slice_set p2 c (checked false) }) c o) (placed-checked false)
 
     abbrev old : DotCache
     old = record { entries = s.dots; size = s.dots_size; next = s.next }
 
-    by_time : (refused b : Bool) → is_time e.time (time_told refused s.tree dir) ≡ b → NegativeIsEvents s c dir name (b && concludes s.dots dir name e.number) (if b then old else dropped dir old).entries
+    by_time : (refused b : Bool) → is_time e.time (time_told refused s.tree dir) ≡ b
+        → NegativeIsEvents s c dir name (b && concludes s.dots dir name e.number) (if b then old else dropped dir old).entries
     by_time refused true t = record {
       events = Ask c dir name ∷ Peek c ∷ Check c refused ∷ [];
       last = Conclude c;
       row = inr (refused, inl refl);
       tells = ap (λ (u : Turn). u.1) (concluded refused t);
-      leaves = ap (λ (u : Turn). u.0) (concluded refused t) ∙ ap (λ (ps : List Place). let u : State = record s { places = ps } in u) (again-3 s c idle (Asked dir name) held (checked true));
+      leaves =
+          ap (λ (u : Turn). u.0) (concluded refused t)
+          ∙ ap (λ (ps : List Place). let u : State = record s { places = ps } in u) (again-3 s c idle (Asked dir name) held (checked true));
     }
     by_time refused false t = record {
       events = Ask c dir name ∷ Peek c ∷ Check c refused ∷ [];
@@ -246,7 +261,8 @@ module _ (s : State) (c : ℕ) (idle : slice_get s.places c ≡ Some Idle) (dir 
     time-told Link t = refl
 
     module _ (before after : DiskState) (w : World) (tells : before.told ≡ Some w) (tree : w.tree ≡ s.tree) (free : is_linked w.tree dir ≡ false) where
-      check-answer : (answer : Result Meta DiskError) → Metas before dir answer after → (refused : Bool) × (is_time e.time (time_told refused s.tree dir) ≡ has_time e.time answer)
+      check-answer : (answer : Result Meta DiskError) → Metas before dir answer after
+          → (refused : Bool) × (is_time e.time (time_told refused s.tree dir) ≡ has_time e.time answer)
       check-answer (Ok meta) metas =
           let (row, found, known) = metas.told w tells free in
           let at_ : row_at s.tree dir ≡ Some row = ap (λ (t : Tree). row_at t dir) (sym tree) ∙ look_is w.tree dir row found in (
@@ -255,8 +271,10 @@ module _ (s : State) (c : ℕ) (idle : slice_get s.places c ≡ Some Idle) (dir 
           )
       check-answer (Err error) metas = (true, refl)
 
-  negatives-by : (before after : DiskState) (w : World) → before.told ≡ Some w → w.tree ≡ s.tree → is_linked w.tree dir ≡ false → (o : Option DuEntry) → lookup (same_key (dir_key dir)) s.dots ≡ o
-      → (absent : Bool) (new : DotCache) → Denies o (record { entries = s.dots; size = s.dots_size; next = s.next }) dir name before absent new after → NegativeIsEvents s c dir name absent new.entries
+  negatives-by : (before after : DiskState) (w : World) → before.told ≡ Some w → w.tree ≡ s.tree → is_linked w.tree dir ≡ false → (o : Option DuEntry)
+      → lookup (same_key (dir_key dir)) s.dots ≡ o
+      → (absent : Bool) (new : DotCache) → Denies o (record { entries = s.dots; size = s.dots_size; next = s.next }) dir name before absent new after
+      → NegativeIsEvents s c dir name absent new.entries
   negatives-by before after w tells tree free None is absent new (not_, same, asked) =
       let all = peeks ∙ ap peeks-at is in
       record {
@@ -274,4 +292,5 @@ module _ (s : State) (c : ℕ) (idle : slice_get s.places c ≡ Some Idle) (dir 
       (subst (λ (k : DotCache). NegativeIsEvents s c dir name (has_time e.time answer && concludes s.dots dir name e.number) k.entries) (sym left) (by_time e is check_.0 (has_time e.time answer) check_.1))
 
 pub negatives_are_events : NegativesAreEvents
-negatives_are_events s c dir name before after w absent new idle tells tree free denies = negatives-by s c idle dir name before after w tells tree free (lookup (same_key (dir_key dir)) s.dots) refl absent new denies
+negatives_are_events s c dir name before after w absent new idle tells tree free denies =
+    negatives-by s c idle dir name before after w tells tree free (lookup (same_key (dir_key dir)) s.dots) refl absent new denies

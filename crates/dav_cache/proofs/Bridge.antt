@@ -30,7 +30,8 @@ module _ {K X : Type 0} (eq : K → K → Bool) (exact : (a b : K) → eq a b �
   first-apart e es d = d.0
 
   -- a key that stands nowhere behind is put in front
-  pub put-fresh : (size : ℕ) (us : List (K × X)) (x : X) (es : List (K × X)) → IsDistinct eq (keys_of (us ++ (k, x) ∷ es)) → length (us ++ (k, x) ∷ es) ≤ size → put size (eq k) k x es ≡ (k, x) ∷ es
+  pub put-fresh : (size : ℕ) (us : List (K × X)) (x : X) (es : List (K × X)) → IsDistinct eq (keys_of (us ++ (k, x) ∷ es))
+      → length (us ++ (k, x) ∷ es) ≤ size → put size (eq k) k x es ≡ (k, x) ∷ es
   put-fresh size us x es d fits =
       let same = none-without es (first-apart (k, x) es (distinct-behind us ((k, x) ∷ es) d)) in
       let all : length us + length ((k, x) ∷ es) ≤ size = subst (λ n. n ≤ size) (length-append us ((k, x) ∷ es)) fits in

@@ -19,7 +19,8 @@ named-below n (e ∷ es) all =
     ])
 
 -- while the directory's entry is not cut off, no name with its number is
-pub named-take : (m : ℕ) (es : Dots) (d : Names) (e : DuEntry) → Falling es → lookup (same_key (dir_key d)) (take m es) ≡ Some e → named e.number (take m es) ≡ named e.number es
+pub named-take : (m : ℕ) (es : Dots) (d : Names) (e : DuEntry) → Falling es → lookup (same_key (dir_key d)) (take m es) ≡ Some e
+    → named e.number (take m es) ≡ named e.number es
 named-take zero es d e f h = cc
 named-take (suc m) [] d e f h = refl
 named-take (suc m) (g ∷ gs) d e f h = ap (λ k. (if is_named e.number g then 1 else 0) + k) (elim (key_tells (dir_key d) g.0) [
@@ -152,7 +153,8 @@ pub record Counting (dots : Dots) (l : Listed) (total k : ℕ) (P : Name → Boo
   pub falling : Falling dots
   pub others : (d : Names) → d ≢ l.dir → IsCounted dots d
   pub low : (d : Names) (e : DuEntry) → d ≢ l.dir → lookup (same_key (dir_key d)) dots ≡ Some e → e.number < l.number
-  pub own : (e : DuEntry) → lookup (same_key (dir_key l.dir)) dots ≡ Some e → (e.number ≡ l.number) × (e.count ≡ Some total) × (named l.number dots ≡ k)
+  pub own : (e : DuEntry) → lookup (same_key (dir_key l.dir)) dots ≡ Some e
+      → (e.number ≡ l.number) × (e.count ≡ Some total) × (named l.number dots ≡ k)
   pub mine : AllUnder l.dir l.number dots
   pub puts : AllPut P l.number dots
 
@@ -164,7 +166,8 @@ named-past n g es h = ap (λ b. (if b then 1 else 0) + named n es) h ∙ zero_pl
     zero_plus k = omega arith
 
 module _ (size total : ℕ) (l : Listed) where
-  counting-put_dir : (old : Dots) → Falling old → AllBelow l.number old → ((d : Names) → IsCounted old d) → Counting (put_dir size l total old) l total 0 (λ x. false)
+  counting-put_dir : (old : Dots) → Falling old → AllBelow l.number old → ((d : Names) → IsCounted old d)
+      → Counting (put_dir size l total old) l total 0 (λ x. false)
   counting-put_dir old falling below counted =
       let k = dir_key l.dir in
       let E : DuEntry = record { moment = l.moment; time = l.time; number = l.number; count = Some total } in
@@ -192,7 +195,8 @@ module _ (size total : ℕ) (l : Listed) where
         puts = (λ h x q. let n : None ≡ Some x = q in absurd cc, put-below (λ x. false) l.number rest under);
       }
 
-  counting-put_name : (name : Name) (dots : Dots) (n : ℕ) (P : Name → Bool) → P name ≡ false → Counting dots l total n P → Counting (put_name size l name dots) l total (suc n) (λ x. same_name x name || P x)
+  counting-put_name : (name : Name) (dots : Dots) (n : ℕ) (P : Name → Bool) → P name ≡ false → Counting dots l total n P
+      → Counting (put_name size l name dots) l total (suc n) (λ x. same_name x name || P x)
   counting-put_name name dots n P new so =
       let k = name_key l.dir name in
       let E : DuEntry = record { moment = l.moment; time = l.time; number = l.number; count = None } in
@@ -246,7 +250,8 @@ module _ (size total : ℕ) (l : Listed) where
       let rest = counting-put_names xs (put_name size l x dots) (suc n) (λ y. same_name y x || P y) new.1 (counting-put_name x dots n P new.0 so) in
       (rest.0, subst (λ k. Counting (put_names size l xs (put_name size l x dots)) l total k rest.0) (omega arith) rest.1)
 
-  counted-out : (dots : Dots) (n : ℕ) (P : Name → Bool) → Counting dots l total n P → (d : Names) → IsCounted (without (same_key (dir_key l.dir)) dots) d
+  counted-out : (dots : Dots) (n : ℕ) (P : Name → Bool) → Counting dots l total n P → (d : Names)
+      → IsCounted (without (same_key (dir_key l.dir)) dots) d
   counted-out dots n P so d = elim (path_tells l.dir d) [
     | inl same ↦ λ e h.
         let none = lookup-without_same (same_key (dir_key l.dir)) dots in
@@ -270,7 +275,8 @@ new-take P (suc n) [] new = tt
 new-take P (suc n) (x ∷ xs) new = (new.0, new-take (λ y. same_name y x || P y) n xs new.1)
 
 -- a listing of names of which none stands twice leaves the counts right
-pub counted-sealed : (size : ℕ) (l : Listed) (names : List Name) (room : ℕ) (old : Dots) → Falling old → AllBelow l.number old → ((d : Names) → IsCounted old d) → AreNew (λ x. false) names
+pub counted-sealed : (size : ℕ) (l : Listed) (names : List Name) (room : ℕ) (old : Dots) → Falling old → AllBelow l.number old
+    → ((d : Names) → IsCounted old d) → AreNew (λ x. false) names
     → (d : Names) → IsCounted (sealed size l names room old) d
 counted-sealed size l names zero old falling below counted new d = counted-dropped l.dir d old (counted d)
 counted-sealed size l names (suc room) old falling below counted new d =

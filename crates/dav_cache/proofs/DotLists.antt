@@ -22,11 +22,13 @@ module _ (key : DuKey) (es : Dots) (distinct : IsDistinct same_key (keys_of es))
   pub dot_removed : remove_entry (same_key key) es ≡ without (same_key key) es
   dot_removed = removed_is same_key exact key es distinct
 
-  pub dot_put : (entry : DuEntry) (size : ℕ) → length es ≤ size → put_entries same_key (lru_cache es size) key entry ≡ put size (same_key key) key entry es
+  pub dot_put : (entry : DuEntry) (size : ℕ) → length es ≤ size
+      → put_entries same_key (lru_cache es size) key entry ≡ put size (same_key key) key entry es
   dot_put entry size fits = put_is same_key exact key es distinct entry size fits
 
 -- entries of which no key stands twice, put from the last to the first
-pub puts-back : (us : Dots) (key : DuKey) (e : DuEntry) (es all : Dots) (size : ℕ) (new : LruCache DuKey DuEntry) → us ++ (key, e) ∷ es ≡ all → IsDistinct same_key (keys_of all) → length all ≤ size
+pub puts-back : (us : Dots) (key : DuKey) (e : DuEntry) (es all : Dots) (size : ℕ) (new : LruCache DuKey DuEntry) → us ++ (key, e) ∷ es ≡ all
+    → IsDistinct same_key (keys_of all) → length all ≤ size
     → new ≡ lru_cache (put size (same_key key) key e es) size → us ++ new.entries ≡ all
 puts-back us key e es all size new whole d fits is =
     ap (λ (c : LruCache DuKey DuEntry). us ++ c.entries) is
@@ -59,10 +61,12 @@ counted-less next dir es all = record {
 }
 
 pub counted-drop : (next : ℕ) (key : DuKey) (es : Dots) → key.name ≡ None → AreCounted next es → AreCounted next (without (same_key key) es)
-counted-drop next key es h all = subst (λ (k : DuKey). AreCounted next (without (same_key k) es)) (sym (at_dir key h)) (counted-less next key.dir es all)
+counted-drop next key es h all =
+    subst (λ (k : DuKey). AreCounted next (without (same_key k) es)) (sym (at_dir key h)) (counted-less next key.dir es all)
 
 -- names that rise are new, each of them
-new_rising : (P : Name → Bool) (last : Option Name) (names : List Name) → is_rising last names ≡ true → ((x : Name) → P x ≡ true → is_after last x ≡ false) → AreNew P names
+new_rising : (P : Name → Bool) (last : Option Name) (names : List Name) → is_rising last names ≡ true
+    → ((x : Name) → P x ≡ true → is_after last x ≡ false) → AreNew P names
 new_rising P last [] rise past = tt
 new_rising P last (name ∷ names) rise past =
     let parts = and_parts (is_after last name) (is_rising (Some name) names) rise in (
@@ -73,7 +77,8 @@ new_rising P last (name ∷ names) rise past =
       ]),
     )
 
-pub counted-seal : (size : ℕ) (l : Listed) (names : List Name) (room : ℕ) (es : Dots) → is_rising None names ≡ true → AreCounted l.number es → AreCounted (l.number + 1) (sealed size l names room es)
+pub counted-seal : (size : ℕ) (l : Listed) (names : List Name) (room : ℕ) (es : Dots) → is_rising None names ≡ true → AreCounted l.number es
+    → AreCounted (l.number + 1) (sealed size l names room es)
 counted-seal size l names room es rise all =
     let done = seals [] size es l names room all.falling all.below (λ d e h tree known. absurd (nothing_known tree known)) (λ tree known. absurd (nothing_known tree known)) in
     record {
@@ -84,12 +89,14 @@ counted-seal size l names room es rise all =
 
 -- ---- puts that were made
 
-pub put_names-push : (size : ℕ) (l : Listed) (names : List Name) (name : Name) (es : Dots) → put_names size l (names ++ name ∷ []) es ≡ put_name size l name (put_names size l names es)
+pub put_names-push : (size : ℕ) (l : Listed) (names : List Name) (name : Name) (es : Dots)
+    → put_names size l (names ++ name ∷ []) es ≡ put_name size l name (put_names size l names es)
 put_names-push size l [] name es = refl
 put_names-push size l (n ∷ names) name es = put_names-push size l names name (put_name size l n es)
 
 -- one more name
-pub some_put-more : (size : ℕ) (l : Listed) (names : List Name) (n i : ℕ) (name : Name) (es : Dots) → n ≡ i + 1 → i < length names → name ≡ get_or names i name
+pub some_put-more : (size : ℕ) (l : Listed) (names : List Name) (n i : ℕ) (name : Name) (es : Dots) → n ≡ i + 1 → i < length names
+    → name ≡ get_or names i name
     → put_name size l name (some_put size l names n es) ≡ some_put size l names (n + 1) es
 some_put-more size l names n i name es is lt at =
     let first = put_dir size l (length names) es in
@@ -102,18 +109,22 @@ some_put-more size l names n i name es is lt at =
     ∙ sym (ap (λ k. some_put size l names k es) next)
 
 -- one more name, as the loop makes it
-pub puts-more : (size : ℕ) (l : Listed) (names : List Name) (n i : ℕ) (name : Name) (es : Dots) (old new : LruCache DuKey DuEntry) → n ≡ i + 1 → i < length names → name ≡ get_or names i name
-    → old ≡ lru_cache (some_put size l names n es) size → new ≡ lru_cache (put_name old.cap l name old.entries) old.cap → new ≡ lru_cache (some_put size l names (n + 1) es) size
+pub puts-more : (size : ℕ) (l : Listed) (names : List Name) (n i : ℕ) (name : Name) (es : Dots) (old new : LruCache DuKey DuEntry) → n ≡ i + 1
+    → i < length names → name ≡ get_or names i name
+    → old ≡ lru_cache (some_put size l names n es) size → new ≡ lru_cache (put_name old.cap l name old.entries) old.cap
+    → new ≡ lru_cache (some_put size l names (n + 1) es) size
 puts-more size l names n i name es old new is lt at was now =
     now ∙ ap (λ (c : LruCache DuKey DuEntry). lru_cache (put_name c.cap l name c.entries) c.cap) was ∙ ap (λ (d : Dots). lru_cache d size) (some_put-more size l names n i name es is lt at)
 
 -- where a put was not made, the directory's entry is out
-pub sealed-short : (size : ℕ) (l : Listed) (names : List Name) (n : ℕ) (es : Dots) → n ≤ length names → without (same_key (dir_key l.dir)) (some_put size l names n es) ≡ sealed size l names n es
+pub sealed-short : (size : ℕ) (l : Listed) (names : List Name) (n : ℕ) (es : Dots) → n ≤ length names
+    → without (same_key (dir_key l.dir)) (some_put size l names n es) ≡ sealed size l names n es
 sealed-short size l names zero es le = refl
 sealed-short size l names (suc k) es le = rw (lt-ltb k (length names) (omega arith)) refl
 
 -- all were made
-pub sealed-all : (size : ℕ) (l : Listed) (names : List Name) (n : ℕ) (es : Dots) → n ≡ length names + 1 → some_put size l names n es ≡ sealed size l names n es
+pub sealed-all : (size : ℕ) (l : Listed) (names : List Name) (n : ℕ) (es : Dots) → n ≡ length names + 1
+    → some_put size l names n es ≡ sealed size l names n es
 sealed-all size l names zero es is = absurd (omega arith)
 sealed-all size l names (suc k) es is =
     let same : k ≡ length names = omega arith in

@@ -100,7 +100,8 @@ pub name≢ : (k : DuKey) (d : Names) (x : Name) → IsApart k d → name_key d 
 name≢ k d x ne h = ne (sym (ap (λ (i : DuKey). i.dir) h))
 
 -- what stands after a directory's entry was taken out stood before
-pub kept-dropped : (k d : Names) (es : Dots) (e : DuEntry) → lookup (same_key (dir_key d)) (without (same_key (dir_key k)) es) ≡ Some e → lookup (same_key (dir_key d)) es ≡ Some e
+pub kept-dropped : (k d : Names) (es : Dots) (e : DuEntry) → lookup (same_key (dir_key d)) (without (same_key (dir_key k)) es) ≡ Some e
+    → lookup (same_key (dir_key d)) es ≡ Some e
 kept-dropped k d es e h = elim (path_tells k d) [
   | inl is ↦
       let none = lookup-without_same (same_key (dir_key k)) es in
@@ -125,7 +126,8 @@ module _ (trees : List Tree) where
       sound e (sym (lookup-past k (dir_key d) f es (dir≢ k d ne)) ∙ h) tree known time x dot
       ∙ ap (λ o. option_map_or (λ (w : DuEntry). w.number == e.number) o false) (sym (lookup-past k (name_key d x) f es (name≢ k d x ne)))
 
-  pub sound-put : (size : ℕ) (k : DuKey) (f : DuEntry) (es : Dots) (d : Names) → IsApart k d → Falling es → SoundAt trees es d → SoundAt trees (put size (same_key k) k f es) d
+  pub sound-put : (size : ℕ) (k : DuKey) (f : DuEntry) (es : Dots) (d : Names) → IsApart k d → Falling es → SoundAt trees es d
+      → SoundAt trees (put size (same_key k) k f es) d
   sound-put size k f es d ne falling sound =
       sound-past k f (take (size - 1) (without (same_key k) es)) d ne
       (sound-take (size - 1) (without (same_key k) es) d (falling-without (same_key k) es falling) (sound-without k es d ne sound))
@@ -139,7 +141,8 @@ module _ (trees : List Tree) where
   sound-dropped k d es sound (inr ne) = sound-without (dir_key k) es d ne sound
 
 -- one number belongs to one directory and one time
-pub one-number : (es : Dots) (d d' : Names) (e e' : DuEntry) → Falling es → lookup (same_key (dir_key d)) es ≡ Some e → lookup (same_key (dir_key d')) es ≡ Some e' → e'.number ≡ e.number → (d' ≡ d) × (e'.time ≡ e.time)
+pub one-number : (es : Dots) (d d' : Names) (e e' : DuEntry) → Falling es → lookup (same_key (dir_key d)) es ≡ Some e
+    → lookup (same_key (dir_key d')) es ≡ Some e' → e'.number ≡ e.number → (d' ≡ d) × (e'.time ≡ e.time)
 one-number [] d d' e e' f h h' same = cc
 one-number (g ∷ gs) d d' e e' f h h' same = elim (key_tells (dir_key d) g.0) [
   | inl is ↦
@@ -188,11 +191,14 @@ pub record Sealing (trees : List Tree) (old dots : Dots) (l : Listed) (P : Name 
   pub falling : Falling dots
   pub below : AllBelow (l.number + 1) dots
   pub others : (d : Names) → d ≢ l.dir → SoundAt trees dots d
-  pub part : (e : DuEntry) → lookup (same_key (dir_key l.dir)) dots ≡ Some e → (e.number ≡ l.number) × (e.time ≡ l.time) × ((x : Name) → stands dots (name_key l.dir x) l.number ≡ P x)
-  pub came : (d : Names) (e : DuEntry) → lookup (same_key (dir_key d)) dots ≡ Some e → (lookup (same_key (dir_key d)) old ≡ Some e) ⊎ (e.number ≡ l.number)
+  pub part : (e : DuEntry) → lookup (same_key (dir_key l.dir)) dots ≡ Some e
+      → (e.number ≡ l.number) × (e.time ≡ l.time) × ((x : Name) → stands dots (name_key l.dir x) l.number ≡ P x)
+  pub came : (d : Names) (e : DuEntry) → lookup (same_key (dir_key d)) dots ≡ Some e
+      → (lookup (same_key (dir_key d)) old ≡ Some e) ⊎ (e.number ≡ l.number)
 
 module _ (trees : List Tree) (size : ℕ) (old : Dots) (l : Listed) where
-  pub sealing-put_dir : (count : ℕ) → Falling old → AllBelow l.number old → ((d : Names) → SoundAt trees old d) → Sealing trees old (put_dir size l count old) l (λ x. false)
+  pub sealing-put_dir : (count : ℕ) → Falling old → AllBelow l.number old → ((d : Names) → SoundAt trees old d)
+      → Sealing trees old (put_dir size l count old) l (λ x. false)
   sealing-put_dir count falling below sound =
       let k = dir_key l.dir in
       let E : DuEntry = record { moment = l.moment; time = l.time; number = l.number; count = Some count } in
@@ -222,7 +228,8 @@ module _ (trees : List Tree) (size : ℕ) (old : Dots) (l : Listed) where
         ];
       }
 
-  pub sealing-put_name : (name : Name) (dots : Dots) (P : Name → Bool) → Sealing trees old dots l P → Sealing trees old (put_name size l name dots) l (λ x. same_name x name || P x)
+  pub sealing-put_name : (name : Name) (dots : Dots) (P : Name → Bool) → Sealing trees old dots l P
+      → Sealing trees old (put_name size l name dots) l (λ x. same_name x name || P x)
   sealing-put_name name dots P so =
       let k = name_key l.dir name in
       let E : DuEntry = record { moment = l.moment; time = l.time; number = l.number; count = None } in
@@ -257,7 +264,8 @@ module _ (trees : List Tree) (size : ℕ) (old : Dots) (l : Listed) where
         came = λ d e h. so.came d e (from d e h);
       }
 
-  pub sealing-put_names : (names : List Name) (dots : Dots) (P : Name → Bool) → Sealing trees old dots l P → Sealing trees old (put_names size l names dots) l (λ x. list_any (same_name x) names || P x)
+  pub sealing-put_names : (names : List Name) (dots : Dots) (P : Name → Bool) → Sealing trees old dots l P
+      → Sealing trees old (put_names size l names dots) l (λ x. list_any (same_name x) names || P x)
   sealing-put_names [] dots P so = so
   sealing-put_names (name ∷ names) dots P so =
       let all = sealing-put_names names (put_name size l name dots) (λ x. same_name x name || P x) (sealing-put_name name dots P so) in
@@ -274,7 +282,8 @@ module _ (trees : List Tree) (size : ℕ) (old : Dots) (l : Listed) where
     pub falling : Falling dots
     pub below : AllBelow (l.number + 1) dots
     pub sound : (d : Names) → SoundAt trees dots d
-    pub came : (d : Names) (e : DuEntry) → lookup (same_key (dir_key d)) dots ≡ Some e → (lookup (same_key (dir_key d)) old ≡ Some e) ⊎ (e.number ≡ l.number)
+    pub came : (d : Names) (e : DuEntry) → lookup (same_key (dir_key d)) dots ≡ Some e
+        → (lookup (same_key (dir_key d)) old ≡ Some e) ⊎ (e.number ≡ l.number)
 
   -- where memory was refused, the directory's entry is taken out
   seals-out : (dots : Dots) (P : Name → Bool) → Sealing trees old dots l P → Seals (without (same_key (dir_key l.dir)) dots)
@@ -302,7 +311,8 @@ module _ (trees : List Tree) (size : ℕ) (old : Dots) (l : Listed) where
   abbrev pub AreNames : List Name → Type 0
   AreNames names = (tree : Tree) → Contains trees tree → time_of tree l.dir ≡ Some l.time → (x : Name) → IsTrue (is_dot x) → has_name tree l.dir x ≡ list_any (same_name x) names
 
-  seals-whole : (names : List Name) (dots : Dots) → AreNames names → Sealing trees old dots l (λ x. list_any (same_name x) names || false) → Seals dots
+  seals-whole : (names : List Name) (dots : Dots) → AreNames names → Sealing trees old dots l (λ x. list_any (same_name x) names || false)
+      → Seals dots
   seals-whole names dots are so = record {
     falling = so.falling;
     below = so.below;
@@ -316,7 +326,8 @@ module _ (trees : List Tree) (size : ℕ) (old : Dots) (l : Listed) where
     came = so.came;
   }
 
-  pub seals : (names : List Name) (room : ℕ) → Falling old → AllBelow l.number old → ((d : Names) → SoundAt trees old d) → AreNames names → Seals (sealed size l names room old)
+  pub seals : (names : List Name) (room : ℕ) → Falling old → AllBelow l.number old → ((d : Names) → SoundAt trees old d) → AreNames names
+      → Seals (sealed size l names room old)
   seals names zero falling below sound are = record {
     falling = falling-without (same_key (dir_key l.dir)) old falling;
     below = below-without (l.number + 1) (same_key (dir_key l.dir)) old (below-more l.number (l.number + 1) old (omega arith) below);

@@ -85,7 +85,8 @@ PlaceFact table next _ = Unit {0}
 abbrev pub IsLike : ℕ → Numbers → Numbers → Type 0
 IsLike n table table' = (k : ℕ) → k < n → table' k ≡ table k
 
-number-more : (table table' : Numbers) (n m : ℕ) (dir : Names) (number : ℕ) (t : FileTime) → IsLike n table table' → n ≤ m → (number < n) × (table number ≡ (dir, t)) → (number < m) × (table' number ≡ (dir, t))
+number-more : (table table' : Numbers) (n m : ℕ) (dir : Names) (number : ℕ) (t : FileTime) → IsLike n table table' → n ≤ m
+    → (number < n) × (table number ≡ (dir, t)) → (number < m) × (table' number ≡ (dir, t))
 number-more table table' n m dir number t like le f = let l : number < n = f.0 in (omega arith, like number f.0 ∙ f.1)
 
 fact-more : (table table' : Numbers) (n m : ℕ) (p : Place) → IsLike n table table' → n ≤ m → PlaceFact table n p → PlaceFact table' m p
@@ -179,7 +180,8 @@ module _ (s : State) (old : FactsOk s) (c : ℕ) where
       (elim (l.ended) as (λ b. FactsOk (if b then goes s c p Nothing else (s, Misplaced)).0) [ true ↦ stay p Nothing ((old.places c (Lists l) h).0) | false ↦ old ])
   after_ok refused _ h = old
 
-  with_dots_ok : (l : Listing) (now : Moment) (room : ℕ) (o : Option FileTime) → AreNew (λ x. false) l.names → FactsOk (goes (with_dots s (new_dots s l now room o)) c Idle Nothing).0
+  with_dots_ok : (l : Listing) (now : Moment) (room : ℕ) (o : Option FileTime) → AreNew (λ x. false) l.names
+      → FactsOk (goes (with_dots s (new_dots s l now room o)) c Idle Nothing).0
   unfolding new_dots
   with_dots_ok l now room None new = stay Idle Nothing tt
   with_dots_ok l now room (Some t) new =

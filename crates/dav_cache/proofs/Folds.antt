@@ -45,4 +45,5 @@ fold_name_idem name text =
 pub fold_path_idem : (path : Names) → All IsUtf8 path → fold_path (fold_path path) ≡ fold_path path
 unfolding fold_path
 fold_path_idem [] all = refl
-fold_path_idem (name ∷ path) all = ap₂ (λ (n : Name) (p : Names). n ∷ p) (fold_name_idem name (All-head IsUtf8 name path all)) (fold_path_idem path (All-tail IsUtf8 name path all))
+fold_path_idem (name ∷ path) all =
+    ap₂ (λ (n : Name) (p : Names). n ∷ p) (fold_name_idem name (All-head IsUtf8 name path all)) (fold_path_idem path (All-tail IsUtf8 name path all))

@@ -42,7 +42,8 @@ module _ (s0 : State) where
   abbrev pub Tells : List Event → ℕ → Place → Type 0
   Tells done c Idle = Unit {0}
   Tells done c (Asked dir name) = EndsWith (own c s0 done) (Ask c dir name ∷ [])
-  Tells done c (Peeked dir name number time) = EndsWith (own c s0 done) (Ask c dir name ∷ Peek c ∷ []) × Noted s0 done c (holding dir name number time) []
+  Tells done c (Peeked dir name number time) =
+      EndsWith (own c s0 done) (Ask c dir name ∷ Peek c ∷ []) × Noted s0 done c (holding dir name number time) []
   Tells done c (Passed dir name number time) = Checked s0 done c dir name time × Noted s0 done c (holding dir name number time) (Check c false ∷ [])
   Tells done c (Failed dir) = Unit {0}
   Tells done c (Begun dir) = Unit {0}
@@ -52,13 +53,16 @@ module _ (s0 : State) where
   Tells done c (Got asked path) = EndsWith (own c s0 done) (Find c asked ∷ Get c ∷ [])
   Tells done c (Missed asked) = Unit {0}
 
-  ends_still : (done : List Event) (c : ℕ) (e : Event) (last : List Event) → is_own c (run s0 done) e ≡ false → EndsWith (own c s0 done) last → EndsWith (own c s0 (done ++ e ∷ [])) last
+  ends_still : (done : List Event) (c : ℕ) (e : Event) (last : List Event) → is_own c (run s0 done) e ≡ false → EndsWith (own c s0 done) last
+      → EndsWith (own c s0 (done ++ e ∷ [])) last
   ends_still done c e last not_own h = (h.0, own-other c s0 done e not_own ∙ h.1)
 
-  ends_more : (done : List Event) (c : ℕ) (e : Event) (last : List Event) → is_own c (run s0 done) e ≡ true → EndsWith (own c s0 done) last → EndsWith (own c s0 (done ++ e ∷ [])) (last ++ e ∷ [])
+  ends_more : (done : List Event) (c : ℕ) (e : Event) (last : List Event) → is_own c (run s0 done) e ≡ true → EndsWith (own c s0 done) last
+      → EndsWith (own c s0 (done ++ e ∷ [])) (last ++ e ∷ [])
   ends_more done c e last is h = (h.0, own-more c s0 done e is ∙ ap (λ l. l ++ e ∷ []) h.1 ∙ append_assoc h.0 last (e ∷ []))
 
-  checked_still : (done : List Event) (c : ℕ) (e : Event) (dir : Names) (name : Name) (time : FileTime) → is_own c (run s0 done) e ≡ false → Checked s0 done c dir name time → Checked s0 (done ++ e ∷ []) c dir name time
+  checked_still : (done : List Event) (c : ℕ) (e : Event) (dir : Names) (name : Name) (time : FileTime) → is_own c (run s0 done) e ≡ false
+      → Checked s0 done c dir name time → Checked s0 (done ++ e ∷ []) c dir name time
   checked_still done c e dir name time not_own h =
       let first = h.before ++ Check c false ∷ [] in
       let whole : first ++ h.between ≡ h.before ++ Check c false ∷ h.between = append_assoc h.before (Check c false ∷ []) h.between in
@@ -114,8 +118,10 @@ module _ (s0 : State) where
   tells_still : (done : List Event) (c : ℕ) (e : Event) (p : Place) → is_own c (run s0 done) e ≡ false → Tells done c p → Tells (done ++ e ∷ []) c p
   tells_still done c e Idle n h = tt
   tells_still done c e (Asked dir name) n h = ends_still done c e (Ask c dir name ∷ []) n h
-  tells_still done c e (Peeked dir name number time) n h = (ends_still done c e (Ask c dir name ∷ Peek c ∷ []) n h.0, noted_still done c e (holding dir name number time) [] n h.1)
-  tells_still done c e (Passed dir name number time) n h = (checked_still done c e dir name time n h.0, noted_still done c e (holding dir name number time) (Check c false ∷ []) n h.1)
+  tells_still done c e (Peeked dir name number time) n h =
+      (ends_still done c e (Ask c dir name ∷ Peek c ∷ []) n h.0, noted_still done c e (holding dir name number time) [] n h.1)
+  tells_still done c e (Passed dir name number time) n h =
+      (checked_still done c e dir name time n h.0, noted_still done c e (holding dir name number time) (Check c false ∷ []) n h.1)
   tells_still done c e (Failed dir) n h = tt
   tells_still done c e (Begun dir) n h = tt
   tells_still done c e (Lists l) n h = tt
@@ -160,7 +166,8 @@ module _ (s0 : State) (done : List Event) (all : AllTell s0 done (run s0 done)) 
   hist_still : told (run s0 done) e ≡ Misplaced → After_e (run s0 done)
   hist_still h = hist_same (run s0 done) refl (λ c. misplaced_not_own c (run s0 done) e h)
 
-  hist_go : (s1 : State) (c : ℕ) (p : Place) (t : Told) → s1.places ≡ (run s0 done).places → ((i : ℕ) → is_caller i e ≡ (c == i)) → Tells s0 (done ++ e ∷ []) c p → After_e (goes s1 c p t).0
+  hist_go : (s1 : State) (c : ℕ) (p : Place) (t : Told) → s1.places ≡ (run s0 done).places → ((i : ℕ) → is_caller i e ≡ (c == i))
+      → Tells s0 (done ++ e ∷ []) c p → After_e (goes s1 c p t).0
   hist_go s1 c p t same who new i q h = elim (cases_eq i c) [
     | inl is ↦
         let h' : slice_get (slice_set s1.places c p) c ≡ Some q = subst (λ w. slice_get (slice_set s1.places c p) w ≡ Some q) is h in
@@ -192,7 +199,8 @@ module _ (s0 : State) (done : List Event) (all : AllTell s0 done (run s0 done)) 
       (own c s0 done, own-more c s0 done (Ask c dir name) (mine c (Ask c dir name) Nothing (same_caller c) (ap (λ o. (ask here c dir name o).1) h) refl))
   ask_hist c dir name _ h = hist_still s0 done all (Ask c dir name) (ap (λ o. (ask here c dir name o).1) h)
 
-  peeked_hist : (c : ℕ) (dir : Names) (name : Name) (o : Option DuEntry) → slice_get here.places c ≡ Some (Asked dir name) → lookup (same_key (dir_key dir)) here.dots ≡ o → Then (Peek c) (peeked here c dir name o).0
+  peeked_hist : (c : ℕ) (dir : Names) (name : Name) (o : Option DuEntry) → slice_get here.places c ≡ Some (Asked dir name)
+      → lookup (same_key (dir_key dir)) here.dots ≡ o → Then (Peek c) (peeked here c dir name o).0
   peeked_hist c dir name None h found = hist_go s0 done all (Peek c) here c Idle (Absent false) refl (λ i. refl) tt
   peeked_hist c dir name (Some e) h found =
       hist_go s0 done all (Peek c) here c (Peeked dir name e.number e.time) Nothing refl (λ i. refl) (
@@ -218,7 +226,8 @@ module _ (s0 : State) (done : List Event) (all : AllTell s0 done (run s0 done)) 
   peek_hist c _ h = hist_still s0 done all (Peek c) (ap (λ o. (peek here c o).1) h)
 
   -- a Check that was refused finds no time
-  passed_tells : (c : ℕ) (refused : Bool) (dir : Names) (name : Name) (number : ℕ) (t : FileTime) → slice_get here.places c ≡ Some (Peeked dir name number t)
+  passed_tells : (c : ℕ) (refused : Bool) (dir : Names) (name : Name) (number : ℕ) (t : FileTime)
+      → slice_get here.places c ≡ Some (Peeked dir name number t)
       → is_time t (time_told refused here.tree dir) ≡ true
       → Checked s0 (done ++ Check c refused ∷ []) c dir name t × Noted s0 (done ++ Check c refused ∷ []) c (holding dir name number t) (Check c false ∷ [])
   passed_tells c true dir name number t h is = absurd (false≢true is)
@@ -245,11 +254,13 @@ module _ (s0 : State) (done : List Event) (all : AllTell s0 done (run s0 done)) 
   check_hist c refused _ h = hist_still s0 done all (Check c refused) (ap (λ o. (check here c refused o).1) h)
 
   conclude_hist : (c : ℕ) (o : Option Place) → slice_get here.places c ≡ o → Then (Conclude c) (conclude here c o).0
-  conclude_hist c (Some (Passed dir name number t)) h = hist_go s0 done all (Conclude c) here c Idle (Absent (concludes here.dots dir name number)) refl (λ i. refl) tt
+  conclude_hist c (Some (Passed dir name number t)) h =
+      hist_go s0 done all (Conclude c) here c Idle (Absent (concludes here.dots dir name number)) refl (λ i. refl) tt
   conclude_hist c _ h = hist_still s0 done all (Conclude c) (ap (λ o. (conclude here c o).1) h)
 
   drop_dir_hist : (c : ℕ) (o : Option Place) → slice_get here.places c ≡ o → Then (DropDir c) (drop_dir here c o).0
-  drop_dir_hist c (Some (Failed dir)) h = hist_go s0 done all (DropDir c) (record here { dots = without (same_key (dir_key dir)) here.dots }) c Idle (Absent false) refl (λ i. refl) tt
+  drop_dir_hist c (Some (Failed dir)) h =
+      hist_go s0 done all (DropDir c) (record here { dots = without (same_key (dir_key dir)) here.dots }) c Idle (Absent false) refl (λ i. refl) tt
   drop_dir_hist c _ h = hist_still s0 done all (DropDir c) (ap (λ o. (drop_dir here c o).1) h)
 
   begin_hist : (c : ℕ) (dir : Names) (o : Option Place) → slice_get here.places c ≡ o → Then (Begin c dir) (begin here c dir o).0
@@ -260,7 +271,8 @@ module _ (s0 : State) (done : List Event) (all : AllTell s0 done (run s0 done)) 
   before_hist c refused (Some (Begun dir)) h = hist_go s0 done all (Before c refused) here c _ Nothing refl (λ i. refl) tt
   before_hist c refused _ h = hist_still s0 done all (Before c refused) (ap (λ o. (before here c refused o).1) h)
 
-  list_next_hist : (c : ℕ) (refused : Bool) (o : Option Place) → slice_get here.places c ≡ o → Then (ListNext c refused) (list_next here c refused o).0
+  list_next_hist : (c : ℕ) (refused : Bool) (o : Option Place) → slice_get here.places c ≡ o
+      → Then (ListNext c refused) (list_next here c refused o).0
   list_next_hist c refused (Some (Lists l)) h =
       let p : Place = Lists (lists_next here.tree l (time_told refused here.tree l.dir)) in
       (elim (l.ended) as (λ b. l.ended ≡ b → Then (ListNext c refused) (if b then (here, Misplaced) else goes here c p Nothing).0) [
@@ -292,7 +304,8 @@ module _ (s0 : State) (done : List Event) (all : AllTell s0 done (run s0 done)) 
       (own c s0 done, own-more c s0 done (Find c path) (mine c (Find c path) Nothing (same_caller c) (ap (λ o. (find here c path o).1) h) refl))
   find_hist c path _ h = hist_still s0 done all (Find c path) (ap (λ o. (find here c path o).1) h)
 
-  got_hist : (c : ℕ) (asked : Names) (o : Option PathEntry) → slice_get here.places c ≡ Some (Finding asked) → lookup (same_path (fold_path asked)) here.paths ≡ o → Then (Get c) (got here c asked o).0
+  got_hist : (c : ℕ) (asked : Names) (o : Option PathEntry) → slice_get here.places c ≡ Some (Finding asked)
+      → lookup (same_path (fold_path asked)) here.paths ≡ o → Then (Get c) (got here c asked o).0
   got_hist c asked None h found = hist_go s0 done all (Get c) here c Idle (Path None) refl (λ i. refl) tt
   got_hist c asked (Some e) h found =
       hist_go s0 done all (Get c) (record here { paths = promoted (fold_path asked) (Some e) here.paths }) c (Got asked e.path) Nothing refl (λ i. refl)
@@ -313,10 +326,12 @@ module _ (s0 : State) (done : List Event) (all : AllTell s0 done (run s0 done)) 
   probe_hist c refused _ h = hist_still s0 done all (Probe c refused) (ap (λ o. (probe here c refused o).1) h)
 
   drop_hist : (c : ℕ) (o : Option Place) → slice_get here.places c ≡ o → Then (Drop c) (drop here c o).0
-  drop_hist c (Some (Missed asked)) h = hist_go s0 done all (Drop c) (record here { paths = without (same_path (fold_path asked)) here.paths }) c Idle (Path None) refl (λ i. refl) tt
+  drop_hist c (Some (Missed asked)) h =
+      hist_go s0 done all (Drop c) (record here { paths = without (same_path (fold_path asked)) here.paths }) c Idle (Path None) refl (λ i. refl) tt
   drop_hist c _ h = hist_still s0 done all (Drop c) (ap (λ o. (drop here c o).1) h)
 
-  insert_hist : (c : ℕ) (path : Names) (now : Moment) (o : Option Place) → slice_get here.places c ≡ o → Then (Insert c path now) (insert here c path now o).0
+  insert_hist : (c : ℕ) (path : Names) (now : Moment) (o : Option Place) → slice_get here.places c ≡ o
+      → Then (Insert c path now) (insert here c path now o).0
   insert_hist c path now (Some Idle) h = hist_go s0 done all (Insert c path now) (record here { paths = put here.paths_size (same_path (fold_path path)) (fold_path path) (record { path = path; secs = whole_seconds now.0 }) here.paths }) c Idle Nothing refl (λ i. refl) tt
   insert_hist c path now _ h = hist_still s0 done all (Insert c path now) (ap (λ o. (insert here c path now o).1) h)
 
@@ -352,7 +367,8 @@ run_tells s0 done (e ∷ events) all =
     subst (λ l. AllTell s0 l (run s0 l)) (append_assoc done (e ∷ []) events) (run_tells s0 (done ++ e ∷ []) events next)
 
 -- the places after any run from the start
-pub all_tell : (tree : Tree) (callers paths dots : ℕ) (events : List Event) → AllTell (start tree callers paths dots) events (run (start tree callers paths dots) events)
+pub all_tell : (tree : Tree) (callers paths dots : ℕ) (events : List Event)
+    → AllTell (start tree callers paths dots) events (run (start tree callers paths dots) events)
 all_tell tree callers paths dots events =
     let s0 = start tree callers paths dots in
     run_tells s0 [] events (λ c p h. subst (λ w. Tells s0 [] c w) (get-replicate callers c Idle p h) tt)
@@ -363,4 +379,5 @@ noted_at s events c (Passed dir name number time) h = h.1
 noted_at s events c _ h = tt
 
 pub peeks_held : (tree : Tree) (callers paths dots : ℕ) → PeeksAreHeld (start tree callers paths dots)
-peeks_held tree callers paths dots events c p place = noted_at (start tree callers paths dots) events c p (all_tell tree callers paths dots events c p place)
+peeks_held tree callers paths dots events c p place =
+    noted_at (start tree callers paths dots) events c p (all_tell tree callers paths dots events c p place)

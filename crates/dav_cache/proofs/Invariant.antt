@@ -31,7 +31,8 @@ module _ (trees : List Tree) where
   PlaceOk Away s c (Passed dir name number time) = Holds s dir number time
   PlaceOk Away s c (Failed dir) = Unit {0}
   PlaceOk Away s c (Begun dir) = Unit {0}
-  PlaceOk Away s c (Lists l) = l.whole ≡ true → (time : FileTime) → l.before ≡ Some time → ((time_of s.tree l.dir ≡ Some time) × HasUpTo l s.tree) ⊎ Away c l.dir time
+  PlaceOk Away s c (Lists l) =
+      l.whole ≡ true → (time : FileTime) → l.before ≡ Some time → ((time_of s.tree l.dir ≡ Some time) × HasUpTo l s.tree) ⊎ Away c l.dir time
   PlaceOk Away s c (Ended l after) = (time : FileTime) → settled l after ≡ Some time → AreNamesOf l time
   PlaceOk Away s c (Finding path) = Unit {0}
   PlaceOk Away s c (Got asked path) = Unit {0}
@@ -51,13 +52,15 @@ module _ (trees : List Tree) where
 -- numbers grow, and a directory's entry was there or has a new number
 pub record Keeps (s s' : State) : Type 0 where
   pub more : s.next ≤ s'.next
-  pub came : (d : Names) (e : DuEntry) → lookup (same_key (dir_key d)) s'.dots ≡ Some e → (lookup (same_key (dir_key d)) s.dots ≡ Some e) ⊎ (s.next ≤ e.number)
+  pub came : (d : Names) (e : DuEntry) → lookup (same_key (dir_key d)) s'.dots ≡ Some e
+      → (lookup (same_key (dir_key d)) s.dots ≡ Some e) ⊎ (s.next ≤ e.number)
 
 -- how what is said of the events to come passes from a state to the next
 pub record Passing (A A' : ℕ → Names → FileTime → Type 0) (s s' : State) : Type 0 where
   pub gone : (c : ℕ) (d : Names) (t : FileTime) → A c d t → time_of s.tree d ≢ Some t
   pub carries : (c : ℕ) (d : Names) (t : FileTime) → A c d t → IsListing s' c d → A' c d t
-  pub leaves : (c : ℕ) (d : Names) (t : FileTime) → IsListing s c d → IsListing s' c d → time_of s.tree d ≡ Some t → time_of s'.tree d ≢ Some t → A' c d t
+  pub leaves : (c : ℕ) (d : Names) (t : FileTime) → IsListing s c d → IsListing s' c d → time_of s.tree d ≡ Some t → time_of s'.tree d ≢ Some t
+      → A' c d t
 
 pub time_is : (o : Option FileTime) (t : FileTime) → (o ≡ Some t) ⊎ (o ≢ Some t)
 time_is None t = inr (λ h. cc)

@@ -113,11 +113,13 @@ probe_no_absent s c refused (Some (Got asked path)) =
     (elim (not refused && has_row s.tree path) as (λ b. (if b then goes s c Idle (Path (Some path)) else goes s c (Missed asked) Nothing).1 ≡ Absent true → ⊥) [ true ↦ λ is. cc | false ↦ λ is. cc ])
 probe_no_absent s c refused _ = λ is. cc
 
-not_refused : (s : State) (c : ℕ) (asked path : Names) (refused : Bool) → slice_get s.places c ≡ Some (Got asked path) → (not refused && has_row s.tree path) ≡ true → TellsPath s (Probe c refused) path
+not_refused : (s : State) (c : ℕ) (asked path : Names) (refused : Bool) → slice_get s.places c ≡ Some (Got asked path)
+    → (not refused && has_row s.tree path) ≡ true → TellsPath s (Probe c refused) path
 not_refused s c asked path true h is = absurd (false≢true is)
 not_refused s c asked path false h is = (c, asked, refl, h, is)
 
-probe_tells : (s : State) (c : ℕ) (refused : Bool) (o : Option Place) (path : Names) → slice_get s.places c ≡ o → (probe s c refused o).1 ≡ Path (Some path) → TellsPath s (Probe c refused) path
+probe_tells : (s : State) (c : ℕ) (refused : Bool) (o : Option Place) (path : Names) → slice_get s.places c ≡ o
+    → (probe s c refused o).1 ≡ Path (Some path) → TellsPath s (Probe c refused) path
 probe_tells s c refused (Some (Got asked found)) path h =
     (elim (not refused && has_row s.tree found) as (λ b. (not refused && has_row s.tree found) ≡ b → (if b then goes s c Idle (Path (Some found)) else goes s c (Missed asked) Nothing).1 ≡ Path (Some path) → TellsPath s (Probe c refused) path) [
       | true ↦ λ t is. let same : found ≡ path = cc in subst (λ w. TellsPath s (Probe c refused) w) same (not_refused s c asked found refused h t)
@@ -173,7 +175,8 @@ path_told s e path is = elim (one_of s e) [
 stands_entry : (dots : Dots) (key : DuKey) (n : ℕ) → stands dots key n ≡ true → (e : DuEntry) × (lookup (same_key key) dots ≡ Some e) × (e.number ≡ n)
 stands_entry dots key n h = by_lookup (lookup (same_key key) dots) refl h
   where
-    by_lookup : (o : Option DuEntry) → lookup (same_key key) dots ≡ o → option_map_or (λ (e : DuEntry). e.number == n) o false ≡ true → (e : DuEntry) × (lookup (same_key key) dots ≡ Some e) × (e.number ≡ n)
+    by_lookup : (o : Option DuEntry) → lookup (same_key key) dots ≡ o → option_map_or (λ (e : DuEntry). e.number == n) o false ≡ true
+        → (e : DuEntry) × (lookup (same_key key) dots ≡ Some e) × (e.number ≡ n)
     by_lookup None is t = absurd (false≢true t)
     by_lookup (Some e) is t = (e, is, eqb-true e.number n t)
 
@@ -229,4 +232,5 @@ path_only tree callers paths dots events event path is =
 -- ---- what is held past a Check
 
 pub checks_held : (tree : Tree) (callers paths dots : ℕ) → ChecksAreHeld (start tree callers paths dots)
-checks_held tree callers paths dots events c dir name number time place = (all_tell tree callers paths dots events c (Passed dir name number time) place).0
+checks_held tree callers paths dots events c dir name number time place =
+    (all_tell tree callers paths dots events c (Passed dir name number time) place).0

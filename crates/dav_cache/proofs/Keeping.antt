@@ -16,13 +16,16 @@ use Rattle.dav_cache.specs.Entries.{kept, in_order, is_rising, are_sealable}
 use Rattle.dav_cache.proofs.Keys.{name_decides, name_tells}
 use Rattle.dav_cache.proofs.Order.{less_itself, less_other, less_trans, any_front, any_cases, any-push}
 
-kept-case : (P : List Name → Type 0) (n m : Name) (ms : List Name) → (is_less n m ≡ true → P (n ∷ m ∷ ms)) → (is_less n m ≡ false → is_less m n ≡ true → P (m ∷ kept n ms)) → (is_less n m ≡ false → is_less m n ≡ false → P (m ∷ ms)) → P (kept n (m ∷ ms))
-kept-case P n m ms f g h = (elim (is_less n m) as (λ b. is_less n m ≡ b → P (if b then n ∷ m ∷ ms else (if is_less m n then m ∷ kept n ms else m ∷ ms))) [
-  | true ↦ λ t. f t
-  | false ↦ λ t. (elim (is_less m n) as (λ b. is_less m n ≡ b → P (if b then m ∷ kept n ms else m ∷ ms)) [ true ↦ λ u. g t u | false ↦ λ u. h t u ]) refl
-]) refl
+kept-case : (P : List Name → Type 0) (n m : Name) (ms : List Name) → (is_less n m ≡ true → P (n ∷ m ∷ ms))
+    → (is_less n m ≡ false → is_less m n ≡ true → P (m ∷ kept n ms)) → (is_less n m ≡ false → is_less m n ≡ false → P (m ∷ ms)) → P (kept n (m ∷ ms))
+kept-case P n m ms f g h =
+    (elim (is_less n m) as (λ b. is_less n m ≡ b → P (if b then n ∷ m ∷ ms else (if is_less m n then m ∷ kept n ms else m ∷ ms))) [
+      | true ↦ λ t. f t
+      | false ↦ λ t. (elim (is_less m n) as (λ b. is_less m n ≡ b → P (if b then m ∷ kept n ms else m ∷ ms)) [ true ↦ λ u. g t u | false ↦ λ u. h t u ]) refl
+    ]) refl
 
-rising-kept : (last : Option Name) (n : Name) (names : List Name) → is_after last n ≡ true → is_rising last names ≡ true → is_rising last (kept n names) ≡ true
+rising-kept : (last : Option Name) (n : Name) (names : List Name) → is_after last n ≡ true → is_rising last names ≡ true
+    → is_rising last (kept n names) ≡ true
 rising-kept last n [] after_ rise = and_from (is_after last n) true after_ refl
 rising-kept last n (m ∷ ms) after_ rise =
     let parts = and_parts (is_after last m) (is_rising (Some m) ms) rise in
@@ -115,7 +118,8 @@ first_same x y xs ys rx ry same =
     ]
 
 rest_same : (x : Name) (xs ys : List Name) → is_rising (Some x) xs ≡ true → is_rising (Some x) ys ≡ true
-    → ((z : Name) → list_any (same_name z) (x ∷ xs) ≡ list_any (same_name z) (x ∷ ys)) → (z : Name) → list_any (same_name z) xs ≡ list_any (same_name z) ys
+    → ((z : Name) → list_any (same_name z) (x ∷ xs) ≡ list_any (same_name z) (x ∷ ys)) → (z : Name)
+    → list_any (same_name z) xs ≡ list_any (same_name z) ys
 rest_same x xs ys rx ry same z = elim (name_tells z x) [
   | inl is ↦ subst (λ w. list_any (same_name w) xs ≡ list_any (same_name w) ys) (sym is.1) (not_among x xs rx ∙ sym (not_among x ys ry))
   | inr is ↦ sym (ap (λ b. b || list_any (same_name z) xs) is.0) ∙ same z ∙ ap (λ b. b || list_any (same_name z) ys) is.0
@@ -142,7 +146,8 @@ order-push names n =
     (λ z. any-order z (names ++ n ∷ []) ∙ any-push z n names ∙ sym (any-kept z n (in_order names) ∙ ap (λ b. same_name z n || b) (any-order z names)))
 
 -- a builder to which a name was added
-pub added : (name : Name) (xs ys : List Name) (dir : Names) (before : Option FileTime) (faulted finished : Bool) → is_dot name ≡ true → ys ≡ xs ++ name ∷ []
+pub added : (name : Name) (xs ys : List Name) (dir : Names) (before : Option FileTime) (faulted finished : Bool) → is_dot name ≡ true
+    → ys ≡ xs ++ name ∷ []
     → (let b : BuilderState = record { dir = dir; before = before; names = in_order ys; faulted = faulted; finished = finished } in b)
     ≡ with_name name (record { dir = dir; before = before; names = in_order xs; faulted = faulted; finished = finished })
 added name xs ys dir before faulted finished dot is = rw (dot, is, order-push xs name) refl
@@ -155,7 +160,8 @@ order-twice names =
 
 -- ---- what a sort and a `dedup` leave
 
-strict_rises : (m : Name) (names : List Name) → AllByRecursion (λ y. slice_cmp nat_cmp m y ≡ Less) names → IsStrictlySortedBy (slice_cmp nat_cmp) names → is_rising (Some m) names ≡ true
+strict_rises : (m : Name) (names : List Name) → AllByRecursion (λ y. slice_cmp nat_cmp m y ≡ Less) names
+    → IsStrictlySortedBy (slice_cmp nat_cmp) names → is_rising (Some m) names ≡ true
 unfolding IsStrictlySortedBy
 strict_rises m [] all rest = refl
 strict_rises m (n ∷ ns) all rest = and_from (is_less m n) (is_rising (Some n) ns) (ap is_lt all.0) (strict_rises n ns rest.0 rest.1)

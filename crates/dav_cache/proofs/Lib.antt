@@ -19,7 +19,7 @@ pub mod PathLists
 pub mod DotLists
 pub mod Members
 pub mod Rising
-pub mod Knowing
+pub mod MemoryCalls
 pub mod Keeping
 pub mod Binding
 pub mod Fitting

@@ -37,7 +37,8 @@ module _ {K X : Type 0} (eq : K → K → Bool) (exact : (a b : K) → eq a b �
   found_key : (e : K × X) → lookup_entry (eq key) es ≡ Some e → key ≡ e.0
   found_key e h = exact key e.0 (Contains-lookup_entry (eq key) es e h).1
 
-  front_by : (o : Option (K × X)) → lookup_entry (eq key) es ≡ o → option_map_or (λ e. e ∷ remove_entry (eq key) es) o es ≡ front_of eq key (option_map (λ e. e.1) o) es
+  front_by : (o : Option (K × X)) → lookup_entry (eq key) es ≡ o
+      → option_map_or (λ e. e ∷ remove_entry (eq key) es) o es ≡ front_of eq key (option_map (λ e. e.1) o) es
   front_by None h = refl
   front_by (Some e) h = ap₂ (λ k l. (k, e.1) ∷ l) (sym (found_key e h)) removed_is
 
@@ -68,7 +69,8 @@ module _ {K X : Type 0} (is_old : X → Bool) where
   drops_last_at us x h = purged-old is_old us x (sym (last-append us x) ∙ h) ∙ ap (purged is_old) (sym (last_of_push us x).1)
 
   -- the last entry, where it is old, goes first
-  pub purged-drop_last : (es : List (K × X)) → option_map_or (λ e. is_old e.1) (last_entry es) false ≡ true → purged is_old es ≡ purged is_old (take (length es - 1) es)
+  pub purged-drop_last : (es : List (K × X)) → option_map_or (λ e. is_old e.1) (last_entry es) false ≡ true
+      → purged is_old es ≡ purged is_old (take (length es - 1) es)
   purged-drop_last [] = λ h. cc
   purged-drop_last (f ∷ es) = let cut = cut_end (f ∷ es) (omega arith) in subst DropsLast (sym cut.2) (drops_last_at cut.0 cut.1)
 

@@ -19,9 +19,11 @@ pub with_number-other : (table : Numbers) (number : ℕ) (what : Names × FileTi
 with_number-other table number what n less = ap (λ b. if b then what else table n) (ne_eqb n number (λ h. omega arith))
 
 -- the entries below that number have what they had
-pub numbered-like : (table : Numbers) (number : ℕ) (what : Names × FileTime) (es : Dots) → AllBelow number es → AllNumbered table es → AllNumbered (with_number table number what) es
+pub numbered-like : (table : Numbers) (number : ℕ) (what : Names × FileTime) (es : Dots) → AllBelow number es → AllNumbered table es
+    → AllNumbered (with_number table number what) es
 numbered-like table number what [] below all = tt
-numbered-like table number what (e ∷ es) below all = (with_number-other table number what e.1.number below.0 ∙ all.0, numbered-like table number what es below.1 all.1)
+numbered-like table number what (e ∷ es) below all =
+    (with_number-other table number what e.1.number below.0 ∙ all.0, numbered-like table number what es below.1 all.1)
 
 -- ---- entries that come and go
 
@@ -29,7 +31,8 @@ abbrev belongs : Names → FileTime → Names × FileTime
 belongs dir time = (dir, time)
 
 module _ (table : Numbers) where
-  pub numbered-lookup : (k : DuKey) (es : Dots) (e : DuEntry) → AllNumbered table es → lookup (same_key k) es ≡ Some e → table e.number ≡ (k.dir, e.time)
+  pub numbered-lookup : (k : DuKey) (es : Dots) (e : DuEntry) → AllNumbered table es → lookup (same_key k) es ≡ Some e
+      → table e.number ≡ (k.dir, e.time)
   numbered-lookup k [] e all h = cc
   numbered-lookup k (f ∷ fs) e all h = elim (key_tells k f.0) [
     | inl is ↦
@@ -51,12 +54,14 @@ module _ (table : Numbers) where
     | false ↦ λ t. rw t (all.0, numbered-without test es all.1)
   ]) refl
 
-  numbered-put : (size : ℕ) (k : DuKey) (e : DuEntry) (es : Dots) → table e.number ≡ (k.dir, e.time) → AllNumbered table es → AllNumbered table (put size (same_key k) k e es)
+  numbered-put : (size : ℕ) (k : DuKey) (e : DuEntry) (es : Dots) → table e.number ≡ (k.dir, e.time) → AllNumbered table es
+      → AllNumbered table (put size (same_key k) k e es)
   numbered-put size k e es is all = (is, numbered-take (size - 1) (without (same_key k) es) (numbered-without (same_key k) es all))
 
   module _ (size : ℕ) (l : Listed) (is : table l.number ≡ (l.dir, l.time)) where
     numbered-dir : (count : ℕ) (es : Dots) → AllNumbered table es → AllNumbered table (put_dir size l count es)
-    numbered-dir count es all = numbered-put size (dir_key l.dir) (record { moment = l.moment; time = l.time; number = l.number; count = Some count }) es is all
+    numbered-dir count es all =
+        numbered-put size (dir_key l.dir) (record { moment = l.moment; time = l.time; number = l.number; count = Some count }) es is all
 
     numbered-names : (names : List Name) (es : Dots) → AllNumbered table es → AllNumbered table (put_names size l names es)
     numbered-names [] es all = all
@@ -64,7 +69,8 @@ module _ (table : Numbers) where
         numbered-names names (put_name size l name es) (numbered-put size (name_key l.dir name) (record { moment = l.moment; time = l.time; number = l.number; count = None }) es is all)
 
   -- a listing that is sealed
-  pub numbered-sealed : (size : ℕ) (l : Listed) (names : List Name) (room : ℕ) (es : Dots) → AllNumbered table es → table l.number ≡ (l.dir, l.time) → AllNumbered table (sealed size l names room es)
+  pub numbered-sealed : (size : ℕ) (l : Listed) (names : List Name) (room : ℕ) (es : Dots) → AllNumbered table es → table l.number ≡ (l.dir, l.time)
+      → AllNumbered table (sealed size l names room es)
   numbered-sealed size l names zero es all is = numbered-without (same_key (dir_key l.dir)) es all
   numbered-sealed size l names (suc room) es all is =
       let dir = numbered-dir size l is (length names) es all in

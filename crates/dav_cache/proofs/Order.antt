@@ -57,7 +57,8 @@ pub any_front : (x : Name) (ns : List Name) → list_any (same_name x) (x ∷ ns
 any_front x ns = ap (λ b. b || list_any (same_name x) ns) ((name_decides x x).1 refl)
 
 any_more : (x n : Name) (ns : List Name) → list_any (same_name x) ns ≡ true → list_any (same_name x) (n ∷ ns) ≡ true
-any_more x n ns h = elim (cases_Bool (same_name x n)) [ inl t ↦ ap (λ b. b || list_any (same_name x) ns) t | inr t ↦ ap (λ b. b || list_any (same_name x) ns) t ∙ h ]
+any_more x n ns h =
+    elim (cases_Bool (same_name x n)) [ inl t ↦ ap (λ b. b || list_any (same_name x) ns) t | inr t ↦ ap (λ b. b || list_any (same_name x) ns) t ∙ h ]
 
 pub any_cases : (x n : Name) (ns : List Name) → list_any (same_name x) (n ∷ ns) ≡ true → (x ≡ n) ⊎ (list_any (same_name x) ns ≡ true)
 any_cases x n ns h = elim (or_cases (same_name x n) (list_any (same_name x) ns) h) [ inl t ↦ inl ((name_decides x n).0 t) | inr t ↦ inr t ]
@@ -84,7 +85,8 @@ least_pair n k ns is = (elim (is_less n k) as (λ b. is_less n k ≡ b → IsLea
   )
 ]) refl
 
-least_cons : (n : Name) (ns : List Name) → ((k : Name) → least ns ≡ Some k → IsLeast k ns) → (o : Option Name) → least ns ≡ o → IsLeast (lesser n o) (n ∷ ns)
+least_cons : (n : Name) (ns : List Name) → ((k : Name) → least ns ≡ Some k → IsLeast k ns) → (o : Option Name) → least ns ≡ o
+    → IsLeast (lesser n o) (n ∷ ns)
 least_cons n ns ih None e = subst (λ w. IsLeast n (n ∷ w)) (sym (no_least ns e)) (any_front n [], λ x h. elim (any_cases x n [] h) [ inl same ↦ inl same | inr never ↦ absurd (false≢true never) ])
 least_cons n ns ih (Some k) e = least_pair n k ns (ih k e)
 
@@ -112,7 +114,8 @@ any-filter p x (n ∷ ns) =
     ]) refl
 
 -- where no name comes after the last one, all were given
-pub at_end : (tree : Tree) (dir : Names) (last : Option Name) → next_name tree dir last ≡ None → (x : Name) → (has_name tree dir x && not (is_after last x)) ≡ has_name tree dir x
+pub at_end : (tree : Tree) (dir : Names) (last : Option Name) → next_name tree dir last ≡ None → (x : Name)
+    → (has_name tree dir x && not (is_after last x)) ≡ has_name tree dir x
 at_end tree dir last h x =
     let none : list_any (same_name x) (filter (is_after last) (names_in tree dir)) ≡ false = ap (list_any (same_name x)) (no_least (filter (is_after last) (names_in tree dir)) h) in
     by_tests (has_name tree dir x) (is_after last x) (sym (any-filter (is_after last) x (names_in tree dir)) ∙ none)
@@ -158,7 +161,8 @@ any-push x n (m ∷ ns) = ap (λ b. same_name x m || b) (any-push x n ns) ∙ sw
     swap true false c = refl
     swap false b c = refl
 
-pub up_to_given : (l : Listing) (tree : Tree) (o : Option Name) → next_name tree l.dir l.last ≡ o → l.ended ≡ false → HasUpTo l tree → HasUpTo (given l o) tree
+pub up_to_given : (l : Listing) (tree : Tree) (o : Option Name) → next_name tree l.dir l.last ≡ o → l.ended ≡ false → HasUpTo l tree
+    → HasUpTo (given l o) tree
 up_to_given l tree None h open_ has x dot =
     let was = rw open_ at (has x dot) in
     was ∙ at_end tree l.dir l.last h x ∙ sym (and_true (has_name tree l.dir x))

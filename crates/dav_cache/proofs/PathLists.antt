@@ -23,8 +23,10 @@ module _ (key : Names) (es : Paths) (distinct : IsDistinct same_path (keys_of es
   pub path_promoted : to_front (same_path key) es ≡ promoted key (lookup (same_path key) es) es
   path_promoted = front_is same_path exact key es distinct ∙ front_alike key (lookup (same_path key) es) es
 
-  pub path_put : (entry : PathEntry) (size : ℕ) → length es ≤ size → put_entries same_path (lru_cache es size) key entry ≡ put size (same_path key) key entry es
+  pub path_put : (entry : PathEntry) (size : ℕ) → length es ≤ size
+      → put_entries same_path (lru_cache es size) key entry ≡ put size (same_path key) key entry es
   path_put entry size fits = put_is same_path exact key es distinct entry size fits
 
-pub folded-put : (size : ℕ) (key : Names) (entry : PathEntry) (es : Paths) → key ≡ fold_path entry.path → AllFolded es → AllFolded (put size (same_path key) key entry es)
+pub folded-put : (size : ℕ) (key : Names) (entry : PathEntry) (es : Paths) → key ≡ fold_path entry.path → AllFolded es
+    → AllFolded (put size (same_path key) key entry es)
 folded-put size key entry es own all = (own, folded-take (size - 1) (without (same_path key) es) (folded-without (same_path key) es all))

@@ -83,7 +83,8 @@ module _ (s : State) (old : PathsOk s) (c : ℕ) where
   conclude_ok _ = old
 
   drop_dir_ok : (o : Option Place) → PathsOk (drop_dir s c o).0
-  drop_dir_ok (Some (Failed dir)) = goes_ok s (record s { dots = without (same_key (dir_key dir)) s.dots }) c Idle (Absent false) refl old.folded old tt
+  drop_dir_ok (Some (Failed dir)) =
+      goes_ok s (record s { dots = without (same_key (dir_key dir)) s.dots }) c Idle (Absent false) refl old.folded old tt
   drop_dir_ok _ = old
 
   begin_ok : (dir : Names) (o : Option Place) → PathsOk (begin s c dir o).0

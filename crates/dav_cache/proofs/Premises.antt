@@ -51,7 +51,8 @@ abbrev is_first : Option FileTime → Bool
 is_first o = option_map_or (λ (t : FileTime). same_time t (at (pos 1))) o false
 
 -- where a directory has one time in both, it is not that one, and has the same names
-names_of : (dir : Names) (time : FileTime) → time_of one dir ≡ Some time → time_of two dir ≡ Some time → (name : Name) → has_name one dir name ≡ has_name two dir name
+names_of : (dir : Names) (time : FileTime) → time_of one dir ≡ Some time → time_of two dir ≡ Some time → (name : Name)
+    → has_name one dir name ≡ has_name two dir name
 names_of [] time h k name = refl
 names_of (x ∷ []) time h k name = elim (name_tells x (100 ∷ [])) [
   | inl is ↦
@@ -72,7 +73,8 @@ names_of (x ∷ y ∷ rest) time h k name = elim (name_tells x (100 ∷ [])) [
     deeper : (y : Name) (rest : Names) (name : Name) → member_name (y ∷ rest) (name ∷ []) ≡ None
     deeper y rest name = (elim (same_name y name) as (λ b. (if b then member_name rest [] else None) ≡ None) [ true ↦ none rest | false ↦ refl ])
 
-same_names : (a b : Tree) → Contains (one ∷ two ∷ []) a → Contains (one ∷ two ∷ []) b → (dir : Names) (time : FileTime) → time_of a dir ≡ Some time → time_of b dir ≡ Some time
+same_names : (a b : Tree) → Contains (one ∷ two ∷ []) a → Contains (one ∷ two ∷ []) b → (dir : Names) (time : FileTime) → time_of a dir ≡ Some time
+    → time_of b dir ≡ Some time
     → (name : Name) → has_name a dir name ≡ has_name b dir name
 same_names a b ka kb dir time ta tb name = elim (which a ka) [
   | inl x ↦ elim (which b kb) [
@@ -134,7 +136,8 @@ module _ (now : Moment) where
   tree_later (suc (suc (suc (suc (suc (suc (suc (suc (suc (suc (suc zero))))))))))) = refl
   tree_later (suc (suc (suc (suc (suc (suc (suc (suc (suc (suc (suc (suc zero)))))))))))) = refl
   tree_later (suc (suc (suc (suc (suc (suc (suc (suc (suc (suc (suc (suc (suc zero))))))))))))) = refl
-  tree_later (suc (suc (suc (suc (suc (suc (suc (suc (suc (suc (suc (suc (suc (suc n)))))))))))))) = ap (λ (l : List Event). (run (run s0 events) l).tree) (take_none n)
+  tree_later (suc (suc (suc (suc (suc (suc (suc (suc (suc (suc (suc (suc (suc (suc n)))))))))))))) =
+      ap (λ (l : List Event). (run (run s0 events) l).tree) (take_none n)
 
   -- the tree at a moment, by whether it has changed
   side : (n : ℕ) → ((n < 4) × ((moment events s0 n).tree ≡ one)) ⊎ ((4 ≤ n) × ((moment events s0 n).tree ≡ two))

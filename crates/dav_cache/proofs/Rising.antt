@@ -24,7 +24,8 @@ rise-idle zero = tt
 rise-idle (suc n) = (tt, rise-idle n)
 
 -- a name that comes after the last one and after each of the names
-rising-push : (last : Option Name) (names : List Name) (n : Name) → is_rising last names ≡ true → is_after last n ≡ true → ((x : Name) → list_any (same_name x) names ≡ true → is_less x n ≡ true)
+rising-push : (last : Option Name) (names : List Name) (n : Name) → is_rising last names ≡ true → is_after last n ≡ true
+    → ((x : Name) → list_any (same_name x) names ≡ true → is_less x n ≡ true)
     → is_rising last (names ++ n ∷ []) ≡ true
 rising-push last [] n rise after_ all = and_from (is_after last n) true after_ refl
 rising-push last (m ∷ names) n rise after_ all =

@@ -23,13 +23,15 @@ stays : (es : List Event) (s : State) (c : ℕ) (d : Names) (t : FileTime)
     → ((k : ℕ) → k ≤ length es → ((m : ℕ) → m ≤ k → IsListing (moment es s m) c d) → time_of (moment es s k).tree d ≢ Some t)
     → IsListing s c d → StaysAway es s c d t
 stays [] s c d t never l = never 0 (omega arith) (at_zero [] s c d l)
-stays (e ∷ es) s c d t never l = (never 0 (omega arith) (at_zero (e ∷ es) s c d l), λ l'. stays es (step s e) c d t (λ k le all. never (suc k) (omega arith) (both k all)) l')
+stays (e ∷ es) s c d t never l =
+    (never 0 (omega arith) (at_zero (e ∷ es) s c d l), λ l'. stays es (step s e) c d t (λ k le all. never (suc k) (omega arith) (both k all)) l')
   where
     both : (k : ℕ) → ((m : ℕ) → m ≤ k → IsListing (moment es (step s e) m) c d) → (m : ℕ) → m ≤ suc k → IsListing (moment (e ∷ es) s m) c d
     both k all zero le = l
     both k all (suc m) le = all m (omega arith)
 
-pub leaves : (e : Event) (es : List Event) (s : State) → NoReturn (e ∷ es) s → (c : ℕ) (d : Names) (t : FileTime) → IsListing s c d → IsListing (step s e) c d
+pub leaves : (e : Event) (es : List Event) (s : State) → NoReturn (e ∷ es) s → (c : ℕ) (d : Names) (t : FileTime) → IsListing s c d
+    → IsListing (step s e) c d
     → time_of s.tree d ≡ Some t → time_of (step s e).tree d ≢ Some t → StaysAway es (step s e) c d t
 leaves e es s fair c d t l l' was left =
     stays es (step s e) c d t (λ k le all back. left (fair c d t 0 1 (suc k) (omega arith) (omega arith) (omega arith) (listing k all) was back)) l'
@@ -57,14 +59,16 @@ changes_later : (e : Event) (es : List Event) (tree : Tree) → Contains (change
 changes_later (Change other) es tree c = contains_there other tree (changes es) c
 changes_later _ es tree c = c
 
-changes_now : (trees : List Tree) (e : Event) (es : List Event) → ((tree : Tree) → Contains (changes (e ∷ es)) tree → Contains trees tree) → KnowsTree trees e
+changes_now : (trees : List Tree) (e : Event) (es : List Event) → ((tree : Tree) → Contains (changes (e ∷ es)) tree → Contains trees tree)
+    → KnowsTree trees e
 changes_now trees (Change tree) es known = known tree (contains_here tree (changes es))
 changes_now trees _ es known = tt
 
 -- ---- runs
 
 module _ (trees : List Tree) (same : SameNames trees) where
-  pub run_inv : (bs after : List Event) (s : State) → ((tree : Tree) → Contains (changes (bs ++ after)) tree → Contains trees tree) → NoReturn (bs ++ after) s
+  pub run_inv : (bs after : List Event) (s : State) → ((tree : Tree) → Contains (changes (bs ++ after)) tree → Contains trees tree)
+      → NoReturn (bs ++ after) s
       → Inv trees (StaysAway (bs ++ after) s) s → Inv trees (StaysAway after (run s bs)) (run s bs)
   run_inv [] after s known fair inv = inv
   run_inv (e ∷ bs) after s known fair inv =
@@ -82,7 +86,8 @@ get-replicate zero c p q h = cc
 get-replicate (suc n) zero p q h = cc
 get-replicate (suc n) (suc c) p q h = get-replicate n c p q h
 
-pub start_inv : (trees : List Tree) (Away : ℕ → Names → FileTime → Type 0) (tree : Tree) (callers paths dots : ℕ) → Contains trees tree → Inv trees Away (start tree callers paths dots)
+pub start_inv : (trees : List Tree) (Away : ℕ → Names → FileTime → Type 0) (tree : Tree) (callers paths dots : ℕ) → Contains trees tree
+    → Inv trees Away (start tree callers paths dots)
 start_inv trees Away tree callers paths dots known = record {
   entries = record { known = known; falling = tt; below = tt; sound = λ d e h. cc };
   places = λ c p h. subst (λ w. PlaceOk trees Away (start tree callers paths dots) c w) (get-replicate callers c Idle p h) tt;

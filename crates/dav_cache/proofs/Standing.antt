@@ -14,7 +14,7 @@ use Rattle.dav_cache.proofs.Keys.{path_tells}
 use Rattle.dav_cache.proofs.Lists.{purged-take}
 use Rattle.dav_cache.proofs.History.{run-append}
 use Rattle.dav_cache.proofs.Facts.{FactsOk, step_facts, run_facts, start_facts}
-use Rattle.dav_cache.proofs.Knowing.{SameFor, same-self, same-take, same-dropped, sealed-others, sealed-own}
+use Rattle.dav_cache.proofs.MemoryCalls.{SameFor, same-self, same-take, same-dropped, sealed-others, sealed-own}
 
 -- where a directory's entry stands after an event, it stood before with the same names, or has a new number
 abbrev pub SameOrNew : State → State → Names → Type 0
@@ -76,7 +76,8 @@ module _ (s : State) (kept : AreCounted s.next s.dots) (c : ℕ) where
       (elim (l.ended) as (λ b. Moves s (if b then goes s c (Ended l (time_told refused s.tree l.dir)) Nothing else (s, Misplaced)).0) [ true ↦ still s _ refl refl | false ↦ still s s refl refl ])
   after_moves refused _ = still s s refl refl
 
-  with_dots_moves : (l : Listing) (now : Moment) (room : ℕ) (o : Option FileTime) → Moves s (goes (with_dots s (new_dots s l now room o)) c Idle Nothing).0
+  with_dots_moves : (l : Listing) (now : Moment) (room : ℕ) (o : Option FileTime)
+      → Moves s (goes (with_dots s (new_dots s l now room o)) c Idle Nothing).0
   unfolding new_dots
   with_dots_moves l now room None = still s _ refl refl
   with_dots_moves l now room (Some t) =

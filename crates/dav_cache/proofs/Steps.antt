@@ -33,17 +33,20 @@ is_time_at t (Some u) h = ap Some (sym ((time_decides t u).0 h))
 
 one_time_parts : (before after : Option FileTime) (t : FileTime) → one_time before after ≡ Some t → (before ≡ Some t) × (after ≡ Some t)
 one_time_parts None after t h = cc
-one_time_parts (Some u) after t h = (elim (is_time u after) as (λ b. is_time u after ≡ b → (if b then Some u else None) ≡ Some t → (Some u ≡ Some t) × (after ≡ Some t)) [
-  | true ↦ λ is e. (e, is_time_at u after is ∙ e)
-  | false ↦ λ is e. cc
-]) refl h
+one_time_parts (Some u) after t h =
+    (elim (is_time u after) as (λ b. is_time u after ≡ b → (if b then Some u else None) ≡ Some t → (Some u ≡ Some t) × (after ≡ Some t)) [
+      | true ↦ λ is e. (e, is_time_at u after is ∙ e)
+      | false ↦ λ is e. cc
+    ]) refl h
 
-settled_parts : (l : Listing) (after : Option FileTime) (t : FileTime) → settled l after ≡ Some t → (l.whole ≡ true) × (l.before ≡ Some t) × (after ≡ Some t)
+settled_parts : (l : Listing) (after : Option FileTime) (t : FileTime) → settled l after ≡ Some t
+    → (l.whole ≡ true) × (l.before ≡ Some t) × (after ≡ Some t)
 unfolding settled
-settled_parts l after t h = (elim (l.whole) as (λ b. (if b then one_time l.before after else None) ≡ Some t → (b ≡ true) × (l.before ≡ Some t) × (after ≡ Some t)) [
-  | true ↦ λ e. let parts = one_time_parts l.before after t e in (refl, parts.0, parts.1)
-  | false ↦ λ e. cc
-]) h
+settled_parts l after t h =
+    (elim (l.whole) as (λ b. (if b then one_time l.before after else None) ≡ Some t → (b ≡ true) × (l.before ≡ Some t) × (after ≡ Some t)) [
+      | true ↦ λ e. let parts = one_time_parts l.before after t e in (refl, parts.0, parts.1)
+      | false ↦ λ e. cc
+    ]) h
 
 -- ---- entries that an event leaves
 
@@ -65,7 +68,8 @@ module _ (trees : List Tree) (same : SameNames trees) (A A' : ℕ → Names → 
   still s inv pass = next trees same A A' s s inv pass inv.entries (keeps_like s s refl refl) (λ c p h. inl h)
 
   -- one caller goes to another place
-  go : (s s1 : State) (c : ℕ) (p : Place) (t : Told) → s1.places ≡ s.places → Inv trees A s → Passing A A' s (goes s1 c p t).0 → Data trees s1 → Keeps s s1
+  go : (s s1 : State) (c : ℕ) (p : Place) (t : Told) → s1.places ≡ s.places → Inv trees A s → Passing A A' s (goes s1 c p t).0 → Data trees s1
+      → Keeps s s1
       → PlaceOk trees A' (goes s1 c p t).0 c p → Inv trees A' (goes s1 c p t).0
   go s s1 c p t places inv pass data_ keeps ok =
       next trees same A A' s (goes s1 c p t).0 inv pass (data_like trees s1 (goes s1 c p t).0 refl refl refl data_) (record { more = keeps.more; came = keeps.came })
@@ -75,16 +79,19 @@ module _ (trees : List Tree) (same : SameNames trees) (A A' : ℕ → Names → 
       ])
 
   -- and the entries stay
-  goes_on : (s : State) (c : ℕ) (p : Place) (t : Told) → Inv trees A s → Passing A A' s (goes s c p t).0 → PlaceOk trees A' (goes s c p t).0 c p → Inv trees A' (goes s c p t).0
+  goes_on : (s : State) (c : ℕ) (p : Place) (t : Told) → Inv trees A s → Passing A A' s (goes s c p t).0 → PlaceOk trees A' (goes s c p t).0 c p
+      → Inv trees A' (goes s c p t).0
   goes_on s c p t inv pass ok = go s s c p t refl inv pass inv.entries (keeps_like s s refl refl) ok
 
   -- ---- looking up a path
 
-  find_inv : (s : State) (c : ℕ) (path : Names) (o : Option Place) → Inv trees A s → Passing A A' s (find s c path o).0 → Inv trees A' (find s c path o).0
+  find_inv : (s : State) (c : ℕ) (path : Names) (o : Option Place) → Inv trees A s → Passing A A' s (find s c path o).0
+      → Inv trees A' (find s c path o).0
   find_inv s c path (Some Idle) inv pass = goes_on s c (Finding path) Nothing inv pass tt
   find_inv s c path _ inv pass = still s inv pass
 
-  got_inv : (s : State) (c : ℕ) (asked : Names) (o : Option PathEntry) → lookup (same_path (fold_path asked)) s.paths ≡ o → Inv trees A s → Passing A A' s (got s c asked o).0 → Inv trees A' (got s c asked o).0
+  got_inv : (s : State) (c : ℕ) (asked : Names) (o : Option PathEntry) → lookup (same_path (fold_path asked)) s.paths ≡ o → Inv trees A s
+      → Passing A A' s (got s c asked o).0 → Inv trees A' (got s c asked o).0
   got_inv s c asked None h inv pass = goes_on s c Idle (Path None) inv pass tt
   got_inv s c asked (Some e) h inv pass =
       let old = inv.entries in
@@ -98,7 +105,8 @@ module _ (trees : List Tree) (same : SameNames trees) (A A' : ℕ → Names → 
   get_inv s c (Some (Finding asked)) inv pass = got_inv s c asked (lookup (same_path (fold_path asked)) s.paths) refl inv pass
   get_inv s c _ inv pass = still s inv pass
 
-  probe_inv : (s : State) (c : ℕ) (refused : Bool) (o : Option Place) → Inv trees A s → Passing A A' s (probe s c refused o).0 → Inv trees A' (probe s c refused o).0
+  probe_inv : (s : State) (c : ℕ) (refused : Bool) (o : Option Place) → Inv trees A s → Passing A A' s (probe s c refused o).0
+      → Inv trees A' (probe s c refused o).0
   probe_inv s c refused (Some (Got asked path)) inv =
       (elim (not refused && has_row s.tree path) as (λ b. Passing A A' s (if b then goes s c Idle (Path (Some path)) else goes s c (Missed asked) Nothing).0 → Inv trees A' (if b then goes s c Idle (Path (Some path)) else goes s c (Missed asked) Nothing).0) [
         | true ↦ λ pass. goes_on s c Idle (Path (Some path)) inv pass tt
@@ -116,7 +124,8 @@ module _ (trees : List Tree) (same : SameNames trees) (A A' : ℕ → Names → 
       tt
   drop_inv s c _ inv pass = still s inv pass
 
-  insert_inv : (s : State) (c : ℕ) (path : Names) (now : Moment) (o : Option Place) → Inv trees A s → Passing A A' s (insert s c path now o).0 → Inv trees A' (insert s c path now o).0
+  insert_inv : (s : State) (c : ℕ) (path : Names) (now : Moment) (o : Option Place) → Inv trees A s → Passing A A' s (insert s c path now o).0
+      → Inv trees A' (insert s c path now o).0
   insert_inv s c path now (Some Idle) inv pass =
       let old = inv.entries in
       let s1 : State = record s { paths = put s.paths_size (same_path (fold_path path)) (fold_path path) (record { path = path; secs = whole_seconds now.0 }) s.paths } in
@@ -154,7 +163,8 @@ module _ (trees : List Tree) (same : SameNames trees) (A A' : ℕ → Names → 
       (keeps_like s s1 refl refl)
       (λ c p h. inl h)
 
-  change_inv : (s : State) (tree : Tree) → Contains trees tree → Inv trees A s → Passing A A' s (record s { tree = tree }) → Inv trees A' (record s { tree = tree })
+  change_inv : (s : State) (tree : Tree) → Contains trees tree → Inv trees A s → Passing A A' s (record s { tree = tree })
+      → Inv trees A' (record s { tree = tree })
   change_inv s tree known inv pass =
       let old = inv.entries in
       let s1 : State = record s { tree = tree } in
@@ -165,17 +175,20 @@ module _ (trees : List Tree) (same : SameNames trees) (A A' : ℕ → Names → 
 
   -- ---- listing a directory
 
-  begin_inv : (s : State) (c : ℕ) (dir : Names) (o : Option Place) → Inv trees A s → Passing A A' s (begin s c dir o).0 → Inv trees A' (begin s c dir o).0
+  begin_inv : (s : State) (c : ℕ) (dir : Names) (o : Option Place) → Inv trees A s → Passing A A' s (begin s c dir o).0
+      → Inv trees A' (begin s c dir o).0
   begin_inv s c dir (Some Idle) inv pass = goes_on s c (Begun dir) Nothing inv pass tt
   begin_inv s c dir _ inv pass = still s inv pass
 
-  before_inv : (s : State) (c : ℕ) (refused : Bool) (o : Option Place) → Inv trees A s → Passing A A' s (before s c refused o).0 → Inv trees A' (before s c refused o).0
+  before_inv : (s : State) (c : ℕ) (refused : Bool) (o : Option Place) → Inv trees A s → Passing A A' s (before s c refused o).0
+      → Inv trees A' (before s c refused o).0
   before_inv s c refused (Some (Begun dir)) inv pass =
       goes_on s c (Lists (record { dir = dir; before = time_told refused s.tree dir; last = None; names = []; ended = false; whole = true })) Nothing inv pass
       (λ whole t is. inl (told_time refused s.tree dir t is, λ x dot. and_false (has_name s.tree dir x)))
   before_inv s c refused _ inv pass = still s inv pass
 
-  given_ok : (s s' : State) (c : ℕ) (l : Listing) (o : Option Name) → s'.tree ≡ s.tree → next_name s.tree l.dir l.last ≡ o → l.ended ≡ false → slice_get s'.places c ≡ Some (Lists (given l o))
+  given_ok : (s s' : State) (c : ℕ) (l : Listing) (o : Option Name) → s'.tree ≡ s.tree → next_name s.tree l.dir l.last ≡ o → l.ended ≡ false
+      → slice_get s'.places c ≡ Some (Lists (given l o))
       → Passing A A' s s' → PlaceOk trees A s c (Lists l) → PlaceOk trees A' s' c (Lists (given l o))
   given_ok s s' c l None tree is open_ here pass ok = λ whole t before. elim (ok whole t before) [
     | inl going ↦ inl (ap (λ w. time_of w l.dir) tree ∙ going.0, subst (λ w. HasUpTo (given l None) w) (sym tree) (up_to_given l s.tree None is open_ going.1))
@@ -186,12 +199,14 @@ module _ (trees : List Tree) (same : SameNames trees) (A A' : ℕ → Names → 
     | inr away ↦ inr (pass.carries c l.dir t away (given l (Some n), here, refl))
   ]
 
-  lists_next_ok : (s s' : State) (c : ℕ) (l : Listing) (o : Option FileTime) → s'.tree ≡ s.tree → l.ended ≡ false → slice_get s'.places c ≡ Some (Lists (lists_next s.tree l o))
+  lists_next_ok : (s s' : State) (c : ℕ) (l : Listing) (o : Option FileTime) → s'.tree ≡ s.tree → l.ended ≡ false
+      → slice_get s'.places c ≡ Some (Lists (lists_next s.tree l o))
       → Passing A A' s s' → PlaceOk trees A s c (Lists l) → PlaceOk trees A' s' c (Lists (lists_next s.tree l o))
   lists_next_ok s s' c l None tree open_ here pass ok = λ whole t before. absurd (false≢true whole)
   lists_next_ok s s' c l (Some u) tree open_ here pass ok = given_ok s s' c l (next_name s.tree l.dir l.last) tree refl open_ here pass ok
 
-  list_next_inv : (s : State) (c : ℕ) (refused : Bool) (o : Option Place) → slice_get s.places c ≡ o → Inv trees A s → Passing A A' s (list_next s c refused o).0 → Inv trees A' (list_next s c refused o).0
+  list_next_inv : (s : State) (c : ℕ) (refused : Bool) (o : Option Place) → slice_get s.places c ≡ o → Inv trees A s
+      → Passing A A' s (list_next s c refused o).0 → Inv trees A' (list_next s c refused o).0
   list_next_inv s c refused (Some (Lists l)) h inv =
       let p : Place = Lists (lists_next s.tree l (time_told refused s.tree l.dir)) in
       (elim (l.ended) as (λ b. l.ended ≡ b → Passing A A' s (if b then (s, Misplaced) else goes s c p Nothing).0 → Inv trees A' (if b then (s, Misplaced) else goes s c p Nothing).0) [
@@ -200,7 +215,8 @@ module _ (trees : List Tree) (same : SameNames trees) (A A' : ℕ → Names → 
       ]) refl
   list_next_inv s c refused _ h inv = λ pass. still s inv pass
 
-  after_inv : (s : State) (c : ℕ) (refused : Bool) (o : Option Place) → slice_get s.places c ≡ o → Inv trees A s → Passing A A' s (after s c refused o).0 → Inv trees A' (after s c refused o).0
+  after_inv : (s : State) (c : ℕ) (refused : Bool) (o : Option Place) → slice_get s.places c ≡ o → Inv trees A s
+      → Passing A A' s (after s c refused o).0 → Inv trees A' (after s c refused o).0
   after_inv s c refused (Some (Lists l)) h inv =
       let o = time_told refused s.tree l.dir in
       (elim (l.ended) as (λ b. l.ended ≡ b → Passing A A' s (if b then goes s c (Ended l o) Nothing else (s, Misplaced)).0 → Inv trees A' (if b then goes s c (Ended l o) Nothing else (s, Misplaced)).0) [
@@ -217,8 +233,10 @@ module _ (trees : List Tree) (same : SameNames trees) (A A' : ℕ → Names → 
       ]) refl
   after_inv s c refused _ h inv = λ pass. still s inv pass
 
-  with_dots_inv : (s : State) (c : ℕ) (l : Listing) (now : Moment) (room : ℕ) (o : Option FileTime) → ((t : FileTime) → o ≡ Some t → AreNamesOf trees l t) → Inv trees A s
-      → Passing A A' s (goes (with_dots s (new_dots s l now room o)) c Idle Nothing).0 → Inv trees A' (goes (with_dots s (new_dots s l now room o)) c Idle Nothing).0
+  with_dots_inv : (s : State) (c : ℕ) (l : Listing) (now : Moment) (room : ℕ) (o : Option FileTime)
+      → ((t : FileTime) → o ≡ Some t → AreNamesOf trees l t) → Inv trees A s
+      → Passing A A' s (goes (with_dots s (new_dots s l now room o)) c Idle Nothing).0
+      → Inv trees A' (goes (with_dots s (new_dots s l now room o)) c Idle Nothing).0
   unfolding new_dots
   with_dots_inv s c l now room None are inv = λ pass. goes_on s c Idle Nothing inv pass tt
   with_dots_inv s c l now room (Some t) are inv =
@@ -234,17 +252,20 @@ module _ (trees : List Tree) (same : SameNames trees) (A A' : ℕ → Names → 
         | false ↦ λ pass. goes_on s c Idle Nothing inv pass tt
       ])
 
-  seal_inv : (s : State) (c : ℕ) (now : Moment) (room : ℕ) (o : Option Place) → slice_get s.places c ≡ o → Inv trees A s → Passing A A' s (seal s c now room o).0 → Inv trees A' (seal s c now room o).0
+  seal_inv : (s : State) (c : ℕ) (now : Moment) (room : ℕ) (o : Option Place) → slice_get s.places c ≡ o → Inv trees A s
+      → Passing A A' s (seal s c now room o).0 → Inv trees A' (seal s c now room o).0
   seal_inv s c now room (Some (Ended l after)) h inv = with_dots_inv s c l now room (settled l after) (inv.places c (Ended l after) h) inv
   seal_inv s c now room _ h inv = λ pass. still s inv pass
 
   -- ---- asking whether a name is absent
 
-  ask_inv : (s : State) (c : ℕ) (dir : Names) (name : Name) (o : Option Place) → Inv trees A s → Passing A A' s (ask s c dir name o).0 → Inv trees A' (ask s c dir name o).0
+  ask_inv : (s : State) (c : ℕ) (dir : Names) (name : Name) (o : Option Place) → Inv trees A s → Passing A A' s (ask s c dir name o).0
+      → Inv trees A' (ask s c dir name o).0
   ask_inv s c dir name (Some Idle) inv pass = goes_on s c (Asked dir name) Nothing inv pass tt
   ask_inv s c dir name _ inv pass = still s inv pass
 
-  peeked_inv : (s : State) (c : ℕ) (dir : Names) (name : Name) (o : Option DuEntry) → lookup (same_key (dir_key dir)) s.dots ≡ o → Inv trees A s → Passing A A' s (peeked s c dir name o).0 → Inv trees A' (peeked s c dir name o).0
+  peeked_inv : (s : State) (c : ℕ) (dir : Names) (name : Name) (o : Option DuEntry) → lookup (same_key (dir_key dir)) s.dots ≡ o → Inv trees A s
+      → Passing A A' s (peeked s c dir name o).0 → Inv trees A' (peeked s c dir name o).0
   peeked_inv s c dir name None h inv pass = goes_on s c Idle (Absent false) inv pass tt
   peeked_inv s c dir name (Some e) h inv pass =
       let old = inv.entries in
@@ -258,7 +279,8 @@ module _ (trees : List Tree) (same : SameNames trees) (A A' : ℕ → Names → 
   peek_inv s c (Some (Asked dir name)) inv pass = peeked_inv s c dir name (lookup (same_key (dir_key dir)) s.dots) refl inv pass
   peek_inv s c _ inv pass = still s inv pass
 
-  check_inv : (s : State) (c : ℕ) (refused : Bool) (o : Option Place) → slice_get s.places c ≡ o → Inv trees A s → Passing A A' s (check s c refused o).0 → Inv trees A' (check s c refused o).0
+  check_inv : (s : State) (c : ℕ) (refused : Bool) (o : Option Place) → slice_get s.places c ≡ o → Inv trees A s
+      → Passing A A' s (check s c refused o).0 → Inv trees A' (check s c refused o).0
   check_inv s c refused (Some (Peeked dir name number t)) h inv =
       (elim (is_time t (time_told refused s.tree dir)) as (λ b. Passing A A' s (goes s c (if b then Passed dir name number t else Failed dir) Nothing).0 → Inv trees A' (goes s c (if b then Passed dir name number t else Failed dir) Nothing).0) [
         | true ↦ λ pass. goes_on s c (Passed dir name number t) Nothing inv pass

@@ -139,7 +139,8 @@ unfoldable pub new_dots : State → Listing → Moment → ℕ → Option FileTi
 new_dots s l now room None = None
 new_dots s l now room (Some time) =
     if nat_lt s.next (2 ^ 64 - 1)
-    then Some (sealed s.dots_size (record { dir = l.dir; time = time; moment = now; number = s.next }) l.names room s.dots)
+    then Some
+    (sealed s.dots_size (record { dir = l.dir; time = time; moment = now; number = s.next }) l.names room s.dots)
     else None
 
 abbrev pub with_dots : State → Option Dots → State

@@ -36,12 +36,14 @@ impl Owned {
         })
     }
 
+    /// The cache of paths.
     pub fn paths(&self) -> &Cache
         ensures { result.now ≡ self.now.paths }
     {
         &self.paths
     }
 
+    /// The cache of absent names.
     pub fn dots(&self) -> &DuCache
         ensures { result.now ≡ self.now.dots }
     {

@@ -235,7 +235,7 @@ module _ {S C F L E : Type 0} (served : Served S C F L E) where
   answer_opens (At method path) asking given r old new writes was answers =
       passes_opens (query asking.settings asking.head.headers method path) asking given r old.store new.store was answers.0
   answer_opens (Writes method path) asking given r old new writes was performs =
-      performs_opens (order method path asking.head.headers) asking given r old new writes.1 was performs
+      performs_opens (order asking.settings.prefix method path asking.head.headers) asking given r old new writes.1 was performs
 
   pub handled_opens : {B : Type 0} (reader : ReaderGhosts B) (asking : Asking C) (given : S) (body : B) (r : Responded F) (new : Option S)
       → HandlesAll served reader asking (Some given) body r new → Opened asking given r new

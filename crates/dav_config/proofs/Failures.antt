@@ -99,7 +99,7 @@ module _ {S C F L E : Type 0} (served : Served S C F L E) where
       subst (λ (x : BodyState). Rose old.body.faults x.faults) (sym (ap (λ (x : Sides S). x.body) answers.1)) rose
   fails_for Methods asking old new between r asks answers e = absurd (never_200 (sym answers.0.head.status ∙ e))
   fails_for (Writes method path) asking old new between r asks performs e =
-      performs_fail (order method path asking.head.headers) asking old.body (record old { body = between }) new r
+      performs_fail (order asking.settings.prefix method path asking.head.headers) asking old.body (record old { body = between }) new r
       (behind_counts (admitted asking.settings (is_stored served.void old.store) asking.head) old.body between asks.bulk asks.reads) performs e
   fails_for (At method path) asking old new between r asks answers e =
       let passes = answers.0 in record {
@@ -158,5 +158,5 @@ module _ {S C F L E : Type 0} (served : Served S C F L E) where
       by (Writes method path) parted performs (inl rose) = inl rose
       by (Writes method path) parted performs (inr fails) =
           inr (rose_in fails.before fails.after old.store new.store fails.was fails.is
-          (moved_rose asking fails.before fails.after (writing_moment fails.before (order method path asking.head.headers) handles.between fails.was performs)
+          (moved_rose asking fails.before fails.after (writing_moment fails.before (order asking.settings.prefix method path asking.head.headers) handles.between fails.was performs)
           (way_rose served.view served.lists served.writes asking.credentials (usual parted.1) (served.with_now fails.before asking.now) fails.after fails.fails)))

@@ -103,8 +103,8 @@ module _ (head : Parts) where
   asked_parted PropFind path e = e
   asked_parted PropPatch path e = e
   asked_parted MkCol path e = (refl, e)
-  asked_parted Copy path e = e
-  asked_parted Move path e = e
+  asked_parted Copy path e = (refl, e)
+  asked_parted Move path e = (refl, e)
   asked_parted Delete path e = (refl, e)
   asked_parted Lock path e = e
   asked_parted Unlock path e = e

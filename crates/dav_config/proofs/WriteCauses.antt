@@ -11,13 +11,16 @@ use Rattle.dav_core.specs.declared.etag.ETag.{ETag}
 use Rattle.dav_core.specs.declared.etag_list.EtagList.{EtagList}
 use Rattle.dav_core.specs.declared.method.DavMethod.{DavMethod}
 use Rattle.dav_core.specs.declared.method.DavMethod.TheVariants.{Copy, Delete, Get, Head, Lock, MkAddressbook, MkCalendar, MkCol, Move, Options, Patch, PropFind, PropPatch, Put, Report, Unlock}
+use Rattle.dav_core.specs.declared.parse_error.ParseError.{ParseError}
+use Rattle.dav_core.specs.declared.parse_error.ParseError.TheVariants as parse
 use Rattle.dav_core.specs.declared.time.FileTime.{FileTime}
 use Rattle.dav_core.specs.DavPath.{WebPath}
+use Rattle.dav_core.specs.Grammar.{begins_with_slash, parsed}
 use Rattle.dav_core.specs.Info.{Info}
-use Rattle.dav_core.specs.Statuses.{lacks_memory, of_fs, status_of}
+use Rattle.dav_core.specs.Statuses.{lacks_memory, of_fs, of_path, status_of}
 use Rattle.dav_core.specs.Tags.{equal_weakly}
 use Rattle.dav_core.specs.Tree.{is_dir}
-use Rattle.dav_model.specs.Conditions.{Fields, condition, condition_of, date_in, is_refused, is_unmodified, list_in, matches, reads, repeated, strong}
+use Rattle.dav_model.specs.Conditions.{Fields, condition, condition_of, date_in, first_bytes, is_refused, is_unmodified, list_in, matches, reads, repeated, strong}
 use Rattle.std.specs.Prelude.{◌&&◌, codes}
 use Rattle.dav_model.specs.declared.outcome.Outcome.{Outcome}
 use Rattle.dav_store.specs.declared.entry.ReadDirMeta.TheVariants.{DataSymlink}
@@ -25,13 +28,19 @@ use Rattle.dav_store.specs.Bodies.{BodyState}
 use Rattle.dav_store.specs.Members.{Answered, Walked, begun, goes as walks}
 use Rattle.dav_store.specs.View.{View, Listings}
 use Rattle.dav_get.proofs.HeardIsRight.{rose_through}
+use Rattle.dav_methods.specs.declared.asked.Asked.{Asked}
+use Rattle.dav_methods.specs.declared.transfer.Transfer.{Transfer}
 use Rattle.dav_methods.specs.declared.work.Work.{Work}
 use Rattle.dav_methods.specs.declared.work.Work.TheVariants.{Emptied, Whole}
-use Rattle.dav_methods.specs.Lines.{Given, Line, above, done_over, fails_when, first_of, found_or_failed, is_dir_there, may_delete, may_make, may_put, no_parent, refused_but_missing, silent, unless, unmet, with_status}
+use Rattle.dav_methods.specs.Carrying.{Arrives, Carries, CopyMoves, Goes, Leaves, TakesPlace, may_leave, may_take_place, method_of, transfer}
+use Rattle.dav_methods.specs.Copying.{AfterMaking, Copies, CopiesBy, CopiesDir, Enters, ReadsInto, done as all_copied, short as copied_short, goes as copies_on, stops as copies_stopped}
+use Rattle.dav_methods.specs.Destination.{Asks, IsDestination, IsPlace, asked_by, depth_of, overwrite_of, path_or_refusal}
+use Rattle.dav_methods.specs.Lines.{Given, Line, above, done_over, fails_when, first_of, found_or_failed, info_there, is_dir_there, is_there, made, may_delete, may_make, may_put, no_parent, refused_but_missing, silent, unless, unmet, with_status}
+use Rattle.dav_methods.specs.Overlap.{overlap}
 use Rattle.dav_methods.specs.Pouring.{Poured, Stops, Writes, WritesFile, begun as none_poured, goes as pours_on}
 use Rattle.dav_methods.specs.Putting.{AfterChecks, MayPut, MayReplace, Puts, put_options}
 use Rattle.dav_methods.specs.Reading.{HasMembers, HasNoMembers, ReadRefused}
-use Rattle.dav_methods.specs.Removing.{Deletes, LooksAtLink, RefusesDir, RemovesAll, RemovesOne, Removes, is_root, line_of, done, short, goes as removes_on, stops as stopped}
+use Rattle.dav_methods.specs.Removing.{Deletes, LooksAtLink, RefusesDir, RemovesAll, RemovesOne, Removes, is_deep, is_root, line_of, done, short, goes as removes_on, stops as stopped}
 use Rattle.dav_methods.specs.Table.{Below, Ends, EndsMade, Looks, MkCalendars, MkCols, Next, Run, Unless}
 use Rattle.dav_config.specs.Ways as on
 use Rattle.dav_config.specs.Writing as one
@@ -180,6 +189,25 @@ mind_delete : (fields : Fields) → IsMindful (may_delete fields)
 mind_delete fields (Ok info) e is fails = last_never (condition_of Delete fields (Some info)) e (found_never Delete fields (Some info)) is fails
 mind_delete fields (Err x) e is fails = look_failed x e is fails
 
+-- a line alone, and one behind a refused look
+alone_never : {X : Type 0} (b : Bool) (status : ℕ) (e : DavError) → first_of (fails_when b status ∷ []) ≡ Err e → (status ≡ 500 → ⊥) → FailsWith e → X
+alone_never true status e is not_it fails = never_status status e (ap status_of (same_error (dav.Status status) e is)) not_it fails
+alone_never false status e is not_it fails = cc
+
+mind_leave : (folds : Bool) (from to : WebPath) → IsMindful (may_leave folds from to)
+mind_leave folds from to (Ok info) e is fails = alone_never (overlap folds from.names to.names) 403 e is (λ s. omega (arith, s)) fails
+mind_leave folds from to (Err x) e is fails = look_failed x e is fails
+
+mind_arrive : (replaces : Bool) → IsMindful (may_take_place replaces)
+mind_arrive replaces (Ok info) e is fails = alone_never (is_there (Ok info) && not replaces) 412 e is (λ s. omega (arith, s)) fails
+mind_arrive replaces (Err x) e is fails =
+    mind_missing x (fails_when (is_there (Err x) && not replaces) 412 ∷ []) e
+    (λ f same fails. alone_never (is_there (Err x) && not replaces) 412 f same (λ s. omega (arith, s)) fails) is fails
+
+met_never : {X : Type 0} (status : Option ℕ) (e : DavError) → NeverFails status → with_status status ≡ Err e → FailsWith e → X
+met_never None e never is fails = cc
+met_never (Some status) e never is fails = never_status status e (ap status_of (same_error (dav.Status status) e is)) never fails
+
 done_never : (found : Result Info FsError) → (done_over found).status ≡ 500 → ⊥
 done_never (Ok info) s = omega (arith, s)
 done_never (Err e) s = omega (arith, s)
@@ -192,6 +220,44 @@ ends_same [] (y ∷ z ∷ ys) a b e = cc
 ends_same (x ∷ []) [] a b e = cc
 ends_same (x ∷ z ∷ xs) [] a b e = cc
 ends_same (x ∷ xs) (y ∷ ys) a b e = ends_same xs ys a b cc
+
+-- ---- what the fields of a COPY or a MOVE ask for
+
+-- Where it is refused, that isn't with 500.
+abbrev NeverBy : {T : Type 0} → Result T DavError → Type 0
+NeverBy (Ok x) = Unit {0}
+NeverBy (Err e) = FailsWith e → ⊥
+
+path_never : (path : Result WebPath ParseError) → NeverBy (path_or_refusal path)
+path_never (Ok path) = tt
+path_never (Err parse.InvalidPath) = λ fails. never_status 400 (of_path parse.InvalidPath) refl (λ s. omega (arith, s)) fails
+path_never (Err parse.ForbiddenPath) = λ fails. never_status 403 (of_path parse.ForbiddenPath) refl (λ s. omega (arith, s)) fails
+path_never (Err parse.PrefixMismatch) = λ fails. never_status 404 (of_path parse.PrefixMismatch) refl (λ s. omega (arith, s)) fails
+path_never (Err parse.NotText) = λ fails. never_status 404 (of_path parse.NotText) refl (λ s. omega (arith, s)) fails
+path_never (Err parse.NoMemory) = λ fails. never_wanting dav.NoMemory refl fails
+
+bad_never : FailsWith (dav.Status 400) → ⊥
+bad_never fails = never_status 400 (dav.Status 400) refl (λ s. omega (arith, s)) fails
+
+place_never : (slash : Bool) (prefix text : List ℕ) (to : Result WebPath DavError) → IsPlace slash prefix text to → NeverBy to
+place_never true prefix text to is = rw is (path_never (parsed text prefix))
+place_never false prefix text to (inl (uri, spells, has, is)) = rw is (path_never _)
+place_never false prefix text to (inr (unaddressed, is)) = rw is bad_never
+
+destination_never : (prefix : List ℕ) (field : Option (List ℕ)) (to : Result WebPath DavError) → IsDestination prefix field to → NeverBy to
+destination_never prefix None to is = rw is bad_never
+destination_never prefix (Some text) to is = place_never (begins_with_slash text) prefix text to is
+
+by_never : (moving : Bool) (to : Result WebPath DavError) (replaces alone : Option Bool) → NeverBy to → NeverBy (asked_by moving to replaces alone)
+by_never moving (Err e) replaces alone never = never
+by_never moving (Ok to) None alone never = bad_never
+by_never moving (Ok to) (Some replaces) None never = bad_never
+by_never moving (Ok to) (Some replaces) (Some alone) never = tt
+
+asked_never : (moving : Bool) (prefix : List ℕ) (fields : Fields) (asked : Result Asked DavError) → Asks moving prefix fields asked → NeverBy asked
+asked_never moving prefix fields asked (to, is, by) =
+    rw by (by_never moving to (overwrite_of (first_bytes fields (codes "overwrite"))) (depth_of moving (first_bytes fields (codes "depth")))
+    (destination_never prefix (first_bytes fields (codes "destination")) to is))
 
 -- ---- ways
 
@@ -417,16 +483,99 @@ module _ {S C F L E : Type 0} (view : View S C F) (lists : Listings S C L E) (wr
       removes_came s n t rest all (one_done s m n work more rest came first) later
   removes_came s m t works all came (stopped work more rest u v e first) = λ fails. one_way s m t work more rest e came first fails
 
-  all_came : (s t : S) (all : Line) (r : Given) → CameBy s all t → r ≡ unless all silent → Came s r t
-  all_came s t (Ok x) r came is = subst (λ g. Came s g t) (sym is) ((λ e. omega (arith, e)), came)
-  all_came s t (Err e) r came is = subst (λ g. Came s g t) (sym is) came
+  all_came : (s t : S) (all : Line) (r : Given) (outcome : Outcome) → (outcome.status ≡ 500 → ⊥) → CameBy s all t → r ≡ unless all outcome → Came s r t
+  all_came s t (Ok x) r outcome not_it came is = subst (λ g. Came s g t) (sym is) (not_it, came)
+  all_came s t (Err e) r outcome not_it came is = subst (λ g. Came s g t) (sym is) came
 
   delete_came : (s t : S) (r : Given) (path : WebPath) (fields : Fields) → Deletes view lists c path fields s r t → Came s r t
   delete_came s t r path fields deletes =
       unless_came s s t r (fails_when (is_root path.names) 403) (LooksAtLink view lists c path (λ found. Unless (may_delete fields found) (RemovesAll view lists c path (is_dir_there found))))
       (λ e is fails. when_never (is_root path.names) 403 e is (λ x. omega (arith, x)) fails) deletes
       (λ looks. link_came s s t r path (may_delete fields) (λ found. RemovesAll view lists c path (is_dir_there found)) (mind_delete fields) on.here looks
-      (λ found n on_to (all, removes, is). all_came s t all r (removes_came s n t (Whole path (is_dir_there found) ∷ []) all on_to removes) is))
+      (λ found n on_to (all, removes, is). all_came s t all r silent (λ e. omega (arith, e)) (removes_came s n t (Whole path (is_dir_there found) ∷ []) all on_to removes) is))
+
+  -- ---- COPY and MOVE
+
+  read_came : (s m n : S) (x : Transfer) (works rest : List Transfer) (r : Line) → Reach s m → ReadsInto view lists c x works m r n rest → CameBy s r n
+  read_came s m n x works rest (Ok y) came (members, has, left) = members_came s m n x.from members came has
+  read_came s m n x works rest (Err e) came (inl (refusal, none, is)) = λ fails. unread_way s m n x.from refusal came none (of_failure refusal e is fails)
+  read_came s m n x works rest (Err e) came (inr (members, has, is)) = λ fails. never_wanting e is fails
+
+  module _ (alone : Bool) where
+    entered_came : (skips : Bool) (s m n : S) (x : Transfer) (works rest : List Transfer) (r : Line) → Reach s m → Enters view lists c alone skips x works m r n rest → CameBy s r n
+    entered_came true s m n x works rest r came (same, is, left) = subst (λ l. CameBy s l n) (sym is) (subst (Reach s) (sym same) came)
+    entered_came false s m n x works rest r came reads = read_came s m n x works rest r came reads
+
+    -- what follows the making of a directory
+    made_came : (s m k n : S) (x : Transfer) (works rest : List Transfer) (r : Line) (made : Result Unit FsError) → Reach s m → view.makes_dir m c x.to made k
+        → AfterMaking view lists c alone made x works k r n rest → CameBy s r n
+    made_came s m k n x works rest r (Ok y) came call enters = entered_came alone s k n x works rest r (on.makes_dir m k x.to (Ok y) came call) enters
+    made_came s m k n x works rest r (Err e) came call (same, is) =
+        subst (λ l. CameBy s l n) (sym is) (λ fails. way s m k n came (one.makes_dir x.to
+        (subst (λ y. view.makes_dir m c x.to (Err y) k) (of_failure e (of_fs e) refl fails) call)) same)
+
+    dir_came : (deep : Bool) (s m n : S) (x : Transfer) (works rest : List Transfer) (r : Line) → Reach s m → CopiesDir view lists c alone deep x works m r n rest → CameBy s r n
+    dir_came true s m n x works rest r came (same, is) =
+        subst (λ l. CameBy s l n) (sym is) (λ fails. never_status 403 (dav.Status 403) refl (λ e. omega (arith, e)) fails)
+    dir_came false s m n x works rest r came (made, k, call, after) = made_came s m k n x works rest r made came call after
+
+    one_copied : (dir : Bool) (s m n : S) (x : Transfer) (works rest : List Transfer) (r : Line) → Reach s m → CopiesBy view lists c alone dir x works m r n rest → CameBy s r n
+    one_copied true s m n x works rest r came copies = dir_came (is_deep x.from) s m n x works rest r came copies
+    one_copied false s m n x works rest r came (Ok y, call, is, left) = subst (λ l. CameBy s l n) (sym is) (on.copies m n x.from x.to (Ok y) came call)
+    one_copied false s m n x works rest r came (Err e, call, is, left) =
+        subst (λ l. CameBy s l n) (sym is) (λ fails. way s m n n came (one.copies x.from x.to
+        (subst (λ y. view.copies m c x.from x.to (Err y) n) (of_failure e (of_fs e) refl fails) call)) refl)
+
+    copies_came : (s m t : S) (works : List Transfer) (all : Line) → Reach s m → Copies view lists c alone works m all t → CameBy s all t
+    copies_came s m t works all came (all_copied u) = came
+    copies_came s m t works all came (copied_short left u) = λ fails. never_wanting dav.NoMemory refl fails
+    copies_came s m t works all came (copies_on x more rest u n v line first later) =
+        copies_came s n t rest all (one_copied x.dir s m n x more rest (Ok tt) came first) later
+    copies_came s m t works all came (copies_stopped x more rest u v e first) = one_copied x.dir s m t x more rest (Err e) came first
+
+  goes_came : (s m t : S) (r : Given) (moving : Bool) (asked : Asked) (x : Transfer) (outcome : Outcome) → (outcome.status ≡ 500 → ⊥) → Reach s m
+      → Goes view lists c moving asked x outcome m r t → Came s r t
+  goes_came s m t r true asked x outcome not_it came (Ok y, call, answer) =
+      subst (λ g. Came s g t) (sym answer) (not_it, on.renames m t x.from x.to (Ok y) came call)
+  goes_came s m t r true asked x outcome not_it came (Err e, call, answer) =
+      subst (λ g. Came s g t) (sym answer) (λ fails. way s m t t came (one.renames x.from x.to
+      (subst (λ y. view.renames m c x.from x.to (Err y) t) (of_failure e (of_fs e) refl fails) call)) refl)
+  goes_came s m t r false asked x outcome not_it came (all, copies, answer) =
+      all_came s t all r outcome not_it (copies_came asked.alone s m t (x ∷ []) all came copies) answer
+
+  -- what follows a removal at the destination
+  replaced_came : (s m t : S) (r : Given) (asked : Asked) (x : Transfer) (gone : Line) → CameBy s gone m
+      → Unless gone (Goes view lists c asked.moving asked x silent) m r t → Came s r t
+  replaced_came s m t r asked x (Ok y) came goes = goes_came s m t r asked.moving asked x silent (λ e. omega (arith, e)) came goes
+  replaced_came s m t r asked x (Err e) came ends = subst (λ g. Came s g t) (sym ends.1) (λ fails. subst (Way s) (sym ends.0) (came fails))
+
+  taken_came : (s m t : S) (r : Given) (asked : Asked) (x : Transfer) (there : Result Info FsError) → Reach s m → TakesPlace view lists c asked x there m r t → Came s r t
+  taken_came s m t r asked x (Ok info) came (gone, n, removes, more) =
+      replaced_came s n t r asked x gone (removes_came s m n (Whole asked.to (is_dir info.kind) ∷ []) gone came removes) more
+  taken_came s m t r asked x (Err e) came goes = goes_came s m t r asked.moving asked x made (λ e. omega (arith, e)) came goes
+
+  left_came : (s m t : S) (r : Given) (path : WebPath) (fields : Fields) (asked : Asked) (found : Result Info FsError) → Reach s m
+      → Leaves view lists c path fields asked found m r t → Came s r t
+  left_came s m t r path fields asked found came leaves =
+      let arrives : Run S = LooksAtLink view lists c asked.to (Arrives view lists c asked (transfer path asked found)) in
+      below_came s m t r asked.to (Unless (unmet (method_of asked.moving) fields found) arrives) came leaves
+      (λ n on_to ran. unless_came s n t r (unmet (method_of asked.moving) fields found) arrives
+      (λ e is fails. met_never (condition_of (method_of asked.moving) fields (info_there found)) e
+      (found_never (method_of asked.moving) fields (info_there found)) is fails) ran
+      (λ looks. link_came s n t r asked.to (may_take_place asked.replaces) (TakesPlace view lists c asked (transfer path asked found)) (mind_arrive asked.replaces) on_to looks
+      (λ there k further takes. taken_came s k t r asked (transfer path asked found) there further takes)))
+
+  carried_came : (s t : S) (r : Given) (path : WebPath) (fields : Fields) (asked : Result Asked DavError) → NeverBy asked
+      → Carries view lists c path fields asked s r t → Came s r t
+  carried_came s t r path fields (Err e) never ends = subst (λ g. Came s g t) (sym ends.1) (λ fails. absurd (never fails))
+  carried_came s t r path fields (Ok asked) never looks =
+      look_came s s t r path (may_leave (view.folding s) path asked.to) (Leaves view lists c path fields asked) (mind_leave (view.folding s) path asked.to) on.here looks
+      (λ found n on_to leaves. left_came s n t r path fields asked found on_to leaves)
+
+  carry_came : (s t : S) (r : Given) (moving : Bool) (prefix : List ℕ) (path : WebPath) (fields : Fields) → Next (CopyMoves view lists c moving prefix path fields) s r t → Came s r t
+  carry_came s t r moving prefix path fields next =
+      next_came s s t r (CopyMoves view lists c moving prefix path fields) next
+      (λ ran. carried_came s t r path fields ran.0 (asked_never moving prefix fields ran.0 ran.1) ran.2)
 
   -- ---- each method
 
@@ -447,8 +596,8 @@ module _ {S C F L E : Type 0} (view : View S C F) (lists : Listings S C L E) (wr
   written_cause Options o b n s t r table fails = absurd table
   written_cause PropFind o b n s t r table fails = absurd table
   written_cause PropPatch o b n s t r table fails = absurd table
-  written_cause Copy o b n s t r table fails = absurd table
-  written_cause Move o b n s t r table fails = absurd table
+  written_cause Copy o b n s t r table fails = came_cause s t r b n (carry_came s t r false o.prefix o.path o.fields table.0) fails
+  written_cause Move o b n s t r table fails = came_cause s t r b n (carry_came s t r true o.prefix o.path o.fields table.0) fails
   written_cause Lock o b n s t r table fails = absurd table
   written_cause Unlock o b n s t r table fails = absurd table
   written_cause Report o b n s t r table fails = absurd table

@@ -22,6 +22,8 @@ module _ {S C F L E : Type 0} (view : View S C F) (lists : Listings S C L E) (wr
   reached_counts s t (on.makes_dir m n path r before call) = let first = reached_counts s m before in let last = (usual.makes_dir m n path r call).counts in omega arith
   reached_counts s t (on.removes_dir m n path r before call) = let first = reached_counts s m before in let last = (usual.removes_dir m n path r call).counts in omega arith
   reached_counts s t (on.removes_file m n path r before call) = let first = reached_counts s m before in let last = (usual.removes_file m n path r call).counts in omega arith
+  reached_counts s t (on.renames m n from to r before call) = let first = reached_counts s m before in let last = (usual.renames m n from to r call).counts in omega arith
+  reached_counts s t (on.copies m n from to r before call) = let first = reached_counts s m before in let last = (usual.copies m n from to r call).counts in omega arith
   reached_counts s t (on.begins m n path how r before call) = let first = reached_counts s m before in let last = (usual.begins m n path how r call).counts in omega arith
   reached_counts s t (on.goes_on m n l k r before call) = let first = reached_counts s m before in let last = usual.goes_counts m n l k r call in omega arith
   reached_counts s t (on.says m n o l k e r before gives says) =
@@ -36,6 +38,8 @@ module _ {S C F L E : Type 0} (view : View S C F) (lists : Listings S C L E) (wr
   one_rose m n (one.makes_dir path call) = (usual.makes_dir m n path _ call).refused.1 refl
   one_rose m n (one.removes_dir path call) = (usual.removes_dir m n path _ call).refused.1 refl
   one_rose m n (one.removes_file path call) = (usual.removes_file m n path _ call).refused.1 refl
+  one_rose m n (one.renames from to call) = (usual.renames m n from to _ call).refused.1 refl
+  one_rose m n (one.copies from to call) = (usual.copies m n from to _ call).refused.1 refl
   one_rose m n (one.begins path how call) = (usual.begins m n path how _ call).refused.1 refl
   one_rose m n (one.goes_on path how first l k b s answers begins walk call) = (usual.goes_on m b s n path how first l k answers _ begins walk call).refused.1 refl
   one_rose m n (one.says path how first l k b s o answers e begins walk gives call) = (usual.says m b s o n path how first l k answers e _ begins walk gives call).refused.1 refl

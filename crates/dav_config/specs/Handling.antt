@@ -164,7 +164,7 @@ module _ {S C F L E : Type 0} (served : Served S C F L E) where
   AnswersTo (Refused status close) asking old r new = IsBare (refusal asking.head.headers status close) r × (new ≡ old)
   AnswersTo Methods asking old r new = IsBare (allowing asking.settings.allow (not (is_stored served.void old.store))) r × (new ≡ old)
   AnswersTo (At method path) asking old r new = Passes (query asking.settings asking.head.headers method path) asking old.store r new.store × (new.body ≡ old.body)
-  AnswersTo (Writes method path) asking old r new = Performs (order method path asking.head.headers) asking old r new
+  AnswersTo (Writes method path) asking old r new = Performs (order asking.settings.prefix method path asking.head.headers) asking old r new
 
   -- Nothing is left open, and nothing changed, unless the request writes; there is a store where there was one.
   abbrev pub Stays : Asking C → Option S → Option S → Type 0

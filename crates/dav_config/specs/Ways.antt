@@ -20,6 +20,8 @@ module _ {S C F L E : Type 0} (view : View S C F) (lists : Listings S C L E) (wr
     makes_dir : (m n : S) (path : WebPath) (r : Result Unit FsError) → Leads s m → view.makes_dir m c path r n → Leads s n
     removes_dir : (m n : S) (path : WebPath) (r : Result Unit FsError) → Leads s m → view.removes_dir m c path r n → Leads s n
     removes_file : (m n : S) (path : WebPath) (r : Result Unit FsError) → Leads s m → view.removes_file m c path r n → Leads s n
+    renames : (m n : S) (from to : WebPath) (r : Result Unit FsError) → Leads s m → view.renames m c from to r n → Leads s n
+    copies : (m n : S) (from to : WebPath) (r : Result Unit FsError) → Leads s m → view.copies m c from to r n → Leads s n
     begins : (m n : S) (path : WebPath) (how : ReadDirMeta) (r : Result L FsError) → Leads s m → lists.lists m c path how r n → Leads s n
     goes_on : (m n : S) (l k : L) (r : Result (Option E) FsError) → Leads s m → lists.lists_on m l r n k → Leads s n
     -- (an entry that was given, and asked for its metadata)

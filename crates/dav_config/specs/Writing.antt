@@ -5,7 +5,7 @@ use Rattle.dav_core.specs.declared.dav_error.DavError.{DavError}
 use Rattle.dav_core.specs.declared.error.FsError.TheVariants.{GeneralFailure}
 use Rattle.dav_core.specs.declared.handle.OpenOptions.{OpenOptions}
 use Rattle.dav_core.specs.declared.method.DavMethod.{DavMethod}
-use Rattle.dav_core.specs.declared.method.DavMethod.TheVariants.{Delete, MkAddressbook, MkCalendar, MkCol, Put}
+use Rattle.dav_core.specs.declared.method.DavMethod.TheVariants.{Copy, Delete, MkAddressbook, MkCalendar, MkCol, Move, Put}
 use Rattle.dav_core.specs.DavPath.{WebPath}
 use Rattle.dav_core.specs.Disk.{DiskState}
 use Rattle.dav_core.specs.Methods.{method_of}
@@ -19,6 +19,7 @@ use Rattle.dav_store.specs.View.{View, Listings}
 use Rattle.dav_model.specs.declared.outcome.Outcome.{Outcome}
 use Rattle.dav_model.specs.Conditions.{Fields, writes as is_writing}
 use Rattle.dav_model.specs.Head.{Reply, refusal}
+use Rattle.dav_methods.specs.Carrying.{CopiesTo, MovesTo}
 use Rattle.dav_methods.specs.Lines.{Given}
 use Rattle.dav_methods.specs.Pouring.{Writes, WritesFile}
 use Rattle.dav_methods.specs.Putting.{Puts}
@@ -42,14 +43,15 @@ abbrev pub KeepsUnless : Bool → DiskState → DiskState → Type 0
 KeepsUnless true s t = KeepsOpen s t
 KeepsUnless false s t = Keeps s t
 
--- a request that writes
+-- a request that writes, and the prefix under which its destination is read
 pub record Order : Type 0 where
+  pub prefix : List ℕ
   pub method : DavMethod
   pub path : WebPath
   pub fields : Fields
 
-abbrev pub order : DavMethod → WebPath → Fields → Order
-order method path fields = record { method = method; path = path; fields = fields }
+abbrev pub order : List ℕ → DavMethod → WebPath → Fields → Order
+order prefix method path fields = record { prefix = prefix; method = method; path = path; fields = fields }
 
 -- ---- what is answered
 
@@ -74,6 +76,8 @@ module _ {S C F L E : Type 0} (view : View S C F) (lists : Listings S C L E) (wr
   ByMethod MkCalendar o b s r t n = Unread (MkCalendars view c o.path) b s r t n
   ByMethod MkAddressbook o b s r t n = Unread (MkCalendars view c o.path) b s r t n
   ByMethod Delete o b s r t n = Unread (Deletes view lists c o.path o.fields) b s r t n
+  ByMethod Copy o b s r t n = Unread (CopiesTo view lists c o.prefix o.path o.fields) b s r t n
+  ByMethod Move o b s r t n = Unread (MovesTo view lists c o.prefix o.path o.fields) b s r t n
   ByMethod other o b s r t n = ⊥
 
   -- Over this store a request that writes is answered so.
@@ -97,6 +101,8 @@ module _ {S C F L E : Type 0} (view : View S C F) (lists : Listings S C L E) (wr
     makes_dir : (path : WebPath) → view.makes_dir m c path (Err GeneralFailure) n → RefusesOne m n
     removes_dir : (path : WebPath) → view.removes_dir m c path (Err GeneralFailure) n → RefusesOne m n
     removes_file : (path : WebPath) → view.removes_file m c path (Err GeneralFailure) n → RefusesOne m n
+    renames : (from to : WebPath) → view.renames m c from to (Err GeneralFailure) n → RefusesOne m n
+    copies : (from to : WebPath) → view.copies m c from to (Err GeneralFailure) n → RefusesOne m n
     begins : (path : WebPath) (how : ReadDirMeta) → lists.lists m c path how (Err GeneralFailure) n → RefusesOne m n
     goes_on : (path : WebPath) (how : ReadDirMeta) (first l k : L) (b s : S) (answers : List Answered) → lists.lists m c path how (Ok first) b
         → Walked view lists b first answers s l → lists.lists_on s l (Err GeneralFailure) n k → RefusesOne m n

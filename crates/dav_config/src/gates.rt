@@ -72,6 +72,8 @@ pub fn writes(method: DavMethod) -> bool
         | DavMethod::MkCol
         | DavMethod::MkCalendar
         | DavMethod::MkAddressbook
+        | DavMethod::Copy
+        | DavMethod::Move
         | DavMethod::Delete => true,
         _ => false,
     }

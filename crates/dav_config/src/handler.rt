@@ -119,8 +119,8 @@ impl<S: GuardedFileSystem<()>> DavHandler<S, ()> {
     /// 65,536 bytes came, but that of a PUT or PATCH isn't read there; then forms that are not built. A request that
     /// passes is a GET or HEAD (RFC 9110, sections 9.3.1 and 9.3.2), and is answered by what stands at its path; or it
     /// writes: a PUT (section 9.3.4), whose body goes from its reader into the file as it comes, a DELETE (section
-    /// 9.3.5), a MKCOL (RFC 4918, section 9.3), a MKCALENDAR (RFC 4791, section 5.3.1) or a MKADDRESSBOOK, and its answer
-    /// has no body.
+    /// 9.3.5), a MKCOL (RFC 4918, section 9.3), a COPY or a MOVE (sections 9.8 and 9.9), whose destination is read under
+    /// the prefix of the settings, a MKCALENDAR (RFC 4791, section 5.3.1) or a MKADDRESSBOOK, and its answer has no body.
     ///
     /// The body of the answer is polled with the disk that the store's `disk` lends (`store`). It may have a file open,
     /// which it closes with its last piece; a body that is given up is to be ended (`AsyncStream::into_steps`,

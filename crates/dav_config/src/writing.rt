@@ -10,38 +10,43 @@ ghost use Rattle.dav_config.specs.Writing.{ByMethod, Tells, WritesOver, order};
 use crate::answering::{Answered, bare, refuse};
 use crate::asked::Asked;
 use dav_core::{DavError, DavMethod, DavPath};
-use dav_methods::{delete, mkaddressbook, mkcalendar, mkcol, put};
+use dav_methods::{copy, delete, mkaddressbook, mkcalendar, mkcol, move_to, put};
 use dav_model::Outcome;
 use dav_store::{BodyReader, GuardedFileSystem};
 use http::HeaderMap;
 use std::alloc::Global;
 
-// What a method that writes gives. The reader is asked by PUT alone.
+// What a method that writes gives. The reader is asked by PUT alone, and the prefix is that of a destination.
 fn perform<S: GuardedFileSystem<C>, C, B: BodyReader>(
     alloc: Global,
+    asked: &Asked<'_, C>,
     fs: &mut S,
-    credentials: &C,
     method: DavMethod,
     path: &DavPath,
-    fields: &HeaderMap,
     body: &mut B,
 ) -> Result<Outcome, DavError>
     requires admits { S.admits fs.old }
     requires writes { the_writes method ≡ true }
     ensures table { ByMethod (the_view S.GuardedFileSystem S.Disk.Disk S.File.DavFile)
-        (the_listings S.GuardedFileSystem S.Entry.DavDirEntry) S.File.writes credentials.now method
-        (order method path.now fields.now) (B.state body.old) fs.old result fs.new (B.state body.new) }
+        (the_listings S.GuardedFileSystem S.Entry.DavDirEntry) S.File.writes asked.entry.now.credentials.now method
+        (order asked.entry.now.settings.now.prefix method path.now (head_of asked.entry.now.head.now).headers)
+        (B.state body.old) fs.old result fs.new (B.state body.new) }
     ensures keeps { KeepsOpen (S.Disk.state (S.inside fs.old)) (S.Disk.state (S.inside fs.new)) }
     ensures admits { S.admits fs.new }
     ensures loan { S.Disk.loan (S.inside fs.new) ≡ S.Disk.loan (S.inside fs.old) }
     ensures body_loan { B.loan body.new ≡ B.loan body.old }
 {
+    let credentials = asked.credentials;
+    let fields = asked.head.headers();
+    let prefix = asked.settings.prefix.as_str();
     match method {
         DavMethod::Put => put(alloc, fs, credentials, path, fields, body),
         DavMethod::MkCol => mkcol(alloc, fs, credentials, path, fields),
         DavMethod::MkCalendar => mkcalendar(alloc, fs, credentials, path, fields),
         DavMethod::MkAddressbook => mkaddressbook(alloc, fs, credentials, path, fields),
         DavMethod::Delete => delete(alloc, fs, credentials, path, fields),
+        DavMethod::Copy => copy(alloc, fs, credentials, path, fields, prefix),
+        DavMethod::Move => move_to(alloc, fs, credentials, path, fields, prefix),
         _ => unreachable!("no other method writes"),
     }
 }
@@ -69,7 +74,7 @@ pub fn write_over<S: GuardedFileSystem<C>, C, B: BodyReader>(
     requires writes { the_writes method ≡ true }
     ensures done { IfOk result (λ r. WritesOver (the_view S.GuardedFileSystem S.Disk.Disk S.File.DavFile)
         (the_listings S.GuardedFileSystem S.Entry.DavDirEntry) S.File.writes asked.entry.now.credentials.now
-        (order method path.now (head_of asked.entry.now.head.now).headers)
+        (order asked.entry.now.settings.now.prefix method path.now (head_of asked.entry.now.head.now).headers)
         (B.state body.old) (S.with_now fs.old asked.entry.now.now) r fs.new (B.state body.new)) }
     ensures moment { SetsMoment
         (the_served S.GuardedFileSystem S.Disk.Disk S.File.DavFile S.Entry.DavDirEntry) fs.old asked.entry.now.now }
@@ -79,7 +84,6 @@ pub fn write_over<S: GuardedFileSystem<C>, C, B: BodyReader>(
     ensures body_loan { B.loan body.new ≡ B.loan body.old }
 {
     fs.set_now(asked.now);
-    let fields = asked.head.headers();
-    let given = perform(alloc, fs, asked.credentials, method, path, fields, body);
-    tell(alloc, fields, given)
+    let given = perform(alloc, asked, fs, method, path, body);
+    tell(alloc, asked.head.headers(), given)
 }

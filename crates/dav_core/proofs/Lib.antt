@@ -1,4 +1,3 @@
-pub mod Apart
 pub mod Hex
 pub mod Dots
 pub mod Kept

@@ -1,6 +1,6 @@
 -- What a look into a tree finds is one of its rows, and what it is refused with stands in the tree.
-use Rattle.std.specs.Prelude.{◌≡◌, ◌==◌, ◌&&◌, ◌||◌, List, [], ◌∷◌, ◌++◌, Bool, true, false, cond, not, length, Option, None, Some, Result, Ok, Err, refl}
-use Rattle.std.proofs.Common.{sym, ap, ◌∙◌, inl, inr, ◌⊎◌}
+use Rattle.std.specs.Prelude.{◌≡◌, ◌==◌, ◌<◌, ◌&&◌, ◌||◌, ℕ, suc, List, [], ◌∷◌, ◌++◌, Bool, true, false, cond, not, length, Option, None, Some, Result, Ok, Err, refl}
+use Rattle.std.proofs.Common.{get_or, sym, ap, ◌∙◌, inl, inr, ◌⊎◌, arith}
 use Rattle.std.specs.List.{find, AllByRecursion, list_any, list_all}
 use Rattle.dav_core.specs.declared.tree.Row.{Row}
 use Rattle.dav_core.specs.declared.tree.Kind.{Kind}
@@ -8,7 +8,8 @@ use Rattle.dav_core.specs.declared.tree.Kind.TheVariants.{Dir, File, Link}
 use Rattle.dav_core.specs.declared.handle.DiskError.{DiskError}
 use Rattle.dav_core.specs.declared.handle.DiskError.TheVariants.{NotFound, NotDir}
 use Rattle.dav_core.specs.Path.{Names, same_names, parent_of, is_front}
-use Rattle.dav_core.specs.Tree.{is_dir, is_file, is_link, row_at, is_dir_row, has_dir, is_placed, is_free, is_apart, is_tree, is_linked, standing, below_kind, below, look_from, look, IsTreeRefusal, NoLink}
+use Rattle.dav_core.specs.Tree.{is_dir, is_file, is_link, row_at, is_dir_row, has_dir, is_placed, is_free, is_apart, is_tree, is_linked, standing, below_kind, below, look_from, look, IsTreeRefusal}
+use Rattle.dav_core.specs.World.{World, IsWorld, time_of}
 
 standing_row : (o : Option Row) (row : Row) → standing o ≡ Ok row → o ≡ Some row
 standing_row None row e = cc
@@ -39,6 +40,18 @@ row_all P (r ∷ tree) path row all e = chosen P (same_names path r.path) r row 
 pub look_all : (P : Row → Type 0) (tree : List Row) (path : Names) (row : Row) → AllByRecursion P tree → look tree path ≡ Ok row → P row
 look_all P tree path row all e = let (at, found) = look_row tree [] path row e in row_all P tree at row all found
 
+-- what holds at each place of a list holds of each element
+each_holds : (P : Row → Type 0) (rows : List Row) → ((k : ℕ) (row : Row) → k < length rows → P (get_or rows k row)) → AllByRecursion P rows
+each_holds P [] h = tt
+each_holds P (row ∷ rows) h = (h 0 row (omega arith), each_holds P rows (λ k row lt. h (suc k) row (omega arith)))
+
+abbrev IsStored : World → Row → Type 0
+IsStored w row = row.kind ≡ File → time_of w row.number ≡ Some row.time
+
+-- a file of a told tree is stored with its row's time
+pub stored_time : (w : World) (path : Names) (row : Row) → IsWorld w → look w.tree path ≡ Ok row → row.kind ≡ File → time_of w row.number ≡ Some row.time
+stored_time w path row is stands file = look_all (IsStored w) w.tree path row (each_holds (IsStored w) w.tree (λ k row lt. is.stored k row lt)) stands file
+
 standing_err : (o : Option Row) (e : DiskError) → standing o ≡ Err e → IsTreeRefusal e
 standing_err None e h = inl (let f : NotFound ≡ e = cc in sym f)
 standing_err (Some r) e h = cc
@@ -58,11 +71,3 @@ look_from_err tree at (name ∷ names) e h = below_err (row_at tree at) _ e (loo
 
 pub look_err : (tree : List Row) (path : Names) (e : DiskError) → look tree path ≡ Err e → IsTreeRefusal e
 look_err tree path e h = look_from_err tree [] path e h
-
-not_linked : (tree : List Row) (path : Names) (row : Row) → is_link row.kind ≡ false → is_linked tree path ≡ false → is_linked (row ∷ tree) path ≡ false
-not_linked tree path row e f = ap (λ b. b && is_front row.path path || is_linked tree path) e ∙ f
-
--- a tree without links has none on the way to a path
-pub never_linked : (tree : List Row) (path : Names) → AllByRecursion NoLink tree → is_linked tree path ≡ false
-never_linked [] path all = refl
-never_linked (row ∷ tree) path all = not_linked tree path row all.0 (never_linked tree path all.1)

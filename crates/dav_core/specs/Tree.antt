@@ -1,7 +1,7 @@
 -- Trees as lists of rows: what stands at a path, and what a call on a path is refused with.
 use Rattle.std.specs.Prelude.{◌≡◌, ◌==◌, ◌&&◌, ◌||◌, List, [], ◌∷◌, ◌++◌, Bool, true, false, cond, not, length, Option, None, Some, Result, Ok, Err, refl}
 use Rattle.std.proofs.Common.{sym, ap, ◌∙◌, inl, inr, ◌⊎◌}
-use Rattle.std.specs.List.{find, AllByRecursion, list_any, list_all}
+use Rattle.std.specs.List.{find, list_any, list_all}
 use Rattle.dav_core.specs.declared.tree.Row.{Row}
 use Rattle.dav_core.specs.declared.tree.Kind.{Kind}
 use Rattle.dav_core.specs.declared.tree.Kind.TheVariants.{Dir, File, Link}
@@ -84,7 +84,3 @@ look tree path = look_from tree [] path
 -- a walk is refused for what stands in the tree
 abbrev pub IsTreeRefusal : DiskError → Type 0
 IsTreeRefusal e = (e ≡ NotFound) ⊎ (e ≡ NotDir)
-
--- a row that is no link
-abbrev pub NoLink : Row → Type 0
-NoLink row = is_link row.kind ≡ false

@@ -1,5 +1,5 @@
 -- A row more keeps a tree a tree, and each of its files stored.
-use Rattle.std.proofs.Common.{◌≡◌, ◌≤◌, All, ◌≢◌, ◌==◌, ◌&&◌, ◌||◌, ◌++◌, ◌∷◌, [], ℕ, List, Bool, true, false, cond, not, length, Option, Some, max, refl, ap, ◌∙◌, arith}
+use Rattle.std.proofs.Common.{◌≡◌, ◌≢◌, ◌==◌, ◌&&◌, ◌||◌, ◌++◌, ◌∷◌, [], ℕ, List, Bool, true, false, cond, not, length, Option, Some, max, refl, ap, ◌∙◌, arith}
 use Rattle.std.specs.List.{list_any, list_all, AllByRecursion}
 use Rattle.std.specs.Option.{is_none, option_map}
 use Rattle.std.proofs.lemmas.Bool.{and_parts}
@@ -179,13 +179,3 @@ files_put old new number f bytes u e =
     ap (λ (t : ℕ → Option StoredFile). λ n. option_map stored_of (t n)) (updates_put number old new (Some f) u)
     ∙ put_map stored_of number (Some f) (at_key old)
     ∙ ap (λ bytes. put number (Some (record { bytes = bytes; time = f.time })) (stored_at old)) e
-
-number_max : (rows : List Row) (row r : Row) (g : ℕ) → AllByRecursion (λ r. r.number ≤ g) rows → AllByRecursion (λ r. r.number ≤ max g row.number) (rows ++ row ∷ [])
-number_max [] row r g all = (omega arith, tt)
-number_max (x ∷ rows) row r g all = (let le = all.0 in omega arith, number_max rows row r g all.1)
-
--- the numbers stay below the greatest, with a row more
-pub numbers_more : (w : World) (row : Row) (mid new : List Row) (greatest : ℕ) → All (λ r. r.number ≤ w.greatest) w.tree → mid ≡ w.tree → new ≡ mid ++ row ∷ [] → greatest ≡ max w.greatest row.number
-    → All (λ r. r.number ≤ greatest) new
-numbers_more w row mid new greatest all before e g =
-    rw (e, g, before) (All-from_recursion (λ r. r.number ≤ max w.greatest row.number) (w.tree ++ row ∷ []) (number_max w.tree row row w.greatest (recursion_from_All (λ r. r.number ≤ w.greatest) w.tree all)))

@@ -1,5 +1,5 @@
 -- What a disk in memory makes of its world is an edit of it.
-use Rattle.std.proofs.Common.{◌≡◌, ◌≢◌, ◌≤◌, ◌<◌, ◌==◌, ◌+◌, ◌-◌, ◌⊎◌, ◌∷◌, ◌++◌, ◌&&◌, ◌||◌, ◌<ℤ◌, ◌≤ℤ◌, ◌+ℤ◌, ℤ, pos, [], ℕ, List, Bool, true, false, cond, map, nat_lt, int_lt, Option, None, Some, inl, inr, subst, refl, sym, ap, ◌∙◌, arith}
+use Rattle.std.proofs.Common.{◌≡◌, ◌≢◌, ◌≤◌, ◌<◌, ◌==◌, ◌+◌, ◌-◌, ◌⊎◌, ◌∷◌, ◌++◌, ◌&&◌, ◌||◌, ◌<ℤ◌, ◌+ℤ◌, ℤ, pos, [], ℕ, List, Bool, true, false, cond, map, nat_lt, int_lt, Option, None, Some, inl, inr, subst, refl, sym, ap, ◌∙◌, arith}
 use Rattle.std.proofs.lemmas.Bool.Decides.{nat_tests, Decides-int_eq}
 use Rattle.std.proofs.lemmas.Slice.Eq.{bytes_eq-Decides}
 use Rattle.std.proofs.lemmas.Int.{ints}
@@ -13,8 +13,8 @@ use Rattle.dav_core.specs.declared.tree.Kind.TheVariants.{Dir, File, Link}
 use Rattle.dav_core.specs.declared.time.FileTime.{FileTime}
 use Rattle.dav_core.specs.Path.{Names, same_names, parent_of}
 use Rattle.dav_core.specs.World.{World, Stored, OpenFile, Holds, is_numbered, NotAfter, AreGiven, put, bytes_of}
-use Rattle.dav_core.specs.Changes.{tick, timed_row, touched_at, touched, then_touched, added_at, added, stored_in, without, moved_row, parents_touched}
-use Rattle.dav_core.specs.Edits.{Edit, makes, fills, takes, moves, Edited, EditedBy, IsNew, IsNext, Becomes, SameOpens, is_later, made, taken, moved, filled, touched_to}
+use Rattle.dav_core.specs.Changes.{tick, timed_row, touched_at, touched, then_touched, added_at, added, stored_in}
+use Rattle.dav_core.specs.Edits.{Edit, makes, fills, takes, moves, Edited, EditedBy, IsNew, Becomes, SameOpens, is_later, made, taken, moved, filled, touched_to}
 use Rattle.dav_core.proofs.UnchangedLemmas.{same_besides, equal_keys}
 use Rattle.dav_disk.specs.Making.{edited, edited_by, filled_at}
 use Rattle.dav_disk.proofs.Trees.{same_yes, not_both}
@@ -55,9 +55,6 @@ later_then a b c (inl p) (inl q) = inl (omega (arith, ints))
 later_then a b c (inl p) (inr q) = inl (let e = q.0 in omega (arith, ints))
 later_then a b c (inr p) (inl q) = inl (let e = p.0 in omega (arith, ints))
 later_then a b c (inr p) (inr q) = inr (p.0 ∙ q.0, let x = p.1 in let y = q.1 in omega arith)
-
-tests : (a b : ℕ) → nat_lt a b ≡ true → a < b
-tests a b e = grind (arith, nat_tests)
 
 tick_by : (b c : Bool) (t u : FileTime)
     → cond b (Some (record { secs = t.secs; nanos = t.nanos + 1000 })) (cond c (Some (record { secs = t.secs +ℤ pos 1; nanos = (t.nanos + 1000) - 1000000000 })) None) ≡ Some u

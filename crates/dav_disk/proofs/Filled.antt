@@ -1,29 +1,23 @@
 -- A file whose bytes change keeps what holds of a disk's world.
-use Rattle.std.proofs.Common.{◌≡◌, ◌≢◌, ◌≤◌, ◌<◌, ◌==◌, [], ℕ, List, Bool, true, false, cond, length, map, Option, None, Some, Result, Ok, Err, OnOk, OnErr, subst, refl, sym, ap, ◌∙◌, arith}
-use Rattle.std.specs.Option.{option_map, is_none}
+use Rattle.std.proofs.Common.{◌≡◌, ◌≢◌, ◌≤◌, ◌==◌, ℕ, List, Bool, true, false, cond, length, map, Option, Some, subst, refl, sym, ap, ◌∙◌, arith}
+use Rattle.std.specs.Option.{option_map}
 use Rattle.std.proofs.lemmas.Bool.Decides.{nat_tests}
-use Rattle.std.proofs.lemmas.List.Elements.{All-from_recursion, All-map, All-weaker}
+use Rattle.std.proofs.lemmas.List.Elements.{All-map, All-weaker}
 use Rattle.dav_core.specs.declared.tree.Row.{Row}
 use Rattle.dav_core.specs.declared.time.FileTime.{FileTime}
 use Rattle.dav_core.specs.Path.{Names, parent_of}
 use Rattle.dav_core.specs.Tree.{is_tree}
-use Rattle.dav_core.specs.World.{World, Stored, AreGiven, IsGiven, IsPlain, ArePlain, put, bytes_of}
+use Rattle.dav_core.specs.World.{World, Stored, AreGiven, IsGiven, IsPlain, ArePlain, put}
 use Rattle.dav_core.specs.Changes.{tick}
-use Rattle.dav_core.specs.Edits.{fills, filled, timed_number}
+use Rattle.dav_core.specs.Edits.{fills, timed_number}
 use Rattle.dav_core.proofs.UnchangedLemmas.{put_same, put_other, equal_keys, other_keys}
 use Rattle.dav_disk.specs.Files.{IsStored, AreStored}
-use Rattle.dav_disk.proofs.Trees.{In, parts_of, Maps, mapped_tree, in_map, parent_row}
+use Rattle.dav_disk.proofs.Trees.{parts_of, Maps, mapped_tree, in_map, parent_row}
 use Rattle.dav_disk.proofs.Changed.{Good}
 use Rattle.dav_core.proofs.TimesLemmas.{not_after_itself}
 use Rattle.dav_disk.proofs.GivenStay.{IsTick, ticked, given_still, Bounded, bounded_of, given_of, put_given}
-use Rattle.dav_disk.proofs.Turned.{Kept, kept_of, good_of}
-use Rattle.dav_core.specs.declared.handle.DiskError.{DiskError}
-use Rattle.dav_core.specs.declared.handle.DiskError.TheVariants.{Failed, NoMemory}
-use Rattle.std.specs.Str.{bytes_eq}
-use Rattle.dav_core.specs.Allowed.{Allowed}
-use Rattle.dav_disk.specs.Calls.{Known}
-use Rattle.dav_disk.specs.Making.{MakesAt, edited, filled_at, filled_now, is_spent}
-use Rattle.dav_disk.proofs.Standing.{make_at}
+use Rattle.dav_disk.proofs.Turned.{kept_of, good_of}
+use Rattle.dav_disk.specs.Making.{filled_now}
 
 -- the row has the number, or another
 timed_yes : (b : Bool) (t : FileTime) (r : Row) → b ≡ true → record r { time = t } ≡ cond b (record r { time = t }) r
@@ -136,32 +130,3 @@ held_by v rows files e f h =
     subst (λ (r : List Row). Holding (record v { tree = r; files = files })) (sym e) (subst (λ (g : ℕ → Option Stored). Holding (record v { files = g })) (sym f) h)
 
 -- ---- what a call answers that fills a file
-
-same_at : (number : ℕ) (bytes : List ℕ) (w : World) (b : Bool) → bytes_eq bytes (bytes_of w number) ≡ b → edited (fills number bytes) w ≡ cond b (Some w) (filled_at number bytes (tick w.latest) w)
-same_at number bytes w b e = ap (λ b. cond b (Some w) (filled_at number bytes (tick w.latest) w)) e
-
-other_at : (number : ℕ) (bytes : List ℕ) (w : World) (o : Option FileTime) → bytes_eq bytes (bytes_of w number) ≡ false → tick w.latest ≡ o → edited (fills number bytes) w ≡ filled_at number bytes o w
-other_at number bytes w o e f = same_at number bytes w false e ∙ ap (λ o. filled_at number bytes o w) f
-
--- bytes that stay equal
-pub fills_same : (allowed : Allowed) (number : ℕ) (bytes : List ℕ) (k : Known) → allowed ≡ Ok (Some (fills number bytes)) → bytes_eq bytes (bytes_of k.world number) ≡ true → MakesAt allowed k (Ok tt) k
-fills_same allowed number bytes k h e = (Some (fills number bytes), h, same_at number bytes k.world true e, refl)
-
--- no tick is left
-pub fills_spent : (allowed : Allowed) (number : ℕ) (bytes : List ℕ) (k : Known) → allowed ≡ Ok (Some (fills number bytes)) → bytes_eq bytes (bytes_of k.world number) ≡ false → tick k.world.latest ≡ None
-    → MakesAt allowed k (Err Failed) k
-fills_spent allowed number bytes k h e f = (refl, ap (λ a. is_spent a k.world) h ∙ ap is_none (other_at number bytes k.world None e f))
-
-fills_left : (number : ℕ) (bytes : List ℕ) (w : World) (t : FileTime) → bytes_eq bytes (bytes_of w number) ≡ false → tick w.latest ≡ Some t → is_none (edited (fills number bytes) w) ≡ false
-fills_left number bytes w t e f = ap is_none (other_at number bytes w (Some t) e f)
-
-pub fills_memory : (allowed : Allowed) (number : ℕ) (bytes : List ℕ) (k : Known) (t : FileTime) → allowed ≡ Ok (Some (fills number bytes)) → bytes_eq bytes (bytes_of k.world number) ≡ false → tick k.world.latest ≡ Some t
-    → MakesAt allowed k (Err NoMemory) k
-fills_memory allowed number bytes k t h e f = (refl, ap (λ a. is_spent a k.world) h ∙ fills_left number bytes k.world t e f)
-
--- the bytes were stored, or memory was refused
-pub fills_stored : (allowed : Allowed) (number : ℕ) (bytes : List ℕ) (k n : Known) (t : FileTime) (result : Result Unit DiskError) → allowed ≡ Ok (Some (fills number bytes))
-    → bytes_eq bytes (bytes_of k.world number) ≡ false → tick k.world.latest ≡ Some t
-    → OnOk result (n ≡ record k { world = filled_now number bytes t k.world }) → OnErr result ((n ≡ k) × (result ≡ Err NoMemory)) → MakesAt allowed k result n
-fills_stored allowed number bytes k n t result h e f ok err =
-    make_at allowed (fills number bytes) k n (filled_now number bytes t k.world) result h (fills_left number bytes k.world t e f) (other_at number bytes k.world (Some t) e f) ok err

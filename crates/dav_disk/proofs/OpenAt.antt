@@ -1,8 +1,7 @@
 -- What an opening answers, step by step.
-use Rattle.std.proofs.Common.{◌≡◌, ◌≤◌, ◌==◌, ◌+◌, ◌&&◌, ◌||◌, ◌∷◌, [], ℕ, List, Bool, true, false, cond, not, length, Option, None, Some, Result, Ok, Err, is_some, inl, inr, refl, sym, ap, ◌∙◌, arith}
+use Rattle.std.proofs.Common.{◌≡◌, ◌≤◌, ◌==◌, ◌+◌, [], ℕ, List, Bool, true, false, cond, not, Option, None, Some, Result, Ok, Err, inl, inr, refl, sym, ap, ◌∙◌}
 use Rattle.std.specs.Option.{option_map, is_none}
 use Rattle.std.specs.Str.{bytes_eq}
-use Rattle.std.proofs.lemmas.Bool.Decides.{nat_tests}
 use mathlib.Core.Path.{fun_ext}
 use Rattle.dav_core.specs.declared.tree.Row.{Row}
 use Rattle.dav_core.specs.declared.tree.Kind.{Kind}
@@ -20,7 +19,7 @@ use Rattle.dav_core.specs.Edits.{Edit, makes, fills}
 use Rattle.dav_core.specs.Allowed.{place, opening}
 use Rattle.dav_core.proofs.UnchangedLemmas.{equal_keys}
 use Rattle.dav_disk.specs.Calls.{Known, with_closed}
-use Rattle.dav_disk.specs.Making.{MakesAt, OpensAs, OpensBy, IsOpened, opened_known, edited, edited_by, filled_at, is_spent}
+use Rattle.dav_disk.specs.Making.{MakesAt, OpensAs, OpensBy, opened_known, edited, edited_by, filled_at, is_spent}
 use Rattle.dav_disk.proofs.Edited.{edited_opens}
 use Rattle.dav_disk.proofs.GivenStay.{bounded_of}
 use Rattle.dav_disk.proofs.Judges.{Judged}
@@ -66,33 +65,9 @@ refused_as k path how NoMemory j h = absurd j
 
 -- ---- files that are emptied
 
-empty_by : (bytes : List ℕ) (o : Option FileTime) (number : ℕ) (w : World) → ((length bytes == 0) || is_some o) ≡ not (is_none (cond (bytes_eq [] bytes) (Some w) (filled_at number [] o w)))
-empty_by [] o number w = refl
-empty_by (b ∷ bytes) None number w = (let more : (length (b ∷ bytes) == 0) ≡ false = grind (arith, nat_tests) in ap (λ t. t || false) more)
-empty_by (b ∷ bytes) (Some t) number w = (let more : (length (b ∷ bytes) == 0) ≡ false = grind (arith, nat_tests) in ap (λ t. t || true) more)
-
--- whether all bytes may be taken from a file
-pub empty_is : (number : ℕ) (w : World) (a b : Bool) → a ≡ (length (bytes_of w number) == 0) → b ≡ is_some (tick w.latest) → (a || b) ≡ not (is_none (edited (fills number []) w))
-empty_is number w a b e f = ap (λ a. a || b) e ∙ ap (λ b. (length (bytes_of w number) == 0) || b) f ∙ empty_by (bytes_of w number) (tick w.latest) number w
-
 pub can_so : (b : Bool) (o : Option World) → b ≡ not (is_none o) → b ≡ true → is_none o ≡ false
 can_so b None e f = absurd (let t : true ≡ false = sym f ∙ e in cc)
 can_so b (Some w) e f = refl
-
-pub can_not : (b : Bool) (o : Option World) → b ≡ not (is_none o) → b ≡ false → is_none o ≡ true
-can_not b None e f = refl
-can_not b (Some w) e f = absurd (let t : false ≡ true = sym f ∙ e in cc)
-
--- a handle that wasn't had
-pub number_err : (edit : Option Edit) (k n : Known) (number : ℕ) (kind : Kind) (how : OpenOptions) (e : DiskError) → OpensBy None number kind how k (Err e) n → is_none (edited_by edit k.world) ≡ false
-    → OpensBy edit number kind how k (Err e) n
-number_err edit k n number kind how Failed by left = absurd (let t : false ≡ true = by.1 in cc)
-number_err edit k n number kind how NoMemory by left = (by.0, left)
-number_err edit k n number kind how NotFound by left = absurd by
-number_err edit k n number kind how Exists by left = absurd by
-number_err edit k n number kind how NotDir by left = absurd by
-number_err edit k n number kind how IsDir by left = absurd by
-number_err edit k n number kind how NotEmpty by left = absurd by
 
 fills_by : (b : Bool) (number : ℕ) (bytes : List ℕ) (w : World) (opens : ℕ → Option OpenFile) (o : Option FileTime)
     → cond b (Some (with_opens w opens)) (filled_at number bytes o (with_opens w opens)) ≡ option_map (λ x. with_opens x opens) (cond b (Some w) (filled_at number bytes o w))

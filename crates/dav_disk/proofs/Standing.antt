@@ -1,5 +1,5 @@
 -- Where nothing stands and a call may make something, the path is free; and what a change makes of it is the edit.
-use Rattle.std.proofs.Common.{◌≡◌, ◌==◌, ◌&&◌, ◌||◌, ◌+◌, ◌-◌, ◌∷◌, ◌++◌, [], ℕ, List, Bool, true, false, cond, not, length, take, map, subst, nat_lt, Option, None, Some, Result, Ok, Err, OnOk, OnErr, inl, inr, refl, sym, ap, ◌∙◌, arith, append_assoc, append-nil}
+use Rattle.std.proofs.Common.{◌≡◌, ◌==◌, ◌&&◌, ◌||◌, ◌+◌, ◌-◌, ◌∷◌, ◌++◌, [], ℕ, List, Bool, true, false, cond, not, length, take, map, subst, nat_lt, Option, None, Some, Result, Ok, Err, OnOk, OnErr, refl, sym, ap, ◌∙◌, arith, append_assoc, append-nil}
 use Rattle.std.specs.Option.{is_none, is_some}
 use Rattle.std.specs.Result.{is_err}
 use Rattle.std.proofs.lemmas.Bool.{and_parts}
@@ -16,13 +16,13 @@ use Rattle.dav_core.specs.declared.handle.DiskError.TheVariants.{NotDir, IsDir, 
 use Rattle.dav_core.specs.Path.{Names, same_names, parent_of, is_front}
 use Rattle.dav_core.specs.Tree.{row_at, is_dir, is_dir_row, has_dir, is_tree, look, look_from, below, below_kind, standing}
 use Rattle.dav_core.specs.World.{World}
-use Rattle.dav_core.specs.Changes.{tick, touched_at, touched, then_touched, is_free_in, added_at, added, stored_in, made_or, dir_added, file_added, without, removed_found, is_leaf, yields, moved_row, renames_to, renamed_found, parents_touched}
+use Rattle.dav_core.specs.Changes.{tick, touched_at, touched, then_touched, is_free_in, added_at, stored_in, made_or, dir_added, file_added, without, removed_found, is_leaf, yields, moved_row, renames_to, renamed_found, parents_touched}
 use Rattle.dav_core.specs.Edits.{Edit, makes, takes, moves}
-use Rattle.dav_core.specs.Allowed.{Allowed, place, place_from, through, through_kind, found_then, making_at, is_root, may_go, taking_dir_row, taking_dir, taking_file_row, taking_file, moving_over, moving_to, moving}
-use Rattle.dav_disk.specs.Making.{MakesAt, edited, edited_by, is_spent, row_is_left, move_is_left, tick_after}
+use Rattle.dav_core.specs.Allowed.{Allowed, place, place_from, through, through_kind, found_then, making_at, is_root, taking_dir_row, taking_dir, taking_file_row, taking_file, moving_over, moving_to, moving}
+use Rattle.dav_disk.specs.Making.{MakesAt, edited, is_spent, row_is_left, move_is_left, tick_after}
 use Rattle.dav_disk.specs.Calls.{Known}
 use Rattle.dav_disk.proofs.Added.{both}
-use Rattle.dav_disk.proofs.Trees.{In, parts_of, not_both, no_names, find_in}
+use Rattle.dav_disk.proofs.Trees.{parts_of, not_both, no_names, find_in}
 
 -- ---- places
 
@@ -138,20 +138,11 @@ file_left true path bytes w None e f = cc
 file_left true path bytes w (Some t) e f = left_then (parent_of path) _ (tick t) f
 file_left false path bytes w o e f = cc
 
-file_none : (b : Bool) (path : Names) (bytes : List ℕ) (w : World) (o : Option FileTime) → (b && is_some (tick_after o)) ≡ false
-    → is_none (then_touched (parent_of path) (stored_in bytes (cond b (added_at path File o w) None))) ≡ true
-file_none true path bytes w None f = refl
-file_none true path bytes w (Some t) f = tick_none (parent_of path) _ (tick t) f
-file_none false path bytes w o f = refl
-
 -- or a file
 pub file_is_left : (w : World) (path : Names) (bytes : List ℕ) → row_is_left w ≡ true → is_none (edited (makes path File bytes) w) ≡ false
 file_is_left w path bytes e =
     let t = and_parts (nat_lt w.greatest greatest) (is_some (tick_after (tick w.latest))) e in
     file_left (nat_lt w.greatest greatest) path bytes w (tick w.latest) t.0 t.1
-
-pub file_is_none : (w : World) (path : Names) (bytes : List ℕ) → row_is_left w ≡ false → is_none (edited (makes path File bytes) w) ≡ true
-file_is_none w path bytes e = file_none (nat_lt w.greatest greatest) path bytes w (tick w.latest) e
 
 -- ---- what is made
 
@@ -242,10 +233,6 @@ make_at allowed edit k n v (Ok x) e left made ok err =
 make_at allowed edit k n v (Err x) e left made ok err =
     let same : x ≡ NoMemory = (let f = err.1 in cc) in
     rw same (err.0, ap (λ a. is_spent a k.world) e ∙ left)
-
--- nothing is made, for want of memory
-pub no_memory_at : (allowed : Allowed) (edit : Edit) (k : Known) → allowed ≡ Ok (Some edit) → is_none (edited edit k.world) ≡ false → MakesAt allowed k (Err NoMemory) k
-no_memory_at allowed edit k e left = (refl, ap (λ a. is_spent a k.world) e ∙ left)
 
 -- or as no number or tick is left
 pub spent_at : (allowed : Allowed) (edit : Edit) (k : Known) → allowed ≡ Ok (Some edit) → is_none (edited edit k.world) ≡ true → MakesAt allowed k (Err Failed) k

@@ -26,7 +26,14 @@ lengths listings l = option_map length (listings l)
 
 -- the state of a disk that knows this, after so many faults and calls
 abbrev pub state_of : Known → ℕ → ℕ → Bool → DiskState
-state_of k faults asked whole = record { told = Some k.world; faults = faults; asked = asked; whole = whole; live = k.live; listers = lengths k.world.listings }
+state_of k faults asked whole = record {
+  told = Some k.world;
+  faults = faults;
+  asked = asked;
+  whole = whole;
+  live = k.live;
+  listers = lengths k.world.listings;
+}
 
 abbrev pub FindsMeta : World → Names → Result Meta DiskError → Type 0
 FindsMeta w path (Ok meta) = MetaIn path (Ok meta) w
@@ -46,7 +53,8 @@ Places k h place n = (o : OpenFile) × (k.world.opens h ≡ Some o) × (n ≡ wi
 -- At most so many bytes are read: all that stand there, that fit and that may be given.
 abbrev pub ReadsAt : Known → ℕ → ℕ → List ℕ → Result ℕ DiskError → Known → Type 0
 ReadsAt k h most buffer (Ok n) t = (o : OpenFile) × (k.world.opens h ≡ Some o) × (can_read (k.live h) ≡ true)
-    × (n ≡ min most (min (length buffer) (length (rest_of k.world o)))) × (take n buffer ≡ take n (rest_of k.world o)) × (t ≡ with_place k h o (o.place + n))
+    × (n ≡ min most (min (length buffer) (length (rest_of k.world o)))) × (take n buffer ≡ take n (rest_of k.world o))
+    × (t ≡ with_place k h o (o.place + n))
 ReadsAt k h most buffer (Err e) t = (e ≡ IsDir) × (can_read (k.live h) ≡ false) × (t ≡ k)
 
 abbrev pub with_closed : Known → ℕ → Known
@@ -58,7 +66,8 @@ with_names k l names = record k { world = with_listings k.world (put l names k.w
 
 -- The directory at a path is listed, in order of the names' bytes, under a lister that was free.
 abbrev pub ListsAt : Known → Names → Result Lister DiskError → Known → Type 0
-ListsAt k path (Ok l) n = (names : Names) × IsOk (listable (look k.world.tree path)) × IsInOrder (names_in k.world.tree path) names
+ListsAt k path (Ok l) n =
+    (names : Names) × IsOk (listable (look k.world.tree path)) × IsInOrder (names_in k.world.tree path) names
     × (k.world.listings l.0 ≡ None) × (n ≡ with_names k l.0 (Some names))
 ListsAt k path (Err e) n = (n ≡ k) × RefusesBy e (listable (look k.world.tree path))
 

@@ -35,9 +35,11 @@ pub record Follows {T : Type 0} (old : MemDisk) (result : Result T DiskError) (n
   pub quiet : (IsErrOf result Failed → ⊥) → new.faults.met ≡ old.faults.met
   pub stays : fails_at new ≡ fails_at old
 
--- The call fails exactly where its number is one of those that fail, or where it needs a next number or a next tick that
--- isn't left. Then it meets one fault, and else none. Where it is refused the world stays whole.
-pub record FollowsOr {T : Type 0} (spent : Bool) (old : MemDisk) (result : Result T DiskError) (new : MemDisk) : Type 0 where
+-- The call fails exactly where its number is one of those that fail, or where it needs a next number or a next tick
+-- that isn't left. Then it meets one fault, and else none. Where it is refused the world stays whole.
+pub record FollowsOr
+    {T : Type 0} (spent : Bool) (old : MemDisk) (result : Result T DiskError) (new : MemDisk)
+    : Type 0 where
   pub fails : IsErrOf result Failed ↔ (Contains (fails_at old) (one_more old.faults.asked) ⊎ (spent ≡ true))
   pub once : IsErrOf result Failed → new.faults.met ≡ one_more old.faults.met
   pub quiet : (IsErrOf result Failed → ⊥) → new.faults.met ≡ old.faults.met

@@ -12,7 +12,8 @@ UsesLength lens (Err e) new = new ≡ lens
 
 -- A read that isn't refused gives all bytes that stand at the file's place, that fit and that may be given.
 abbrev pub GivesMost : ℕ → World → ℕ → List ℕ → Result ℕ DiskError → Type 0
-GivesMost most w h buffer (Ok n) = (o : OpenFile) × (w.opens h ≡ Some o) × (n ≡ min most (min (length buffer) (length (rest_of w o))))
+GivesMost most w h buffer (Ok n) =
+    (o : OpenFile) × (w.opens h ≡ Some o) × (n ≡ min most (min (length buffer) (length (rest_of w o))))
 GivesMost most w h buffer (Err e) = Unit {0}
 
 -- the most bytes that the next read gives

@@ -29,15 +29,16 @@ filled_at number bytes None w = None
 filled_at number bytes (Some t) w = Some (record (filled number bytes t w) { latest = t })
 
 -- What an edit makes of a disk's world, or none where no next number is left, or no next tick. The row that is made has
--- the first tick, then come the directories whose names changed, `from`'s parent before `to`'s. Bytes that stay equal take
--- no tick.
+-- the first tick, then come the directories whose names changed, `from`'s parent before `to`'s. Bytes that stay equal
+-- take no tick.
 abbrev pub edited : Edit → World → Option World
 edited (makes path Dir bytes) w = then_touched (parent_of path) (added path Dir w)
 edited (makes path File bytes) w = then_touched (parent_of path) (stored_in bytes (added path File w))
 edited (makes path Link bytes) w = then_touched (parent_of path) (added path Link w)
 edited (takes path) w = touched (parent_of path) (record w { tree = without path w.tree })
 edited (moves from to) w = parents_touched from to (record w { tree = map (moved_row from to) (without to w.tree) })
-edited (fills number bytes) w = cond (bytes_eq bytes (bytes_of w number)) (Some w) (filled_at number bytes (tick w.latest) w)
+edited (fills number bytes) w =
+    cond (bytes_eq bytes (bytes_of w number)) (Some w) (filled_at number bytes (tick w.latest) w)
 
 abbrev pub edited_by : Option Edit → World → Option World
 edited_by None w = Some w
@@ -48,10 +49,12 @@ abbrev pub is_spent : Allowed → World → Bool
 is_spent (Ok edit) w = is_none (edited_by edit w)
 is_spent (Err e) w = false
 
--- What is allowed is made, whole; or nothing is made, for want of a number or a tick, or of memory, or as the tree calls
--- for it.
+-- What is allowed is made, whole; or nothing is made, for want of a number or a tick, or of memory, or as the tree
+-- calls for it.
 abbrev pub MakesAt : Allowed → Known → Result Unit DiskError → Known → Type 0
-MakesAt allowed k (Ok x) n = (edit : Option Edit) × (allowed ≡ Ok edit) × (edited_by edit k.world ≡ Some n.world) × (n ≡ record k { world = n.world })
+MakesAt allowed k (Ok x) n =
+    (edit : Option Edit) × (allowed ≡ Ok edit) × (edited_by edit k.world ≡ Some n.world)
+    × (n ≡ record k { world = n.world })
 MakesAt allowed k (Err Failed) n = (n ≡ k) × (is_spent allowed k.world ≡ true)
 MakesAt allowed k (Err NoMemory) n = (n ≡ k) × (is_spent allowed k.world ≡ false)
 MakesAt allowed k (Err e) n = (n ≡ k) × (allowed ≡ Err e)
@@ -66,7 +69,8 @@ row_is_left w = nat_lt w.greatest greatest && is_some (tick_after (tick w.latest
 
 -- a tick is left for each directory whose names a move changes
 abbrev pub move_is_left : Names → Names → World → Bool
-move_is_left from to w = is_some (cond (same_names (parent_of from) (parent_of to)) (tick w.latest) (tick_after (tick w.latest)))
+move_is_left from to w =
+    is_some (cond (same_names (parent_of from) (parent_of to)) (tick w.latest) (tick_after (tick w.latest)))
 
 -- a world in which a file has these bytes, with the latest time
 abbrev pub filled_now : ℕ → List ℕ → FileTime → World → World
@@ -78,7 +82,9 @@ filled_now number bytes t w = record (filled number bytes t w) { latest = t }
 abbrev pub writing_at : Option OpenFile → Option Live → World → List ℕ → Allowed
 writing_at None l w from = Err IsDir
 writing_at (Some o) l w from =
-    cond (can_write l) (Ok (Some (fills o.number (written (write_place (appends l) w o) from (bytes_of w o.number))))) (Err IsDir)
+    cond (can_write l)
+    (Ok (Some (fills o.number (written (write_place (appends l) w o) from (bytes_of w o.number)))))
+    (Err IsDir)
 
 abbrev pub writing : Known → ℕ → List ℕ → Allowed
 writing k h from = writing_at (k.world.opens h) (k.live h) k.world from
@@ -89,11 +95,15 @@ to_unit (Err e) = Err e
 
 -- All bytes are written at once, and the file's place is behind them; or nothing is done.
 abbrev pub WritesAt : Known → ℕ → List ℕ → Result ℕ DiskError → Known → Type 0
-WritesAt k h from (Ok n) t = (n ≡ length from) × (o : OpenFile) × (k.world.opens h ≡ Some o) × (can_write (k.live h) ≡ true) × (m : World)
-    × (edited (fills o.number (written (write_place (appends (k.live h)) k.world o) from (bytes_of k.world o.number))) k.world ≡ Some m)
+WritesAt k h from (Ok n) t =
+    (n ≡ length from) × (o : OpenFile) × (k.world.opens h ≡ Some o) × (can_write (k.live h) ≡ true) × (m : World)
+    × (edited (fills o.number (written (write_place (appends (k.live h)) k.world o) from (bytes_of k.world o.number)))
+    k.world ≡ Some m)
     × (t ≡ with_place (record k { world = m }) h o (write_place (appends (k.live h)) k.world o + n))
-WritesAt k h from (Err Failed) t = (t ≡ k) × (can_write (k.live h) ≡ true) × (is_spent (writing k h from) k.world ≡ true)
-WritesAt k h from (Err NoMemory) t = (t ≡ k) × (can_write (k.live h) ≡ true) × (is_spent (writing k h from) k.world ≡ false)
+WritesAt k h from (Err Failed) t =
+    (t ≡ k) × (can_write (k.live h) ≡ true) × (is_spent (writing k h from) k.world ≡ true)
+WritesAt k h from (Err NoMemory) t =
+    (t ≡ k) × (can_write (k.live h) ≡ true) × (is_spent (writing k h from) k.world ≡ false)
 WritesAt k h from (Err IsDir) t = (t ≡ k) × (can_write (k.live h) ≡ false) × (writing k h from ≡ Err IsDir)
 WritesAt k h from (Err e) t = ⊥
 
@@ -102,7 +112,8 @@ WritesAt k h from (Err e) t = ⊥
 -- what opening makes of what stands at a path, where it isn't refused
 abbrev pub opened_edit : OpenOptions → Names → Option Row → Option Edit
 opened_edit how path None = Some (makes path File [])
-opened_edit how path (Some row) = cond (is_file row.kind && (how.write && how.truncate)) (Some (fills row.number [])) None
+opened_edit how path (Some row) =
+    cond (is_file row.kind && (how.write && how.truncate)) (Some (fills row.number [])) None
 
 -- what is known once this is open in a world
 abbrev pub opened_known : Known → World → ℕ → ℕ → Kind → OpenOptions → Known
@@ -113,18 +124,21 @@ opened_known k m h number kind how = record {
 
 -- An edit is made, and what has the number is opened under a handle that was free; or nothing is done.
 abbrev pub OpensBy : Option Edit → ℕ → Kind → OpenOptions → Known → Result Handle DiskError → Known → Type 0
-OpensBy edit number kind how k (Ok h) n = (m : World) × (edited_by edit k.world ≡ Some m) × (k.live h.0 ≡ None) × (n ≡ opened_known k m h.0 number kind how)
+OpensBy edit number kind how k (Ok h) n =
+    (m : World) × (edited_by edit k.world ≡ Some m) × (k.live h.0 ≡ None) × (n ≡ opened_known k m h.0 number kind how)
 OpensBy edit number kind how k (Err Failed) n = (n ≡ k) × (is_none (edited_by edit k.world) ≡ true)
 OpensBy edit number kind how k (Err NoMemory) n = (n ≡ k) × (is_none (edited_by edit k.world) ≡ false)
 OpensBy edit number kind how k (Err e) n = ⊥
 
 -- what is opened is what stood at the path, or what was made there
 abbrev pub IsOpened : World → Names → Option Edit → ℕ → Kind → Type 0
-IsOpened w path edit number kind = ((number ≡ w.greatest + 1) × (kind ≡ File) × (edit ≡ Some (makes path File [])) × (place w.tree path ≡ Ok None))
+IsOpened w path edit number kind =
+    ((number ≡ w.greatest + 1) × (kind ≡ File) × (edit ≡ Some (makes path File [])) × (place w.tree path ≡ Ok None))
     ⊎ ((row : Row) × (place w.tree path ≡ Ok (Some row)) × (row.number ≡ number) × (row.kind ≡ kind))
 
 abbrev pub OpensAs : Known → Names → OpenOptions → Result Handle DiskError → Known → Type 0
-OpensAs k path how (Ok h) n = (edit : Option Edit) × (number : ℕ) × (kind : Kind) × (opening k.world.tree path how ≡ Ok edit)
+OpensAs k path how (Ok h) n =
+    (edit : Option Edit) × (number : ℕ) × (kind : Kind) × (opening k.world.tree path how ≡ Ok edit)
     × IsOpened k.world path edit number kind × OpensBy edit number kind how k (Ok h) n
 OpensAs k path how (Err Failed) n = (n ≡ k) × (is_spent (opening k.world.tree path how) k.world ≡ true)
 OpensAs k path how (Err NoMemory) n = (n ≡ k) × (is_spent (opening k.world.tree path how) k.world ≡ false)
@@ -141,7 +155,8 @@ copied_edit w to (Fills source number) = Some (fills number (bytes_of w source))
 -- which files a copy has to do with
 abbrev pub copies_over : Row → Names → Option Row → Result Copying DiskError
 copies_over row to None = Ok (Makes row.number)
-copies_over row to (Some there) = cond (is_dir there.kind) (Err IsDir) (cond (same_names row.path to) (Ok Stays) (Ok (Fills row.number there.number)))
+copies_over row to (Some there) =
+    cond (is_dir there.kind) (Err IsDir) (cond (same_names row.path to) (Ok Stays) (Ok (Fills row.number there.number)))
 
 abbrev pub copies_to : Row → Names → Result (Option Row) DiskError → Result Copying DiskError
 copies_to row to (Err e) = Err e

@@ -6,6 +6,14 @@ use Rattle.dav_disk.specs.declared.memory.Memory.{Memory}
 
 abbrev pub known_of : Memory → Known
 known_of m = record {
-  world = record { tree = m.rows.items; files = stored_at m.files; opens = open_at m.opens; listings = listing_at m.listings; greatest = m.greatest; latest = m.latest; script = m.script.items };
+  world = record {
+    tree = m.rows.items;
+    files = stored_at m.files;
+    opens = open_at m.opens;
+    listings = listing_at m.listings;
+    greatest = m.greatest;
+    latest = m.latest;
+    script = m.script.items;
+  };
   live = live_at m.opens;
 }

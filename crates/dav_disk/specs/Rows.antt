@@ -20,7 +20,15 @@ root_row = record { path = []; kind = Dir; number = 1; time = at_second 0 }
 
 -- The root alone. The latest time used is 10^9 nanoseconds.
 abbrev pub first_world : World
-first_world = record { tree = root_row ∷ []; files = λ _. None; opens = λ _. None; listings = λ _. None; greatest = 1; latest = at_second 1; script = [] }
+first_world = record {
+  tree = root_row ∷ [];
+  files = λ _. None;
+  opens = λ _. None;
+  listings = λ _. None;
+  greatest = 1;
+  latest = at_second 1;
+  script = [];
+}
 
 -- whether a time stands before another
 abbrev pub is_earlier : FileTime → FileTime → Bool
@@ -43,19 +51,25 @@ is_new_number w number = not (list_any (λ row. number == row.number) w.tree) &&
 
 -- The path is free under a directory, the number is new and below 2^63, and the time is before the year 10000.
 abbrev pub can_add : World → Names → ℕ → FileTime → Bool
-can_add w path number time = is_free_in w.tree path && (is_new_number w number && (nat_lt number 9223372036854775808 && can_be_set time))
+can_add w path number time =
+    is_free_in w.tree path && (is_new_number w number && (nat_lt number 9223372036854775808 && can_be_set time))
 
 -- A row more. Its time raises the latest time used to 10^9 nanoseconds past it at least.
 abbrev pub with_row : World → Row → World
-with_row w row = record w { tree = w.tree ++ row ∷ []; greatest = max w.greatest row.number; latest = later_of w.latest (second_past row.time) }
+with_row w row = record w {
+  tree = w.tree ++ row ∷ [];
+  greatest = max w.greatest row.number;
+  latest = later_of w.latest (second_past row.time);
+}
 
 abbrev pub with_dir : World → Names → ℕ → FileTime → World
 with_dir w path number time = with_row w (record { path = path; kind = Dir; number = number; time = time })
 
 abbrev pub with_file : World → Names → ℕ → FileTime → List ℕ → World
-with_file w path number time bytes = record (with_row w (record { path = path; kind = File; number = number; time = time })) {
-  files = put number (Some (record { bytes = bytes; time = time })) w.files;
-}
+with_file w path number time bytes =
+    record (with_row w (record { path = path; kind = File; number = number; time = time })) {
+      files = put number (Some (record { bytes = bytes; time = time })) w.files;
+    }
 
 -- a batch of changes more
 abbrev pub with_batch : World → List Change → World

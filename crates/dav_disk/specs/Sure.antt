@@ -18,7 +18,9 @@ sure_world d = (known_of d.memory).world
 
 -- A call that makes something fails exactly where it needs a next number or a next tick that isn't left. Only then the
 -- count of faults rises, by one.
-pub record FailsOnly {T : Type 0} (spent : Bool) (old : SureDisk) (result : Result T DiskError) (new : SureDisk) : Type 0 where
+pub record FailsOnly
+    {T : Type 0} (spent : Bool) (old : SureDisk) (result : Result T DiskError) (new : SureDisk)
+    : Type 0 where
   pub fails : IsErrOf result Failed ↔ (spent ≡ true)
   pub once : IsErrOf result Failed → new.met ≡ one_more old.met
   pub quiet : (IsErrOf result Failed → ⊥) → new.met ≡ old.met

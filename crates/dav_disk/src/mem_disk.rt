@@ -259,7 +259,8 @@ impl Disk for MemDisk {
         requires some { 0 < length from.now }
         ensures done { Writes (mem_state self.old) file.0 from.now result (mem_state self.new) }
         ensures loan { ⟦<MemDisk as Disk>⟧.loan self.new ≡ ⟦<MemDisk as Disk>⟧.loan self.old }
-        ensures schedule { FollowsOr (is_spent (writing (known_of self.old.memory) file.0 from.now) (mem_world self.old))
+        ensures schedule { FollowsOr (is_spent (writing (known_of self.old.memory) file.0 from.now)
+            (mem_world self.old))
             self.old result self.new }
         ensures lens { lens_left self.new ≡ lens_left self.old }
     {
@@ -320,7 +321,8 @@ impl Disk for MemDisk {
     fn create_dir(&mut self, path: &FsPath, _public: bool) -> Result<(), DiskError>
         ensures done { CreatesDir (mem_state self.old) path.now result (mem_state self.new) }
         ensures loan { ⟦<MemDisk as Disk>⟧.loan self.new ≡ ⟦<MemDisk as Disk>⟧.loan self.old }
-        ensures schedule { FollowsOr (is_spent (making_dir (mem_world self.old).tree path.now) (mem_world self.old)) self.old result self.new }
+        ensures schedule { FollowsOr (is_spent (making_dir (mem_world self.old).tree path.now) (mem_world self.old))
+            self.old result self.new }
         ensures lens { lens_left self.new ≡ lens_left self.old }
     {
         if self.faults.next() {
@@ -334,7 +336,8 @@ impl Disk for MemDisk {
     fn remove_dir(&mut self, path: &FsPath) -> Result<(), DiskError>
         ensures done { RemovesDir (mem_state self.old) path.now result (mem_state self.new) }
         ensures loan { ⟦<MemDisk as Disk>⟧.loan self.new ≡ ⟦<MemDisk as Disk>⟧.loan self.old }
-        ensures schedule { FollowsOr (is_spent (taking_dir (mem_world self.old).tree path.now) (mem_world self.old)) self.old result self.new }
+        ensures schedule { FollowsOr (is_spent (taking_dir (mem_world self.old).tree path.now) (mem_world self.old))
+            self.old result self.new }
         ensures lens { lens_left self.new ≡ lens_left self.old }
     {
         if self.faults.next() {
@@ -348,7 +351,8 @@ impl Disk for MemDisk {
     fn remove_file(&mut self, path: &FsPath) -> Result<(), DiskError>
         ensures done { RemovesFile (mem_state self.old) path.now result (mem_state self.new) }
         ensures loan { ⟦<MemDisk as Disk>⟧.loan self.new ≡ ⟦<MemDisk as Disk>⟧.loan self.old }
-        ensures schedule { FollowsOr (is_spent (taking_file (mem_world self.old).tree path.now) (mem_world self.old)) self.old result self.new }
+        ensures schedule { FollowsOr (is_spent (taking_file (mem_world self.old).tree path.now) (mem_world self.old))
+            self.old result self.new }
         ensures lens { lens_left self.new ≡ lens_left self.old }
     {
         if self.faults.next() {
@@ -362,7 +366,8 @@ impl Disk for MemDisk {
     fn rename(&mut self, from: &FsPath, to: &FsPath) -> Result<(), DiskError>
         ensures done { Renames (mem_state self.old) from.now to.now result (mem_state self.new) }
         ensures loan { ⟦<MemDisk as Disk>⟧.loan self.new ≡ ⟦<MemDisk as Disk>⟧.loan self.old }
-        ensures schedule { FollowsOr (is_spent (moving (mem_world self.old).tree from.now to.now) (mem_world self.old)) self.old result self.new }
+        ensures schedule { FollowsOr (is_spent (moving (mem_world self.old).tree from.now to.now) (mem_world self.old))
+            self.old result self.new }
         ensures lens { lens_left self.new ≡ lens_left self.old }
     {
         if self.faults.next() {
@@ -376,7 +381,8 @@ impl Disk for MemDisk {
     fn copy(&mut self, from: &FsPath, to: &FsPath) -> Result<(), DiskError>
         ensures done { Copies (mem_state self.old) from.now to.now result (mem_state self.new) }
         ensures loan { ⟦<MemDisk as Disk>⟧.loan self.new ≡ ⟦<MemDisk as Disk>⟧.loan self.old }
-        ensures schedule { FollowsOr (is_spent (copying (mem_world self.old) from.now to.now) (mem_world self.old)) self.old result self.new }
+        ensures schedule { FollowsOr (is_spent (copying (mem_world self.old) from.now to.now) (mem_world self.old))
+            self.old result self.new }
         ensures lens { lens_left self.new ≡ lens_left self.old }
     {
         if self.faults.next() {

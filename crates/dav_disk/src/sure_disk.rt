@@ -188,7 +188,8 @@ impl Disk for SureDisk {
     fn create_dir(&mut self, path: &FsPath, _public: bool) -> Result<(), DiskError>
         ensures done { CreatesDir (sure_state self.old) path.now result (sure_state self.new) }
         ensures loan { ⟦<SureDisk as Disk>⟧.loan self.new ≡ ⟦<SureDisk as Disk>⟧.loan self.old }
-        ensures fails { FailsOnly (is_spent (making_dir (sure_world self.old).tree path.now) (sure_world self.old)) self.old result self.new }
+        ensures fails { FailsOnly (is_spent (making_dir (sure_world self.old).tree path.now) (sure_world self.old))
+            self.old result self.new }
     {
         self.asked = self.asked.saturating_add(1);
         let answer = self.memory.create_dir(path);
@@ -199,7 +200,8 @@ impl Disk for SureDisk {
     fn remove_dir(&mut self, path: &FsPath) -> Result<(), DiskError>
         ensures done { RemovesDir (sure_state self.old) path.now result (sure_state self.new) }
         ensures loan { ⟦<SureDisk as Disk>⟧.loan self.new ≡ ⟦<SureDisk as Disk>⟧.loan self.old }
-        ensures fails { FailsOnly (is_spent (taking_dir (sure_world self.old).tree path.now) (sure_world self.old)) self.old result self.new }
+        ensures fails { FailsOnly (is_spent (taking_dir (sure_world self.old).tree path.now) (sure_world self.old))
+            self.old result self.new }
     {
         self.asked = self.asked.saturating_add(1);
         let answer = self.memory.remove_dir(path);
@@ -210,7 +212,8 @@ impl Disk for SureDisk {
     fn remove_file(&mut self, path: &FsPath) -> Result<(), DiskError>
         ensures done { RemovesFile (sure_state self.old) path.now result (sure_state self.new) }
         ensures loan { ⟦<SureDisk as Disk>⟧.loan self.new ≡ ⟦<SureDisk as Disk>⟧.loan self.old }
-        ensures fails { FailsOnly (is_spent (taking_file (sure_world self.old).tree path.now) (sure_world self.old)) self.old result self.new }
+        ensures fails { FailsOnly (is_spent (taking_file (sure_world self.old).tree path.now) (sure_world self.old))
+            self.old result self.new }
     {
         self.asked = self.asked.saturating_add(1);
         let answer = self.memory.remove_file(path);
@@ -221,7 +224,8 @@ impl Disk for SureDisk {
     fn rename(&mut self, from: &FsPath, to: &FsPath) -> Result<(), DiskError>
         ensures done { Renames (sure_state self.old) from.now to.now result (sure_state self.new) }
         ensures loan { ⟦<SureDisk as Disk>⟧.loan self.new ≡ ⟦<SureDisk as Disk>⟧.loan self.old }
-        ensures fails { FailsOnly (is_spent (moving (sure_world self.old).tree from.now to.now) (sure_world self.old)) self.old result self.new }
+        ensures fails { FailsOnly (is_spent (moving (sure_world self.old).tree from.now to.now) (sure_world self.old))
+            self.old result self.new }
     {
         self.asked = self.asked.saturating_add(1);
         let answer = self.memory.rename(from, to);
@@ -232,7 +236,8 @@ impl Disk for SureDisk {
     fn copy(&mut self, from: &FsPath, to: &FsPath) -> Result<(), DiskError>
         ensures done { Copies (sure_state self.old) from.now to.now result (sure_state self.new) }
         ensures loan { ⟦<SureDisk as Disk>⟧.loan self.new ≡ ⟦<SureDisk as Disk>⟧.loan self.old }
-        ensures fails { FailsOnly (is_spent (copying (sure_world self.old) from.now to.now) (sure_world self.old)) self.old result self.new }
+        ensures fails { FailsOnly (is_spent (copying (sure_world self.old) from.now to.now) (sure_world self.old))
+            self.old result self.new }
     {
         self.asked = self.asked.saturating_add(1);
         let answer = self.memory.copy(from, to);

@@ -5,6 +5,7 @@ use Rattle.std.proofs.lemmas.Grind.{common_steps}
 use Rattle.std.proofs.lemmas.Bool.Decides.{nat_tests}
 use Rattle.dav_core.specs.Disk.{DiskState}
 use Rattle.dav_model.specs.declared.ranges.Slice.{Slice}
+use Rattle.dav_model.specs.declared.answer.Answer.{Answer}
 use Rattle.dav_model.specs.declared.answer.Answer.TheVariants.{Broken, Piece}
 use Rattle.dav_store.specs.Standing.{Seen}
 use Rattle.dav_get.specs.declared.part.BodyPart.{BodyPart}
@@ -125,4 +126,24 @@ module _ {F : Type 0} (handle : F → ℕ) (seen : F → DiskState → Option Se
     bound = tt;
     most = cm;
     room = cr;
+  }
+
+  -- another buffer of the same length changes nothing of a poll
+  pub polls_over : (s t : DiskState) (b c d : GetBody F) (answer : Answer) → left_of d ≡ left_of c → d.file ≡ c.file → d.most ≡ c.most
+      → length d.buffer.items ≡ length c.buffer.items → Polls handle seen s b answer t c → Polls handle seen s b answer t d
+  polls_over s t b c d answer left file most room polls = record {
+    disk = rw file polls.disk;
+    takes = rw left polls.takes;
+    held = record {
+      parts = rw left polls.held.parts;
+      needs = λ has. rw file (polls.held.needs (rw left at has));
+      over = λ none. rw file (polls.held.over (rw left at none));
+      some = λ has. rw most (polls.held.some (rw left at has));
+      room = rw (left, most, room) polls.held.room;
+      file = λ h e. polls.held.file h (sym file ∙ e);
+    };
+    asks = polls.asks;
+    bound = polls.bound;
+    most = most ∙ polls.most;
+    room = room ∙ polls.room;
   }

@@ -46,6 +46,12 @@ next_most_of [] room = 0
 next_most_of (Text bytes ∷ parts) room = length bytes
 next_most_of (SliceOf slice ∷ parts) room = min slice.count room
 
+-- memory of this length and capacity that is ready for the next piece, of a body with these parts left and a buffer of
+-- this size
+pub record IsRoom (left : List BodyPart) (size len capacity : ℕ) : Type 0 where
+  pub long : len ≡ size
+  pub most : next_most_of left size ≤ capacity
+
 -- What a body keeps: no part that is left is empty; its file is held where a slice is left, with room for its pieces,
 -- and only while a part is left; the file is live, regular and opened for reading, at the place that is noted.
 pub record IsHeld {F : Type 0} (handle : F → ℕ) (seen : F → DiskState → Option Seen) (s : DiskState)

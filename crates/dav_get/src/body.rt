@@ -1,16 +1,19 @@
-ghost use Rattle.std.specs.Prelude.{◌≡◌, ◌≤◌, ◌<◌, ◌+◌, ◌-◌, ◌^◌, [], ◌∷◌, List, true, vec_len, length, drop, None, IfSome, IsSome, max};
+ghost use Rattle.std.specs.Prelude.{◌≡◌, ◌≤◌, ◌<◌, ◌+◌, ◌-◌, ◌^◌, [], ◌∷◌, List, true, vec_len, vec_capacity, length, take, drop, None, IfOk, IfSome, IsSome, max};
 ghost use Rattle.std.specs.Borrow.{sem};
 ghost use Rattle.dav_core.specs.Disk.{can_read};
 ghost use Rattle.dav_model.specs.declared.ranges.Slice.{Slice};
+ghost use Rattle.dav_model.specs.declared.answer.Answer.TheVariants.{Piece};
 ghost use Rattle.dav_get.specs.declared.part.BodyPart.{BodyPart};
 ghost use Rattle.dav_get.specs.declared.part.BodyPart.TheVariants.{Text as TextPart, Slice as SlicePart};
-ghost use Rattle.dav_get.specs.Bodies.{left_of, next_most_of, IsHeld, Closes, Passes, passed, answer_of, IsInside, IfPiece, Polls, IsPolled};
+ghost use Rattle.dav_get.specs.Bodies.{left_of, next_most_of, IsHeld, Closes, Passes, passed, answer_of, IsInside, IfPiece, IsRoom, Polls, IsPolled};
 ghost use Rattle.dav_get.specs.BodyLent.{EndsPolled, answer_in};
 
 use crate::{BodyPart, OpenAt, ReadBuffer};
 use dav_core::Disk;
-use dav_model::Slice;
+use dav_io::{NoMemory, Octets};
+use dav_model::{Answer, Slice};
 use dav_store::DavFile;
+use std::mem;
 
 /// The body of an answer: texts and slices of one open file, in order. It isn't dropped while it has its file open:
 /// the poll that gives the last piece ends the file, and so does `close`.
@@ -42,6 +45,28 @@ pub(crate) enum Given {
     Read(usize),
     End,
     Broken,
+}
+
+// A piece that is copied into the room for it.
+fn copied(piece: &[u8], room: Vec<u8>) -> Answer
+    requires { length piece.now ≤ vec_capacity room }
+    ensures { result ≡ Piece piece.now }
+{
+    let mut bytes = room;
+    bytes.clear();
+    if bytes.extend_from_slice(piece).is_err() {
+        unreachable!("there is room for the piece");
+    }
+    Answer::Piece(Octets::new(bytes))
+}
+
+// A piece that is the front of some bytes.
+fn front_of(bytes: Vec<u8>, count: usize) -> Answer
+    ensures { result ≡ Piece (take count bytes.items) }
+{
+    let mut piece = bytes;
+    piece.truncate(count);
+    Answer::Piece(Octets::new(piece))
 }
 
 impl<F> GetBody<F> {
@@ -224,6 +249,45 @@ impl<F> GetBody<F> {
             Given::Read(count) => Polled::Piece(&self.buffer[..count]),
             Given::End => Polled::End,
             Given::Broken => Polled::Broken,
+        }
+    }
+
+    /// Makes the memory of a vector ready for the next piece: it is as long as the body's buffer then, and has room for
+    /// the piece.
+    pub fn make_room(&self, spare: Vec<u8>) -> Result<Vec<u8>, NoMemory>
+        ensures { IfOk result (λ room. IsRoom (left_of self.now) (vec_len self.now.buffer) (vec_len room)
+            (vec_capacity room)) }
+    {
+        let mut room = spare;
+        room.resize(self.buffer.len(), 0)?;
+        let most = self.next_most();
+        if most > room.len() {
+            room.reserve(most - room.len())?;
+        }
+        Ok(room)
+    }
+
+    /// The next piece, as `poll_piece` gives it, in memory of its own, as an answer. It takes no memory: a piece of a file
+    /// is given in the body's buffer, in whose place the room stands from then on, and a text is copied into the room.
+    pub fn take_piece<D: Disk>(&mut self, disk: &mut D, room: Vec<u8>) -> Answer
+    where
+        F: DavFile<D>,
+        requires held { IsHeld F.handle F.seen (D.state disk.old) self.old }
+        requires room { IsRoom (left_of self.old) (vec_len self.old.buffer) (vec_len room) (vec_capacity room) }
+        ensures done { IsPolled F.handle F.seen (D.state disk.old) self.old result (D.state disk.new) self.new }
+        ensures loan { D.loan disk.new ≡ D.loan disk.old }
+    {
+        match self.step(disk) {
+            Given::Text(at) => match &self.parts[at] {
+                BodyPart::Text(text) => copied(text.as_slice(), room),
+                BodyPart::Slice(_) => unreachable!("a text was given"),
+            },
+            Given::Read(count) => {
+                let bytes = mem::replace(&mut self.buffer, room);
+                front_of(bytes, count)
+            }
+            Given::End => Answer::End,
+            Given::Broken => Answer::Broken,
         }
     }
 

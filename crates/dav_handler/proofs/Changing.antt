@@ -7,7 +7,7 @@ use Rattle.dav_io.proofs.ToldLemmas.{both_map}
 use Rattle.dav_io.specs.declared.failure.NoMemory.{NoMemory}
 use Rattle.dav_core.specs.declared.dav_error.DavError.{DavError}
 use Rattle.dav_core.specs.declared.method.DavMethod.{DavMethod}
-use Rattle.dav_core.specs.declared.method.DavMethod.TheVariants.{Delete, MkAddressbook, MkCalendar, MkCol, Put}
+use Rattle.dav_core.specs.declared.method.DavMethod.TheVariants.{Copy, Delete, MkAddressbook, MkCalendar, MkCol, Move, Put}
 use Rattle.dav_core.specs.DavPath.{WebPath}
 use Rattle.dav_core.specs.Disk.{DiskState}
 use Rattle.dav_core.specs.Statuses.{closes, lacks_memory, status_of}
@@ -35,6 +35,7 @@ use Rattle.dav_methods.specs.Changing.{Changes}
 use Rattle.dav_methods.specs.Follows.{Follows, RightIn, answer_or}
 use Rattle.dav_methods.specs.Pouring.{Writes as FileWrites}
 use Rattle.dav_methods.proofs.AnswersListed.{mkcalendar_listed, mkcol_listed, put_listed}
+use Rattle.dav_methods.proofs.CopiesListed.{carry_listed}
 use Rattle.dav_methods.proofs.DeleteRight.{deletes_right}
 use Rattle.dav_methods.proofs.MakingFollows.{mkcalendar_follows, mkcol_follows}
 use Rattle.dav_methods.proofs.PutFollows.{put_follows}
@@ -142,15 +143,17 @@ module _ (a b : By) (method : DavMethod) (path : WebPath) (said : Said) (s t : D
 
 module _ {S C : Type 0} (view : View S C LocalFsFile) (lists : Listings S C ListingState LocalFsDirEntry) (writes : FileWrites LocalFsFile) (c : C)
     (usual : RefusesUsually view lists writes c) (worlds : (s : S) (w : World) → (view.state s).told ≡ Some w → IsWorld w)
-    (path : WebPath) (said : Said) (s : S) (r : Given) (t : S) where
-  listed : (method : DavMethod) → Changes view lists writes c method path said.fields said.body s r t
+    (prefix : List ℕ) (path : WebPath) (said : Said) (s : S) (r : Given) (t : S) where
+  listed : (method : DavMethod) → Changes view lists writes c method prefix path said.fields said.body s r t
       → IsAnswer (Rose (view.state s).faults (view.state t).faults) r
   listed Put run = (put_listed view lists writes c usual path said.fields said.body s r t run).answers
   listed MkCol run = (mkcol_listed view lists writes c usual path said.fields s r t run).answers
   listed Delete run = (delete_listed view lists writes c usual path said.fields s r t run).answers
+  listed Copy run = (carry_listed view lists writes c usual false prefix path said.fields s r t run).answers
+  listed Move run = (carry_listed view lists writes c usual true prefix path said.fields s r t run).answers
   listed other run = (mkcalendar_listed view lists writes c usual path s r t run).answers
 
-  right : (settings : Settings) → Follows view lists writes c (plain_rules settings) s → (method : DavMethod) → Changes view lists writes c method path said.fields said.body s r t → is_planned method ≡ true
+  right : (settings : Settings) → Follows view lists writes c (plain_rules settings) s → (method : DavMethod) → Changes view lists writes c method prefix path said.fields said.body s r t → is_planned method ≡ true
       → Both (view.state s).told (view.state t).told (λ v w. RightIn view lists writes c (plain_rules settings) (ask_of method path said.fields said.body) s r t v w)
   right settings follows Put run planned = put_follows view lists writes c worlds (plain_rules settings) s follows
       refl refl refl (ask_of Put path said.fields said.body) refl r t run
@@ -168,7 +171,7 @@ module _ {S C : Type 0} (view : View S C LocalFsFile) (lists : Listings S C List
   RightBy rules method = Both (view.state s).told (view.state t).told (λ v w. RightIn view lists writes c rules (ask_of method path said.fields said.body) s r t v w)
 
   -- What a method that writes did over the store, which follows plain rules.
-  pub did_change : (rules : Rules) → (ArePlain rules → Follows view lists writes c (plain_rules rules.settings) s) → (method : DavMethod) → Changes view lists writes c method path said.fields said.body s r t
+  pub did_change : (rules : Rules) → (ArePlain rules → Follows view lists writes c (plain_rules rules.settings) s) → (method : DavMethod) → Changes view lists writes c method prefix path said.fields said.body s r t
       → KeepsOpen (view.state s) (view.state t) → Did rules (ask_of method path said.fields said.body) (view.state s) r (view.state t)
   did_change rules follows method run keeps = record {
     keeps = keeps;

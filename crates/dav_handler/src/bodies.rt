@@ -1,14 +1,12 @@
 // The table of open bodies.
-ghost use Rattle.std.specs.Prelude.{◌≡◌, ◌≤◌, ◌==◌, [], Some, None, IsSome, IsTrue, IfErr, OnOk, ◌↔◌, option_map, vec_len, vec_capacity};
+ghost use Rattle.std.specs.Prelude.{◌≡◌, ◌==◌, Some, None, IsSome, IsTrue, IfErr, OnOk, ◌↔◌, option_map, vec_len, vec_capacity};
 ghost use Rattle.dav_core.specs.World.{put};
-ghost use Rattle.dav_get.specs.Bodies.{IsHeld, IsPolled, left_of, next_most_of};
-ghost use Rattle.dav_local.specs.Files.{seen_by};
-ghost use Rattle.dav_handler.specs.Held.{Body as AnyBody, ClosesBody, IsHeldBody, PollsBody, Sweeps, body_at, handle_of};
+ghost use Rattle.dav_get.specs.Bodies.{IsRoom, left_of, next_most_of};
+ghost use Rattle.dav_handler.specs.Held.{Body as AnyBody, ClosesBody, IsHeldBody, PollsBody, Sweeps, body_at};
 
 use dav_cache::Remember;
 use dav_core::Disk;
-use dav_get::{GetBody, Polled};
-use dav_io::Octets;
+use dav_get::GetBody;
 use dav_local::{LocalFs, LocalFsFile};
 use dav_model::Answer;
 use dav_store::DavFileSystem;
@@ -93,28 +91,7 @@ pub fn end_body<D: Disk, R: Remember>(bodies: &mut Bodies, store: &mut LocalFs<D
     }
 }
 
-/// Polls a body, and copies its piece into the room for it.
-fn poll_into<D: Disk>(body: &mut GetBody<LocalFsFile>, disk: &mut D, room: Vec<u8>) -> Answer
-    requires held { IsHeld handle_of seen_by (D.state disk.old) body.old }
-    requires empty { room.items ≡ [] }
-    requires room { next_most_of (left_of body.old) (vec_len body.old.buffer) ≤ vec_capacity room }
-    ensures done { IsPolled handle_of seen_by (D.state disk.old) body.old result (D.state disk.new) body.new }
-    ensures loan { D.loan disk.new ≡ D.loan disk.old }
-{
-    let mut bytes = room;
-    match body.poll_piece(disk) {
-        Polled::Piece(piece) => {
-            if bytes.extend_from_slice(piece).is_err() {
-                unreachable!("there is room for the piece");
-            }
-            Answer::Piece(Octets::new(bytes))
-        }
-        Polled::End => Answer::End,
-        Polled::Broken => Answer::Broken,
-    }
-}
-
-/// Polls the body of a number, and copies its piece into the room for it.
+/// Polls the body of a number. Its piece is given in the room that was made ready for it, or for which that one stands in.
 #[tactic(auto, unfolding(crate::specs::Held::body_at))]
 pub fn poll_body<D: Disk, R: Remember>(
     bodies: &mut Bodies,
@@ -124,9 +101,8 @@ pub fn poll_body<D: Disk, R: Remember>(
 ) -> Answer
     requires there { IsSome (body_at bodies.old body) }
     requires held { IsHeldBody (body_at bodies.old body) (D.state store.old.disk) }
-    requires empty { room.items ≡ [] }
     requires room { (b : AnyBody) → body_at bodies.old body ≡ Some b
-        → next_most_of (left_of b) (vec_len b.buffer) ≤ vec_capacity room }
+        → IsRoom (left_of b) (vec_len b.buffer) (vec_len room) (vec_capacity room) }
     ensures done { PollsBody (body_at bodies.old) body (D.state store.old.disk) result (D.state store.new.disk)
         (body_at bodies.new) }
     ensures rest { store.new ≡ record store.old { disk = store.new.disk } }
@@ -134,12 +110,12 @@ pub fn poll_body<D: Disk, R: Remember>(
 {
     if body == 0 {
         return match &mut bodies.first {
-            Some(open) => poll_into(open, DavFileSystem::disk(store), room),
+            Some(open) => open.take_piece(DavFileSystem::disk(store), room),
             None => unreachable!("there is such a body"),
         };
     }
     match bodies.later.get_mut(&body) {
-        Some(open) => poll_into(open, DavFileSystem::disk(store), room),
+        Some(open) => open.take_piece(DavFileSystem::disk(store), room),
         None => unreachable!("there is such a body"),
     }
 }

@@ -26,7 +26,7 @@ use dav_local_laws::{
     local_stores_ask_once, local_stores_follow_rules, local_stores_refuse_few, reads_are_right,
     reads_learn_nothing,
 };
-use dav_methods::{delete, mkcalendar, mkcol, options, put_whole};
+use dav_methods::{copy, delete, mkcalendar, mkcol, move_to, options, put_whole};
 use dav_model::{Outcome, Settings, Target};
 use dav_store::{DavDirEntry, DavFile, DavFileSystem, GuardedFileSystem};
 use http::{HeaderMap, Request};
@@ -130,7 +130,7 @@ fn find_at<D: Disk, R: Remember>(
     }
 }
 
-// What a method that writes is answered, of a request whose body is in memory.
+// What a method that writes is answered, of a request whose body is in memory. The prefix is that of a destination.
 fn change<D: Disk, R: Remember>(
     alloc: Global,
     store: &mut LocalFs<D, R>,
@@ -138,10 +138,11 @@ fn change<D: Disk, R: Remember>(
     path: &DavPath,
     fields: &HeaderMap,
     body: &[u8],
+    prefix: &str,
 ) -> Result<Outcome, DavError>
     ensures table { Changes (the_view ⟦<LocalFs<D, R> as GuardedFileSystem<()>>⟧ D.Disk ⟦<LocalFsFile as DavFile<D>>⟧)
         (the_listings ⟦<LocalFs<D, R> as GuardedFileSystem<()>>⟧ ⟦<LocalFsDirEntry as DavDirEntry<D>>⟧)
-        ⟦<LocalFsFile as DavFile<D>>⟧.writes tt method path.now fields.now body.now store.old result store.new }
+        ⟦<LocalFsFile as DavFile<D>>⟧.writes tt method prefix.now path.now fields.now body.now store.old result store.new }
     ensures keeps { KeepsOpen (D.state store.old.disk) (D.state store.new.disk) }
     ensures ways { store.new.ways ≡ store.old.ways }
     ensures learns { LearnsNothing (R.state store.old.memory) (R.state store.new.memory) }
@@ -151,6 +152,8 @@ fn change<D: Disk, R: Remember>(
         DavMethod::Put => put_whole(alloc, store, &(), path, fields, body),
         DavMethod::MkCol => mkcol(alloc, store, &(), path, fields),
         DavMethod::Delete => delete(alloc, store, &(), path, fields),
+        DavMethod::Copy => copy(alloc, store, &(), path, fields, prefix),
+        DavMethod::Move => move_to(alloc, store, &(), path, fields, prefix),
         _ => mkcalendar(alloc, store, &(), path, fields),
     }
 }
@@ -171,7 +174,8 @@ fn write_at<D: Disk, R: Remember>(
 {
     local_stores_refuse_few(store);
     local_stores_follow_rules(store, settings);
-    match change(alloc, store, method, path, fields, body) {
+    let prefix = settings.prefix.as_str();
+    match change(alloc, store, method, path, fields, body, prefix) {
         Ok(outcome) => Ok(alone(outcome)),
         Err(error) => refuse(alloc, fields, error),
     }

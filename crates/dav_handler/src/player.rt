@@ -16,6 +16,7 @@ use dav_model::{Answer, Outcome, Settings, Step};
 use dav_store::DavFileSystem;
 use http::Request;
 use std::alloc::Global;
+use std::mem;
 
 /// Answers steps over a disk. It numbers its replies from 0, and keeps the body of each reply of which something is left.
 pub struct Player<D: Disk, R: Remember> {
@@ -92,8 +93,10 @@ impl<D: Disk, R: Remember> Player<D, R> {
         store.into_parts()
     }
 
-    // A turn of the outside.
-    fn turn(&mut self) -> Result<Answer, NoMemory>
+    /// A turn of the outside, as its step is answered.
+    pub fn turn(&mut self) -> Result<Answer, NoMemory>
+        ensures held { StaysOpen (D.state self.old.store.disk) (playing_of self.old) }
+        ensures full { AreFull (playing_of self.old) }
         ensures done { Stepped (stage_of self.old) Turn result (stage_of self.new) }
         ensures loan { D.loan self.new.store.disk ≡ D.loan self.old.store.disk }
     {
@@ -112,8 +115,8 @@ impl<D: Disk, R: Remember> Player<D, R> {
         Answer::Done
     }
 
-    // The memory of the store forgets what is old.
-    fn purge(&mut self, now: Moment) -> Answer
+    /// What the memory of the store holds too long at this moment is forgotten, as its step is answered.
+    pub fn purge(&mut self, now: Moment) -> Answer
         ensures done { Stepped (stage_of self.old) (Purge now) (Ok result) (stage_of self.new) }
         ensures loan { D.loan self.new.store.disk ≡ D.loan self.old.store.disk }
     {
@@ -121,8 +124,8 @@ impl<D: Disk, R: Remember> Player<D, R> {
         Answer::Done
     }
 
-    // A request. A file that was opened for it is held by its body, or closed again.
-    fn request(&mut self, request: &Request<Octets>, now: Moment) -> Result<Answer, NoMemory>
+    /// A request, as its step is answered. A file that was opened for it is held by its body, or closed again.
+    pub fn request(&mut self, request: &Request<Octets>, now: Moment) -> Result<Answer, NoMemory>
         requires { self.old.replies + 1 < 2 ^ 32 }
         ensures done { Stepped (stage_of self.old) (Asks request.now now) result (stage_of self.new) }
         ensures loan { D.loan self.new.store.disk ≡ D.loan self.old.store.disk }
@@ -152,15 +155,25 @@ impl<D: Disk, R: Remember> Player<D, R> {
         }
     }
 
-    // The next piece of a body. Its memory is taken before the disk is asked.
+    // The next piece of a body.
     fn poll(&mut self, body: u32) -> Result<Answer, NoMemory>
+        ensures done { Stepped (stage_of self.old) (Poll body) result (stage_of self.new) }
+        ensures loan { D.loan self.new.store.disk ≡ D.loan self.old.store.disk }
+    {
+        let mut spare = Vec::new(self.alloc);
+        self.poll_over(body, &mut spare)
+    }
+
+    /// The next piece of a body, as its step is answered. Its memory is that of `spare`, which has none then, and more
+    /// where that isn't enough; it is taken before the disk is asked.
+    pub fn poll_over(&mut self, body: u32, spare: &mut Vec<u8>) -> Result<Answer, NoMemory>
         ensures done { Stepped (stage_of self.old) (Poll body) result (stage_of self.new) }
         ensures loan { D.loan self.new.store.disk ≡ D.loan self.old.store.disk }
     {
         let Some(open) = open_body(&self.bodies, body) else {
             return Ok(Answer::End);
         };
-        let Ok(room) = Vec::with_capacity(self.alloc, open.next_most()) else {
+        let Ok(room) = open.make_room(mem::replace(spare, Vec::new(self.alloc))) else {
             return Err(NoMemory);
         };
         let answer = poll_body(&mut self.bodies, &mut self.store, body, room);

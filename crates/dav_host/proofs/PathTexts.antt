@@ -21,14 +21,16 @@ path_more root names i d name text before after lt at is b e =
     ∙ ap (λ t. root ++ t) (sym (below_more (take i names) name) ∙ ap below (ap (λ x. take i names ++ x ∷ []) at ∙ sym (take_more names i d lt)))
 
 -- What was appended and fits makes no text longer than the room.
-pub fits_more : (before text after : List ℕ) → after ≡ before ++ 47 ∷ text → nat_le (length before + (1 + length text)) room ≡ true → length after ≤ room
+pub fits_more : (before text after : List ℕ) → after ≡ before ++ 47 ∷ text → nat_le (length before + (1 + length text)) room ≡ true
+    → length after ≤ room
 fits_more before text after e fits = omega (arith, leb-true _ _ fits, ap length e, length-append before (47 ∷ text))
 
 below_front : (names : Names) (i : ℕ) → length (below (take i names)) ≤ length (below names)
 below_front [] zero = omega arith
 below_front [] (suc i) = omega arith
 below_front (n ∷ names) zero = omega arith
-below_front (n ∷ names) (suc i) = omega (arith, below_front names i, length-append (47 ∷ n) (below (take i names)), length-append (47 ∷ n) (below names))
+below_front (n ∷ names) (suc i) =
+    omega (arith, below_front names i, length-append (47 ∷ n) (below (take i names)), length-append (47 ∷ n) (below names))
 
 -- Fewer names have no longer a text.
 no_longer : (root : List ℕ) (names : Names) (i : ℕ) → length (host_path root (take i names)) ≤ length (host_path root names)
@@ -39,7 +41,8 @@ over_room n over = grind (arith, nat_tests)
 
 -- With a name more it is too long.
 pub too_long : (root : List ℕ) (names : Names) (i : ℕ) (d name text before : List ℕ) → i < length names → name ≡ get_or names i d → text ≡ name
-    → before ≡ host_path root (take i names) → nat_le (length before + (1 + length text)) room ≡ false → nat_le (length (host_path root names)) room ≡ false
+    → before ≡ host_path root (take i names) → nat_le (length before + (1 + length text)) room ≡ false
+    → nat_le (length (host_path root names)) room ≡ false
 too_long root names i d name text before lt at is b over =
     let more = ap length (path_more root names i d name text before (before ++ 47 ∷ text) lt at is b refl) in
     over_room (length (host_path root names)) (omega (arith, leb-false _ _ over, more, no_longer root names (i + 1), length-append before (47 ∷ text)))

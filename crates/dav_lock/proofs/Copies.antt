@@ -16,7 +16,8 @@ abbrev pub held : List Open → Forest → Forest
 held [] f = f
 held (o ∷ os) f = joined o.before (then (around o.element (held os f)) (forest_of o.behind.now))
 
-pub held-append : (os : List Open) (o : Open) (f : Forest) → held (os ++ o ∷ []) f ≡ held os (joined o.before (then (around o.element f) (forest_of o.behind.now)))
+pub held-append : (os : List Open) (o : Open) (f : Forest)
+    → held (os ++ o ∷ []) f ≡ held os (joined o.before (then (around o.element f) (forest_of o.behind.now)))
 held-append [] o f = refl
 held-append (p ∷ os) o f = ap (λ g. joined p.before (then (around p.element g) (forest_of p.behind.now))) (held-append os o f)
 
@@ -29,17 +30,22 @@ joined-bare bare = refl
 joined-bare (then t ts) = ap (then t) (joined-bare ts)
 
 -- a node that is no element is copied
-pub leaf_step : (os : List Open) (d f : Forest) (left behind : List XmlNode) (x : XmlNode) → left ≡ x ∷ behind → held os (joined d (forest_of left)) ≡ f → held os (joined (joined d (then (tree_of x) bare)) (forest_of behind)) ≡ f
-leaf_step os d f left behind x step h = ap (held os) (joined_then d (tree_of x) (forest_of behind)) ∙ subst (λ (xs : List XmlNode). held os (joined d (forest_of xs)) ≡ f) step h
+pub leaf_step : (os : List Open) (d f : Forest) (left behind : List XmlNode) (x : XmlNode) → left ≡ x ∷ behind
+    → held os (joined d (forest_of left)) ≡ f → held os (joined (joined d (then (tree_of x) bare)) (forest_of behind)) ≡ f
+leaf_step os d f left behind x step h =
+    ap (held os) (joined_then d (tree_of x) (forest_of behind)) ∙ subst (λ (xs : List XmlNode). held os (joined d (forest_of xs)) ≡ f) step h
 
 -- an element is opened
-pub open_step : (os all : List Open) (o : Open) (f children : Forest) (left : List XmlNode) (x : XmlNode) → all ≡ os ++ o ∷ [] → left ≡ x ∷ o.behind.now → tree_of x ≡ around o.element children → held os (joined o.before (forest_of left)) ≡ f → held all (joined bare children) ≡ f
+pub open_step : (os all : List Open) (o : Open) (f children : Forest) (left : List XmlNode) (x : XmlNode) → all ≡ os ++ o ∷ []
+    → left ≡ x ∷ o.behind.now → tree_of x ≡ around o.element children → held os (joined o.before (forest_of left)) ≡ f
+    → held all (joined bare children) ≡ f
 open_step os all o f children left x pushed step is h =
     ap (λ ps. held ps children) pushed ∙ held-append os o children ∙ ap (λ t. held os (joined o.before (then t (forest_of o.behind.now)))) (sym is)
     ∙ subst (λ (xs : List XmlNode). held os (joined o.before (forest_of xs)) ≡ f) step h
 
 -- the innermost open element is closed
-pub close_step : (os all : List Open) (o : Open) (d f : Forest) (left : List XmlNode) → all ≡ os ++ o ∷ [] → left ≡ [] → held all (joined d (forest_of left)) ≡ f → held os (joined (joined o.before (then (around o.element d) bare)) (forest_of o.behind.now)) ≡ f
+pub close_step : (os all : List Open) (o : Open) (d f : Forest) (left : List XmlNode) → all ≡ os ++ o ∷ [] → left ≡ []
+    → held all (joined d (forest_of left)) ≡ f → held os (joined (joined o.before (then (around o.element d) bare)) (forest_of o.behind.now)) ≡ f
 close_step os all o d f left popped none h =
     ap (held os) (joined_then o.before (around o.element d) (forest_of o.behind.now)) ∙ sym (held-append os o d) ∙ ap (λ g. held (os ++ o ∷ []) g) (sym (joined-bare d))
     ∙ subst (λ (ps : List Open). held ps (joined d bare) ≡ f) popped (subst (λ (xs : List XmlNode). held all (joined d (forest_of xs)) ≡ f) none h)
@@ -58,10 +64,12 @@ pub open_weight-append : (os : List Open) (o : Open) → open_weight (os ++ o �
 open_weight-append [] o = omega arith
 open_weight-append (p ∷ os) o = omega (arith, open_weight-append os o)
 
-pub opens_less : (os all : List Open) (o : Open) (children : Forest) (left : List XmlNode) (x : XmlNode) → all ≡ os ++ o ∷ [] → left ≡ x ∷ o.behind.now → tree_of x ≡ around o.element children → open_weight all + weight children < open_weight os + weight (forest_of left)
+pub opens_less : (os all : List Open) (o : Open) (children : Forest) (left : List XmlNode) (x : XmlNode) → all ≡ os ++ o ∷ []
+    → left ≡ x ∷ o.behind.now → tree_of x ≡ around o.element children → open_weight all + weight children < open_weight os + weight (forest_of left)
 opens_less os all o children left x pushed step is = rw (pushed, step, is) (omega (arith, open_weight-append os o))
 
-pub closes_less : (os all : List Open) (o : Open) (left : List XmlNode) → all ≡ os ++ o ∷ [] → left ≡ [] → open_weight os + weight (forest_of o.behind.now) < open_weight all + weight (forest_of left)
+pub closes_less : (os all : List Open) (o : Open) (left : List XmlNode) → all ≡ os ++ o ∷ [] → left ≡ []
+    → open_weight os + weight (forest_of o.behind.now) < open_weight all + weight (forest_of left)
 closes_less os all o left popped none = rw (popped, none) (omega (arith, open_weight-append os o))
 
 pub none_left : (xs : List XmlNode) → length xs ≡ 0 → xs ≡ []

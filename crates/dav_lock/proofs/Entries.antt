@@ -11,12 +11,14 @@ use Rattle.dav_lock.specs.Pairs.{Table, text_order}
 abbrev pub Entry : Type 0
 Entry = List ℕ × List ℕ
 
-below_middle : (first : Entry) (es : Table) (e : Entry) (more : Table) → AllByRecursion (λ y. text_order first.0 y ≡ Less) (keys_of (es ++ e ∷ more)) → text_order first.0 e.0 ≡ Less
+below_middle : (first : Entry) (es : Table) (e : Entry) (more : Table) → AllByRecursion (λ y. text_order first.0 y ≡ Less) (keys_of (es ++ e ∷ more))
+    → text_order first.0 e.0 ≡ Less
 below_middle first [] e more h = h.0
 below_middle first (x ∷ es) e more h = below_middle first es e more h.1
 
 -- a key that is above those before it goes last
-pub put_last : (done : Table) (e : Entry) (more : Table) → IsStrictlySortedBy text_order (keys_of (done ++ e ∷ more)) → insert_entry text_order done e.0 e.1 ≡ done ++ e ∷ []
+pub put_last : (done : Table) (e : Entry) (more : Table) → IsStrictlySortedBy text_order (keys_of (done ++ e ∷ more))
+    → insert_entry text_order done e.0 e.1 ≡ done ++ e ∷ []
 unfolding IsStrictlySortedBy
 put_last [] e more h = refl
 put_last (first ∷ done) e more h =
@@ -24,7 +26,8 @@ put_last (first ∷ done) e more h =
     rw above (ap (λ es. first ∷ es) (put_last done e more h.1))
 
 -- one more entry of the list is in the copy
-pub copied : (all copy more left rest : Table) (e : Entry) → IsStrictlySortedBy text_order (keys_of all) → all ≡ copy ++ left → left ≡ e ∷ rest → more ≡ insert_entry text_order copy e.0 e.1 → all ≡ more ++ rest
+pub copied : (all copy more left rest : Table) (e : Entry) → IsStrictlySortedBy text_order (keys_of all) → all ≡ copy ++ left → left ≡ e ∷ rest
+    → more ≡ insert_entry text_order copy e.0 e.1 → all ≡ more ++ rest
 copied all copy more left rest e sorted shown step put =
     let parts : all ≡ copy ++ e ∷ rest = shown ∙ ap (λ es. copy ++ es) step in
     let last = put_last copy e rest (subst (λ es. IsStrictlySortedBy text_order (keys_of es)) parts sorted) in

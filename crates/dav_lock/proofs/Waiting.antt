@@ -46,7 +46,8 @@ pub record Appended (xs ys new rest : List XmlNode) : Type 0 where
   pub weighs : weight (forest_of new) ≤ weight (forest_of xs) + weight (forest_of ys)
   pub left : height (forest_of rest) ≤ height (forest_of ys)
 
-pub appended : (b : Bool) (xs ys new rest : List XmlNode) → new ≡ (if b then xs ++ ys else xs) → rest ≡ (if b then [] else ys) → Appended xs ys new rest
+pub appended : (b : Bool) (xs ys new rest : List XmlNode) → new ≡ (if b then xs ++ ys else xs) → rest ≡ (if b then [] else ys)
+    → Appended xs ys new rest
 appended true xs ys new rest n r = rw (n, r) (record {
   waits = omega (arith, height-append xs ys);
   weighs = omega (arith, weight-append xs ys);

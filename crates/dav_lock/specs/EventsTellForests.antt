@@ -9,14 +9,17 @@ joined-bare bare = refl
 joined-bare (then t ts) = ap (then t) (joined-bare ts)
 
 mutual
-  open_at-events : (f : Forest) (es : List Event) (g : Forest) (fs : List Forest) → open_at es ≡ g ∷ fs → open_at (events f es) ≡ joined f g ∷ fs
+  open_at-events : (f : Forest) (es : List Event) (g : Forest) (fs : List Forest) → open_at es ≡ g ∷ fs
+      → open_at (events f es) ≡ joined f g ∷ fs
   open_at-events bare es g fs h = h
   open_at-events (then t ts) es g fs h = open_at-tree t (events ts es) (joined ts g) fs (open_at-events ts es g fs h)
 
-  open_at-tree : (t : Tree) (es : List Event) (g : Forest) (fs : List Forest) → open_at es ≡ g ∷ fs → open_at (tree_events t es) ≡ then t g ∷ fs
+  open_at-tree : (t : Tree) (es : List Event) (g : Forest) (fs : List Forest) → open_at es ≡ g ∷ fs
+      → open_at (tree_events t es) ≡ then t g ∷ fs
   open_at-tree (element prefix namespace namespaces name attributes children) es g fs h =
       ap (put_element (prefix, (namespace, (namespaces, (name, attributes)))))
-      (open_at-events children (inl None ∷ es) bare (g ∷ fs) (ap (λ s. bare ∷ s) h)) ∙ ap (λ c. then (element prefix namespace namespaces name attributes c) g ∷ fs) (joined-bare children)
+      (open_at-events children (inl None ∷ es) bare (g ∷ fs) (ap (λ s. bare ∷ s) h))
+      ∙ ap (λ c. then (element prefix namespace namespaces name attributes c) g ∷ fs) (joined-bare children)
   open_at-tree (text t) es g fs h = ap (put_first (text t)) h
   open_at-tree (comment t) es g fs h = ap (put_first (comment t)) h
   open_at-tree (cdata t) es g fs h = ap (put_first (cdata t)) h

@@ -14,7 +14,9 @@ table_code = coded_list (coded× text_code text_code)
 
 abbrev pub event_code : Coded Event
 event_code =
-    coded⊎ (coded_option (coded× (coded_option text_code) (coded× (coded_option text_code) (coded× (coded_option table_code) (coded× text_code table_code)))))
+    coded⊎
+    (coded_option (coded× (coded_option text_code)
+    (coded× (coded_option text_code) (coded× (coded_option table_code) (coded× text_code table_code)))))
     (coded× coded_ℕ (coded× text_code (coded_option text_code)))
 
 abbrev pub forest_code : Coded Forest

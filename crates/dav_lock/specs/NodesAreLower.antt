@@ -1,4 +1,5 @@
--- What stands in a node is less high than the node: the law that the measure of nodes cites, so it stands among the definitions.
+-- What stands in a node is less high than the node: the law that the measure of nodes cites, so it stands among the
+-- definitions.
 use Rattle.std.specs.Prelude.{◌≤◌, max, List, [], ◌∷◌}
 use Rattle.std.proofs.Common.{arith}
 use denote.Param.Weighed.{most}

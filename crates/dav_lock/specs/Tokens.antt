@@ -17,7 +17,9 @@ scope_of false = codes "E"
 
 -- the token of a lock
 abbrev pub token_of : List ℕ → Bool → Bool → List ℕ
-token_of id deep shared = codes "opaquetoken:" ++ (hyphenated_text lower id ++ (codes "/" ++ (depth_of deep ++ (codes "/" ++ scope_of shared))))
+token_of id deep shared =
+    codes "opaquetoken:"
+    ++ (hyphenated_text lower id ++ (codes "/" ++ (depth_of deep ++ (codes "/" ++ scope_of shared))))
 
 -- a text up to its first slash, and what follows it
 abbrev pub first_part : List ℕ → List ℕ
@@ -47,4 +49,6 @@ granted (Some lease) = cond (nat_lt 120 lease.secs) longest lease
 
 -- when a lease ends, where a moment can tell it
 abbrev pub ends_at : Moment → Lease → Option Moment
-ends_at now lease = let at = now.0 + (lease.secs * 1000000000 + lease.nanos) in cond (nat_lt at 18446744073709551616) (Some (record { 0 = at })) None
+ends_at now lease =
+    let at = now.0 + (lease.secs * 1000000000 + lease.nanos) in
+    cond (nat_lt at 18446744073709551616) (Some (record { 0 = at })) None

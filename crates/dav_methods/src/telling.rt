@@ -86,6 +86,8 @@ fn words_told(
         DavMethod::Get,
         DavMethod::Put,
         DavMethod::MkCol,
+        DavMethod::Copy,
+        DavMethod::Move,
         DavMethod::Delete,
         DavMethod::MkCalendar,
         DavMethod::MkAddressbook,

@@ -324,7 +324,7 @@ allowing_some allow void =
     let words : Fits (join_by (λ word. word) (codes ",") (words_told allow void)) =
     joined_fits (codes ",") (words_told allow void) (record { all = refl })
     (some_fit (is_told allow void) answered
-    (record { all = refl }, (record { all = refl }, (record { all = refl }, (record { all = refl }, (record { all = refl }, (record { all = refl }, (record { all = refl }, (record { all = refl }, tt))))))))) in
+    (record { all = refl }, (record { all = refl }, (record { all = refl }, (record { all = refl }, (record { all = refl }, (record { all = refl }, (record { all = refl }, (record { all = refl }, (record { all = refl }, (record { all = refl }, tt))))))))))) in
     skip (codes "accept-ranges") from_allow (allowing allow void).fields
     (next (codes "allow") (join_by (λ word. word) (codes ",") (words_told allow void)) from_cache lengths refl words
     (skip (codes "cache-control") from_connection lengths (skip (codes "connection") from_length lengths

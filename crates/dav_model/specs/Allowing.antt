@@ -2,7 +2,7 @@
 use Rattle.std.specs.Prelude.{◌&&◌, ℕ, List, [], ◌∷◌, Bool, cond, codes, get_or, map, Option}
 use Rattle.std.specs.List.{filter, join_by}
 use Rattle.dav_core.specs.declared.method.DavMethod.{DavMethod}
-use Rattle.dav_core.specs.declared.method.DavMethod.TheVariants.{Delete, Get, Head, MkAddressbook, MkCalendar, MkCol, Options, Put}
+use Rattle.dav_core.specs.declared.method.DavMethod.TheVariants.{Copy, Delete, Get, Head, MkAddressbook, MkCalendar, MkCol, Move, Options, Put}
 use Rattle.dav_core.specs.declared.method.DavMethodSet.{DavMethodSet}
 use Rattle.dav_core.specs.Methods.{place, same_method, words}
 use Rattle.dav_model.specs.Gates.{in_allowed}
@@ -10,7 +10,7 @@ use Rattle.dav_model.specs.Head.{Reply, field}
 
 -- the methods that are answered, in the order in which they are told
 abbrev pub answered : List DavMethod
-answered = Options ∷ Head ∷ Get ∷ Put ∷ MkCol ∷ Delete ∷ MkCalendar ∷ MkAddressbook ∷ []
+answered = Options ∷ Head ∷ Get ∷ Put ∷ MkCol ∷ Copy ∷ Move ∷ Delete ∷ MkCalendar ∷ MkAddressbook ∷ []
 
 -- the word of a method
 abbrev pub word_of : DavMethod → List ℕ

@@ -13,7 +13,7 @@ use Rattle.dav_core.specs.declared.etag_list.EtagList.TheVariants.{Any, Tags}
 use Rattle.dav_core.specs.declared.if_range.IfRange.{IfRange}
 use Rattle.dav_core.specs.declared.if_range.IfRange.TheVariants.{Tag, Date}
 use Rattle.dav_core.specs.declared.method.DavMethod.{DavMethod}
-use Rattle.dav_core.specs.declared.method.DavMethod.TheVariants.{Delete, Get, Head, MkAddressbook, MkCalendar, MkCol, Put}
+use Rattle.dav_core.specs.declared.method.DavMethod.TheVariants.{Copy, Delete, Get, Head, MkAddressbook, MkCalendar, MkCol, Move, Put}
 use Rattle.dav_core.specs.declared.time.FileTime.{FileTime}
 
 -- the fields of a request
@@ -87,6 +87,8 @@ writes MkCol = true
 writes MkCalendar = true
 writes MkAddressbook = true
 writes Delete = true
+writes Copy = true
+writes Move = true
 writes other = false
 
 -- Steps 3 and 4: `if-none-match`, and without it, for a method that reads, `if-modified-since`, are false.

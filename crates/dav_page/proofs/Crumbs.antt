@@ -79,7 +79,8 @@ crumbs_next old text path names i name text₂ path₂ lt is are utf8 p t =
 pub crumbs_front : (at : List ℕ) (front : Names) (last : List ℕ) → crumbs_from at (front ++ last ∷ []) ≡ crumbs_at at front
 crumbs_front at [] last = refl
 crumbs_front at (name ∷ []) last = refl
-crumbs_front at (name ∷ next ∷ front) last = ap (λ l. record { path = at ++ slashed name; name = name } ∷ l) (crumbs_front (at ++ slashed name) (next ∷ front) last)
+crumbs_front at (name ∷ next ∷ front) last =
+    ap (λ l. record { path = at ++ slashed name; name = name } ∷ l) (crumbs_front (at ++ slashed name) (next ∷ front) last)
 
 pub last_is : (front : Names) (last : List ℕ) → last_name (front ++ last ∷ []) ≡ Some last
 last_is front last =

@@ -75,7 +75,9 @@ index_made dir all listed head rows texts h once order zip e =
     record {
       page = record { title = link_of (shown dir); crumbs = crumbs_from [] (all_names dir); last = last_name (all_names dir); rows = r.taken };
       reads = record {
-        utf8 = ap is_utf8 whole ∙ joined_utf8 head (flat_map (λ t. t) rows ++ after_rows) h.utf8 (joined_utf8 (flat_map (λ t. t) rows) after_rows r.utf8 end_utf8);
+        utf8 =
+            ap is_utf8 whole
+            ∙ joined_utf8 head (flat_map (λ t. t) rows ++ after_rows) h.utf8 (joined_utf8 (flat_map (λ t. t) rows) after_rows r.utf8 end_utf8);
         texts = page_texts;
         spells = whole ∙ ap₂ (λ a b. a ++ (b ++ after_rows)) front (ap (flat_map (λ t. t)) r.spells ∙ joined_rows r.texts)
             ∙ regroup before_title h.title before_heading (heading_text h.leads.texts h.leads.last) before_rows behind;

@@ -1,5 +1,5 @@
 -- What is shown of a time and of a size has the form that a reader takes.
-use Rattle.std.proofs.Common.{◌≡◌, ◌≤◌, ◌<◌, ◌+◌, ◌/◌, ◌%◌, ◌^◌, ◌==◌, ◌&&◌, ◌||◌, ℕ, pos, Bool, true, false, cond, List, [], ◌∷◌, ◌++◌, length, codes, Option, None, Some, refl, ap, ap₂, arith, ℤ, nat_lt, nat_le, if◌then◌else◌}
+use Rattle.std.proofs.Common.{◌≡◌, ◌≤◌, ◌<◌, ◌+◌, ◌/◌, ◌%◌, ◌^◌, ◌==◌, ◌&&◌, ◌||◌, ℕ, pos, Bool, true, false, cond, List, [], ◌∷◌, ◌++◌, length, codes, Option, None, Some, refl, ap₂, arith, ℤ, nat_lt, nat_le, if◌then◌else◌}
 use Rattle.std.specs.Char.{is_digit, digit_value}
 use Rattle.std.specs.Fmt.{decimal}
 use Rattle.std.specs.List.{filter, last_or, list_all}
@@ -58,9 +58,6 @@ decimal_digits n h = let p = (decimal_is_IsNumeral n h).0 in ap₂ (λ x y. x &&
     some : (k : ℕ) → 0 < k → nat_lt 0 k ≡ true
     some k h = grind (arith, nat_tests)
 
-one_digit : (n : ℕ) → n < 10 → length (decimal n) ≡ 1
-one_digit n h = ap length (decimal_digit n h)
-
 -- hundredths behind a point are a fraction
 fraction_is : (h : ℕ) → h < 100 → is_fraction (fraction h) ≡ true
 fraction_is h small = by_zero (h == 0) (h % 10 == 0)
@@ -95,16 +92,19 @@ units = refl
 unit_is : (size : ℕ) → is_unit (scale_of size).called ≡ true
 unit_is size = last_is (filter (λ s. nat_le s.bytes size && nat_lt size (2 ^ 60)) scales) None (kept scales units) refl
   where
-    kept : (all : List Scale) → list_all (λ s. is_unit s.called) all ≡ true → list_all (λ s. is_unit s.called) (filter (λ s. nat_le s.bytes size && nat_lt size (2 ^ 60)) all) ≡ true
+    kept : (all : List Scale) → list_all (λ s. is_unit s.called) all ≡ true
+        → list_all (λ s. is_unit s.called) (filter (λ s. nat_le s.bytes size && nat_lt size (2 ^ 60)) all) ≡ true
     kept [] e = refl
     kept (s ∷ all) e = let p = and_parts (is_unit s.called) (list_all (λ t. is_unit t.called) all) e in
         keeps (nat_le s.bytes size && nat_lt size (2 ^ 60)) s (filter (λ t. nat_le t.bytes size && nat_lt size (2 ^ 60)) all) p.0 (kept all p.1)
       where
-        keeps : (b : Bool) (t : Scale) (rest : List Scale) → is_unit t.called ≡ true → list_all (λ u. is_unit u.called) rest ≡ true → list_all (λ u. is_unit u.called) (cond b (t ∷ rest) rest) ≡ true
+        keeps : (b : Bool) (t : Scale) (rest : List Scale) → is_unit t.called ≡ true → list_all (λ u. is_unit u.called) rest ≡ true
+            → list_all (λ u. is_unit u.called) (cond b (t ∷ rest) rest) ≡ true
         keeps true t rest e f = ap₂ (λ x y. x && y) e f
         keeps false t rest e f = f
 
-    last_is : (all : List Scale) (o : Option Scale) → list_all (λ s. is_unit s.called) all ≡ true → is_unit (or_bytes o).called ≡ true → is_unit (or_bytes (last_or o all)).called ≡ true
+    last_is : (all : List Scale) (o : Option Scale) → list_all (λ s. is_unit s.called) all ≡ true → is_unit (or_bytes o).called ≡ true
+        → is_unit (or_bytes (last_or o all)).called ≡ true
     last_is [] o e f = f
     last_is (s ∷ all) o e f = let p = and_parts (is_unit s.called) (list_all (λ t. is_unit t.called) all) e in last_is all (Some s) p.1 p.0
 

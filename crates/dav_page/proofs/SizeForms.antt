@@ -13,9 +13,6 @@ pub number_found : (text whole fraction : List ℕ) → IsCut 46 text whole frac
     → IsNumber text
 number_found text whole fraction cut d f = record { whole = whole; fraction = fraction; spells = cut.spells; digits = d; point = f }
 
-pub digits_found : (text : List ℕ) → are_digits 10 text ≡ true → IsNumber text
-digits_found text d = record { whole = text; fraction = []; spells = sym (append-nil text); digits = d; point = refl }
-
 -- A number has no point, and is digits; or it is cut there.
 module _ (P : Type 0) (text : List ℕ) (bare : are_digits 10 text ≡ true → IsFreeOf 46 text → P)
     (pointed : (whole fraction : List ℕ) → IsCut 46 text whole fraction → are_digits 10 whole ≡ true → is_fraction fraction ≡ true → P) where
@@ -42,13 +39,6 @@ number_parts text whole fraction cut n =
     (subst (λ t. are_digits 10 t ≡ true) (sym once.0) d, subst (λ t. is_fraction t ≡ true) (sym once.1) p))
     n
 
--- Without a point it is digits.
-pub number_digits : (text : List ℕ) → IsFreeOf 46 text → IsNumber text → are_digits 10 text ≡ true
-number_digits text free n =
-    number_cases (are_digits 10 text ≡ true) text (λ d bare. d)
-    (λ w f cut d p. absurd (not_free 46 text w cut.more (cut.spells ∙ ap (λ z. w ++ z) cut.stops) free))
-    n
-
 -- What a reader answers of a number that was cut at its point.
 pub number_by : (text whole fraction : List ℕ) (d f : Bool) → IsCut 46 text whole fraction → d ≡ are_digits 10 whole → f ≡ is_fraction fraction
     → d ≡ true → (f ≡ true → IsNumber text) × (IsNumber text → f ≡ true)
@@ -58,10 +48,6 @@ number_by text whole fraction d f cut ds fs is =
 pub number_not : (text whole fraction : List ℕ) (d : Bool) → IsCut 46 text whole fraction → d ≡ are_digits 10 whole → d ≡ false → IsNumber text → ⊥
 number_not text whole fraction d cut ds isnt n =
     let bad : true ≡ false = sym (number_parts text whole fraction cut n).0 ∙ (sym ds ∙ isnt) in cc
-
--- And of a text without a point.
-pub number_bare : (text : List ℕ) (d : Bool) → IsFreeOf 46 text → d ≡ are_digits 10 text → (d ≡ true → IsNumber text) × (IsNumber text → d ≡ true)
-number_bare text d free ds = (λ e. digits_found text (sym ds ∙ e), λ n. ds ∙ number_digits text free n)
 
 -- A number, a blank and a unit are an amount.
 pub amount_found : (text number rest unit : List ℕ) → IsCut 32 text number rest → rest ≡ codes " " ++ unit → IsNumber number
@@ -108,7 +94,3 @@ pub amount_not : (text number rest unit : List ℕ) (n : Bool) → IsCut 32 text
     → (n ≡ true → IsNumber number) × (IsNumber number → n ≡ true) → n ≡ false → IsAmount text → ⊥
 amount_not text number rest unit n cut at ns isnt a =
     let bad : true ≡ false = sym (ns.1 (amount_parts text number rest unit cut at a).0) ∙ isnt in cc
-
--- Without a blank there is none.
-pub no_amount : (text : List ℕ) → IsFreeOf 32 text → IsAmount text → ⊥
-no_amount text free a = let cut = amount_cut text a in not_free 32 text (a.whole ++ a.fraction) a.unit cut.spells free

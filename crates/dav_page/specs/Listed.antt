@@ -1,5 +1,5 @@
 -- What a page of a directory shows.
-use Rattle.std.specs.Prelude.{◌≡◌, ◌⊎◌, ◌==◌, ◌/◌, ◌%◌, ℕ, List, [], ◌∷◌, ◌++◌, Bool, true, false, not, cond, codes, pos, Option, None, Some}
+use Rattle.std.specs.Prelude.{◌≡◌, ◌==◌, ◌/◌, ◌%◌, ℕ, List, [], ◌∷◌, ◌++◌, Bool, true, false, not, cond, codes, pos, Option, None, Some}
 use Rattle.std.specs.List.{AllByRecursion, AllZip, filter}
 use Rattle.std.specs.List.Sorted.{IsPermutation, IsSortedByKey}
 use Rattle.std.specs.Cmp.Lexicographic.{slice_cmp}
@@ -67,16 +67,6 @@ pub record AreRows (dir : WebPath) (all : List Member) (rows : List PageRow) : T
   pub each_once : IsPermutation (filter is_visible all) listed
   pub in_order : IsSortedByKey place_of (slice_cmp nat_cmp) listed
   pub shown : AllZip (IsRowOf dir) listed rows
-
--- Of the second list items are left out to give the first.
-abbrev pub IsLeft : {A : Type 0} → List A → List A → Type 0
-IsLeft [] all = Unit {0}
-IsLeft (x ∷ xs) [] = ⊥
-IsLeft (x ∷ xs) (y ∷ ys) = ((x ≡ y) × IsLeft xs ys) ⊎ IsLeft (x ∷ xs) ys
-
--- Rows are left out where the disk failed.
-abbrev pub AreSomeRows : WebPath → List Member → List PageRow → Type 0
-AreSomeRows dir all rows = (whole : List PageRow) × AreRows dir all whole × IsLeft rows whole
 
 abbrev pub has_plain_name : Member → Bool
 has_plain_name m = is_plain m.name

@@ -1,4 +1,5 @@
--- What is a page, from its reader's side: which texts are pages, and what a reader takes from them. Nothing here writes one.
+-- What is a page, from its reader's side: which texts are pages, and what a reader takes from them. Nothing here writes
+-- one.
 use Rattle.std.specs.Prelude.{◌≡◌, ◌⊎◌, ◌==◌, ◌&&◌, ◌||◌, ℕ, List, [], ◌∷◌, ◌++◌, length, map, Bool, true, false, codes, nat_le, Option, None, Some, if◌then◌else◌}
 use Rattle.std.specs.List.{AllZip, flat_map, list_any}
 use Rattle.std.specs.Char.{is_ascii_alphanumeric, is_digit}
@@ -34,7 +35,8 @@ pub record StandsFor (marks text shown : List ℕ) : Type 0 where
 abbrev pub IsTitle : List ℕ → List ℕ → Type 0
 IsTitle text title = StandsFor (codes "<") text title
 
--- A name begins no tag, ends none and ends no value in quotes. (It may hold `'`: no value of a page is in single quotes.)
+-- A name begins no tag, ends none and ends no value in quotes. (It may hold `'`: no value of a page is in single
+-- quotes.)
 abbrev pub IsName : List ℕ → List ℕ → Type 0
 IsName text name = StandsFor (codes "<>\"") text name
 
@@ -66,7 +68,8 @@ abbrev pub is_date : List ℕ → Bool
 is_date text = bytes_eq text [] || pointwise fits (codes "0000-00-00 00:00") text
 
 abbrev pub is_unit : List ℕ → Bool
-is_unit text = list_any (bytes_eq text) (codes "B" ∷ codes "KiB" ∷ codes "MiB" ∷ codes "GiB" ∷ codes "TiB" ∷ codes "PiB" ∷ [])
+is_unit text =
+    list_any (bytes_eq text) (codes "B" ∷ codes "KiB" ∷ codes "MiB" ∷ codes "GiB" ∷ codes "TiB" ∷ codes "PiB" ∷ [])
 
 -- nothing, or a point and one digit or two
 abbrev pub is_fraction : List ℕ → Bool
@@ -154,7 +157,8 @@ lines_of lines = flat_map (λ line. line ++ codes "\n") lines
 
 abbrev pub before_title : List ℕ
 before_title =
-    lines_of (codes "<!DOCTYPE html>" ∷ codes "<html><head>" ∷ codes "<meta name=\"referrer\" content=\"no-referrer\" />" ∷ [])
+    lines_of (codes "<!DOCTYPE html>" ∷ codes "<html><head>"
+    ∷ codes "<meta name=\"referrer\" content=\"no-referrer\" />" ∷ [])
     ++ codes "<title>Index of "
 
 -- the style sheet

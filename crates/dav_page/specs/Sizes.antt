@@ -12,7 +12,8 @@ scale bytes called = record { bytes = bytes; called = called }
 
 abbrev pub scales : List Scale
 scales =
-    scale 1 (codes "B") ∷ scale (1024 ^ 1) (codes "KiB") ∷ scale (1024 ^ 2) (codes "MiB") ∷ scale (1024 ^ 3) (codes "GiB")
+    scale 1 (codes "B") ∷ scale (1024 ^ 1) (codes "KiB") ∷ scale (1024 ^ 2) (codes "MiB")
+    ∷ scale (1024 ^ 3) (codes "GiB")
     ∷ scale (1024 ^ 4) (codes "TiB") ∷ scale (1024 ^ 5) (codes "PiB") ∷ []
 
 abbrev pub or_bytes : Option Scale → Scale
@@ -29,7 +30,8 @@ hundredths n d = (2 * 100 * n + d) / (2 * d)
 
 -- hundredths behind a point, without zeros at the end
 abbrev pub fraction : ℕ → List ℕ
-fraction h = cond (h == 0) [] (codes "." ++ cond (h % 10 == 0) (decimal (h / 10)) (decimal (h / 10) ++ decimal (h % 10)))
+fraction h =
+    cond (h == 0) [] (codes "." ++ cond (h % 10 == 0) (decimal (h / 10)) (decimal (h / 10) ++ decimal (h % 10)))
 
 abbrev pub amount : ℕ → List ℕ → List ℕ
 amount h called = decimal (h / 100) ++ (fraction (h % 100) ++ (codes " " ++ called))

@@ -27,7 +27,8 @@ not_false false e = refl
 abbrev IsFound : List Row → Row → Type 0
 IsFound tree row = row_at tree row.path ≡ Some row
 
-behind : (first : Row) (tree rows : List Row) → is_free rows first ≡ true → AllByRecursion (IsFound tree) rows → AllByRecursion (IsFound (first ∷ tree)) rows
+behind : (first : Row) (tree rows : List Row) → is_free rows first ≡ true → AllByRecursion (IsFound tree) rows
+    → AllByRecursion (IsFound (first ∷ tree)) rows
 behind first tree [] free all = tt
 behind first tree (row ∷ rows) free all =
     let p = and_parts (not (same_names row.path first.path) && not (row.number == first.number)) (is_free rows first) free in
@@ -70,7 +71,8 @@ dir_kind Dir found row e = (refl, e)
 dir_kind File found row e = cc
 dir_kind Link found row e = cc
 
-below_some : (o : Option Row) (found : Result Row DiskError) (row : Row) → below o found ≡ Ok row → (at : Row) × (o ≡ Some at) × (at.kind ≡ Dir) × (found ≡ Ok row)
+below_some : (o : Option Row) (found : Result Row DiskError) (row : Row) → below o found ≡ Ok row
+    → (at : Row) × (o ≡ Some at) × (at.kind ≡ Dir) × (found ≡ Ok row)
 below_some None found row e = cc
 below_some (Some at) found row e = let p = dir_kind at.kind found row e in (at, refl, p.0, p.1)
 
@@ -106,21 +108,25 @@ pub record StandsIn (tree : List Row) (dir : Names) (row : Row) : Type 0 where
   pub path : row.path ≡ dir ++ name_of row ∷ []
   pub found : look tree (dir ++ name_of row ∷ []) ≡ Ok row
 
-choose : {X : Type 0} (Q : X → Type 0) (b : Bool) (x : X) (xs : List X) → (b ≡ true → Q x) → AllByRecursion Q xs → AllByRecursion Q (cond b (x ∷ xs) xs)
+choose : {X : Type 0} (Q : X → Type 0) (b : Bool) (x : X) (xs : List X) → (b ≡ true → Q x) → AllByRecursion Q xs
+    → AllByRecursion Q (cond b (x ∷ xs) xs)
 choose Q true x xs h all = (h refl, all)
 choose Q false x xs h all = all
 
-filtered : {X : Type 0} (p : X → Bool) (P Q : X → Type 0) → ((x : X) → p x ≡ true → P x → Q x) → (xs : List X) → AllByRecursion P xs → AllByRecursion Q (filter p xs)
+filtered : {X : Type 0} (p : X → Bool) (P Q : X → Type 0) → ((x : X) → p x ≡ true → P x → Q x) → (xs : List X) → AllByRecursion P xs
+    → AllByRecursion Q (filter p xs)
 filtered p P Q h [] all = tt
 filtered p P Q h (x ∷ xs) all = choose Q (p x) x (filter p xs) (λ e. h x e all.0) (filtered p P Q h xs all.1)
 
-stands_by : (tree : List Row) (dir : Names) (at row : Row) → look tree dir ≡ Ok at → at.kind ≡ Dir → stands_in dir row ≡ true → IsFound tree row → StandsIn tree dir row
+stands_by : (tree : List Row) (dir : Names) (at row : Row) → look tree dir ≡ Ok at → at.kind ≡ Dir → stands_in dir row ≡ true → IsFound tree row
+    → StandsIn tree dir row
 stands_by tree dir at row looked kind stands found =
     let path = named dir row stands in
     record { path = path; found = child_from tree [] dir (name_of row) at row looked kind (ap (row_at tree) (sym path) ∙ found) }
 
 -- the rows in a directory of a tree
-pub rows_stand : (tree : List Row) (dir : Names) (at : Row) → is_tree tree ≡ true → look tree dir ≡ Ok at → at.kind ≡ Dir → AllByRecursion (StandsIn tree dir) (filter (stands_in dir) tree)
+pub rows_stand : (tree : List Row) (dir : Names) (at : Row) → is_tree tree ≡ true → look tree dir ≡ Ok at → at.kind ≡ Dir
+    → AllByRecursion (StandsIn tree dir) (filter (stands_in dir) tree)
 rows_stand tree dir at is looked kind =
     let parts = and_parts (has_dir tree []) _ is in
     let apart = (and_parts _ (is_apart tree) parts.1).1 in

@@ -8,7 +8,8 @@ use Rattle.dav_core.specs.Path.{Names}
 use Rattle.dav_core.specs.Unchanged.{Keeps, SameBesidesOpens, SameListing, SameOpen}
 use Rattle.dav_core.proofs.UnchangedLemmas.{same_besides}
 
-pub metas_keep : (follows : Bool) (s : DiskState) (path : Names) (answer : Result Meta DiskError) (t : DiskState) → MetasBy follows s path answer t → Keeps s t
+pub metas_keep : (follows : Bool) (s : DiskState) (path : Names) (answer : Result Meta DiskError) (t : DiskState) → MetasBy follows s path answer t
+    → Keeps s t
 metas_keep follows s path answer t metas = record {
   counts = metas.asks.counts;
   asked = metas.asks.more;

@@ -108,15 +108,18 @@ said_later w path from a b (Ok info) le s = s
 said_later w path from a b (Err e) le (inl refused) = inl refused
 said_later w path from a b (Err e) le (inr rose) = inr (rose_on from a b rose le)
 
-all_later : (w : World) (dir : Names) (from a b : ℕ) (answers : List Answered) → a ≤ b → AllByRecursion (IsTold w dir from a) answers → AllByRecursion (IsTold w dir from b) answers
+all_later : (w : World) (dir : Names) (from a b : ℕ) (answers : List Answered) → a ≤ b → AllByRecursion (IsTold w dir from a) answers
+    → AllByRecursion (IsTold w dir from b) answers
 all_later w dir from a b [] le all = tt
-all_later w dir from a b (x ∷ answers) le all = (λ linked. said_later w (dir ++ x.name ∷ []) from a b x.meta le (all.0 linked), all_later w dir from a b answers le all.1)
+all_later w dir from a b (x ∷ answers) le all =
+    (λ linked. said_later w (dir ++ x.name ∷ []) from a b x.meta le (all.0 linked), all_later w dir from a b answers le all.1)
 
 all_push : (P : Answered → Type 0) (xs : List Answered) (x : Answered) → AllByRecursion P xs → P x → AllByRecursion P (xs ++ x ∷ [])
 all_push P [] x all last = (last, tt)
 all_push P (y ∷ xs) x all last = (all.0, all_push P xs x all.1 last)
 
-said_err : (d : DiskError) (w x : World) (path : Names) (from : ℕ) (s t : DiskState) → MayRefuseMeta d → Refused d (look x.tree path) → x.tree ≡ w.tree → Asks {T = Meta} (Err d) s t
+said_err : (d : DiskError) (w x : World) (path : Names) (from : ℕ) (s t : DiskState) → MayRefuseMeta d → Refused d (look x.tree path)
+    → x.tree ≡ w.tree → Asks {T = Meta} (Err d) s t
     → from ≤ s.faults → SaidOf w path from t.faults (Err (fs_error_of d))
 said_err NotFound w x path from s t may r tree asks le = inl (NotFound, ap (λ rows. look rows path) (sym tree) ∙ r)
 said_err NotDir w x path from s t may r tree asks le = inl (NotDir, ap (λ rows. look rows path) (sym tree) ∙ r)
@@ -154,7 +157,8 @@ meta_back w x path row meta same looked is = record {
   modified = is.modified;
 }
 
-said_of : (said : Result Meta DiskError) (w x : World) (path : Names) (from : ℕ) (s t : DiskState) → SameBesidesOpens w x → Metas s path said t → s.told ≡ Some x → from ≤ s.faults
+said_of : (said : Result Meta DiskError) (w x : World) (path : Names) (from : ℕ) (s t : DiskState) → SameBesidesOpens w x → Metas s path said t
+    → s.told ≡ Some x → from ≤ s.faults
     → is_linked w.tree path ≡ false → SaidOf w path from t.faults (said_info (said_by said))
 said_of (Ok meta) w x path from s t same metas told le linked =
     let (row, looked, is) = metas.told x told (ap (λ rows. is_linked rows path) same.tree ∙ linked) in
@@ -173,11 +177,13 @@ record ReadOf (mid n o : DiskState) (path : Names) (r : Result Info FsError) : T
   is : r ≡ said_info (said_by said)
   same : o ≡ n
 
-read_by : (meta : EntryMeta) (mid n o : DiskState) (path : Names) (r : Result Info FsError) → WasRead true meta mid path n → Says meta n r o → ReadOf mid n o path r
+read_by : (meta : EntryMeta) (mid n o : DiskState) (path : Names) (r : Result Info FsError) → WasRead true meta mid path n → Says meta n r o
+    → ReadOf mid n o path r
 read_by (Read answer) mid n o path r told says = record { said = told.0; metas = told.1; is = says.0 ∙ ap said_info told.2; same = says.1 }
 read_by (At place) mid n o path r told says = absurd told
 
-read_of : (meta : EntryMeta) (wanted : ReadDirMeta) (mid n o : DiskState) (path : Names) (r : Result Info FsError) → wanted ≡ Data → IsKnown meta wanted mid path n → Says meta n r o → ReadOf mid n o path r
+read_of : (meta : EntryMeta) (wanted : ReadDirMeta) (mid n o : DiskState) (path : Names) (r : Result Info FsError) → wanted ≡ Data
+    → IsKnown meta wanted mid path n → Says meta n r o → ReadOf mid n o path r
 read_of meta wanted mid n o path r on told says = read_by meta mid n o path r (subst (λ (x : ReadDirMeta). IsKnown meta x mid path n) on told) says
 
 given_is : (given : Result PlainEntry FsError) (e : PlainEntry) → Ok (Some e) ≡ next_of given → given ≡ Ok e
@@ -186,7 +192,8 @@ given_is (Err f) e is = cc
 
 -- ---- the answers are of members
 
-says_of : (w : World) (path : Names) (from now : ℕ) (row : Row) (r : Result Info FsError) → look w.tree path ≡ Ok row → SaidOf w path from now r → SaysOrRose from now (member_of w row) r
+says_of : (w : World) (path : Names) (from now : ℕ) (row : Row) (r : Result Info FsError) → look w.tree path ≡ Ok row → SaidOf w path from now r
+    → SaysOrRose from now (member_of w row) r
 says_of w path from now row (Ok info) found s =
     let one : s.row ≡ row = (let e : Ok s.row ≡ Ok row = sym s.found ∙ found in cc) in
     let is : IsMetaOf w row s.meta = subst (λ x. IsMetaOf w x s.meta) one s.is in
@@ -198,7 +205,8 @@ record IsFree (w : World) (dir : Names) (row : Row) : Type 0 where
   stands : StandsIn w.tree dir row
   linked : is_linked w.tree row.path ≡ false
 
-both_all : (w : World) (dir : Names) (rows : List Row) → AllByRecursion (StandsIn w.tree dir) rows → AllByRecursion (λ row. is_linked w.tree row.path ≡ false) rows → AllByRecursion (IsFree w dir) rows
+both_all : (w : World) (dir : Names) (rows : List Row) → AllByRecursion (StandsIn w.tree dir) rows
+    → AllByRecursion (λ row. is_linked w.tree row.path ≡ false) rows → AllByRecursion (IsFree w dir) rows
 both_all w dir [] a b = tt
 both_all w dir (row ∷ rows) a b = (record { stands = a.0; linked = b.0 }, both_all w dir rows a.1 b.1)
 
@@ -206,8 +214,10 @@ front_all : (P : Row → Type 0) (xs ys : List Row) → AllByRecursion P (xs ++ 
 front_all P [] ys all = tt
 front_all P (x ∷ xs) ys all = (all.0, front_all P xs ys all.1)
 
-are_answers : (w : World) (dir : Names) (from now : ℕ) (answers : List Answered) (given : List Row) → AllZip (λ a row. a.name ≡ name_of row) answers given
-    → AllByRecursion (IsTold w dir from now) answers → AllByRecursion (IsFree w dir) given → AllZip (IsAnswerOf from now) answers (map (member_of w) given)
+are_answers : (w : World) (dir : Names) (from now : ℕ) (answers : List Answered) (given : List Row)
+    → AllZip (λ a row. a.name ≡ name_of row) answers given
+    → AllByRecursion (IsTold w dir from now) answers → AllByRecursion (IsFree w dir) given
+    → AllZip (IsAnswerOf from now) answers (map (member_of w) given)
 are_answers w dir from now [] [] names told free = tt
 are_answers w dir from now [] (row ∷ given) names told free = absurd names
 are_answers w dir from now (a ∷ answers) [] names told free = absurd names
@@ -219,8 +229,10 @@ are_answers w dir from now (a ∷ answers) (row ∷ given) names told free =
 
 -- the calls of listings are those of a plain store
 pub record ListsPlain {S C F : Type 0} (view : View S C F) (lists : Listings S C PlainDir PlainEntry) : Type 0 where
-  pub lists_so : (s : S) (c : C) (path : WebPath) (r : Result PlainDir FsError) (t : S) → lists.lists s c path Data r t → Begins (view.state s) path.names Data r (view.state t)
-  pub next_so : (s : S) (d : PlainDir) (r : Result (Option PlainEntry) FsError) (t : S) (e : PlainDir) → lists.lists_on s d r t e → NextEntry (view.state s) d r (view.state t) e
+  pub lists_so : (s : S) (c : C) (path : WebPath) (r : Result PlainDir FsError) (t : S) → lists.lists s c path Data r t
+      → Begins (view.state s) path.names Data r (view.state t)
+  pub next_so : (s : S) (d : PlainDir) (r : Result (Option PlainEntry) FsError) (t : S) (e : PlainDir) → lists.lists_on s d r t e
+      → NextEntry (view.state s) d r (view.state t) e
   pub called_so : (e : PlainEntry) → lists.called e ≡ e.name
   pub says_so : (e : PlainEntry) (s : DiskState) (r : Result Info FsError) (t : DiskState) → lists.says e s r t → Says e.meta s r t
 
@@ -244,11 +256,13 @@ module _ {S C F : Type 0} (view : View S C F) (lists : Listings S C PlainDir Pla
       ∙ sym (ap (λ z. z ++ after) (map-append (λ (x : Answered). x.name) answers (a ∷ [])) ∙ append_assoc (map (λ (x : Answered). x.name) answers) (a.name ∷ []) after))
 
   world_on : (l : ℕ) (w v x : World) (rest : Names) → SameBesidesOpens w v → x ≡ with_listings v (put l (Some rest) v.listings) → SameBesidesOpens w x
-  world_on l w v x rest same e = same_besides_then w v x same (rw e (record { tree = refl; files = λ number held. (held, refl); greatest = refl; latest = refl; script = refl }))
+  world_on l w v x rest same e =
+      same_besides_then w v x same (rw e (record { tree = refl; files = λ number held. (held, refl); greatest = refl; latest = refl; script = refl }))
 
   -- A name was given: it is the first of those that were to come.
   by_name : (l : PlainDir) (w : World) (names dir : Names) (from : ℕ) (answers : List Answered) (m n o : S) (k j : PlainDir) (e : PlainEntry) (r : Result Info FsError)
-      → l.wanted ≡ Data → l.path ≡ dir → Front l w names dir from answers m k → (name : List ℕ) (mid : DiskState) → ListsOn (view.state m) l.lister.0 (Ok (Some name)) mid
+      → l.wanted ≡ Data → l.path ≡ dir → Front l w names dir from answers m k → (name : List ℕ) (mid : DiskState)
+      → ListsOn (view.state m) l.lister.0 (Ok (Some name)) mid
       → GivesEntry name l mid (Ok e) (view.state n) → j ≡ l → Says e.meta (view.state n) r (view.state o)
       → Front l w names dir from (answers ++ record { name = lists.called e; meta = r } ∷ []) o j
   by_name l w names dir from answers m n o k j e r reads path f name mid on gives same says =
@@ -277,7 +291,8 @@ module _ {S C F : Type 0} (view : View S C F) (lists : Listings S C PlainDir Pla
       }
 
   by_answer : (l : PlainDir) (w : World) (names dir : Names) (from : ℕ) (answers : List Answered) (m n o : S) (k j : PlainDir) (e : PlainEntry) (r : Result Info FsError)
-      → l.wanted ≡ Data → l.path ≡ dir → Front l w names dir from answers m k → (answer : Result (Option (List ℕ)) DiskError) (mid : DiskState) → ListsOn (view.state m) l.lister.0 answer mid
+      → l.wanted ≡ Data → l.path ≡ dir → Front l w names dir from answers m k → (answer : Result (Option (List ℕ)) DiskError) (mid : DiskState)
+      → ListsOn (view.state m) l.lister.0 answer mid
       → AfterName answer mid l (Ok (Some e)) (view.state n) j → Says e.meta (view.state n) r (view.state o)
       → Front l w names dir from (answers ++ record { name = lists.called e; meta = r } ∷ []) o j
   by_answer l w names dir from answers m n o k j e r reads path f (Ok (Some name)) mid on (given, gives, is, same) says =
@@ -298,7 +313,8 @@ module _ {S C F : Type 0} (view : View S C F) (lists : Listings S C PlainDir Pla
       let next = subst (λ (d : PlainDir). NextEntry (view.state m) d r (view.state n) j) same (plain.next_so m k r n j on) in
       subst (λ b. NextOf b (view.state m) l r (view.state n) j) going next
 
-  front : (n : S) (l : PlainDir) (w : World) (names dir : Names) (from : ℕ) (answers : List Answered) (o : S) (k : PlainDir) → l.over ≡ false → l.wanted ≡ Data → l.path ≡ dir
+  front : (n : S) (l : PlainDir) (w : World) (names dir : Names) (from : ℕ) (answers : List Answered) (o : S) (k : PlainDir) → l.over ≡ false
+      → l.wanted ≡ Data → l.path ≡ dir
       → Front l w names dir from [] n l → Walked view lists n l answers o k → Front l w names dir from answers o k
   front n l w names dir from answers o k going reads path f begun = f
   front n l w names dir from answers o k going reads path f (goes before m p q d j e r walk on says lends keeps) =
@@ -316,7 +332,8 @@ module _ {S C F : Type 0} (view : View S C F) (lists : Listings S C PlainDir Pla
     listed : IsOk (listable (look w.tree dir))
     order : IsPermutation (names_in w.tree dir) names
 
-  start : (w : World) (dir : Names) (m n : S) (l : PlainDir) → (view.state m).told ≡ Some w → is_linked w.tree dir ≡ false → Begins (view.state m) dir Data (Ok l) (view.state n)
+  start : (w : World) (dir : Names) (m n : S) (l : PlainDir) → (view.state m).told ≡ Some w → is_linked w.tree dir ≡ false
+      → Begins (view.state m) dir Data (Ok l) (view.state n)
       → Start w dir (view.state m).faults n l
   start w dir m n l told linked (inl refused) = let e = refused.0 in cc
   start w dir m n l told linked (inr (Err e, begins, is)) = cc
@@ -334,7 +351,9 @@ module _ {S C F : Type 0} (view : View S C F) (lists : Listings S C PlainDir Pla
           now = v;
           told = at;
           world = rw listed.1 (record { tree = refl; files = λ number held. (held, refl); greatest = refl; latest = refl; script = refl });
-          listing = ap (λ (d : PlainDir). v.listings d.lister.0) dir_is ∙ (ap (λ u. u.listings lister.0) listed.1 ∙ put_same lister.0 (Some listed.0) w.listings);
+          listing =
+              ap (λ (d : PlainDir). v.listings d.lister.0) dir_is
+              ∙ (ap (λ u. u.listings lister.0) listed.1 ∙ put_same lister.0 (Some listed.0) w.listings);
           are = refl;
           each = tt;
           counts = begins.counted.counts;
@@ -344,7 +363,8 @@ module _ {S C F : Type 0} (view : View S C F) (lists : Listings S C PlainDir Pla
       }
 
   -- the entries are of members of the directory, each once
-  given_of : (w : World) (dir : Names) (from : ℕ) (n o : S) (l k : PlainDir) (answers : List Answered) → IsWorld w → HasNoLinks w dir → Start w dir from n l → Walked view lists n l answers o k
+  given_of : (w : World) (dir : Names) (from : ℕ) (n o : S) (l k : PlainDir) (answers : List Answered) → IsWorld w → HasNoLinks w dir
+      → Start w dir from n l → Walked view lists n l answers o k
       → AreOf (members w dir) from (view.state o).faults answers
   given_of w dir from n o l k answers is links s walk =
       let f = front n l w s.names dir from answers o k s.going s.reads s.path s.first walk in
@@ -362,7 +382,8 @@ module _ {S C F : Type 0} (view : View S C F) (lists : Listings S C PlainDir Pla
       }
 
   -- at the end all names were given
-  all_given : (w : World) (dir names : Names) (answers : List Answered) (rest : Names) → IsPermutation (names_in w.tree dir) names → names ≡ map (λ a. a.name) answers ++ rest → rest ≡ []
+  all_given : (w : World) (dir names : Names) (answers : List Answered) (rest : Names) → IsPermutation (names_in w.tree dir) names
+      → names ≡ map (λ a. a.name) answers ++ rest → rest ≡ []
       → length answers ≡ length (members w dir)
   all_given w dir names answers rest order are none =
       let rows = filter (stands_in dir) w.tree in
@@ -370,7 +391,8 @@ module _ {S C F : Type 0} (view : View S C F) (lists : Listings S C PlainDir Pla
       sym (length-map answers (λ (a : Answered). a.name)) ∙ (sym (ap length all) ∙ (length_permutation (names_in w.tree dir) names order ∙ (length-map rows name_of ∙ sym (length-map rows (member_of w)))))
 
   ends_by : (w : World) (dir names : Names) (l k j : PlainDir) (answers : List Answered) (r : Result (Option PlainEntry) FsError) (m o p : S) → IsPermutation (names_in w.tree dir) names
-      → Front l w names dir (view.state m).faults answers o k → (answer : Result (Option (List ℕ)) DiskError) (mid : DiskState) → ListsOn (view.state o) l.lister.0 answer mid → AfterName answer mid l r (view.state p) j
+      → Front l w names dir (view.state m).faults answers o k → (answer : Result (Option (List ℕ)) DiskError) (mid : DiskState)
+      → ListsOn (view.state o) l.lister.0 answer mid → AfterName answer mid l r (view.state p) j
       → EndsThere view lists (members w dir) answers r m p
   ends_by w dir names l k j answers r m o p order f (Ok (Some name)) mid on (Ok entry, gives, is, same) = rw is tt
   ends_by w dir names l k j answers r m o p order f (Ok (Some name)) mid on (Err e, gives, is, same) = rw is (inr (ap Err gives.0))
@@ -386,7 +408,8 @@ module _ {S C F : Type 0} (view : View S C F) (lists : Listings S C PlainDir Pla
   ends_by w dir names l k j answers r m o p order f (Err IsDir) mid on after = absurd on.only
   ends_by w dir names l k j answers r m o p order f (Err NotEmpty) mid on after = absurd on.only
 
-  ends_of : (w : World) (dir : Names) (m n o p : S) (l k j : PlainDir) (answers : List Answered) (r : Result (Option PlainEntry) FsError) → Start w dir (view.state m).faults n l
+  ends_of : (w : World) (dir : Names) (m n o p : S) (l k j : PlainDir) (answers : List Answered) (r : Result (Option PlainEntry) FsError)
+      → Start w dir (view.state m).faults n l
       → Walked view lists n l answers o k → lists.lists_on o k r p j → EndsThere view lists (members w dir) answers r m p
   ends_of w dir m n o p l k j answers r s walk on =
       let f = front n l w s.names dir (view.state m).faults answers o k s.going s.reads s.path s.first walk in
@@ -401,7 +424,8 @@ ok_there : (w : World) (dir : Names) (found : Result Row DiskError) (l : PlainDi
 ok_there w dir (Ok row) l ok = tt
 ok_there w dir (Err d) l ok = cc
 
-refused_there : (d : DiskError) (w : World) (dir : Names) (found : Result Row DiskError) (s t : DiskState) → Refused d found → IsCounted {T = Lister} (Err d) s t
+refused_there : (d : DiskError) (w : World) (dir : Names) (found : Result Row DiskError) (s t : DiskState) → Refused d found
+    → IsCounted {T = Lister} (Err d) s t
     → BeginsThere {L = PlainDir} (members_of w dir found) (Err (fs_error_of d)) ⊎ Spoiled {T = PlainDir} s (Err (fs_error_of d)) t
 refused_there NotFound w dir found s t r counted = inl (rw r refl)
 refused_there NotDir w dir found s t r counted = inl (rw r refl)
@@ -411,7 +435,8 @@ refused_there NotEmpty w dir found s t r counted = inl (rw r refl)
 refused_there Failed w dir found s t r counted = inr (inl (refl, counted.rose refl))
 refused_there NoMemory w dir found s t r counted = inr (inr refl)
 
-begins_there : (w : World) (dir : Names) (r : Result PlainDir FsError) (s t : DiskState) → s.told ≡ Some w → is_linked w.tree dir ≡ false → Begins s dir Data r t
+begins_there : (w : World) (dir : Names) (r : Result PlainDir FsError) (s t : DiskState) → s.told ≡ Some w → is_linked w.tree dir ≡ false
+    → Begins s dir Data r t
     → BeginsThere (members_of w dir (listable (look w.tree dir))) r ⊎ Spoiled s r t
 begins_there w dir r s t told linked (inl refused) = inr (inr refused.0)
 begins_there w dir r s t told linked (inr (Ok lister, begins, is)) =
@@ -423,7 +448,8 @@ begins_there w dir r s t told linked (inr (Err d, begins, is)) =
 
 module _ {S C : Type 0} (view : View S C PlainFile) (lists : Listings S C PlainDir PlainEntry) (store : IsPlain view) (plain : ListsPlain view lists) (s : S) (c : C) where
   -- the members that stand there by the world, where no link is met
-  pub members_shown : (path : WebPath) (w : World) → (view.state s).told ≡ Some w → IsWorld w → HasNoLinks w path.names → ShowsMembers view lists s c path (members_found w path)
+  pub members_shown : (path : WebPath) (w : World) → (view.state s).told ≡ Some w → IsWorld w → HasNoLinks w path.names
+      → ShowsMembers view lists s c path (members_found w path)
   members_shown path w told is links =
       let dir = path.names in
       let found = listable (look w.tree dir) in

@@ -30,7 +30,8 @@ disk_refuses_look Exists e s t may asks is = absurd may
 disk_refuses_look NotEmpty e s t may asks is = absurd may
 disk_refuses_look NoMemory e s t may asks is = absurd may
 
-look_refused : (slash : Bool) (answer : Result Meta DiskError) (e : FsError) (s t : DiskState) → IfErr answer MayRefuseMeta → Asks answer s t → Err e ≡ looked_as slash answer
+look_refused : (slash : Bool) (answer : Result Meta DiskError) (e : FsError) (s t : DiskState) → IfErr answer MayRefuseMeta → Asks answer s t
+    → Err e ≡ looked_as slash answer
     → CouldRefuse e ⊎ IsFault {T = Info} s (Err e) t
 look_refused slash (Ok m) e s t may asks is = inl (inr (slash_refuses (slash && not (is_dir m.kind)) (info_of m) e is))
 look_refused slash (Err d) e s t may asks is = disk_refuses_look d e s t may asks cc
@@ -49,7 +50,8 @@ disk_refuses_open IsDir e s t may asks is = absurd may
 disk_refuses_open Exists e s t may asks is = absurd may
 disk_refuses_open NotEmpty e s t may asks is = absurd may
 
-open_refused : (answer : Result Handle DiskError) (e : FsError) (s t : DiskState) → IfErr answer (MayRefuseOpen false) → Asks answer s t → Err e ≡ filed answer
+open_refused : (answer : Result Handle DiskError) (e : FsError) (s t : DiskState) → IfErr answer (MayRefuseOpen false) → Asks answer s t
+    → Err e ≡ filed answer
     → CouldRefuse e ⊎ Spoiled {T = PlainFile} s (Err e) t
 open_refused (Ok h) e s t may asks is = cc
 open_refused (Err d) e s t may asks is = disk_refuses_open d e s t may asks cc
@@ -62,5 +64,6 @@ opening_refused false s t path e ends opening =
     open_refused answer e s t opens.only opens.asks is
 
 -- An opening for reading is refused with one of the two, because of a fault, or for want of memory.
-pub open_refuses : (s t : DiskState) (path : WebPath) (e : FsError) → IsOpening s path reading (Err e) t → CouldRefuse e ⊎ Spoiled {T = PlainFile} s (Err e) t
+pub open_refuses : (s t : DiskState) (path : WebPath) (e : FsError) → IsOpening s path reading (Err e) t
+    → CouldRefuse e ⊎ Spoiled {T = PlainFile} s (Err e) t
 open_refuses s t path e opening = opening_refused path.slash s t path e refl opening

@@ -20,8 +20,10 @@ use Rattle.dav_plain.specs.Standing.{found, looked, opened, standing_as, under_s
 use Rattle.dav_plain.proofs.MembersShown.{found_numbered}
 use Rattle.dav_plain.proofs.Showing.{opens_in}
 
-found_same : (w v : World) (slash : Bool) (r : Result Row DiskError) → ((row : Row) → r ≡ Ok row → v.files row.number ≡ w.files row.number) → found v slash r ≡ found w slash r
-found_same w v slash (Ok row) same = ap (λ f. under_slash slash row.kind (standing_as row.kind row.number (Some row.time) (bytes_or_none f))) (same row refl)
+found_same : (w v : World) (slash : Bool) (r : Result Row DiskError) → ((row : Row) → r ≡ Ok row → v.files row.number ≡ w.files row.number)
+    → found v slash r ≡ found w slash r
+found_same w v slash (Ok row) same =
+    ap (λ f. under_slash slash row.kind (standing_as row.kind row.number (Some row.time) (bytes_or_none f))) (same row refl)
 found_same w v slash (Err e) same = refl
 
 -- the same stands in a world that is the same but for what is open
@@ -34,8 +36,10 @@ looked_same w v path same =
 module _ {S C L E : Type 0} (view : View S C PlainFile) (lists : Listings S C L E)
     (opens_so : (s : S) (c : C) (path : WebPath) (o : Result PlainFile FsError) (t : S) → view.opens s c path reading o t → IsOpening (view.state s) path reading o (view.state t))
     (seen_so : view.seen ≡ seen_by) (is_world : (s : S) (w : World) → (view.state s).told ≡ Some w → IsWorld w) where
-  opens_by : (s : S) (c : C) (path : WebPath) (slash : Bool) (w v : World) (m n : S) (o : Result PlainFile FsError) → path.slash ≡ slash → (view.state m).told ≡ Some v → SameBesidesOpens w v
-      → is_linked w.tree path.names ≡ false → view.opens m c path reading o n → OpensThere seen_by (opened w path) o (view.state n) ⊎ Spoiled (view.state m) o (view.state n)
+  opens_by : (s : S) (c : C) (path : WebPath) (slash : Bool) (w v : World) (m n : S) (o : Result PlainFile FsError) → path.slash ≡ slash
+      → (view.state m).told ≡ Some v → SameBesidesOpens w v
+      → is_linked w.tree path.names ≡ false → view.opens m c path reading o n
+      → OpensThere seen_by (opened w path) o (view.state n) ⊎ Spoiled (view.state m) o (view.state n)
   opens_by s c path true w v m n o e told same linked opens =
       let (refuses, stays) = (opens_so m c path o n opens).slash e in
       inl (rw (e, refuses) refl)
@@ -46,7 +50,8 @@ module _ {S C L E : Type 0} (view : View S C PlainFile) (lists : Listings S C L 
       rw so (subst (λ (x : Result Standing FsError). OpensThere seen_by x (filed answer) (view.state n) ⊎ Spoiled (view.state m) (filed answer) (view.state n)) (sym there)
       (opens_in v path answer (view.state m) (view.state n) (is_world m v told) told e free opening))
 
-  pub plain_shows_on : (s : S) (c : C) (path : WebPath) (w : World) → (view.state s).told ≡ Some w → is_linked w.tree path.names ≡ false → ShowsOn view lists s c path (opened w path)
+  pub plain_shows_on : (s : S) (c : C) (path : WebPath) (w : World) → (view.state s).told ≡ Some w → is_linked w.tree path.names ≡ false
+      → ShowsOn view lists s c path (opened w path)
   plain_shows_on s c path w told linked = λ m n o reached opens.
       let (v, at, same) = reached_world view lists s c m w reached told in
       rw seen_so (opens_by s c path path.slash w v m n o refl at same linked opens)

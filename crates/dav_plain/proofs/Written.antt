@@ -57,7 +57,8 @@ leaves l h from (Err Failed) v w left = leaves_either l h from v w left
 leaves l h from (Err NoMemory) v w left = leaves_either l h from v w left
 
 leaves_told : (h : ℕ) (from : List ℕ) (answer : Result ℕ DiskError) (s t : DiskState) → Writes s h from answer t → Both s.told t.told (Leaves h)
-leaves_told h from answer s t writes = both_map s.told t.told (WrittenIn (s.live h) h from answer) (Leaves h) (λ v w done. leaves (s.live h) h from answer v w done) writes.told
+leaves_told h from answer s t writes =
+    both_map s.told t.told (WrittenIn (s.live h) h from answer) (Leaves h) (λ v w done. leaves (s.live h) h from answer v w done) writes.told
 
 leaves_listing : (h n : ℕ) (v w : World) → Leaves h v w → SameListing n v w
 leaves_listing h n v w left = ap (λ (f : ℕ → Option Names). f n) left.listings
@@ -106,7 +107,8 @@ all_keep h s from result t (refused a b xs piece e chunk some writes) = write_ke
 all_keep h s from result t (more a m b xs piece n r chunk writes rest) =
     keeps_then h a m b (write_keeps h piece (Ok n) a m writes) (all_keep h m (drop n xs) r b rest)
 
-all_leave : (h : ℕ) (s : DiskState) (from : List ℕ) (result : Result Unit FsError) (t : DiskState) → WritesAll h s from result t → Both s.told t.told SameBesidesFiles
+all_leave : (h : ℕ) (s : DiskState) (from : List ℕ) (result : Result Unit FsError) (t : DiskState) → WritesAll h s from result t
+    → Both s.told t.told SameBesidesFiles
 all_leave h s from result t (nothing a) = both_same a.told a.told SameBesidesFiles files_same refl
 all_leave h s from result t (refused a b xs piece e chunk some writes) = write_leaves h piece (Err e) a b writes
 all_leave h s from result t (more a m b xs piece n r chunk writes rest) =
@@ -129,12 +131,14 @@ spoiled_by : (h : ℕ) (piece : List ℕ) (answer : Result ℕ DiskError) (e : D
 spoiled_by h piece answer e s t is writes (inl failed) = let same : e ≡ Failed = cc in inl (ap (λ d. Err (fs_error_of d)) same, writes.asks.rose failed)
 spoiled_by h piece answer e s t is writes (inr wanted) = let same : e ≡ NoMemory = cc in inr (ap (λ d. Err (fs_error_of d)) same)
 
-spoiled_later : (s m t : DiskState) (result : Result Unit FsError) → s.faults ≤ m.faults → OnErr result (Spoiled m result t) → OnErr result (Spoiled s result t)
+spoiled_later : (s m t : DiskState) (result : Result Unit FsError) → s.faults ≤ m.faults → OnErr result (Spoiled m result t)
+    → OnErr result (Spoiled s result t)
 spoiled_later s m t (Ok x) lt spoiled = tt
 spoiled_later s m t (Err e) lt (inl (is, rose)) = inl (is, rose_later s.faults m.faults t.faults lt rose)
 spoiled_later s m t (Err e) lt (inr is) = inr is
 
-all_refused : (h : ℕ) (s : DiskState) (from : List ℕ) (result : Result Unit FsError) (t : DiskState) → WritesAll h s from result t → can_write (s.live h) ≡ true
+all_refused : (h : ℕ) (s : DiskState) (from : List ℕ) (result : Result Unit FsError) (t : DiskState) → WritesAll h s from result t
+    → can_write (s.live h) ≡ true
     → OnErr result (Spoiled s result t)
 all_refused h s from result t (nothing a) can = tt
 all_refused h s from result t (refused a b xs piece e chunk some writes) can = spoiled_by h piece (Err e) e a b refl writes (writes.refused can)
@@ -152,12 +156,14 @@ front_of n piece from chunk within =
     ∙ ap (λ x. take n (x ++ rest)) (sym chunk.front)
     ∙ ap (take n) (take-append-drop (length piece) from)
 
-part_of : (l : Option Live) (piece from : List ℕ) (e : FsError) → IsChunkOf piece from → (f g : Seen) → PartWritten l piece f g → WritesIn l from (Err e) f g
+part_of : (l : Option Live) (piece from : List ℕ) (e : FsError) → IsChunkOf piece from → (f g : Seen) → PartWritten l piece f g
+    → WritesIn l from (Err e) f g
 part_of l piece from e chunk f g (inl same) = inl same
 part_of l piece from e chunk f g (inr (n, some, within, is)) =
     inr (n, some, omega (arith, within, chunk.fits), subst (λ (x : List ℕ). IsWritten (write_place l f) x f g) (front_of n piece from chunk within) is)
 
-on_from : (l m : Option Live) (from piece : List ℕ) (n : ℕ) (result : Result Unit FsError) → m ≡ l → IsChunkOf piece from → 0 < n → n ≤ length piece → (f g k : Seen)
+on_from : (l m : Option Live) (from piece : List ℕ) (n : ℕ) (result : Result Unit FsError) → m ≡ l → IsChunkOf piece from → 0 < n → n ≤ length piece
+    → (f g k : Seen)
     → IsWritten (write_place l f) (take n piece) f g → WritesIn m (drop n from) result g k → WritesIn l from result f k
 on_from l m from piece n result same chunk some within f g k first second =
     let front = front_of n piece from chunk within in
@@ -169,7 +175,8 @@ on_from l m from piece n result same chunk some within f g k first second =
 
 all_told : (h : ℕ) (s : DiskState) (from : List ℕ) (result : Result Unit FsError) (t : DiskState) → WritesAll h s from result t
     → Both (seen_at s h) (seen_at t h) (WritesIn (s.live h) from result)
-all_told h s from result t (nothing a) = both_same (seen_at a h) (seen_at a h) (WritesIn (a.live h) [] (Ok tt)) (λ f. (λ e. refl, λ lt. absurd (omega arith))) refl
+all_told h s from result t (nothing a) =
+    both_same (seen_at a h) (seen_at a h) (WritesIn (a.live h) [] (Ok tt)) (λ f. (λ e. refl, λ lt. absurd (omega arith))) refl
 all_told h s from result t (refused a b xs piece e chunk some writes) =
     both_map (seen_at a h) (seen_at b h) (PartWritten (a.live h) piece) (WritesIn (a.live h) xs (Err (fs_error_of e))) (part_of (a.live h) piece xs (fs_error_of e) chunk)
     (refused_told a.told b.told (a.live h) (b.live h) h piece e (ap (λ (f : ℕ → Option Live). f h) writes.live) writes.told)

@@ -34,7 +34,8 @@ filled_bytes number bytes v w (inr (differs, t, later, becomes)) held =
     let stored : Option Stored = Some (record { bytes = bytes; time = t }) in
     ap bytes_or_none ((becomes.files number held).1 ∙ put_same number stored v.files)
 
-place_same : (append : Bool) (v : World) (kind : Kind) (o : OpenFile) (l : Live) → l.how.append ≡ append → write_place (Some l) (seen_in v kind o) ≡ disk_place append v o
+place_same : (append : Bool) (v : World) (kind : Kind) (o : OpenFile) (l : Live) → l.how.append ≡ append
+    → write_place (Some l) (seen_in v kind o) ≡ disk_place append v o
 place_same true v kind o l e = rw e refl
 place_same false v kind o l e = rw e refl
 
@@ -49,7 +50,9 @@ shows_written v w h l from n o within edited now =
     record {
       number = refl;
       kind = refl;
-      bytes = filled_bytes o.number _ v w edited (held_open w h o.number now_open now refl) ∙ ap (λ p. written p (take n from) (bytes_of v o.number)) (sym same);
+      bytes =
+          filled_bytes o.number _ v w edited (held_open w h o.number now_open now refl)
+          ∙ ap (λ p. written p (take n from) (bytes_of v o.number)) (sym same);
       len = refl;
       placed = ap (λ k. place + k) (sym (length-take-le n from within)) ∙ ap (λ p. p + length (take n from)) (sym same);
     }
@@ -101,20 +104,25 @@ joined : (p q : ℕ) (a b : List ℕ) (f g k : Seen) → q ≡ p + length a → 
 joined p q a b f g k next first second = record {
   number = second.number ∙ first.number;
   kind = second.kind ∙ first.kind;
-  bytes = second.bytes ∙ (ap (λ x. written q b x) first.bytes ∙ (ap (λ n. written n b (written p a f.stands.bytes)) next ∙ written_on p a b f.stands.bytes));
+  bytes =
+      second.bytes
+      ∙ (ap (λ x. written q b x) first.bytes ∙ (ap (λ n. written n b (written p a f.stands.bytes)) next ∙ written_on p a b f.stands.bytes));
   len = second.len;
   placed = second.placed ∙ omega (arith, next, length-append a b);
 }
 
-on : (l : Option Live) (a b : List ℕ) (f g k : Seen) → IsWritten (write_place l f) a f g → IsWritten (write_place l g) b g k → IsWritten (write_place l f) (a ++ b) f k
+on : (l : Option Live) (a b : List ℕ) (f g k : Seen) → IsWritten (write_place l f) a f g → IsWritten (write_place l g) b g k
+    → IsWritten (write_place l f) (a ++ b) f k
 on l a b f g k first second = joined (write_place l f) (write_place l g) a b f g k (next_place l a f g first) first second
 
-last : (l : Option Live) (a b : List ℕ) (f g k : Seen) → IsWritten (write_place l f) a f g → WritesIn l b (Ok tt) g k → IsWritten (write_place l f) (a ++ b) f k
+last : (l : Option Live) (a b : List ℕ) (f g k : Seen) → IsWritten (write_place l f) a f g → WritesIn l b (Ok tt) g k
+    → IsWritten (write_place l f) (a ++ b) f k
 last l a [] f g k first (same, more) = subst (λ (x : List ℕ). IsWritten (write_place l f) x f k) (sym (append-nil a)) (subst (λ (x : Seen). IsWritten (write_place l f) a f x) (sym (same refl)) first)
 last l a (b ∷ bs) f g k first (same, more) = on l a (b ∷ bs) f g k first (more (omega arith))
 
 -- bytes in front of others were written before them
-pub then_writes : (l : Option Live) (a b : List ℕ) (result : Result Unit FsError) (f g k : Seen) → 0 < length a → IsWritten (write_place l f) a f g → WritesIn l b result g k
+pub then_writes : (l : Option Live) (a b : List ℕ) (result : Result Unit FsError) (f g k : Seen) → 0 < length a → IsWritten (write_place l f) a f g
+    → WritesIn l b result g k
     → WritesIn l (a ++ b) result f k
 then_writes l a b (Ok x) f g k some first second = (
   λ e. absurd (omega (arith, ap length e, length-append a b)),
@@ -153,7 +161,8 @@ refused_leaves l h from NotEmpty v w left = left
 refused_leaves l h from Failed v w left = left
 refused_leaves l h from NoMemory v w left = left
 
-may_show : (v w : World) (h : ℕ) (l : Live) (from : List ℕ) → MayWrite (Some l) h from v w → Both (seen_with (Some v) (Some l) h) (seen_with (Some w) (Some l) h) (PartWritten (Some l) from)
+may_show : (v w : World) (h : ℕ) (l : Live) (from : List ℕ) → MayWrite (Some l) h from v w
+    → Both (seen_with (Some v) (Some l) h) (seen_with (Some w) (Some l) h) (PartWritten (Some l) from)
 may_show v w h l from (inl (same, opens)) =
     both_map (seen_with (Some v) (Some l) h) (seen_with (Some w) (Some l) h) (λ f g. g ≡ f) (PartWritten (Some l) from) (λ f g same. inl same) (left_shows v w h l same opens)
 may_show v w h l from (inr (can, n, wrote)) =

@@ -41,9 +41,12 @@ filed (Ok h) = Ok (record { handle = h })
 filed (Err e) = Err (fs_error_of e)
 
 -- A path with a final slash isn't opened. All else is the disk's opening at the path's names.
-pub record IsOpening (s : DiskState) (path : WebPath) (how : OpenOptions) (result : Result PlainFile FsError) (t : DiskState) : Type 0 where
+pub record IsOpening
+    (s : DiskState) (path : WebPath) (how : OpenOptions) (result : Result PlainFile FsError) (t : DiskState)
+    : Type 0 where
   pub slash : path.slash ≡ true → Refuses Forbidden s result t
-  pub asked : path.slash ≡ false → (answer : Result Handle DiskError) × Opens s path.names how answer t × (result ≡ filed answer)
+  pub asked : path.slash ≡ false
+      → (answer : Result Handle DiskError) × Opens s path.names how answer t × (result ≡ filed answer)
 
 -- The calls that change what stands are those of the disk at the paths' names, each one call.
 abbrev pub done_by : Result Unit DiskError → Result Unit FsError
@@ -51,21 +54,26 @@ done_by (Ok x) = Ok x
 done_by (Err e) = Err (fs_error_of e)
 
 abbrev pub AsksToMake : DiskState → WebPath → Result Unit FsError → DiskState → Type 0
-AsksToMake s path result t = (answer : Result Unit DiskError) × CreatesDir s path.names answer t × (result ≡ done_by answer)
+AsksToMake s path result t =
+    (answer : Result Unit DiskError) × CreatesDir s path.names answer t × (result ≡ done_by answer)
 
 abbrev pub AsksToTakeDir : DiskState → WebPath → Result Unit FsError → DiskState → Type 0
-AsksToTakeDir s path result t = (answer : Result Unit DiskError) × RemovesDir s path.names answer t × (result ≡ done_by answer)
+AsksToTakeDir s path result t =
+    (answer : Result Unit DiskError) × RemovesDir s path.names answer t × (result ≡ done_by answer)
 
 -- A path with a final slash names no file that may be removed.
 pub record AsksToTakeFile (s : DiskState) (path : WebPath) (result : Result Unit FsError) (t : DiskState) : Type 0 where
   pub slash : path.slash ≡ true → Refuses Forbidden s result t
-  pub asked : path.slash ≡ false → (answer : Result Unit DiskError) × RemovesFile s path.names answer t × (result ≡ done_by answer)
+  pub asked : path.slash ≡ false
+      → (answer : Result Unit DiskError) × RemovesFile s path.names answer t × (result ≡ done_by answer)
 
 abbrev pub AsksToMove : DiskState → WebPath → WebPath → Result Unit FsError → DiskState → Type 0
-AsksToMove s from to result t = (answer : Result Unit DiskError) × Renames s from.names to.names answer t × (result ≡ done_by answer)
+AsksToMove s from to result t =
+    (answer : Result Unit DiskError) × Renames s from.names to.names answer t × (result ≡ done_by answer)
 
 abbrev pub AsksToCopy : DiskState → WebPath → WebPath → Result Unit FsError → DiskState → Type 0
-AsksToCopy s from to result t = (answer : Result Unit DiskError) × Copies s from.names to.names answer t × (result ≡ done_by answer)
+AsksToCopy s from to result t =
+    (answer : Result Unit DiskError) × Copies s from.names to.names answer t × (result ≡ done_by answer)
 
 -- The metadata of an open file is what the disk says of its handle.
 abbrev pub said_by : Result Meta DiskError → Result PlainMeta FsError
@@ -81,7 +89,8 @@ sought place (Ok x) = Ok place
 sought place (Err e) = Err (fs_error_of e)
 
 abbrev pub AsksSeek : DiskState → ℕ → ℕ → Result ℕ FsError → DiskState → Type 0
-AsksSeek s h place result t = (answer : Result Unit DiskError) × Seeks s h place answer t × (result ≡ sought place answer)
+AsksSeek s h place result t =
+    (answer : Result Unit DiskError) × Seeks s h place answer t × (result ≡ sought place answer)
 
 abbrev pub counted : Result ℕ DiskError → Result ℕ FsError
 counted (Ok n) = Ok n

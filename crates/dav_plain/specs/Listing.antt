@@ -31,7 +31,8 @@ Begins s path wanted result t = Refuses fs.NoMemory s result t
 
 -- What the disk said at this path was read, where `follows` says so with a link followed.
 abbrev pub WasRead : Bool → EntryMeta → DiskState → Names → DiskState → Type 0
-WasRead follows (Read answer) s path t = (said : Result Meta DiskError) × MetasBy follows s path said t × (answer ≡ said_by said)
+WasRead follows (Read answer) s path t =
+    (said : Result Meta DiskError) × MetasBy follows s path said t × (answer ≡ said_by said)
 WasRead follows (At place) s path t = ⊥
 
 -- It is to be asked at this path, and nothing was read.
@@ -55,15 +56,19 @@ next_of (Ok entry) = Ok (Some entry)
 next_of (Err e) = Err e
 
 -- After a name comes its entry. A fault ends the listing, and so does its end; want of memory leaves it.
-abbrev pub AfterName : Result (Option (List ℕ)) DiskError → DiskState → PlainDir → Result (Option PlainEntry) FsError → DiskState → PlainDir → Type 0
-AfterName (Ok (Some name)) s d result t e = (given : Result PlainEntry FsError) × GivesEntry name d s given t × (result ≡ next_of given) × (e ≡ d)
+abbrev pub AfterName : Result (Option (List ℕ)) DiskError → DiskState → PlainDir → Result (Option PlainEntry) FsError
+    → DiskState → PlainDir → Type 0
+AfterName (Ok (Some name)) s d result t e =
+    (given : Result PlainEntry FsError) × GivesEntry name d s given t × (result ≡ next_of given) × (e ≡ d)
 AfterName (Ok None) s d result t e = (result ≡ Ok None) × (t ≡ s) × (e ≡ ended d)
 AfterName (Err NoMemory) s d result t e = (result ≡ Err fs.NoMemory) × (t ≡ s) × (e ≡ d)
 AfterName (Err f) s d result t e = (result ≡ Err (fs_error_of f)) × (t ≡ s) × (e ≡ ended d)
 
 abbrev pub NextOf : Bool → DiskState → PlainDir → Result (Option PlainEntry) FsError → DiskState → PlainDir → Type 0
 NextOf true s d result t e = (result ≡ Ok None) × (t ≡ s) × (e ≡ d)
-NextOf false s d result t e = (answer : Result (Option (List ℕ)) DiskError) × (m : DiskState) × ListsOn s d.lister.0 answer m × AfterName answer m d result t e
+NextOf false s d result t e =
+    (answer : Result (Option (List ℕ)) DiskError) × (m : DiskState) × ListsOn s d.lister.0 answer m
+    × AfterName answer m d result t e
 
 abbrev pub NextEntry : DiskState → PlainDir → Result (Option PlainEntry) FsError → DiskState → PlainDir → Type 0
 NextEntry s d result t e = NextOf d.over s d result t e

@@ -53,7 +53,8 @@ opened w path = if path.slash then Err Forbidden else looked w path
 
 -- an open file of this kind, as the world has it
 abbrev pub seen_in : World → Kind → OpenFile → Seen
-seen_in w kind o = record { stands = standing_as kind o.number (time_of w o.number) (bytes_of w o.number); place = o.place }
+seen_in w kind o =
+    record { stands = standing_as kind o.number (time_of w o.number) (bytes_of w o.number); place = o.place }
 
 abbrev pub seen_with : Option World → Option Live → ℕ → Option Seen
 seen_with None live h = None

@@ -34,6 +34,7 @@ pub struct PlainEntry {
 }
 
 impl PlainEntry {
+    /// An entry of this name, and what it says of itself.
     pub fn new(name: Text, meta: EntryMeta) -> Self
         requires { is_plain name ≡ true }
         ensures name { result.name ≡ name }

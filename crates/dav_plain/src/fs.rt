@@ -17,6 +17,7 @@ pub struct PlainFs<D> {
 }
 
 impl<D> PlainFs<D> {
+    /// A store over this disk. It asks the disk nothing yet.
     pub fn new(disk: D) -> Self
         ensures { result.disk ≡ disk }
     {

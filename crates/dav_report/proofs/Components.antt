@@ -11,13 +11,15 @@ use Rattle.dav_report.specs.Calendars.{asked, filter_then, component_filters, co
 use Rattle.dav_report.specs.declared.caldav.component_filter.ComponentFilter.{ComponentFilter}
 
 -- a filter and the others
-both_ways : (a : Option Asked) (inner : Option Filters) (others : Option (List ComponentFilter)) → filter_then a inner (option_map filters_of others) ≡ option_map filters_of (with_first (component_with a inner) others)
+both_ways : (a : Option Asked) (inner : Option Filters) (others : Option (List ComponentFilter))
+    → filter_then a inner (option_map filters_of others) ≡ option_map filters_of (with_first (component_with a inner) others)
 both_ways None inner others = refl
 both_ways (Some a) None others = refl
 both_ways (Some a) (Some inner) None = refl
 both_ways (Some a) (Some inner) (Some fs) = refl
 
-one_more : (b : Bool) (e : Element) (inner others : Option Filters) (rest : List Element) → others ≡ option_map filters_of (each component_filter rest) → inner ≡ component_filters e.children
+one_more : (b : Bool) (e : Element) (inner others : Option Filters) (rest : List Element)
+    → others ≡ option_map filters_of (each component_filter rest) → inner ≡ component_filters e.children
     → cond b (filter_then (asked e) inner others) others ≡ option_map filters_of (each component_filter (cond b (e ∷ rest) rest))
 one_more true e inner others rest h i = rw (h, i) (both_ways (asked e) (component_filters e.children) (each component_filter rest))
 one_more false e inner others rest h i = h
@@ -51,7 +53,8 @@ same_fault None h = refl
 same_fault (Some gs) h = cc
 
 -- filters that were read are the list of those of the `comp-filter` children
-pub outer_read : (f : Forest) (read : Filters) (fs : List ComponentFilter) → filters_of fs ≡ read → Some read ≡ component_filters f → Some fs ≡ outer_filters f
+pub outer_read : (f : Forest) (read : Filters) (fs : List ComponentFilter) → filters_of fs ≡ read → Some read ≡ component_filters f
+    → Some fs ≡ outer_filters f
 outer_read f read fs e h = same_list (outer_filters f) fs (ap Some e ∙ h ∙ outer_is f)
 
 -- and there is no such list where one is at fault

@@ -11,12 +11,14 @@ abbrev pub held : List Open → Filters → Filters
 held [] f = f
 held (o ∷ os) f = joined o.before (and_filter (asked_by o.filter) (held os f) (filters_of o.behind.now))
 
-pub held-append : (os : List Open) (o : Open) (f : Filters) → held (os ++ o ∷ []) f ≡ held os (joined o.before (and_filter (asked_by o.filter) f (filters_of o.behind.now)))
+pub held-append : (os : List Open) (o : Open) (f : Filters)
+    → held (os ++ o ∷ []) f ≡ held os (joined o.before (and_filter (asked_by o.filter) f (filters_of o.behind.now)))
 held-append [] o f = refl
 held-append (p ∷ os) o f = ap (λ g. joined p.before (and_filter (asked_by p.filter) g (filters_of p.behind.now))) (held-append os o f)
 
 -- one filter from the rest to what is done
-pub joined_more : (d : Filters) (a : Asked) (inner r : Filters) → joined (joined d (and_filter a inner no_filters)) r ≡ joined d (and_filter a inner r)
+pub joined_more : (d : Filters) (a : Asked) (inner r : Filters)
+    → joined (joined d (and_filter a inner no_filters)) r ≡ joined d (and_filter a inner r)
 joined_more no_filters a inner r = refl
 joined_more (and_filter b i d) a inner r = ap (and_filter b i) (joined_more d a inner r)
 
@@ -25,20 +27,24 @@ joined-no_filters no_filters = refl
 joined-no_filters (and_filter a inner others) = ap (and_filter a inner) (joined-no_filters others)
 
 -- a filter is opened
-pub open_step : (os all : List Open) (o : Open) (f : Filters) (left : List ComponentFilter) (x : ComponentFilter) → all ≡ os ++ o ∷ [] → left ≡ x ∷ o.behind.now → asked_by x ≡ asked_by o.filter → held os (joined o.before (filters_of left)) ≡ f
+pub open_step : (os all : List Open) (o : Open) (f : Filters) (left : List ComponentFilter) (x : ComponentFilter) → all ≡ os ++ o ∷ []
+    → left ≡ x ∷ o.behind.now → asked_by x ≡ asked_by o.filter → held os (joined o.before (filters_of left)) ≡ f
     → held all (joined no_filters x.comp_filters) ≡ f
 open_step os all o f left x pushed step is h =
     ap (λ ps. held ps x.comp_filters) pushed ∙ held-append os o x.comp_filters ∙ ap (λ a. held os (joined o.before (and_filter a x.comp_filters (filters_of o.behind.now)))) (sym is)
     ∙ subst (λ (xs : List ComponentFilter). held os (joined o.before (filters_of xs)) ≡ f) step h
 
 -- the innermost open filter is closed
-pub close_step : (os all : List Open) (o : Open) (d f : Filters) (left : List ComponentFilter) → all ≡ os ++ o ∷ [] → left ≡ [] → held all (joined d (filters_of left)) ≡ f → held os (joined (joined o.before (and_filter (asked_by o.filter) d no_filters)) (filters_of o.behind.now)) ≡ f
+pub close_step : (os all : List Open) (o : Open) (d f : Filters) (left : List ComponentFilter) → all ≡ os ++ o ∷ [] → left ≡ []
+    → held all (joined d (filters_of left)) ≡ f
+    → held os (joined (joined o.before (and_filter (asked_by o.filter) d no_filters)) (filters_of o.behind.now)) ≡ f
 close_step os all o d f left popped none h =
     ap (held os) (joined_more o.before (asked_by o.filter) d (filters_of o.behind.now)) ∙ sym (held-append os o d) ∙ ap (λ g. held (os ++ o ∷ []) g) (sym (joined-no_filters d))
     ∙ subst (λ (ps : List Open). held ps (joined d no_filters) ≡ f) popped (subst (λ (xs : List ComponentFilter). held all (joined d (filters_of xs)) ≡ f) none h)
 
 -- nothing is open or left
-pub all_done : (all : List Open) (d f : Filters) (left : List ComponentFilter) → all ≡ [] → left ≡ [] → held all (joined d (filters_of left)) ≡ f → d ≡ f
+pub all_done : (all : List Open) (d f : Filters) (left : List ComponentFilter) → all ≡ [] → left ≡ [] → held all (joined d (filters_of left)) ≡ f
+    → d ≡ f
 all_done all d f left closed none h =
     sym (joined-no_filters d) ∙ subst (λ (ps : List Open). held ps (joined d no_filters) ≡ f) closed (subst (λ (xs : List ComponentFilter). held all (joined d (filters_of xs)) ≡ f) none h)
 
@@ -51,10 +57,12 @@ pub open_weight-append : (os : List Open) (o : Open) → open_weight (os ++ o �
 open_weight-append [] o = omega arith
 open_weight-append (p ∷ os) o = omega (arith, open_weight-append os o)
 
-pub opens_less : (os all : List Open) (o : Open) (left : List ComponentFilter) (x : ComponentFilter) → all ≡ os ++ o ∷ [] → left ≡ x ∷ o.behind.now → open_weight all + weight x.comp_filters < open_weight os + weight (filters_of left)
+pub opens_less : (os all : List Open) (o : Open) (left : List ComponentFilter) (x : ComponentFilter) → all ≡ os ++ o ∷ [] → left ≡ x ∷ o.behind.now
+    → open_weight all + weight x.comp_filters < open_weight os + weight (filters_of left)
 opens_less os all o left x pushed step = rw (pushed, step) (omega (arith, open_weight-append os o))
 
-pub closes_less : (os all : List Open) (o : Open) (left : List ComponentFilter) → all ≡ os ++ o ∷ [] → left ≡ [] → open_weight os + weight (filters_of o.behind.now) < open_weight all + weight (filters_of left)
+pub closes_less : (os all : List Open) (o : Open) (left : List ComponentFilter) → all ≡ os ++ o ∷ [] → left ≡ []
+    → open_weight os + weight (filters_of o.behind.now) < open_weight all + weight (filters_of left)
 closes_less os all o left popped none = rw (popped, none) (omega (arith, open_weight-append os o))
 
 pub none_left : (xs : List ComponentFilter) → length xs ≡ 0 → xs ≡ []

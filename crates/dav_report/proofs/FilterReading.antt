@@ -6,7 +6,7 @@ use Rattle.dav_lock.specs.Forests.{Forest, bare, then, Tree, element, text, comm
 use Rattle.dav_lock.specs.Trees.{tree_of, forest_of}
 use Rattle.dav_lock.specs.declared.element.Element.{Element}
 use Rattle.dav_lock.specs.declared.element.XmlNode.{XmlNode}
-use Rattle.dav_lock.proofs.Weights.{weight, tree_weight, tree_weighs}
+use Rattle.dav_lock.proofs.Weights.{weight, tree_weight}
 use Rattle.dav_report.specs.Children.{named}
 use Rattle.dav_report.specs.Filters.{Asked, Filters, no_filters, and_filter, joined}
 use Rattle.dav_report.specs.FilterLists.{asked_by}
@@ -23,17 +23,21 @@ abbrev pub held : List Open → Option Filters → Option Filters
 held [] f = f
 held (o ∷ os) f = then_maybe o.before (filter_then (Some (asked_by o.filter)) (held os f) (component_filters (forest_of o.behind.now)))
 
-pub held-append : (os : List Open) (o : Open) (f : Option Filters) → held (os ++ o ∷ []) f ≡ held os (then_maybe o.before (filter_then (Some (asked_by o.filter)) f (component_filters (forest_of o.behind.now))))
+pub held-append : (os : List Open) (o : Open) (f : Option Filters)
+    → held (os ++ o ∷ []) f ≡ held os (then_maybe o.before (filter_then (Some (asked_by o.filter)) f (component_filters (forest_of o.behind.now))))
 held-append [] o f = refl
-held-append (p ∷ os) o f = ap (λ g. then_maybe p.before (filter_then (Some (asked_by p.filter)) g (component_filters (forest_of p.behind.now)))) (held-append os o f)
+held-append (p ∷ os) o f =
+    ap (λ g. then_maybe p.before (filter_then (Some (asked_by p.filter)) g (component_filters (forest_of p.behind.now)))) (held-append os o f)
 
 -- a fault inside an open filter is a fault of all
 held-None : (os : List Open) → held os None ≡ None
 held-None [] = refl
-held-None (o ∷ os) = ap (λ g. then_maybe o.before (filter_then (Some (asked_by o.filter)) g (component_filters (forest_of o.behind.now)))) (held-None os)
+held-None (o ∷ os) =
+    ap (λ g. then_maybe o.before (filter_then (Some (asked_by o.filter)) g (component_filters (forest_of o.behind.now)))) (held-None os)
 
 -- a filter that is whole joins those that are done
-closed : (d : Filters) (a : Asked) (inner : Filters) (r : Option Filters) → then_maybe (joined d (and_filter a inner no_filters)) r ≡ then_maybe d (filter_then (Some a) (Some inner) r)
+closed : (d : Filters) (a : Asked) (inner : Filters) (r : Option Filters)
+    → then_maybe (joined d (and_filter a inner no_filters)) r ≡ then_maybe d (filter_then (Some a) (Some inner) r)
 closed d a inner None = refl
 closed d a inner (Some r) = ap Some (joined_more d a inner r)
 
@@ -50,7 +54,8 @@ with_kept true e f rest h = let is : f ≡ e = cc in rw is refl
 with_kept false e f rest h = cc
 
 -- an element of the name in front
-filters_at : (t : Tree) (e : Element) (rest : Forest) → e ∷ [] ≡ named (codes "comp-filter") (then t bare) → component_filters (then t rest) ≡ filter_then (asked e) (component_filters e.children) (component_filters rest)
+filters_at : (t : Tree) (e : Element) (rest : Forest) → e ∷ [] ≡ named (codes "comp-filter") (then t bare)
+    → component_filters (then t rest) ≡ filter_then (asked e) (component_filters e.children) (component_filters rest)
 filters_at (element prefix namespace namespaces name attributes children) e rest h =
     with_kept (bytes_eq name (codes "comp-filter")) (record { prefix = prefix; namespace = namespace; namespaces = namespaces; name = name; attributes = attributes; children = children }) e rest h
 filters_at (text t) e rest h = cc
@@ -58,28 +63,11 @@ filters_at (comment t) e rest h = cc
 filters_at (cdata t) e rest h = cc
 filters_at (instruction t d) e rest h = cc
 
-without : (b : Bool) (e : Element) (rest : Forest) → [] ≡ cond b (e ∷ []) [] → cond b (filter_then (asked e) (component_filters e.children) (component_filters rest)) (component_filters rest) ≡ component_filters rest
-without true e rest h = cc
-without false e rest h = refl
-
--- anything else in front
-filters_behind : (t : Tree) (rest : Forest) → [] ≡ named (codes "comp-filter") (then t bare) → component_filters (then t rest) ≡ component_filters rest
-filters_behind (element prefix namespace namespaces name attributes children) rest h =
-    without (bytes_eq name (codes "comp-filter")) (record { prefix = prefix; namespace = namespace; namespaces = namespaces; name = name; attributes = attributes; children = children }) rest h
-filters_behind (text t) rest h = refl
-filters_behind (comment t) rest h = refl
-filters_behind (cdata t) rest h = refl
-filters_behind (instruction t d) rest h = refl
-
--- what is no filter is passed over
-pub pass_step : (os : List Open) (d : Filters) (f : Option Filters) (left behind : List XmlNode) (x : XmlNode) → left ≡ x ∷ behind → [] ≡ named (codes "comp-filter") (then (tree_of x) bare)
-    → held os (then_maybe d (component_filters (forest_of left))) ≡ f → held os (then_maybe d (component_filters (forest_of behind))) ≡ f
-pass_step os d f left behind x step is h =
-    ap (λ g. held os (then_maybe d g)) (sym (filters_behind (tree_of x) (forest_of behind) is)) ∙ subst (λ (xs : List XmlNode). held os (then_maybe d (component_filters (forest_of xs))) ≡ f) step h
-
 -- a filter is opened
-pub open_step : (os all : List Open) (o : Open) (f : Option Filters) (left : List XmlNode) (x : XmlNode) (e : Element) → all ≡ os ++ o ∷ [] → left ≡ x ∷ o.behind.now → e ∷ [] ≡ named (codes "comp-filter") (then (tree_of x) bare)
-    → Some (asked_by o.filter) ≡ asked e → held os (then_maybe o.before (component_filters (forest_of left))) ≡ f → held all (then_maybe no_filters (component_filters e.children)) ≡ f
+pub open_step : (os all : List Open) (o : Open) (f : Option Filters) (left : List XmlNode) (x : XmlNode) (e : Element) → all ≡ os ++ o ∷ []
+    → left ≡ x ∷ o.behind.now → e ∷ [] ≡ named (codes "comp-filter") (then (tree_of x) bare)
+    → Some (asked_by o.filter) ≡ asked e → held os (then_maybe o.before (component_filters (forest_of left))) ≡ f
+    → held all (then_maybe no_filters (component_filters e.children)) ≡ f
 open_step os all o f left x e pushed step is a h =
     ap (held all) (none_then_maybe (component_filters e.children)) ∙ ap (λ ps. held ps (component_filters e.children)) pushed ∙ held-append os o (component_filters e.children)
     ∙ ap (λ b. held os (then_maybe o.before (filter_then b (component_filters e.children) (component_filters (forest_of o.behind.now))))) a
@@ -87,27 +75,27 @@ open_step os all o f left x e pushed step is a h =
     ∙ subst (λ (xs : List XmlNode). held os (then_maybe o.before (component_filters (forest_of xs))) ≡ f) step h
 
 -- a filter at fault
-pub fault_step : (os : List Open) (d : Filters) (f : Option Filters) (left behind : List XmlNode) (x : XmlNode) (e : Element) → left ≡ x ∷ behind → e ∷ [] ≡ named (codes "comp-filter") (then (tree_of x) bare) → None ≡ asked e
+pub fault_step : (os : List Open) (d : Filters) (f : Option Filters) (left behind : List XmlNode) (x : XmlNode) (e : Element) → left ≡ x ∷ behind
+    → e ∷ [] ≡ named (codes "comp-filter") (then (tree_of x) bare) → None ≡ asked e
     → held os (then_maybe d (component_filters (forest_of left))) ≡ f → None ≡ f
 fault_step os d f left behind x e step is a h =
     sym (held-None os) ∙ ap (λ b. held os (then_maybe d (filter_then b (component_filters e.children) (component_filters (forest_of behind))))) a
-    ∙ ap (λ g. held os (then_maybe d g)) (sym (filters_at (tree_of x) e (forest_of behind) is)) ∙ subst (λ (xs : List XmlNode). held os (then_maybe d (component_filters (forest_of xs))) ≡ f) step h
+    ∙ ap (λ g. held os (then_maybe d g)) (sym (filters_at (tree_of x) e (forest_of behind) is))
+    ∙ subst (λ (xs : List XmlNode). held os (then_maybe d (component_filters (forest_of xs))) ≡ f) step h
 
 -- the innermost open filter is closed
-pub close_step : (os all : List Open) (o : Open) (d : Filters) (f : Option Filters) (left : List XmlNode) → all ≡ os ++ o ∷ [] → left ≡ [] → held all (then_maybe d (component_filters (forest_of left))) ≡ f
+pub close_step : (os all : List Open) (o : Open) (d : Filters) (f : Option Filters) (left : List XmlNode) → all ≡ os ++ o ∷ [] → left ≡ []
+    → held all (then_maybe d (component_filters (forest_of left))) ≡ f
     → held os (then_maybe (joined o.before (and_filter (asked_by o.filter) d no_filters)) (component_filters (forest_of o.behind.now))) ≡ f
 close_step os all o d f left popped none h =
     ap (held os) (closed o.before (asked_by o.filter) d (component_filters (forest_of o.behind.now))) ∙ sym (held-append os o (Some d)) ∙ ap (λ g. held (os ++ o ∷ []) g) (sym (then_maybe-none d))
     ∙ subst (λ (ps : List Open). held ps (then_maybe d (Some no_filters)) ≡ f) popped (subst (λ (xs : List XmlNode). held all (then_maybe d (component_filters (forest_of xs))) ≡ f) none h)
 
 -- nothing is open or left
-pub all_done : (all : List Open) (d : Filters) (f : Option Filters) (left : List XmlNode) → all ≡ [] → left ≡ [] → held all (then_maybe d (component_filters (forest_of left))) ≡ f → Some d ≡ f
+pub all_done : (all : List Open) (d : Filters) (f : Option Filters) (left : List XmlNode) → all ≡ [] → left ≡ []
+    → held all (then_maybe d (component_filters (forest_of left))) ≡ f → Some d ≡ f
 all_done all d f left none_open none h =
     sym (then_maybe-none d) ∙ subst (λ (ps : List Open). held ps (then_maybe d (Some no_filters)) ≡ f) none_open (subst (λ (xs : List XmlNode). held all (then_maybe d (component_filters (forest_of xs))) ≡ f) none h)
-
--- the whole request, where nothing is read yet
-pub begun : (o : Option Filters) → then_maybe no_filters o ≡ o
-begun o = none_then_maybe o
 
 kept_weight : (b : Bool) (e f : Element) → f ∷ [] ≡ cond b (e ∷ []) [] → 2 + weight f.children ≤ 2 + weight e.children
 kept_weight true e f h = let is : f ≡ e = cc in subst (λ (g : Element). 2 + weight g.children ≤ 2 + weight e.children) (sym is) (omega arith)
@@ -131,14 +119,14 @@ pub open_weight-append : (os : List Open) (o : Open) → open_weight (os ++ o �
 open_weight-append [] o = omega arith
 open_weight-append (p ∷ os) o = omega (arith, open_weight-append os o)
 
-pub opens_less : (os all : List Open) (o : Open) (left : List XmlNode) (x : XmlNode) (e : Element) → all ≡ os ++ o ∷ [] → left ≡ x ∷ o.behind.now → e ∷ [] ≡ named (codes "comp-filter") (then (tree_of x) bare)
+pub opens_less : (os all : List Open) (o : Open) (left : List XmlNode) (x : XmlNode) (e : Element) → all ≡ os ++ o ∷ [] → left ≡ x ∷ o.behind.now
+    → e ∷ [] ≡ named (codes "comp-filter") (then (tree_of x) bare)
     → open_weight all + weight e.children < open_weight os + weight (forest_of left)
-opens_less os all o left x e pushed step is = rw (pushed, step) (omega (arith, open_weight-append os o, named_weight (codes "comp-filter") (tree_of x) e is))
+opens_less os all o left x e pushed step is =
+    rw (pushed, step) (omega (arith, open_weight-append os o, named_weight (codes "comp-filter") (tree_of x) e is))
 
-pub passes_less : (n : ℕ) (left behind : List XmlNode) (x : XmlNode) → left ≡ x ∷ behind → n + weight (forest_of behind) < n + weight (forest_of left)
-passes_less n left behind x step = rw step (omega (arith, tree_weighs (tree_of x)))
-
-pub closes_less : (os all : List Open) (o : Open) (left : List XmlNode) → all ≡ os ++ o ∷ [] → left ≡ [] → open_weight os + weight (forest_of o.behind.now) < open_weight all + weight (forest_of left)
+pub closes_less : (os all : List Open) (o : Open) (left : List XmlNode) → all ≡ os ++ o ∷ [] → left ≡ []
+    → open_weight os + weight (forest_of o.behind.now) < open_weight all + weight (forest_of left)
 closes_less os all o left popped none = rw (popped, none) (omega (arith, open_weight-append os o))
 
 pub none_left : (xs : List XmlNode) → length xs ≡ 0 → xs ≡ []

@@ -8,7 +8,8 @@ use Rattle.dav_report.specs.declared.caldav.component_filter.ComponentFilter.{Co
 use Rattle.dav_report.specs.declared.caldav.component_filter.ComponentFilters.TheDeep.{size-ComponentFilter}
 use Rattle.dav_report.proofs.FilterWeights.{weight, weight-append}
 
-depth-append : (fs gs : List ComponentFilter) → filters_depth (filters_of (fs ++ gs)) ≡ max (filters_depth (filters_of fs)) (filters_depth (filters_of gs))
+depth-append : (fs gs : List ComponentFilter)
+    → filters_depth (filters_of (fs ++ gs)) ≡ max (filters_depth (filters_of fs)) (filters_depth (filters_of gs))
 depth-append [] gs = omega arith
 depth-append (f ∷ fs) gs = omega (arith, depth-append fs gs)
 
@@ -31,7 +32,8 @@ pub record Appended (fs gs new rest : List ComponentFilter) : Type 0 where
   pub weighs : weight (filters_of new) ≤ weight (filters_of fs) + weight (filters_of gs)
   pub left : filters_depth (filters_of rest) ≤ filters_depth (filters_of gs)
 
-pub appended : (b : Bool) (fs gs new rest : List ComponentFilter) → new ≡ (if b then fs ++ gs else fs) → rest ≡ (if b then [] else gs) → Appended fs gs new rest
+pub appended : (b : Bool) (fs gs new rest : List ComponentFilter) → new ≡ (if b then fs ++ gs else fs) → rest ≡ (if b then [] else gs)
+    → Appended fs gs new rest
 appended true fs gs new rest n r = rw (n, r) (record {
   waits = omega (arith, depth-append fs gs);
   weighs = omega (arith, weight-append fs gs);

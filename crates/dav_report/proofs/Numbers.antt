@@ -18,7 +18,8 @@ not_passed true v none = absurd (none refl)
 not_passed false v none = refl
 
 refused : (n v : ℕ) (b : Bool) → (0 < n → b ≡ true → v < 4294967296 → ⊥) → None ≡ cond (ltb 0 n && b && ltb v 4294967296) (Some v) None
-refused n v b none = not_passed (ltb 0 n && b && ltb v 4294967296) v (λ all. none (grind (arith, nat_tests)) (grind (arith, nat_tests)) (grind (arith, nat_tests)))
+refused n v b none =
+    not_passed (ltb 0 n && b && ltb v 4294967296) v (λ all. none (grind (arith, nat_tests)) (grind (arith, nat_tests)) (grind (arith, nat_tests)))
 
 pub number_reads : {E : Type 0} (t : List ℕ) (r : Result ℕ E) → ParsesUnsigned 32 10 t r → result_ok r ≡ number t
 number_reads t (Ok x) h =

@@ -60,8 +60,11 @@ named-joined name f g = ap (filter (is_named name)) (elements-joined f g) ∙ fi
 
 module _ {A : Type 0} (R : Forest → List A) (joins : (f g : Forest) → R (joined f g) ≡ R f ++ R g) where
   -- one node more, and what is read there
-  pub read_more : (xs : List XmlNode) (i : ℕ) (x : XmlNode) (found : List A) → i < length xs → x ≡ get_or xs i x → found ≡ R (then (tree_of x) bare) → R (forest_of (take (i + 1) xs)) ≡ R (forest_of (take i xs)) ++ found
-  read_more xs i x found within is here = ap R (forest_step xs i x within is) ∙ joins (forest_of (take i xs)) (then (tree_of x) bare) ∙ ap (λ es. R (forest_of (take i xs)) ++ es) (sym here)
+  pub read_more : (xs : List XmlNode) (i : ℕ) (x : XmlNode) (found : List A) → i < length xs → x ≡ get_or xs i x → found ≡ R (then (tree_of x) bare)
+      → R (forest_of (take (i + 1) xs)) ≡ R (forest_of (take i xs)) ++ found
+  read_more xs i x found within is here =
+      ap R (forest_step xs i x within is) ∙ joins (forest_of (take i xs)) (then (tree_of x) bare)
+      ∙ ap (λ es. R (forest_of (take i xs)) ++ es) (sym here)
 
   -- what is read at a node, before it and after it
   pub read_parts : (xs : List XmlNode) (i : ℕ) (x : XmlNode) (found : List A) → i < length xs → x ≡ get_or xs i x → found ≡ R (then (tree_of x) bare)
@@ -71,38 +74,51 @@ module _ {A : Type 0} (R : Forest → List A) (joins : (f g : Forest) → R (joi
       ∙ ap (λ es. R (forest_of (take i xs)) ++ es) (joins (then (tree_of x) bare) (forest_of (drop (i + 1) xs)) ∙ ap (λ es. es ++ R (forest_of (drop (i + 1) xs))) (sym here))
 
   -- nothing yet
-  pub none_more : (xs : List XmlNode) (i : ℕ) (x : XmlNode) → i < length xs → x ≡ get_or xs i x → [] ≡ R (then (tree_of x) bare) → R (forest_of (take i xs)) ≡ [] → R (forest_of (take (i + 1) xs)) ≡ []
+  pub none_more : (xs : List XmlNode) (i : ℕ) (x : XmlNode) → i < length xs → x ≡ get_or xs i x → [] ≡ R (then (tree_of x) bare)
+      → R (forest_of (take i xs)) ≡ [] → R (forest_of (take (i + 1) xs)) ≡ []
   none_more xs i x within is here before = read_more xs i x [] within is here ∙ ap (λ es. es ++ []) before
 
-  pub first_here : (xs : List XmlNode) (f : Forest) (i : ℕ) (x : XmlNode) (e : A) → forest_of xs ≡ f → i < length xs → x ≡ get_or xs i x → e ∷ [] ≡ R (then (tree_of x) bare) → R (forest_of (take i xs)) ≡ [] → Some e ≡ first_of (R f)
+  pub first_here : (xs : List XmlNode) (f : Forest) (i : ℕ) (x : XmlNode) (e : A) → forest_of xs ≡ f → i < length xs → x ≡ get_or xs i x
+      → e ∷ [] ≡ R (then (tree_of x) bare) → R (forest_of (take i xs)) ≡ [] → Some e ≡ first_of (R f)
   first_here xs f i x e whole within is here before =
       sym (ap first_of (ap R (sym whole) ∙ read_parts xs i x (e ∷ []) within is here ∙ ap (λ es. es ++ (e ∷ R (forest_of (drop (i + 1) xs)))) before))
 
-  pub last_here : (xs : List XmlNode) (i : ℕ) (x : XmlNode) (e : A) → i < length xs → x ≡ get_or xs i x → e ∷ [] ≡ R (then (tree_of x) bare) → Some e ≡ last_of (R (forest_of (take (i + 1) xs)))
+  pub last_here : (xs : List XmlNode) (i : ℕ) (x : XmlNode) (e : A) → i < length xs → x ≡ get_or xs i x → e ∷ [] ≡ R (then (tree_of x) bare)
+      → Some e ≡ last_of (R (forest_of (take (i + 1) xs)))
   last_here xs i x e within is here = sym (ap last_of (read_more xs i x (e ∷ []) within is here) ∙ last_of-push (R (forest_of (take i xs))) e)
 
-  pub last_stays : (xs : List XmlNode) (i : ℕ) (x : XmlNode) (last : Option A) → i < length xs → x ≡ get_or xs i x → [] ≡ R (then (tree_of x) bare) → last ≡ last_of (R (forest_of (take i xs))) → last ≡ last_of (R (forest_of (take (i + 1) xs)))
-  last_stays xs i x last within is here before = before ∙ sym (ap last_of (read_more xs i x [] within is here ∙ append-nil (R (forest_of (take i xs)))))
+  pub last_stays : (xs : List XmlNode) (i : ℕ) (x : XmlNode) (last : Option A) → i < length xs → x ≡ get_or xs i x → [] ≡ R (then (tree_of x) bare)
+      → last ≡ last_of (R (forest_of (take i xs))) → last ≡ last_of (R (forest_of (take (i + 1) xs)))
+  last_stays xs i x last within is here before =
+      before ∙ sym (ap last_of (read_more xs i x [] within is here ∙ append-nil (R (forest_of (take i xs)))))
 
 module _ {A : Type 0} (R : Forest → List A) (joins : (f g : Forest) → R (joined f g) ≡ R f ++ R g) where
   -- all that was read, after what was there before
-  pub old_stays : (old names : List A) (xs : List XmlNode) (i : ℕ) (x : XmlNode) → i < length xs → x ≡ get_or xs i x → [] ≡ R (then (tree_of x) bare) → names ≡ old ++ R (forest_of (take i xs)) → names ≡ old ++ R (forest_of (take (i + 1) xs))
-  old_stays old names xs i x within is here before = before ∙ ap (λ es. old ++ es) (sym (read_more R joins xs i x [] within is here ∙ append-nil (R (forest_of (take i xs)))))
+  pub old_stays : (old names : List A) (xs : List XmlNode) (i : ℕ) (x : XmlNode) → i < length xs → x ≡ get_or xs i x → [] ≡ R (then (tree_of x) bare)
+      → names ≡ old ++ R (forest_of (take i xs)) → names ≡ old ++ R (forest_of (take (i + 1) xs))
+  old_stays old names xs i x within is here before =
+      before ∙ ap (λ es. old ++ es) (sym (read_more R joins xs i x [] within is here ∙ append-nil (R (forest_of (take i xs)))))
 
-  pub old_more : (old names found : List A) (xs : List XmlNode) (i : ℕ) (x : XmlNode) → i < length xs → x ≡ get_or xs i x → found ≡ R (then (tree_of x) bare) → names ≡ old ++ R (forest_of (take i xs))
+  pub old_more : (old names found : List A) (xs : List XmlNode) (i : ℕ) (x : XmlNode) → i < length xs → x ≡ get_or xs i x
+      → found ≡ R (then (tree_of x) bare) → names ≡ old ++ R (forest_of (take i xs))
       → names ++ found ≡ old ++ R (forest_of (take (i + 1) xs))
   old_more old names found xs i x within is here before =
       ap (λ es. es ++ found) before ∙ append_assoc old (R (forest_of (take i xs))) found ∙ ap (λ es. old ++ es) (sym (read_more R joins xs i x found within is here))
 
-  pub all_stays : (names : List A) (xs : List XmlNode) (i : ℕ) (x : XmlNode) → i < length xs → x ≡ get_or xs i x → [] ≡ R (then (tree_of x) bare) → names ≡ R (forest_of (take i xs)) → names ≡ R (forest_of (take (i + 1) xs))
+  pub all_stays : (names : List A) (xs : List XmlNode) (i : ℕ) (x : XmlNode) → i < length xs → x ≡ get_or xs i x → [] ≡ R (then (tree_of x) bare)
+      → names ≡ R (forest_of (take i xs)) → names ≡ R (forest_of (take (i + 1) xs))
   all_stays names xs i x within is here before = before ∙ sym (read_more R joins xs i x [] within is here ∙ append-nil (R (forest_of (take i xs))))
 
-  pub all_more : (names found : List A) (xs : List XmlNode) (i : ℕ) (x : XmlNode) → i < length xs → x ≡ get_or xs i x → found ≡ R (then (tree_of x) bare) → names ≡ R (forest_of (take i xs)) → names ++ found ≡ R (forest_of (take (i + 1) xs))
+  pub all_more : (names found : List A) (xs : List XmlNode) (i : ℕ) (x : XmlNode) → i < length xs → x ≡ get_or xs i x
+      → found ≡ R (then (tree_of x) bare) → names ≡ R (forest_of (take i xs)) → names ++ found ≡ R (forest_of (take (i + 1) xs))
   all_more names found xs i x within is here before = ap (λ es. es ++ found) before ∙ sym (read_more R joins xs i x found within is here)
 
   -- the last of what was read, where something or nothing more is read
-  pub last_more : (xs : List XmlNode) (i : ℕ) (x : XmlNode) (found : List A) (last : Option A) → i < length xs → x ≡ get_or xs i x → found ≡ R (then (tree_of x) bare) → last ≡ option_or (last_of found) (last_of (R (forest_of (take i xs)))) → last ≡ last_of (R (forest_of (take (i + 1) xs)))
-  last_more xs i x found last within is here e = e ∙ sym (ap last_of (read_more R joins xs i x found within is here) ∙ last_of-append (R (forest_of (take i xs))) found)
+  pub last_more : (xs : List XmlNode) (i : ℕ) (x : XmlNode) (found : List A) (last : Option A) → i < length xs → x ≡ get_or xs i x
+      → found ≡ R (then (tree_of x) bare) → last ≡ option_or (last_of found) (last_of (R (forest_of (take i xs))))
+      → last ≡ last_of (R (forest_of (take (i + 1) xs)))
+  last_more xs i x found last within is here e =
+      e ∙ sym (ap last_of (read_more R joins xs i x found within is here) ∙ last_of-append (R (forest_of (take i xs))) found)
 
 module _ {A : Type 0} (g : Element → List A) (name : List ℕ) where
   pub flat-joined : (f h : Forest) → flat_map g (named name (joined f h)) ≡ flat_map g (named name f) ++ flat_map g (named name h)
@@ -120,7 +136,8 @@ names-joined f g = ap (map (λ e. e.name)) (elements-joined f g) ∙ map-append 
 some_inj : {A : Type 0} {x y : A} → Some x ≡ Some y → x ≡ y
 some_inj e = cc
 
-pushed : {B : Type 0} (o : Option B) (all more : Option (List B)) (bs : List B) (b : B) → with_first o all ≡ Some bs → ((cs : List B) → all ≡ Some cs → more ≡ Some (cs ++ b ∷ [])) → with_first o more ≡ Some (bs ++ b ∷ [])
+pushed : {B : Type 0} (o : Option B) (all more : Option (List B)) (bs : List B) (b : B) → with_first o all ≡ Some bs
+    → ((cs : List B) → all ≡ Some cs → more ≡ Some (cs ++ b ∷ [])) → with_first o more ≡ Some (bs ++ b ∷ [])
 pushed None all more bs b whole rest = cc
 pushed (Some x) None more bs b whole rest = cc
 pushed (Some x) (Some cs) more bs b whole rest = rw (rest cs refl) (ap (λ ds. Some (ds ++ b ∷ [])) (some_inj whole))
@@ -129,7 +146,8 @@ no_rest : {B : Type 0} (o : Option B) → with_first o None ≡ None
 no_rest None = refl
 no_rest (Some x) = refl
 
-each-push : {A B : Type 0} (f : A → Option B) (ys : List A) (bs : List B) (a : A) (b : B) → each f ys ≡ Some bs → f a ≡ Some b → each f (ys ++ a ∷ []) ≡ Some (bs ++ b ∷ [])
+each-push : {A B : Type 0} (f : A → Option B) (ys : List A) (bs : List B) (a : A) (b : B) → each f ys ≡ Some bs → f a ≡ Some b
+    → each f (ys ++ a ∷ []) ≡ Some (bs ++ b ∷ [])
 each-push f [] bs a b all here = rw here (ap (λ cs. Some (cs ++ b ∷ [])) (some_inj all))
 each-push f (x ∷ ys) bs a b all here = pushed (f x) (each f ys) (each f (ys ++ a ∷ [])) bs b all (λ cs rest. each-push f ys cs a b rest here)
 
@@ -139,19 +157,22 @@ each-fault f (x ∷ ys) a more here = rw (each-fault f ys a more here) (no_rest 
 
 module _ {B : Type 0} (f : Element → Option B) (name : List ℕ) where
   -- a node that isn't asked for
-  pub each_stays : (xs : List XmlNode) (i : ℕ) (x : XmlNode) (bs : List B) → i < length xs → x ≡ get_or xs i x → [] ≡ named name (then (tree_of x) bare) → each f (named name (forest_of (take i xs))) ≡ Some bs
+  pub each_stays : (xs : List XmlNode) (i : ℕ) (x : XmlNode) (bs : List B) → i < length xs → x ≡ get_or xs i x
+      → [] ≡ named name (then (tree_of x) bare) → each f (named name (forest_of (take i xs))) ≡ Some bs
       → each f (named name (forest_of (take (i + 1) xs))) ≡ Some bs
   each_stays xs i x bs within is here before =
       ap (each f) (read_more (named name) (named-joined name) xs i x [] within is here ∙ append-nil (named name (forest_of (take i xs)))) ∙ before
 
   -- one more
-  pub each_more : (xs : List XmlNode) (i : ℕ) (x : XmlNode) (bs : List B) (e : Element) (b : B) → i < length xs → x ≡ get_or xs i x → e ∷ [] ≡ named name (then (tree_of x) bare) → f e ≡ Some b
+  pub each_more : (xs : List XmlNode) (i : ℕ) (x : XmlNode) (bs : List B) (e : Element) (b : B) → i < length xs → x ≡ get_or xs i x
+      → e ∷ [] ≡ named name (then (tree_of x) bare) → f e ≡ Some b
       → each f (named name (forest_of (take i xs))) ≡ Some bs → each f (named name (forest_of (take (i + 1) xs))) ≡ Some (bs ++ b ∷ [])
   each_more xs i x bs e b within is here good before =
       ap (each f) (read_more (named name) (named-joined name) xs i x (e ∷ []) within is here) ∙ each-push f (named name (forest_of (take i xs))) bs e b before good
 
   -- one at fault
-  pub each_faulty : (xs : List XmlNode) (g : Forest) (i : ℕ) (x : XmlNode) (e : Element) → forest_of xs ≡ g → i < length xs → x ≡ get_or xs i x → e ∷ [] ≡ named name (then (tree_of x) bare) → f e ≡ None → None ≡ each f (named name g)
+  pub each_faulty : (xs : List XmlNode) (g : Forest) (i : ℕ) (x : XmlNode) (e : Element) → forest_of xs ≡ g → i < length xs → x ≡ get_or xs i x
+      → e ∷ [] ≡ named name (then (tree_of x) bare) → f e ≡ None → None ≡ each f (named name g)
   each_faulty xs g i x e whole within is here bad =
       sym (ap (λ h. each f (named name h)) (sym whole) ∙ ap (each f) (read_parts (named name) (named-joined name) xs i x (e ∷ []) within is here) ∙ each-fault f (named name (forest_of (take i xs))) e _ bad)
 
@@ -161,18 +182,25 @@ module _ {B : Type 0} (f : Element → Option B) (name : List ℕ) where
     kept bs = last_of (flat_map list bs)
 
     kept-push : (bs : List B) (b : B) → kept (bs ++ b ∷ []) ≡ option_or (last_of (list b)) (kept bs)
-    kept-push bs b = ap last_of (flat_map-append list bs (b ∷ []) ∙ ap (λ cs. flat_map list bs ++ cs) (append-nil (list b))) ∙ last_of-append (flat_map list bs) (list b)
+    kept-push bs b =
+        ap last_of (flat_map-append list bs (b ∷ []) ∙ ap (λ cs. flat_map list bs ++ cs) (append-nil (list b)))
+        ∙ last_of-append (flat_map list bs) (list b)
 
-    kept_next : (es : List Element) (o : Option (List B)) (last : Option C) (e : Element) (b : B) → each f es ≡ o → option_map kept o ≡ Some last → f e ≡ Some b → option_map kept (each f (es ++ e ∷ [])) ≡ Some (option_or (last_of (list b)) last)
+    kept_next : (es : List Element) (o : Option (List B)) (last : Option C) (e : Element) (b : B) → each f es ≡ o → option_map kept o ≡ Some last
+        → f e ≡ Some b → option_map kept (each f (es ++ e ∷ [])) ≡ Some (option_or (last_of (list b)) last)
     kept_next es None last e b all before good = cc
-    kept_next es (Some bs) last e b all before good = ap (option_map kept) (each-push f es bs e b all good) ∙ ap Some (kept-push bs b ∙ ap (option_or (last_of (list b))) (some_inj before))
+    kept_next es (Some bs) last e b all before good =
+        ap (option_map kept) (each-push f es bs e b all good) ∙ ap Some (kept-push bs b ∙ ap (option_or (last_of (list b))) (some_inj before))
 
-    pub kept_stays : (xs : List XmlNode) (i : ℕ) (x : XmlNode) (last : Option C) → i < length xs → x ≡ get_or xs i x → [] ≡ named name (then (tree_of x) bare) → option_map kept (each f (named name (forest_of (take i xs)))) ≡ Some last
+    pub kept_stays : (xs : List XmlNode) (i : ℕ) (x : XmlNode) (last : Option C) → i < length xs → x ≡ get_or xs i x
+        → [] ≡ named name (then (tree_of x) bare) → option_map kept (each f (named name (forest_of (take i xs)))) ≡ Some last
         → option_map kept (each f (named name (forest_of (take (i + 1) xs)))) ≡ Some last
     kept_stays xs i x last within is here before =
         ap (λ es. option_map kept (each f es)) (read_more (named name) (named-joined name) xs i x [] within is here ∙ append-nil (named name (forest_of (take i xs)))) ∙ before
 
-    pub kept_more : (xs : List XmlNode) (i : ℕ) (x : XmlNode) (last : Option C) (e : Element) (b : B) → i < length xs → x ≡ get_or xs i x → e ∷ [] ≡ named name (then (tree_of x) bare) → f e ≡ Some b
-        → option_map kept (each f (named name (forest_of (take i xs)))) ≡ Some last → option_map kept (each f (named name (forest_of (take (i + 1) xs)))) ≡ Some (option_or (last_of (list b)) last)
+    pub kept_more : (xs : List XmlNode) (i : ℕ) (x : XmlNode) (last : Option C) (e : Element) (b : B) → i < length xs → x ≡ get_or xs i x
+        → e ∷ [] ≡ named name (then (tree_of x) bare) → f e ≡ Some b
+        → option_map kept (each f (named name (forest_of (take i xs)))) ≡ Some last
+        → option_map kept (each f (named name (forest_of (take (i + 1) xs)))) ≡ Some (option_or (last_of (list b)) last)
     kept_more xs i x last e b within is here good before =
         ap (λ es. option_map kept (each f es)) (read_more (named name) (named-joined name) xs i x (e ∷ []) within is here) ∙ kept_next (named name (forest_of (take i xs))) _ last e b refl before good

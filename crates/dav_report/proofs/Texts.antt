@@ -9,7 +9,8 @@ use Rattle.dav_report.specs.Making.{without_texts, is_text_tree}
 abbrev pub not_texts : XmlNode → Bool
 not_texts x = not (is_text_tree (tree_of x))
 
-one_more : (t : Tree) (xs rest : List XmlNode) (x : XmlNode) → tree_of x ≡ t → forest_of rest ≡ without_texts (forest_of xs) → forest_of (cond (not (is_text_tree t)) (x ∷ rest) rest) ≡ without_texts (then t (forest_of xs))
+one_more : (t : Tree) (xs rest : List XmlNode) (x : XmlNode) → tree_of x ≡ t → forest_of rest ≡ without_texts (forest_of xs)
+    → forest_of (cond (not (is_text_tree t)) (x ∷ rest) rest) ≡ without_texts (then t (forest_of xs))
 one_more (element prefix namespace namespaces name attributes children) xs rest x is h = rw (is, h) refl
 one_more (text t) xs rest x is h = h
 one_more (comment t) xs rest x is h = rw (is, h) refl

@@ -14,7 +14,12 @@ use Rattle.dav_report.specs.declared.carddav.query.CardDavReportType.{CardDavRep
 use Rattle.dav_report.specs.declared.carddav.query.CardDavReportType.TheVariants.{AddressBookQuery as query, AddressBookMultiget}
 
 abbrev pub property_with : Element → Option (List ℕ) → Option (List ParameterFilter) → Option PropertyFilter
-property_with e (Some name) (Some filters) = Some (record { name = name; is_not_defined = is_not_defined e.children; text_match = last_match e.children; param_filters = filters })
+property_with e (Some name) (Some filters) = Some (record {
+  name = name;
+  is_not_defined = is_not_defined e.children;
+  text_match = last_match e.children;
+  param_filters = filters;
+})
 property_with e (Some name) None = None
 property_with e None filters = None
 
@@ -41,7 +46,11 @@ all_counts children = flat_map (λ l. counts l.children) (named (codes "limit") 
 -- a query keeps the last filter and the last count, where that is a number, and is refused where any filter is at fault
 abbrev pub address_query : Forest → Option AddressBookQuery
 address_query children =
-    option_map (λ filters. record { prop_filter = last_of (flat_map (λ fs. fs) filters); properties = properties children; limit = option_and_then number (last_of (all_counts children)) }) (all_filters children)
+    option_map (λ filters. record {
+      prop_filter = last_of (flat_map (λ fs. fs) filters);
+      properties = properties children;
+      limit = option_and_then number (last_of (all_counts children));
+    }) (all_filters children)
 
 -- the report that an element asks for; nothing where the request is bad
 abbrev pub address_report : Element → Option CardDavReportType

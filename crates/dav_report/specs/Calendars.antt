@@ -24,17 +24,29 @@ last_range children = option_map time_range (last_of (named (codes "time-range")
 -- a filter of a property; nothing where it has no name
 abbrev pub property_filter : Element → Option PropertyFilter
 property_filter e =
-    option_map (λ name. record { name = name; is_not_defined = is_not_defined e.children; text_match = last_match e.children; time_range = last_range e.children; param_filters = [] }) (attribute (codes "name") e)
+    option_map (λ name. record {
+      name = name;
+      is_not_defined = is_not_defined e.children;
+      text_match = last_match e.children;
+      time_range = last_range e.children;
+      param_filters = [];
+    }) (attribute (codes "name") e)
 
 abbrev pub property_filters : Forest → Option (List PropertyFilter)
 property_filters children = each property_filter (named (codes "prop-filter") children)
 
 abbrev pub asked_with : Element → Option (List ℕ) → Option (List PropertyFilter) → Option Asked
-asked_with e (Some name) (Some filters) = Some (record { name = name; is_not_defined = is_not_defined e.children; time_range = last_range e.children; prop_filters = filters })
+asked_with e (Some name) (Some filters) = Some (record {
+  name = name;
+  is_not_defined = is_not_defined e.children;
+  time_range = last_range e.children;
+  prop_filters = filters;
+})
 asked_with e (Some name) None = None
 asked_with e None filters = None
 
--- what a filter of a component asks besides the filters of components in it; nothing where it has no name, or a filter of a property in it has none
+-- what a filter of a component asks besides the filters of components in it; nothing where it has no name, or a filter
+-- of a property in it has none
 abbrev pub asked : Element → Option Asked
 asked e = asked_with e (attribute (codes "name") e) (property_filters e.children)
 
@@ -49,7 +61,14 @@ abbrev pub component_filters : Forest → Option Filters
 component_filters bare = Some no_filters
 component_filters (then (element prefix namespace namespaces name attributes children) rest) =
     cond (bytes_eq name (codes "comp-filter"))
-    (filter_then (asked (record { prefix = prefix; namespace = namespace; namespaces = namespaces; name = name; attributes = attributes; children = children })) (component_filters children) (component_filters rest))
+    (filter_then (asked (record {
+      prefix = prefix;
+      namespace = namespace;
+      namespaces = namespaces;
+      name = name;
+      attributes = attributes;
+      children = children;
+    })) (component_filters children) (component_filters rest))
     (component_filters rest)
 component_filters (then (text t) rest) = component_filters rest
 component_filters (then (comment t) rest) = component_filters rest
@@ -57,7 +76,13 @@ component_filters (then (cdata t) rest) = component_filters rest
 component_filters (then (instruction t d) rest) = component_filters rest
 
 abbrev pub component_with : Option Asked → Option Filters → Option ComponentFilter
-component_with (Some a) (Some inner) = Some (record { name = a.name; is_not_defined = a.is_not_defined; time_range = a.time_range; prop_filters = a.prop_filters; comp_filters = inner })
+component_with (Some a) (Some inner) = Some (record {
+  name = a.name;
+  is_not_defined = a.is_not_defined;
+  time_range = a.time_range;
+  prop_filters = a.prop_filters;
+  comp_filters = inner;
+})
 component_with (Some a) None = None
 component_with None inner = None
 
@@ -76,7 +101,11 @@ all_filters children = each (λ f. outer_filters f.children) (named (codes "filt
 -- a query keeps the last filter, and is refused where any is at fault
 abbrev pub calendar_query : Forest → Option CalendarQuery
 calendar_query children =
-    option_map (λ filters. record { comp_filter = last_of (flat_map (λ fs. fs) filters); time_range = None; properties = properties children }) (all_filters children)
+    option_map (λ filters. record {
+      comp_filter = last_of (flat_map (λ fs. fs) filters);
+      time_range = None;
+      properties = properties children;
+    }) (all_filters children)
 
 -- a free-busy query needs its range
 abbrev pub free_busy : Forest → Option TimeRange
@@ -85,5 +114,6 @@ free_busy children = option_map time_range (first_of (named (codes "time-range")
 -- the report that an element asks for; nothing where the request is bad
 abbrev pub calendar_report : Element → Option CalDavReportType
 calendar_report root =
-    cond (bytes_eq root.name (codes "calendar-query")) (option_map query (calendar_query root.children)) (cond (bytes_eq root.name (codes "calendar-multiget")) (Some (CalendarMultiget (hrefs root.children)))
+    cond (bytes_eq root.name (codes "calendar-query")) (option_map query (calendar_query root.children))
+    (cond (bytes_eq root.name (codes "calendar-multiget")) (Some (CalendarMultiget (hrefs root.children)))
     (cond (bytes_eq root.name (codes "free-busy-query")) (option_map FreeBusyQuery (free_busy root.children)) None))

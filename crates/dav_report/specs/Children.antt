@@ -10,7 +10,14 @@ use Rattle.dav_lock.specs.declared.element.Element.{Element}
 abbrev pub elements : Forest → List Element
 elements bare = []
 elements (then (element prefix namespace namespaces name attributes children) rest) =
-    record { prefix = prefix; namespace = namespace; namespaces = namespaces; name = name; attributes = attributes; children = children } ∷ elements rest
+    record {
+      prefix = prefix;
+      namespace = namespace;
+      namespaces = namespaces;
+      name = name;
+      attributes = attributes;
+      children = children;
+    } ∷ elements rest
 elements (then (text t) rest) = elements rest
 elements (then (comment t) rest) = elements rest
 elements (then (cdata t) rest) = elements rest

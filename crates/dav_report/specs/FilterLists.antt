@@ -4,7 +4,12 @@ use Rattle.dav_report.specs.Filters.{Asked, Filters, no_filters, and_filter}
 use Rattle.dav_report.specs.declared.caldav.component_filter.ComponentFilter.{ComponentFilter}
 
 abbrev pub asked_by : ComponentFilter → Asked
-asked_by f = record { name = f.name; is_not_defined = f.is_not_defined; time_range = f.time_range; prop_filters = f.prop_filters }
+asked_by f = record {
+  name = f.name;
+  is_not_defined = f.is_not_defined;
+  time_range = f.time_range;
+  prop_filters = f.prop_filters;
+}
 
 abbrev pub filters_of : List ComponentFilter → Filters
 filters_of [] = no_filters

@@ -1,5 +1,5 @@
--- The filters in a filter nest less deep than those that hold it: the law that their measure cites, so it stands among the
--- definitions.
+-- The filters in a filter nest less deep than those that hold it: the law that their measure cites, so it stands among
+-- the definitions.
 use Rattle.std.specs.Prelude.{◌≤◌, max, List, [], ◌∷◌}
 use Rattle.std.proofs.Common.{arith}
 use denote.Param.Weighed.{most}

@@ -31,7 +31,8 @@ value_of line = option_map (λ p. p.1) (cut colon line)
 
 -- a line that begins with `UID:` or `UID;` gives what follows its first colon, where it has one
 abbrev pub calendar_uid_in : List ℕ → Option (List ℕ)
-calendar_uid_in line = cond (starts_with nat_eq line (codes "UID:") || starts_with nat_eq line (codes "UID;")) (value_of line) None
+calendar_uid_in line =
+    cond (starts_with nat_eq line (codes "UID:") || starts_with nat_eq line (codes "UID;")) (value_of line) None
 
 abbrev pub calendar_uid : List ℕ → Option (List ℕ)
 calendar_uid content = first_some (λ line. calendar_uid_in (trim line)) (lines content)
@@ -45,7 +46,9 @@ after_group name = unwrap_or (option_map (λ p. p.1) (cut dot name)) name
 
 -- a line whose property has this name, in any ASCII case, gives what follows its first colon
 abbrev pub vcard_value_in : List ℕ → List ℕ → Option (List ℕ)
-vcard_value_in name line = option_and_then (λ p. cond (str_eq_ignore_ascii_case (after_group (before_parameters p.0)) name) (Some p.1) None) (cut colon line)
+vcard_value_in name line =
+    option_and_then (λ p. cond (str_eq_ignore_ascii_case (after_group (before_parameters p.0)) name) (Some p.1) None)
+    (cut colon line)
 
 abbrev pub vcard_value : List ℕ → List ℕ → Option (List ℕ)
 vcard_value name content = first_some (λ line. vcard_value_in name (trim line)) (lines content)

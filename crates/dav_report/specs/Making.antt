@@ -12,7 +12,8 @@ use Rattle.dav_report.specs.declared.caldav.resource.CalendarComponentType.{Cale
 
 -- an element of this name, with nothing in it
 abbrev pub bare_element : Option (List ℕ) → List ℕ → Element
-bare_element prefix name = record { prefix = prefix; namespace = None; namespaces = None; name = name; attributes = []; children = bare }
+bare_element prefix name =
+    record { prefix = prefix; namespace = None; namespaces = None; name = name; attributes = []; children = bare }
 
 abbrev pub called : Option (List ℕ × List ℕ) → List ℕ → Element
 called None t = bare_element None t
@@ -24,11 +25,13 @@ element_called t = called (cut colon t) t
 
 -- it declares this namespace too
 abbrev pub with_namespace : List ℕ → List ℕ → Element → Element
-with_namespace prefix uri e = record e { namespaces = Some (insert_entry text_order (unwrap_or e.namespaces []) prefix uri) }
+with_namespace prefix uri e =
+    record e { namespaces = Some (insert_entry text_order (unwrap_or e.namespaces []) prefix uri) }
 
 abbrev pub without_texts : Forest → Forest
 without_texts bare = bare
-without_texts (then (element prefix namespace namespaces name attributes children) rest) = then (element prefix namespace namespaces name attributes children) (without_texts rest)
+without_texts (then (element prefix namespace namespaces name attributes children) rest) =
+    then (element prefix namespace namespaces name attributes children) (without_texts rest)
 without_texts (then (text t) rest) = without_texts rest
 without_texts (then (comment t) rest) = then (comment t) (without_texts rest)
 without_texts (then (cdata t) rest) = then (cdata t) (without_texts rest)
@@ -59,7 +62,14 @@ holding (e ∷ es) = then (tree e) (holding es)
 
 -- an element of a namespace
 abbrev pub made : List ℕ → List ℕ → Table → Forest → Element
-made uri name attributes children = record { prefix = None; namespace = Some uri; namespaces = None; name = name; attributes = attributes; children = children }
+made uri name attributes children = record {
+  prefix = None;
+  namespace = Some uri;
+  namespaces = None;
+  name = name;
+  attributes = attributes;
+  children = children;
+}
 
 abbrev pub dav : List ℕ
 dav = codes "DAV:"
@@ -81,13 +91,17 @@ abbrev pub content : List ℕ → List ℕ → Table
 content kind version = (codes "content-type", kind) ∷ (codes "version", version) ∷ []
 
 abbrev pub calendar_data : Element
-calendar_data = made caldav (codes "C:supported-calendar-data") [] (holding (made caldav (codes "C:calendar-data") (content (codes "text/calendar") (codes "2.0")) bare ∷ []))
+calendar_data =
+    made caldav (codes "C:supported-calendar-data") []
+    (holding (made caldav (codes "C:calendar-data") (content (codes "text/calendar") (codes "2.0")) bare ∷ []))
 
 abbrev pub address_data_type : List ℕ → Element
 address_data_type version = made carddav (codes "CARD:address-data-type") (content (codes "text/vcard") version) bare
 
 abbrev pub address_data : Element
-address_data = made carddav (codes "CARD:supported-address-data") [] (holding (address_data_type (codes "3.0") ∷ address_data_type (codes "4.0") ∷ []))
+address_data =
+    made carddav (codes "CARD:supported-address-data") []
+    (holding (address_data_type (codes "3.0") ∷ address_data_type (codes "4.0") ∷ []))
 
 -- the link of a home: the prefix, then the path
 abbrev pub home_link : List ℕ → List ℕ → Element

@@ -31,7 +31,12 @@ is_not_defined children = has (codes "is-not-defined") children
 
 -- a filter of a parameter; nothing where it has no name
 abbrev pub parameter_filter : Element → Option ParameterFilter
-parameter_filter e = option_map (λ name. record { name = name; is_not_defined = is_not_defined e.children; text_match = last_match e.children }) (attribute (codes "name") e)
+parameter_filter e =
+    option_map (λ name. record {
+      name = name;
+      is_not_defined = is_not_defined e.children;
+      text_match = last_match e.children;
+    }) (attribute (codes "name") e)
 
 abbrev pub parameter_filters : Forest → Option (List ParameterFilter)
 parameter_filters children = each parameter_filter (named (codes "param-filter") children)
@@ -48,4 +53,5 @@ hrefs children = flat_map (λ h. texts h.children) (named (codes "href") childre
 abbrev pub number : List ℕ → Option ℕ
 number t =
     let digits = without_leading_plus t in
-    cond (nat_lt 0 (length digits) && all_ascii_digits digits && nat_lt (digits_value 10 digits) 4294967296) (Some (digits_value 10 digits)) None
+    cond (nat_lt 0 (length digits) && all_ascii_digits digits && nat_lt (digits_value 10 digits) 4294967296)
+    (Some (digits_value 10 digits)) None

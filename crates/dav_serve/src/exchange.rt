@@ -1,7 +1,8 @@
 // One request, and all that is answered to it.
-ghost use Rattle.std.specs.Prelude.{◌≡◌, ◌+◌, ◌<◌, ◌^◌, IfOk, OnErr};
+ghost use Rattle.std.specs.Prelude.{◌≡◌, ◌+◌, ◌<◌, ◌^◌, IfOk, OnErr, OnOk};
 ghost use Rattle.http.specs.Request.{head_of};
 ghost use Rattle.dav_handler.specs.Player.{stage_of};
+ghost use Rattle.dav_wire.specs.Answers.{head_text};
 ghost use Rattle.dav_wire.specs.Framing.{takes_chunks as the_takes_chunks};
 ghost use Rattle.dav_serve.specs.Exchange.{ClosesAfter};
 ghost use Rattle.dav_serve.specs.Ends.{EndsBody, Exchanges, IsAt, MemoryStopped, ended_by};
@@ -11,9 +12,7 @@ use crate::turns::{poll_turn, request_turn};
 use dav_core::Disk;
 use dav_handler::{Answer, Forget, Player};
 use dav_io::{Field, Moment, NoMemory, Octets, Sink};
-use dav_wire::{
-    Framing, Output, answer_head, asks_close, framing, is_old, says_close, takes_chunks,
-};
+use dav_wire::{Framing, Output, asks_close, framing, is_old, push_head, says_close, takes_chunks};
 use http::Request;
 use http::request::Parts;
 use std::alloc::Global;
@@ -61,24 +60,43 @@ fn closes_after(parts: &Parts) -> bool
     asks_close(&parts.headers)
 }
 
+/// Memory that is used for one answer after the other.
+#[derive(Drop)]
+pub struct Spare {
+    /// For heads.
+    pub head: Vec<u8>,
+    /// For pieces of bodies.
+    pub piece: Vec<u8>,
+}
+
+impl Spare {
+    /// No memory yet.
+    pub fn new(alloc: Global) -> Spare {
+        Spare {
+            head: Vec::new(alloc),
+            piece: Vec::new(alloc),
+        }
+    }
+}
+
 /// Answers one request, and gives the answer to the output as it comes. What the output holds then is for the caller to
-/// flush.
+/// flush. What is spare is used for its head and its pieces.
 pub fn exchange<K: Sink, D: Disk>(
-    alloc: Global,
+    spare: &mut Spare,
     player: &mut Player<D, Forget>,
     output: &mut Output,
     sink: &mut K,
     now: Moment,
     manner: Manner,
-    request: Request<Octets>,
+    request: &Request<Octets>,
 ) -> Result<Ended, NoMemory>
     requires replies { player.old.replies + 4 < 2 ^ 32 }
-    requires chunks { manner.chunks ≡ the_takes_chunks (head_of request) }
+    requires chunks { manner.chunks ≡ the_takes_chunks (head_of request.now) }
     ensures loan { D.loan player.new.store.disk ≡ D.loan player.old.store.disk }
-    ensures ends { IfOk result (λ ended. Exchanges (IsAt request now manner.closing)
+    ensures ends { IfOk result (λ ended. Exchanges (IsAt request.now now manner.closing)
         (work_of (K.stream sink.old) output.old (stage_of player.old)) ended
         (work_of (K.stream sink.new) output.new (stage_of player.new))) }
-    ensures memory { OnErr result (MemoryStopped (IsAt request now manner.closing)
+    ensures memory { OnErr result (MemoryStopped (IsAt request.now now manner.closing)
         (work_of (K.stream sink.old) output.old (stage_of player.old))
         (outlet_of (K.stream sink.new) output.new) (stage_of player.new).at) }
 {
@@ -87,36 +105,53 @@ pub fn exchange<K: Sink, D: Disk>(
         Err(error) => return Err(error),
     };
     let way = framing(manner.chunks, reply.status, reply.headers.as_slice());
-    let head = match answer_head(
-        alloc,
+    match write_head(
+        &mut spare.head,
         reply.status,
         reply.headers.as_slice(),
         manner.closing,
         way,
     ) {
-        Ok(head) => head,
+        Ok(()) => {}
         Err(error) => return Err(error),
-    };
-    match output.push(sink, head.as_slice()) {
+    }
+    match output.push(sink, spare.head.as_slice()) {
         Ok(()) => {}
         Err(_) => return Ok(Ended::SinkFailed),
     }
     'pieces: loop {
-        let answer = match poll_turn(player, reply.body) {
+        let answer = match poll_turn(player, reply.body, &mut spare.piece) {
             Ok(answer) => answer,
             Err(error) => return Err(error),
         };
         match answer {
-            Answer::Piece(piece) => match output.push_piece(sink, way, piece.as_slice()) {
-                Ok(()) => {}
-                Err(_) => return Ok(Ended::SinkFailed),
-            },
+            Answer::Piece(piece) => {
+                match output.push_piece(sink, way, piece.as_slice()) {
+                    Ok(()) => {}
+                    Err(_) => return Ok(Ended::SinkFailed),
+                }
+                spare.piece = piece.into_vec();
+            }
             Answer::End => {
                 return Ok(ends_body(output, sink, way, manner.closing, reply.headers.as_slice()));
             }
             _ => return Ok(Ended::Broke),
         }
     }
+}
+
+// Writes the head of an answer in place of what the memory had.
+fn write_head(
+    text: &mut Vec<u8>,
+    status: u16,
+    fields: &[Field],
+    closing: bool,
+    framing: Framing,
+) -> Result<(), NoMemory>
+    ensures { OnOk result (text.new.items ≡ head_text status fields.now closing framing) }
+{
+    text.clear();
+    push_head(text, status, fields, closing, framing)
 }
 
 // Writes what ends a body, and tells whether another request may follow.

@@ -10,7 +10,7 @@ ghost use Rattle.dav_serve.specs.Words.{set_by, settings_by};
 
 use crate::asking::{Message, Next, next_message};
 use crate::ending::Ending;
-use crate::exchange::{Ended, exchange, manner_of};
+use crate::exchange::{Ended, Spare, exchange, manner_of};
 use crate::words::Options;
 use dav_core::Disk;
 use dav_handler::{DavConfig, Forget, LocalFs, Player, Settings};
@@ -19,11 +19,12 @@ use dav_wire::{Flaw, Input, Output, ReadError, refusal_text};
 use http::Request;
 use std::alloc::Global;
 
-// What was taken from the source and not yet read, and what waits for the sink.
+// What was taken from the source and not yet read, what waits for the sink, and memory for the next answer.
 #[derive(Drop)]
 struct Held {
     input: Input,
     output: Output,
+    spare: Spare,
 }
 
 // A player over the disk from its root on, by these settings, whose store finds names as the options say and remembers
@@ -45,22 +46,24 @@ fn player_over<D: Disk + Drop>(
     Player::new(handler)
 }
 
-// Answers a request by a player of its own, so that no count of replies ever runs out.
+// Answers a request by a player of its own, so that no count of replies ever runs out. The memory of its fields goes back
+// to the input.
 fn answer<K: Sink, D: Disk>(
     alloc: Global,
     options: &Options<'_>,
     disk: &mut D,
-    output: &mut Output,
+    held: &mut Held,
     sink: &mut K,
     now: Moment,
     message: Message,
 ) -> Result<Ended, NoMemory>
+    ensures input { held.new.input ≡ held.old.input }
     ensures ends { IfOk result (λ ended. Answers message.parts message.body now
-        (work_of (K.stream sink.old) output.old (ready (set_by options.now) (D.state disk.old)))
-        ended (outlet_of (K.stream sink.new) output.new) (D.state disk.new)) }
+        (work_of (K.stream sink.old) held.old.output (ready (set_by options.now) (D.state disk.old)))
+        ended (outlet_of (K.stream sink.new) held.new.output) (D.state disk.new)) }
     ensures memory { OnErr result (MemoryStopped (IsAnswerTo message.parts message.body now)
-        (work_of (K.stream sink.old) output.old (ready (set_by options.now) (D.state disk.old)))
-        (outlet_of (K.stream sink.new) output.new) (D.state disk.new)) }
+        (work_of (K.stream sink.old) held.old.output (ready (set_by options.now) (D.state disk.old)))
+        (outlet_of (K.stream sink.new) held.new.output) (D.state disk.new)) }
 {
     let manner = manner_of(&message.parts);
     let Message { parts, body } = message;
@@ -70,8 +73,18 @@ fn answer<K: Sink, D: Disk>(
         Err(error) => return Err(error),
     };
     let mut player = player_over(alloc, &mut *disk, settings, options);
-    let ended = exchange(alloc, &mut player, output, sink, now, manner, request);
+    let ended = exchange(
+        &mut held.spare,
+        &mut player,
+        &mut held.output,
+        sink,
+        now,
+        manner,
+        &request,
+    );
     let _ = player.into_parts();
+    let (parts, _) = request.into_parts();
+    held.input.take_back(parts.headers);
     ended
 }
 
@@ -129,7 +142,7 @@ fn answer_all<S: Client<K>, K: Sink, D: Disk, C: Clock>(
         match next_message(alloc, &mut held.input, source, &mut held.output, sink) {
             Ok(Next::Whole(message)) => {
                 let now = clock.now();
-                match answer(alloc, options, disk, &mut held.output, sink, now, message) {
+                match answer(alloc, options, disk, held, sink, now, message) {
                     Ok(Ended::Open) => {}
                     Ok(Ended::Closed) => return Ok(finish(&mut held.output, sink, Ending::Closed)),
                     Ok(Ended::SinkFailed) => return Ok(Ending::SinkFailed),
@@ -184,7 +197,11 @@ pub fn serve<S: Client<K>, K: Sink, D: Disk, C: Clock>(
         Ok(output) => output,
         Err(error) => return Err(error),
     };
-    let mut held = Held { input, output };
+    let mut held = Held {
+        input,
+        output,
+        spare: Spare::new(alloc),
+    };
     match answer_all(alloc, options, &mut held, source, sink, disk, clock) {
         Ok(ending) => Ok(ending),
         Err(error) => {

@@ -7,7 +7,7 @@ ghost use Rattle.dav_model.specs.declared.step.Step.TheVariants.{Poll, Purge, Re
 ghost use Rattle.dav_model.specs.declared.answer.Answer.TheVariants.{Done, Reply as Replied};
 
 use dav_core::Disk;
-use dav_handler::{Answer, Forget, Player, Step};
+use dav_handler::{Answer, Forget, Player};
 use dav_io::{Fields, Moment, NoMemory, Octets};
 use http::Request;
 
@@ -19,8 +19,12 @@ pub struct Reply {
     pub body: u32,
 }
 
-/// A turn of the outside and a poll.
-pub fn poll_turn<D: Disk>(player: &mut Player<D, Forget>, body: u32) -> Result<Answer, NoMemory>
+/// A turn of the outside and a poll. The piece takes the memory of `spare`.
+pub fn poll_turn<D: Disk>(
+    player: &mut Player<D, Forget>,
+    body: u32,
+    spare: &mut Vec<u8>,
+) -> Result<Answer, NoMemory>
     requires { player.old.replies + 2 < 2 ^ 32 }
     ensures loan { D.loan player.new.store.disk ≡ D.loan player.old.store.disk }
     ensures replies { OnOk result (player.new.replies ≤ player.old.replies) }
@@ -29,11 +33,11 @@ pub fn poll_turn<D: Disk>(player: &mut Player<D, Forget>, body: u32) -> Result<A
     ensures refused { OnErr result (RefusedAt (stage_of player.old)
         (Turn ∷ Poll body ∷ []) (stage_of player.new)) }
 {
-    match player.step(&Step::Turn) {
+    match player.turn() {
         Ok(_) => {}
         Err(error) => return Err(error),
     }
-    match player.step(&Step::Poll(body)) {
+    match player.poll_over(body, spare) {
         Ok(answer) => Ok(answer),
         Err(error) => Err(error),
     }
@@ -43,26 +47,23 @@ pub fn poll_turn<D: Disk>(player: &mut Player<D, Forget>, body: u32) -> Result<A
 pub fn request_turn<D: Disk>(
     player: &mut Player<D, Forget>,
     now: Moment,
-    request: Request<Octets>,
+    request: &Request<Octets>,
 ) -> Result<Reply, NoMemory>
     requires { player.old.replies + 3 < 2 ^ 32 }
     ensures loan { D.loan player.new.store.disk ≡ D.loan player.old.store.disk }
     ensures replies { OnOk result (player.new.replies ≤ player.old.replies + 1) }
     ensures played { IfOk result (λ r. PlayedOn (stage_of player.old)
-        (Turn ∷ Purge now ∷ Asks request now ∷ []) (Done ∷ Done ∷ Replied r.status r.headers r.body ∷ []) (Ok tt)
+        (Turn ∷ Purge now ∷ Asks request.now now ∷ []) (Done ∷ Done ∷ Replied r.status r.headers r.body ∷ []) (Ok tt)
         (stage_of player.new)) }
     ensures refused { OnErr result (RefusedAt (stage_of player.old)
-        (Turn ∷ Purge now ∷ Asks request now ∷ []) (stage_of player.new)) }
+        (Turn ∷ Purge now ∷ Asks request.now now ∷ []) (stage_of player.new)) }
 {
-    match player.step(&Step::Turn) {
+    match player.turn() {
         Ok(_) => {}
         Err(error) => return Err(error),
     }
-    match player.step(&Step::Purge(now)) {
-        Ok(_) => {}
-        Err(error) => return Err(error),
-    }
-    match player.step(&Step::Request { request, now }) {
+    let _purged = player.purge(now);
+    match player.request(request, now) {
         Ok(answer) => Ok(into_reply(answer)),
         Err(error) => Err(error),
     }

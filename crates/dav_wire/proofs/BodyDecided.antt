@@ -234,4 +234,5 @@ found (Sized size) text = elim (cases_lt most_body size) [
     | inr all ↦ body (take size text) (drop size text) (few, length-take-le size text all, sym (take-append-drop size text))
   ]
 ]
-found InChunks text = chunks_found (suc (length text)) text [] text (omega arith) (record { pieces = []; front = refl; joined = refl; few = omega arith })
+found InChunks text =
+    chunks_found (suc (length text)) text [] text (omega arith) (record { pieces = []; front = refl; joined = refl; few = omega arith })

@@ -17,14 +17,16 @@ use Rattle.dav_wire.proofs.Chunking.{size_once, size_stays, front_once, body_onc
 pub parts_announce : (head : RequestHead) (parts : Parts) → IsRead head parts → announced_by parts ≡ announces head
 parts_announce head parts read = ap₂ announced_in read.version read.headers
 
-pub bodies_are_one : (announced : Announced) (text body other rest behind : List ℕ) → IsBody announced text body rest → IsBody announced text other behind
+pub bodies_are_one : (announced : Announced) (text body other rest behind : List ℕ) → IsBody announced text body rest
+    → IsBody announced text other behind
     → (body ≡ other) × (rest ≡ behind)
 bodies_are_one Nothing text body other rest behind a b = (a.0 ∙ sym b.0, a.1 ∙ sym b.1)
 bodies_are_one (Sized size) text body other rest behind a b = front_once body other rest behind (a.1 ∙ sym b.1) (sym a.2 ∙ b.2)
 bodies_are_one InChunks text body other rest behind a b = body_once text body other rest behind a.1 b.1
 bodies_are_one Unclear text body other rest behind a b = absurd a
 
-pub bodies_stay : (announced : Announced) (text body rest more : List ℕ) → IsBody announced text body rest → IsBody announced (text ++ more) body (rest ++ more)
+pub bodies_stay : (announced : Announced) (text body rest more : List ℕ) → IsBody announced text body rest
+    → IsBody announced (text ++ more) body (rest ++ more)
 bodies_stay Nothing text body rest more a = (a.0, ap (λ x. x ++ more) a.1)
 bodies_stay (Sized size) text body rest more a = (a.0, a.1, ap (λ x. x ++ more) a.2 ∙ append_assoc body rest more)
 bodies_stay InChunks text body rest more a = (a.0, body_stays text body rest more a.1)
@@ -33,7 +35,8 @@ bodies_stay Unclear text body rest more a = absurd a
 -- what a chunk can't be
 
 never_size_more : (text more : List ℕ) → NeverHasSize text → NeverHasSize (text ++ more)
-never_size_more text more never later size rest has = never (more ++ later) size rest (subst (λ (x : List ℕ). HasSize x size rest) (append_assoc text more later) has)
+never_size_more text more never later size rest has =
+    never (more ++ later) size rest (subst (λ (x : List ℕ). HasSize x size rest) (append_assoc text more later) has)
 
 never_piece_more : (size : ℕ) (text more : List ℕ) → NeverHasPiece size text → NeverHasPiece size (text ++ more)
 never_piece_more size text more never later piece rest has = never (more ++ later) piece rest (has.0, sym (append_assoc text more later) ∙ has.1)
@@ -129,7 +132,8 @@ chunks_refusal_stays text more flaw (broken begun rest is begins breaks) =
 chunks_refusal_stays text more flaw (large begun rest behind size is begins line much) =
     large begun (rest ++ more) (behind ++ more) size is (begins_stays text begun rest more begins) (size_stays rest size behind more line) much
 
-pub body_refusal_stays : (announced : Announced) (text more : List ℕ) (flaw : Flaw) → BodyRefusal announced text flaw → BodyRefusal announced (text ++ more) flaw
+pub body_refusal_stays : (announced : Announced) (text more : List ℕ) (flaw : Flaw) → BodyRefusal announced text flaw
+    → BodyRefusal announced (text ++ more) flaw
 body_refusal_stays Nothing text more flaw refused = refused
 body_refusal_stays (Sized size) text more flaw refused = refused
 body_refusal_stays InChunks text more flaw refused = chunks_refusal_stays text more flaw refused
@@ -167,8 +171,10 @@ body_refused_none (Sized size) text flaw refused body rest is = let much = refus
 body_refused_none InChunks text flaw refused body rest is = chunks_refused_none text flaw body rest refused is
 body_refused_none Unclear text flaw refused body rest is = is
 
-pub body_refusal_has_none : (announced : Announced) (text more : List ℕ) (flaw : Flaw) → BodyRefusal announced text flaw → HasNoBody announced (text ++ more)
-body_refusal_has_none announced text more flaw refused = body_refused_none announced (text ++ more) flaw (body_refusal_stays announced text more flaw refused)
+pub body_refusal_has_none : (announced : Announced) (text more : List ℕ) (flaw : Flaw) → BodyRefusal announced text flaw
+    → HasNoBody announced (text ++ more)
+body_refusal_has_none announced text more flaw refused =
+    body_refused_none announced (text ++ more) flaw (body_refusal_stays announced text more flaw refused)
 
 mixed : (text begun rest other behind after : List ℕ) (size : ℕ) → BeginsBody text begun rest → BreaksChunk (most_body - length begun) rest
     → BeginsBody text other behind → HasSize behind size after → most_body < length other + size → ⊥
@@ -185,7 +191,8 @@ mixed text begun rest other behind after size a breaks b line much =
           omega arith
     ]
 
-pub body_flaws_are_one : (announced : Announced) (text : List ℕ) (flaw other : Flaw) → BodyRefusal announced text flaw → BodyRefusal announced text other → flaw ≡ other
+pub body_flaws_are_one : (announced : Announced) (text : List ℕ) (flaw other : Flaw) → BodyRefusal announced text flaw
+    → BodyRefusal announced text other → flaw ≡ other
 body_flaws_are_one Nothing text flaw other a b = absurd a
 body_flaws_are_one (Sized size) text flaw other a b = a.0 ∙ sym b.0
 body_flaws_are_one InChunks text flaw other (broken begun rest is begins breaks) (broken begun' rest' is' begins' breaks') = is ∙ sym is'
@@ -213,7 +220,8 @@ unfinished_body_none InChunks text still body rest is =
     ]
 unfinished_body_none Unclear text still body rest is = still
 
-pub unfinished_body_not_refused : (announced : Announced) (text : List ℕ) (flaw : Flaw) → IsBodyUnfinished announced text → BodyRefusal announced text flaw → ⊥
+pub unfinished_body_not_refused : (announced : Announced) (text : List ℕ) (flaw : Flaw) → IsBodyUnfinished announced text
+    → BodyRefusal announced text flaw → ⊥
 unfinished_body_not_refused Nothing text flaw still refused = still
 unfinished_body_not_refused (Sized size) text flaw still refused = let few = still.0 in let much = refused.1 in omega arith
 unfinished_body_not_refused InChunks text flaw still (broken begun rest is begins breaks) =

@@ -8,7 +8,8 @@ use Rattle.dav_wire.specs.Chunks.{line_end, HasSize, HasChunks, HasBody}
 use Rattle.dav_wire.specs.declared.announcing.Announced.TheVariants.{InChunks}
 use Rattle.dav_wire.proofs.Chunking.{size_once, size_stays, front_once}
 
-pub front_stays : (text : List ℕ) (pieces : List (List ℕ)) (rest more : List ℕ) → HasFront text pieces rest → HasFront (text ++ more) pieces (rest ++ more)
+pub front_stays : (text : List ℕ) (pieces : List (List ℕ)) (rest more : List ℕ) → HasFront text pieces rest
+    → HasFront (text ++ more) pieces (rest ++ more)
 front_stays text [] rest more same = ap (λ x. x ++ more) same
 front_stays text (piece ∷ pieces) rest more (some, after, size, later) = (
   some,
@@ -58,7 +59,8 @@ begins_more text begun rest piece after b some size few = record {
   few = few;
 }
 
-pub begins_ends : (text begun rest after : List ℕ) → BeginsBody text begun rest → HasSize rest 0 (line_end ++ after) → IsBody InChunks text begun after
+pub begins_ends : (text begun rest after : List ℕ) → BeginsBody text begun rest → HasSize rest 0 (line_end ++ after)
+    → IsBody InChunks text begun after
 begins_ends text begun rest after b last =
     (b.few, record { pieces = b.pieces; chunks = front_ends text b.pieces rest after b.front last; joined = b.joined })
 
@@ -71,7 +73,3 @@ begins_splits text begun rest body behind b has =
       sym has.joined ∙ ap concat split.1 ∙ concat-append b.pieces split.0 ∙ ap (λ x. x ++ concat split.0) b.joined,
       record { pieces = split.0; chunks = split.2; joined = refl },
     )
-
--- nothing is read yet
-pub begins_empty : BeginsBody [] [] []
-begins_empty = record { pieces = []; front = refl; joined = refl; few = omega arith }

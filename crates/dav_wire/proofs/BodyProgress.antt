@@ -6,18 +6,18 @@ use Rattle.dav_io.specs.declared.failure.Failed.{Failed as SinkFailed}
 use Rattle.dav_io.specs.Outside.{Stream}
 use Rattle.dav_io.proofs.ToldLemmas.{both_same, both_then}
 use Rattle.dav_wire.specs.Bodies.{BodyRefusal, IsBodyUnfinished}
-use Rattle.dav_wire.specs.BodyReading.{ReadsOn, ReadsBody, IsEmptiedBy}
-use Rattle.dav_wire.specs.BodySteps.{Stands, HaltsAt, HaltFits}
+use Rattle.dav_wire.specs.BodyReading.{ReadsOn, ReadsBody}
+use Rattle.dav_wire.specs.BodySteps.{Stands, HaltsAt}
 use Rattle.dav_wire.specs.Pending.{Pending}
 use Rattle.dav_wire.specs.Reading.{Behind, Fills, FillsThen, Moves, sending}
 use Rattle.dav_wire.specs.Writing.{Pushes}
 use Rattle.dav_wire.proofs.Pushing.{pushes_then}
 use Rattle.dav_wire.specs.declared.announcing.Announced.{Announced}
 use Rattle.dav_wire.specs.declared.body_steps.Halt.{Halt}
-use Rattle.dav_wire.specs.declared.body_steps.Halt.TheVariants.{Over as HaltOver, Refused as HaltRefused, Wanting}
+use Rattle.dav_wire.specs.declared.body_steps.Halt.TheVariants.{Refused as HaltRefused, Wanting}
 use Rattle.dav_wire.specs.declared.body_steps.Place.{Place}
 use Rattle.dav_wire.specs.declared.next.BodyRead.{BodyRead}
-use Rattle.dav_wire.specs.declared.next.BodyRead.TheVariants.{Whole, Refused, Ended}
+use Rattle.dav_wire.specs.declared.next.BodyRead.TheVariants.{Refused, Ended}
 use Rattle.dav_wire.specs.declared.next.Flaw.{Flaw}
 use Rattle.dav_wire.specs.declared.next.ReadError.{ReadError}
 use Rattle.dav_wire.specs.declared.next.ReadError.TheVariants.{Failed, TooMuch, NoMemory as WithoutMemory, Unsent}
@@ -43,7 +43,8 @@ nothing_read old held = record {
   told = both_same old.bytes old.bytes (λ a b. a ≡ [] ++ b) (λ a. refl) refl;
 }
 
-pub begins_reading : (announced : Announced) (old : Stream) (held : Pending) (place : Place) (body : List ℕ) → body ≡ [] → Stands announced [] place []
+pub begins_reading : (announced : Announced) (old : Stream) (held : Pending) (place : Place) (body : List ℕ) → body ≡ []
+    → Stands announced [] place []
     → Progress announced old held place body held old
 begins_reading announced old held place body none stands =
     record { passed = []; on = nothing_read old held; stands = subst (λ (x : List ℕ). Stands announced [] place x) (sym none) stands }
@@ -77,15 +78,6 @@ does_at {announced = announced} {kept = kept} bytes body n halt told p is same d
     subst (λ (h : Halt). HaltsAt announced p.passed kept.bytes n h body) is
     (subst (λ (x : List ℕ). HaltsAt announced p.passed x n halt body) same (does announced p.passed p.stands))
 
-pub is_whole : {announced : Announced} {old new : Stream} {held kept : Pending} {place : Place} {before : List ℕ} (later : Pending) (bytes body : List ℕ) (n : ℕ) (halt : Halt)
-    → Progress announced old held place before kept new → halt ≡ HaltOver → bytes ≡ kept.bytes → Does place before bytes n halt body
-    → later.bytes ≡ drop n kept.bytes → later.taken ≡ kept.taken → ReadsBody announced old held (Ok (Whole body)) later new
-is_whole {kept = kept} later bytes body n halt p is read does left same = record {
-  passed = p.passed ++ take n kept.bytes;
-  on = passes p.passed later n p.on left same;
-  gives = does_at bytes body n halt HaltOver p is read does;
-}
-
 pub is_refused : {announced : Announced} {old new : Stream} {held kept : Pending} {place : Place} {before : List ℕ} (later : Pending) (bytes body : List ℕ) (n : ℕ) (halt : Halt) (flaw : Flaw)
     → Progress announced old held place before kept new → halt ≡ HaltRefused flaw → bytes ≡ kept.bytes → Does place before bytes n halt body
     → later.bytes ≡ drop n kept.bytes → later.taken ≡ kept.taken → ReadsBody announced old held (Ok (Refused flaw)) later new
@@ -95,10 +87,6 @@ is_refused {announced = announced} {kept = kept} later bytes body n halt flaw p 
   gives = subst (λ (x : List ℕ). BodyRefusal announced x flaw) (same_text p.passed kept.bytes later.bytes n left)
       (does_at bytes body n halt (HaltRefused flaw) p is read does);
 }
-
-pub starved : {announced : Announced} {old new : Stream} {held kept : Pending} {place : Place} {before : List ℕ}
-    → Progress announced old held place before kept new → ReadsBody announced old held (Err WithoutMemory) kept new
-starved p = record { passed = p.passed; on = p.on; gives = tt }
 
 pub wants : {announced : Announced} {old new : Stream} {held kept : Pending} {place : Place} {before : List ℕ} (later : Pending) (bytes body : List ℕ) (n : ℕ) (halt : Halt) (to : Place)
     → Progress announced old held place before kept new → halt ≡ Wanting to → bytes ≡ kept.bytes → Does place before bytes n halt body
@@ -113,15 +101,6 @@ wants {announced = announced} {kept = kept} later bytes body n halt to p is read
       },
       record { passed = p.passed ++ take n kept.bytes; on = on; stands = halts.0 },
     )
-
--- few bytes are held where more are wanted
-pub few_held : (held bytes later : List ℕ) (n : ℕ) (halt : Halt) (to : Place) → halt ≡ Wanting to → bytes ≡ held → HaltFits bytes n halt → later ≡ drop n held
-    → length later ≤ 65536
-few_held held bytes later n halt to is read does left =
-    let fits = subst (λ (h : Halt). HaltFits held n h) is (subst (λ (x : List ℕ). HaltFits x n halt) read does) in
-    let size = ap (length {A = ℕ}) left in
-    let all = length-drop n held in
-    omega (arith, fits.0, fits.1)
 
 -- what came behind the bytes that are held
 came_is : (kept later : Pending) (n : ℕ) → Behind kept n later → (more : List ℕ) × (later.bytes ≡ kept.bytes ++ more) × (length more ≡ n)
@@ -227,13 +206,6 @@ is_stopped {announced = announced} {old = old} {new = new} {held = held} {kept =
   on = subst (λ (x : Stream). ReadsOn old held w.passed later x) (sym f.1) (subst (λ (x : Pending). ReadsOn old held w.passed x new) (sym f.0) w.on);
   gives = still_open announced w.passed kept later f.0 w.unfinished;
 }
-
--- where the source gave no more, nothing waits for the sink
-pub is_emptied : (e : ReadError) (waiting : List ℕ) → waiting ≡ [] → IsEmptiedBy (Err e) waiting
-is_emptied Failed waiting none = none
-is_emptied TooMuch waiting none = none
-is_emptied WithoutMemory waiting none = tt
-is_emptied Unsent waiting none = none
 
 -- whatever is read, an error says the same of the sink
 sending_same : (A B : Type 0) (e : ReadError) → sending {A = A} (Err e) ≡ sending {A = B} (Err e)

@@ -19,7 +19,8 @@ line_of held size len line =
     subst (λ (x : List ℕ). HasSize x size (drop len held)) (take-append-drop len held) (size_stays (take len held) size [] (drop len held) line)
 
 -- behind the line with a size
-pub goes_inside : (passed held body : List ℕ) (size len : ℕ) → BeginsBody passed body [] → HasSize (take len held) size [] → size ≤ most_body - length body
+pub goes_inside : (passed held body : List ℕ) (size len : ℕ) → BeginsBody passed body [] → HasSize (take len held) size []
+    → size ≤ most_body - length body
     → StandsInChunk (passed ++ take len held) body size size
 goes_inside passed held body size len begins line fits = record {
   begun = body;
@@ -32,7 +33,8 @@ goes_inside passed held body size len begins line fits = record {
   room = let few = begins.few in omega arith;
 }
 
-pub refuses_size : (passed held body : List ℕ) (size len : ℕ) → BeginsBody passed body [] → HasSize (take len held) size [] → most_body - length body < size
+pub refuses_size : (passed held body : List ℕ) (size len : ℕ) → BeginsBody passed body [] → HasSize (take len held) size []
+    → most_body - length body < size
     → BodyRefusal InChunks (passed ++ held) TooLarge
 refuses_size passed held body size len begins line much =
     large body held (drop len held) size refl (begins_stays passed body [] held begins) (line_of held size len line) (omega arith)
@@ -40,7 +42,8 @@ refuses_size passed held body size len begins line much =
 pub refuses_line : (passed held body : List ℕ) → BeginsBody passed body [] → NeverHasSize held → BodyRefusal InChunks (passed ++ held) Malformed
 refuses_line passed held body begins never = broken body held refl (begins_stays passed body [] held begins) (bad_line never)
 
-pub wants_line : (passed held body : List ℕ) → BeginsBody passed body [] → HasNoSize held → MayHaveSize held → IsBodyUnfinished InChunks (passed ++ held)
+pub wants_line : (passed held body : List ℕ) → BeginsBody passed body [] → HasNoSize held → MayHaveSize held
+    → IsBodyUnfinished InChunks (passed ++ held)
 wants_line passed held body begins none may =
     record { begun = body; rest = held; begins = begins_stays passed body [] held begins; unfinished = open_line none may }
 
@@ -93,13 +96,15 @@ wants_bytes passed held body size left stands some empty =
 
 -- all bytes of a chunk are there
 
-pub wants_end : (passed held body : List ℕ) (size : ℕ) → StandsInChunk passed body size 0 → FindsEnd held Partly → IsBodyUnfinished InChunks (passed ++ held)
+pub wants_end : (passed held body : List ℕ) (size : ℕ) → StandsInChunk passed body size 0 → FindsEnd held Partly
+    → IsBodyUnfinished InChunks (passed ++ held)
 wants_end passed held body size stands (short, more, e) =
     let counted = stands.counted in
     wants_piece passed held body more stands.got size 0 stands (omega arith)
     (append_assoc stands.got held more ∙ ap (λ x. stands.got ++ x) e) (omega arith)
 
-pub refuses_end : (passed held body : List ℕ) (size : ℕ) → StandsInChunk passed body size 0 → NeverEndsLine held → BodyRefusal InChunks (passed ++ held) Malformed
+pub refuses_end : (passed held body : List ℕ) (size : ℕ) → StandsInChunk passed body size 0 → NeverEndsLine held
+    → BodyRefusal InChunks (passed ++ held) Malformed
 refuses_end passed held body size stands never =
     broken stands.begun (stands.rest ++ held) refl (begins_stays passed stands.begun stands.rest held stands.begins)
     (bad_piece size (stands.got ++ held) (let room = stands.room in omega arith) (size_stays stands.rest size stands.got held stands.line) none)
@@ -148,7 +153,8 @@ pub in_chunks : (P : Announced → Type 0) (announced : Announced) → announced
 in_chunks P announced same is = subst P (sym same) is
 
 -- what is passed in two steps
-pub passed_on : (passed held rest : List ℕ) (at used : ℕ) → rest ≡ drop at held → (passed ++ take at held) ++ take used rest ≡ passed ++ take (at + used) held
+pub passed_on : (passed held rest : List ℕ) (at used : ℕ) → rest ≡ drop at held
+    → (passed ++ take at held) ++ take used rest ≡ passed ++ take (at + used) held
 passed_on passed held rest at used same =
     append_assoc passed (take at held) (take used rest) ∙ ap (λ x. passed ++ x) (ap (λ x. take at held ++ take used x) same ∙ sym (take-add at used held))
 

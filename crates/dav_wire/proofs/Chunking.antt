@@ -50,7 +50,8 @@ BeginsWithoutDigit text = (x : ℕ) × (rest : List ℕ) × (text ≡ x ∷ rest
 
 pub behind_size : (extension rest : List ℕ) → IsExtension extension → BeginsWithoutDigit (extension ++ (line_end ++ rest))
 behind_size [] rest is = (13, 10 ∷ rest, refl, λ h. absurd (omega (arith, h)))
-behind_size (b ∷ bytes) rest is = (b, bytes ++ (line_end ++ rest), refl, λ h. let no : IsDigit 59 = subst IsDigit is.0 h in absurd (omega (arith, no)))
+behind_size (b ∷ bytes) rest is =
+    (b, bytes ++ (line_end ++ rest), refl, λ h. let no : IsDigit 59 = subst IsDigit is.0 h in absurd (omega (arith, no)))
 
 pub line_once : (extension other rest behind : List ℕ) → IsExtension extension → IsExtension other
     → extension ++ (line_end ++ rest) ≡ other ++ (line_end ++ behind) → rest ≡ behind
@@ -59,7 +60,8 @@ line_once extension other rest behind is too e =
     append_cancel_left line_end rest behind split.1
 
 -- at most one line with a size stands at the front
-pub size_once : (text : List ℕ) (size other : ℕ) (rest behind : List ℕ) → HasSize text size rest → HasSize text other behind → (size ≡ other) × (rest ≡ behind)
+pub size_once : (text : List ℕ) (size other : ℕ) (rest behind : List ℕ) → HasSize text size rest → HasSize text other behind
+    → (size ≡ other) × (rest ≡ behind)
 size_once text size other rest behind a b =
     let first = behind_size a.extension rest a.extension_is in
     let second = behind_size b.extension behind b.extension_is in
@@ -71,14 +73,17 @@ size_once text size other rest behind a b =
     )
 
 -- two texts of one length in front of others
-pub front_once : (piece other rest behind : List ℕ) → length piece ≡ length other → piece ++ rest ≡ other ++ behind → (piece ≡ other) × (rest ≡ behind)
+pub front_once : (piece other rest behind : List ℕ) → length piece ≡ length other → piece ++ rest ≡ other ++ behind
+    → (piece ≡ other) × (rest ≡ behind)
 front_once piece other rest behind long e = (
   sym (take-append_seam piece rest) ∙ ap (take (length piece)) e ∙ ap (λ n. take n (other ++ behind)) long ∙ take-append_seam other behind,
   sym (drop-append_seam piece rest) ∙ ap (drop (length piece)) e ∙ ap (λ n. drop n (other ++ behind)) long ∙ drop-append_seam other behind,
 )
 
-pub chunks_once : (text : List ℕ) (pieces others : List (List ℕ)) (rest behind : List ℕ) → HasChunks text pieces rest → HasChunks text others behind → (pieces ≡ others) × (rest ≡ behind)
-chunks_once text [] [] rest behind a b = (refl, append_cancel_left line_end rest behind (size_once text 0 0 (line_end ++ rest) (line_end ++ behind) a b).1)
+pub chunks_once : (text : List ℕ) (pieces others : List (List ℕ)) (rest behind : List ℕ) → HasChunks text pieces rest → HasChunks text others behind
+    → (pieces ≡ others) × (rest ≡ behind)
+chunks_once text [] [] rest behind a b =
+    (refl, append_cancel_left line_end rest behind (size_once text 0 0 (line_end ++ rest) (line_end ++ behind) a b).1)
 chunks_once text [] (other ∷ others) rest behind a (some, after, size, more) =
     let same = (size_once text 0 (length other) (line_end ++ rest) (other ++ (line_end ++ after)) a size).0 in
     absurd (omega arith)
@@ -107,7 +112,8 @@ size_stays text size rest more has = record {
   extension_is = has.extension_is;
 }
 
-chunks_stay : (text : List ℕ) (pieces : List (List ℕ)) (rest more : List ℕ) → HasChunks text pieces rest → HasChunks (text ++ more) pieces (rest ++ more)
+chunks_stay : (text : List ℕ) (pieces : List (List ℕ)) (rest more : List ℕ) → HasChunks text pieces rest
+    → HasChunks (text ++ more) pieces (rest ++ more)
 chunks_stay text [] rest more has = size_stays text 0 (line_end ++ rest) more has
 chunks_stay text (piece ∷ pieces) rest more (some, after, size, later) = (
   some,
@@ -127,7 +133,8 @@ chunk_whole piece text =
     ∙ append_assoc (digits 16 false (length piece)) line_end ((piece ++ line_end) ++ text)
     ∙ ap (λ x. digits 16 false (length piece) ++ (line_end ++ x)) (append_assoc piece line_end text)
 
-pub chunks_back : (pieces : List (List ℕ)) (behind : List ℕ) → All IsPiece pieces → HasChunks (flat_map chunk pieces ++ (last_chunk ++ behind)) pieces behind
+pub chunks_back : (pieces : List (List ℕ)) (behind : List ℕ) → All IsPiece pieces
+    → HasChunks (flat_map chunk pieces ++ (last_chunk ++ behind)) pieces behind
 chunks_back [] behind all = record {
   number = 48 ∷ [];
   extension = [];
@@ -150,7 +157,8 @@ chunks_back (piece ∷ pieces) behind all =
       chunks_back pieces behind (All-tail IsPiece piece pieces all),
     )
 
-pub body_back : (pieces : List (List ℕ)) (behind : List ℕ) → All IsPiece pieces → HasBody (flat_map (written Chunked) pieces ++ (ending Chunked ++ behind)) (concat pieces) behind
+pub body_back : (pieces : List (List ℕ)) (behind : List ℕ) → All IsPiece pieces
+    → HasBody (flat_map (written Chunked) pieces ++ (ending Chunked ++ behind)) (concat pieces) behind
 body_back pieces behind all = record { pieces = pieces; chunks = chunks_back pieces behind all; joined = refl }
 
 pub raw_back : (pieces : List (List ℕ)) → flat_map (written Raw) pieces ++ ending Raw ≡ concat pieces

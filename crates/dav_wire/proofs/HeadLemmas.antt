@@ -86,7 +86,8 @@ kept_alike buf spans fields same =
     sym (map-map kept (header_bytes buf) spans) ∙ ap (map kept) same ∙ map-map kept name_and_value fields
 
 -- as many fields as spans were written
-pub few_fields : (buf : List ℕ) (spans : List HeaderSpan) (n : ℕ) (fields : List Field) → map (header_bytes buf) (take n spans) ≡ map name_and_value fields
+pub few_fields : (buf : List ℕ) (spans : List HeaderSpan) (n : ℕ) (fields : List Field)
+    → map (header_bytes buf) (take n spans) ≡ map name_and_value fields
     → length spans ≤ 256 → length fields ≤ 256
 few_fields buf spans n fields same room =
     let e = ap (length {A = List ℕ × List ℕ}) same in

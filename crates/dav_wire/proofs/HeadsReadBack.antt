@@ -78,7 +78,8 @@ value_is field = refl
 
 values_are : (fields : List Field) → map name_and_value (map written_field fields) ≡ map as_read fields
 values_are [] = refl
-values_are (field ∷ fields) = ap (λ x. x ∷ map name_and_value (map written_field fields)) (value_is field) ∙ ap (λ xs. as_read field ∷ xs) (values_are fields)
+values_are (field ∷ fields) =
+    ap (λ x. x ∷ map name_and_value (map written_field fields)) (value_is field) ∙ ap (λ xs. as_read field ∷ xs) (values_are fields)
 
 line_is : (field : Field) → print_field (written_field field) ≡ field_line field
 unfolding written_field
@@ -86,7 +87,8 @@ line_is field = append_assoc field.name (58 ∷ 32 ∷ field.value) (13 ∷ 10 �
 
 lines_are : (fields : List Field) → flat_map print_field (map written_field fields) ≡ field_lines fields
 lines_are [] = refl
-lines_are (field ∷ fields) = ap (λ x. x ++ flat_map print_field (map written_field fields)) (line_is field) ∙ ap (λ x. field_line field ++ x) (lines_are fields)
+lines_are (field ∷ fields) =
+    ap (λ x. x ++ flat_map print_field (map written_field fields)) (line_is field) ∙ ap (λ x. field_line field ++ x) (lines_are fields)
 
 -- The fields that are put among the others are fields of an answer.
 close_is : IsAnswerField close_field
@@ -103,7 +105,8 @@ field_among added fields is all =
     All-append IsAnswerField (take n fields) (added ∷ drop n fields) (All-take IsAnswerField n fields all)
     (All-cons IsAnswerField added (drop n fields) is (All-drop IsAnswerField n fields all))
 
-where_said : (said : Bool) (fields : List Field) → All IsAnswerField fields → All IsAnswerField (if said then with_field close_field fields else fields)
+where_said : (said : Bool) (fields : List Field) → All IsAnswerField fields
+    → All IsAnswerField (if said then with_field close_field fields else fields)
 where_said true fields all = field_among close_field fields close_is all
 where_said false fields all = all
 
@@ -111,7 +114,8 @@ framed : (framing : Framing) (fields : List Field) → All IsAnswerField fields 
 framed Raw fields all = all
 framed Chunked fields all = field_among chunked_field fields chunked_is all
 
-written_are : (closing : Bool) (framing : Framing) (fields : List Field) → All IsAnswerField fields → All IsAnswerField (written_fields closing framing fields)
+written_are : (closing : Bool) (framing : Framing) (fields : List Field) → All IsAnswerField fields
+    → All IsAnswerField (written_fields closing framing fields)
 written_are closing framing fields all = framed framing (with_close closing fields) (where_said (closing && not (has_close_field fields)) fields all)
 
 -- the head of the grammar with this status and these fields

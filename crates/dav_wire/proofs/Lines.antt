@@ -26,7 +26,8 @@ passes : (added field : Field) (fields : List Field) → is_gt (slice_cmp nat_cm
 passes added field fields before = rw (before, add-one) refl
 
 -- what comes no later than `connection` comes no later than `transfer-encoding`
-before_framing : (field : Field) → is_gt (slice_cmp nat_cmp field.name close_field.name) ≡ false → is_gt (slice_cmp nat_cmp field.name chunked_field.name) ≡ false
+before_framing : (field : Field) → is_gt (slice_cmp nat_cmp field.name close_field.name) ≡ false
+    → is_gt (slice_cmp nat_cmp field.name chunked_field.name) ≡ false
 before_framing field before = upto nat_list_cmp_total field.name close_field.name chunked_field.name before refl
 
 -- of two fields that are put where their names belong, the second stands behind the first

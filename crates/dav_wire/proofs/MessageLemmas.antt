@@ -10,7 +10,8 @@ use Rattle.dav_wire.proofs.BodyLaws.{bodies_are_one, bodies_stay, body_refusal_s
 use Rattle.dav_wire.proofs.RequestLemmas.{request_stays, request_is_one, refusal_stays, refusal_has_none, unfinished_none, unfinished_refused, end_has_none}
 use Rattle.dav_wire.proofs.RequestLemmas as requests
 
-pub message_stays : (left more : List ℕ) (message : Message) (rest : List ℕ) → IsMessage left message rest → IsMessage (left ++ more) message (rest ++ more)
+pub message_stays : (left more : List ℕ) (message : Message) (rest : List ℕ) → IsMessage left message rest
+    → IsMessage (left ++ more) message (rest ++ more)
 message_stays left more message rest m = record {
   behind = m.behind ++ more;
   request = request_stays left more message.head m.behind m.request;
@@ -18,7 +19,8 @@ message_stays left more message rest m = record {
 }
 
 -- what is said of the body behind one head is said behind the same
-at_same : (P : RequestHead → List ℕ → Type 0) (head other : RequestHead) (behind after : List ℕ) → (head ≡ other) × (behind ≡ after) → P head behind → P other after
+at_same : (P : RequestHead → List ℕ → Type 0) (head other : RequestHead) (behind after : List ℕ) → (head ≡ other) × (behind ≡ after) → P head behind
+    → P other after
 at_same P head other behind after same p = subst (λ (x : List ℕ). P other x) same.1 (subst (λ (h : RequestHead). P h behind) same.0 p)
 
 pub message_is_one : (left : List ℕ) (message other : Message) (rest behind : List ℕ) → IsMessage left message rest → IsMessage left other behind
@@ -43,8 +45,10 @@ message_refusal_has_none left more flaw (refused_body head behind request refuse
 
 pub message_flaws_are_one : (left : List ℕ) (flaw other : Flaw) → MessageRefusal left flaw → MessageRefusal left other → flaw ≡ other
 message_flaws_are_one left flaw other (refused_head is refused) (refused_head is' refused') = is ∙ sym is'
-message_flaws_are_one left flaw other (refused_head is refused) (refused_body head behind request refused') = absurd (requests.refused_none left refused head behind request)
-message_flaws_are_one left flaw other (refused_body head behind request refused) (refused_head is refused') = absurd (requests.refused_none left refused' head behind request)
+message_flaws_are_one left flaw other (refused_head is refused) (refused_body head behind request refused') =
+    absurd (requests.refused_none left refused head behind request)
+message_flaws_are_one left flaw other (refused_body head behind request refused) (refused_head is refused') =
+    absurd (requests.refused_none left refused' head behind request)
 message_flaws_are_one left flaw other (refused_body head behind request refused) (refused_body head' behind' request' refused') =
     let same = request_is_one left head head' behind behind' request request' in
     body_flaws_are_one (announces head') behind' flaw other
@@ -59,14 +63,17 @@ unfinished_message_none left (open_body head behind request still) message rest 
 
 pub unfinished_message_refused : (left : List ℕ) (flaw : Flaw) → IsMessageUnfinished left → MessageRefusal left flaw → EitherWay left
 unfinished_message_refused left flaw (open_head still) (refused_head is refused) = unfinished_refused left still refused
-unfinished_message_refused left flaw (open_head still) (refused_body head behind request refused) = absurd (unfinished_none left still head behind request)
-unfinished_message_refused left flaw (open_body head behind request still) (refused_head is refused) = absurd (requests.refused_none left refused head behind request)
+unfinished_message_refused left flaw (open_head still) (refused_body head behind request refused) =
+    absurd (unfinished_none left still head behind request)
+unfinished_message_refused left flaw (open_body head behind request still) (refused_head is refused) =
+    absurd (requests.refused_none left refused head behind request)
 unfinished_message_refused left flaw (open_body head behind request still) (refused_body head' behind' request' refused) =
     let same = request_is_one left head' head behind' behind request' request in
     absurd (unfinished_body_not_refused (announces head) behind flaw still
     (at_same (λ h x. BodyRefusal (announces h) x flaw) head' head behind' behind same refused))
 
-pub messages_join : (left mid rest : List ℕ) (messages more : List Message) → Messages left messages mid → Messages mid more rest → Messages left (messages ++ more) rest
+pub messages_join : (left mid rest : List ℕ) (messages more : List Message) → Messages left messages mid → Messages mid more rest
+    → Messages left (messages ++ more) rest
 messages_join left mid rest [] more a b = subst (λ (x : List ℕ). Messages x more rest) a b
 messages_join left mid rest (message ∷ messages) more (after, first, others) b = (after, first, messages_join after mid rest messages more others b)
 

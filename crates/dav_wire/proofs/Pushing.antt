@@ -36,7 +36,8 @@ left_more : (sent left held bytes : List ℕ) → sent ++ left ≡ held ++ [] �
 left_more sent left held bytes e = sym (append_assoc sent left bytes) ∙ ap (λ x. x ++ bytes) (e ∙ append-nil held)
 
 -- the sink failed where what was held was given to it
-pub fails : (old new : Stream) (held bytes later : List ℕ) (e : Failed) → Pushes old held [] (Err e) later new → Pushes old held bytes (Err e) later new
+pub fails : (old new : Stream) (held bytes later : List ℕ) (e : Failed) → Pushes old held [] (Err e) later new
+    → Pushes old held bytes (Err e) later new
 fails old new held bytes later e p = record {
   counts = p.counts;
   failed = p.failed;
@@ -57,7 +58,8 @@ added : (a b d sent more : List ℕ) → b ≡ a ++ sent → d ≡ b ++ more →
 added a b d sent more p q = q ∙ ap (λ x. x ++ more) p ∙ append_assoc a sent more
 
 -- what was held is sent, and then these bytes, or a front of them
-sent_all : (held bytes none : List ℕ) (result : Result Unit Failed) (a b d : List ℕ) → none ≡ [] → Adds (held ++ []) none a b → Appended bytes result b d
+sent_all : (held bytes none : List ℕ) (result : Result Unit Failed) (a b d : List ℕ) → none ≡ [] → Adds (held ++ []) none a b
+    → Appended bytes result b d
     → Pushed held bytes result none a d
 sent_all held bytes none (Ok x) a b d empty (sent, p, e) q = (
   sent ++ bytes,
@@ -87,7 +89,8 @@ flushes_puts old mid new held bytes none result p empty q = record {
 pub none_sent : (old : Stream) (held : List ℕ) → Sent old old held held
 none_sent old held = record { counts = omega arith; told = both_same old.bytes old.bytes (Adds held held) (λ a. ([], sym (append-nil a), refl)) refl }
 
-joined : (a b d first second held bytes later w : List ℕ) → b ≡ a ++ first → first ++ held ≡ w → d ≡ b ++ second → second ++ later ≡ held ++ bytes → Adds (w ++ bytes) later a d
+joined : (a b d first second held bytes later w : List ℕ) → b ≡ a ++ first → first ++ held ≡ w → d ≡ b ++ second → second ++ later ≡ held ++ bytes
+    → Adds (w ++ bytes) later a d
 joined a b d first second held bytes later w p e q f = (
   first ++ second,
   added a b d first second p q,
@@ -95,7 +98,8 @@ joined a b d first second held bytes later w p e q f = (
 )
 
 -- more bytes were given behind what was left
-pub sent_more : (old mid new : Stream) (bytes held more later : List ℕ) → Sent old mid bytes held → Pushes mid held more (Ok tt) later new → Sent old new (bytes ++ more) later
+pub sent_more : (old mid new : Stream) (bytes held more later : List ℕ) → Sent old mid bytes held → Pushes mid held more (Ok tt) later new
+    → Sent old new (bytes ++ more) later
 sent_more old mid new bytes held more later s p = record {
   counts = let a = s.counts in let b = p.counts in omega arith;
   told = both_then old.bytes mid.bytes new.bytes (Adds bytes held) (Adds (held ++ more) later) (Adds (bytes ++ more) later)
@@ -103,7 +107,8 @@ sent_more old mid new bytes held more later s p = record {
 }
 
 -- the sink failed at them
-pub sent_front : (old mid new : Stream) (bytes held more later : List ℕ) (e : Failed) → Sent old mid bytes held → Pushes mid held more (Err e) later new → SentFront old new (bytes ++ more)
+pub sent_front : (old mid new : Stream) (bytes held more later : List ℕ) (e : Failed) → Sent old mid bytes held
+    → Pushes mid held more (Err e) later new → SentFront old new (bytes ++ more)
 sent_front old mid new bytes held more later e s p = record {
   counts = let a = s.counts in let b = p.counts in omega arith;
   told = both_then old.bytes mid.bytes new.bytes (Adds bytes held) (AddsFront (held ++ more)) (AddsFront (bytes ++ more))
@@ -123,14 +128,16 @@ pub sent_some : (old new : Stream) (bytes left : List ℕ) → Sent old new byte
 sent_some old new bytes left s = record { counts = s.counts; told = both_map old.bytes new.bytes (Adds bytes left) (AddsFront bytes) (λ a b x. (left, x)) s.told }
 
 -- two givings, one behind the other
-pub sent_then : (old mid new : Stream) (bytes held more later : List ℕ) → Sent old mid bytes held → Sent mid new (held ++ more) later → Sent old new (bytes ++ more) later
+pub sent_then : (old mid new : Stream) (bytes held more later : List ℕ) → Sent old mid bytes held → Sent mid new (held ++ more) later
+    → Sent old new (bytes ++ more) later
 sent_then old mid new bytes held more later s p = record {
   counts = let a = s.counts in let b = p.counts in omega arith;
   told = both_then old.bytes mid.bytes new.bytes (Adds bytes held) (Adds (held ++ more) later) (Adds (bytes ++ more) later)
       (λ a b d x y. joined a b d x.0 y.0 held more later bytes x.1 x.2 y.1 y.2) s.told p.told;
 }
 
-pub sent_then_front : (old mid new : Stream) (bytes held more : List ℕ) → Sent old mid bytes held → SentFront mid new (held ++ more) → SentFront old new (bytes ++ more)
+pub sent_then_front : (old mid new : Stream) (bytes held more : List ℕ) → Sent old mid bytes held → SentFront mid new (held ++ more)
+    → SentFront old new (bytes ++ more)
 sent_then_front old mid new bytes held more s p = record {
   counts = let a = s.counts in let b = p.counts in omega arith;
   told = both_then old.bytes mid.bytes new.bytes (Adds bytes held) (AddsFront (held ++ more)) (AddsFront (bytes ++ more))
@@ -146,7 +153,8 @@ sent_on old mid new bytes held later s p = record {
 }
   where
     on : (a b d first second held later w : List ℕ) → b ≡ a ++ first → first ++ held ≡ w → d ≡ b ++ second → second ++ later ≡ held → Adds w later a d
-    on a b d first second held later w p e q f = (first ++ second, added a b d first second p q, append_assoc first second later ∙ ap (λ x. first ++ x) f ∙ e)
+    on a b d first second held later w p e q f =
+        (first ++ second, added a b d first second p q, append_assoc first second later ∙ ap (λ x. first ++ x) f ∙ e)
 
 pub sent_on_front : (old mid new : Stream) (bytes held : List ℕ) → Sent old mid bytes held → SentFront mid new held → SentFront old new bytes
 sent_on_front old mid new bytes held s p = record {
@@ -156,13 +164,15 @@ sent_on_front old mid new bytes held s p = record {
 }
   where
     on : (a b d first second held later w : List ℕ) → b ≡ a ++ first → first ++ held ≡ w → d ≡ b ++ second → second ++ later ≡ held → Adds w later a d
-    on a b d first second held later w p e q f = (first ++ second, added a b d first second p q, append_assoc first second later ∙ ap (λ x. first ++ x) f ∙ e)
+    on a b d first second held later w p e q f =
+        (first ++ second, added a b d first second p q, append_assoc first second later ∙ ap (λ x. first ++ x) f ∙ e)
 
 -- a push, by itself
 pub sent_push : (old new : Stream) (held bytes later : List ℕ) → Pushes old held bytes (Ok tt) later new → Sent old new (held ++ bytes) later
 sent_push old new held bytes later p = record { counts = p.counts; told = p.told }
 
-pub sent_push_front : (old new : Stream) (held bytes later : List ℕ) (e : Failed) → Pushes old held bytes (Err e) later new → SentFront old new (held ++ bytes)
+pub sent_push_front : (old new : Stream) (held bytes later : List ℕ) (e : Failed) → Pushes old held bytes (Err e) later new
+    → SentFront old new (held ++ bytes)
 sent_push_front old new held bytes later e p = record { counts = p.counts; told = p.told }
 
 -- a flush, by itself

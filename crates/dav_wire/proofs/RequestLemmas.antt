@@ -27,7 +27,8 @@ refusal_stays left more (long past none) =
 refusal_stays left more (many exceeds overflows) = many (exceeds_more 256 left more exceeds) (overflows_more 256 left more overflows)
 refusal_stays left more (target head rest reads none) = target head (rest ++ more) (ReadsRequest-append left head rest more reads) none
 
-pub request_stays : (left more : List ℕ) (head : RequestHead) (rest : List ℕ) → IsRequest left head rest → IsRequest (left ++ more) head (rest ++ more)
+pub request_stays : (left more : List ℕ) (head : RequestHead) (rest : List ℕ) → IsRequest left head rest
+    → IsRequest (left ++ more) head (rest ++ more)
 request_stays left more head rest request = record {
   reads = ReadsRequest-append left head rest more request.reads;
   short = request.short;
@@ -79,7 +80,8 @@ unfinished_refused left u (long past none) = let short = u.short in absurd (omeg
 unfinished_refused left u (many exceeds overflows) = inr exceeds
 unfinished_refused left u (target head rest reads none) = absurd (u.none head rest reads)
 
-pub requests_join : (left mid rest : List ℕ) (heads more : List RequestHead) → Requests left heads mid → Requests mid more rest → Requests left (heads ++ more) rest
+pub requests_join : (left mid rest : List ℕ) (heads more : List RequestHead) → Requests left heads mid → Requests mid more rest
+    → Requests left (heads ++ more) rest
 requests_join left mid rest [] more a b = subst (λ (x : List ℕ). Requests x more rest) a b
 requests_join left mid rest (head ∷ heads) more (after, first, others) b = (after, first, requests_join after mid rest heads more others b)
 

@@ -85,7 +85,8 @@ never_long digits behind all long more size rest has =
     omega arith
 
 pub never_none : (x : ℕ) (behind : List ℕ) → 16 ≤ digit_value x → NeverHasSize (x ∷ behind)
-never_none x behind much more size rest has = none has.number (x ∷ behind ++ more) (has.extension ++ (line_end ++ rest)) has.number_is.some has.number_is.hexadecimal has.whole
+never_none x behind much more size rest has =
+    none has.number (x ∷ behind ++ more) (has.extension ++ (line_end ++ rest)) has.number_is.some has.number_is.hexadecimal has.whole
   where
     none : (number text after : List ℕ) → 0 < length number → AllDigits 16 number → x ∷ behind ++ more ≡ number ++ after → ⊥
     none [] text after some all e = absurd (omega arith)
@@ -119,7 +120,8 @@ no_return : IsWithinLine 13 → ⊥
 no_return within = within.0 refl
 
 -- An extension in front of the end of a line, where it begins with a semicolon.
-extension_fits : (bytes other rest behind : List ℕ) → All IsWithinLine bytes → IsExtension other → other ++ (line_end ++ rest) ≡ 59 ∷ (bytes ++ behind)
+extension_fits : (bytes other rest behind : List ℕ) → All IsWithinLine bytes → IsExtension other
+    → other ++ (line_end ++ rest) ≡ 59 ∷ (bytes ++ behind)
     → length bytes ≤ 256
 extension_fits bytes [] rest behind all is e = let no : ◌≡◌ {A = ℕ} 13 59 = cc in absurd (omega (arith, no))
 extension_fits bytes (b ∷ other) rest behind all is e =
@@ -180,7 +182,8 @@ begins_more : (behind more : List ℕ) → Begins behind → Begins (behind ++ m
 begins_more [] more begins = absurd (omega (arith, begins.0))
 begins_more (x ∷ behind) more begins = (omega arith, begins.1)
 
-tail_more : (digits behind more : List ℕ) (size : ℕ) (rest : List ℕ) → AllDigits 16 digits → Begins behind → HasSize ((digits ++ behind) ++ more) size rest
+tail_more : (digits behind more : List ℕ) (size : ℕ) (rest : List ℕ) → AllDigits 16 digits → Begins behind
+    → HasSize ((digits ++ behind) ++ more) size rest
     → (other : List ℕ) × IsExtension other × (other ++ (line_end ++ rest) ≡ behind ++ more)
 tail_more digits behind more size rest all begins has =
     tail_of digits (behind ++ more) size rest all (begins_more behind more begins) (subst (λ (x : List ℕ). HasSize x size rest) (append_assoc digits behind more) has)
@@ -238,7 +241,8 @@ no_size_yet digits behind len all begins ends within few size rest has =
       | inr over ↦ over_none behind len tail.0 rest ends within over begins.0 tail.1 tail.2
     ]
   where
-    over_none : (behind : List ℕ) (len : ℕ) (other rest : List ℕ) → EndsExtension behind len → len ≤ length behind → length behind ≤ len → 0 < length behind
+    over_none : (behind : List ℕ) (len : ℕ) (other rest : List ℕ) → EndsExtension behind len → len ≤ length behind → length behind ≤ len
+        → 0 < length behind
         → IsExtension other → other ++ (line_end ++ rest) ≡ behind → ⊥
     over_none behind len other rest (inl (none, first)) within over some is e = absurd (omega arith)
     over_none behind len other rest (inr long) within over some is e =
@@ -259,7 +263,8 @@ line_with digits behind more after len is ends few e = record {
   extension_is = extension_is behind len ends few;
 }
 
-pub more_line_end : (digits behind : List ℕ) (len : ℕ) → IsSize digits (digits_value 16 digits) → Begins behind → EndsExtension behind len → len ≤ length behind
+pub more_line_end : (digits behind : List ℕ) (len : ℕ) → IsSize digits (digits_value 16 digits) → Begins behind → EndsExtension behind len
+    → len ≤ length behind
     → len ≤ 257 → FindsEnd (drop len behind) Partly → FindsSize (digits ++ behind) More
 more_line_end digits behind len is begins ends within few (short, more, e) = (
   (let both = length-append digits behind in let left = length-drop len behind in let most = is.few in omega arith),
@@ -331,7 +336,8 @@ at_end text count digits few all =
 
 pub at_none : (text : List ℕ) (count : ℕ) → Digits text count → count ≢ length text → count ≡ 0 → NeverHasSize text
 at_none [] count digits not_all none = absurd (not_all none)
-at_none (x ∷ text) count digits not_all none = never_none x text (subst (λ (k : ℕ). 16 ≤ digit_value (get_or (x ∷ text) k 0)) none (digits.ends (omega arith)))
+at_none (x ∷ text) count digits not_all none =
+    never_none x text (subst (λ (k : ℕ). 16 ≤ digit_value (get_or (x ∷ text) k 0)) none (digits.ends (omega arith)))
 
 -- What it knows further: digits of a size, and the length of an extension behind them.
 pub record Split (text behind : List ℕ) (count len : ℕ) : Type 0 where
@@ -365,7 +371,8 @@ at_extension text behind count len split much =
     subst NeverHasSize (whole_at text behind count len split)
     (never_extension (take count text) behind len split.digits.all (begins_at text behind count len split) split.ends much)
 
-pub at_nowhere : (text behind end : List ℕ) (count len : ℕ) → Split text behind count len → end ≡ drop len behind → NeverEndsLine end → NeverHasSize text
+pub at_nowhere : (text behind end : List ℕ) (count len : ℕ) → Split text behind count len → end ≡ drop len behind → NeverEndsLine end
+    → NeverHasSize text
 at_nowhere text behind end count len split end_is none =
     subst NeverHasSize (whole_at text behind count len split)
     (never_line_end (take count text) behind len split.digits.all (begins_at text behind count len split) split.ends split.within (subst NeverEndsLine end_is none))

@@ -77,7 +77,8 @@ digits_are_size size fits =
     }
 
 -- the next digit goes in front of those that are written
-pub next_digit : (line : List ℕ) (at rest digit : ℕ) (target : List ℕ) → 0 < at → at ≤ length line → (rest / 16 ≡ 0 → ⊥) → digit ≡ digit_glyph false (rest % 16)
+pub next_digit : (line : List ℕ) (at rest digit : ℕ) (target : List ℕ) → 0 < at → at ≤ length line → (rest / 16 ≡ 0 → ⊥)
+    → digit ≡ digit_glyph false (rest % 16)
     → onto (at + 48) rest (drop at line) ≡ target → onto (at - 1 + 48) (rest / 16) (drop (at - 1) (set line (at - 1) digit)) ≡ target
 next_digit line at rest digit target some within more is so_far =
     let k : at + 48 ≡ suc (at - 1 + 48) = omega arith in
@@ -86,7 +87,8 @@ next_digit line at rest digit target some within more is so_far =
     ∙ sym (onto_more (at - 1 + 48) rest (drop at line) more) ∙ ap (λ n. onto n rest (drop at line)) (sym k) ∙ so_far
 
 -- and with the first digit all are written
-pub first_digit : (line : List ℕ) (at rest digit : ℕ) (target : List ℕ) → 0 < at → at ≤ length line → rest / 16 ≡ 0 → digit ≡ digit_glyph false (rest % 16)
+pub first_digit : (line : List ℕ) (at rest digit : ℕ) (target : List ℕ) → 0 < at → at ≤ length line → rest / 16 ≡ 0
+    → digit ≡ digit_glyph false (rest % 16)
     → onto (at + 48) rest (drop at line) ≡ target → drop (at - 1) (set line (at - 1) digit) ≡ target
 first_digit line at rest digit target some within none is so_far =
     drop-set line (at - 1) digit (omega arith) ∙ ap (λ n. digit ∷ drop n line) (omega arith) ∙ ap (λ d. d ∷ drop at line) is
@@ -107,5 +109,6 @@ line_before size line long =
     ∙ whole_line size
 
 -- what stands from the place on is the line
-pub line_is : (line : List ℕ) (start size : ℕ) → length line ≡ 18 → drop start line ≡ size_line size → take (18 - start) (drop start line) ≡ size_line size
+pub line_is : (line : List ℕ) (start size : ℕ) → length line ≡ 18 → drop start line ≡ size_line size
+    → take (18 - start) (drop start line) ≡ size_line size
 line_is line start size long is = take_all (18 - start) (drop start line) (omega (arith, length-drop start line)) ∙ is

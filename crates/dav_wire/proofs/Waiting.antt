@@ -22,6 +22,8 @@ count_sending (Err TooMuch) none = refl
 count_sending (Err WithoutMemory) none = refl
 count_sending (Err Unsent) none = absurd (none refl)
 
-pub sends_before : (old new : Stream) (held later : List ℕ) (source filled : Stream) (before kept : Pending) (r : Result ℕ ReadError) → Fills source before r kept filled
+pub sends_before : (old new : Stream) (held later : List ℕ) (source filled : Stream) (before kept : Pending) (r : Result ℕ ReadError)
+    → Fills source before r kept filled
     → Pushes old held [] (Ok tt) later new → Pushes old held [] (sending r) later new
-sends_before old new held later source filled before kept r f p = subst (λ (x : Result Unit SinkFailed). Pushes old held [] x later new) (sym (count_sending r f.sent)) p
+sends_before old new held later source filled before kept r f p =
+    subst (λ (x : Result Unit SinkFailed). Pushes old held [] x later new) (sym (count_sending r f.sent)) p

@@ -89,7 +89,8 @@ written_fields closing framing fields = with_framing framing (with_close closing
 
 -- the head of an answer
 abbrev pub head_text : ℕ → List Field → Bool → Framing → List ℕ
-head_text status fields closing framing = status_line status ++ (field_lines (written_fields closing framing fields) ++ codes "\r\n")
+head_text status fields closing framing =
+    status_line status ++ (field_lines (written_fields closing framing fields) ++ codes "\r\n")
 
 -- what answers a request that can't be read
 abbrev pub bad_request_text : List ℕ

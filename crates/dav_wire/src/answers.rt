@@ -63,10 +63,24 @@ pub fn answer_head(
     ensures { IfOk result (λ text. text ≡ head_text status fields.now closing framing) }
 {
     let mut text = Vec::with_capacity(alloc, 256)?;
-    write_status(&mut text, status)?;
-    write_all(&mut text, fields, closing, framing)?;
-    text.extend_from_slice(b"\r\n")?;
+    push_head(&mut text, status, fields, closing, framing)?;
     Ok(Octets::new(text))
+}
+
+/// Appends the head of an answer.
+pub fn push_head(
+    text: &mut Vec<u8>,
+    status: u16,
+    fields: &[Field],
+    closing: bool,
+    framing: Framing,
+) -> Result<(), NoMemory>
+    ensures { OnOk result (text.new.items ≡ text.old.items ++ head_text status fields.now closing framing) }
+{
+    write_status(text, status)?;
+    write_all(text, fields, closing, framing)?;
+    text.extend_from_slice(b"\r\n")?;
+    Ok(())
 }
 
 fn write_all(

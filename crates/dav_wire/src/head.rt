@@ -21,6 +21,7 @@ use http_uri::UriError;
 use httparse::Status;
 use httparse::spans::{HeaderSpan, RequestSpans, Span, parse_request};
 use std::alloc::Global;
+use std::mem;
 
 // A head, and how many bytes it takes.
 #[derive(Drop)]
@@ -36,20 +37,24 @@ pub enum PartError {
     NoMemory,
 }
 
-// The head at the front of a buffer, or nothing where more bytes may make one.
+// The head at the front of a buffer, or nothing where more bytes may make one. The fields of a head take the memory of
+// the spare map.
 pub fn read_head(
     alloc: Global,
     buf: &[u8],
     spans: &mut [HeaderSpan],
+    spare: &mut HeaderMap,
 ) -> Result<Option<ReadHead>, PartError>
     requires short { length buf.now ≤ 65536 }
     requires room { length spans.old ≡ 256 }
-    ensures { Parses buf.now result }
+    requires spare { spare.old ≡ [] }
+    ensures parses { Parses buf.now result }
+    ensures spare { spare.new ≡ [] }
 {
     match parse_request(buf, spans) {
         Ok(Status::Complete(head)) => {
             let len = head.len;
-            match read_parts(alloc, buf, spans, head) {
+            match read_parts(alloc, buf, spans, head, spare) {
                 Ok(parts) => Ok(Some(ReadHead { parts, len })),
                 Err(PartError::Refused) => Err(PartError::Refused),
                 Err(PartError::NoMemory) => Err(PartError::NoMemory),
@@ -60,29 +65,36 @@ pub fn read_head(
     }
 }
 
-// The parts of a head, from where they stand in the buffer.
+// The parts of a head, from where they stand in the buffer. What its target and its values say shares one copy of it.
 fn read_parts(
     alloc: Global,
     buf: &[u8],
     spans: &[HeaderSpan],
     head: RequestSpans,
+    spare: &mut HeaderMap,
 ) -> Result<Parts, PartError>
     requires short { length buf.now ≤ 65536 }
     requires room { length spans.now ≤ 256 }
     requires within { IsRequestWithin buf.now spans.now head }
     requires complete { IsRequestOf buf.now spans.now head }
+    requires spare { spare.old ≡ [] }
+    ensures spare { spare.new ≡ [] }
     ensures ok { IfOk result (IsReadAt buf.now head.len) }
     ensures refused { result ≡ Err Refused → Refusal buf.now }
 {
-    let uri = match read_target(alloc, head.path.of(buf)) {
+    let front = &buf[..head.len];
+    let Ok(whole) = Bytes::copy_from_slice(alloc, front) else {
+        return Err(PartError::NoMemory);
+    };
+    let uri = match read_target(&whole, head.path) {
         Ok(uri) => uri,
         Err(error) => return Err(error),
     };
     let Ok(method) = read_method(alloc, head.method.of(buf)) else {
         return Err(PartError::NoMemory);
     };
-    let front = &buf[..head.len];
-    let Ok(headers) = read_fields(alloc, front, &spans[..head.headers]) else {
+    let none = mem::replace(spare, HeaderMap::new(alloc));
+    let Ok(headers) = read_fields(alloc, front, &whole, &spans[..head.headers], none) else {
         return Err(PartError::NoMemory);
     };
     let version = version(head.version);
@@ -105,11 +117,16 @@ fn read_method(alloc: Global, word: &[u8]) -> Result<Method, NoMemory>
     }
 }
 
-fn read_target(alloc: Global, text: &[u8]) -> Result<Uri, PartError>
-    ensures ok { IfOk result (Spells text.now) }
-    ensures refused { result ≡ Err Refused → SpellsNone text.now }
+// The target that a part of a copy spells, which shares its memory.
+fn read_target(whole: &Bytes, span: Span) -> Result<Uri, PartError>
+    requires { IsWithin (length whole.now) span }
+    ensures ok { IfOk result (Spells (span_bytes whole.now span)) }
+    ensures refused { result ≡ Err Refused → SpellsNone (span_bytes whole.now span) }
 {
-    match Uri::from_bytes(alloc, text) {
+    let Ok(text) = part_of(whole, span) else {
+        return Err(PartError::NoMemory);
+    };
+    match Uri::from_shared(text) {
         Ok(uri) => Ok(uri),
         Err(UriError::Invalid(_)) => Err(PartError::Refused),
         Err(UriError::OutOfMemory) => Err(PartError::NoMemory),
@@ -136,19 +153,27 @@ fn part_of(whole: &Bytes, span: Span) -> Result<Bytes, NoMemory>
     Ok(part)
 }
 
-// The fields of a head. Their values share one copy of it.
-fn read_fields(alloc: Global, buf: &[u8], spans: &[HeaderSpan]) -> Result<HeaderMap, NoMemory>
+// The fields of a head, in a map that has none yet. Their values share one copy of it.
+fn read_fields(
+    alloc: Global,
+    buf: &[u8],
+    whole: &Bytes,
+    spans: &[HeaderSpan],
+    none: HeaderMap,
+) -> Result<HeaderMap, NoMemory>
+    requires copied { whole.now ≡ buf.now }
+    requires none { none ≡ [] }
     requires few { length spans.now ≤ 256 }
     requires within { All (IsHeaderWithin (length buf.now)) spans.now }
     requires fields { All (λ span. IsField (header_bytes buf.now span)) spans.now }
     ensures { IfOk result (λ headers. headers ≡ append_all [] (map (kept_span buf.now) spans.now)) }
 {
-    let Ok(mut headers) = HeaderMap::with_capacity(alloc, spans.len()) else {
+    let mut headers = none;
+    if headers.reserve(spans.len()).is_err() {
         return Err(NoMemory);
-    };
-    let whole = Bytes::copy_from_slice(alloc, buf)?;
+    }
     for span in spans {
-        add_span(alloc, &mut headers, buf, &whole, *span)?;
+        add_span(alloc, &mut headers, buf, whole, *span)?;
     }
     Ok(headers)
 }

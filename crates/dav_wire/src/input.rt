@@ -7,6 +7,7 @@ use crate::buffer::{ask_at, move_front, take_at};
 use crate::head::{PartError, read_head};
 use crate::next::{Found, ReadError};
 use dav_io::{Client, NoMemory, Sink, Source};
+use http::HeaderMap;
 use httparse::spans::{EMPTY_HEADER_SPAN, HeaderSpan};
 use std::alloc::Global;
 use std::marker::Model;
@@ -23,18 +24,19 @@ const MOST_FIELDS: usize = 256;
 const MOST_TAKEN: u64 = 1_152_921_504_606_846_976;
 
 /// The bytes that were taken from a source and not yet passed, and the number of all that were taken. The buffer is
-/// made once. A contract sees the two.
+/// made once. A contract sees the two. Beside them it keeps a map of fields that was given back, for its memory.
 #[derive(Drop)]
 pub struct Input {
     buffer: Vec<u8>,
     spans: Vec<HeaderSpan>,
+    spare: HeaderMap,
     start: usize,
     end: usize,
     taken: u64,
 }
 
 impl Model for Input {
-    ghost use Rattle.std.specs.Prelude.{◌≡◌, ◌≤◌, ◌^◌, length, slice_range};
+    ghost use Rattle.std.specs.Prelude.{◌≡◌, ◌≤◌, ◌^◌, [], length, slice_range};
     ghost use Rattle.dav_wire.specs.Pending.{Pending};
 
     ghost Value = { Pending };
@@ -42,7 +44,7 @@ impl Model for Input {
     ghost view = { λ i. record { bytes = slice_range i.buffer.items i.start i.end; taken = i.taken } };
 
     ghost invariant = { λ i. (i.start ≤ i.end) × (i.end ≤ 65537) × (length i.buffer.items ≡ 65537)
-        × (length i.spans.items ≡ 256) × (i.taken ≤ 2 ^ 60) };
+        × (length i.spans.items ≡ 256) × (i.spare ≡ []) × (i.taken ≤ 2 ^ 60) };
 }
 
 impl Input {
@@ -53,6 +55,7 @@ impl Input {
         Ok(Input {
             buffer: vec![in alloc; 0; ROOM]?,
             spans: vec![in alloc; EMPTY_HEADER_SPAN; MOST_FIELDS]?,
+            spare: HeaderMap::new(alloc),
             start: 0,
             end: 0,
             taken: 0,
@@ -73,6 +76,14 @@ impl Input {
         ensures taken { self.new.taken ≡ self.old.taken }
     {
         self.start += count;
+    }
+
+    /// Takes back the fields of a request that was answered, so that the next one uses their memory.
+    pub fn take_back(&mut self, fields: HeaderMap)
+        ensures { self.new ≡ self.old }
+    {
+        self.spare = fields;
+        self.spare.clear();
     }
 
     /// Takes more bytes, in one call of the source, and answers how many. 0 is the end of the input.
@@ -136,7 +147,7 @@ impl Input {
     {
         let len = (self.end - self.start).min(LONGEST);
         let front = &self.buffer[self.start..self.start + len];
-        match read_head(alloc, front, &mut self.spans) {
+        match read_head(alloc, front, &mut self.spans, &mut self.spare) {
             Ok(Some(head)) => {
                 self.start += head.len;
                 Ok(Found::Whole(head.parts))

@@ -18,7 +18,7 @@ mod request;
 mod size_line;
 
 pub use announcing::{Announced, announced_by};
-pub use answers::{answer_head, bad_request_text, framing, refusal_text, says_close};
+pub use answers::{answer_head, bad_request_text, framing, push_head, refusal_text, says_close};
 pub use body::read_body;
 pub use chunks::Framing;
 pub use fields::asks_close;

@@ -21,7 +21,8 @@ abbrev pub GoesOn : List ℕ → List ℕ → Type 0
 GoesOn t u = (more : List ℕ) × (u ≡ t ++ more)
 
 cancel : (t : List ℕ) (x r s : List ℕ) → encodes t ++ r ≡ encodes (t ++ x) ++ s → r ≡ encodes x ++ s
-cancel t x r s e = append_cancel_left (encodes t) r (encodes x ++ s) (e ∙ ap (λ y. y ++ s) (encodes-append t x) ∙ append_assoc (encodes t) (encodes x) s)
+cancel t x r s e =
+    append_cancel_left (encodes t) r (encodes x ++ s) (e ∙ ap (λ y. y ++ s) (encodes-append t x) ∙ append_assoc (encodes t) (encodes x) s)
 
 -- two readings of the same bytes: one goes on to the other
 pub compare : (t u r s : List ℕ) → encodes t ++ r ≡ encodes u ++ s → GoesOn t u ⊎ GoesOn u t
@@ -86,8 +87,10 @@ view_same (Err e) (Err f) h =
 -- What is said of a text to its end, to a fault of the bytes, or to the limit.
 data Says (limit : ℕ) (text rest : List ℕ) (answer : Option (DecodeErrKind × ℕ)) (value : List ℕ) : Type 0 where
   whole : IsText text value → length rest ≡ 0 → length text < limit → answer ≡ None → Says limit text rest answer value
-  early : (p : ℕ) → HasFault text PrematureEnd p value → length rest ≡ 0 → length text < limit → answer ≡ Some (PrematureEnd, p) → Says limit text rest answer value
-  broken : Unfinished text value → 0 < length rest → StartsWithNoChar rest → length text < limit → answer ≡ Some (EncodingError, length text) → Says limit text rest answer value
+  early : (p : ℕ) → HasFault text PrematureEnd p value → length rest ≡ 0 → length text < limit → answer ≡ Some (PrematureEnd, p)
+      → Says limit text rest answer value
+  broken : Unfinished text value → 0 < length rest → StartsWithNoChar rest → length text < limit → answer ≡ Some (EncodingError, length text)
+      → Says limit text rest answer value
   full : Unfinished text value → length text ≡ limit → answer ≡ Some (TooLong, length text) → Says limit text rest answer value
 
 unfinished_same : (t v w : List ℕ) → Unfinished t v → Unfinished t w → v ≡ w
@@ -131,7 +134,8 @@ says_within limit t r o v (early q a n l e) = omega arith
 says_within limit t r o v (broken a n bare l e) = omega arith
 says_within limit t r o v (full a l e) = omega arith
 
-reaches : (limit : ℕ) (bytes t r u s : List ℕ) (o : Option (DecodeErrKind × ℕ)) (v : List ℕ) → Says limit t r o v → ReadSo bytes t r → ReadSo bytes u s → length u ≤ limit → GoesOn u t
+reaches : (limit : ℕ) (bytes t r u s : List ℕ) (o : Option (DecodeErrKind × ℕ)) (v : List ℕ) → Says limit t r o v → ReadSo bytes t r
+    → ReadSo bytes u s → length u ≤ limit → GoesOn u t
 reaches limit bytes t r u s o v (whole a n l e) p q h = furthest bytes t u r s p q (inl n)
 reaches limit bytes t r u s o v (early z a n l e) p q h = furthest bytes t u r s p q (inl n)
 reaches limit bytes t r u s o v (broken a n bare l e) p q h = furthest bytes t u r s p q (inr bare)
@@ -142,7 +146,8 @@ both_ways t u a b =
     let none : a.0 ≡ [] = nil_from_length a.0 (omega (arith, ap length a.1, ap length b.1, length-append t a.0, length-append u b.0)) in
     sym (append-nil t) ∙ ap (λ y. t ++ y) (sym none) ∙ sym a.1
 
-finals_same : (limit : ℕ) (bytes : List ℕ) (o p : Option (DecodeErrKind × ℕ)) (v w : List ℕ) → Final limit bytes o v → Final limit bytes p w → (o ≡ p) × (v ≡ w)
+finals_same : (limit : ℕ) (bytes : List ℕ) (o p : Option (DecodeErrKind × ℕ)) (v w : List ℕ) → Final limit bytes o v → Final limit bytes p w
+    → (o ≡ p) × (v ≡ w)
 finals_same limit bytes o p v w a b =
     let there = reaches limit bytes b.text b.rest a.text a.rest p w b.says b.read a.read (says_within limit a.text a.rest o v a.says) in
     let back = reaches limit bytes a.text a.rest b.text b.rest o v a.says a.read b.read (says_within limit b.text b.rest p w b.says) in
@@ -153,13 +158,15 @@ finals_same limit bytes o p v w a b =
     says_same limit a.text a.rest o p v w a.says (subst Q rest (subst P same b.says))
 
 -- a fault that is met is the fault of every text that goes on
-met_in : (limit : ℕ) (bytes : List ℕ) (k : DecodeErrKind) (p : ℕ) (v u : List ℕ) → (m : MeetsFault limit bytes k p v) → GoesOn m.text u → HasFault u k p v
+met_in : (limit : ℕ) (bytes : List ℕ) (k : DecodeErrKind) (p : ℕ) (v u : List ℕ) → (m : MeetsFault limit bytes k p v) → GoesOn m.text u
+    → HasFault u k p v
 met_in limit bytes k p v u m g = let P : List ℕ → Type 0 = λ t. HasFault t k p v in subst P (sym g.1) (m.met g.0)
 
 unfinished_unmet : (t v w : List ℕ) (k : DecodeErrKind) (p : ℕ) → Unfinished t v → HasFault t k p w → k ≡ PrematureEnd
 unfinished_unmet t v w k p a f = f.kind ∙ ap fault_at (sym (front_unique t v w a.rest f.rest a.front f.front).1) ∙ a.unmet
 
-met_not_final : (limit : ℕ) (t r : List ℕ) (o : Option (DecodeErrKind × ℕ)) (v w : List ℕ) (k : DecodeErrKind) (p : ℕ) → Says limit t r o v → HasFault t k p w → k ≢ PrematureEnd → ⊥
+met_not_final : (limit : ℕ) (t r : List ℕ) (o : Option (DecodeErrKind × ℕ)) (v w : List ℕ) (k : DecodeErrKind) (p : ℕ) → Says limit t r o v
+    → HasFault t k p w → k ≢ PrematureEnd → ⊥
 met_not_final limit t r o v w k p (whole a n l e) f u = text_faultless t v w k p a f
 met_not_final limit t r o v w k p (early q a n l e) f u = u (fault_unique t w v k PrematureEnd p q f a).0
 met_not_final limit t r o v w k p (broken a n bare l e) f u = u (unfinished_unmet t v w k p a f)
@@ -171,7 +178,8 @@ apart limit bytes o p v w a b =
     let g = reaches limit bytes b.text b.rest m.text m.rest p w b.says b.read m.read m.within in
     met_not_final limit b.text b.rest p w v a.kind a.position b.says (met_in limit bytes a.kind a.position v b.text m g) a.unlike
 
-mets_same : (limit : ℕ) (bytes : List ℕ) (o p : Option (DecodeErrKind × ℕ)) (v w : List ℕ) → Met limit bytes o v → Met limit bytes p w → (o ≡ p) × (v ≡ w)
+mets_same : (limit : ℕ) (bytes : List ℕ) (o p : Option (DecodeErrKind × ℕ)) (v w : List ℕ) → Met limit bytes o v → Met limit bytes p w
+    → (o ≡ p) × (v ≡ w)
 mets_same limit bytes o p v w a b =
     let m = a.fault in
     let n = b.fault in
@@ -192,15 +200,18 @@ stop_is limit bytes InvalidCharacter p v s n = inl (record { kind = InvalidChara
 stop_is limit bytes PrematureEnd p v s n = inr (record { text = s.text; rest = []; read = s.read; says = early p s.fault refl s.within refl })
 stop_is limit bytes EncodingError p v s n =
     inr (record { text = s.text; rest = s.rest; read = s.read; says = broken s.unfinished s.some s.none s.within (ap (λ (z : ℕ). Some (EncodingError, z)) s.place) })
-stop_is limit bytes TooLong p v s n = inr (record { text = s.text; rest = s.rest; read = s.read; says = full s.unfinished s.full (ap (λ (z : ℕ). Some (TooLong, z)) s.place) })
+stop_is limit bytes TooLong p v s n =
+    inr (record { text = s.text; rest = s.rest; read = s.read; says = full s.unfinished s.full (ap (λ (z : ℕ). Some (TooLong, z)) s.place) })
 stop_is limit bytes (IoError side) p v s n = absurd (n side refl)
 stop_is limit bytes NoMemory p v s n = absurd s
 
-answer_is : (limit : ℕ) (bytes : List ℕ) (x : Result (Unit {0}) DecodeErr) (v : List ℕ) → Decodes limit bytes x v → (IsIo x → ⊥) → Met limit bytes (view x) v ⊎ Final limit bytes (view x) v
+answer_is : (limit : ℕ) (bytes : List ℕ) (x : Result (Unit {0}) DecodeErr) (v : List ℕ) → Decodes limit bytes x v → (IsIo x → ⊥)
+    → Met limit bytes (view x) v ⊎ Final limit bytes (view x) v
 answer_is limit bytes (Ok u) v d n = inr (record { text = d.text; rest = []; read = d.read; says = whole d.whole refl d.within refl })
 answer_is limit bytes (Err e) v d n = stop_is limit bytes e.kind e.position v d (λ side k. n (side, k))
 
-pub one_answer : (limit : ℕ) (bytes : List ℕ) (x y : Result (Unit {0}) DecodeErr) (v w : List ℕ) → Decodes limit bytes x v → Decodes limit bytes y w → (IsIo x → ⊥) → (IsIo y → ⊥)
+pub one_answer : (limit : ℕ) (bytes : List ℕ) (x y : Result (Unit {0}) DecodeErr) (v w : List ℕ) → Decodes limit bytes x v → Decodes limit bytes y w
+    → (IsIo x → ⊥) → (IsIo y → ⊥)
     → (x ≡ y) × (v ≡ w)
 one_answer limit bytes x y v w a b m n =
     let views : (view x ≡ view y) × (v ≡ w) = elim (answer_is limit bytes x v a m) [
@@ -218,7 +229,8 @@ plain : (x : Result (Unit {0}) DecodeErr) (v old new : List ℕ) → (IsIo x →
 plain (Ok u) v old new n h = h
 plain (Err e) v old new n h = plain_at e.kind v old new (λ side k. n (side, k)) h
 
-only_at : (limit : ℕ) (told : Option (List ℕ)) (w u : Stream) (x other : Result (Unit {0}) DecodeErr) (v value : List ℕ) → IfSome told (λ b. Decodes limit b x v) → Both w.bytes u.bytes (Wrote x v)
+only_at : (limit : ℕ) (told : Option (List ℕ)) (w u : Stream) (x other : Result (Unit {0}) DecodeErr) (v value : List ℕ)
+    → IfSome told (λ b. Decodes limit b x v) → Both w.bytes u.bytes (Wrote x v)
     → IfSome told (λ b. Decodes limit b other value × ¬ (IsIo other) × ¬ (IsIo x) → (other ≡ x) × Both w.bytes u.bytes (λ old new. new ≡ old ++ encodes value))
 only_at limit None w u x other v value d h = tt
 only_at limit (Some b) w u x other v value d h = λ a.
@@ -248,18 +260,21 @@ no_bytes bytes t r u h some bare =
     let none : r ≡ [] = append_cancel_left (encodes t) r [] (sym h.spells ∙ (whole_read bytes u).spells ∙ ap (λ x. encodes x ++ []) (sym same)) in
     omega (arith, ap length none)
 
-stop_in : (limit : ℕ) (bytes : List ℕ) (k : DecodeErrKind) (p : ℕ) (v : List ℕ) → IsUtf8 bytes → length (chars bytes) < limit → Stops limit bytes k p v → ((side : IoFault) → k ≢ IoError side)
+stop_in : (limit : ℕ) (bytes : List ℕ) (k : DecodeErrKind) (p : ℕ) (v : List ℕ) → IsUtf8 bytes → length (chars bytes) < limit
+    → Stops limit bytes k p v → ((side : IoFault) → k ≢ IoError side)
     → HasFault (chars bytes) k p v
 stop_in limit bytes UnknownEntity p v u l s n = met_in limit bytes UnknownEntity p v (chars bytes) s (part_of bytes s.text s.rest u s.read)
 stop_in limit bytes MalformedNumEscape p v u l s n = met_in limit bytes MalformedNumEscape p v (chars bytes) s (part_of bytes s.text s.rest u s.read)
 stop_in limit bytes InvalidCharacter p v u l s n = met_in limit bytes InvalidCharacter p v (chars bytes) s (part_of bytes s.text s.rest u s.read)
 stop_in limit bytes PrematureEnd p v u l s n = let P : List ℕ → Type 0 = λ t. HasFault t PrematureEnd p v in subst P (text_is bytes s.text u s.read) s.fault
 stop_in limit bytes EncodingError p v u l s n = absurd (no_bytes bytes s.text s.rest u s.read s.some s.none)
-stop_in limit bytes TooLong p v u l s n = absurd (let full = s.full in omega (arith, shorter s.text (chars bytes) (part_of bytes s.text s.rest u s.read)))
+stop_in limit bytes TooLong p v u l s n =
+    absurd (let full = s.full in omega (arith, shorter s.text (chars bytes) (part_of bytes s.text s.rest u s.read)))
 stop_in limit bytes (IoError side) p v u l s n = absurd (n side refl)
 stop_in limit bytes NoMemory p v u l s n = absurd s
 
-pub text_answers : (limit : ℕ) (bytes : List ℕ) (x : Result (Unit {0}) DecodeErr) (v : List ℕ) → IsUtf8 bytes → length (chars bytes) < limit → Decodes limit bytes x v → (IsIo x → ⊥)
+pub text_answers : (limit : ℕ) (bytes : List ℕ) (x : Result (Unit {0}) DecodeErr) (v : List ℕ) → IsUtf8 bytes → length (chars bytes) < limit
+    → Decodes limit bytes x v → (IsIo x → ⊥)
     → Answers (chars bytes) x v
 text_answers limit bytes (Ok t) v u l d n = let P : List ℕ → Type 0 = λ t. IsText t v in subst P (text_is bytes d.text u d.read) d.whole
 text_answers limit bytes (Err e) v u l d n = stop_in limit bytes e.kind e.position v u l d (λ side k. n (side, k))
@@ -273,7 +288,8 @@ answers_same text (Err e) (Err f) v w a b =
     (ap (λ (k : DecodeErrKind). Err (record { position = e.position; kind = k })) s.0 ∙ ap (λ (p : ℕ). Err (record { position = p; kind = f.kind })) s.1, s.2)
 
 -- Both decoders agree.
-pub decoders_agree : (limit : ℕ) (bytes : List ℕ) (x y : Result (Unit {0}) DecodeErr) (v w : List ℕ) → IsUtf8 bytes → length (chars bytes) < limit → Answers (chars bytes) x v → Decodes limit bytes y w
+pub decoders_agree : (limit : ℕ) (bytes : List ℕ) (x y : Result (Unit {0}) DecodeErr) (v w : List ℕ) → IsUtf8 bytes → length (chars bytes) < limit
+    → Answers (chars bytes) x v → Decodes limit bytes y w
     → (IsIo y → ⊥) → (x ≡ y) × (v ≡ w)
 decoders_agree limit bytes x y v w u l a d n = answers_same (chars bytes) x y v w a (text_answers limit bytes y w u l d n)
 

@@ -54,10 +54,13 @@ one_more : (text : List ℕ) (c : ℕ) → encodes (text ++ c ∷ []) ≡ encode
 one_more text c = encodes-append text (c ∷ []) ∙ ap (λ t. encodes text ++ t) (append-nil (encode c))
 
 read_more : (text : List ℕ) (c : ℕ) (a b d : List ℕ) → SoFar text a b → CharRead (Some (Ok c)) b d → SoFar (text ++ c ∷ []) a d
-read_more text c a b d p q = p ∙ ap (λ t. encodes text ++ t) q ∙ sym (append_assoc (encodes text) (encode c) d) ∙ ap (λ t. t ++ d) (sym (one_more text c))
+read_more text c a b d p q =
+    p ∙ ap (λ t. encodes text ++ t) q ∙ sym (append_assoc (encodes text) (encode c) d) ∙ ap (λ t. t ++ d) (sym (one_more text c))
 
-told_more : (r m t : Stream) (text : List ℕ) (c : ℕ) → Both r.bytes m.bytes (SoFar text) → ReadsChar m (Some (Ok c)) t → Both r.bytes t.bytes (SoFar (text ++ c ∷ []))
-told_more r m t text c p q = both_then r.bytes m.bytes t.bytes (SoFar text) (CharRead (Some (Ok c))) (SoFar (text ++ c ∷ [])) (read_more text c) p q.told
+told_more : (r m t : Stream) (text : List ℕ) (c : ℕ) → Both r.bytes m.bytes (SoFar text) → ReadsChar m (Some (Ok c)) t
+    → Both r.bytes t.bytes (SoFar (text ++ c ∷ []))
+told_more r m t text c p q =
+    both_then r.bytes m.bytes t.bytes (SoFar text) (CharRead (Some (Ok c))) (SoFar (text ++ c ∷ [])) (read_more text c) p q.told
 
 characters_more : (text : List ℕ) (c : ℕ) → scalars text ≡ true → scalar c ≡ true → scalars (text ++ c ∷ []) ≡ true
 characters_more text c p q = scalars_append text (c ∷ []) p (ap (λ b. b && true) q)
@@ -93,10 +96,12 @@ going_on r m t w n u d e count c (Some found) i q k a = record {
 
 front_written : (value : List ℕ) (last : ℕ) (f : Failed) (a b d : List ℕ) → Appended (encodes value) (Ok tt) a b → Appended (encode last) (Err f) b d
     → WroteAt (IoError Write) (value ++ last ∷ []) a d
-front_written value last f a b d p q = (value, last, q.0, refl, q.1, q.2 ∙ ap (λ t. t ++ take q.0 (encode last)) p ∙ append_assoc a (encodes value) (take q.0 (encode last)))
+front_written value last f a b d p q =
+    (value, last, q.0, refl, q.1, q.2 ∙ ap (λ t. t ++ take q.0 (encode last)) p ∙ append_assoc a (encodes value) (take q.0 (encode last)))
 
 -- The writer fails.
-pub writer_fails : (limit : ℕ) (r m t w n u : Stream) (d e : Decoder) (count c : ℕ) (found : Option ℕ) (f : Failed) → (i : Going r m w n d count) → ReadsChar m (Some (Ok c)) t
+pub writer_fails : (limit : ℕ) (r m t w n u : Stream) (d e : Decoder) (count c : ℕ) (found : Option ℕ) (f : Failed) → (i : Going r m w n d count)
+    → ReadsChar m (Some (Ok c)) t
     → Took d.place i.text i.value c (Ok found) e → Appends n (bytes_of found) (Err f) u → IsSome found → count < limit
     → Decoding limit r w (Err (record { position = d.place; kind = IoError Write })) t u
 writer_fails limit r m t w n u d e count c None f i q k a s l = absurd (false≢true s)
@@ -108,16 +113,17 @@ writer_fails limit r m t w n u d e count c (Some found) f i q k a s l = record {
   no_memory_taken = λ x. cc;
   value = i.value ++ found ∷ [];
   characters = characters_more i.value found i.meant k.0;
-  decodes = told_of r.bytes t.bytes (SoFar (i.text ++ c ∷ [])) (λ b. Stops limit b (IoError Write) d.place (i.value ++ found ∷ [])) (λ b left p. record {
-    text = i.text ++ c ∷ [];
-    rest = left;
-    read = record { spells = p; characters = characters_more i.text c i.characters q.scalar };
-    within = omega (arith, size_more i.text c count i.size);
-    before = i.value;
-    last = found;
-    value_is = refl;
-    completes = k.3;
-  }) (told_more r m t i.text c i.told q);
+  decodes =
+      told_of r.bytes t.bytes (SoFar (i.text ++ c ∷ [])) (λ b. Stops limit b (IoError Write) d.place (i.value ++ found ∷ [])) (λ b left p. record {
+        text = i.text ++ c ∷ [];
+        rest = left;
+        read = record { spells = p; characters = characters_more i.text c i.characters q.scalar };
+        within = omega (arith, size_more i.text c count i.size);
+        before = i.value;
+        last = found;
+        value_is = refl;
+        completes = k.3;
+      }) (told_more r m t i.text c i.told q);
   left = both_map r.bytes t.bytes (SoFar (i.text ++ c ∷ [])) (LeavesAt (IoError Write) d.place (i.value ++ found ∷ [])) (λ a b p.
       (i.text ++ c ∷ [], i.value, found, record { spells = p; characters = characters_more i.text c i.characters q.scalar }, refl, k.3)) (told_more r m t i.text c i.told q);
   written = both_then w.bytes n.bytes u.bytes (Appended (encodes i.value) (Ok tt)) (Appended (encode found) (Err f)) (WroteAt (IoError Write) (i.value ++ found ∷ []))
@@ -138,7 +144,8 @@ either false x y p q = q
 
 end_kind : (base : ℕ) (digits rest : List ℕ) → OfGrammar (number_end base digits rest)
 end_kind base digits [] = tt
-end_kind base digits (c ∷ more) = either ((c == 59 && nat_lt 0 (length digits)) && nat_lt (digits_value base digits) 4294967296) InvalidCharacter MalformedNumEscape tt tt
+end_kind base digits (c ∷ more) =
+    either ((c == 59 && nat_lt 0 (length digits)) && nat_lt (digits_value base digits) 4294967296) InvalidCharacter MalformedNumEscape tt tt
 
 digits_kind : (base : ℕ) (text : List ℕ) → OfGrammar (digits_fault base text)
 digits_kind base text = let n = prefix_len (λ c. is_digit c base) text in end_kind base (take n text) (drop n text)
@@ -158,7 +165,8 @@ unfolding fault_at
 kind_at [] = tt
 kind_at (ampersand ∷ more) = entity_kind more
 
-stops_met : (limit : ℕ) (bytes : List ℕ) (kind : DecodeErrKind) (position : ℕ) (value : List ℕ) → OfGrammar kind → kind ≢ PrematureEnd → MeetsFault limit bytes kind position value
+stops_met : (limit : ℕ) (bytes : List ℕ) (kind : DecodeErrKind) (position : ℕ) (value : List ℕ) → OfGrammar kind → kind ≢ PrematureEnd
+    → MeetsFault limit bytes kind position value
     → Stops limit bytes kind position value
 stops_met limit bytes UnknownEntity position value o n m = m
 stops_met limit bytes MalformedNumEscape position value o n m = m
@@ -176,7 +184,8 @@ wrote_all fault value old new o e = absurd o
 pub not_of : (kind other : DecodeErrKind) → OfGrammar kind → kind ≡ other → OfGrammar other
 not_of kind other o e = let P : DecodeErrKind → Type 0 = OfGrammar in subst P e o
 
-leaves_met : (kind : DecodeErrKind) (position : ℕ) (value old new : List ℕ) → OfGrammar kind → kind ≢ PrematureEnd → LeavesFault kind position value old new → LeavesAt kind position value old new
+leaves_met : (kind : DecodeErrKind) (position : ℕ) (value old new : List ℕ) → OfGrammar kind → kind ≢ PrematureEnd
+    → LeavesFault kind position value old new → LeavesAt kind position value old new
 leaves_met UnknownEntity position value old new o n m = m
 leaves_met MalformedNumEscape position value old new o n m = m
 leaves_met InvalidCharacter position value old new o n m = m
@@ -188,7 +197,8 @@ unfinished d text value k =
     let opened = is_open d.state k.pending k.keeps in record { rest = k.pending; front = longest_front text value k.pending k.front opened.0; unmet = opened.1 }
 
 -- A fault is met.
-pub fault_met : (limit : ℕ) (r m t w n : Stream) (d e : Decoder) (count c : ℕ) (f : DecodeErr) → (i : Going r m w n d count) → ReadsChar m (Some (Ok c)) t
+pub fault_met : (limit : ℕ) (r m t w n : Stream) (d e : Decoder) (count c : ℕ) (f : DecodeErr) → (i : Going r m w n d count)
+    → ReadsChar m (Some (Ok c)) t
     → Took d.place i.text i.value c (Err f) e → count < limit → Decoding limit r w (Err f) t n
 fault_met limit r m t w n d e count c f i q k l =
     let at = k.1 [] in
@@ -219,7 +229,8 @@ fault_met limit r m t w n d e count c f i q k l =
     }
 
 -- The bytes are no character.
-pub bytes_met : (limit : ℕ) (r m t w n : Stream) (d : Decoder) (count : ℕ) → Going r m w n d count → ReadsChar m (Some (Err NotUtf8)) t → count < limit
+pub bytes_met : (limit : ℕ) (r m t w n : Stream) (d : Decoder) (count : ℕ) → Going r m w n d count → ReadsChar m (Some (Err NotUtf8)) t
+    → count < limit
     → Decoding limit r w (Err (record { position = count; kind = EncodingError })) t n
 bytes_met limit r m t w n d count i q l = record {
   reads = (let low = i.reads in let high = q.counts in omega arith);
@@ -247,7 +258,8 @@ bytes_met limit r m t w n d count i q l = record {
 }
 
 -- The reader fails.
-pub reader_fails : (limit : ℕ) (r m t w n : Stream) (d : Decoder) (count : ℕ) (f : Failed) → Going r m w n d count → ReadsChar m (Some (Err (Other f))) t → count < limit
+pub reader_fails : (limit : ℕ) (r m t w n : Stream) (d : Decoder) (count : ℕ) (f : Failed) → Going r m w n d count
+    → ReadsChar m (Some (Err (Other f))) t → count < limit
     → Decoding limit r w (Err (record { position = count; kind = IoError Read })) t n
 reader_fails limit r m t w n d count f i q l = record {
   reads = (let low = i.reads in let high = q.counts in omega arith);
@@ -271,7 +283,8 @@ reader_fails limit r m t w n d count f i q l = record {
 }
 
 -- So many characters were read.
-pub limit_met : (limit : ℕ) (r m w n : Stream) (d : Decoder) (count : ℕ) → Going r m w n d count → count ≡ limit → Decoding limit r w (Err (record { position = limit; kind = TooLong })) m n
+pub limit_met : (limit : ℕ) (r m w n : Stream) (d : Decoder) (count : ℕ) → Going r m w n d count → count ≡ limit
+    → Decoding limit r w (Err (record { position = limit; kind = TooLong })) m n
 limit_met limit r m w n d count i l = record {
   reads = i.reads;
   read_fault = λ x. cc;
@@ -296,13 +309,15 @@ limit_met limit r m w n d count i l = record {
 kinds_apart : (kind : DecodeErrKind) → kind ≡ PrematureEnd → OfGrammar kind
 kinds_apart kind e = not_of PrematureEnd kind tt (sym e)
 
-stops_early : (limit : ℕ) (bytes : List ℕ) (f : DecodeErr) (value : List ℕ) → f.kind ≡ PrematureEnd → Stops limit bytes PrematureEnd f.position value → Stops limit bytes f.kind f.position value
+stops_early : (limit : ℕ) (bytes : List ℕ) (f : DecodeErr) (value : List ℕ) → f.kind ≡ PrematureEnd → Stops limit bytes PrematureEnd f.position value
+    → Stops limit bytes f.kind f.position value
 stops_early limit bytes f value e s = let P : DecodeErrKind → Type 0 = λ k. Stops limit bytes k f.position value in subst P (sym e) s
 
 leaves_none : (f : DecodeErr) (value old new : List ℕ) → f.kind ≡ PrematureEnd → new ≡ [] → LeavesAt f.kind f.position value old new
 leaves_none f value old new e n = let P : DecodeErrKind → Type 0 = λ k. LeavesAt k f.position value old new in subst P (sym e) n
 
-pub input_ends : (limit : ℕ) (r m t w n : Stream) (d : Decoder) (count : ℕ) (result : Result (Unit {0}) DecodeErr) → (i : Going r m w n d count) → ReadsChar m None t
+pub input_ends : (limit : ℕ) (r m t w n : Stream) (d : Decoder) (count : ℕ) (result : Result (Unit {0}) DecodeErr) → (i : Going r m w n d count)
+    → ReadsChar m None t
     → Ended i.text i.value result → count < limit → Decoding limit r w result t n
 input_ends limit r m t w n d count (Ok u) i q k l = record {
   reads = (let low = i.reads in let high = q.counts in omega arith);

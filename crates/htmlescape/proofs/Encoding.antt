@@ -15,7 +15,8 @@ use Rattle.dav_io.proofs.AppendingLemmas.{appends_refused, appends_last}
 abbrev pub bytes_for : Alphabet → List ℕ → List ℕ
 bytes_for a bs = encodes (encoded a (chars bs))
 
-pub encode_step : (a : Alphabet) (bs rest : List ℕ) (c : ℕ) → IsUtf8 bs → bs ≡ encode c ++ rest → bytes_for a bs ≡ encodes (escaped a c) ++ bytes_for a rest
+pub encode_step : (a : Alphabet) (bs rest : List ℕ) (c : ℕ) → IsUtf8 bs → bs ≡ encode c ++ rest
+    → bytes_for a bs ≡ encodes (escaped a c) ++ bytes_for a rest
 encode_step a bs rest c u e =
     ap (λ t. encodes (encoded a t)) (chars_past_char bs rest c u e) ∙ encodes-append (escaped a c) (encoded a (chars rest))
 
@@ -36,7 +37,8 @@ pub record Left (a : Alphabet) (whole_text rest remaining : List ℕ) (run : ℕ
   pub total : done ++ (take run rest ++ bytes_for a remaining) ≡ whole_text
 
 -- a character stays
-pub stays : (a : Alphabet) (total rest left after : List ℕ) (run c n : ℕ) (done : List ℕ) → Left a total rest left run done → left ≡ encode c ++ after → escaped a c ≡ c ∷ []
+pub stays : (a : Alphabet) (total rest left after : List ℕ) (run c n : ℕ) (done : List ℕ) → Left a total rest left run done → left ≡ encode c ++ after
+    → escaped a c ≡ c ∷ []
     → n ≡ length (encode c) → Left a total rest after (run + n) done
 stays a total rest left after run c n done i e s l =
     let split : rest ≡ (take run rest ++ encode c) ++ after = whole rest left run i.left ∙ ap (λ t. take run rest ++ t) e ∙ sym (append_assoc (take run rest) (encode c) after) in
@@ -53,12 +55,14 @@ stays a total rest left after run c n done i e s l =
     }
 
 -- a character is replaced
-replaced_total : (a : Alphabet) (total rest left after : List ℕ) (run c : ℕ) (done text : List ℕ) → Left a total rest left run done → left ≡ encode c ++ after
+replaced_total : (a : Alphabet) (total rest left after : List ℕ) (run c : ℕ) (done text : List ℕ) → Left a total rest left run done
+    → left ≡ encode c ++ after
     → text ≡ encodes (escaped a c) → done ++ ((take run rest ++ text) ++ bytes_for a after) ≡ total
 replaced_total a total rest left after run c done text i e t =
     ap (λ u. done ++ u) (append_assoc (take run rest) text (bytes_for a after) ∙ ap (λ u. take run rest ++ u) (ap (λ u. u ++ bytes_for a after) t ∙ sym (encode_step a left after c i.utf8 e))) ∙ i.total
 
-pub replaced : (a : Alphabet) (total rest left after : List ℕ) (run c n : ℕ) (done text : List ℕ) → Left a total rest left run done → left ≡ encode c ++ after
+pub replaced : (a : Alphabet) (total rest left after : List ℕ) (run c n : ℕ) (done text : List ℕ) → Left a total rest left run done
+    → left ≡ encode c ++ after
     → text ≡ encodes (escaped a c) → n ≡ length (encode c) → Left a total (drop n (drop run rest)) after 0 (done ++ (take run rest ++ text))
 replaced a total rest left after run c n done text i e t l = record {
   within = omega arith;
@@ -68,14 +72,16 @@ replaced a total rest left after run c n done text i e t l = record {
 }
 
 -- the writer refuses the run or what stands for the character
-pub refused : (a : Alphabet) (total rest left after : List ℕ) (run c : ℕ) (done text : List ℕ) (s m t : Stream) (f : Failed) → Left a total rest left run done → left ≡ encode c ++ after
+pub refused : (a : Alphabet) (total rest left after : List ℕ) (run c : ℕ) (done text : List ℕ) (s m t : Stream) (f : Failed)
+    → Left a total rest left run done → left ≡ encode c ++ after
     → text ≡ encodes (escaped a c) → Appends s done (Ok tt) m → Appends m (take run rest ++ text) (Err f) t → Appends s total (Err f) t
 refused a total rest left after run c done text s m t f i e k p q =
     let P : List ℕ → Type 0 = λ u. Appends s u (Err f) t in
     subst P (replaced_total a total rest left after run c done text i e k) (appends_refused s m t done (take run rest ++ text) (bytes_for a after) f p q)
 
 -- no character is left
-pub last : (a : Alphabet) (total rest left : List ℕ) (run : ℕ) (done : List ℕ) (s m t : Stream) (r : Result (Unit {0}) Failed) → Left a total rest left run done → length left ≡ 0
+pub last : (a : Alphabet) (total rest left : List ℕ) (run : ℕ) (done : List ℕ) (s m t : Stream) (r : Result (Unit {0}) Failed)
+    → Left a total rest left run done → length left ≡ 0
     → Appends s done (Ok tt) m → Appends m rest r t → Appends s total r t
 last a total rest left run done s m t r i none p q =
     let P : List ℕ → Type 0 = λ u. Appends s u r t in

@@ -30,7 +30,8 @@ own_at : (o : Option (List ℕ)) (text : List ℕ) → Own o → Some text ≡ o
 own_at None text h e = cc
 own_at (Some t) text h e = let s : text ≡ t = cc in ap encodes s ∙ h ∙ sym s
 
-pub entity_is : (o : Option (List ℕ)) (c : ℕ) (text : List ℕ) (rest : List ℕ) → Some text ≡ minimal_entity c → text ≡ encodes (or_else (minimal_entity c) rest)
+pub entity_is : (o : Option (List ℕ)) (c : ℕ) (text : List ℕ) (rest : List ℕ) → Some text ≡ minimal_entity c
+    → text ≡ encodes (or_else (minimal_entity c) rest)
 entity_is o c text rest e = sym (ap (λ p. encodes (or_else p rest)) (sym e) ∙ own_at (minimal_entity c) text (minimal_own c) e)
 
 -- What stands for a character is characters.
@@ -86,6 +87,7 @@ encoded_characters a (c ∷ cs) s = let h = and_parts _ _ s in scalars_append (e
 pub encoded_utf8 : (a : Alphabet) (bytes : List ℕ) → IsUtf8 bytes → IsUtf8 (encodes (encoded a (chars bytes)))
 encoded_utf8 a bytes u = (encoded a (chars bytes), (encoded_characters a (chars bytes) (scalars-chars bytes u), refl))
 
-pub written_utf8 : (a : Alphabet) (bytes front written : List ℕ) → IsUtf8 bytes → front ≡ [] → written ≡ front ++ encodes (encoded a (chars bytes)) → IsUtf8 written
+pub written_utf8 : (a : Alphabet) (bytes front written : List ℕ) → IsUtf8 bytes → front ≡ [] → written ≡ front ++ encodes (encoded a (chars bytes))
+    → IsUtf8 written
 written_utf8 a bytes front written u none e =
     let P : List ℕ → Type 0 = IsUtf8 in subst P (sym (e ∙ ap (λ t. t ++ encodes (encoded a (chars bytes))) none)) (encoded_utf8 a bytes u)

@@ -15,7 +15,8 @@ spelled_some (Hexadecimal digits) = omega arith
 first_means : (item : Item) (items : List Item) (c : ℕ) (value : List ℕ) → map meaning (item ∷ items) ≡ map Some (c ∷ value) → meaning item ≡ Some c
 first_means item items c value e = cc
 
-rest_means : (item : Item) (items : List Item) (c : ℕ) (value : List ℕ) → map meaning (item ∷ items) ≡ map Some (c ∷ value) → map meaning items ≡ map Some value
+rest_means : (item : Item) (items : List Item) (c : ℕ) (value : List ℕ) → map meaning (item ∷ items) ≡ map Some (c ∷ value)
+    → map meaning items ≡ map Some value
 rest_means item items c value e = cc
 
 some_same : (a b : Item × List ℕ) → Some a ≡ Some b → a ≡ b

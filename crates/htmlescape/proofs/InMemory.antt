@@ -15,7 +15,8 @@ use Rattle.htmlescape.proofs.DecodeLoop.{OfGrammar, kind_at, not_of}
 pub decoded_utf8 : (front written value : List ℕ) → front ≡ [] → written ≡ front ++ encodes value → scalars value ≡ true → IsUtf8 written
 decoded_utf8 front written value none e s = (value, (s, sym (e ∙ ap (λ t. t ++ encodes value) none)))
 
-along : (given bytes : List ℕ) (limit : ℕ) (x : Result (Unit {0}) DecodeErr) (v : List ℕ) → given ≡ bytes → Decodes limit given x v → Decodes limit bytes x v
+along : (given bytes : List ℕ) (limit : ℕ) (x : Result (Unit {0}) DecodeErr) (v : List ℕ) → given ≡ bytes → Decodes limit given x v
+    → Decodes limit bytes x v
 along given bytes limit x v e d = let P : List ℕ → Type 0 = λ b. Decodes limit b x v in subst P e d
 
 pub is_decoded : (given bytes front written value : List ℕ) (limit : ℕ) → IsUtf8 bytes → given ≡ bytes → limit ≡ length bytes + 1 → front ≡ []
@@ -37,7 +38,8 @@ stays : (k : DecodeErrKind) → ((side : IoFault) → k ≢ IoError side) → in
 stays (IoError side) n = absurd (n side refl)
 stays kind n = refl
 
-pub is_fault : (given bytes value : List ℕ) (limit : ℕ) (f g : DecodeErr) → IsUtf8 bytes → given ≡ bytes → limit ≡ length bytes + 1 → g.position ≡ f.position
+pub is_fault : (given bytes value : List ℕ) (limit : ℕ) (f g : DecodeErr) → IsUtf8 bytes → given ≡ bytes → limit ≡ length bytes + 1
+    → g.position ≡ f.position
     → g.kind ≡ in_memory f.kind → Decodes limit given (Err f) value → IsFault (chars bytes) g
 is_fault given bytes value limit f g u same l p k d = elim (io_or_not f.kind) [
   | inl io ↦ inl (k ∙ ap in_memory io.1)

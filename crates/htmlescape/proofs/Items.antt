@@ -58,12 +58,14 @@ run_all p (x ∷ xs) a =
     ap (λ b. cond b (1 + prefix_len p xs) 0) h.0 ∙ (let r = run_all p xs h.1 in omega arith)
 
 -- Digits, and what is behind them.
-pub digits_item_is : (base : ℕ) (make : List ℕ → Item) (ds : List ℕ) (c : ℕ) (more : List ℕ) → list_all (λ d. is_digit d base) ds ≡ true → is_digit c base ≡ false
+pub digits_item_is : (base : ℕ) (make : List ℕ → Item) (ds : List ℕ) (c : ℕ) (more : List ℕ) → list_all (λ d. is_digit d base) ds ≡ true
+    → is_digit c base ≡ false
     → digits_item base make (ds ++ c ∷ more) ≡ number_item base make ds (c ∷ more)
 digits_item_is base make ds c more a s =
     let text = ds ++ c ∷ more in
     ap (λ n. number_item base make (take n text) (drop n text)) (run_is (λ d. is_digit d base) ds c more a s)
-    ∙ ap (λ u. number_item base make u (drop (length ds) text)) (take-append_seam ds (c ∷ more)) ∙ ap (number_item base make ds) (drop-append_seam ds (c ∷ more))
+    ∙ ap (λ u. number_item base make u (drop (length ds) text)) (take-append_seam ds (c ∷ more))
+    ∙ ap (number_item base make ds) (drop-append_seam ds (c ∷ more))
 
 pub digits_fault_is : (base : ℕ) (ds : List ℕ) (c : ℕ) (more : List ℕ) → list_all (λ d. is_digit d base) ds ≡ true → is_digit c base ≡ false
     → digits_fault base (ds ++ c ∷ more) ≡ number_end base ds (c ∷ more)
@@ -99,7 +101,8 @@ decimal_fault (d ∷ ds) rest a =
     ap (λ b. cond b (digits_fault 16 (ds ++ rest)) (digits_fault 10 (d ∷ (ds ++ rest)))) x
 
 -- Names.
-pub name_item_is : (name more : List ℕ) → list_all (λ d. not (d == 59)) name ≡ true → name_item (name ++ 59 ∷ more) ≡ checked (Name name) more (named name)
+pub name_item_is : (name more : List ℕ) → list_all (λ d. not (d == 59)) name ≡ true
+    → name_item (name ++ 59 ∷ more) ≡ checked (Name name) more (named name)
 name_item_is name more a =
     let text = name ++ 59 ∷ more in
     ap (λ n. name_end (take n text) (drop n text)) (run_is (λ d. not (d == 59)) name 59 more a refl)
@@ -145,10 +148,11 @@ fault_of_name (c ∷ cs) rest b =
 
 -- An item of the grammar is found again, whatever follows it.
 digits_of : (base : ℕ) (ds : List ℕ) (c : ℕ) → numbered base ds ≡ Some c → are_digits base ds ≡ true
-digits_of base ds c e = elim (are_digits base ds) as (λ b. cond (b && (scalar (digits_value base ds) && true)) (Some (digits_value base ds)) None ≡ Some c → b ≡ true) [
-  | true ↦ λ h. refl
-  | false ↦ λ h. cc
-] e
+digits_of base ds c e =
+    elim (are_digits base ds) as (λ b. cond (b && (scalar (digits_value base ds) && true)) (Some (digits_value base ds)) None ≡ Some c → b ≡ true) [
+      | true ↦ λ h. refl
+      | false ↦ λ h. cc
+    ] e
 
 plain_stays : (d c : ℕ) → meaning (Plain d) ≡ Some c → (d == 38) ≡ false
 plain_stays d c e = elim (d == 38) as (λ b. cond b None (Some d) ≡ Some c → b ≡ false) [ true ↦ λ h. cc | false ↦ λ h. refl ] e

@@ -19,7 +19,8 @@ entries_are : list_all is_entry entities ≡ true
 unfolding entities latin symbols special
 entries_are = refl
 
-found_in : (p : List ℕ × ℕ → Bool) (xs : List (List ℕ × ℕ)) → list_all p xs ≡ true → (n : List ℕ) (v : ℕ) → lookup (bytes_eq n) xs ≡ Some v → p (n, v) ≡ true
+found_in : (p : List ℕ × ℕ → Bool) (xs : List (List ℕ × ℕ)) → list_all p xs ≡ true → (n : List ℕ) (v : ℕ) → lookup (bytes_eq n) xs ≡ Some v
+    → p (n, v) ≡ true
 found_in p [] a n v h = cc
 found_in p (x ∷ xs) a n v h =
     let parts = and_parts (p x) (list_all p xs) a in

@@ -5,13 +5,13 @@ use Rattle.std.specs.Char.{is_digit}
 use Rattle.std.proofs.lemmas.Bool.{and_parts}
 use Rattle.std.proofs.lemmas.List.Concat.{flat_map-append}
 use Rattle.std.proofs.lemmas.List.{map-append}
-use Rattle.htmlescape.specs.Grammar.{Item, Plain, Name, Decimal, Hexadecimal, spelled, meaning, are_digits, Begins, HasFault, fault_at, entity_fault, name_fault, number_fault, digits_fault, IsText}
+use Rattle.htmlescape.specs.Grammar.{Item, Plain, Name, Decimal, Hexadecimal, spelled, meaning, are_digits, Begins, HasFault, fault_at, entity_fault, name_fault, number_fault, digits_fault}
 use Rattle.htmlescape.specs.Running.{Pending, Stepped, NoItem, begins_name}
 use Rattle.htmlescape.specs.Progress.{Running, Took}
 use Rattle.htmlescape.specs.declared.decoder.Decoder.{Decoder}
 use Rattle.htmlescape.specs.declared.state.State.{State}
 use Rattle.htmlescape.specs.declared.state.State.TheVariants.{Text, Ampersand, Named, Hash, HexMark, Decimal as InDecimal, Hexadecimal as InHexadecimal}
-use Rattle.htmlescape.specs.declared.state.Step.TheVariants.{More, Whole, Fault}
+use Rattle.htmlescape.specs.declared.state.Step.TheVariants.{Whole, Fault}
 use Rattle.htmlescape.specs.declared.faults.DecodeErrKind.{DecodeErrKind}
 use Rattle.htmlescape.specs.declared.faults.DecodeErrKind.TheVariants.{UnknownEntity, PrematureEnd}
 use Rattle.htmlescape.proofs.Items.{item_at, none_begins, entity_item, numbered_item, digits_item, name_item, name_item_all, digits_item_all, digits_fault_all, decimal_item, decimal_fault, has_none, no_end, entity_of_name, fault_of_name}
@@ -24,18 +24,9 @@ one_longer : (text : List ℕ) (c : ℕ) → length (text ++ c ∷ []) ≡ lengt
 one_longer text c = length-append text (c ∷ [])
 
 -- what is read with the next character
-next_spells : (text value : List ℕ) (c : ℕ) (pending : List ℕ) (b : Begins text value pending) → text ++ c ∷ [] ≡ flat_map spelled b.items ++ (pending ++ c ∷ [])
+next_spells : (text value : List ℕ) (c : ℕ) (pending : List ℕ) (b : Begins text value pending)
+    → text ++ c ∷ [] ≡ flat_map spelled b.items ++ (pending ++ c ∷ [])
 next_spells text value c pending b = ap (λ t. t ++ c ∷ []) b.spells ∙ append_assoc (flat_map spelled b.items) pending (c ∷ [])
-
-pub goes_on : (state : State) (read place : ℕ) (new : State) (text value : List ℕ) (c : ℕ) → (r : Running (record { state = state; read = read; place = place }) text value)
-    → Stepped (r.pending ++ c ∷ []) (More new) → Running (record { state = new; read = read + 1; place = place }) (text ++ c ∷ []) value
-goes_on state read place new text value c r s = record {
-  pending = r.pending ++ c ∷ [];
-  front = record { items = r.front.items; spells = next_spells text value c r.pending r.front; means = r.front.means };
-  keeps = s;
-  read = ap (λ n. n + 1) r.read ∙ sym (one_longer text c);
-  place = (let p = r.place in omega (arith, one_longer text c, one_longer r.pending c));
-}
 
 whole_means : (xs : List Item) (item : Item) (value : List ℕ) (found : ℕ) → map meaning xs ≡ map Some value → meaning item ≡ Some found
     → map meaning (xs ++ item ∷ []) ≡ map Some (value ++ found ∷ [])
@@ -47,8 +38,10 @@ whole_spells : (text value : List ℕ) (c : ℕ) (pending : List ℕ) (b : Begin
 whole_spells text value c pending b item e =
     next_spells text value c pending b ∙ ap (λ t. flat_map spelled b.items ++ t) (sym e ∙ sym (append-nil (spelled item))) ∙ sym (flat_map-append spelled b.items (item ∷ []))
 
-pub completes : (state : State) (read place : ℕ) (text value : List ℕ) (c found : ℕ) → (r : Running (record { state = state; read = read; place = place }) text value)
-    → Stepped (r.pending ++ c ∷ []) (Whole found) → Took place text value c (Ok (Some found)) (record { state = Text; read = read + 1; place = read + 1 })
+pub completes : (state : State) (read place : ℕ) (text value : List ℕ) (c found : ℕ)
+    → (r : Running (record { state = state; read = read; place = place }) text value)
+    → Stepped (r.pending ++ c ∷ []) (Whole found)
+    → Took place text value c (Ok (Some found)) (record { state = Text; read = read + 1; place = read + 1 })
 completes state read place text value c found r s =
     let item = s.1 in
     let spells = whole_spells text value c r.pending r.front item s.2 in
@@ -73,7 +66,8 @@ completes state read place text value c found r s =
       },
     )
 
-pub faults : (state : State) (read place : ℕ) (text value : List ℕ) (c : ℕ) (fault : DecodeErrKind) → (r : Running (record { state = state; read = read; place = place }) text value)
+pub faults : (state : State) (read place : ℕ) (text value : List ℕ) (c : ℕ) (fault : DecodeErrKind)
+    → (r : Running (record { state = state; read = read; place = place }) text value)
     → Stepped (r.pending ++ c ∷ []) (Fault fault) → (fault ≢ PrematureEnd) × ((more : List ℕ) → HasFault (text ++ c ∷ more) fault place value)
 faults state read place text value c fault r s = (
   s.met,
@@ -143,13 +137,6 @@ some_pending Hash pending k n = omega (arith, ap length k)
 some_pending HexMark pending k n = omega (arith, ap length k)
 some_pending (InDecimal value) pending k n = omega (arith, ap length k.1)
 some_pending (InHexadecimal value) pending k n = omega (arith, ap length k.1)
-
-pub ends_whole : (read place : ℕ) (text value : List ℕ) → Running (record { state = Text; read = read; place = place }) text value → IsText text value
-ends_whole read place text value r = record {
-  items = r.front.items;
-  spells = r.front.spells ∙ ap (λ t. flat_map spelled r.front.items ++ t) r.keeps ∙ append-nil (flat_map spelled r.front.items);
-  means = r.front.means;
-}
 
 pub ends_early : (d : Decoder) (text value : List ℕ) → Running d text value → d.state ≢ Text → HasFault text PrematureEnd d.place value
 ends_early d text value r n =

@@ -44,11 +44,13 @@ name_none name b e = record {
 }
 
 no_digit : (c base : ℕ) → (digit_value c < base → ⊥) → is_digit c base ≡ false
-no_digit c base n = elim (is_digit c base) as (λ t. is_digit c base ≡ t → t ≡ false) [ true ↦ λ e. absurd (n (grind (arith, nat_tests))) | false ↦ λ e. refl ] refl
+no_digit c base n =
+    elim (is_digit c base) as (λ t. is_digit c base ≡ t → t ≡ false) [ true ↦ λ e. absurd (n (grind (arith, nat_tests))) | false ↦ λ e. refl ] refl
 
 -- No digits, and no number.
 nothing : (base : ℕ) (make : List ℕ → Item) (c : ℕ) (more : List ℕ) → meaning (make []) ≡ None → number_item base make [] (c ∷ more) ≡ None
-nothing base make c more e = elim (c == 59) as (λ t. cond t (checked (make []) more (meaning (make []))) None ≡ None) [ true ↦ ap (checked (make []) more) e | false ↦ refl ]
+nothing base make c more e =
+    elim (c == 59) as (λ t. cond t (checked (make []) more (meaning (make []))) None ≡ None) [ true ↦ ap (checked (make []) more) e | false ↦ refl ]
 
 malformed : (base c : ℕ) (more : List ℕ) → number_end base [] (c ∷ more) ≡ MalformedNumEscape
 malformed base c more = elim (c == 59) as (λ t. cond ((t && false) && nat_lt (digits_value base []) 4294967296) InvalidCharacter MalformedNumEscape ≡ MalformedNumEscape) [ true ↦ refl | false ↦ refl ]
@@ -113,7 +115,8 @@ longer_16 ds c value digit longer k h e l = (
 
 -- A number at the character behind its digits.
 not_scalar : (v : ℕ) → 4294967296 ≤ v → scalar v ≡ false
-not_scalar v h = elim (scalar v) as (λ t. scalar v ≡ t → t ≡ false) [ true ↦ λ e. let f = scalar_fits v e in absurd (omega arith) | false ↦ λ e. refl ] refl
+not_scalar v h =
+    elim (scalar v) as (λ t. scalar v ≡ t → t ≡ false) [ true ↦ λ e. let f = scalar_fits v e in absurd (omega arith) | false ↦ λ e. refl ] refl
 
 unscalar : (v : ℕ) → (IsScalar v → ⊥) → scalar v ≡ false
 unscalar v n = elim (scalar v) as (λ t. scalar v ≡ t → t ≡ false) [ true ↦ λ e. absurd (n e) | false ↦ λ e. refl ] refl
@@ -145,7 +148,8 @@ last_false : (b : Bool) → (b && false) ≡ false
 last_false true = refl
 last_false false = refl
 
-too_great : (base : ℕ) (make : List ℕ → Item) (ds : List ℕ) (c value : ℕ) → meaning (make ds) ≡ numbered base ds → KeepsNumber base value ds → 4294967296 ≤ value
+too_great : (base : ℕ) (make : List ℕ → Item) (ds : List ℕ) (c value : ℕ) → meaning (make ds) ≡ numbered base ds → KeepsNumber base value ds
+    → 4294967296 ≤ value
     → Judges base make ds c MalformedNumEscape
 too_great base make ds c value same k h =
     let kept = k.1 in
@@ -158,7 +162,8 @@ too_great base make ds c value same k h =
       met = λ m. cc;
     }
 
-no_character : (base : ℕ) (make : List ℕ → Item) (ds : List ℕ) (c value : ℕ) → meaning (make ds) ≡ numbered base ds → KeepsNumber base value ds → c ≡ 59 → value < 4294967296
+no_character : (base : ℕ) (make : List ℕ → Item) (ds : List ℕ) (c value : ℕ) → meaning (make ds) ≡ numbered base ds → KeepsNumber base value ds
+    → c ≡ 59 → value < 4294967296
     → (IsScalar value → ⊥) → Judges base make ds c InvalidCharacter
 no_character base make ds c value same k end low n =
     let kept = k.1 in
@@ -175,13 +180,15 @@ no_character base make ds c value same k end low n =
       met = λ m. cc;
     }
 
-judge : (base : ℕ) (make : List ℕ → Item) (ds : List ℕ) (c value : ℕ) (fault : DecodeErrKind) → meaning (make ds) ≡ numbered base ds → KeepsNumber base value ds
+judge : (base : ℕ) (make : List ℕ → Item) (ds : List ℕ) (c value : ℕ) (fault : DecodeErrKind) → meaning (make ds) ≡ numbered base ds
+    → KeepsNumber base value ds
     → Judged value c (Fault fault) → Judges base make ds c fault
 judge base make ds c value MalformedNumEscape same k j = elim j [ inl n ↦ not_end base make ds c n | inr h ↦ too_great base make ds c value same k h ]
 judge base make ds c value InvalidCharacter same k j = no_character base make ds c value same k j.0 j.1 j.2
 judge base make ds c value fault same k j = absurd j
 
-whole_number : (base : ℕ) (ds : List ℕ) (value found : ℕ) → KeepsNumber base value ds → value < 4294967296 → found ≡ value → IsScalar found → numbered base ds ≡ Some found
+whole_number : (base : ℕ) (ds : List ℕ) (value found : ℕ) → KeepsNumber base value ds → value < 4294967296 → found ≡ value → IsScalar found
+    → numbered base ds ≡ Some found
 whole_number base ds value found k low e s =
     let kept = k.1 in
     let is : digits_value base ds ≡ found = omega arith in
@@ -191,10 +198,12 @@ whole_number base ds value found k low e s =
 spelled_end : (ds : List ℕ) (c : ℕ) → c ≡ 59 → ds ++ 59 ∷ [] ≡ ds ++ c ∷ []
 spelled_end ds c e = ap (λ d. ds ++ d ∷ []) (sym e)
 
-pub decimal_end : (ds : List ℕ) (value c : ℕ) (step : Step) → KeepsNumber 10 value ds → (digit_value c < 10 → ⊥) → Judged value c step → Stepped (38 ∷ 35 ∷ (ds ++ c ∷ [])) step
+pub decimal_end : (ds : List ℕ) (value c : ℕ) (step : Step) → KeepsNumber 10 value ds → (digit_value c < 10 → ⊥) → Judged value c step
+    → Stepped (38 ∷ 35 ∷ (ds ++ c ∷ [])) step
 unfolding item_at fault_at
 decimal_end ds value c (More state) k d j = absurd j
-decimal_end ds value c (Whole found) k d j = (j.3, Decimal ds, ap (λ t. 38 ∷ 35 ∷ t) (spelled_end ds c j.0), whole_number 10 ds value found k j.1 j.2 j.3)
+decimal_end ds value c (Whole found) k d j =
+    (j.3, Decimal ds, ap (λ t. 38 ∷ 35 ∷ t) (spelled_end ds c j.0), whole_number 10 ds value found k j.1 j.2 j.3)
 decimal_end ds value c (Fault fault) k d j =
     let stop = no_digit c 10 d in
     let all = (and_parts (nat_lt 0 (length ds)) (list_all (λ e. is_digit e 10) ds) k.0).1 in
@@ -206,10 +215,12 @@ decimal_end ds value c (Fault fault) k d j =
       met = judged.met;
     }
 
-pub hexadecimal_end : (ds : List ℕ) (value c : ℕ) (step : Step) → KeepsNumber 16 value ds → (digit_value c < 16 → ⊥) → Judged value c step → Stepped (38 ∷ 35 ∷ 120 ∷ (ds ++ c ∷ [])) step
+pub hexadecimal_end : (ds : List ℕ) (value c : ℕ) (step : Step) → KeepsNumber 16 value ds → (digit_value c < 16 → ⊥) → Judged value c step
+    → Stepped (38 ∷ 35 ∷ 120 ∷ (ds ++ c ∷ [])) step
 unfolding item_at fault_at
 hexadecimal_end ds value c (More state) k d j = absurd j
-hexadecimal_end ds value c (Whole found) k d j = (j.3, Hexadecimal ds, ap (λ t. 38 ∷ 35 ∷ 120 ∷ t) (spelled_end ds c j.0), whole_number 16 ds value found k j.1 j.2 j.3)
+hexadecimal_end ds value c (Whole found) k d j =
+    (j.3, Hexadecimal ds, ap (λ t. 38 ∷ 35 ∷ 120 ∷ t) (spelled_end ds c j.0), whole_number 16 ds value found k j.1 j.2 j.3)
 hexadecimal_end ds value c (Fault fault) k d j =
     let stop = no_digit c 16 d in
     let all = (and_parts (nat_lt 0 (length ds)) (list_all (λ e. is_digit e 16) ds) k.0).1 in

@@ -49,7 +49,8 @@ less Less e = refl
 less Equal e = absurd (false≢true e)
 less Greater e = absurd (false≢true e)
 
-all_below : (x : List ℕ) (ys : List (List ℕ)) → list_all (λ y. is_lt (slice_cmp nat_cmp x y)) ys ≡ true → AllByRecursion (λ y. slice_cmp nat_cmp x y ≡ Less) ys
+all_below : (x : List ℕ) (ys : List (List ℕ)) → list_all (λ y. is_lt (slice_cmp nat_cmp x y)) ys ≡ true
+    → AllByRecursion (λ y. slice_cmp nat_cmp x y ≡ Less) ys
 all_below x [] e = tt
 all_below x (y ∷ ys) e = let p = and_parts _ _ e in (less _ p.0, all_below x ys p.1)
 
@@ -78,7 +79,8 @@ finds (x ∷ xs) ys e n v h =
     ] refl h
 
 -- an entry of xs is found in ys
-finds_entry : (xs ys : List (List ℕ × ℕ)) → within xs ys ≡ true → (i : ℕ) (d : List ℕ × ℕ) → i < length xs → lookup (bytes_eq (get_or xs i d).0) ys ≡ Some (get_or xs i d).1
+finds_entry : (xs ys : List (List ℕ × ℕ)) → within xs ys ≡ true → (i : ℕ) (d : List ℕ × ℕ) → i < length xs
+    → lookup (bytes_eq (get_or xs i d).0) ys ≡ Some (get_or xs i d).1
 finds_entry [] ys e i d h = absurd (omega arith)
 finds_entry (x ∷ xs) ys e zero d h = same _ _ (and_parts _ _ e).0
 finds_entry (x ∷ xs) ys e (suc i) d h = finds_entry xs ys (and_parts _ _ e).1 i d (omega arith)
@@ -92,13 +94,15 @@ unnamed n e (Some v) h = let f = finds entities table entities_within n v h in c
 abbrev pairs : {E : Type 0} (key : E → List ℕ) (val : E → ℕ) → List E → List (List ℕ × ℕ)
 pairs key val xs = map (λ e. (key e, val e)) xs
 
-entry_at : {E : Type 0} (key : E → List ℕ) (val : E → ℕ) (xs : List E) → pairs key val xs ≡ table → (i : ℕ) (d : E) → i < length xs → get_or table i (key d, val d) ≡ (key (get_or xs i d), val (get_or xs i d))
+entry_at : {E : Type 0} (key : E → List ℕ) (val : E → ℕ) (xs : List E) → pairs key val xs ≡ table → (i : ℕ) (d : E) → i < length xs
+    → get_or table i (key d, val d) ≡ (key (get_or xs i d), val (get_or xs i d))
 entry_at key val xs e i d l = ap (λ t. get_or t i (key d, val d)) (sym e) ∙ get_or-map (λ e. (key e, val e)) xs i d (key d, val d) l
 
 length_is : {E : Type 0} (key : E → List ℕ) (val : E → ℕ) (xs : List E) → pairs key val xs ≡ table → length table ≡ length xs
 length_is key val xs e = ap length (sym e) ∙ length-map xs _
 
-names_at : {E : Type 0} (key : E → List ℕ) (val : E → ℕ) (xs : List E) → pairs key val xs ≡ table → (i : ℕ) (d : E) → i < length xs → get_or names i (key d) ≡ key (get_or xs i d)
+names_at : {E : Type 0} (key : E → List ℕ) (val : E → ℕ) (xs : List E) → pairs key val xs ≡ table → (i : ℕ) (d : E) → i < length xs
+    → get_or names i (key d) ≡ key (get_or xs i d)
 unfolding names
 names_at key val xs e i d l =
     let short : i < length table = omega (arith, length_is key val xs e) in
@@ -111,7 +115,8 @@ names_length key val xs e = length-map table _ ∙ length_is key val xs e
 backwards : (a b : List ℕ) → slice_cmp nat_cmp a b ≡ Less → is_lt (slice_cmp nat_cmp b a) ≡ false
 backwards a b e = ap is_lt (nat_list_cmp_total.antisymm b a ∙ ap ordering_reverse e)
 
-in_order : {E : Type 0} (key : E → List ℕ) (val : E → ℕ) (xs : List E) → pairs key val xs ≡ table → IsSortedBy (λ a b. is_lt (slice_cmp nat_cmp (key a) (key b))) xs
+in_order : {E : Type 0} (key : E → List ℕ) (val : E → ℕ) (xs : List E) → pairs key val xs ≡ table
+    → IsSortedBy (λ a b. is_lt (slice_cmp nat_cmp (key a) (key b))) xs
 in_order key val xs e = λ k d low l.
     let h : k + 1 < length names = omega (arith, names_length key val xs e) in
     let first = names_at key val xs e k d (omega arith) in
@@ -138,9 +143,12 @@ differs a b e = elim (bytes_eq b a) as (λ t. bytes_eq b a ≡ t → t ≡ false
 ] refl
 
 -- no key is equal, and nothing is found
-finds_none : {E : Type 0} (key : E → List ℕ) (val : E → ℕ) (n : List ℕ) (xs : List E) → ((i : ℕ) (d : E) → i < length xs → bytes_eq n (key (get_or xs i d)) ≡ false) → lookup (bytes_eq n) (pairs key val xs) ≡ None
+finds_none : {E : Type 0} (key : E → List ℕ) (val : E → ℕ) (n : List ℕ) (xs : List E)
+    → ((i : ℕ) (d : E) → i < length xs → bytes_eq n (key (get_or xs i d)) ≡ false) → lookup (bytes_eq n) (pairs key val xs) ≡ None
 finds_none key val n [] h = refl
-finds_none key val n (x ∷ xs) h = ap (λ b. cond b (Some (val x)) (lookup (bytes_eq n) (pairs key val xs))) (h zero x (omega arith)) ∙ finds_none key val n xs (λ i d l. h (suc i) d (omega arith))
+finds_none key val n (x ∷ xs) h =
+    ap (λ b. cond b (Some (val x)) (lookup (bytes_eq n) (pairs key val xs))) (h zero x (omega arith))
+    ∙ finds_none key val n xs (λ i d l. h (suc i) d (omega arith))
 
 missing : {E : Type 0} (key : E → List ℕ) (val : E → ℕ) (xs : List E) (name : List ℕ) → pairs key val xs ≡ table
     → ((i : ℕ) (d : E) → i < length xs → is_eq (slice_cmp nat_cmp (key (get_or xs i d)) name) ≡ false) → named name ≡ None

@@ -74,7 +74,8 @@ long_enough c = omega (arith, length-encode c, (len_utf8_bounds c).0)
 
 -- what begins with a character has its width
 pub starts : (bs rest : List ℕ) (c : ℕ) → IsScalar c → bs ≡ encode c ++ rest → width (get_or bs 0 0) ≡ length (encode c)
-starts bs rest c s e = ap (λ t. width (get_or t 0 0)) e ∙ ap width (get_or_append_left (encode c) rest 0 0 (let h = long_enough c in omega arith)) ∙ width_first c s
+starts bs rest c s e =
+    ap (λ t. width (get_or t 0 0)) e ∙ ap width (get_or_append_left (encode c) rest 0 0 (let h = long_enough c in omega arith)) ∙ width_first c s
 
 sizes : (bs rest : List ℕ) (c : ℕ) → bs ≡ encode c ++ rest → length bs ≡ length (encode c) + length rest
 sizes bs rest c e = ap length e ∙ length-append (encode c) rest
@@ -91,7 +92,8 @@ none_zero : (bs : List ℕ) → width (get_or bs 0 0) ≡ 0 → StartsWithNoChar
 none_zero bs h c rest s e = omega (arith, starts bs rest c s e, long_enough c)
 
 -- an only front of the right width that is no character
-pub none_spelled : (front back : List ℕ) → 0 < length front → width (get_or front 0 0) ≡ length front → ((c : ℕ) (more : List ℕ) → IsScalar c → front ≢ encode c ++ more)
+pub none_spelled : (front back : List ℕ) → 0 < length front → width (get_or front 0 0) ≡ length front
+    → ((c : ℕ) (more : List ℕ) → IsScalar c → front ≢ encode c ++ more)
     → StartsWithNoChar (front ++ back)
 none_spelled front back some w h c rest s e =
     let first : get_or (front ++ back) 0 0 ≡ get_or front 0 0 = get_or_append_left front back 0 0 some in
@@ -103,15 +105,18 @@ none_spelled front back some w h c rest s e =
 zero_width : (first : ℕ) (a : List ℕ) → width first ≡ 0 → CharRead (Some (Err NotUtf8)) (first ∷ a) a
 zero_width first a h = (omega arith, none_zero (first ∷ a) h, ap (λ n. drop (max 1 n) (first ∷ a)) (sym h))
 
-ended : (first at : ℕ) (bytes a b c : List ℕ) → at ≤ length bytes → 1 ≤ at → at < width first → first ∷ a ≡ take at bytes ++ b → ByteRead (Ok None) b c → CharRead (Some (Err NotUtf8)) (first ∷ a) c
+ended : (first at : ℕ) (bytes a b c : List ℕ) → at ≤ length bytes → 1 ≤ at → at < width first → first ∷ a ≡ take at bytes ++ b
+    → ByteRead (Ok None) b c → CharRead (Some (Err NotUtf8)) (first ∷ a) c
 ended first at bytes a b c l some h e r =
     let size : length (first ∷ a) ≡ at = ap length (e ∙ ap (λ t. take at bytes ++ t) r.0 ∙ append-nil (take at bytes)) ∙ length-take-le at bytes l in
     (omega arith, none_short (first ∷ a) (omega arith), r.1 ∙ sym (drop_of_length-le (first ∷ a) (omega arith)))
 
-spelled_so : (first at : ℕ) (bytes a b : List ℕ) (c : ℕ) → first ∷ a ≡ take at bytes ++ b → take at bytes ≡ encode c → CharRead (Some (Ok c)) (first ∷ a) b
+spelled_so : (first at : ℕ) (bytes a b : List ℕ) (c : ℕ) → first ∷ a ≡ take at bytes ++ b → take at bytes ≡ encode c
+    → CharRead (Some (Ok c)) (first ∷ a) b
 spelled_so first at bytes a b c h e = h ∙ ap (λ t. t ++ b) e
 
-spelled_not : (first at : ℕ) (bytes a b : List ℕ) → at ≤ length bytes → 1 ≤ at → width first ≡ at → get_or bytes 0 0 ≡ first → first ∷ a ≡ take at bytes ++ b
+spelled_not : (first at : ℕ) (bytes a b : List ℕ) → at ≤ length bytes → 1 ≤ at → width first ≡ at → get_or bytes 0 0 ≡ first
+    → first ∷ a ≡ take at bytes ++ b
     → ((c : ℕ) (more : List ℕ) → IsScalar c → take at bytes ≢ encode c ++ more) → CharRead (Some (Err NotUtf8)) (first ∷ a) b
 spelled_not first at bytes a b l some w f e h =
     let size : length (take at bytes) ≡ at = length-take-le at bytes l in
@@ -152,8 +157,10 @@ after_spelled s t first at c bytes low scalar_c h told = record {
   told = both_map s.bytes t.bytes (SoFar first at bytes) (λ a b. CharRead (Some (Ok c)) (first ∷ a) b) (λ a b p. spelled_so first at bytes a b c p h) told;
 }
 
-pub after_not : (s t : Stream) (first at : ℕ) (bytes : List ℕ) → s.faults ≤ t.faults → at ≤ length bytes → 1 ≤ at → width first ≡ at → get_or bytes 0 0 ≡ first
-    → ((c : ℕ) (more : List ℕ) → IsScalar c → take at bytes ≢ encode c ++ more) → Both s.bytes t.bytes (SoFar first at bytes) → ReadsAfter first s (Err NotUtf8) t
+pub after_not : (s t : Stream) (first at : ℕ) (bytes : List ℕ) → s.faults ≤ t.faults → at ≤ length bytes → 1 ≤ at → width first ≡ at
+    → get_or bytes 0 0 ≡ first
+    → ((c : ℕ) (more : List ℕ) → IsScalar c → take at bytes ≢ encode c ++ more) → Both s.bytes t.bytes (SoFar first at bytes)
+    → ReadsAfter first s (Err NotUtf8) t
 after_not s t first at bytes low l some w f h told = record {
   counts = low;
   failed = λ e. absurd e;

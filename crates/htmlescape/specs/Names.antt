@@ -11,24 +11,27 @@ numbered n (name ∷ names) = (codes name, n) ∷ numbered (n + 1) names
 -- section 24.2, ISO 8859-1 characters
 unfoldable pub latin : List (List ℕ × ℕ)
 latin =
-    numbered 160 ("nbsp" ∷ "iexcl" ∷ "cent" ∷ "pound" ∷ "curren" ∷ "yen" ∷ "brvbar" ∷ "sect" ∷ "uml" ∷ "copy" ∷ "ordf" ∷ "laquo" ∷ "not" ∷ "shy" ∷ "reg" ∷
-    "macr" ∷ "deg" ∷ "plusmn" ∷ "sup2" ∷ "sup3" ∷ "acute" ∷ "micro" ∷ "para" ∷ "middot" ∷ "cedil" ∷ "sup1" ∷ "ordm" ∷ "raquo" ∷ "frac14" ∷
-    "frac12" ∷ "frac34" ∷ "iquest" ∷ "Agrave" ∷ "Aacute" ∷ "Acirc" ∷ "Atilde" ∷ "Auml" ∷ "Aring" ∷ "AElig" ∷ "Ccedil" ∷ "Egrave" ∷ "Eacute" ∷
-    "Ecirc" ∷ "Euml" ∷ "Igrave" ∷ "Iacute" ∷ "Icirc" ∷ "Iuml" ∷ "ETH" ∷ "Ntilde" ∷ "Ograve" ∷ "Oacute" ∷ "Ocirc" ∷ "Otilde" ∷ "Ouml" ∷ "times" ∷
-    "Oslash" ∷ "Ugrave" ∷ "Uacute" ∷ "Ucirc" ∷ "Uuml" ∷ "Yacute" ∷ "THORN" ∷ "szlig" ∷ "agrave" ∷ "aacute" ∷ "acirc" ∷ "atilde" ∷ "auml" ∷
-    "aring" ∷ "aelig" ∷ "ccedil" ∷ "egrave" ∷ "eacute" ∷ "ecirc" ∷ "euml" ∷ "igrave" ∷ "iacute" ∷ "icirc" ∷ "iuml" ∷ "eth" ∷ "ntilde" ∷
-    "ograve" ∷ "oacute" ∷ "ocirc" ∷ "otilde" ∷ "ouml" ∷ "divide" ∷ "oslash" ∷ "ugrave" ∷ "uacute" ∷ "ucirc" ∷ "uuml" ∷ "yacute" ∷ "thorn" ∷
-    "yuml" ∷ [])
+    numbered 160 ("nbsp" ∷ "iexcl" ∷ "cent" ∷ "pound" ∷ "curren" ∷ "yen" ∷ "brvbar" ∷ "sect" ∷ "uml" ∷ "copy" ∷ "ordf"
+    ∷ "laquo" ∷ "not" ∷ "shy" ∷ "reg" ∷ "macr" ∷ "deg" ∷ "plusmn" ∷ "sup2" ∷ "sup3" ∷ "acute" ∷ "micro" ∷ "para"
+    ∷ "middot" ∷ "cedil" ∷ "sup1" ∷ "ordm" ∷ "raquo" ∷ "frac14" ∷ "frac12" ∷ "frac34" ∷ "iquest" ∷ "Agrave"
+    ∷ "Aacute" ∷ "Acirc" ∷ "Atilde" ∷ "Auml" ∷ "Aring" ∷ "AElig" ∷ "Ccedil" ∷ "Egrave" ∷ "Eacute" ∷ "Ecirc"
+    ∷ "Euml" ∷ "Igrave" ∷ "Iacute" ∷ "Icirc" ∷ "Iuml" ∷ "ETH" ∷ "Ntilde" ∷ "Ograve" ∷ "Oacute" ∷ "Ocirc"
+    ∷ "Otilde" ∷ "Ouml" ∷ "times" ∷ "Oslash" ∷ "Ugrave" ∷ "Uacute" ∷ "Ucirc" ∷ "Uuml" ∷ "Yacute" ∷ "THORN"
+    ∷ "szlig" ∷ "agrave" ∷ "aacute" ∷ "acirc" ∷ "atilde" ∷ "auml" ∷ "aring" ∷ "aelig" ∷ "ccedil" ∷ "egrave"
+    ∷ "eacute" ∷ "ecirc" ∷ "euml" ∷ "igrave" ∷ "iacute" ∷ "icirc" ∷ "iuml" ∷ "eth" ∷ "ntilde" ∷ "ograve"
+    ∷ "oacute" ∷ "ocirc" ∷ "otilde" ∷ "ouml" ∷ "divide" ∷ "oslash" ∷ "ugrave" ∷ "uacute" ∷ "ucirc" ∷ "uuml"
+    ∷ "yacute" ∷ "thorn" ∷ "yuml" ∷ [])
 
 -- section 24.3, symbols, mathematical symbols and Greek letters
 unfoldable pub symbols : List (List ℕ × ℕ)
 symbols =
     numbered 402 ("fnof" ∷ [])
-    ++ (numbered 913 ("Alpha" ∷ "Beta" ∷ "Gamma" ∷ "Delta" ∷ "Epsilon" ∷ "Zeta" ∷ "Eta" ∷ "Theta" ∷ "Iota" ∷ "Kappa" ∷ "Lambda" ∷ "Mu" ∷ "Nu" ∷ "Xi" ∷ "Omicron" ∷
-    "Pi" ∷ "Rho" ∷ [])
+    ++ (numbered 913 ("Alpha" ∷ "Beta" ∷ "Gamma" ∷ "Delta" ∷ "Epsilon" ∷ "Zeta" ∷ "Eta" ∷ "Theta" ∷ "Iota" ∷ "Kappa"
+    ∷ "Lambda" ∷ "Mu" ∷ "Nu" ∷ "Xi" ∷ "Omicron" ∷ "Pi" ∷ "Rho" ∷ [])
     ++ (numbered 931 ("Sigma" ∷ "Tau" ∷ "Upsilon" ∷ "Phi" ∷ "Chi" ∷ "Psi" ∷ "Omega" ∷ [])
-    ++ (numbered 945 ("alpha" ∷ "beta" ∷ "gamma" ∷ "delta" ∷ "epsilon" ∷ "zeta" ∷ "eta" ∷ "theta" ∷ "iota" ∷ "kappa" ∷ "lambda" ∷ "mu" ∷ "nu" ∷ "xi" ∷ "omicron" ∷
-    "pi" ∷ "rho" ∷ "sigmaf" ∷ "sigma" ∷ "tau" ∷ "upsilon" ∷ "phi" ∷ "chi" ∷ "psi" ∷ "omega" ∷ [])
+    ++ (numbered 945 ("alpha" ∷ "beta" ∷ "gamma" ∷ "delta" ∷ "epsilon" ∷ "zeta" ∷ "eta" ∷ "theta" ∷ "iota" ∷ "kappa"
+    ∷ "lambda" ∷ "mu" ∷ "nu" ∷ "xi" ∷ "omicron" ∷ "pi" ∷ "rho" ∷ "sigmaf" ∷ "sigma" ∷ "tau" ∷ "upsilon" ∷ "phi"
+    ∷ "chi" ∷ "psi" ∷ "omega" ∷ [])
     ++ (numbered 977 ("thetasym" ∷ "upsih" ∷ [])
     ++ (numbered 982 ("piv" ∷ [])
     ++ (numbered 8226 ("bull" ∷ [])

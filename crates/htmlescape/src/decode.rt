@@ -29,7 +29,7 @@ fn put_found<W: Sink>(writer: &mut W, found: Option<char>) -> Result<(), Failed>
     }
 }
 
-// Decodes up to `limit` characters.
+/// Decodes up to `limit` characters.
 pub fn decode<C: Characters, W: Sink>(
     limit: usize,
     characters: &mut C,

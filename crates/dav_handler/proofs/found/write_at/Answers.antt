@@ -12,7 +12,7 @@ returns-in-Ok-clause-done g c =
     (stays_read c.args.settings.now c.args.store.now.ways c.change.new.store.ways (g.R.Remember.state c.args.store.now.memory) (g.R.Remember.state c.change.new.store.memory) (g.D.Disk.state c.args.store.now.disk)
     (g.D.Disk.state c.change.new.store.disk) c.in-Ok.ensures.ways c.in-Ok.ensures.learns)
     c.in-Ok.outcome c.alone.result
-    (did_change _ _ _ tt c.local_stores_refuse_few.ensures (λ s w told. g.met.D.Disk.world s.disk w told) c.args.path.now (record { fields = c.args.fields.now; body = c.args.body.now }) c.args.store.now _ c.change.new.store
+    (did_change _ _ _ tt c.local_stores_refuse_few.ensures (λ s w told. g.met.D.Disk.world s.disk w told) _ c.args.path.now (record { fields = c.args.fields.now; body = c.args.body.now }) c.args.store.now _ c.change.new.store
     (rules_with c.args.settings.now c.args.store.now.ways) (λ plain. c.local_stores_follow_rules.ensures (ways_plain c.args.store.now.ways plain)) c.args.method c.in-Ok.ensures.table c.in-Ok.ensures.keeps)
     c.alone.ensures.outcome c.alone.ensures.body
 
@@ -23,6 +23,6 @@ returns-in-Err-clause-done g c =
     (stays_read c.args.settings.now c.args.store.now.ways c.change.new.store.ways (g.R.Remember.state c.args.store.now.memory) (g.R.Remember.state c.change.new.store.memory) (g.D.Disk.state c.args.store.now.disk)
     (g.D.Disk.state c.change.new.store.disk) c.in-Err.ensures.ways c.in-Err.ensures.learns)
     c.in-Err.error c.refuse.result
-    (did_change _ _ _ tt c.local_stores_refuse_few.ensures (λ s w told. g.met.D.Disk.world s.disk w told) c.args.path.now (record { fields = c.args.fields.now; body = c.args.body.now }) c.args.store.now _ c.change.new.store
+    (did_change _ _ _ tt c.local_stores_refuse_few.ensures (λ s w told. g.met.D.Disk.world s.disk w told) _ c.args.path.now (record { fields = c.args.fields.now; body = c.args.body.now }) c.args.store.now _ c.change.new.store
     (rules_with c.args.settings.now c.args.store.now.ways) (λ plain. c.local_stores_follow_rules.ensures (ways_plain c.args.store.now.ways plain)) c.args.method c.in-Err.ensures.table c.in-Err.ensures.keeps)
     c.refuse.ensures

@@ -6,5 +6,6 @@ use Rattle.dav_host.proofs.opens.seek_at.Goals as goal
 
 pub returns-in-Some-get_mut : goal.returns-in-Some-get_mut
 unfolding live_at
-returns-in-Some-get_mut g c = ap (beside (option_map live_of c.args.opens.now.first)) (value_kept live_of c.args.handle c.args.opens.now.others c.get_mut.follows.lender
+returns-in-Some-get_mut g c =
+    ap (beside (option_map live_of c.args.opens.now.first)) (value_kept live_of c.args.handle c.args.opens.now.others c.get_mut.follows.lender
     c.in-Some-get_mut.opened.now _ c.get_mut.follows.holds c.in-Some-get_mut.ensures.value refl)

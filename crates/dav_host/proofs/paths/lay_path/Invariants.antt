@@ -4,4 +4,5 @@ use Rattle.dav_host.proofs.paths.lay_path.Given as goal
 
 -- the names so far are laid, and fit
 abbrev pub invariant-loop-name : goal.invariant-loop-name
-invariant-loop-name l = (room ≤ string_capacity l.path) × (string_bytes l.path ≡ host_path l.root (take l.name-index l.names)) × (length (string_bytes l.path) ≤ room)
+invariant-loop-name l =
+    (room ≤ string_capacity l.path) × (string_bytes l.path ≡ host_path l.root (take l.name-index l.names)) × (length (string_bytes l.path) ≤ room)

@@ -10,7 +10,8 @@ loop-file-preserved g c = (
 )
 
 pub returns-in-Err-clause-done : goal.returns-in-Err-clause-done
-returns-in-Err-clause-done g c = kept_refused _ _ _ _ _ _ _ _ _ c.loop-file.invariant.0 c.chunk.ensures (search rules) c.in-Err.ensures.done c.into.ensures
+returns-in-Err-clause-done g c =
+    kept_refused _ _ _ _ _ _ _ _ _ c.loop-file.invariant.0 c.chunk.ensures (search rules) c.in-Err.ensures.done c.into.ensures
 
 pub returns-clause-done : goal.returns-clause-done
 returns-clause-done g c = kept_done _ _ _ _ _ c.loop-file.invariant.0 (grind (arith, nat_tests))

@@ -31,35 +31,35 @@ ends_as way wanted closing given fields a ended b e same made =
     subst (λ z. EndsBody z closing fields a ended b) e (subst (λ z. EndsBody way closing z a ended b) same made)
 
 pub returns-in-Err-clause-memory : goal.returns-in-Err-clause-memory
-returns-in-Err-clause-memory g c = request_starved c.args.request c.args.now c.args.manner.closing c.in-Err.ensures.refused
+returns-in-Err-clause-memory g c = request_starved c.args.request.now c.args.now c.args.manner.closing c.in-Err.ensures.refused
 
-pub returns-in-Err-answer_head-clause-memory : goal.returns-in-Err-answer_head-clause-memory
-returns-in-Err-answer_head-clause-memory g c = head_starved (exchange_of c.args.request c.args.now c.args.manner.closing c.in-Ok.reply.status c.in-Ok.reply.headers c.in-Ok.reply.body) c.in-Ok.ensures.played
+pub returns-in-Err-write_head-clause-memory : goal.returns-in-Err-write_head-clause-memory
+returns-in-Err-write_head-clause-memory g c = head_starved (exchange_of c.args.request.now c.args.now c.args.manner.closing c.in-Ok.reply.status c.in-Ok.reply.headers c.in-Ok.reply.body) c.in-Ok.ensures.played
 
 pub returns-in-Err-push-clause-ends : goal.returns-in-Err-push-clause-ends
 returns-in-Err-push-clause-ends g c =
-    let way = way_is _ _ c.args.request c.in-Ok.reply.status _ c.in-Ok.reply.headers c.framing-way.ensures c.requires.chunks c.as_slice.ensures in
-    first_unsent (exchange_of c.args.request c.args.now c.args.manner.closing c.in-Ok.reply.status c.in-Ok.reply.headers c.in-Ok.reply.body) _ _
-    (head_is _ _ _ _ _ _ _ (c.as_slice-3.ensures ∙ c.in-Ok-answer_head.ensures) c.as_slice-2.ensures way) c.in-Ok.ensures.played c.in-Err-push.ensures
+    let way = way_is _ _ c.args.request.now c.in-Ok.reply.status _ c.in-Ok.reply.headers c.framing-way.ensures c.requires.chunks c.as_slice.ensures in
+    first_unsent (exchange_of c.args.request.now c.args.now c.args.manner.closing c.in-Ok.reply.status c.in-Ok.reply.headers c.in-Ok.reply.body) _ _
+    (head_is _ _ _ _ _ _ _ (c.as_slice-3.ensures.value ∙ c.in-Ok-write_head.ensures) c.as_slice-2.ensures way) c.in-Ok.ensures.played c.in-Err-push.ensures
 
 pub pieces-init : goal.pieces-init
 pieces-init g c =
-    let way = way_is _ _ c.args.request c.in-Ok.reply.status _ c.in-Ok.reply.headers c.framing-way.ensures c.requires.chunks c.as_slice.ensures in
+    let way = way_is _ _ c.args.request.now c.in-Ok.reply.status _ c.in-Ok.reply.headers c.framing-way.ensures c.requires.chunks c.as_slice.ensures in
     record {
       replies = let most = c.requires.replies in let risen = c.in-Ok.ensures.replies in omega arith;
       loan = c.in-Ok.ensures.loan;
-      begun = begun_first (exchange_of c.args.request c.args.now c.args.manner.closing c.in-Ok.reply.status c.in-Ok.reply.headers c.in-Ok.reply.body) _
-          (head_is _ _ _ _ _ _ _ (c.as_slice-3.ensures ∙ c.in-Ok-answer_head.ensures) c.as_slice-2.ensures way)
+      begun = begun_first (exchange_of c.args.request.now c.args.now c.args.manner.closing c.in-Ok.reply.status c.in-Ok.reply.headers c.in-Ok.reply.body) _
+          (head_is _ _ _ _ _ _ _ (c.as_slice-3.ensures.value ∙ c.in-Ok-write_head.ensures) c.as_slice-2.ensures way)
           c.in-Ok.ensures.played c.in-Ok-push.ensures;
     }
 
 pub returns-in-Err-poll_turn-clause-memory : goal.returns-in-Err-poll_turn-clause-memory
-returns-in-Err-poll_turn-clause-memory g c = poll_starved (exchange_of c.args.request c.args.now c.args.manner.closing c.in-Ok.reply.status c.in-Ok.reply.headers c.in-Ok.reply.body) c.pieces.invariant.begun c.in-Err-poll_turn.ensures.refused
+returns-in-Err-poll_turn-clause-memory g c = poll_starved (exchange_of c.args.request.now c.args.now c.args.manner.closing c.in-Ok.reply.status c.in-Ok.reply.headers c.in-Ok.reply.body) c.pieces.invariant.begun c.in-Err-poll_turn.ensures.refused
 
 pub returns-in-Err-push_piece-clause-ends : goal.returns-in-Err-push_piece-clause-ends
 returns-in-Err-push_piece-clause-ends g c =
-    let way = way_is _ _ c.args.request c.in-Ok.reply.status _ c.in-Ok.reply.headers c.framing-way.ensures c.requires.chunks c.as_slice.ensures in
-    more_unsent (exchange_of c.args.request c.args.now c.args.manner.closing c.in-Ok.reply.status c.in-Ok.reply.headers c.in-Ok.reply.body) c.in-Piece.piece _ _ c.pieces.invariant.begun
+    let way = way_is _ _ c.args.request.now c.in-Ok.reply.status _ c.in-Ok.reply.headers c.framing-way.ensures c.requires.chunks c.as_slice.ensures in
+    more_unsent (exchange_of c.args.request.now c.args.now c.args.manner.closing c.in-Ok.reply.status c.in-Ok.reply.headers c.in-Ok.reply.body) c.in-Piece.piece _ _ c.pieces.invariant.begun
     c.in-Ok-poll_turn.ensures.played c.in-Piece.is (piece_is _ _ _ _ c.as_slice-in-Piece.ensures way) c.in-Err-push_piece.ensures
 
 pub pieces-smaller : goal.pieces-smaller
@@ -67,21 +67,21 @@ pieces-smaller g c = poll_shrinks c.in-Ok.reply.body c.in-Piece.piece c.in-Ok-po
 
 pub pieces-preserved : goal.pieces-preserved
 pieces-preserved g c =
-    let way = way_is _ _ c.args.request c.in-Ok.reply.status _ c.in-Ok.reply.headers c.framing-way.ensures c.requires.chunks c.as_slice.ensures in
+    let way = way_is _ _ c.args.request.now c.in-Ok.reply.status _ c.in-Ok.reply.headers c.framing-way.ensures c.requires.chunks c.as_slice.ensures in
     record {
       replies = let most = c.pieces.invariant.replies in let same = c.in-Ok-poll_turn.ensures.replies in omega arith;
       loan = c.in-Ok-poll_turn.ensures.loan ∙ c.pieces.invariant.loan;
-      begun = begun_more (exchange_of c.args.request c.args.now c.args.manner.closing c.in-Ok.reply.status c.in-Ok.reply.headers c.in-Ok.reply.body) c.in-Piece.piece _ c.pieces.invariant.begun
+      begun = begun_more (exchange_of c.args.request.now c.args.now c.args.manner.closing c.in-Ok.reply.status c.in-Ok.reply.headers c.in-Ok.reply.body) c.in-Piece.piece _ c.pieces.invariant.begun
           c.in-Ok-poll_turn.ensures.played c.in-Piece.is (piece_is _ _ _ _ c.as_slice-in-Piece.ensures way) c.in-Ok-push_piece.ensures;
     }
 
 pub returns-in-End-clause-ends : goal.returns-in-End-clause-ends
 returns-in-End-clause-ends g c =
-    let way = way_is _ _ c.args.request c.in-Ok.reply.status _ c.in-Ok.reply.headers c.framing-way.ensures c.requires.chunks c.as_slice.ensures in
-    body_ended (exchange_of c.args.request c.args.now c.args.manner.closing c.in-Ok.reply.status c.in-Ok.reply.headers c.in-Ok.reply.body) _ c.pieces.invariant.begun
+    let way = way_is _ _ c.args.request.now c.in-Ok.reply.status _ c.in-Ok.reply.headers c.framing-way.ensures c.requires.chunks c.as_slice.ensures in
+    body_ended (exchange_of c.args.request.now c.args.now c.args.manner.closing c.in-Ok.reply.status c.in-Ok.reply.headers c.in-Ok.reply.body) _ c.pieces.invariant.begun
     c.in-Ok-poll_turn.ensures.played c.in-End.is (ends_as _ _ _ _ _ _ _ _ way c.as_slice-in-End.ensures c.ends_body.ensures)
 
 pub returns-in_default-clause-ends : goal.returns-in_default-clause-ends
 returns-in_default-clause-ends g c =
-    begun_breaks (exchange_of c.args.request c.args.now c.args.manner.closing c.in-Ok.reply.status c.in-Ok.reply.headers c.in-Ok.reply.body) c.in-Ok-poll_turn.answer c.pieces.invariant.begun
+    begun_breaks (exchange_of c.args.request.now c.args.now c.args.manner.closing c.in-Ok.reply.status c.in-Ok.reply.headers c.in-Ok.reply.body) c.in-Ok-poll_turn.answer c.pieces.invariant.begun
     c.in-Ok-poll_turn.ensures.played refl c.in_default.not-Piece c.in_default.not-End

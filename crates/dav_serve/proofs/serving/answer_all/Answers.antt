@@ -15,23 +15,23 @@ next_message-requires g c = record {
 pub requests-smaller : goal.requests-smaller
 requests-smaller g c =
     let reads = rw c.in-Ok-Whole.field-0-is at c.in-Ok-Whole.ensures.reads in
-    meets_shorter _ _ _ _ _ _ c.in-Ok-Whole.ensures.within reads.on reads.gives.2
+    rw c.in-Ok-Open.ensures.input (meets_shorter _ _ _ _ _ _ c.in-Ok-Whole.ensures.within reads.on reads.gives.2)
 
 pub requests-preserved : goal.requests-preserved
 requests-preserved g c =
     let reads = rw c.in-Ok-Whole.field-0-is at c.in-Ok-Whole.ensures.reads in
     record {
       clock = c.now-now.ensures.stays ∙ c.requests.invariant.clock;
-      progress = served_more (served_on c.requests.invariant.progress reads.on c.in-Ok-Whole.ensures.sends)
+      progress = rw c.in-Ok-Open.ensures.input (served_more (served_on c.requests.invariant.progress reads.on c.in-Ok-Whole.ensures.sends)
           (meets _ _ _ _ _ _ reads.gives refl (shown_now _ _ _ c.requests.invariant.clock c.now-now.ensures.shown)) refl
-          (rw c.in-Ok-Open.field-0-is at c.in-Ok-Open.ensures.ends);
+          (rw c.in-Ok-Open.field-0-is at c.in-Ok-Open.ensures.ends));
       may = λ left written may. c.in-Ok-Whole.ensures.stays left written (c.requests.invariant.may left written may);
     }
 
 pub returns-in-Ok-Closed-clause-ends : goal.returns-in-Ok-Closed-clause-ends
 returns-in-Ok-Closed-clause-ends g c =
     let reads = rw c.in-Ok-Whole.field-0-is at c.in-Ok-Whole.ensures.reads in
-    ends_closing (g.K.Sink.stream c.answer.new.sink) c.answer.new.output _
+    ends_closing (g.K.Sink.stream c.answer.new.sink) c.answer.new.held.output _
     (served_on c.requests.invariant.progress reads.on c.in-Ok-Whole.ensures.sends)
     (meets _ _ _ _ _ _ reads.gives refl (shown_now _ _ _ c.requests.invariant.clock c.now-now.ensures.shown)) refl
     (rw c.in-Ok-Closed.field-0-is at c.in-Ok-Closed.ensures.ends) c.finish.ensures
@@ -39,14 +39,14 @@ returns-in-Ok-Closed-clause-ends g c =
 pub returns-in-Ok-SinkFailed-clause-ends : goal.returns-in-Ok-SinkFailed-clause-ends
 returns-in-Ok-SinkFailed-clause-ends g c =
     let reads = rw c.in-Ok-Whole.field-0-is at c.in-Ok-Whole.ensures.reads in
-    ends_unsent c.answer.new.output (served_on c.requests.invariant.progress reads.on c.in-Ok-Whole.ensures.sends)
+    ends_unsent c.answer.new.held.output (served_on c.requests.invariant.progress reads.on c.in-Ok-Whole.ensures.sends)
     (meets _ _ _ _ _ _ reads.gives refl (shown_now _ _ _ c.requests.invariant.clock c.now-now.ensures.shown)) refl
     (rw c.in-Ok-SinkFailed.field-0-is at c.in-Ok-SinkFailed.ensures.ends)
 
 pub returns-in-Ok-Broke-clause-ends : goal.returns-in-Ok-Broke-clause-ends
 returns-in-Ok-Broke-clause-ends g c =
     let reads = rw c.in-Ok-Whole.field-0-is at c.in-Ok-Whole.ensures.reads in
-    ends_broken (g.K.Sink.stream c.answer.new.sink) c.answer.new.output _
+    ends_broken (g.K.Sink.stream c.answer.new.sink) c.answer.new.held.output _
     (served_on c.requests.invariant.progress reads.on c.in-Ok-Whole.ensures.sends)
     (meets _ _ _ _ _ _ reads.gives refl (shown_now _ _ _ c.requests.invariant.clock c.now-now.ensures.shown)) refl
     (rw c.in-Ok-Broke.field-0-is at c.in-Ok-Broke.ensures.ends) c.finish-in-Ok-Broke.ensures

@@ -1,6 +1,6 @@
 use Rattle.std.proofs.Common.{refl, subst, IfOk}
 use Rattle.dav_cache.specs.Memory.{OwnedState, Negates, memory_of}
-use Rattle.dav_cache.proofs.Knowing.{if_ok, owned_negates}
+use Rattle.dav_cache.proofs.MemoryCalls.{if_ok, owned_negates}
 use Rattle.dav_cache.proofs.owned.OwnedRemember.negative.Goals as goal
 
 pub returns-clause-done : goal.returns-clause-done

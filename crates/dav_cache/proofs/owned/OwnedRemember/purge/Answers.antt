@@ -1,6 +1,6 @@
 use Rattle.std.proofs.Common.{subst}
 use Rattle.dav_cache.specs.Memory.{OwnedState, Purges, memory_of}
-use Rattle.dav_cache.proofs.Knowing.{owned_purges}
+use Rattle.dav_cache.proofs.MemoryCalls.{owned_purges}
 use Rattle.dav_cache.proofs.owned.OwnedRemember.purge.Goals as goal
 
 pub returns-clause-done : goal.returns-clause-done

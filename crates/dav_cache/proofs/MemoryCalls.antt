@@ -50,14 +50,16 @@ same-then d a b c p q e h = let second = q e h in let first = p e second.0 in (f
 pub same-take : (d : Names) (n : ℕ) (es : Dots) → Falling es → SameFor d es (take n es)
 same-take d n es falls e h = (lookup-take (same_key (dir_key d)) n es e h, λ x. stands-take n es d e x falls h)
 
-by_number : (n : ℕ) (o p : Option DuEntry) → o ≡ p → option_map_or (λ (w : DuEntry). w.number == n) o false ≡ option_map_or (λ (w : DuEntry). w.number == n) p false
+by_number : (n : ℕ) (o p : Option DuEntry) → o ≡ p
+    → option_map_or (λ (w : DuEntry). w.number == n) o false ≡ option_map_or (λ (w : DuEntry). w.number == n) p false
 by_number n o p h = ap (λ q. option_map_or (λ (w : DuEntry). w.number == n) q false) h
 
 same-without : (d : Names) (k : DuKey) (es : Dots) → dir_key d ≢ k → ((x : Name) → name_key d x ≢ k) → SameFor d es (without (same_key k) es)
 same-without d k es nd nx e h = (sym (lookup-away k (dir_key d) es nd) ∙ h, λ x. by_number e.number _ _ (lookup-away k (name_key d x) es (nx x)))
 
 same-past : (d : Names) (k : DuKey) (f : DuEntry) (es : Dots) → IsApart k d → SameFor d es ((k, f) ∷ es)
-same-past d k f es ne e h = (sym (lookup-past k (dir_key d) f es (dir≢ k d ne)) ∙ h, λ x. by_number e.number _ _ (lookup-past k (name_key d x) f es (name≢ k d x ne)))
+same-past d k f es ne e h =
+    (sym (lookup-past k (dir_key d) f es (dir≢ k d ne)) ∙ h, λ x. by_number e.number _ _ (lookup-past k (name_key d x) f es (name≢ k d x ne)))
 
 pub same-put : (d : Names) (size : ℕ) (k : DuKey) (f : DuEntry) (es : Dots) → IsApart k d → Falling es → SameFor d es (put size (same_key k) k f es)
 same-put d size k f es ne falls =
@@ -82,7 +84,8 @@ module _ (size : ℕ) (old : Dots) (l : Listed) (kept : AreCounted l.number old)
   first : (count : ℕ) → Sealing [] old (put_dir size l count old) l (λ x. false)
   first count = sealing-put_dir [] size old l count kept.falling kept.below (λ d e h tree known. absurd (nothing_known tree known))
 
-  puts-others : (d : Names) (names : List Name) (es : Dots) (P : Name → Bool) → d ≢ l.dir → Sealing [] old es l P → SameFor d es (put_names size l names es)
+  puts-others : (d : Names) (names : List Name) (es : Dots) (P : Name → Bool) → d ≢ l.dir → Sealing [] old es l P
+      → SameFor d es (put_names size l names es)
   puts-others d [] es P ne so = same-self d es
   puts-others d (x ∷ names) es P ne so =
       same-then d es (put_name size l x es) (put_names size l (x ∷ names) es)
@@ -128,7 +131,8 @@ module _ (size : ℕ) (old : Dots) (l : Listed) (kept : AreCounted l.number old)
 
 -- ---- knowledge
 
-known-at : (dots : Dots) (dir : Names) (time : FileTime) (o : Option DuEntry) (has : Name → Bool) → lookup (same_key (dir_key dir)) dots ≡ o → known_at dots dir time o ≡ Some has
+known-at : (dots : Dots) (dir : Names) (time : FileTime) (o : Option DuEntry) (has : Name → Bool) → lookup (same_key (dir_key dir)) dots ≡ o
+    → known_at dots dir time o ≡ Some has
     → (e : DuEntry) × (lookup (same_key (dir_key dir)) dots ≡ Some e) × (e.time ≡ time) × ((x : Name) → has x ≡ stands dots (name_key dir x) e.number)
 known-at dots dir time None has is h = cc
 known-at dots dir time (Some e) has is h = elim (time_tells e.time time) [
@@ -143,11 +147,13 @@ known-cases : (dots : Dots) (dir : Names) (time : FileTime) (has : Name → Bool
     → (e : DuEntry) × (lookup (same_key (dir_key dir)) dots ≡ Some e) × (e.time ≡ time) × ((x : Name) → has x ≡ stands dots (name_key dir x) e.number)
 known-cases dots dir time has h = known-at dots dir time (lookup (same_key (dir_key dir)) dots) has refl h
 
-known-entry : (dots : Dots) (dir : Names) (time : FileTime) (e : DuEntry) → lookup (same_key (dir_key dir)) dots ≡ Some e → e.time ≡ time → known_by dots dir time ≡ Some (λ x. stands dots (name_key dir x) e.number)
+known-entry : (dots : Dots) (dir : Names) (time : FileTime) (e : DuEntry) → lookup (same_key (dir_key dir)) dots ≡ Some e → e.time ≡ time
+    → known_by dots dir time ≡ Some (λ x. stands dots (name_key dir x) e.number)
 known-entry dots dir time e is same =
     ap (known_at dots dir time) is ∙ ap (λ b. if b then Some (λ x. stands dots (name_key dir x) e.number) else None) ((time_decides e.time time).1 same)
 
-was-known : (old new : OwnedState) (dir : Names) (time : FileTime) (has : Name → Bool) → SameFor dir old.dots.entries new.dots.entries → known_by new.dots.entries dir time ≡ Some has → WasKnown (memory_of old) dir time has
+was-known : (old new : OwnedState) (dir : Names) (time : FileTime) (has : Name → Bool) → SameFor dir old.dots.entries new.dots.entries
+    → known_by new.dots.entries dir time ≡ Some has → WasKnown (memory_of old) dir time has
 was-known old new dir time has same h =
     let (e, is, at, names) = known-cases new.dots.entries dir time has h in
     let was = same e is in
@@ -161,37 +167,47 @@ same_dots old new is d = subst (λ (c : DotCache). SameFor d old.dots.entries c.
 
 -- ---- the calls
 
-looks-asks : (o : Option PathEntry) (a : PathCache) (path : Names) (s : DiskState) (found : Option (Names × Meta)) (b : PathCache) (t : DiskState) → Looks o a path s found b t
+looks-asks : (o : Option PathEntry) (a : PathCache) (path : Names) (s : DiskState) (found : Option (Names × Meta)) (b : PathCache) (t : DiskState)
+    → Looks o a path s found b t
     → AsksMeta s t × IfSome found (λ f. Metas s f.0 (Ok f.1) t)
 looks-asks None a path s found b t (none, same, after) = (inl after, subst (λ w. IfSome w (λ f. Metas s f.0 (Ok f.1) t)) (sym none) tt)
-looks-asks (Some e) a path s found b t (Ok meta, metas, is, left) = (inr (e.path, Ok meta, metas), subst (λ w. IfSome w (λ f. Metas s f.0 (Ok f.1) t)) (sym is) metas)
-looks-asks (Some e) a path s found b t (Err error, metas, is, left) = (inr (e.path, Err error, metas), subst (λ w. IfSome w (λ f. Metas s f.0 (Ok f.1) t)) (sym is) tt)
+looks-asks (Some e) a path s found b t (Ok meta, metas, is, left) =
+    (inr (e.path, Ok meta, metas), subst (λ w. IfSome w (λ f. Metas s f.0 (Ok f.1) t)) (sym is) metas)
+looks-asks (Some e) a path s found b t (Err error, metas, is, left) =
+    (inr (e.path, Err error, metas), subst (λ w. IfSome w (λ f. Metas s f.0 (Ok f.1) t)) (sym is) tt)
 
-pub owned_gets : (old new : OwnedState) (path : Names) (s : DiskState) (found : Option (Names × Meta)) (t : DiskState) → Looks (lookup (same_path (fold_path path)) old.paths.entries) old.paths path s found new.paths t
+pub owned_gets : (old new : OwnedState) (path : Names) (s : DiskState) (found : Option (Names × Meta)) (t : DiskState)
+    → Looks (lookup (same_path (fold_path path)) old.paths.entries) old.paths path s found new.paths t
     → IfSome found (λ f. fold_path f.0 ≡ fold_path path) → new.dots ≡ old.dots → Gets (memory_of old) path s found (memory_of new) t
 owned_gets old new path s found t looks folds dots =
     let asks = looks-asks (lookup (same_path (fold_path path)) old.paths.entries) old.paths path s found new.paths t looks in
     record { asks = asks.0; stood = asks.1; folds = folds; paths = looks; dots = ap Some dots; learns = learns old new (same_dots old new dots) }
 
-pub owned_inserts : (old new : OwnedState) (path : Names) (now : Moment) → new.paths ≡ record old.paths { entries = inserted old.paths.size path now old.paths.entries } → new.dots ≡ old.dots
+pub owned_inserts : (old new : OwnedState) (path : Names) (now : Moment)
+    → new.paths ≡ record old.paths { entries = inserted old.paths.size path now old.paths.entries } → new.dots ≡ old.dots
     → Inserts (memory_of old) path now (memory_of new)
 owned_inserts old new path now paths dots = record { paths = paths; dots = ap Some dots; learns = learns old new (same_dots old new dots) }
 
-has-time : (time : FileTime) (answer : Result Meta DiskError) → has_time time answer ≡ true → (meta : Meta) × (answer ≡ Ok meta) × (is_dir meta.kind ≡ true) × (meta.modified ≡ Some time)
+has-time : (time : FileTime) (answer : Result Meta DiskError) → has_time time answer ≡ true
+    → (meta : Meta) × (answer ≡ Ok meta) × (is_dir meta.kind ≡ true) × (meta.modified ≡ Some time)
 has-time time (Ok meta) h = let parts = and_parts (is_dir meta.kind) (is_time time meta.modified) h in (meta, refl, parts.0, is_time_at time meta.modified parts.1)
 has-time time (Err error) h = absurd (false≢true h)
 
-denies-asks : (o : Option DuEntry) (a : DotCache) (dir : Names) (name : Name) (s : DiskState) (absent : Bool) (b : DotCache) (t : DiskState) → Denies o a dir name s absent b t → AsksMeta s t
+denies-asks : (o : Option DuEntry) (a : DotCache) (dir : Names) (name : Name) (s : DiskState) (absent : Bool) (b : DotCache) (t : DiskState)
+    → Denies o a dir name s absent b t → AsksMeta s t
 denies-asks None a dir name s absent b t (not_, same, after) = inl after
 denies-asks (Some e) a dir name s absent b t (answer, metas, is, left) = inr (dir, answer, metas)
 
-denies-dots : (o : Option DuEntry) (a : DotCache) (dir : Names) (name : Name) (s : DiskState) (absent : Bool) (b : DotCache) (t : DiskState) → Denies o a dir name s absent b t → (d : Names) → SameFor d a.entries b.entries
-denies-dots None a dir name s absent b t (not_, same, after) d = subst (λ (c : DotCache). SameFor d a.entries c.entries) (sym same) (same-self d a.entries)
+denies-dots : (o : Option DuEntry) (a : DotCache) (dir : Names) (name : Name) (s : DiskState) (absent : Bool) (b : DotCache) (t : DiskState)
+    → Denies o a dir name s absent b t → (d : Names) → SameFor d a.entries b.entries
+denies-dots None a dir name s absent b t (not_, same, after) d =
+    subst (λ (c : DotCache). SameFor d a.entries c.entries) (sym same) (same-self d a.entries)
 denies-dots (Some e) a dir name s absent b t (answer, metas, is, left) d =
     subst (λ (c : DotCache). SameFor d a.entries c.entries) (sym left)
     (elim (has_time e.time answer) as (λ y. SameFor d a.entries (if y then a else dropped dir a).entries) [ true ↦ same-self d a.entries | false ↦ same-dropped d dir a.entries ])
 
-denies-denied : (old : OwnedState) (o : Option DuEntry) (dir : Names) (name : Name) (s : DiskState) (absent : Bool) (b : DotCache) (t : DiskState) → lookup (same_key (dir_key dir)) old.dots.entries ≡ o
+denies-denied : (old : OwnedState) (o : Option DuEntry) (dir : Names) (name : Name) (s : DiskState) (absent : Bool) (b : DotCache) (t : DiskState)
+    → lookup (same_key (dir_key dir)) old.dots.entries ≡ o
     → Denies o old.dots dir name s absent b t → IsTrue absent → Denied (memory_of old) dir name s t
 denies-denied old None dir name s absent b t is (not_, same, after) yes_ = absurd (true≢false (sym yes_ ∙ not_))
 denies-denied old (Some e) dir name s absent b t is (answer, metas, tells, left) yes_ =
@@ -208,7 +224,8 @@ denies-denied old (Some e) dir name s absent b t is (answer, metas, tells, left)
     )
 
 pub owned_negates : (old new : OwnedState) (dir : Names) (name : Name) (s : DiskState) (absent : Bool) (t : DiskState)
-    → Denies (lookup (same_key (dir_key dir)) old.dots.entries) old.dots dir name s absent new.dots t → new.paths ≡ old.paths → Negates (memory_of old) dir name s absent (memory_of new) t
+    → Denies (lookup (same_key (dir_key dir)) old.dots.entries) old.dots dir name s absent new.dots t → new.paths ≡ old.paths
+    → Negates (memory_of old) dir name s absent (memory_of new) t
 owned_negates old new dir name s absent t denies paths =
     let o = lookup (same_key (dir_key dir)) old.dots.entries in
     record {
@@ -224,7 +241,8 @@ abbrev SealKnown : OwnedState → DuKey → FileTime → List Name → Dots → 
 SealKnown old dir time names es =
     (d : Names) (t : FileTime) (has : Name → Bool) → known_by es d t ≡ Some has → WasKnown (memory_of old) d t has ⊎ ((d ≡ dir.dir) × (t ≡ time) × ((x : Name) → has x ≡ list_any (same_name x) names))
 
-seal-known : (old : OwnedState) (dir : DuKey) (time : FileTime) (names : List Name) (now : Moment) (room : ℕ) → AreCounted old.dots.next old.dots.entries
+seal-known : (old : OwnedState) (dir : DuKey) (time : FileTime) (names : List Name) (now : Moment) (room : ℕ)
+    → AreCounted old.dots.next old.dots.entries
     → SealKnown old dir time names (sealed_within old.dots dir time now names room).entries
 seal-known old dir time names now room kept d t has h =
     let l : Listed = record { dir = dir.dir; time = time; moment = now; number = old.dots.next } in
@@ -239,14 +257,17 @@ seal-known old dir time names now room kept d t has h =
           inl (was-known old new d t has (sealed-others old.dots.size old.dots.entries l kept d names room (λ q. ne.1 (sym q))) h)
     ]
 
-seals-known : (old new : OwnedState) (dir : DuKey) (time : FileTime) (names : List Name) (now : Moment) (result : Sealed) → AreCounted old.dots.next old.dots.entries → Seals old.dots dir time now names result new.dots
+seals-known : (old new : OwnedState) (dir : DuKey) (time : FileTime) (names : List Name) (now : Moment) (result : Sealed)
+    → AreCounted old.dots.next old.dots.entries → Seals old.dots dir time now names result new.dots
     → SealKnown old dir time names new.dots.entries
 seals-known old new dir time names now Done kept (less, is) =
     subst (λ (c : DotCache). SealKnown old dir time names c.entries) (sym is) (seal-known old dir time names now (length names + 1) kept)
 seals-known old new dir time names now Last kept (all, is) = λ d t has h. inl (was-known old new d t has (same_dots old new is d) h)
-seals-known old new dir time names now NoMemory kept (less, room, le, is) = subst (λ (c : DotCache). SealKnown old dir time names c.entries) (sym is) (seal-known old dir time names now room kept)
+seals-known old new dir time names now NoMemory kept (less, room, le, is) =
+    subst (λ (c : DotCache). SealKnown old dir time names c.entries) (sym is) (seal-known old dir time names now room kept)
 
-pub owned_seals : (old new : OwnedState) (dir : DuKey) (time : FileTime) (names : List Name) (now : Moment) (result : Sealed) → AreCounted old.dots.next old.dots.entries
+pub owned_seals : (old new : OwnedState) (dir : DuKey) (time : FileTime) (names : List Name) (now : Moment) (result : Sealed)
+    → AreCounted old.dots.next old.dots.entries
     → Seals old.dots dir time now names result new.dots → new.paths ≡ old.paths → SealsIn (memory_of old) dir time names now result (memory_of new)
 owned_seals old new dir time names now result kept seals paths = record {
   dots = seals;
@@ -255,7 +276,8 @@ owned_seals old new dir time names now result kept seals paths = record {
   same_open = λ d t. refl;
 }
 
-pub owned_purges : (old new : OwnedState) (now : Moment) → AreCounted old.dots.next old.dots.entries → new.paths ≡ record old.paths { entries = purged (is_old_path now) old.paths.entries }
+pub owned_purges : (old new : OwnedState) (now : Moment) → AreCounted old.dots.next old.dots.entries
+    → new.paths ≡ record old.paths { entries = purged (is_old_path now) old.paths.entries }
     → new.dots ≡ record old.dots { entries = purged (is_old_dot now) old.dots.entries } → Purges (memory_of old) now (memory_of new)
 owned_purges old new now kept paths dots =
     let cut = purged-take (is_old_dot now) old.dots.entries in

@@ -6,7 +6,7 @@ use Rattle.dav_model.specs.Sizes.{read_size_of}
 use Rattle.dav_model.proofs.JoiningLemmas.{not_begun}
 use Rattle.dav_handler.proofs.Stepping.{polled_end, staged}
 use Rattle.dav_handler.proofs.Upkeep.{stays_open}
-use Rattle.dav_handler.proofs.player.Player.poll.Goals as goal
+use Rattle.dav_handler.proofs.player.Player.poll_over.Goals as goal
 
 pub returns-in_default-clause-done : goal.returns-in_default-clause-done
 returns-in_default-clause-done g c = polled_end c.args.self.now.settings (g.D.Disk.state c.args.self.now.store.disk) (body_at c.args.self.now.bodies) _ c.args.body c.args.self.now.ok (sym c.in_default.ensures.value)
@@ -20,6 +20,6 @@ invariant_of-self g c = record { ok = playing_polled c.args.self.now.settings _ 
 pub returns-clause-done : goal.returns-clause-done
 returns-clause-done g c = polled c.args.self.now.settings _ _ _ _ _ _ _ c.args.body _ c.args.self.now.ok c.poll_body-answer.ensures.done c.sweep.ensures.done c.sweep.ensures.disk
 
-pub returns-in_default-with_capacity-clause-done : goal.returns-in_default-with_capacity-clause-done
-returns-in_default-with_capacity-clause-done g c = not_begun (staged c.args.self.now.settings (g.D.Disk.state c.args.self.now.store.disk) c.args.self.now.replies (body_at c.args.self.now.bodies)) (Poll c.args.body) _
+pub returns-in_default-make_room-clause-done : goal.returns-in_default-make_room-clause-done
+returns-in_default-make_room-clause-done g c = not_begun (staged c.args.self.now.settings (g.D.Disk.state c.args.self.now.store.disk) c.args.self.now.replies (body_at c.args.self.now.bodies)) (Poll c.args.body) _
     (stays_open (read_size_of c.args.self.now.settings.read_buf_size) (g.D.Disk.state c.args.self.now.store.disk) (body_at c.args.self.now.bodies) c.args.self.now.settings c.args.self.now.replies c.args.self.now.replies c.args.self.now.ok)
