@@ -13,6 +13,7 @@ ghost use Rattle.dav_model.specs.Calls.{AsksUnlessKnown};
 ghost use Rattle.dav_model.specs.Due.{dir_course, index_course, query};
 ghost use Rattle.dav_model.specs.Head.{is_set, is_well_known as the_is_well_known};
 ghost use Rattle.dav_model.specs.Sizes.{read_size_of};
+ghost use Rattle.dav_store.specs.Leads.{LeadsOn};
 ghost use Rattle.dav_store.specs.Standing.{Seen, Standing};
 ghost use Rattle.dav_store.specs.View.{the_listings, the_view, Closes};
 ghost use Rattle.dav_get.specs.Asked.{asked_of};
@@ -339,6 +340,8 @@ fn open_file<S: GuardedFileSystem<C>, C>(
 ) -> Given<S::File>
     ensures table { Opens (the_view S.GuardedFileSystem S.Disk.Disk S.File.DavFile)
         (asked_of asked.now) credentials.now fs.old result fs.new }
+    ensures leads { LeadsOn (the_view S.GuardedFileSystem S.Disk.Disk S.File.DavFile)
+        (the_listings S.GuardedFileSystem S.Entry.DavDirEntry) credentials.now fs.old fs.new }
     ensures life { OpenOnlyHeld (the_view S.GuardedFileSystem S.Disk.Disk S.File.DavFile) fs.old result fs.new }
     ensures most { HasMost (read_size_of asked.now.settings.now.read_buf_size) result }
     ensures loan { S.Disk.loan (S.inside fs.new) ≡ S.Disk.loan (S.inside fs.old) }
@@ -362,6 +365,8 @@ fn get_index<S: GuardedFileSystem<C>, C>(
         (the_listings S.GuardedFileSystem S.Entry.DavDirEntry)
         (index_course (asked_of asked.now) (Some name.now)) (asked_of asked.now) credentials.now fs.old result fs.new
         ⊎ (result ≡ Err DavError.NoMemory) }
+    ensures leads { LeadsOn (the_view S.GuardedFileSystem S.Disk.Disk S.File.DavFile)
+        (the_listings S.GuardedFileSystem S.Entry.DavDirEntry) credentials.now fs.old fs.new }
     ensures life { OpenOnlyHeld (the_view S.GuardedFileSystem S.Disk.Disk S.File.DavFile) fs.old result fs.new }
     ensures most { HasMost (read_size_of asked.now.settings.now.read_buf_size) result }
     ensures loan { S.Disk.loan (S.inside fs.new) ≡ S.Disk.loan (S.inside fs.old) }
@@ -396,6 +401,8 @@ fn get_dir<S: GuardedFileSystem<C>, C>(
         (the_listings S.GuardedFileSystem S.Entry.DavDirEntry)
         (dir_course (asked_of asked.now) asked.now.path.now.slash) (asked_of asked.now) credentials.now fs.old result
         fs.new ⊎ (result ≡ Err DavError.NoMemory) }
+    ensures leads { LeadsOn (the_view S.GuardedFileSystem S.Disk.Disk S.File.DavFile)
+        (the_listings S.GuardedFileSystem S.Entry.DavDirEntry) credentials.now fs.old fs.new }
     ensures life { OpenOnlyHeld (the_view S.GuardedFileSystem S.Disk.Disk S.File.DavFile) fs.old result fs.new }
     ensures most { HasMost (read_size_of asked.now.settings.now.read_buf_size) result }
     ensures loan { S.Disk.loan (S.inside fs.new) ≡ S.Disk.loan (S.inside fs.old) }
@@ -427,6 +434,8 @@ fn look<S: GuardedFileSystem<C>, C>(
     ensures table { ByWellKnown (the_view S.GuardedFileSystem S.Disk.Disk S.File.DavFile)
         (the_listings S.GuardedFileSystem S.Entry.DavDirEntry) false
         (asked_of asked.now) credentials.now fs.old result fs.new ⊎ (result ≡ Err DavError.NoMemory) }
+    ensures leads { LeadsOn (the_view S.GuardedFileSystem S.Disk.Disk S.File.DavFile)
+        (the_listings S.GuardedFileSystem S.Entry.DavDirEntry) credentials.now fs.old fs.new }
     ensures life { OpenOnlyHeld (the_view S.GuardedFileSystem S.Disk.Disk S.File.DavFile) fs.old result fs.new }
     ensures most { HasMost (read_size_of asked.now.settings.now.read_buf_size) result }
     ensures loan { S.Disk.loan (S.inside fs.new) ≡ S.Disk.loan (S.inside fs.old) }
@@ -505,6 +514,8 @@ pub fn handle_get<S: GuardedFileSystem<C>, C>(
         → (result ≡ Err DavError.NoMemory) ⊎ AsksUnlessKnown (the_is_well_known settings.now method path.now)
         (is_set settings.now.redirect) (status_given result) (fields_given fields.now result)
         (S.Disk.state (S.inside fs.old)).asked (S.Disk.state (S.inside fs.new)).asked }
+    ensures leads { LeadsOn (the_view S.GuardedFileSystem S.Disk.Disk S.File.DavFile)
+        (the_listings S.GuardedFileSystem S.Entry.DavDirEntry) credentials.now fs.old fs.new }
     ensures life { OpenOnlyHeld (the_view S.GuardedFileSystem S.Disk.Disk S.File.DavFile) fs.old result fs.new }
     ensures most { HasMost (read_size_of settings.now.read_buf_size) result }
     ensures loan { S.Disk.loan (S.inside fs.new) ≡ S.Disk.loan (S.inside fs.old) }
@@ -530,6 +541,8 @@ fn get_once<S: GuardedFileSystem<C>, C>(
     ensures table { Gets (the_view S.GuardedFileSystem S.Disk.Disk S.File.DavFile)
         (the_listings S.GuardedFileSystem S.Entry.DavDirEntry)
         (asked_of asked.now) credentials.now fs.old result fs.new ⊎ (result ≡ Err DavError.NoMemory) }
+    ensures leads { LeadsOn (the_view S.GuardedFileSystem S.Disk.Disk S.File.DavFile)
+        (the_listings S.GuardedFileSystem S.Entry.DavDirEntry) credentials.now fs.old fs.new }
     ensures life { OpenOnlyHeld (the_view S.GuardedFileSystem S.Disk.Disk S.File.DavFile) fs.old result fs.new }
     ensures most { HasMost (read_size_of asked.now.settings.now.read_buf_size) result }
     ensures loan { S.Disk.loan (S.inside fs.new) ≡ S.Disk.loan (S.inside fs.old) }
