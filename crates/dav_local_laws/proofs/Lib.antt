@@ -3,3 +3,4 @@ pub mod LocalReads
 pub mod LocalAsks
 pub mod PlainWays
 pub mod LocalFollows
+pub mod LocalLeads

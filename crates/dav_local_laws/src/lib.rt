@@ -2,6 +2,7 @@
 #![tactic(auto)]
 
 ghost use Rattle.std.specs.Prelude.{◌≡◌, ℕ, Option};
+ghost use Rattle.dav_cache.specs.Memory.{LearnsNothing};
 ghost use Rattle.dav_get.specs.Calls.{AsksByOne};
 ghost use Rattle.dav_get.specs.Heard.{Heard};
 ghost use Rattle.dav_get.specs.Lives.{OpenOnlyHeld};
@@ -17,6 +18,7 @@ ghost use Rattle.dav_model.specs.Due.{Query};
 ghost use Rattle.dav_model.specs.Head.{Reply};
 ghost use Rattle.dav_model.specs.Play.{Reads};
 ghost use Rattle.dav_model.specs.Rules.{plain_rules};
+ghost use Rattle.dav_store.specs.Leads.{LeadsOn};
 ghost use Rattle.dav_store.specs.View.{the_listings, the_view};
 ghost use Rattle.dav_local_laws.specs.LocalStore.{IsLocalStore};
 ghost use Rattle.dav_local_laws.specs.Simple.{is_simple, plain_ways};
@@ -79,6 +81,15 @@ pub fn local_stores_ask_once<D: Disk, R: Remember>(_fs: &LocalFs<D, R>)
     ensures { AsksByOne (the_view ⟦<LocalFs<D, R> as GuardedFileSystem<()>>⟧ D.Disk ⟦<LocalFsFile as DavFile<D>>⟧)
         (the_listings ⟦<LocalFs<D, R> as GuardedFileSystem<()>>⟧ ⟦<LocalFsDirEntry as DavDirEntry<D>>⟧)
         (λ s. is_simple s.ways) }
+{
+    calls_are_local(_fs)
+}
+
+/// Calls that write nothing leave how a local store finds paths, and what its memory knows after them it knew before.
+pub fn reads_learn_nothing<D: Disk, R: Remember>(_fs: &LocalFs<D, R>)
+    ensures { (t : LocalFs D R) → LeadsOn (the_view ⟦<LocalFs<D, R> as GuardedFileSystem<()>>⟧ D.Disk ⟦<LocalFsFile as DavFile<D>>⟧)
+        (the_listings ⟦<LocalFs<D, R> as GuardedFileSystem<()>>⟧ ⟦<LocalFsDirEntry as DavDirEntry<D>>⟧) tt _fs.now t
+        → (t.ways ≡ _fs.now.ways) × LearnsNothing (R.state _fs.now.memory) (R.state t.memory) }
 {
     calls_are_local(_fs)
 }
