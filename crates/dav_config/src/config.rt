@@ -8,18 +8,20 @@ use crate::handler::DavHandler;
 use crate::merging::merged;
 use dav_core::DavMethodSet;
 use dav_io::{NoMemory, Text};
+use dav_lock::FakeLs;
 use dav_model::Settings;
 use std::alloc::Global;
 use std::marker::PhantomData;
 
-/// What a handler is built from: settings, and a store of type `S` whose calls are made with credentials of type `C`.
-/// Without a store there is nothing to serve. Each call but `new`, `merge` and `build_handler` sets one thing, in place
-/// of what was set before, and leaves all else.
+/// What a handler is built from: settings, a lock system, and a store of type `S` whose calls are made with credentials
+/// of type `C`. Without a store there is nothing to serve. Each call but `new`, `merge` and `build_handler` sets one
+/// thing, in place of what was set before, and leaves all else.
 #[derive(Drop)]
 pub struct DavConfig<S, C> {
     pub(crate) alloc: Global,
     pub(crate) settings: Settings,
     pub(crate) store: Option<S>,
+    pub(crate) locks: Option<FakeLs>,
     pub(crate) credentials: PhantomData<C>,
 }
 
@@ -28,11 +30,13 @@ impl<S, C> DavConfig<S, C> {
     pub fn new(alloc: Global) -> Self
         ensures settings { result.settings ≡ nothing_set }
         ensures store { result.store ≡ None }
+        ensures locks { result.locks ≡ None }
     {
         DavConfig {
             alloc,
             settings: Settings::defaults(alloc),
             store: None,
+            locks: None,
             credentials: PhantomData,
         }
     }
@@ -41,17 +45,20 @@ impl<S, C> DavConfig<S, C> {
     pub fn build_handler(self) -> DavHandler<S, C>
         ensures settings { result.settings ≡ self.settings }
         ensures store { result.store ≡ self.store }
+        ensures locks { result.locks ≡ self.locks }
     {
         let DavConfig {
             alloc,
             settings,
             store,
+            locks,
             credentials,
         } = self;
         DavHandler {
             alloc,
             settings,
             store,
+            locks,
             credentials,
         }
     }
@@ -77,14 +84,25 @@ impl<S, C> DavConfig<S, C> {
             alloc,
             settings,
             store: _,
+            locks,
             credentials,
         } = self;
         DavConfig {
             alloc,
             settings,
             store: Some(fs),
+            locks,
             credentials,
         }
+    }
+
+    /// Sets the lock system. No method that is built asks it.
+    pub fn locksystem(self, ls: FakeLs) -> Self
+        ensures { result ≡ record self { locks = Some ls } }
+    {
+        let mut config = self;
+        config.locks = Some(ls);
+        config
     }
 
     /// Sets the path under which the server stands: nothing for the root, or a text that begins with `/` and has plain

@@ -17,6 +17,7 @@ use crate::handling::handle_by;
 use crate::merging::{merged, with_principal};
 use dav_body::StreamBody;
 use dav_io::Moment;
+use dav_lock::FakeLs;
 use dav_model::Settings;
 use dav_store::{BodyReader, GuardedFileSystem};
 use http::Request;
@@ -29,6 +30,7 @@ pub struct DavHandler<S, C> {
     pub(crate) alloc: Global,
     pub(crate) settings: Settings,
     pub(crate) store: Option<S>,
+    pub(crate) locks: Option<FakeLs>,
     pub(crate) credentials: PhantomData<C>,
 }
 
@@ -39,6 +41,7 @@ impl<S, C> DavHandler<S, C> {
     pub fn new(alloc: Global) -> Self
         ensures settings { result.settings ≡ nothing_set }
         ensures store { result.store ≡ None }
+        ensures locks { result.locks ≡ None }
     {
         DavConfig::new(alloc).build_handler()
     }
@@ -47,6 +50,7 @@ impl<S, C> DavHandler<S, C> {
     pub fn builder(alloc: Global) -> DavConfig<S, C>
         ensures settings { result.settings ≡ nothing_set }
         ensures store { result.store ≡ None }
+        ensures locks { result.locks ≡ None }
     {
         DavConfig::new(alloc)
     }
@@ -60,9 +64,17 @@ impl<S, C> DavHandler<S, C> {
             alloc,
             settings,
             store,
+            locks: _,
             credentials: _,
         } = self;
         (alloc, settings, store)
+    }
+
+    /// Its lock system.
+    pub fn locksystem(&self) -> Option<FakeLs>
+        ensures { result ≡ self.now.locks }
+    {
+        self.locks
     }
 
     /// Lends the store, so that the body of an answer can be polled with its disk. None exactly where there is no store.
@@ -98,6 +110,7 @@ impl<S: GuardedFileSystem<C>, C> DavHandler<S, C> {
             self.old.store self.new.store) }
         ensures admits { IfSome self.new.store S.admits }
         ensures settings { self.new.settings ≡ self.old.settings }
+        ensures locks { self.new.locks ≡ self.old.locks }
     {
         match with_principal(self.alloc, &self.settings, principal) {
             Ok(settings) => handle_by(
@@ -147,6 +160,7 @@ impl<S: GuardedFileSystem<()>> DavHandler<S, ()> {
             self.old.store self.new.store) }
         ensures admits { IfSome self.new.store S.admits }
         ensures settings { self.new.settings ≡ self.old.settings }
+        ensures locks { self.new.locks ≡ self.old.locks }
     {
         handle_by(self.alloc, &self.settings, &mut self.store, &(), req, now)
     }
@@ -169,6 +183,7 @@ impl<S: GuardedFileSystem<()>> DavHandler<S, ()> {
             self.old.store self.new.store) }
         ensures admits { IfSome self.new.store S.admits }
         ensures settings { self.new.settings ≡ self.old.settings }
+        ensures locks { self.new.locks ≡ self.old.locks }
     {
         let (head, stream) = req.into_parts();
         self.handle(Request::from_parts(head, stream.into_inner()), now)
@@ -204,11 +219,13 @@ impl<S: GuardedFileSystem<()>> DavHandler<S, ()> {
             config.store self.old.store self.new.store) }
         ensures admits { IfSome self.new.store S.admits }
         ensures settings { self.new.settings ≡ self.old.settings }
+        ensures locks { self.new.locks ≡ self.old.locks }
     {
         let DavConfig {
             alloc: _,
             settings,
             store,
+            locks: _,
             credentials: _,
         } = config;
         let merged = match merged(&self.settings, &settings) {
@@ -245,6 +262,7 @@ impl<S: GuardedFileSystem<()>> DavHandler<S, ()> {
             config.store self.old.store self.new.store) }
         ensures admits { IfSome self.new.store S.admits }
         ensures settings { self.new.settings ≡ self.old.settings }
+        ensures locks { self.new.locks ≡ self.old.locks }
     {
         let (head, stream) = req.into_parts();
         self.handle_with(config, Request::from_parts(head, stream.into_inner()), now)

@@ -18,6 +18,7 @@ mod writing;
 pub use answering::Answered;
 pub use bulk::{BodyBulk, bulk_of};
 pub use config::DavConfig;
+pub use dav_lock::FakeLs;
 pub use dav_model::Settings;
 pub use gates::{admitted, weighed};
 pub use handler::DavHandler;
