@@ -13,7 +13,7 @@ use Rattle.dav_core.specs.Options.{reading}
 use Rattle.dav_core.specs.Statuses.{fs_status}
 use Rattle.dav_core.specs.Tree.{is_file}
 use Rattle.dav_store.specs.declared.entry.ReadDirMeta.TheVariants.{Data}
-use Rattle.dav_store.specs.Files.{IsFault, Spoiled}
+use Rattle.dav_store.specs.Files.{Spoiled}
 use Rattle.dav_store.specs.Frames.{OpensOne}
 use Rattle.dav_store.specs.View.{View, Listings, Says as SaysOf}
 use Rattle.dav_model.specs.Due.{Course, Due, Query, course, directing, due_course, due_listed, due_looked, due_opened, due_sent, known, listing, opening, page, refused, refusing, to_slash, file as sends}
@@ -201,9 +201,10 @@ module _ {S C F L E : Type 0} (view : View S C F) (lists : Listings S C L E) (fe
       → FailsBehind view lists q look c m t → Rose (view.state s).faults (view.state t).faults
   behind_rose q (Err e) c s m t looks le (is, counts) = by (few.looks s m c q.path e looks)
     where
-      by : CouldRefuse e ⊎ IsFault {T = Info} (view.state s) (Err e) (view.state m) → Rose (view.state s).faults (view.state t).faults
+      by : CouldRefuse e ⊎ Spoiled {T = Info} (view.state s) (Err e) (view.state m) → Rose (view.state s).faults (view.state t).faults
       by (inl could) = could_not e is could
-      by (inr fault) = rose_through _ _ _ _ (omega arith) fault.1 counts
+      by (inr (inl fault)) = rose_through _ _ _ _ (omega arith) fault.1 counts
+      by (inr (inr none)) = cc
   behind_rose q (Ok info) c s m t looks le fails = rose_through _ _ _ _ le (on_rose q (course q info.kind) c m t fails) (omega arith)
 
   -- There a call is refused with a failure only where the disk met a fault.

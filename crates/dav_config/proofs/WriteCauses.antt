@@ -40,7 +40,7 @@ use Rattle.dav_methods.specs.Lines.{Given, Line, above, done_over, fails_when, f
 use Rattle.dav_model.specs.Overlap.{overlap}
 use Rattle.dav_methods.specs.Pouring.{Poured, Stops, Writes, WritesFile, begun as none_poured, goes as pours_on}
 use Rattle.dav_methods.specs.Putting.{AfterChecks, MayPut, MayReplace, Puts, put_options}
-use Rattle.dav_methods.specs.Reading.{HasMembers, HasNoMembers, ReadRefused}
+use Rattle.dav_methods.specs.Reading.{HasMembers, HasNoMembers, MembersUnread, ReadRefused}
 use Rattle.dav_methods.specs.Removing.{Deletes, LooksAtLink, RefusesDir, RemovesAll, RemovesOne, Removes, is_deep, is_root, line_of, done, short, goes as removes_on, stops as stopped}
 use Rattle.dav_methods.specs.Table.{Below, Ends, EndsMade, Looks, MkCalendars, MkCols, Next, Run, Unless}
 use Rattle.dav_config.specs.Ways as on
@@ -417,15 +417,14 @@ module _ {S C F L E : Type 0} (view : View S C F) (lists : Listings S C L E) (wr
       on.says n o t i k e r (walked_came s m l front n i came before) nexts said
 
   -- the last that was asked was refused
-  said_way : (s m t : S) (l k : L) (all front : List Answered) (a : Answered) → a.meta ≡ Err fs.GeneralFailure → all ≡ front ++ a ∷ [] → Reach s m
-      → Walked view lists m l all t k → Way s t
-  said_way s m t l k all [] a is same came begun = cc
-  said_way s m t l k all (x ∷ front) a is same came begun = cc
-  said_way s m t l k all front a is same came (walks before n o p i j e r walked nexts said lends keeps) =
+  said_way : (s b m t : S) (path : WebPath) (l k : L) (all front : List Answered) (a : Answered) → a.meta ≡ Err fs.GeneralFailure → all ≡ front ++ a ∷ [] → Reach s b
+      → lists.lists b c path DataSymlink (Ok l) m → Walked view lists m l all t k → Way s t
+  said_way s b m t path l k all [] a is same came begins begun = cc
+  said_way s b m t path l k all (x ∷ front) a is same came begins begun = cc
+  said_way s b m t path l k all front a is same came begins (walks before n o p i j e r walked nexts said lends keeps) =
       let last = ends_same before front (record { name = lists.called e; meta = r }) a same in
       let refused : r ≡ Err fs.GeneralFailure = ap (λ (x : Answered). x.meta) last ∙ is in
-      way s n t t (walked_came s m l before n i came walked)
-      (one.says i k e o nexts (subst (λ x. lists.says e (view.state o) x (view.state t)) refused said)) refl
+      way s b t t came (one.says path DataSymlink l i k m n o before e begins walked nexts (subst (λ x. lists.says e (view.state o) x (view.state t)) refused said)) refl
 
   way_on : (s m t : S) → Way s m → ((n : S) → Reach n m → Reach n t) → Way s t
   way_on s m t on_way more = record { before = on_way.before; after = on_way.after; came = on_way.came; fails = on_way.fails; ends = more on_way.after on_way.ends }
@@ -439,22 +438,21 @@ module _ {S C F L E : Type 0} (view : View S C F) (lists : Listings S C L E) (wr
       (walked_came s was.begin was.listing reads.answers reads.place reads.left (on.begins m was.begin path DataSymlink (Ok was.listing) came was.begins) reads.walk) reads.ends)
       was.ended
 
-  read_way : (s m t : S) (l k : L) (e : FsError) → Reach s m → ReadRefused view lists m l e t k → e ≡ fs.GeneralFailure → Way s t
-  read_way s m t l k e came (inl wants) is = cc
-  read_way s m t l k e came (inr (inl (answers, place, left, walk, said, refused))) is =
-      way s place t t (walked_came s m l answers place left came walk) (one.goes_on left k (subst (λ x. lists.lists_on place left (Err x) t k) is refused)) refl
-  read_way s m t l k e came (inr (inr (answers, name, said, walk))) is =
-      said_way s m t l k (answers ++ record { name = name; meta = Err e } ∷ []) answers (record { name = name; meta = Err e }) (ap (λ (x : FsError). Err x) is) refl came walk
+  read_way : (s b m t : S) (path : WebPath) (l k : L) (e : FsError) → Reach s b → lists.lists b c path DataSymlink (Ok l) m → ReadRefused view lists m l e t k → e ≡ fs.GeneralFailure → Way s t
+  read_way s b m t path l k e came begins (inl (wants, answers, walk)) is = cc
+  read_way s b m t path l k e came begins (inr (inl (answers, place, left, walk, said, refused))) is =
+      way s b t t came (one.goes_on path DataSymlink l left k m place answers begins walk (subst (λ x. lists.lists_on place left (Err x) t k) is refused)) refl
+  read_way s b m t path l k e came begins (inr (inr (answers, name, said, walk))) is =
+      said_way s b m t path l k (answers ++ record { name = name; meta = Err e } ∷ []) answers (record { name = name; meta = Err e }) (ap (λ (x : FsError). Err x) is) refl came begins walk
 
   unread_way : (s m t : S) (path : WebPath) (e : FsError) → Reach s m → HasNoMembers view lists m c path e t → e ≡ fs.GeneralFailure → Way s t
   unread_way s m t path e came none is = by none.why
     where
-      by : (e ≡ fs.NoMemory) ⊎ (lists.lists m c path DataSymlink (Err e) t ⊎ ((begin after : S) × (listing over : L) × lists.lists m c path DataSymlink (Ok listing) begin
-          × ReadRefused view lists begin listing e after over × lists.ends_list after over t)) → Way s t
-      by (inl wants) = cc
+      by : MembersUnread view lists m c path e t → Way s t
+      by (inl (wants, listed, was)) = cc
       by (inr (inl refused)) = way s m t t came (one.begins path DataSymlink (subst (λ x. lists.lists m c path DataSymlink (Err x) t) is refused)) refl
       by (inr (inr (begin, after, listing, over, begins, refused, ended))) =
-          way_on s after t (read_way s begin after listing over e (on.begins m begin path DataSymlink (Ok listing) came begins) refused is)
+          way_on s after t (read_way s m begin after path listing over e came begins refused is)
           (λ n reach. on.ends_list after t over reach ended)
 
   one_done : (s m n : S) (work : Work) (works rest : List Work) → Reach s m → RemovesOne view lists c work works m (Ok tt) n rest → Reach s n

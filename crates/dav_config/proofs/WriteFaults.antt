@@ -1,5 +1,5 @@
 -- Over a store that refuses few things a call is refused with a failure only where its disk met a fault.
-use Rattle.std.proofs.Common.{◌≤◌, refl, arith}
+use Rattle.std.proofs.Common.{◌≤◌, Some, Ok, refl, arith}
 use Rattle.dav_io.specs.Counts.{Rose}
 use Rattle.dav_store.specs.View.{View, Listings}
 use Rattle.dav_get.proofs.HeardIsRight.{rose_through}
@@ -25,9 +25,9 @@ module _ {S C F L E : Type 0} (view : View S C F) (lists : Listings S C L E) (wr
   reached_counts s t (on.renames m n from to r before call) = let first = reached_counts s m before in let last = (usual.renames m n from to r call).counts in omega arith
   reached_counts s t (on.copies m n from to r before call) = let first = reached_counts s m before in let last = (usual.copies m n from to r call).counts in omega arith
   reached_counts s t (on.begins m n path how r before call) = let first = reached_counts s m before in let last = (usual.begins m n path how r call).counts in omega arith
-  reached_counts s t (on.goes_on m n l k r before call) = let first = reached_counts s m before in let last = (usual.goes_on m n l k r call).counts in omega arith
+  reached_counts s t (on.goes_on m n l k r before call) = let first = reached_counts s m before in let last = usual.goes_counts m n l k r call in omega arith
   reached_counts s t (on.says m n o l k e r before gives says) =
-      let first = reached_counts s m before in let last = (usual.says m n o l k e r gives says).counts in omega arith
+      let first = reached_counts s m before in let given = usual.goes_counts m n l k (Ok (Some e)) gives in let last = usual.says_counts n o e r says in omega arith
   reached_counts s t (on.ends_list m n l before call) = let first = reached_counts s m before in let last = usual.ends m n l call in omega arith
 
   one_rose : (m n : S) → RefusesOne view lists writes c m n → Rose (view.state m).faults (view.state n).faults
@@ -41,8 +41,8 @@ module _ {S C F L E : Type 0} (view : View S C F) (lists : Listings S C L E) (wr
   one_rose m n (one.renames from to call) = (usual.renames m n from to _ call).refused.1 refl
   one_rose m n (one.copies from to call) = (usual.copies m n from to _ call).refused.1 refl
   one_rose m n (one.begins path how call) = (usual.begins m n path how _ call).refused.1 refl
-  one_rose m n (one.goes_on l k call) = (usual.goes_on m n l k _ call).refused.1 refl
-  one_rose m n (one.says l k e o gives call) = (usual.says m o n l k e _ gives call).refused.1 refl
+  one_rose m n (one.goes_on path how first l k b s answers begins walk call) = (usual.goes_on m b s n path how first l k answers _ begins walk call).refused.1 refl
+  one_rose m n (one.says path how first l k b s o answers e begins walk gives call) = (usual.says m b s o n path how first l k answers e _ begins walk gives call).refused.1 refl
 
   pub way_rose : (s t : S) → RefusedOnWay view lists writes c s t → Rose (view.state s).faults (view.state t).faults
   way_rose s t way =

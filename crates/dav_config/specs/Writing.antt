@@ -14,6 +14,7 @@ use Rattle.dav_core.specs.Unchanged.{Keeps}
 use Rattle.dav_store.specs.declared.entry.ReadDirMeta.{ReadDirMeta}
 use Rattle.dav_store.specs.Bodies.{BodyState}
 use Rattle.dav_store.specs.Frames.{KeepsOpen}
+use Rattle.dav_store.specs.Members.{Answered, Walked}
 use Rattle.dav_store.specs.View.{View, Listings}
 use Rattle.dav_model.specs.declared.outcome.Outcome.{Outcome}
 use Rattle.dav_model.specs.Conditions.{Fields, writes as is_writing}
@@ -90,7 +91,8 @@ module _ {S C F L E : Type 0} (view : View S C F) (lists : Listings S C L E) (wr
 
   -- ---- why it is answered 500
 
-  -- A call of the store, of a file or of a listing was refused with a failure.
+  -- A call of the store or of a file was refused with a failure; or a listing was, or an entry of it, from where it was begun: a
+  -- store may read ahead, and tell a fault later.
   pub data RefusesOne (m n : S) : Type 0 where
     looks : (path : WebPath) → view.looks m c path (Err GeneralFailure) n → RefusesOne m n
     looks_at_link : (path : WebPath) → view.looks_at_link m c path (Err GeneralFailure) n → RefusesOne m n
@@ -102,9 +104,11 @@ module _ {S C F L E : Type 0} (view : View S C F) (lists : Listings S C L E) (wr
     renames : (from to : WebPath) → view.renames m c from to (Err GeneralFailure) n → RefusesOne m n
     copies : (from to : WebPath) → view.copies m c from to (Err GeneralFailure) n → RefusesOne m n
     begins : (path : WebPath) (how : ReadDirMeta) → lists.lists m c path how (Err GeneralFailure) n → RefusesOne m n
-    goes_on : (l k : L) → lists.lists_on m l (Err GeneralFailure) n k → RefusesOne m n
+    goes_on : (path : WebPath) (how : ReadDirMeta) (first l k : L) (b s : S) (answers : List Answered) → lists.lists m c path how (Ok first) b
+        → Walked view lists b first answers s l → lists.lists_on s l (Err GeneralFailure) n k → RefusesOne m n
     -- (an entry that was given)
-    says : (l k : L) (e : E) (o : S) → lists.lists_on m l (Ok (Some e)) o k → lists.says e (view.state o) (Err GeneralFailure) (view.state n) → RefusesOne m n
+    says : (path : WebPath) (how : ReadDirMeta) (first l k : L) (b s o : S) (answers : List Answered) (e : E) → lists.lists m c path how (Ok first) b
+        → Walked view lists b first answers s l → lists.lists_on s l (Ok (Some e)) o k → lists.says e (view.state o) (Err GeneralFailure) (view.state n) → RefusesOne m n
 
   -- On the way from a store to another a call was refused so.
   pub record RefusedOnWay (s t : S) : Type 0 where

@@ -10,8 +10,9 @@ use Rattle.dav_core.specs.declared.member.Member.{Member}
 use Rattle.dav_core.specs.Info.{Info}
 use Rattle.dav_core.specs.Statuses.{of_fs, status_of}
 use Rattle.dav_core.specs.DavPath.{WebPath}
+use Rattle.dav_core.specs.Disk.{DiskState}
 use Rattle.dav_core.specs.Tree.{is_file}
-use Rattle.dav_store.specs.Files.{AsksOnce}
+use Rattle.dav_store.specs.Files.{AsksOnce, AsksToGive}
 use Rattle.dav_store.specs.View.{View, Listings, Closes}
 use Rattle.dav_model.specs.declared.outcome.Outcome.{Outcome}
 use Rattle.dav_model.specs.declared.ranges.Ranges.{Ranges}
@@ -247,7 +248,37 @@ module _ {S C F : Type 0} (view : View S C F) (q : Query) (b : ℕ) where
   open_asks (Ok file) s m result t was one (inr none) = inl none
   open_asks (Ok file) s m result t was one (inl (said, g, k, says, could, row)) = meta_asks said g k result t (once 2 m k (once 1 s m was one) says.done.asked) row
 
-module _ {S C F L E : Type 0} (view : View S C F) (lists : Listings S C L E) (q : Query) (few : AsksByOne view lists) where
+-- one call of the disk
+pub asked_once : {A : Type 0} (r : Result A FsError) (s t : DiskState) → AsksOnce s t → AsksToGive r s t
+asked_once (Ok x) s t one = one
+asked_once (Err fs.NoMemory) s t one = inr one
+asked_once (Err fs.NotImplemented) s t one = one
+asked_once (Err fs.GeneralFailure) s t one = one
+asked_once (Err fs.Exists) s t one = one
+asked_once (Err fs.NotFound) s t one = one
+asked_once (Err fs.Forbidden) s t one = one
+asked_once (Err fs.InsufficientStorage) s t one = one
+asked_once (Err fs.LoopDetected) s t one = one
+asked_once (Err fs.PathTooLong) s t one = one
+asked_once (Err fs.TooLarge) s t one = one
+asked_once (Err fs.IsRemote) s t one = one
+
+-- One call was asked, or memory was refused.
+given_once : {A : Type 0} (r : Result A FsError) (s t : DiskState) → AsksToGive r s t → (r ≡ Err fs.NoMemory) ⊎ AsksOnce s t
+given_once (Ok x) s t one = inr one
+given_once (Err fs.NoMemory) s t asked = inl refl
+given_once (Err fs.NotImplemented) s t one = inr one
+given_once (Err fs.GeneralFailure) s t one = inr one
+given_once (Err fs.Exists) s t one = inr one
+given_once (Err fs.NotFound) s t one = inr one
+given_once (Err fs.Forbidden) s t one = inr one
+given_once (Err fs.InsufficientStorage) s t one = inr one
+given_once (Err fs.LoopDetected) s t one = inr one
+given_once (Err fs.PathTooLong) s t one = inr one
+given_once (Err fs.TooLarge) s t one = inr one
+given_once (Err fs.IsRemote) s t one = inr one
+
+module _ {S C F L E : Type 0} (view : View S C F) (lists : Listings S C L E) (q : Query) (holds : S → Bool) (few : AsksByOne view lists holds) where
   -- the status of each refusal without a store's error
   abbrev IsRefusing : Course → Type 0
   IsRefusing (refusing status close) = IsOther status
@@ -295,36 +326,38 @@ module _ {S C F L E : Type 0} (view : View S C F) (lists : Listings S C L E) (q 
   told b result t le (inl none) = inl none
   told b result t le (inr asks) = inr (unless_page (is_of_page (fields_given q.fields result)) (is_set q.settings.redirect) (status_given result) b (view.state t).asked le asks)
 
-  listing_asks : (b : ℕ) (answer : Result (List Member) FsError) (c : C) (s : S) (result : Given F) (t : S) → b ≤ (view.state t).asked → Asked view q b 1 s
+  listing_asks : (b : ℕ) (answer : Result (List Member) FsError) (c : C) (s : S) (result : Given F) (t : S) → holds s ≡ true → b ≤ (view.state t).asked → Asked view q b 1 s
       → IsListing view lists (is_get q.method) c q.path s answer t → AfterListing answer q result → Told b result t
-  listing_asks b (Err e) c s result t le was refuses is = elim (few.refuses_list s t c q.path e refuses) [
+  listing_asks b (Err e) c s result t here le was refuses is = elim (few.refuses_list s t c q.path e here refuses) [
     | inl none ↦ told b result t le (refused view q b (is_set q.settings.redirect) 1 e result t (none ∙ was) (omega arith) (omega arith) is)
     | inr one ↦ told b result t le (refused view q b (is_set q.settings.redirect) 2 e result t (once view q b 1 s t was one) (omega arith) (omega arith) is)
   ]
-  listing_asks b (Ok members) c s (Err e) t le was read row = absurd row
-  listing_asks b (Ok members) c s (Ok r) t le was read (is, body) =
+  listing_asks b (Ok members) c s (Err e) t here le was read row = absurd row
+  listing_asks b (Ok members) c s (Ok r) t here le was read (is, body) =
       inr (subst (λ (o : Outcome). AsksUnlessPage (is_of_page o.fields) (is_set q.settings.redirect) o.status b (view.state t).asked) (sym is) le)
 
-  course_asks : (b : ℕ) (co : Course) (c : C) (s : S) (result : Given F) (t : S) → b ≤ (view.state t).asked → IsRefusing co → Asked view q b 1 s → ByCourse view lists co q c s result t → Told b result t
-  course_asks b (refusing status close) c s result t le other was (same, is) =
+  course_asks : (b : ℕ) (co : Course) (c : C) (s : S) (result : Given F) (t : S) → holds s ≡ true → b ≤ (view.state t).asked → IsRefusing co → Asked view q b 1 s → ByCourse view lists co q c s result t → Told b result t
+  course_asks b (refusing status close) c s result t here le other was (same, is) =
       told b result t le (error view q b (is_set q.settings.redirect) 1 (refused_as status close) result t (ap (λ (x : S). (view.state x).asked) same ∙ was) (omega arith) (omega arith)
       (subst IsOther (sym (refused_status status close)) other) is)
-  course_asks b directing c s result t le other was (same, directs) =
+  course_asks b directing c s result t here le other was (same, directs) =
       told b result t le (directed_asks (is_set q.settings.redirect) b q.path result t (ap (λ (x : S). (view.state x).asked) same ∙ was) directs)
-  course_asks b listing c s result t le other was (answer, listed, keeps, row) = listing_asks b answer c s result t le was listed row
-  course_asks b (opening path) c s result t le other was (opened, m, opens, one, row) =
-      told b result t le (open_asks view (asked_at q path) b opened s m result t was (few.opens s m c path opened opens) row)
+  course_asks b listing c s result t here le other was (answer, listed, keeps, row) = listing_asks b answer c s result t here le was listed row
+  course_asks b (opening path) c s result t here le other was (opened, m, opens, one, row) =
+      told b result t le (open_asks view (asked_at q path) b opened s m result t was (few.opens s m c path opened here opens) row)
 
-  look_asks : (b : ℕ) (look : Result Info FsError) (c : C) (s : S) (result : Given F) (t : S) → b ≤ (view.state t).asked → Asked view q b 1 s → AfterLook view lists look q c s result t → Told b result t
-  look_asks b (Err e) c s result t le was (same, is) =
+  look_asks : (b : ℕ) (look : Result Info FsError) (c : C) (s : S) (result : Given F) (t : S) → holds s ≡ true → b ≤ (view.state t).asked → Asked view q b 1 s → AfterLook view lists look q c s result t → Told b result t
+  look_asks b (Err e) c s result t here le was (same, is) =
       told b result t le (refused view q b (is_set q.settings.redirect) 1 e result t (ap (λ (x : S). (view.state x).asked) same ∙ was) (omega arith) (omega arith) is)
-  look_asks b (Ok info) c s result t le was row = course_asks b (course q info.kind) c s result t le (refusing_other info) was row
+  look_asks b (Ok info) c s result t here le was row = course_asks b (course q info.kind) c s result t here le (refusing_other info) was row
 
-  known_asks : (known : Bool) (c : C) (s : S) (result : Given F) (t : S) → (view.state s).asked ≤ (view.state t).asked → ByWellKnown view lists known q c s result t
+  known_asks : (known : Bool) (c : C) (s : S) (result : Given F) (t : S) → holds s ≡ true → (view.state s).asked ≤ (view.state t).asked → ByWellKnown view lists known q c s result t
       → (result ≡ Err NoMemory) ⊎ AsksUnlessKnown known (is_set q.settings.redirect) (status_given result) (fields_given q.fields result) (view.state s).asked (view.state t).asked
-  known_asks true c s result t le (same, row) = inr (ap (λ (x : S). (view.state x).asked) same)
-  known_asks false c s result t le (look, m, looks, keeps, row) =
-      look_asks (view.state s).asked look c m result t le (few.looks s m c q.path look looks) row
+  known_asks true c s result t here le (same, row) = inr (ap (λ (x : S). (view.state x).asked) same)
+  known_asks false c s result t here le (look, m, looks, keeps, row) = elim (given_once look (view.state s) (view.state m) (few.looks s m c q.path look here looks)) [
+    | inl none ↦ (let refused = subst (λ x. AfterLook view lists x q c m result t) none row in inl refused.1)
+    | inr one ↦ look_asks (view.state s).asked look c m result t (few.stays s m c q.path look here looks) le one row
+  ]
 
   only_asked : (s t : S) (result : Given F) → OpenOnlyHeld view s result t → (view.state s).asked ≤ (view.state t).asked
   only_asked s t (Err e) keeps = keeps.asked
@@ -335,7 +368,7 @@ module _ {S C F L E : Type 0} (view : View S C F) (lists : Listings S C L E) (q 
       by (Some h) opens = opens.0.asked
 
   -- What the table answers asks few calls, unless it is a page.
-  pub gets_asks : (c : C) (s : S) (result : Given F) (t : S) → OpenOnlyHeld view s result t → Gets view lists q c s result t ⊎ (result ≡ Err NoMemory)
+  pub gets_asks : (c : C) (s : S) (result : Given F) (t : S) → holds s ≡ true → OpenOnlyHeld view s result t → Gets view lists q c s result t ⊎ (result ≡ Err NoMemory)
       → (result ≡ Err NoMemory) ⊎ AsksUnlessKnown (is_well_known q.settings q.method q.path) (is_set q.settings.redirect) (status_given result) (fields_given q.fields result) (view.state s).asked (view.state t).asked
-  gets_asks c s result t life (inl row) = known_asks (is_well_known q.settings q.method q.path) c s result t (only_asked s t result life) row
-  gets_asks c s result t life (inr none) = inl none
+  gets_asks c s result t here life (inl row) = known_asks (is_well_known q.settings q.method q.path) c s result t here (only_asked s t result life) row
+  gets_asks c s result t here life (inr none) = inl none

@@ -33,11 +33,11 @@ stood_could : (number : Option ℕ) (info : Info) (address : Option (List ℕ)) 
     → IfSome address (λ text. list_all is_printable text ≡ true) → CouldStand (stood_heard number info address)
 stood_could number info address could printable = record { tag = could.tag; modified = could.years.modified; address = printable }
 
-looked_could : (info : Info) → CouldStand (looked_stood info)
+pub looked_could : (info : Info) → CouldStand (looked_stood info)
 looked_could info = record { tag = tt; modified = λ time is. cc; address = tt }
 
 -- right without a fault, or no range could be met
-placed : (q : Query) (d : Due) (rose : Type 0) (reply : Reply) → IsPlacedOr q d rose reply → IsHead q d reply ⊎ (IsSpoiled q d reply × rose)
+pub placed : (q : Query) (d : Due) (rose : Type 0) (reply : Reply) → IsPlacedOr q d rose reply → IsHead q d reply ⊎ (IsSpoiled q d reply × rose)
 placed q d rose reply (inl head) = inl head
 placed q d rose reply (inr (unplaced, risen)) = inr (spoiled d unplaced, risen)
   where
@@ -60,10 +60,10 @@ module _ {S C F : Type 0} (view : View S C F) (q : Query) (s : S) (result : Give
   OpensFew = (a b : S) (c : C) (path : WebPath) (e : FsError) → view.opens a c path reading (Err e) b → CouldRefuse e ⊎ Spoiled {T = F} (view.state a) (Err e) (view.state b)
 
   -- what was opened, as it could be
-  record Opened (number : Option ℕ) : Type 0 where
-    opened : Result Stood FsError
-    could : Could CouldStand opened
-    right : IsFor (due_opened q.path opened) (or_zero number)
+  pub record Opened (number : Option ℕ) : Type 0 where
+    pub opened : Result Stood FsError
+    pub could : Could CouldStand opened
+    pub right : IsFor (due_opened q.path opened) (or_zero number)
 
   -- a call that was refused because of a fault: maybe nothing stood there
   fault_opened : (number : Option ℕ) (o : Result Stood FsError) (e : FsError) → o ≡ Err e → e ≡ fs.GeneralFailure → Risen
@@ -109,7 +109,7 @@ module _ {S C F : Type 0} (view : View S C F) (q : Query) (s : S) (result : Give
         let counts = says.done.keeps.counts in
         address_opened (is_file info.kind && is_set q.settings.redirect) info g m could (omega arith) heard
 
-    file_opened : OpensFew → (c : C) (answer : Result F FsError) (m x : S) → view.opens m c q.path reading answer x → (view.state s).faults ≤ (view.state m).faults
+    pub file_opened : OpensFew → (c : C) (answer : Result F FsError) (m x : S) → view.opens m c q.path reading answer x → (view.state s).faults ≤ (view.state m).faults
         → (view.state m).faults ≤ (view.state x).faults → HearsFile view q answer number x o t → Opened number
     file_opened few c (Ok file) m x opens before after (told, (said, g, l, says, heard)) = meta_opened said file g x l (omega arith) says heard
     file_opened few c (Err e) m x opens before after (is, counts) = elim (few m x c q.path e opens) [
@@ -125,13 +125,13 @@ module _ {S C F L E : Type 0} (view : View S C F) (lists : Listings S C L E) (q 
   Rises = Rose (view.state s).faults (view.state t).faults
 
   -- what was opened, or might have been, by the course that was taken
-  record Taken (number : Option ℕ) (co : Course) : Type 0 where
-    opened : Result Stood FsError
-    listed : Result (List Member) FsError
-    could : Could CouldStand opened
-    plain : Could (AllByRecursion HasPlainName) listed
+  pub record Taken (number : Option ℕ) (co : Course) : Type 0 where
+    pub opened : Result Stood FsError
+    pub listed : Result (List Member) FsError
+    pub could : Could CouldStand opened
+    pub plain : Could (AllByRecursion HasPlainName) listed
     -- whatever a look finds there
-    right : (looked : Result Stood FsError) → IsForDue (due_course (shown_alike looked opened listed) q.path co) (or_zero number)
+    pub right : (looked : Result Stood FsError) → IsForDue (due_course (shown_alike looked opened listed) q.path co) (or_zero number)
 
   abbrev nothing : Result Stood FsError
   nothing = Err fs.NotFound
@@ -140,7 +140,7 @@ module _ {S C F L E : Type 0} (view : View S C F) (lists : Listings S C L E) (q 
   none_listed = Err fs.NotFound
 
   -- a listing
-  listing_found : (few : RefusesFew view lists) (c : C) (number : Option ℕ) (l : Result (List Member) FsError) (m : S) → WasHad l → (view.state s).faults ≤ (view.state m).faults
+  pub listing_found : (few : RefusesFew view lists) (c : C) (number : Option ℕ) (l : Result (List Member) FsError) (m : S) → WasHad l → (view.state s).faults ≤ (view.state m).faults
       → IsPlacedOr q (due_listed q.path l) Rises (reply_at {F = F} q.fields (or_zero number) result) → IsListing view lists (is_get q.method) c q.path m l t → Keeps (view.state m) (view.state t)
       → Taken number listing
   listing_found few c number (Ok members) m had le right (read, plain) kept = record {
@@ -199,11 +199,11 @@ module _ {S C F L E : Type 0} (view : View S C F) (lists : Listings S C L E) (q 
     right : IsForDue (due_looked (shown_alike looked opened listed) q looked) (or_zero number)
 
   look_found : (few : RefusesFew view lists) (r : Result Info FsError) (c : C) (number : Option ℕ) (o : Result Stood FsError) (l : Result (List Member) FsError) (m : S) → view.looks s c q.path r m
-      → WasHad o → WasHad l
+      → WasHad r → WasHad o → WasHad l
       → (view.state s).faults ≤ (view.state m).faults
       → IsPlacedOr q (due_looked (shown_heard r o l) q (looked_of r)) Rises (reply_at {F = F} q.fields (or_zero number) result)
       → HearsLook view lists q r c number m o l t → Found number
-  look_found few (Ok info) c number o l m looks had l_had le right heard =
+  look_found few (Ok info) c number o l m looks looked_had had l_had le right heard =
       let found = course_found few (course q info.kind) c number (Ok info) o l m had l_had le right heard in
       record {
         looked = Ok (looked_stood info);
@@ -214,10 +214,11 @@ module _ {S C F L E : Type 0} (view : View S C F) (lists : Listings S C L E) (q 
         list_could = found.plain;
         right = found.right (Ok (looked_stood info));
       }
-  look_found few (Err e) c number o l m looks had l_had le (inr (none, risen)) counts = absurd none
-  look_found few (Err e) c number o l m looks had l_had le (inl head) counts = elim (few.looks s m c q.path e looks) [
+  look_found few (Err e) c number o l m looks looked_had had l_had le (inr (none, risen)) counts = absurd none
+  look_found few (Err e) c number o l m looks looked_had had l_had le (inl head) counts = elim (few.looks s m c q.path e looks) [
     | inl could ↦ record { looked = Err e; opened = nothing; listed = none_listed; look_could = could; open_could = inl refl; list_could = inl refl; right = inl head }
-    | inr fault ↦
+    | inr (inr none) ↦ absurd (looked_had none)
+    | inr (inl fault) ↦
         let general : e ≡ fs.GeneralFailure = (let f = fault.0 in cc) in
         let failed : reply_at {F = F} q.fields (or_zero number) result ≡ failure = head ∙ ap (λ x. refusal q.fields (fs_status x) false) general in
         record {
@@ -235,7 +236,7 @@ module _ {S C F L E : Type 0} (view : View S C F) (lists : Listings S C L E) (q 
   heard_found few false c plain h =
       let (m, look, keeps, hears) = h.hears plain in
       let right = subst (λ b. IsPlacedOr q (cond b known (due_looked (shown_heard h.looked h.opened h.listed) q (looked_of h.looked))) Rises (reply_at {F = F} q.fields (or_zero h.number) result)) plain h.right in
-      let found = look_found few h.looked c h.number h.opened h.listed m look h.opened_had h.listed_had keeps.counts right hears in
+      let found = look_found few h.looked c h.number h.opened h.listed m look h.looked_had h.opened_had h.listed_had keeps.counts right hears in
       record {
         looked = found.looked;
         opened = found.opened;

@@ -18,9 +18,9 @@ use Rattle.dav_core.specs.DavPath.{WebPath}
 use Rattle.dav_core.specs.Tree.{is_file}
 use Rattle.dav_store.specs.Files.{Spoiled}
 use Rattle.dav_store.specs.Frames.{OpensOne}
-use Rattle.dav_store.specs.Shows.{here, looks, Looked, LooksThere, OpensThere, IsThere, seen_of}
+use Rattle.dav_store.specs.Shows.{here, looks, LooksThere, OpensThere, IsThere, seen_of}
 use Rattle.dav_store.specs.Standing.{Standing, Seen, Agrees, AgreesOpen}
-use Rattle.dav_store.specs.Members.{BeginsThere, ShowsMembers}
+use Rattle.dav_store.specs.Members.{BeginsThere, ReadsThere, ShowsMembers}
 use Rattle.dav_store.specs.View.{View, Listings, seen_in, Says as SaysOf}
 use Rattle.dav_model.specs.Conditions.{Fields}
 use Rattle.dav_model.specs.Due.{Course, Due, Query, IsHead, IsSpoiled, course, directing, due_course, due_kind, due_listed, due_looked, due_opened, due_sent, failure, known, listing, opening, page, refused, refusing, to_slash, file as sends}
@@ -94,9 +94,9 @@ module _ {S C F : Type 0} (view : View S C F) (q : Query) where
     TheReply = reply_at {F = F} q.fields k result
 
     -- right for what is due, and the body's file is told under this number
-    record Settled (d : Due) : Type 0 where
-      right : IsHead q d TheReply ⊎ (IsSpoiled q d TheReply × Risen)
-      named : IsOfNumber view (Some k) t result
+    pub record Settled (d : Due) : Type 0 where
+      pub right : IsHead q d TheReply ⊎ (IsSpoiled q d TheReply × Risen)
+      pub named : IsOfNumber view (Some k) t result
 
     -- A body of a reply without parts has no file.
     no_file : (x : Given F) → OpenOnlyHeld view s x t → (reply : Reply) → reply.parts ≡ [] → reply_at q.fields k x ≡ reply → IsOfNumber view (Some k) t x
@@ -216,7 +216,7 @@ module _ {S C F : Type 0} (view : View S C F) (q : Query) where
             (subst (λ b. HearsAddress view q (b && is_set q.settings.redirect) number info g m o t) kind heard)
 
     -- what is opened
-    open_settled : (opened : Result Standing FsError) (answer : Result F FsError) (number : Option ℕ) (o : Result Stood FsError) (m x : S) → k ≡ number_in opened
+    pub open_settled : (opened : Result Standing FsError) (answer : Result F FsError) (number : Option ℕ) (o : Result Stood FsError) (m x : S) → k ≡ number_in opened
         → OpensThere view.seen opened answer (view.state x) ⊎ Spoiled (view.state m) answer (view.state x)
         → (view.state s).faults ≤ (view.state m).faults → (view.state m).faults ≤ (view.state x).faults
         → WasHad o → IsOfNumber view number t result → IsPlacedOr q (due_opened q.path o) Risen (reply_at q.fields (or_zero number) result)
@@ -254,7 +254,7 @@ module _ {S C F L E : Type 0} (view : View S C F) (lists : Listings S C L E) (q 
         let at = renumbered q.fields n k result reply none is in
         record { right = inl (head at); named = no_file view q s result t life k result life reply none at }
 
-    settled_at : (path : WebPath) (d : Due) → Settled view (asked_at q path) s result t life k d → SettledOf d
+    pub settled_at : (path : WebPath) (d : Due) → Settled view (asked_at q path) s result t life k d → SettledOf d
     settled_at path d settled = record { right = fit_at q path d (Rose (view.state s).faults (view.state t).faults) (reply_at q.fields k result) settled.right; named = settled.named }
 
     -- what is heard and shown of a path that is opened
@@ -267,17 +267,14 @@ module _ {S C F L E : Type 0} (view : View S C F) (lists : Listings S C L E) (q 
     page_named (Err e) only keeps = tt
     page_named (Ok r) only keeps = λ h some. absurd (no_file_kept view s r t h only keeps some)
 
-    -- a page that was given, for members that the store shows
-    read_settled : (gives : Bool) (c : C) (found : Result (List Member) FsError) (members : List Member) (n : ℕ) (m : S) → is_get q.method ≡ gives
-        → ShowsMembers view lists m c q.path found → (view.state s).faults ≤ (view.state m).faults → Keeps (view.state s) (view.state t)
-        → ReadsMembers view lists gives c q.path m members t → IsIndexReply gives q.path (AreRows q.path members) (reply_at q.fields n result) → SettledOf (due_listed q.path found)
-    read_settled true c (Err e) members n m get shows before keeps (listed, by) reply = absurd (by (Err e) shows)
-    read_settled true c (Ok all) members n m get shows before keeps (listed, by) reply =
-        let (missing, parts, why) = by (Ok all) shows in
+    -- a page that was given, of some of these members or of all
+    pub page_settled : (all members : List Member) (n from : ℕ) → is_get q.method ≡ true → ReadsThere (Ok all) from members (view.state t).faults
+        → (view.state s).faults ≤ from → Keeps (view.state s) (view.state t) → IsIndexReply true q.path (AreRows q.path members) (reply_at q.fields n result) → SettledOf (page q.path all)
+    page_settled all members n from get (missing, parts, why) before keeps reply =
         let given = index_renumbered q.fields n k true q.path (AreRows q.path members) result reply in
         record { right = of_missing missing parts why given; named = page_named result life keeps }
       where
-        of_missing : (missing : List Member) → IsPermutation all (members ++ missing) → (missing ≡ []) ⊎ Rose (view.state m).faults (view.state t).faults
+        of_missing : (missing : List Member) → IsPermutation all (members ++ missing) → (missing ≡ []) ⊎ Rose from (view.state t).faults
             → IsIndexReply true q.path (AreRows q.path members) (reply_at q.fields k result)
             → IsHead q (page q.path all) (reply_at q.fields k result) ⊎ (IsSpoiled q (page q.path all) (reply_at q.fields k result) × Rose (view.state s).faults (view.state t).faults)
         of_missing missing parts (inl none) given =
@@ -290,13 +287,13 @@ module _ {S C F L E : Type 0} (view : View S C F) (lists : Listings S C L E) (q 
                   (index_rows q.fields k true q.path (AreRows q.path members) (AreRowsOfSome q.path all) result (λ rows are. record { some = members; missing = missing; parts = parts; shown = are }) given)),
               rose_through _ _ _ _ before rose (omega arith),
             )
-    read_settled false c found members n m get shows before keeps (none, (lister, after, begins, ends)) reply =
-        let given = index_renumbered q.fields n k false q.path (AreRows q.path members) result reply in
-        of_found found (shows.begins m after (Ok lister) here_now begins) given
-      where
-        here_now : Looked view m c m
-        here_now = here
 
+    -- the answer of a page without its body, where a listing was begun
+    pub bare_settled : (found : Result (List Member) FsError) (lister : L) (members : List Member) (n : ℕ) (m after : S) → is_get q.method ≡ false
+        → BeginsThere found (Ok lister) ⊎ Spoiled (view.state m) (Ok lister) (view.state after) → Keeps (view.state s) (view.state t)
+        → IsIndexReply false q.path (AreRows q.path members) (reply_at q.fields n result) → SettledOf (due_listed q.path found)
+    bare_settled found lister members n m after get begins keeps reply = of_found found begins (index_renumbered q.fields n k false q.path (AreRows q.path members) result reply)
+      where
         of_found : (found : Result (List Member) FsError) → BeginsThere found (Ok lister) ⊎ Spoiled (view.state m) (Ok lister) (view.state after)
             → IsIndexReply false q.path (AreRows q.path members) (reply_at q.fields k result) → SettledOf (due_listed q.path found)
         of_found (Ok all) (inl there) given = record {
@@ -307,6 +304,25 @@ module _ {S C F L E : Type 0} (view : View S C F) (lists : Listings S C L E) (q 
         of_found found (inr (inl (is, rose))) given = cc
         of_found found (inr (inr is)) given = cc
 
+    -- a listing that was refused
+    pub unlisted_settled : (found : Result (List Member) FsError) (e : FsError) (n : ℕ) (m : S) → BeginsThere {L = L} found (Err e) ⊎ Spoiled {T = L} (view.state m) (Err e) (view.state t)
+        → (view.state s).faults ≤ (view.state m).faults → WasHad {A = List Member} (Err e) → reply_at q.fields n result ≡ refusal q.fields (fs_status e) false → SettledOf (due_listed q.path found)
+    unlisted_settled (Ok all) e n m (inl never) before had head = absurd never
+    unlisted_settled (Err f) e n m (inl same) before had head = subst (λ x. SettledOf (refused (fs_status x) false)) same (refused_settled view q s result t life k (fs_status e) false n head)
+    unlisted_settled found e n m (inr (inl (is, rose))) before had head =
+        fault_settled view q s result t life k (due_listed q.path found) e n (failed_listed view q q.path found) (let f : e ≡ fs.GeneralFailure = cc in f) head
+        (rose_through _ _ _ _ before rose (omega arith))
+    unlisted_settled found e n m (inr (inr is)) before had head = absurd (had (ap Err (let f : e ≡ fs.NoMemory = cc in f)))
+
+    -- a page that was given, for members that the store shows
+    read_settled : (gives : Bool) (c : C) (found : Result (List Member) FsError) (members : List Member) (n : ℕ) (m : S) → is_get q.method ≡ gives
+        → ShowsMembers view lists m c q.path found → (view.state s).faults ≤ (view.state m).faults → Keeps (view.state s) (view.state t)
+        → ReadsMembers view lists gives c q.path m members t → IsIndexReply gives q.path (AreRows q.path members) (reply_at q.fields n result) → SettledOf (due_listed q.path found)
+    read_settled true c (Err e) members n m get shows before keeps (listed, by) reply = absurd (by (Err e) shows)
+    read_settled true c (Ok all) members n m get shows before keeps (listed, by) reply = page_settled all members n (view.state m).faults get (by (Ok all) shows) before keeps reply
+    read_settled false c found members n m get shows before keeps (none, (lister, after, begins, ends)) reply =
+        bare_settled found lister members n m after get (shows.begins m after (Ok lister) here begins) keeps reply
+
     -- a listing
     listing_settled : (c : C) (found l : Result (List Member) FsError) (n : ℕ) (m : S) → ShowsMembers view lists m c q.path found
         → (view.state s).faults ≤ (view.state m).faults → Keeps (view.state s) (view.state t) → WasHad l
@@ -316,15 +332,7 @@ module _ {S C F L E : Type 0} (view : View S C F) (lists : Listings S C L E) (q 
     listing_settled c found (Ok members) n m shows before keeps had (inl reply) (read, plain) =
         read_settled (is_get q.method) c found members n m refl shows before keeps read reply
     listing_settled c found (Err e) n m shows before keeps had (inr (none, rose)) hears = absurd none
-    listing_settled c found (Err e) n m shows before keeps had (inl head) hears = by found (shows.begins m t (Err e) here hears)
-      where
-        by : (found : Result (List Member) FsError) → BeginsThere {L = L} found (Err e) ⊎ Spoiled {T = L} (view.state m) (Err e) (view.state t) → SettledOf (due_listed q.path found)
-        by (Ok all) (inl never) = absurd never
-        by (Err f) (inl same) = subst (λ x. SettledOf (refused (fs_status x) false)) same (refused_settled view q s result t life k (fs_status e) false n head)
-        by found (inr (inl (is, rose))) =
-            fault_settled view q s result t life k (due_listed q.path found) e n (failed_listed view q q.path found) (let f : e ≡ fs.GeneralFailure = cc in f) head
-            (rose_through _ _ _ _ before rose (omega arith))
-        by found (inr (inr is)) = absurd (had (ap Err (let f : e ≡ fs.NoMemory = cc in f)))
+    listing_settled c found (Err e) n m shows before keeps had (inl head) hears = unlisted_settled found e n m (shows.begins m t (Err e) here hears) before had head
 
     course_settled : (co : Course) (r : Result Info FsError) (c : C) (looked opened : WebPath → Result Standing FsError) (listed : WebPath → Result (List Member) FsError) (number : Option ℕ)
         (o : Result Stood FsError) (l : Result (List Member) FsError) (m : S)

@@ -18,6 +18,7 @@ pub mod TableIsHeard
 pub mod MetaAsked
 pub mod HeardIsRight
 pub mod HeardCouldStand
+pub mod HeardEach
 pub mod Pages
 pub mod PageMembers
 pub mod SoundPages

@@ -1,5 +1,5 @@
 -- How often a GET or HEAD asks the disk of a store.
-use Rattle.std.specs.Prelude.{ℕ, List, Result, Ok, Err}
+use Rattle.std.specs.Prelude.{◌≡◌, ℕ, Bool, true, List, Result, Ok, Err}
 use Rattle.dav_io.specs.declared.fields.Field.{Field}
 use Rattle.dav_core.specs.declared.error.FsError.{FsError}
 use Rattle.dav_core.specs.DavPath.{WebPath}
@@ -7,7 +7,7 @@ use Rattle.dav_core.specs.Disk.{DiskState}
 use Rattle.dav_core.specs.Info.{Info}
 use Rattle.dav_core.specs.Options.{reading}
 use Rattle.dav_core.specs.Statuses.{closes, status_of}
-use Rattle.dav_store.specs.Files.{AsksAtMostOnce, AsksOnce}
+use Rattle.dav_store.specs.Files.{AsksAtMostOnce, AsksOnce, AsksToGive}
 use Rattle.dav_store.specs.declared.entry.ReadDirMeta.TheVariants.{Data}
 use Rattle.dav_store.specs.View.{View, Listings}
 use Rattle.dav_model.specs.Conditions.{Fields}
@@ -19,13 +19,15 @@ abbrev pub AsksToOpen : {F : Type 0} → Result F FsError → DiskState → Disk
 AsksToOpen (Ok file) s t = AsksOnce s t
 AsksToOpen (Err e) s t = AsksAtMostOnce s t
 
--- The store asks its disk once to look at a path, and at most once to open it; where it refuses a listing, at most once.
-pub record AsksByOne {S C F L E : Type 0} (view : View S C F) (lists : Listings S C L E) : Type 0 where
-  pub looks : (s t : S) (c : C) (path : WebPath) (r : Result Info FsError) → view.looks s c path r t
-      → AsksOnce (view.state s) (view.state t)
-  pub opens : (s t : S) (c : C) (path : WebPath) (o : Result F FsError) → view.opens s c path reading o t
+-- Where this holds of the store, which a look leaves, the store asks its disk once to look at a path, unless memory is refused,
+-- and at most once to open it; where it refuses a listing, at most once.
+pub record AsksByOne {S C F L E : Type 0} (view : View S C F) (lists : Listings S C L E) (holds : S → Bool) : Type 0 where
+  pub looks : (s t : S) (c : C) (path : WebPath) (r : Result Info FsError) → holds s ≡ true → view.looks s c path r t
+      → AsksToGive r (view.state s) (view.state t)
+  pub stays : (s t : S) (c : C) (path : WebPath) (r : Result Info FsError) → holds s ≡ true → view.looks s c path r t → holds t ≡ true
+  pub opens : (s t : S) (c : C) (path : WebPath) (o : Result F FsError) → holds s ≡ true → view.opens s c path reading o t
       → AsksToOpen o (view.state s) (view.state t)
-  pub refuses_list : (s t : S) (c : C) (path : WebPath) (e : FsError) → lists.lists s c path Data (Err e) t
+  pub refuses_list : (s t : S) (c : C) (path : WebPath) (e : FsError) → holds s ≡ true → lists.lists s c path Data (Err e) t
       → AsksAtMostOnce (view.state s) (view.state t)
 
 -- the status of an answer

@@ -13,7 +13,7 @@ use Rattle.dav_core.specs.Tree.{is_file}
 use Rattle.dav_core.specs.Unchanged.{Keeps}
 use Rattle.dav_page.specs.Listed.{HasPlainName}
 use Rattle.dav_store.specs.declared.entry.ReadDirMeta.TheVariants.{Data}
-use Rattle.dav_store.specs.Files.{IsFault, Spoiled}
+use Rattle.dav_store.specs.Files.{Spoiled}
 use Rattle.dav_store.specs.Frames.{OpensOne}
 use Rattle.dav_store.specs.View.{View, Listings, seen_in, Says}
 use Rattle.dav_model.specs.Due.{Course, Due, Query, IsHead, IsRight, IsUnplaced, course, directing, due, known, listing, opening, page, refused, refusing, to_slash, file as sends}
@@ -127,10 +127,10 @@ module _ {S C F L E : Type 0} (view : View S C F) (lists : Listings S C L E) (q 
 
 -- ---- what was heard, as what could be shown
 
--- What a store refuses a look, an opening and a listing with, where nothing failed.
+-- What a store refuses a look, an opening and a listing with, where nothing failed and memory was had.
 pub record RefusesFew {S C F L E : Type 0} (view : View S C F) (lists : Listings S C L E) : Type 0 where
   pub looks : (s t : S) (c : C) (path : WebPath) (e : FsError) → view.looks s c path (Err e) t
-      → CouldRefuse e ⊎ IsFault {T = Info} (view.state s) (Err e) (view.state t)
+      → CouldRefuse e ⊎ Spoiled {T = Info} (view.state s) (Err e) (view.state t)
   pub opens : (s t : S) (c : C) (path : WebPath) (e : FsError) → view.opens s c path reading (Err e) t
       → CouldRefuse e ⊎ Spoiled {T = F} (view.state s) (Err e) (view.state t)
   pub begins : (s t : S) (c : C) (path : WebPath) (e : FsError) → lists.lists s c path Data (Err e) t

@@ -7,6 +7,7 @@ ghost use Rattle.dav_model.specs.Head.{is_get as the_is_get};
 ghost use Rattle.dav_model.specs.Indexes.{IsIndexReply, page_fields as the_page_fields};
 ghost use Rattle.dav_model.specs.Sizes.{read_size_of};
 ghost use Rattle.dav_page.specs.Listed.{AreSound, HasPlainName};
+ghost use Rattle.dav_store.specs.Leads.{LeadsOn};
 ghost use Rattle.dav_store.specs.View.{the_listings, the_view};
 ghost use Rattle.dav_get.specs.declared.part.BodyPart.TheVariants.{Text as TextPart};
 ghost use Rattle.dav_get.specs.Asked.{asked_of};
@@ -47,6 +48,8 @@ fn list<S: GuardedFileSystem<C>, C>(
         (λ e. IsListing (the_view S.GuardedFileSystem S.Disk.Disk S.File.DavFile)
         (the_listings S.GuardedFileSystem S.Entry.DavDirEntry) (the_is_get asked.now.method) credentials.now
         asked.now.path.now fs.old (Err e) fs.new ⊎ (e ≡ FsError.NoMemory)) }
+    ensures leads { LeadsOn (the_view S.GuardedFileSystem S.Disk.Disk S.File.DavFile)
+        (the_listings S.GuardedFileSystem S.Entry.DavDirEntry) credentials.now fs.old fs.new }
     ensures keeps { Keeps (S.Disk.state (S.inside fs.old)) (S.Disk.state (S.inside fs.new)) }
     ensures loan { S.Disk.loan (S.inside fs.new) ≡ S.Disk.loan (S.inside fs.old) }
     ensures admits { S.admits fs.new }
@@ -148,6 +151,8 @@ fn list_page<S: GuardedFileSystem<C>, C>(
     ensures table { Lists (the_view S.GuardedFileSystem S.Disk.Disk S.File.DavFile)
         (the_listings S.GuardedFileSystem S.Entry.DavDirEntry) (asked_of asked.now) credentials.now fs.old result fs.new
         ⊎ (result ≡ Err DavError.NoMemory) }
+    ensures leads { LeadsOn (the_view S.GuardedFileSystem S.Disk.Disk S.File.DavFile)
+        (the_listings S.GuardedFileSystem S.Entry.DavDirEntry) credentials.now fs.old fs.new }
     ensures life { OpenOnlyHeld (the_view S.GuardedFileSystem S.Disk.Disk S.File.DavFile) fs.old result fs.new }
     ensures most { HasMost (read_size_of asked.now.settings.now.read_buf_size) result }
     ensures loan { S.Disk.loan (S.inside fs.new) ≡ S.Disk.loan (S.inside fs.old) }
@@ -170,6 +175,8 @@ pub(crate) fn get_page<S: GuardedFileSystem<C>, C>(
     ensures table { ByCourse (the_view S.GuardedFileSystem S.Disk.Disk S.File.DavFile)
         (the_listings S.GuardedFileSystem S.Entry.DavDirEntry) (page_course asked.now.settings.now) (asked_of asked.now)
         credentials.now fs.old result fs.new ⊎ (result ≡ Err DavError.NoMemory) }
+    ensures leads { LeadsOn (the_view S.GuardedFileSystem S.Disk.Disk S.File.DavFile)
+        (the_listings S.GuardedFileSystem S.Entry.DavDirEntry) credentials.now fs.old fs.new }
     ensures life { OpenOnlyHeld (the_view S.GuardedFileSystem S.Disk.Disk S.File.DavFile) fs.old result fs.new }
     ensures most { HasMost (read_size_of asked.now.settings.now.read_buf_size) result }
     ensures loan { S.Disk.loan (S.inside fs.new) ≡ S.Disk.loan (S.inside fs.old) }
@@ -213,6 +220,8 @@ pub fn handle_autoindex<S: GuardedFileSystem<C>, C>(
         ⊎ (result ≡ Err DavError.NoMemory) }
     ensures page { (number : ℕ) → OnOk result (IsIndexReply (not head) path.now (AreSound path.now)
         (reply_at [] number result)) }
+    ensures leads { LeadsOn (the_view S.GuardedFileSystem S.Disk.Disk S.File.DavFile)
+        (the_listings S.GuardedFileSystem S.Entry.DavDirEntry) credentials.now fs.old fs.new }
     ensures life { OpenOnlyHeld (the_view S.GuardedFileSystem S.Disk.Disk S.File.DavFile) fs.old result fs.new }
     ensures admits { S.admits fs.new }
     ensures loan { S.Disk.loan (S.inside fs.new) ≡ S.Disk.loan (S.inside fs.old) }

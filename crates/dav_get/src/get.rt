@@ -1,6 +1,6 @@
 //! GET and HEAD over a store. There is one function for each line of the table from which a file is in hand, so that a
 //! file that was opened is always closed or given to a body.
-ghost use Rattle.std.specs.Prelude.{◌≡◌, ◌<◌, ◌⊎◌, ℕ, List, true, false, IsSome, Some, Result, Ok, Err};
+ghost use Rattle.std.specs.Prelude.{◌≡◌, ◌<◌, ◌⊎◌, ℕ, Bool, List, true, false, IsSome, Some, Result, Ok, Err};
 ghost use Rattle.dav_core.specs.declared.error.FsError.{FsError};
 ghost use Rattle.dav_core.specs.declared.member.Member.{Member};
 ghost use Rattle.dav_core.specs.DavPath.{WebPath};
@@ -13,6 +13,7 @@ ghost use Rattle.dav_model.specs.Calls.{AsksUnlessKnown};
 ghost use Rattle.dav_model.specs.Due.{dir_course, index_course, query};
 ghost use Rattle.dav_model.specs.Head.{is_set, is_well_known as the_is_well_known};
 ghost use Rattle.dav_model.specs.Sizes.{read_size_of};
+ghost use Rattle.dav_store.specs.Leads.{LeadsOn};
 ghost use Rattle.dav_store.specs.Standing.{Seen, Standing};
 ghost use Rattle.dav_store.specs.View.{the_listings, the_view, Closes};
 ghost use Rattle.dav_get.specs.Asked.{asked_of};
@@ -339,6 +340,8 @@ fn open_file<S: GuardedFileSystem<C>, C>(
 ) -> Given<S::File>
     ensures table { Opens (the_view S.GuardedFileSystem S.Disk.Disk S.File.DavFile)
         (asked_of asked.now) credentials.now fs.old result fs.new }
+    ensures leads { LeadsOn (the_view S.GuardedFileSystem S.Disk.Disk S.File.DavFile)
+        (the_listings S.GuardedFileSystem S.Entry.DavDirEntry) credentials.now fs.old fs.new }
     ensures life { OpenOnlyHeld (the_view S.GuardedFileSystem S.Disk.Disk S.File.DavFile) fs.old result fs.new }
     ensures most { HasMost (read_size_of asked.now.settings.now.read_buf_size) result }
     ensures loan { S.Disk.loan (S.inside fs.new) ≡ S.Disk.loan (S.inside fs.old) }
@@ -362,6 +365,8 @@ fn get_index<S: GuardedFileSystem<C>, C>(
         (the_listings S.GuardedFileSystem S.Entry.DavDirEntry)
         (index_course (asked_of asked.now) (Some name.now)) (asked_of asked.now) credentials.now fs.old result fs.new
         ⊎ (result ≡ Err DavError.NoMemory) }
+    ensures leads { LeadsOn (the_view S.GuardedFileSystem S.Disk.Disk S.File.DavFile)
+        (the_listings S.GuardedFileSystem S.Entry.DavDirEntry) credentials.now fs.old fs.new }
     ensures life { OpenOnlyHeld (the_view S.GuardedFileSystem S.Disk.Disk S.File.DavFile) fs.old result fs.new }
     ensures most { HasMost (read_size_of asked.now.settings.now.read_buf_size) result }
     ensures loan { S.Disk.loan (S.inside fs.new) ≡ S.Disk.loan (S.inside fs.old) }
@@ -396,6 +401,8 @@ fn get_dir<S: GuardedFileSystem<C>, C>(
         (the_listings S.GuardedFileSystem S.Entry.DavDirEntry)
         (dir_course (asked_of asked.now) asked.now.path.now.slash) (asked_of asked.now) credentials.now fs.old result
         fs.new ⊎ (result ≡ Err DavError.NoMemory) }
+    ensures leads { LeadsOn (the_view S.GuardedFileSystem S.Disk.Disk S.File.DavFile)
+        (the_listings S.GuardedFileSystem S.Entry.DavDirEntry) credentials.now fs.old fs.new }
     ensures life { OpenOnlyHeld (the_view S.GuardedFileSystem S.Disk.Disk S.File.DavFile) fs.old result fs.new }
     ensures most { HasMost (read_size_of asked.now.settings.now.read_buf_size) result }
     ensures loan { S.Disk.loan (S.inside fs.new) ≡ S.Disk.loan (S.inside fs.old) }
@@ -427,6 +434,8 @@ fn look<S: GuardedFileSystem<C>, C>(
     ensures table { ByWellKnown (the_view S.GuardedFileSystem S.Disk.Disk S.File.DavFile)
         (the_listings S.GuardedFileSystem S.Entry.DavDirEntry) false
         (asked_of asked.now) credentials.now fs.old result fs.new ⊎ (result ≡ Err DavError.NoMemory) }
+    ensures leads { LeadsOn (the_view S.GuardedFileSystem S.Disk.Disk S.File.DavFile)
+        (the_listings S.GuardedFileSystem S.Entry.DavDirEntry) credentials.now fs.old fs.new }
     ensures life { OpenOnlyHeld (the_view S.GuardedFileSystem S.Disk.Disk S.File.DavFile) fs.old result fs.new }
     ensures most { HasMost (read_size_of asked.now.settings.now.read_buf_size) result }
     ensures loan { S.Disk.loan (S.inside fs.new) ≡ S.Disk.loan (S.inside fs.old) }
@@ -474,7 +483,7 @@ fn is_well_known(asked: &Asked<'_>) -> bool
 /// none. `heard` says, of any store, that the answer is right for what its look and its opening or listing answered;
 /// `right`, that it is right for what the store shows at the path, and at the one that is opened or listed for what
 /// stands there, unless a fault was met. Either way memory may be refused. `asks` says, of a store that looks and opens
-/// by one call each, how many calls of the disk it takes, where no page is given.
+/// by one call each, as it is now, how many calls of the disk it takes, where no page is given.
 pub fn handle_get<S: GuardedFileSystem<C>, C>(
     alloc: Global,
     settings: &Settings,
@@ -500,11 +509,13 @@ pub fn handle_get<S: GuardedFileSystem<C>, C>(
         (query settings.now fields.now method path.now) looked opened listed
         → (result ≡ Err DavError.NoMemory) ⊎ IsRightFor (the_view S.GuardedFileSystem S.Disk.Disk S.File.DavFile)
         (query settings.now fields.now method path.now) looked opened listed fs.old result fs.new }
-    ensures asks { AsksByOne (the_view S.GuardedFileSystem S.Disk.Disk S.File.DavFile)
-        (the_listings S.GuardedFileSystem S.Entry.DavDirEntry)
+    ensures asks { (holds : S → Bool) → AsksByOne (the_view S.GuardedFileSystem S.Disk.Disk S.File.DavFile)
+        (the_listings S.GuardedFileSystem S.Entry.DavDirEntry) holds → holds fs.old ≡ true
         → (result ≡ Err DavError.NoMemory) ⊎ AsksUnlessKnown (the_is_well_known settings.now method path.now)
         (is_set settings.now.redirect) (status_given result) (fields_given fields.now result)
         (S.Disk.state (S.inside fs.old)).asked (S.Disk.state (S.inside fs.new)).asked }
+    ensures leads { LeadsOn (the_view S.GuardedFileSystem S.Disk.Disk S.File.DavFile)
+        (the_listings S.GuardedFileSystem S.Entry.DavDirEntry) credentials.now fs.old fs.new }
     ensures life { OpenOnlyHeld (the_view S.GuardedFileSystem S.Disk.Disk S.File.DavFile) fs.old result fs.new }
     ensures most { HasMost (read_size_of settings.now.read_buf_size) result }
     ensures loan { S.Disk.loan (S.inside fs.new) ≡ S.Disk.loan (S.inside fs.old) }
@@ -530,6 +541,8 @@ fn get_once<S: GuardedFileSystem<C>, C>(
     ensures table { Gets (the_view S.GuardedFileSystem S.Disk.Disk S.File.DavFile)
         (the_listings S.GuardedFileSystem S.Entry.DavDirEntry)
         (asked_of asked.now) credentials.now fs.old result fs.new ⊎ (result ≡ Err DavError.NoMemory) }
+    ensures leads { LeadsOn (the_view S.GuardedFileSystem S.Disk.Disk S.File.DavFile)
+        (the_listings S.GuardedFileSystem S.Entry.DavDirEntry) credentials.now fs.old fs.new }
     ensures life { OpenOnlyHeld (the_view S.GuardedFileSystem S.Disk.Disk S.File.DavFile) fs.old result fs.new }
     ensures most { HasMost (read_size_of asked.now.settings.now.read_buf_size) result }
     ensures loan { S.Disk.loan (S.inside fs.new) ≡ S.Disk.loan (S.inside fs.old) }

@@ -131,12 +131,12 @@ memory_there (Ok all) s t e is = inr (ap Err is)
 memory_there (Err f) s t e is = inr (inr (ap Err is))
 
 module _ {S C F L E : Type 0} (view : View S C F) (lists : Listings S C L E) where
-  ends_there : (all : List Member) (answers : List Answered) (last : Result (Option E) FsError) (s t : S) (from : ℕ) → Stops last → EndsThere view lists all answers last s t
-      → from ≤ (view.state s).faults → (length answers ≡ length all) ⊎ Rose from (view.state t).faults
-  ends_there all answers (Ok None) s t from stops long le = inl long
-  ends_there all answers (Ok (Some entry)) s t from stops long le = absurd stops
-  ends_there all answers (Err e) s t from stops (inl fault) le = inr (rose_from from (view.state s).faults (view.state t).faults le fault.1)
-  ends_there all answers (Err e) s t from stops (inr memory) le = absurd (stops cc)
+  ends_there : (all : List Member) (answers : List Answered) (last : Result (Option E) FsError) (s t : S) → Stops last → EndsThere view lists all answers last s t
+      → (length answers ≡ length all) ⊎ Rose (view.state s).faults (view.state t).faults
+  ends_there all answers (Ok None) s t stops long = inl long
+  ends_there all answers (Ok (Some entry)) s t stops long = absurd stops
+  ends_there all answers (Err e) s t stops (inl fault) = inr fault.1
+  ends_there all answers (Err e) s t stops (inr memory) = absurd (stops cc)
 
   pub listed_there : (found : Result (List Member) FsError) (s : S) (c : C) (path : WebPath) (members : List Member) (t : S) (l : WasListed view lists s c path members t)
       → ShowsMembers view lists s c path found → (view.state s).faults ≤ (view.state l.begin).faults → (view.state l.after).faults ≤ (view.state t).faults
@@ -146,8 +146,7 @@ module _ {S C F L E : Type 0} (view : View S C F) (lists : Listings S C L E) whe
       let w = l.walks in
       let of = shows.walks all refl s l.begin w.place l.listing w.left w.answers here l.begins w.walk in
       let ends = shows.ends all refl s l.begin w.place l.after l.listing w.left l.over w.answers w.last here l.begins w.walk w.ends in
-      let first : (view.state s).faults ≤ (view.state w.place).faults = omega (arith, le, w.from) in
-      let why = ends_there all w.answers w.last w.place l.after (view.state s).faults w.stops ends first in
+      let why = ends_there all w.answers w.last s l.after w.stops ends in
       rw w.told (reads_there all (view.state s).faults (view.state w.place).faults (view.state t).faults w.answers of (omega (arith, w.on, on)) (later (view.state s).faults (view.state l.after).faults (view.state t).faults w.answers why on))
     where
       later : (from last end : ℕ) (answers : List Answered) → (length answers ≡ length all) ⊎ Rose from last → last ≤ end → (length answers ≡ length all) ⊎ Rose from end

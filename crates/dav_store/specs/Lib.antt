@@ -9,3 +9,4 @@ pub mod Members
 pub mod Void
 pub mod OneBody
 pub mod Reached
+pub mod Leads

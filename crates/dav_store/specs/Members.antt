@@ -107,7 +107,8 @@ module _ {S C F L E : Type 0} (view : View S C F) (lists : Listings S C L E) whe
     pub walks : WalksOut begin listing members after over
     pub ended : lists.ends_list after over t
 
-  -- None comes where all were given, and an error of a fault or want of memory.
+  -- None comes where all were given, and an error of want of memory, or of a fault that was met since the count of the first
+  -- store: a store may read ahead, and tell a fault later.
   abbrev pub EndsThere : List Member → List Answered → Result (Option E) FsError → S → S → Type 0
   EndsThere all answers (Ok None) s t = length answers ≡ length all
   EndsThere all answers (Ok (Some entry)) s t = Unit {0}
@@ -119,4 +120,4 @@ module _ {S C F L E : Type 0} (view : View S C F) (lists : Listings S C L E) whe
     pub walks : (all : List Member) → found ≡ Ok all → (m n o : S) (l k : L) (answers : List Answered) → Looked view s c m → lists.lists m c path Data (Ok l) n
         → Walked n l answers o k → AreOf all (view.state m).faults (view.state o).faults answers
     pub ends : (all : List Member) → found ≡ Ok all → (m n o p : S) (l k j : L) (answers : List Answered) (r : Result (Option E) FsError) → Looked view s c m
-        → lists.lists m c path Data (Ok l) n → Walked n l answers o k → lists.lists_on o k r p j → EndsThere all answers r o p
+        → lists.lists m c path Data (Ok l) n → Walked n l answers o k → lists.lists_on o k r p j → EndsThere all answers r m p

@@ -27,5 +27,5 @@ returns-clause-right g c = λ looked opened listed shows.
     ]
 
 pub returns-clause-asks : goal.returns-clause-asks
-returns-clause-asks g c = λ few.
-    gets_asks (the_view g.S.GuardedFileSystem g.S.Disk.Disk g.S.File.DavFile) (the_listings g.S.GuardedFileSystem g.S.Entry.DavDirEntry) (query c.args.settings.now c.args.fields.now c.args.method c.args.path.now) few c.args.credentials.now c.args.fs.now c.get_once.result c.get_once.new.fs c.get_once.ensures.life c.get_once.ensures.table
+returns-clause-asks g c = λ holds few here.
+    gets_asks (the_view g.S.GuardedFileSystem g.S.Disk.Disk g.S.File.DavFile) (the_listings g.S.GuardedFileSystem g.S.Entry.DavDirEntry) (query c.args.settings.now c.args.fields.now c.args.method c.args.path.now) holds few c.args.credentials.now c.args.fs.now c.get_once.result c.get_once.new.fs here c.get_once.ensures.life c.get_once.ensures.table

@@ -1,7 +1,9 @@
 use Rattle.std.proofs.Common.{Err, subst, arith}
+use Rattle.dav_store.specs.Leads.{begins, ends, none}
 use Rattle.dav_store.specs.Listings.{EndsList}
 use Rattle.dav_store.specs.Shows.{here}
 use Rattle.dav_store.specs.View.{the_listings, the_view}
+use Rattle.dav_store.proofs.Leading.{leads_then}
 use Rattle.dav_store.proofs.Reading.{refuses_there, shown_by}
 use Rattle.dav_store.proofs.Walking.{walk_leaves}
 use Rattle.dav_store.proofs.members.read_members.Goals as goal
@@ -22,3 +24,13 @@ returns-clause-keeps g c =
     (g.S.Disk.Disk.state (g.S.GuardedFileSystem.inside c.end_dir.new.self)))
     c.read_on-members.ensures.lister c.end_dir.ensures.ends in
     walk_leaves (g.S.GuardedFileSystem.lister c.in-Ok.dir) _ _ _ _ c.in-Ok.ensures.one c.read_on-members.ensures.keeps ended
+
+pub returns-in-Err-clause-leads : goal.returns-in-Err-clause-leads
+returns-in-Err-clause-leads g c = begins _ _ _ _ none c.in-Err.ensures.done
+
+pub returns-clause-leads : goal.returns-clause-leads
+returns-clause-leads g c =
+    ends _ _ _
+    (leads_then (the_view g.S.GuardedFileSystem g.S.Disk.Disk g.S.File.DavFile) (the_listings g.S.GuardedFileSystem g.S.Entry.DavDirEntry) c.args.credentials.now _ _ _
+    (begins _ _ _ _ none c.in-Ok.ensures.done) (c.read_on-members.ensures.leads c.args.credentials.now))
+    c.end_dir.ensures.done

@@ -1,4 +1,5 @@
 use Rattle.std.proofs.Common.{[], ◌++◌, ◌∷◌, refl, ◌∙◌}
+use Rattle.dav_store.specs.Leads.{goes_on, lends, none}
 use Rattle.dav_store.specs.Members.{begun, goes}
 use Rattle.dav_store.proofs.Reading.{lister_kept, step_keeps, told_then}
 use Rattle.dav_store.proofs.Walking.{walk_same}
@@ -13,6 +14,7 @@ entries-init g c = record {
   loan = refl;
   walk = ([], begun, c.new-members.ensures.items);
   plain = rw c.new-members.ensures.items tt;
+  leads = λ who. none;
 }
 
 pub entries-preserved : goal.entries-preserved
@@ -36,8 +38,21 @@ entries-preserved g c =
         told_then answers name r c.entries.members.items c.add_member.new.members.items added.told.2 before.walk.2,
       );
       plain = added.plain before.plain;
+      leads = λ who. lends _ _ (goes_on _ _ _ _ _ (before.leads who) c.next_entry.ensures.done) added.store;
     }
 
 pub returns-in_default-clause-keeps : goal.returns-in_default-clause-keeps
 returns-in_default-clause-keeps g c =
     step_keeps _ _ _ _ _ _ c.entries.invariant.lister c.entries.invariant.keeps c.next_entry.ensures.goes_on.keeps c.add_member.ensures.keeps
+
+pub returns-in_default-clause-leads : goal.returns-in_default-clause-leads
+returns-in_default-clause-leads g c = λ who. lends _ _ (goes_on _ _ _ _ _ (c.entries.invariant.leads who) c.next_entry.ensures.done) c.add_member.ensures.store
+
+pub returns-in-Ok-None-clause-leads : goal.returns-in-Ok-None-clause-leads
+returns-in-Ok-None-clause-leads g c = λ who. goes_on _ _ _ _ _ (c.entries.invariant.leads who) c.next_entry.ensures.done
+
+pub returns-in-Err-NoMemory-clause-leads : goal.returns-in-Err-NoMemory-clause-leads
+returns-in-Err-NoMemory-clause-leads g c = λ who. goes_on _ _ _ _ _ (c.entries.invariant.leads who) c.next_entry.ensures.done
+
+pub returns-in-Err-clause-leads : goal.returns-in-Err-clause-leads
+returns-in-Err-clause-leads g c = λ who. goes_on _ _ _ _ _ (c.entries.invariant.leads who) c.next_entry.ensures.done
