@@ -41,7 +41,7 @@ last_parted p some =
     let (last, is) = one_name (drop (length p - 1) p) long in
     (last, rest ∙ ap (λ z. parent_of p ++ z) is)
 
-none_at : (rows : List Row) (p : Names) → ((r : Row) → In r rows → r.path ≡ p → ⊥) → row_at rows p ≡ None
+pub none_at : (rows : List Row) (p : Names) → ((r : Row) → In r rows → r.path ≡ p → ⊥) → row_at rows p ≡ None
 none_at rows p none = by (row_at rows p) refl
   where
     by : (o : Option Row) → row_at rows p ≡ o → o ≡ None

@@ -40,3 +40,4 @@ mod CopyDone
 mod Leaving
 mod CarryRows
 pub mod CopiesListed
+mod WritesLead

@@ -41,7 +41,7 @@ module _ {S C F L E : Type 0} (view : View S C F) (lists : Listings S C L E) whe
   pub entry_refused : (s t : S) (l over : L) (path : WebPath) (answers : List Answered) (name : List ℕ) (r : Result Info FsError) (old new : List Child) (e : FsError)
       → ToldSoFar path answers old → Walked view lists s l (answers ++ record { name = name; meta = r } ∷ []) t over → AddsChild path name r old (Err e) new
       → ReadRefused view lists s l e t over
-  entry_refused s t l over path answers name r old new e far walk (inr none) = inl none
+  entry_refused s t l over path answers name r old new e far walk (inr none) = inl (none, answers ++ record { name = name; meta = r } ∷ [], walk)
   entry_refused s t l over path answers name r old new e far walk (inl is) =
       inr (inr (answers, name, far.said, subst (λ x. Walked view lists s l (answers ++ record { name = name; meta = x } ∷ []) t over) is walk))
 

@@ -1,5 +1,5 @@
 -- The last act of a MOVE: what stands at the source is moved where nothing stands.
-use Rattle.std.proofs.Common.{◌≡◌, ◌≤◌, ◌<◌, List, [], ◌∷◌, length, Bool, true, false, not, cond, Some, Result, Ok, Err, refl, sym, ap, subst, ◌∙◌}
+use Rattle.std.proofs.Common.{◌≡◌, ◌≤◌, ◌<◌, List, [], ◌∷◌, length, Bool, true, false, not, cond, None, Some, Result, Ok, Err, refl, sym, ap, subst, ◌∙◌}
 use Rattle.dav_io.proofs.ToldLemmas.{both_map}
 use Rattle.dav_core.specs.declared.error.FsError.{FsError}
 use Rattle.dav_core.specs.declared.tree.Row.{Row}
@@ -9,7 +9,7 @@ use Rattle.dav_core.specs.DavPath.{WebPath}
 use Rattle.dav_core.specs.Edits.{moves}
 use Rattle.dav_core.specs.Info.{Info}
 use Rattle.dav_core.specs.Path.{Names, is_front, parent_of}
-use Rattle.dav_core.specs.Tree.{is_linked}
+use Rattle.dav_core.specs.Tree.{is_linked, row_at}
 use Rattle.dav_core.specs.World.{World}
 use Rattle.dav_store.specs.View.{Listings, View}
 use Rattle.dav_model.specs.declared.asked.Asked.{Asked}
@@ -30,7 +30,7 @@ use Rattle.dav_methods.proofs.ActsJoined.{Comes, FillsNone}
 use Rattle.dav_methods.proofs.CallDone.{call_comes}
 use Rattle.dav_methods.proofs.Beside.{Apart, dir_stays, not_in_parent, parts_without, unlinked_from}
 use Rattle.dav_methods.proofs.CarryRight.{Carry, GoesRight, Prepared, Prepares, Readies, Ready, some_from, some_to}
-use Rattle.dav_methods.proofs.FreePlaces.{Free, moving_free}
+use Rattle.dav_methods.proofs.FreePlaces.{Free, moving_free, none_at, none_of_free}
 use Rattle.dav_methods.proofs.RemovalWork.{not_false}
 use Rattle.dav_methods.proofs.TreeRows.{DirAt, Parts, filter_in, front_itself, in_filter, not_true, parts_of}
 use Rattle.dav_methods.proofs.WalkOrder.{In}
@@ -111,6 +111,7 @@ module _ {S C F L E : Type 0} (view : View S C F) (lists : Listings S C L E) (wr
   moved_right : (x : Carry view lists writes c asked) (found : Result Info FsError) (moved : Result Unit FsError) (m t : S) (v u w : World) → Prepares view lists writes c asked x found v → Readies view lists writes c asked x v u
       → (view.state x.s).faults ≤ (view.state m).faults
       → (is_linked u.tree (resolved (plain_rules x.settings) u.tree x.ask.path.names) ≡ false → is_linked u.tree (resolved (plain_rules x.settings) u.tree asked.to.names) ≡ false
+      → row_at u.tree (resolved (plain_rules x.settings) u.tree asked.to.names) ≡ None
       → Calls view lists writes c (moving u.tree (resolved (plain_rules x.settings) u.tree x.ask.path.names) (resolved (plain_rules x.settings) u.tree asked.to.names)) m moved t u w)
       → FillsNone (carrying true (plain_rules x.settings) v x.ask.path asked) × Comes view x.ask.fields x.s (line_of moved) (carrying true (plain_rules x.settings) v x.ask.path asked) t u w
   moved_right x found moved m t v u w p (ready, vacant) le calls =
@@ -126,7 +127,8 @@ module _ {S C F L E : Type 0} (view : View S C F) (lists : Listings S C L E) (wr
             (call_comes view lists writes c x.ask.fields x.s (moving u.tree (resolved (plain_rules settings) u.tree x.ask.path.names) (resolved (plain_rules settings) u.tree asked.to.names))
             (moves x.ask.path.names asked.to.names) m t moved u w resolves le
             (calls (ap (is_linked u.tree) (plain_resolved settings u.tree x.ask.path.names) ∙ links_now x.ask.path asked.to v u x.ask.path.names ready p.from_clear)
-            (ap (is_linked u.tree) (plain_resolved settings u.tree asked.to.names) ∙ links_now x.ask.path asked.to v u asked.to.names ready p.to_clear))),
+            (ap (is_linked u.tree) (plain_resolved settings u.tree asked.to.names) ∙ links_now x.ask.path asked.to v u asked.to.names ready p.to_clear)
+            (ap (row_at u.tree) (plain_resolved settings u.tree asked.to.names) ∙ none_at u.tree asked.to.names (none_of_free asked.to.names u.tree ready.free)))),
       )
 
   -- The last act of a MOVE comes to what its plan says.

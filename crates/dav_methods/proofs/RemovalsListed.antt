@@ -18,7 +18,7 @@ use Rattle.dav_methods.specs.declared.work.Work.TheVariants.{Emptied, Whole}
 use Rattle.dav_methods.specs.Answers.{RefusesUsually, Usual}
 use Rattle.dav_methods.specs.Lines.{Given, Line, fails_when, is_dir_there, may_delete, silent}
 use Rattle.dav_methods.specs.Pouring.{Writes}
-use Rattle.dav_methods.specs.Reading.{HasMembers, HasNoMembers, ReadRefused}
+use Rattle.dav_methods.specs.Reading.{HasMembers, HasNoMembers, MembersUnread, ReadRefused}
 use Rattle.dav_methods.specs.Removing.{Deletes, LooksAtLink, Removes, RemovesAll, RemovesOne, goes, is_root, line_of, stops, done as no_work, short as cut_short}
 use Rattle.dav_methods.specs.Table.{Run, Unless}
 use Rattle.dav_methods.proofs.AnswersListed.{AnswersWell, Fine, IsListed, RunsWell, delete_fine, fs_listed, listed_more, not_500, unless_fine, well_short, well_unless, when_fine}
@@ -63,43 +63,41 @@ module _ {S C F L E : Type 0} (view : View S C F) (lists : Listings S C L E) (wr
   walk_counts : (m : S) (l : L) (n : S) (k : L) (answers : List Answered) → Walked view lists m l answers n k → Counts m n
   walk_counts m l n k answers begun = omega arith
   walk_counts m l n k answers (walk_goes before a b o i j e r walk on said lent keeps) =
-      omega (arith, walk_counts m l a i before walk, (few.goes_on a b i j (Ok (Some e)) on).counts, keeps.counts)
+      omega (arith, walk_counts m l a i before walk, few.goes_counts a b i j (Ok (Some e)) on, keeps.counts)
 
   pub members_count : (path : WebPath) (members : List Child) (s t : S) → HasMembers view lists s c path members t → Counts s t
   members_count path members s t has =
       let was = has.was in
       let first = few.begins s was.begin path DataSymlink (Ok was.listing) was.begins in
       let walked = walk_counts was.begin was.listing was.reads.place was.reads.left was.reads.answers was.reads.walk in
-      let last = few.goes_on was.reads.place was.after was.reads.left was.over (Ok None) was.reads.ends in
-      omega (arith, first.counts, walked, last.counts, few.ends was.after t was.over was.ended)
+      let last = few.goes_counts was.reads.place was.after was.reads.left was.over (Ok None) was.reads.ends in
+      omega (arith, first.counts, walked, last, few.ends was.after t was.over was.ended)
 
   -- the last entry of a walk was refused
-  entry_listed : (m : S) (l : L) (n : S) (k : L) (all : List Answered) → Walked view lists m l all n k → (answers : List Answered) (name : List ℕ) (e : FsError)
-      → all ≡ answers ++ record { name = name; meta = Err e } ∷ [] → IsListed (Rises m n) (of_fs e)
-  entry_listed m l n k all begun answers name e is = absurd (none_last answers (record { name = name; meta = Err e }) is)
-  entry_listed m l n k all (walk_goes before a b o i j entry r walk on said lent keeps) answers name e is =
+  entry_listed : (s m : S) (path : WebPath) (l : L) → lists.lists s c path DataSymlink (Ok l) m → (n : S) (k : L) (all : List Answered) → Walked view lists m l all n k
+      → (answers : List Answered) (name : List ℕ) (e : FsError) → all ≡ answers ++ record { name = name; meta = Err e } ∷ [] → IsListed (Rises s n) (of_fs e)
+  entry_listed s m path l begins n k all begun answers name e is = absurd (none_last answers (record { name = name; meta = Err e }) is)
+  entry_listed s m path l begins n k all (walk_goes before a b o i j entry r walk on said lent keeps) answers name e is =
       let same = last_same before answers (record { name = lists.called entry; meta = r }) (record { name = name; meta = Err e }) is in
       let refused : r ≡ Err e = ap (λ (x : Answered). x.meta) same in
-      let usual = few.says a b o i j entry r on said in
-      listed_wider m a o o (of_fs e) (walk_counts m l a i before walk) (omega arith)
-      (usual_listed {T = Info} a o e (subst (λ x. Usual (view.state a) x (view.state o)) refused usual))
+      let usual = few.says s m a b o path DataSymlink l i j before entry r begins walk on said in
+      usual_listed {T = Info} s o e (subst (λ x. Usual (view.state s) x (view.state o)) refused usual)
 
-  read_listed : (b : S) (l : L) (e : FsError) (a : S) (over : L) → ReadRefused view lists b l e a over → IsListed (Rises b a) (of_fs e)
-  read_listed b l e a over (inl none) = short_listed b a e none
-  read_listed b l e a over (inr (inl (answers, place, left, walk, said, on))) =
-      listed_wider b place a a (of_fs e) (walk_counts b l place left answers walk) (omega arith) (usual_listed {T = Option E} place a e (few.goes_on place a left over (Err e) on))
-  read_listed b l e a over (inr (inr (answers, name, said, walk))) = entry_listed b l a over _ walk answers name e refl
+  read_listed : (s b : S) (path : WebPath) (l : L) → lists.lists s c path DataSymlink (Ok l) b → (e : FsError) (a : S) (over : L) → ReadRefused view lists b l e a over
+      → IsListed (Rises s a) (of_fs e)
+  read_listed s b path l begins e a over (inl (none, answers, walk)) = short_listed s a e none
+  read_listed s b path l begins e a over (inr (inl (answers, place, left, walk, said, on))) =
+      usual_listed {T = Option E} s a e (few.goes_on s b place a path DataSymlink l left over answers (Err e) begins walk on)
+  read_listed s b path l begins e a over (inr (inr (answers, name, said, walk))) = entry_listed s b path l begins a over _ walk answers name e refl
 
   pub unread_listed : (path : WebPath) (e : FsError) (s t : S) → HasNoMembers view lists s c path e t → IsListed (Rises s t) (of_fs e)
   unread_listed path e s t has = by has.why
     where
-      by : (e ≡ fs.NoMemory) ⊎ (lists.lists s c path DataSymlink (Err e) t
-          ⊎ ((begin after : S) × (listing over : L) × lists.lists s c path DataSymlink (Ok listing) begin × ReadRefused view lists begin listing e after over × lists.ends_list after over t))
-          → IsListed (Rises s t) (of_fs e)
-      by (inl none) = short_listed s t e none
+      by : MembersUnread view lists s c path e t → IsListed (Rises s t) (of_fs e)
+      by (inl (none, listed, was)) = short_listed s t e none
       by (inr (inl refused)) = usual_listed {T = L} s t e (few.begins s t path DataSymlink (Err e) refused)
       by (inr (inr (begin, after, listing, over, begins, refused, ended))) =
-          listed_wider s begin after t (of_fs e) (few.begins s begin path DataSymlink (Ok listing) begins).counts (few.ends after t over ended) (read_listed begin listing e after over refused)
+          listed_wider s s after t (of_fs e) (omega arith) (few.ends after t over ended) (read_listed s begin path listing begins e after over refused)
 
   -- ---- work
 

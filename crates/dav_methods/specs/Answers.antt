@@ -9,6 +9,7 @@ use Rattle.dav_core.specs.Disk.{DiskState}
 use Rattle.dav_core.specs.Info.{Info}
 use Rattle.dav_core.specs.Statuses.{lacks_memory, status_of}
 use Rattle.dav_store.specs.declared.entry.ReadDirMeta.{ReadDirMeta}
+use Rattle.dav_store.specs.Members.{Answered, Walked}
 use Rattle.dav_store.specs.View.{View, Listings}
 use Rattle.dav_model.specs.WellFormed.{is_among}
 use Rattle.dav_model.specs.Written.{halt_statuses}
@@ -53,9 +54,15 @@ module _ {S C F L E : Type 0} (view : View S C F) (lists : Listings S C L E) (wr
     pub renames : (s t : S) (from to : WebPath) (r : Result Unit FsError) → view.renames s c from to r t → UsualIn s r t
     pub copies : (s t : S) (from to : WebPath) (r : Result Unit FsError) → view.copies s c from to r t → UsualIn s r t
     pub begins : (s t : S) (path : WebPath) (how : ReadDirMeta) (r : Result L FsError) → lists.lists s c path how r t → UsualIn s r t
-    pub goes_on : (s t : S) (l k : L) (r : Result (Option E) FsError) → lists.lists_on s l r t k → UsualIn s r t
-    -- (an entry that was given just now; what it tells may have been asked when it was given)
-    pub says : (s m t : S) (l k : L) (e : E) (r : Result Info FsError) → lists.lists_on s l (Ok (Some e)) m k → lists.says e (view.state m) r (view.state t) → UsualIn s r t
+    -- What a listing gives, and what an entry of it tells, ends so by what was met since the listing was begun: a store may read
+    -- ahead, and tell a fault later.
+    pub goes_on : (b n s t : S) (path : WebPath) (how : ReadDirMeta) (first l k : L) (answers : List Answered) (r : Result (Option E) FsError)
+        → lists.lists b c path how (Ok first) n → Walked view lists n first answers s l → lists.lists_on s l r t k → UsualIn b r t
+    pub says : (b n s m t : S) (path : WebPath) (how : ReadDirMeta) (first l k : L) (answers : List Answered) (e : E) (r : Result Info FsError)
+        → lists.lists b c path how (Ok first) n → Walked view lists n first answers s l → lists.lists_on s l (Ok (Some e)) m k
+        → lists.says e (view.state m) r (view.state t) → UsualIn b r t
+    pub goes_counts : (s t : S) (l k : L) (r : Result (Option E) FsError) → lists.lists_on s l r t k → (view.state s).faults ≤ (view.state t).faults
+    pub says_counts : (s t : S) (e : E) (r : Result Info FsError) → lists.says e (view.state s) r (view.state t) → (view.state s).faults ≤ (view.state t).faults
     pub ends : (s t : S) (l : L) → lists.ends_list s l t → (view.state s).faults ≤ (view.state t).faults
 
 -- ---- answers

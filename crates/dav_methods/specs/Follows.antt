@@ -1,6 +1,6 @@
 -- A store that stands over a told disk by rules: what each of its calls does to the told world. Where a link stands on the way to a
 -- path nothing is said.
-use Rattle.std.specs.Prelude.{◌≤◌, ◌≡◌, ◌⊎◌, ◌+◌, ℕ, List, [], map, take, length, Bool, true, false, Option, Some, Result, Ok, Err}
+use Rattle.std.specs.Prelude.{◌≤◌, ◌≡◌, ◌⊎◌, ◌+◌, ℕ, List, [], map, take, length, Bool, true, false, Option, None, Some, Result, Ok, Err}
 use Rattle.std.specs.List.{filter}
 use Rattle.dav_io.specs.Counts.{Rose}
 use Rattle.dav_io.specs.Told.{Both}
@@ -149,9 +149,11 @@ module _ {S C F L E : Type 0} (view : View S C F) (lists : Listings S C L E) (wr
     pub removes_file : (m n : S) (path : WebPath) (r : Result Unit FsError) → Reached s m → view.removes_file m c path r n
         → Told m n (λ v w. path.slash ≡ false → is_linked v.tree (resolved rules v.tree path.names) ≡ false
         → Calls (taking_file v.tree (resolved rules v.tree path.names)) m r n v w)
+    -- (where nothing stands at the destination: a store may make two edits of a move that replaces)
     pub renames : (m n : S) (from to : WebPath) (r : Result Unit FsError) → Reached s m → view.renames m c from to r n
         → Told m n (λ v w. is_linked v.tree (resolved rules v.tree from.names) ≡ false
         → is_linked v.tree (resolved rules v.tree to.names) ≡ false
+        → row_at v.tree (resolved rules v.tree to.names) ≡ None
         → Calls (moving v.tree (resolved rules v.tree from.names) (resolved rules v.tree to.names)) m r n v w)
     pub copies : (m n : S) (from to : WebPath) (r : Result Unit FsError) → Reached s m → view.copies m c from to r n
         → Told m n (λ v w. is_linked v.tree (resolved rules v.tree from.names) ≡ false

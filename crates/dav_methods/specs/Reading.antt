@@ -55,9 +55,9 @@ module _ {S C F L E : Type 0} (view : View S C F) (lists : Listings S C L E) whe
     pub ends : lists.lists_on place left (Ok None) t over
     pub told : members ≡ children_said path answers
 
-  -- The listing, or an entry that was asked for its metadata, was refused; or memory was.
+  -- The listing, or an entry that was asked for its metadata, was refused; or memory was, behind some entries.
   abbrev pub ReadRefused : S → L → FsError → S → L → Type 0
-  ReadRefused s l e t over = (e ≡ NoMemory)
+  ReadRefused s l e t over = ((e ≡ NoMemory) × (answers : List Answered) × Walked view lists s l answers t over)
       ⊎ (((answers : List Answered) × (place : S) × (left : L) × Walked view lists s l answers place left × AllSaid answers × lists.lists_on place left (Err e) t over)
       ⊎ ((answers : List Answered) × (name : List ℕ) × AllSaid answers × Walked view lists s l (answers ++ record { name = name; meta = Err e } ∷ []) t over))
 
@@ -78,8 +78,15 @@ module _ {S C F L E : Type 0} (view : View S C F) (lists : Listings S C L E) whe
     pub each_once : IsPermutation listed members
     pub in_order : IsSortedByKey (λ m. m.name) (slice_cmp nat_cmp) members
 
+  -- The members were listed, and memory to order them was refused; or the listing was refused, at once or further on, where it
+  -- was ended.
+  abbrev pub MembersUnread : S → C → WebPath → FsError → S → Type 0
+  MembersUnread s c path e t = ((e ≡ NoMemory) × (listed : List Child) × Listed s c path listed t)
+      ⊎ (lists.lists s c path DataSymlink (Err e) t
+      ⊎ ((begin after : S) × (listing over : L) × lists.lists s c path DataSymlink (Ok listing) begin
+      × ReadRefused begin listing e after over × lists.ends_list after over t))
+
   -- The directory's members weren't read: nothing changed, and nothing is left open.
   pub record HasNoMembers (s : S) (c : C) (path : WebPath) (e : FsError) (t : S) : Type 0 where
     pub keeps : Keeps (view.state s) (view.state t)
-    pub why : (e ≡ NoMemory) ⊎ (lists.lists s c path DataSymlink (Err e) t
-        ⊎ ((begin after : S) × (listing over : L) × lists.lists s c path DataSymlink (Ok listing) begin × ReadRefused begin listing e after over × lists.ends_list after over t))
+    pub why : MembersUnread s c path e t

@@ -1,5 +1,6 @@
 //! Laws over the tables of the methods that write, each the contract of a function that does nothing.
 ghost use Rattle.std.specs.Prelude.{◌≡◌, ◌⊎◌, ℕ, List, None, false};
+ghost use Rattle.dav_core.specs.declared.method.DavMethod.{DavMethod};
 ghost use Rattle.dav_core.specs.declared.method.DavMethod.TheVariants.{MkAddressbook, MkCalendar, MkCol, Put};
 ghost use Rattle.dav_core.specs.DavPath.{WebPath};
 ghost use Rattle.dav_store.specs.View.{the_listings, the_view};
@@ -7,7 +8,8 @@ ghost use Rattle.dav_model.specs.Conditions.{Fields};
 ghost use Rattle.dav_model.specs.Plans.{Ask};
 ghost use Rattle.dav_model.specs.Rules.{Rules};
 ghost use Rattle.dav_methods.specs.Answers.{Answers, RefusesUsually};
-ghost use Rattle.dav_methods.specs.Follows.{Follows, RightIn, Told};
+ghost use Rattle.dav_methods.specs.Changing.{Changes};
+ghost use Rattle.dav_methods.specs.Follows.{Follows, Reached, RightIn, Told};
 ghost use Rattle.dav_methods.specs.Lines.{Given};
 ghost use Rattle.dav_methods.specs.Putting.{PutsWhole};
 ghost use Rattle.dav_methods.specs.Table.{MkCalendars, MkCols};
@@ -66,4 +68,13 @@ pub fn writes_follow_their_plans<S: GuardedFileSystem<C>, C>()
         (the_listings S.GuardedFileSystem S.Entry.DavDirEntry) S.File.writes c s t
         (RightIn (the_view S.GuardedFileSystem S.Disk.Disk S.File.DavFile)
         (the_listings S.GuardedFileSystem S.Entry.DavDirEntry) S.File.writes c rules ask s r t) }
+{}
+
+/// The calls that a request that writes makes lead to the store that is left, whatever is answered.
+pub fn writes_lead_on<S: GuardedFileSystem<C>, C>()
+    ensures { (c : C) (s t : S) (method : DavMethod) (prefix : List ℕ) (path : WebPath) (fields : Fields) (body : List ℕ)
+        → (r : Given) → Changes (the_view S.GuardedFileSystem S.Disk.Disk S.File.DavFile)
+        (the_listings S.GuardedFileSystem S.Entry.DavDirEntry) S.File.writes c method prefix path fields body s r t
+        → Reached (the_view S.GuardedFileSystem S.Disk.Disk S.File.DavFile)
+        (the_listings S.GuardedFileSystem S.Entry.DavDirEntry) S.File.writes c s t }
 {}
