@@ -34,7 +34,7 @@ use Rattle.dav_store.specs.Standing.{Seen}
 use Rattle.dav_store.specs.Void.{empty_info}
 use Rattle.dav_store.proofs.Reading.{rose_from}
 use Rattle.dav_cache.specs.Memory as cache
-use Rattle.dav_cache.specs.Memory.{AsksMeta, Denied, MemoryState, Negates}
+use Rattle.dav_cache.specs.Memory.{Denied, LearnsNothing, MemoryState, Negates}
 use Rattle.dav_model.specs.Finding.{Denies, EndsLoosely, has_slash, is_localized, is_named, is_virtual, listed_in, members_or}
 use Rattle.dav_model.specs.Folds.{Name, dir_time, dir_time_of, is_dot}
 use Rattle.dav_model.specs.Rules.{MayDeny}
@@ -48,7 +48,8 @@ use Rattle.dav_local.specs.Resolving.{Leads, Resolves}
 use Rattle.dav_local.specs.Shown.{ListsByRules, LooksByRules, OpensByRules, empty_standing, knowledge_of, looked_by, opened_by}
 use Rattle.dav_local.specs.Standing.{found, seen_in, seen_with}
 use Rattle.dav_local.specs.Ways.{Ways, resolved_by, rules_of}
-use Rattle.dav_local.proofs.Keeping.{metas_keep}
+use Rattle.dav_local.proofs.Keeping.{asked_keeps}
+use Rattle.dav_local.proofs.Memories.{denied_before}
 use Rattle.dav_local.proofs.Rows.{splits}
 use Rattle.dav_local.proofs.Showing.{looks_there, opens_there}
 
@@ -73,12 +74,8 @@ true_or_false false = inr refl
 never : {A : Type 0} (b : Bool) → b ≡ true → b ≡ false → A
 never b e f = cc
 
-asked_keeps : (s t : DiskState) → AsksMeta s t → Keeps s t
-asked_keeps s t (inl same) = subst (Keeps s) (sym same) (keeps_same s)
-asked_keeps s t (inr (path, answer, metas)) = metas_keep true s path answer t metas
-
 -- What asks whether a path is absent leaves all of the disk as it was.
-tells_keeps : (p q : Place) (at : Names) (r : Result Bool Starved) → TellsAbsent p at r q → Keeps p.disk q.disk
+pub tells_keeps : (p q : Place) (at : Names) (r : Result Bool Starved) → TellsAbsent p at r q → Keeps p.disk q.disk
 tells_keeps p q at (Err e) tells = subst (λ (x : Place). Keeps p.disk x.disk) (sym tells.starved) (keeps_same p.disk)
 tells_keeps p q at (Ok b) tells = elim (true_or_false (asks_memory p.ways at)) [
   | inl asks ↦ asked_keeps p.disk q.disk (tells.dots asks).asks
@@ -169,6 +166,29 @@ absent_why p q at v told clear tells = elim (true_or_false (asks_memory p.ways a
   | inr none ↦ inl (sym (ok_same true (p.ways.macos && is_localized at) (tells.plain none).1))
 ]
 
+swapped_back : (m : MemoryState) (dir : Names) (time : FileTime) (name : Name) → MayDeny (knowledge_of m) dir time name → cache.MayDeny m dir time name
+swapped_back m dir time name (inl open_at) = inr open_at
+swapped_back m dir time name (inr known) = inl known
+
+-- What is denied by a memory that learned nothing might be denied before.
+denies_before : (a b : MemoryState) (tree : List Row) (at : Names) → LearnsNothing a b → Denies (knowledge_of b) tree at → Denies (knowledge_of a) tree at
+denies_before a b tree at learns denies = record {
+  dir = denies.dir;
+  name = denies.name;
+  is = denies.is;
+  dot = denies.dot;
+  time = denies.time;
+  there = denies.there;
+  may = swapped a denies.dir denies.time denies.name
+      (denied_before a b denies.dir denies.time denies.name learns (swapped_back b denies.dir denies.time denies.name denies.may));
+}
+
+why_before : (p m : Place) (at : Names) (v : World) → m.ways ≡ p.ways → LearnsNothing p.memory m.memory
+    → ((m.ways.macos && is_localized at) ≡ true) ⊎ ((m.ways.macos ≡ true) × Denies (knowledge_of m.memory) v.tree at)
+    → ((p.ways.macos && is_localized at) ≡ true) ⊎ ((p.ways.macos ≡ true) × Denies (knowledge_of p.memory) v.tree at)
+why_before p m at v ways learns (inl localized) = inl (ap (λ (x : Ways). x.macos && is_localized at) (sym ways) ∙ localized)
+why_before p m at v ways learns (inr (macos, denies)) = inr (ap (λ (x : Ways). x.macos) (sym ways) ∙ macos, denies_before p.memory m.memory v.tree at learns denies)
+
 -- ---- looks
 
 spoiled_by : {T U : Type 0} (s m t : DiskState) (e : FsError) (r : Result U FsError) → s.faults ≤ m.faults → r ≡ Err e → Spoiled {T = T} m (Err e) t → Spoiled s r t
@@ -215,9 +235,10 @@ looked_spoiled p q w path result spoiled = record {
   shows = λ clear. inr spoiled;
 }
 
-looked_missing : (p n q : Place) (w v : World) (m : DiskState) (path : WebPath) (at : Names) (result : Result Info FsError) → is_virtual (rules_of p.ways) path ≡ false
-    → Leads p.ways w.tree path.names at → m.told ≡ Some v → v.tree ≡ w.tree → TellsAbsent (record p { disk = m }) at (Ok true) n → result ≡ Err fs.NotFound → Looked p w path result q
-looked_missing p n q w v m path at result plain leads told tree tells is = by_link (is_linked w.tree leads.end) refl
+looked_missing : (p m n q : Place) (w v : World) (path : WebPath) (at : Names) (result : Result Info FsError) → is_virtual (rules_of p.ways) path ≡ false
+    → Leads p.ways w.tree path.names at → m.ways ≡ p.ways → LearnsNothing p.memory m.memory → m.disk.told ≡ Some v → v.tree ≡ w.tree → TellsAbsent m at (Ok true) n → result ≡ Err fs.NotFound
+    → Looked p w path result q
+looked_missing p m n q w v path at result plain leads ways learns told tree tells is = by_link (is_linked w.tree leads.end) refl
   where
     missing : (denies : Bool) → ((p.ways.macos && is_localized leads.end) || denies) ≡ true → LooksThere (looked_by p.ways w leads.end denies path) result
     missing denies absent =
@@ -245,12 +266,12 @@ looked_missing p n q w v m path at result plain leads told tree tells is = by_li
     by_link true linked = record { end = leads.end; loosely = leads.loosely; denies = false; denied = λ e. cc; shows = λ clear. never (is_linked w.tree leads.end) linked clear }
     by_link false clear =
         let here = leads.here clear in
-        by_why clear here (absent_why (record p { disk = m }) n at v told (ap (λ z. is_linked z at) tree ∙ ap (is_linked w.tree) here ∙ clear) tells)
+        by_why clear here (why_before p m at v ways learns (absent_why m n at v told (ap (λ z. is_linked z at) tree ∙ ap (is_linked w.tree) here ∙ clear) tells))
 
-looked_at : (p n q : Place) (w v : World) (m : DiskState) (path : WebPath) (at : Names) (answer : Result Meta DiskError) (t : DiskState) (result : Result Info FsError)
-    → is_virtual (rules_of p.ways) path ≡ false → Leads p.ways w.tree path.names at → SameBesidesOpens w v → n.disk.told ≡ Some v → p.disk.faults ≤ n.disk.faults
-    → TellsAbsent (record p { disk = m }) at (Ok false) n → Metas n.disk at answer t → result ≡ looked_as (has_slash p.ways.alone path) answer → q.disk ≡ t → Looked p w path result q
-looked_at p n q w v m path at answer t result plain leads same told le tells metas is ends = record {
+looked_at : (p m n q : Place) (w v : World) (path : WebPath) (at : Names) (answer : Result Meta DiskError) (t : DiskState) (result : Result Info FsError)
+    → is_virtual (rules_of p.ways) path ≡ false → Leads p.ways w.tree path.names at → m.ways ≡ p.ways → SameBesidesOpens w v → n.disk.told ≡ Some v → p.disk.faults ≤ n.disk.faults
+    → TellsAbsent m at (Ok false) n → Metas n.disk at answer t → result ≡ looked_as (has_slash p.ways.alone path) answer → q.disk ≡ t → Looked p w path result q
+looked_at p m n q w v path at answer t result plain leads ways same told le tells metas is ends = record {
   end = leads.end;
   loosely = leads.loosely;
   denies = false;
@@ -261,7 +282,7 @@ looked_at p n q w v m path at answer t result plain leads same told le tells met
     there : is_linked w.tree leads.end ≡ false → LooksThere (looked_by p.ways w leads.end false path) result ⊎ Spoiled n.disk result t
     there clear =
         let here = leads.here clear in
-        let local : (p.ways.macos && is_localized leads.end) ≡ false = ap (λ z. p.ways.macos && is_localized z) (sym here) ∙ present (record p { disk = m }) n at tells in
+        let local : (p.ways.macos && is_localized leads.end) ≡ false = ap (λ z. p.ways.macos && is_localized z) (sym here) ∙ ap (λ (x : Ways). x.macos && is_localized at) (sym ways) ∙ present m n at tells in
         let found_so : found w (has_slash p.ways.alone path) (look w.tree at) ≡ looked_by p.ways w leads.end false path =
         ap (λ z. found w (has_slash p.ways.alone path) (look w.tree z)) here ∙ sym (looked_found p.ways w leads.end path plain local) in
         subst (λ r. LooksThere (looked_by p.ways w leads.end false path) r ⊎ Spoiled n.disk r t) (sym is)
@@ -271,24 +292,25 @@ looked_at p n q w v m path at answer t result plain leads same told le tells met
     shows : is_linked w.tree leads.end ≡ false → LooksThere (looked_by p.ways w leads.end false path) result ⊎ Spoiled p.disk result q.disk
     shows clear = elim (there clear) [ inl x ↦ inl x | inr spoiled ↦ inr (subst (λ d. Spoiled p.disk result d) (sym ends) (spoiled_later p.disk n.disk t result le spoiled)) ]
 
-after_absent : (p n q : Place) (w v u : World) (m : DiskState) (path : WebPath) (at : Names) (absent : Result Bool Starved) (result : Result Info FsError) → is_virtual (rules_of p.ways) path ≡ false
-    → Leads p.ways w.tree path.names at → Keeps p.disk m → Keeps m n.disk → m.told ≡ Some v → v.tree ≡ w.tree → SameBesidesOpens w u → n.disk.told ≡ Some u
-    → TellsAbsent (record p { disk = m }) at absent n → AfterAbsent absent true (has_slash p.ways.alone path) at n result q → Looked p w path result q
-after_absent p n q w v u m path at (Err e) result plain leads first then_kept told tree same later tells (is, ends) = looked_spoiled p q w path result (inr is)
-after_absent p n q w v u m path at (Ok true) result plain leads first then_kept told tree same later tells (is, ends) = looked_missing p n q w v m path at result plain leads told tree tells is
-after_absent p n q w v u m path at (Ok false) result plain leads first then_kept told tree same later tells (answer, t, metas, is, ends) =
-    looked_at p n q w u m path at answer t result plain leads same later (omega (arith, first.counts, then_kept.counts)) tells metas is (ap (λ (x : Place). x.disk) ends)
+after_absent : (p m n q : Place) (w v u : World) (path : WebPath) (at : Names) (absent : Result Bool Starved) (result : Result Info FsError) → is_virtual (rules_of p.ways) path ≡ false
+    → Leads p.ways w.tree path.names at → m.ways ≡ p.ways → LearnsNothing p.memory m.memory → Keeps p.disk m.disk → Keeps m.disk n.disk → m.disk.told ≡ Some v → v.tree ≡ w.tree
+    → SameBesidesOpens w u → n.disk.told ≡ Some u → TellsAbsent m at absent n → AfterAbsent absent true (has_slash p.ways.alone path) at n result q → Looked p w path result q
+after_absent p m n q w v u path at (Err e) result plain leads ways learns first then_kept told tree same later tells (is, ends) = looked_spoiled p q w path result (inr is)
+after_absent p m n q w v u path at (Ok true) result plain leads ways learns first then_kept told tree same later tells (is, ends) =
+    looked_missing p m n q w v path at result plain leads ways learns told tree tells is
+after_absent p m n q w v u path at (Ok false) result plain leads ways learns first then_kept told tree same later tells (answer, t, metas, is, ends) =
+    looked_at p m n q w u path at answer t result plain leads ways same later (omega (arith, first.counts, then_kept.counts)) tells metas is (ap (λ (x : Place). x.disk) ends)
 
-looked_in : (p q : Place) (w : World) (path : WebPath) (found_at : Result Names FsError) (m : DiskState) (result : Result Info FsError) → p.disk.told ≡ Some w → is_virtual (rules_of p.ways) path ≡ false
-    → Resolves p.ways p.disk path.names found_at m → AfterFound found_at (record p { disk = m }) (LooksAt true (has_slash p.ways.alone path)) result q → Looked p w path result q
-looked_in p q w path (Err e) m result told plain resolves (is, ends) =
-    looked_spoiled p q w path result (subst (λ (x : Place). Spoiled p.disk result x.disk) (sym ends) (spoiled_by p.disk p.disk m e result (omega arith) is resolves.refused))
-looked_in p q w path (Ok at) m result told plain resolves (absent, n, tells, after) =
-    let kept = tells_keeps (record p { disk = m }) n at absent tells in
-    let (v, now, same) = told_after p.disk.told m.told SameBesidesOpens w resolves.keeps.world told in
-    let all = keeps_then p.disk m n.disk resolves.keeps kept in
+looked_in : (p m q : Place) (w : World) (path : WebPath) (found_at : Result Names FsError) (result : Result Info FsError) → p.disk.told ≡ Some w → is_virtual (rules_of p.ways) path ≡ false
+    → Resolves p path.names found_at m → AfterFound found_at m (LooksAt true (has_slash p.ways.alone path)) result q → Looked p w path result q
+looked_in p m q w path (Err e) result told plain resolves (is, ends) =
+    looked_spoiled p q w path result (subst (λ (x : Place). Spoiled p.disk result x.disk) (sym ends) (spoiled_by p.disk p.disk m.disk e result (omega arith) is resolves.refused))
+looked_in p m q w path (Ok at) result told plain resolves (absent, n, tells, after) =
+    let kept = tells_keeps m n at absent tells in
+    let (v, now, same) = told_after p.disk.told m.disk.told SameBesidesOpens w resolves.keeps.world told in
+    let all = keeps_then p.disk m.disk n.disk resolves.keeps kept in
     let (u, later, other) = told_after p.disk.told n.disk.told SameBesidesOpens w all.world told in
-    after_absent p n q w v u m path at absent result plain (resolves.told w told) resolves.keeps kept now same.tree other later tells after
+    after_absent p m n q w v u path at absent result plain (resolves.told w told) resolves.ways resolves.learns resolves.keeps kept now same.tree other later tells after
 
 -- Each look is answered by the rules.
 pub looks_by_rules : (p q : Place) (w : World) (path : WebPath) (result : Result Info FsError) → p.disk.told ≡ Some w → Looks true p path result q → Looked p w path result q
@@ -307,7 +329,7 @@ looks_by_rules p q w path result told looks = by_virtual (is_virtual (rules_of p
         virtual : is_virtual (rules_of p.ways) path ≡ true → looked_by p.ways w (resolved_by p.ways w.tree path.names) false path ≡ Ok empty_standing
         virtual e = ap (λ b. cond b (Ok empty_standing) (cond ((p.ways.macos && is_localized (resolved_by p.ways w.tree path.names)) || false) (Err fs.NotFound)
             (found w (has_slash p.ways.alone path) (look w.tree (resolved_by p.ways w.tree path.names))))) e
-    by_virtual false e = let (found_at, m, resolves, after) = looks.asked e in looked_in p q w path found_at m result told e resolves after
+    by_virtual false e = let (found_at, m, resolves, after) = looks.asked e in looked_in p m q w path found_at result told e resolves after
 
 -- ---- openings
 
@@ -317,33 +339,33 @@ Opened p w path result q = OpensByRules p.ways w path p.disk result q.disk
 opened_shut : (ways : Ways) (w : World) (end : Names) (path : WebPath) (b : Bool) → is_shut ways path ≡ b → opened_by ways w end path ≡ cond b (Err fs.Forbidden) (found w false (look w.tree end))
 opened_shut ways w end path b e = ap (λ b. cond b (Err fs.Forbidden) (found w false (look w.tree end))) e
 
-opened_in : (p q : Place) (w : World) (path : WebPath) (found_at : Result Names FsError) (m : DiskState) (result : Result LocalFsFile FsError) → p.disk.told ≡ Some w → IsWorld w
-    → is_shut p.ways path ≡ false → Resolves p.ways p.disk path.names found_at m
-    → AfterFound found_at (record p { disk = m }) (λ at. Asks (λ s answer t. Opens s at reading answer t) filed) result q → Opened p w path result q
-opened_in p q w path (Err e) m result told world open_at resolves (is, ends) = record {
+opened_in : (p m q : Place) (w : World) (path : WebPath) (found_at : Result Names FsError) (result : Result LocalFsFile FsError) → p.disk.told ≡ Some w → IsWorld w
+    → is_shut p.ways path ≡ false → Resolves p path.names found_at m
+    → AfterFound found_at m (λ at. Asks (λ s answer t. Opens s at reading answer t) filed) result q → Opened p w path result q
+opened_in p m q w path (Err e) result told world open_at resolves (is, ends) = record {
   end = resolved_by p.ways w.tree path.names;
   loosely = somewhere p.ways w.tree path.names;
-  shows = λ clear. inr (subst (λ (x : Place). Spoiled p.disk result x.disk) (sym ends) (spoiled_by p.disk p.disk m e result (omega arith) is resolves.refused));
+  shows = λ clear. inr (subst (λ (x : Place). Spoiled p.disk result x.disk) (sym ends) (spoiled_by p.disk p.disk m.disk e result (omega arith) is resolves.refused));
 }
-opened_in p q w path (Ok at) m result told world open_at resolves (answer, t, opens, is, ends) =
+opened_in p m q w path (Ok at) result told world open_at resolves (answer, t, opens, is, ends) =
     let leads = resolves.told w told in
-    let (v, now, same) = told_after p.disk.told m.told SameBesidesOpens w resolves.keeps.world told in
+    let (v, now, same) = told_after p.disk.told m.disk.told SameBesidesOpens w resolves.keeps.world told in
     record {
       end = leads.end;
       loosely = leads.loosely;
       shows = λ clear. shows leads clear v now same;
     }
   where
-    shows : (leads : Leads p.ways w.tree path.names at) → is_linked w.tree leads.end ≡ false → (v : World) → m.told ≡ Some v → SameBesidesOpens w v
+    shows : (leads : Leads p.ways w.tree path.names at) → is_linked w.tree leads.end ≡ false → (v : World) → m.disk.told ≡ Some v → SameBesidesOpens w v
         → OpensThere seen_by (opened_by p.ways w leads.end path) result q.disk ⊎ Spoiled p.disk result q.disk
     shows leads clear v now same =
         let here = leads.here clear in
         let found_so : found w false (look w.tree at) ≡ opened_by p.ways w leads.end path = ap (λ z. found w false (look w.tree z)) here ∙ sym (opened_shut p.ways w leads.end path false open_at) in
         let ended : q.disk ≡ t = ap (λ (x : Place). x.disk) ends in
-        elim (opens_there w v at answer m t world same now (ap (is_linked w.tree) here ∙ clear) opens) [
+        elim (opens_there w v at answer m.disk t world same now (ap (is_linked w.tree) here ∙ clear) opens) [
           | inl x ↦ inl (subst (λ d. OpensThere seen_by (opened_by p.ways w leads.end path) result d) (sym ended)
               (subst (λ r. OpensThere seen_by (opened_by p.ways w leads.end path) r t) (sym is) (subst (λ there. OpensThere seen_by there (filed answer) t) found_so x)))
-          | inr spoiled ↦ inr (subst (λ d. Spoiled p.disk result d) (sym ended) (spoiled_later p.disk m t result resolves.keeps.counts (subst (λ r. Spoiled m r t) (sym is) spoiled)))
+          | inr spoiled ↦ inr (subst (λ d. Spoiled p.disk result d) (sym ended) (spoiled_later p.disk m.disk t result resolves.keeps.counts (subst (λ r. Spoiled m.disk r t) (sym is) spoiled)))
         ]
 
 -- Each opening for reading is answered by the rules.
@@ -357,7 +379,7 @@ opens_by_rules p q w path result told world opening = by_shut (is_shut p.ways pa
       shows = λ clear. inl (subst (λ r. OpensThere seen_by (opened_by p.ways w (resolved_by p.ways w.tree path.names) path) r q.disk) (sym (opening.forbidden e).0)
           (subst (λ there. OpensThere {F = LocalFsFile} seen_by there (Err fs.Forbidden) q.disk) (sym (opened_shut p.ways w (resolved_by p.ways w.tree path.names) path true e)) refl));
     }
-    by_shut false e = let (found_at, m, resolves, after) = opening.asked e in opened_in p q w path found_at m result told world e resolves after
+    by_shut false e = let (found_at, m, resolves, after) = opening.asked e in opened_in p m q w path found_at result told world e resolves after
 
 -- ---- listings
 
@@ -388,7 +410,7 @@ begins_there v at wanted (Err e) s t told clear lists =
     refused_there e v at (listable (look v.tree at)) s t (listed.1 clear) lists.counted
 
 -- whether a listing is begun doesn't ask what is open
-begun_by : (w v : World) (at : Names) (stands : Result Row DiskError) (r : Result ListingState FsError) → BeginsThere (members_or v at stands) r → BeginsThere (members_or w at stands) r
+pub begun_by : (w v : World) (at : Names) (stands : Result Row DiskError) (r : Result ListingState FsError) → BeginsThere (members_or v at stands) r → BeginsThere (members_or w at stands) r
 begun_by w v at (Ok row) (Ok d) there = tt
 begun_by w v at (Ok row) (Err e) there = absurd there
 begun_by w v at (Err e) (Ok d) there = absurd there
@@ -404,17 +426,17 @@ listed_path at wanted (Ok lister) d is =
     ap (λ (x : ListingState). x.path) (sym same)
 listed_path at wanted (Err e) d is = no_listing d (fs_error_of e) (sym is)
 
-listed_in_by : (p q : Place) (w : World) (path : WebPath) (wanted : ReadDirMeta) (found_at : Result Names FsError) (m : DiskState) (result : Result ListingState FsError) → p.disk.told ≡ Some w
-    → Resolves p.ways p.disk path.names found_at m → AfterFound found_at (record p { disk = m }) (BeginsAt wanted) result q → Listed p w path result q
-listed_in_by p q w path wanted (Err e) m result told resolves (is, ends) = record {
+listed_in_by : (p m q : Place) (w : World) (path : WebPath) (wanted : ReadDirMeta) (found_at : Result Names FsError) (result : Result ListingState FsError) → p.disk.told ≡ Some w
+    → Resolves p path.names found_at m → AfterFound found_at m (BeginsAt wanted) result q → Listed p w path result q
+listed_in_by p m q w path wanted (Err e) result told resolves (is, ends) = record {
   end = resolved_by p.ways w.tree path.names;
   loosely = somewhere p.ways w.tree path.names;
-  shows = λ clear. inr (subst (λ (x : Place). Spoiled p.disk result x.disk) (sym ends) (spoiled_by p.disk p.disk m e result (omega arith) is resolves.refused));
+  shows = λ clear. inr (subst (λ (x : Place). Spoiled p.disk result x.disk) (sym ends) (spoiled_by p.disk p.disk m.disk e result (omega arith) is resolves.refused));
   at_end = λ d ok clear. no_listing d e (sym ok ∙ is);
 }
-listed_in_by p q w path wanted (Ok at) m result told resolves (t, (answer, lists, is), ends) =
+listed_in_by p m q w path wanted (Ok at) result told resolves (t, (answer, lists, is), ends) =
     let leads = resolves.told w told in
-    let (v, now, same) = told_after p.disk.told m.told SameBesidesOpens w resolves.keeps.world told in
+    let (v, now, same) = told_after p.disk.told m.disk.told SameBesidesOpens w resolves.keeps.world told in
     record {
       end = leads.end;
       loosely = leads.loosely;
@@ -422,19 +444,19 @@ listed_in_by p q w path wanted (Ok at) m result told resolves (t, (answer, lists
       at_end = λ d ok clear. listed_path at wanted answer d (sym is ∙ ok) ∙ leads.here clear;
     }
   where
-    shows : (leads : Leads p.ways w.tree path.names at) → is_linked w.tree leads.end ≡ false → (v : World) → m.told ≡ Some v → SameBesidesOpens w v
+    shows : (leads : Leads p.ways w.tree path.names at) → is_linked w.tree leads.end ≡ false → (v : World) → m.disk.told ≡ Some v → SameBesidesOpens w v
         → BeginsThere (listed_in w leads.end) result ⊎ Spoiled p.disk result q.disk
     shows leads clear v now same =
         let here = leads.here clear in
         let ended : q.disk ≡ t = ap (λ (x : Place). x.disk) ends in
-        elim (begins_there v at wanted answer m t now (ap (λ rows. is_linked rows at) same.tree ∙ ap (is_linked w.tree) here ∙ clear) lists) [
+        elim (begins_there v at wanted answer m.disk t now (ap (λ rows. is_linked rows at) same.tree ∙ ap (is_linked w.tree) here ∙ clear) lists) [
           | inl there ↦ inl (subst (λ z. BeginsThere (listed_in w z) result) here
               (subst (λ rows. BeginsThere (members_or w at (listable (look rows at))) result) same.tree
               (begun_by w v at (listable (look v.tree at)) result (subst (λ r. BeginsThere (members_or v at (listable (look v.tree at))) r) (sym is) there))))
-          | inr spoiled ↦ inr (subst (λ d. Spoiled p.disk result d) (sym ended) (spoiled_later p.disk m t result resolves.keeps.counts (subst (λ r. Spoiled m r t) (sym is) spoiled)))
+          | inr spoiled ↦ inr (subst (λ d. Spoiled p.disk result d) (sym ended) (spoiled_later p.disk m.disk t result resolves.keeps.counts (subst (λ r. Spoiled m.disk r t) (sym is) spoiled)))
         ]
 
 -- Each beginning of a listing is answered by the rules.
 pub lists_by_rules : (p q : Place) (w : World) (path : WebPath) (wanted : ReadDirMeta) (result : Result ListingState FsError) → p.disk.told ≡ Some w
     → Finds p path.names (BeginsAt wanted) result q → Listed p w path result q
-lists_by_rules p q w path wanted result told (found_at, m, resolves, after) = listed_in_by p q w path wanted found_at m result told resolves after
+lists_by_rules p q w path wanted result told (found_at, m, resolves, after) = listed_in_by p m q w path wanted found_at result told resolves after

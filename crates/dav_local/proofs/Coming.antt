@@ -1,27 +1,23 @@
 -- What a walk from the root keeps.
-use Rattle.std.proofs.Common.{◌≡◌, ◌&&◌, inl, inr, ℕ, zero, suc, Bool, true, false, List, [], ◌∷◌, ◌++◌, take, length, Option, None, Some, Result, Ok, Err, IfOk, OnErr, refl, sym, ap, subst, ◌∙◌, append_assoc, append-nil}
+use Rattle.std.proofs.Common.{◌≡◌, ◌&&◌, inl, inr, ℕ, zero, suc, Bool, true, false, List, [], ◌∷◌, ◌++◌, take, length, Option, None, Some, Result, Ok, Err, IfOk, OnErr, refl, sym, ap, subst, ◌∙◌, append_assoc, append-nil, arith}
 use Rattle.std.proofs.lemmas.Bool.{and_parts}
 use Rattle.std.proofs.lemmas.List.{map-append}
-use Rattle.dav_io.proofs.ToldLemmas.{told_after}
 use Rattle.dav_core.specs.declared.error.FsError.{FsError}
-use Rattle.dav_core.specs.declared.handle.Meta.{Meta}
 use Rattle.dav_core.specs.declared.tree.Kind.{Kind}
 use Rattle.dav_core.specs.declared.tree.Kind.TheVariants.{Dir, File, Link}
 use Rattle.dav_core.specs.declared.tree.Row.{Row}
-use Rattle.dav_core.specs.Disk.{DiskState, Metas}
 use Rattle.dav_core.specs.Path.{Names, all_plain, is_front, is_plain}
-use Rattle.dav_core.specs.Tree.{is_dir, is_dir_row, is_link, is_linked, look, row_at, standing}
-use Rattle.dav_core.specs.Unchanged.{Keeps, SameBesidesOpens}
-use Rattle.dav_core.specs.World.{IsWorld, World}
+use Rattle.dav_core.specs.Tree.{is_dir, is_dir_row, is_link, is_linked, is_tree, look, row_at, standing}
+use Rattle.dav_core.specs.World.{World}
 use Rattle.dav_core.proofs.Plain.{names_same}
-use Rattle.dav_core.proofs.UnchangedLemmas.{keeps_same, keeps_then}
-use Rattle.dav_store.specs.Files.{Spoiled}
-use Rattle.dav_store.proofs.Reading.{rose_from}
 use Rattle.dav_model.specs.Finding.{IsLoose, IsOf, is_alike}
 use Rattle.dav_model.specs.Folds.{Name, fold_name, fold_path}
 use Rattle.dav_model.proofs.PlainWalks.{linked_below}
-use Rattle.dav_local.specs.Walking.{Comes, IsClearAt, Steps, StepsTo, Walks}
-use Rattle.dav_local.proofs.Rows.{IsTree, alike_splits, behind_link, found_of, link_at, linked_loosely, none_of, stands_below, stood_loosely, tree_parts}
+use Rattle.dav_local.specs.Places.{Place}
+use Rattle.dav_local.specs.Remembering.{StandsElsewhere, has_link}
+use Rattle.dav_local.specs.Walking.{Comes, EndsAt, IsClearAt, KeepsPlace, Remembers, RemembersIn, StandsIn, StepsOn, StepsTo, Walks}
+use Rattle.dav_local.proofs.Memories.{alike_folds, error_of, first_alike, no_link, place_same, place_then, rows_same, rows_then, same_tree, spoiled_after, stands_still}
+use Rattle.dav_local.proofs.Rows.{IsTree, alike_splits, behind_link, found_of, link_at, none_of, nothing_below, stands_below, tree_parts}
 
 -- ---- the root
 
@@ -81,10 +77,6 @@ comes_on tree names at name more next is steps (inl (here, on)) =
           λ end loose. on end (inl (row, o, alike, subst (λ z. IsLoose true tree z more end) (sym path) loose)),
         )
 
--- a loose walk ends at this place, or behind a link
-abbrev pub EndsAt : List Row → Names → Names → Type 0
-EndsAt tree names at = (end : Names) × IsLoose true tree [] names end × (is_linked tree end ≡ false → at ≡ end)
-
 never : {A : Type 0} (b : Bool) → b ≡ true → b ≡ false → A
 never b e f = cc
 
@@ -99,112 +91,112 @@ comes_out tree names at (inl (here, on)) = (at, on at refl, λ clear. refl)
 
 -- ---- the walk
 
-pub record Going (s : DiskState) (names : Names) (t : DiskState) (at rest : Names) : Type 0 where
-  pub keeps : Keeps s t
+pub record Going (p : Place) (names : Names) (q : Place) (at rest : Names) : Type 0 where
+  pub keeps : KeepsPlace p q
   pub alike : fold_path (at ++ rest) ≡ fold_path names
   pub plain : all_plain rest ≡ true
-  pub told : (w : World) → s.told ≡ Some w → IsWorld w → Comes w.tree names at rest
+  pub rows : RemembersIn p q
+  pub told : (w : World) → p.disk.told ≡ Some w → is_tree w.tree ≡ true → Comes w.tree names at rest
 
-pub going_first : (s : DiskState) (names : Names) → all_plain names ≡ true → Going s names s [] names
-going_first s names plain = record {
-  keeps = keeps_same s;
+pub going_first : (p : Place) (names at rest : Names) → all_plain names ≡ true → at ≡ [] → rest ≡ names → Going p names p at rest
+going_first p names at rest plain root all = rw (root, all) (record {
+  keeps = place_same p;
   alike = refl;
   plain = plain;
-  told = λ w told is. inl (root_clear w.tree (tree_parts w.tree is.tree), λ end loose. loose);
-}
+  rows = rows_same p p refl;
+  told = λ w told is. inl (root_clear w.tree (tree_parts w.tree is), λ end loose. loose);
+})
 
--- The world that is told now has the tree that was told first.
-same_tree : (s m : DiskState) (w : World) → Keeps s m → s.told ≡ Some w → (v : World) × (m.told ≡ Some v) × (v.tree ≡ w.tree)
-same_tree s m w keeps told = let (v, now, same) = told_after s.told m.told SameBesidesOpens w keeps.world told in (v, now, same.tree)
-
-steps_in : (s m t : DiskState) (w : World) (at : Names) (name : Name) (found : Option Names) → ((v : World) → m.told ≡ Some v → IsWorld v) → Keeps s m → s.told ≡ Some w → Steps m at name (Ok found) t
+steps_in : (p m q : Place) (w : World) (at : Names) (name : Name) (found : Option Names) → KeepsPlace p m → p.disk.told ≡ Some w → is_tree w.tree ≡ true → StepsOn m at name (Ok found) q
     → IsClearAt w.tree at → StepsTo w.tree at name found
-steps_in s m t w at name found worlds keeps told steps here =
-    let (v, now, tree) = same_tree s m w keeps told in
-    subst (λ z. StepsTo z at name found) tree (steps.told v now (worlds v now) (subst (λ z. IsClearAt z at) (sym tree) here))
+steps_in p m q w at name found keeps told is steps here =
+    let (v, now, tree) = same_tree p m w keeps told in
+    subst (λ z. StepsTo z at name found) tree (steps.told v now (ap is_tree tree ∙ is) (subst (λ z. IsClearAt z at) (sym tree) here))
+
+-- Without links a walk is at a row.
+going_stands : (p m : Place) (names at rest : Names) → Going p names m at rest → StandsIn m.disk at
+going_stands p m names at rest going = stands_still p m at going.keeps (λ w told is links. at_row w links (going.told w told is))
+  where
+    at_row : (w : World) → has_link w.tree ≡ false → Comes w.tree names at rest → (row : Row) × (look w.tree at ≡ Ok row)
+    at_row w links (inl (here, on)) = (here.row, here.stands)
+    at_row w links (inr (end, loose, link)) = never (is_linked w.tree end) link (no_link w.tree end links)
+
+-- a step further remembers what stands
+going_rows : (p m q : Place) (names at rest : Names) → Going p names m at rest → (StandsIn m.disk at → RemembersIn m q) → RemembersIn p q
+going_rows p m q names at rest going rows = rows_then p m q going.keeps going.rows (rows (going_stands p m names at rest going))
 
 fold_on : (at : Names) (name : Name) (more next : Names) → fold_path next ≡ fold_path (at ++ name ∷ []) → fold_path (next ++ more) ≡ fold_path (at ++ name ∷ more)
 fold_on at name more next e =
     map-append fold_name next more ∙ ap (λ z. z ++ fold_path more) e ∙ sym (map-append fold_name (at ++ name ∷ []) more) ∙ ap fold_path (append_assoc at (name ∷ []) more)
 
-pub going_on : (s m t : DiskState) (names at : Names) (name : Name) (more next : Names) → ((v : World) → m.told ≡ Some v → IsWorld v) → Going s names m at (name ∷ more)
-    → Steps m at name (Ok (Some next)) t → Going s names t next more
-going_on s m t names at name more next worlds going steps = record {
-  keeps = keeps_then s m t going.keeps steps.keeps;
-  alike = fold_on at name more next steps.alike ∙ going.alike;
-  plain = (and_parts (is_plain name) (all_plain more) going.plain).1;
-  told = λ w told is. comes_on w.tree names at name more next (tree_parts w.tree is.tree) (steps_in s m t w at name (Some next) worlds going.keeps told steps) (going.told w told is);
+pub going_on : (p m q : Place) (names at rest : Names) (name : Name) (more next : Names) (found : Option Names) → Going p names m at rest → rest ≡ name ∷ more → StepsOn m at name (Ok found) q
+    → found ≡ Some next → Going p names q next more
+going_on p m q names at rest name more next found going is steps is_found =
+    on (subst (Going p names m at) is going) (subst (λ f. StepsOn m at name (Ok f) q) is_found steps)
+  where
+    on : Going p names m at (name ∷ more) → StepsOn m at name (Ok (Some next)) q → Going p names q next more
+    on going steps = record {
+      keeps = place_then p m q going.keeps steps.keeps;
+      alike = fold_on at name more next (alike_folds at name next steps.alike) ∙ going.alike;
+      plain = (and_parts (is_plain name) (all_plain more) going.plain).1;
+      rows = going_rows p m q names at (name ∷ more) going steps.rows;
+      told = λ w told is. comes_on w.tree names at name more next (tree_parts w.tree is) (steps_in p m q w at name (Some next) going.keeps told is steps) (going.told w told is);
+    }
+
+-- a place that wasn't found isn't one where something stands elsewhere than it was asked
+none_elsewhere : (p : Place) (names at : Names) (name : Name) (more : Names) (e : StandsElsewhere p names (at ++ name ∷ more)) → is_tree e.world.tree ≡ true
+    → (IsClearAt e.world.tree at → StepsTo e.world.tree at name None) → Comes e.world.tree names at (name ∷ more) → ⊥
+none_elsewhere p names at name more e is steps (inr (end, loose, link)) = never (is_linked e.world.tree end) link (no_link e.world.tree end e.links)
+none_elsewhere p names at name more e is steps (inl (here, on)) = nothing_below e.world.tree at name more e.row (tree_parts e.world.tree is) (steps here) e.stands
+
+walk_none : (p m q : Place) (names at : Names) (name : Name) (more : Names) → Going p names m at (name ∷ more) → StepsOn m at name (Ok None) q → Walks p names (Ok (at ++ name ∷ more)) q
+walk_none p m q names at name more going steps = record {
+  keeps = place_then p m q going.keeps steps.keeps;
+  refused = tt;
+  alike = going.alike;
+  told = λ w told is. comes_none w.tree names at name more (steps_in p m q w at name None going.keeps told is steps) (going.told w told is);
+  first = λ e is. absurd (none_elsewhere p names at name more e is (steps_in p m q e.world at name None going.keeps e.told is steps) (going.told e.world e.told is));
+  rows = going_rows p m q names at (name ∷ more) going steps.rows;
 }
 
-pub walk_none : (s m t : DiskState) (names at : Names) (name : Name) (more end : Names) → ((v : World) → m.told ≡ Some v → IsWorld v) → Going s names m at (name ∷ more)
-    → Steps m at name (Ok None) t → end ≡ at ++ name ∷ more → Walks s names (Ok end) t
-walk_none s m t names at name more end worlds going steps is_end = record {
-  keeps = keeps_then s m t going.keeps steps.keeps;
+pub walk_over : (p m q : Place) (names at rest : Names) → Going p names m at rest → length rest ≡ 0 → Remembers m at (Ok tt) q → Walks p names (Ok at) q
+walk_over p m q names at [] going none remembers = record {
+  keeps = place_then p m q going.keeps remembers.keeps;
   refused = tt;
-  alike = ap fold_path is_end ∙ going.alike;
-  told = λ w told is. subst (EndsAt w.tree names) (sym is_end) (comes_none w.tree names at name more (steps_in s m t w at name None worlds going.keeps told steps) (going.told w told is));
-}
-
-pub walk_over : (s t : DiskState) (names at : Names) → Going s names t at [] → Walks s names (Ok at) t
-walk_over s t names at going = record {
-  keeps = going.keeps;
-  refused = tt;
-  alike = ap fold_path (sym (append-nil at)) ∙ going.alike;
+  alike = same;
   told = λ w told is. comes_out w.tree names at (going.told w told is);
+  first = λ e is. first_alike at names q.memory same remembers.first;
+  rows = going_rows p m q names at [] going remembers.rows;
 }
+  where
+    same : fold_path at ≡ fold_path names
+    same = ap fold_path (sym (append-nil at)) ∙ going.alike
+walk_over p m q names at (x ∷ rest) going none remembers = absurd (omega arith)
 
-pub walk_refused : (s m t : DiskState) (names at : Names) (name : Name) (more : Names) (e : FsError) → Going s names m at (name ∷ more) → Steps m at name (Err e) t → Walks s names (Err e) t
-walk_refused s m t names at name more e going steps = record {
-  keeps = keeps_then s m t going.keeps steps.keeps;
-  refused = spoiled steps.refused;
+pub walk_refused : (p m q : Place) (names at rest : Names) (name : Name) (e : FsError) → Going p names m at rest → StepsOn m at name (Err e) q → Walks p names (Err e) q
+walk_refused p m q names at rest name e going steps = record {
+  keeps = place_then p m q going.keeps steps.keeps;
+  refused = spoiled_after p m q e going.keeps steps.refused;
   alike = tt;
   told = tt;
+  first = tt;
+  rows = going_rows p m q names at rest going steps.rows;
 }
-  where
-    spoiled : Spoiled {T = Option Names} m (Err e) t → Spoiled {T = Names} s (Err e) t
-    spoiled (inl (is, rose)) = inl (cc, rose_from s.faults m.faults t.faults going.keeps.counts rose)
-    spoiled (inr none) = inr cc
 
-pub walk_starved : (s t : DiskState) (names : Names) → Keeps s t → Walks s names (Err FsError.NoMemory) t
-walk_starved s t names keeps = record { keeps = keeps; refused = inr refl; alike = tt; told = tt }
+pub walk_starved : (p q : Place) (names : Names) → KeepsPlace p q → RemembersIn p q → Walks p names (Err FsError.NoMemory) q
+walk_starved p q names keeps rows = record { keeps = keeps; refused = inr refl; alike = tt; told = tt; first = tt; rows = rows }
 
--- ---- as the code has it
+pub walk_forgotten : (p m q : Place) (names at rest : Names) (e : FsError) → Going p names m at rest → Remembers m at (Err e) q → Walks p names (Err e) q
+walk_forgotten p m q names at rest e going remembers =
+    let is : e ≡ FsError.NoMemory = error_of e remembers.starved in
+    rw is (walk_starved p q names (place_then p m q going.keeps remembers.keeps) (going_rows p m q names at rest going remembers.rows))
 
-pub going_first_at : (s : DiskState) (names at rest : Names) → all_plain names ≡ true → at ≡ [] → rest ≡ names → Going s names s at rest
-going_first_at s names at rest plain root all = rw (root, all) (going_first s names plain)
+below_walk : (p q : Place) (names end : Names) (r : Result Names FsError) → IfOk r (λ path. path ≡ end) → OnErr r (r ≡ Err FsError.NoMemory) → Walks p names (Ok end) q → Walks p names r q
+below_walk p q names end (Ok path) is none walks = rw is walks
+below_walk p q names end (Err e) is none walks = let same : e ≡ FsError.NoMemory = error_of e none in rw same (walk_starved p q names walks.keeps walks.rows)
 
-pub going_on_by : (s m t : DiskState) (names at rest : Names) (name : Name) (more next : Names) (found : Option Names) → ((v : World) → m.told ≡ Some v → IsWorld v) → Going s names m at rest
-    → rest ≡ name ∷ more → Steps m at name (Ok found) t → found ≡ Some next → Going s names t next more
-going_on_by s m t names at rest name more next found worlds going is steps is_found =
-    going_on s m t names at name more next worlds (subst (Going s names m at) is going) (subst (λ f. Steps m at name (Ok f) t) is_found steps)
-
-below_walk : (s t : DiskState) (names end : Names) (r : Result Names FsError) → IfOk r (λ path. path ≡ end) → OnErr r (r ≡ Err FsError.NoMemory) → Walks s names (Ok end) t → Walks s names r t
-below_walk s t names end (Ok path) is none walks = rw is walks
-below_walk s t names end (Err e) is none walks = let same : e ≡ FsError.NoMemory = cc in rw same (walk_starved s t names walks.keeps)
-
-pub walk_none_by : (s m t : DiskState) (names at rest : Names) (name : Name) (more : Names) (found : Option Names) (r : Result Names FsError) → ((v : World) → m.told ≡ Some v → IsWorld v)
-    → Going s names m at rest → rest ≡ name ∷ more → Steps m at name (Ok found) t → found ≡ None → (record { ok : IfOk r (λ path. path ≡ at ++ rest); err : OnErr r (r ≡ Err FsError.NoMemory) })
-    → Walks s names r t
-walk_none_by s m t names at rest name more found r worlds going is steps is_found below =
-    below_walk s t names (at ++ rest) r below.ok below.err
-    (subst (λ z. Walks s names (Ok (at ++ z)) t) (sym is)
-    (walk_none s m t names at name more (at ++ name ∷ more) worlds (subst (Going s names m at) is going) (subst (λ f. Steps m at name (Ok f) t) is_found steps) refl))
-
--- ---- the whole path
-
--- The path stands as it is asked, or a link stands on the way.
-walk_whole : (s t : DiskState) (names at : Names) (m : Meta) → Metas s names (Ok m) t → Keeps s t → at ≡ names → Walks s names (Ok at) t
-walk_whole s t names at m metas keeps same = record {
-  keeps = keeps;
-  refused = tt;
-  alike = ap fold_path same;
-  told = λ w told is. (names, loosely w told is (is_linked w.tree names) refl, λ clear. same);
-}
-  where
-    loosely : (w : World) → s.told ≡ Some w → IsWorld w → (b : Bool) → is_linked w.tree names ≡ b → IsLoose true w.tree [] names names
-    loosely w told is true e = let tree = tree_parts w.tree is.tree in linked_loosely w.tree [] names tree (root_clear w.tree tree) e
-    loosely w told is false e = let (row, stands, meta) = metas.told w told e in stood_loosely w.tree [] names names row stands refl
-
-pub walk_copied : (s t : DiskState) (names : Names) (m : Meta) (r : Result Names FsError) → Metas s names (Ok m) t → Keeps s t → IfOk r (λ at. at ≡ names) → OnErr r (r ≡ Err FsError.NoMemory) → Walks s names r t
-walk_copied s t names m (Ok at) metas keeps same starved = walk_whole s t names at m metas keeps same
-walk_copied s t names m (Err e) metas keeps same starved = let is : e ≡ FsError.NoMemory = cc in rw is (walk_starved s t names keeps)
+pub walk_none_by : (p m q : Place) (names at rest : Names) (name : Name) (more : Names) (found : Option Names) (r : Result Names FsError) → Going p names m at rest → rest ≡ name ∷ more
+    → StepsOn m at name (Ok found) q → found ≡ None → (record { ok : IfOk r (λ path. path ≡ at ++ rest); err : OnErr r (r ≡ Err FsError.NoMemory) }) → Walks p names r q
+walk_none_by p m q names at rest name more found r going is steps is_found below =
+    below_walk p q names (at ++ rest) r below.ok below.err
+    (subst (λ z. Walks p names (Ok (at ++ z)) q) (sym is) (walk_none p m q names at name more (subst (Going p names m at) is going) (subst (λ f. StepsOn m at name (Ok f) q) is_found steps)))

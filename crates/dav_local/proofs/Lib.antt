@@ -4,9 +4,12 @@ pub mod Written
 pub mod WriteLoops
 pub mod OneName
 pub mod Seeking
+pub mod Memories
 pub mod Rows
 pub mod Stepping
 pub mod Coming
+pub mod Recalling
+pub mod Found
 pub mod Resolved
 pub mod Keeping
 pub mod Filling

@@ -19,6 +19,7 @@ use Rattle.dav_core.proofs.Plain.{names_same}
 use Rattle.dav_model.specs.Finding.{IsLoose, IsOf, is_alike}
 use Rattle.dav_model.specs.Folds.{Name, fold_name, fold_path, folds_like}
 use Rattle.dav_model.proofs.LooseWalks.{find_row, names_equal, parent_pushed}
+use Rattle.dav_model.proofs.PlainWalks.{linked_below}
 use Rattle.dav_local.specs.Walking.{IsClearAt}
 
 -- ---- tests
@@ -298,69 +299,82 @@ front_stands (suc fuel) tree l n is o long =
     let (e, oe, at) = front_stands fuel tree d n is od shorter in
     (e, oe, take_parent n l.path d.path e.path at path (omega (arith, long)))
 
--- Where a link stands on the way to a path, a walk comes to it.
-pub linked_loosely : (tree : List Row) (at names : Names) → IsTree tree → IsClearAt tree at → is_linked tree (at ++ names) ≡ true → IsLoose true tree at names (at ++ names)
-linked_loosely tree at [] is here linked = never (is_linked tree at) (ap (is_linked tree) (sym (append-nil at)) ∙ linked) here.clear
-linked_loosely tree at (n ∷ names) is here linked = by_link (is_linked tree (at ++ n ∷ [])) refl (λ next on. linked_loosely tree (at ++ n ∷ []) names is next on)
+le_or : (a b : ℕ) → (a ≤ b) ⊎ (b < a)
+le_or zero b = inl (omega arith)
+le_or (suc a) zero = inr (omega arith)
+le_or (suc a) (suc b) = elim (le_or a b) [ inl le ↦ inl (omega arith) | inr lt ↦ inr (omega arith) ]
+
+-- the front of a path up to a name in a directory
+front_at : (at : Names) (n : Name) (names : Names) → take (length at + 1) (at ++ n ∷ names) ≡ at ++ n ∷ []
+front_at at n names =
+    ap (λ k. take k (at ++ n ∷ names)) (sym (length-append at (n ∷ []))) ∙ ap (take (length (at ++ n ∷ []))) (sym (append_assoc at (n ∷ []) names)) ∙ take-append_seam (at ++ n ∷ []) names
+
+-- Where a link stands further on than a clear name, a row stands at the name.
+row_before : (tree : List Row) (at : Names) (n : Name) (names : Names) → IsTree tree → is_linked tree (at ++ n ∷ names) ≡ true → is_linked tree (at ++ n ∷ []) ≡ false
+    → (d : Row) × IsOf d tree × (d.path ≡ at ++ n ∷ [])
+row_before tree at n names is linked clear =
+    let (l, o, both) = one_of (λ row. is_link row.kind && is_front row.path (at ++ n ∷ names)) tree linked in
+    let (link, front) = and_parts (is_link l.kind) (is_front l.path (at ++ n ∷ names)) both in
+    at_link l o link (names_same l.path (take (length l.path) (at ++ n ∷ names)) front)
   where
-    further : is_linked tree (at ++ n ∷ []) ≡ false → (d : Row) × IsOf d tree × (d.path ≡ at ++ n ∷ [])
-    further clear =
-        let (l, o, both) = one_of (λ row. is_link row.kind && is_front row.path (at ++ n ∷ names)) tree linked in
-        let (link, front) = and_parts (is_link l.kind) (is_front l.path (at ++ n ∷ names)) both in
-        at_link l o link (names_same l.path (take (length l.path) (at ++ n ∷ names)) front)
+    at_link : (l : Row) → IsOf l tree → is_link l.kind ≡ true → l.path ≡ take (length l.path) (at ++ n ∷ names) → (d : Row) × IsOf d tree × (d.path ≡ at ++ n ∷ [])
+    at_link l o link path = elim (le_or (length l.path) (length at + 1)) [
+      | inl short ↦ never (is_linked tree (at ++ n ∷ []))
+          (any_of (λ row. is_link row.kind && is_front row.path (at ++ n ∷ [])) tree l o (rw (link, names_equal l.path (take (length l.path) (at ++ n ∷ [])) (path ∙ front_of short)) refl)) clear
+      | inr long ↦
+          let (d, od, is_at) = front_stands (length l.path - (length at + 1)) tree l (length at + 1) is o (omega (arith, long)) in
+          (d, od, is_at ∙ ap (take (length at + 1)) path ∙ take-take (length at + 1) (length l.path) (at ++ n ∷ names) (omega (arith, long)) ∙ front_at at n names)
+    ]
       where
-        at_link : (l : Row) → IsOf l tree → is_link l.kind ≡ true → l.path ≡ take (length l.path) (at ++ n ∷ names) → (d : Row) × IsOf d tree × (d.path ≡ at ++ n ∷ [])
-        at_link l o link path = elim (le_or (length l.path) (length at + 1)) [
-          | inl short ↦ never (is_linked tree (at ++ n ∷ []))
-              (any_of (λ row. is_link row.kind && is_front row.path (at ++ n ∷ [])) tree l o (rw (link, names_equal l.path (take (length l.path) (at ++ n ∷ [])) (path ∙ front_of short)) refl)) clear
-          | inr long ↦
-              let (d, od, is_at) = front_stands (length l.path - (length at + 1)) tree l (length at + 1) is o (omega (arith, long)) in
-              (d, od, is_at ∙ ap (take (length at + 1)) path ∙ take-take (length at + 1) (length l.path) (at ++ n ∷ names) (omega (arith, long)) ∙ cut)
-        ]
-          where
-            le_or : (a b : ℕ) → (a ≤ b) ⊎ (b < a)
-            le_or zero b = inl (omega arith)
-            le_or (suc a) zero = inr (omega arith)
-            le_or (suc a) (suc b) = elim (le_or a b) [ inl le ↦ inl (omega arith) | inr lt ↦ inr (omega arith) ]
+        pushed : at ++ n ∷ names ≡ (at ++ n ∷ []) ++ names
+        pushed = sym (append_assoc at (n ∷ []) names)
 
-            pushed : at ++ n ∷ names ≡ (at ++ n ∷ []) ++ names
-            pushed = sym (append_assoc at (n ∷ []) names)
+        one_more : length (at ++ n ∷ []) ≡ length at + 1
+        one_more = length-append at (n ∷ [])
 
-            one_more : length (at ++ n ∷ []) ≡ length at + 1
-            one_more = length-append at (n ∷ [])
+        front_of : length l.path ≤ length at + 1 → take (length l.path) (at ++ n ∷ names) ≡ take (length l.path) (at ++ n ∷ [])
+        front_of short = ap (take (length l.path)) pushed ∙ take-append-le (length l.path) (at ++ n ∷ []) names (omega (arith, one_more, short))
 
-            front_of : length l.path ≤ length at + 1 → take (length l.path) (at ++ n ∷ names) ≡ take (length l.path) (at ++ n ∷ [])
-            front_of short = ap (take (length l.path)) pushed ∙ take-append-le (length l.path) (at ++ n ∷ []) names (omega (arith, one_more, short))
+-- Where a link stands on the way to a path, a walk of a path that folds alike comes to it, and ends behind it.
+pub linked_alike : (tree : List Row) (at found names : Names) → IsTree tree → IsClearAt tree at → is_linked tree (at ++ found) ≡ true → fold_path found ≡ fold_path names
+    → (end : Names) × IsLoose true tree at names end × (is_linked tree end ≡ true)
+linked_alike tree at [] names is here linked folds = never (is_linked tree at) (ap (is_linked tree) (sym (append-nil at)) ∙ linked) here.clear
+linked_alike tree at (x ∷ found) [] is here linked folds = cc
+linked_alike tree at (x ∷ found) (n ∷ names) is here linked folds =
+    let head : fold_name x ≡ fold_name n = cc in
+    let tail : fold_path found ≡ fold_path names = cc in
+    by_link head (is_linked tree (at ++ x ∷ [])) refl (λ next on. linked_alike tree (at ++ x ∷ []) found names is next on tail)
+  where
+    by_link : fold_name x ≡ fold_name n → (b : Bool) → is_linked tree (at ++ x ∷ []) ≡ b
+        → (IsClearAt tree (at ++ x ∷ []) → is_linked tree ((at ++ x ∷ []) ++ found) ≡ true → (end : Names) × IsLoose true tree (at ++ x ∷ []) names end × (is_linked tree end ≡ true))
+        → (end : Names) × IsLoose true tree at (n ∷ names) end × (is_linked tree end ≡ true)
+    by_link head true e go =
+        let (l, o, link, path) = link_at tree at x here.clear e in
+        (l.path ++ names, inl (l, o, alike_is at x n l path head, behind_link tree l names is o link), linked_below tree l.path names (ap (is_linked tree) path ∙ e))
+    by_link head false e go =
+        let (d, o, path) = row_before tree at x found is linked e in
+        let stands = stands_below tree at x here.row d is here.stands o path in
+        let (end, loose, link) = go (record { row = d; stands = stands; clear = e }) (ap (is_linked tree) (append_assoc at (x ∷ []) found) ∙ linked) in
+        (end, inl (d, o, alike_is at x n d path head, subst (λ z. IsLoose true tree z names end) (sym path) loose), link)
 
-            cut : take (length at + 1) (at ++ n ∷ names) ≡ at ++ n ∷ []
-            cut = ap (λ k. take k (at ++ n ∷ names)) (sym one_more) ∙ ap (take (length (at ++ n ∷ []))) pushed ∙ take-append_seam (at ++ n ∷ []) names
-
-    by_link : (b : Bool) → is_linked tree (at ++ n ∷ []) ≡ b
-        → (IsClearAt tree (at ++ n ∷ []) → is_linked tree ((at ++ n ∷ []) ++ names) ≡ true → IsLoose true tree (at ++ n ∷ []) names ((at ++ n ∷ []) ++ names))
-        → IsLoose true tree at (n ∷ names) (at ++ n ∷ names)
-    by_link true e go =
-        let (l, o, link, path) = link_at tree at n here.clear e in
-        inl (l, o, alike_is at n n l path refl, subst (IsLoose true tree l.path names) (ap (λ z. z ++ names) path ∙ append_assoc at (n ∷ []) names) (behind_link tree l names is o link))
-    by_link false e go =
-        let (d, o, path) = further e in
-        let stands = stands_below tree at n here.row d is here.stands o path in
-        inl (
-          d,
-          o,
-          alike_is at n n d path refl,
-          subst (λ z. IsLoose true tree z names (at ++ n ∷ names)) (sym path)
-              (subst (IsLoose true tree (at ++ n ∷ []) names) (append_assoc at (n ∷ []) names)
-              (go (record { row = d; stands = stands; clear = e }) (ap (is_linked tree) (append_assoc at (n ∷ []) names) ∙ linked))),
-        )
+-- Where no name in a directory folds alike, nothing stands below such a name.
+pub nothing_below : (tree : List Row) (at : Names) (name : Name) (more : Names) (row : Row) → IsTree tree → list_any (is_alike true at name) tree ≡ false → look tree (at ++ name ∷ more) ≡ Ok row → ⊥
+nothing_below tree at name more row is none stands =
+    let (o, path) = row_is tree (at ++ name ∷ more) row (looked_row tree (at ++ name ∷ more) row stands) in
+    let long : length row.path ≡ length at + suc (length more) = ap length path ∙ length-append at (name ∷ more) in
+    let (d, od, front) = front_stands (length more) tree row (length at + 1) is o (omega (arith, long)) in
+    never (list_any (is_alike true at name) tree)
+    (any_of (is_alike true at name) tree d od (alike_is at name name d (front ∙ ap (take (length at + 1)) path ∙ front_at at name more) refl)) none
 
 -- ---- what stands and folds alike is where a loose walk ends
 
-pub stood_loosely : (tree : List Row) (at found names : Names) (row : Row) → look_from tree at found ≡ Ok row → fold_path found ≡ fold_path names
-    → IsLoose true tree at names (at ++ found)
-stood_loosely tree at [] [] row e f = append-nil at
-stood_loosely tree at [] (n ∷ names) row e f = cc
-stood_loosely tree at (x ∷ found) [] row e f = cc
-stood_loosely tree at (x ∷ found) (n ∷ names) row e f =
+-- A walk goes on from what stands and folds alike.
+pub stood_then : (tree : List Row) (at found names rest end : Names) (row : Row) → look_from tree at found ≡ Ok row → fold_path found ≡ fold_path names → IsLoose true tree (at ++ found) rest end
+    → IsLoose true tree at (names ++ rest) end
+stood_then tree at [] [] rest end row e f loose = subst (λ z. IsLoose true tree z rest end) (append-nil at) loose
+stood_then tree at [] (n ∷ names) rest end row e f loose = cc
+stood_then tree at (x ∷ found) [] rest end row e f loose = cc
+stood_then tree at (x ∷ found) (n ∷ names) rest end row e f loose =
     let (over, there, kind, on) = below_ok (row_at tree at) (look_from tree (at ++ x ∷ []) found) row e in
     let (r, is) = starts tree (at ++ x ∷ []) found row on in
     let (of, path) = row_is tree (at ++ x ∷ []) r is in
@@ -370,12 +384,17 @@ stood_loosely tree at (x ∷ found) (n ∷ names) row e f =
       r,
       of,
       alike_is at x n r path head,
-      subst (λ z. IsLoose true tree z names (at ++ x ∷ found)) (sym path) (subst (IsLoose true tree (at ++ x ∷ []) names) (append_assoc at (x ∷ []) found) (stood_loosely tree (at ++ x ∷ []) found names row on tail)),
+      subst (λ z. IsLoose true tree z (names ++ rest) end) (sym path)
+          (stood_then tree (at ++ x ∷ []) found names rest end row on tail (subst (λ z. IsLoose true tree z rest end) (sym (append_assoc at (x ∷ []) found)) loose)),
     )
   where
     starts : (tree : List Row) (at names : Names) (row : Row) → look_from tree at names ≡ Ok row → (r : Row) × (row_at tree at ≡ Some r)
     starts tree at [] row e = (row, standing_some (row_at tree at) row e)
     starts tree at (name ∷ names) row e = let (over, is, kind, rest) = below_ok (row_at tree at) (look_from tree (at ++ name ∷ []) names) row e in (over, is)
+
+pub stood_loosely : (tree : List Row) (at found names : Names) (row : Row) → look_from tree at found ≡ Ok row → fold_path found ≡ fold_path names
+    → IsLoose true tree at names (at ++ found)
+stood_loosely tree at found names row e f = subst (λ z. IsLoose true tree at z (at ++ found)) (append-nil names) (stood_then tree at found names [] (at ++ found) row e f refl)
 
 -- ---- the names in a directory
 

@@ -128,7 +128,7 @@ numbered_later : (b later : Bool) → later ≡ true → (b || later) ≡ true
 numbered_later true later e = refl
 numbered_later false later e = e
 
-each_numbered : (tree rows : List Row) → ((n : ℕ) → is_numbered rows n ≡ true → is_numbered tree n ≡ true) → AllByRecursion (λ (r : Row). is_numbered tree r.number ≡ true) rows
+pub each_numbered : (tree rows : List Row) → ((n : ℕ) → is_numbered rows n ≡ true → is_numbered tree n ≡ true) → AllByRecursion (λ (r : Row). is_numbered tree r.number ≡ true) rows
 each_numbered tree [] up = tt
 each_numbered tree (r ∷ rows) up = (
   up r.number (numbered_here r.number (is_numbered rows r.number)),

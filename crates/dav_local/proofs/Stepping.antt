@@ -30,7 +30,7 @@ use Rattle.dav_store.proofs.Walking.{walk_leaves}
 use Rattle.dav_model.specs.Finding.{IsOf, is_alike}
 use Rattle.dav_model.specs.Folds.{Name, fold_name}
 use Rattle.dav_local.specs.Walking.{IsAmong, IsClearAt, Searches, SearchesIn, Sought, SoughtIn, Steps, StepsTo}
-use Rattle.dav_local.proofs.Rows.{alike_is, alike_splits, folds_alike, is_directory, link_at, looked_row, name_in, none_of, path_in, row_is, tree_parts}
+use Rattle.dav_local.proofs.Rows.{alike_is, alike_splits, is_directory, link_at, looked_row, name_in, none_of, path_in, row_is, tree_parts}
 
 -- ---- names of a listing and of its directory
 
@@ -157,7 +157,7 @@ found_step : (s t : DiskState) (at : Names) (name x : Name) → SearchesIn s at 
 found_step s t at name x searches = record {
   keeps = searches.keeps;
   refused = tt;
-  alike = folds_alike at x name searches.alike;
+  alike = (x, refl, searches.alike);
   told = λ w told is here. (let (row, o, path) = searches.told w told is here in (row, o, path, alike_is at x name row path searches.alike));
 }
 
@@ -183,7 +183,7 @@ meta_step : (s t : DiskState) (at : Names) (name : Name) (m : Meta) → Metas s 
 meta_step s t at name m metas keeps = record {
   keeps = keeps;
   refused = tt;
-  alike = refl;
+  alike = (name, refl, refl);
   told = λ w told is here. by_link w here told (is_linked w.tree (at ++ name ∷ [])) refl;
 }
   where

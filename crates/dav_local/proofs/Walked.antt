@@ -1,7 +1,7 @@
 -- A walk over a listing of a local store is told of the members that stand in its directory, each once.
-use Rattle.std.proofs.Common.{◌≡◌, ◌==◌, ◌||◌, ◌≤◌, ◌<◌, ◌⊎◌, inl, inr, ℕ, suc, Bool, true, false, cond, List, [], ◌∷◌, ◌++◌, length, map, get_or, set, Option, None, Some, IfSome, Result, Ok, Err, IsOk, refl, sym, ap, ◌∙◌, subst, append_assoc, append-nil, arith}
+use Rattle.std.proofs.Common.{◌≡◌, ◌==◌, ◌-◌, drop, ◌||◌, ◌≤◌, ◌<◌, ◌⊎◌, inl, inr, ℕ, suc, Bool, true, false, cond, List, [], ◌∷◌, ◌++◌, length, map, get_or, set, Option, None, Some, IfSome, Result, Ok, Err, IsOk, refl, sym, ap, ◌∙◌, subst, append_assoc, append-nil, arith}
 use Rattle.std.specs.Option.{is_some}
-use Rattle.std.proofs.lemmas.List.{length-append, length-map, map-append, map-set}
+use Rattle.std.proofs.lemmas.List.{length-append, length-map, map-append, map-set, take-append-drop}
 use Rattle.std.proofs.lemmas.Bool.Decides.{nat_tests}
 use Rattle.std.proofs.Math.ListN.{get_or-map}
 use Rattle.std.proofs.lemmas.List.Elements.{All-from_recursion, recursion_from_All}
@@ -19,23 +19,24 @@ use Rattle.dav_core.specs.declared.handle.Meta.{Meta}
 use Rattle.dav_core.specs.declared.tree.Kind.{Kind}
 use Rattle.dav_core.specs.declared.tree.Kind.TheVariants.{Dir, File, Link}
 use Rattle.dav_core.specs.declared.tree.Row.{Row}
-use Rattle.dav_core.specs.Disk.{Asks, DiskState, IsMetaOf, MayRefuseMeta, Metas, Refused}
+use Rattle.dav_core.specs.Disk.{Asks, DiskState, IsMetaOf, MayRefuseMeta, MetasBy, Refused, way_to}
 use Rattle.dav_core.specs.Errors.{fs_error_of}
 use Rattle.dav_core.specs.Info.{Info, info_of, known}
 use Rattle.dav_core.specs.Listing.{ListedIn, Lists, ListsOn, NextIn, listable, name_of, names_in, stands_in, with_listings}
 use Rattle.dav_core.specs.Members.{member_of, members}
-use Rattle.dav_core.specs.Path.{Names}
+use Rattle.dav_core.specs.Path.{Names, parent_of}
 use Rattle.dav_core.specs.Tree.{below_kind, is_linked, is_tree, look}
 use Rattle.dav_core.specs.Unchanged.{Keeps, SameBesidesOpens, SameListing}
 use Rattle.dav_core.specs.World.{World, IsWorld, bytes_or_none, is_numbered, put}
 use Rattle.dav_core.proofs.LookLemmas.{look_all}
 use Rattle.dav_core.proofs.UnchangedLemmas.{put_same, same_besides_then}
 use Rattle.dav_store.specs.declared.entry.ReadDirMeta.{ReadDirMeta}
-use Rattle.dav_store.specs.declared.entry.ReadDirMeta.TheVariants.{Data}
+use Rattle.dav_store.specs.declared.entry.ReadDirMeta.TheVariants.{Data, DataSymlink}
 use Rattle.dav_store.specs.Members.{Answered, AreOf, IsAnswerOf, SaysOrRose, Walked, begun, goes}
 use Rattle.dav_store.specs.View.{View, Listings}
 use Rattle.dav_store.proofs.Reading.{rose_from, rose_on}
 use Rattle.dav_model.specs.Finding.{IsOf}
+use Rattle.dav_model.proofs.PlainWalks.{linked_below}
 use Rattle.dav_local.specs.declared.entry.EntryMeta.{EntryMeta}
 use Rattle.dav_local.specs.declared.entry.EntryMeta.TheVariants.{Read, At}
 use Rattle.dav_local.specs.declared.entry.LocalFsDirEntry.{LocalFsDirEntry}
@@ -145,7 +146,7 @@ record SaidRow (w : World) (path : Names) (info : Info) : Type 0 where
 
 abbrev SaidOf : World → Names → ℕ → ℕ → Result Info FsError → Type 0
 SaidOf w path from now (Ok info) = SaidRow w path info
-SaidOf w path from now (Err e) = ((d : DiskError) × (look w.tree path ≡ Err d)) ⊎ Rose from now
+SaidOf w path from now (Err e) = ((d : DiskError) × (look w.tree path ≡ Err d)) ⊎ ((e ≡ fs.GeneralFailure) × Rose from now)
 
 abbrev IsTold : World → Names → ℕ → ℕ → Answered → Type 0
 IsTold w dir from now a = is_linked w.tree (dir ++ a.name ∷ []) ≡ false → SaidOf w (dir ++ a.name ∷ []) from now a.meta
@@ -153,7 +154,7 @@ IsTold w dir from now a = is_linked w.tree (dir ++ a.name ∷ []) ≡ false → 
 said_later : (w : World) (path : Names) (from a b : ℕ) (r : Result Info FsError) → a ≤ b → SaidOf w path from a r → SaidOf w path from b r
 said_later w path from a b (Ok info) le s = s
 said_later w path from a b (Err e) le (inl refused) = inl refused
-said_later w path from a b (Err e) le (inr rose) = inr (rose_on from a b rose le)
+said_later w path from a b (Err e) le (inr (is, rose)) = inr (is, rose_on from a b rose le)
 
 all_later : (w : World) (dir : Names) (from a b : ℕ) (answers : List Answered) → a ≤ b → AllByRecursion (IsTold w dir from a) answers → AllByRecursion (IsTold w dir from b) answers
 all_later w dir from a b [] le all = tt
@@ -167,7 +168,7 @@ said_err : (d : DiskError) (w x : World) (path : Names) (from : ℕ) (s t : Disk
     → from ≤ s.faults → SaidOf w path from t.faults (Err (fs_error_of d))
 said_err NotFound w x path from s t may r tree asks le = inl (NotFound, ap (λ rows. look rows path) (sym tree) ∙ r)
 said_err NotDir w x path from s t may r tree asks le = inl (NotDir, ap (λ rows. look rows path) (sym tree) ∙ r)
-said_err Failed w x path from s t may r tree asks le = inr (rose_from from s.faults t.faults le (asks.rose refl))
+said_err Failed w x path from s t may r tree asks le = inr (refl, rose_from from s.faults t.faults le (asks.rose refl))
 said_err IsDir w x path from s t may r tree asks le = absurd may
 said_err Exists w x path from s t may r tree asks le = absurd may
 said_err NotEmpty w x path from s t may r tree asks le = absurd may
@@ -201,13 +202,26 @@ meta_back w x path row meta same looked is = record {
   modified = is.modified;
 }
 
-said_of : (said : Result Meta DiskError) (w x : World) (path : Names) (from : ℕ) (s t : DiskState) → SameBesidesOpens w x → Metas s path said t → s.told ≡ Some x → from ≤ s.faults
+no_link : (b : Bool) → (b ≡ true → ⊥) → b ≡ false
+no_link true h = absurd (h refl)
+no_link false h = refl
+
+-- where no link stands on a path, none stands on the way to it
+pub clear_way : (follows : Bool) (tree : List Row) (path : Names) → is_linked tree path ≡ false → is_linked tree (way_to follows path) ≡ false
+clear_way true tree path clear = clear
+clear_way false tree path clear =
+    let n = length path - 1 in
+    no_link (is_linked tree (parent_of path)) (λ link.
+    let further : is_linked tree path ≡ true = ap (is_linked tree) (sym (take-append-drop n path)) ∙ linked_below tree (parent_of path) (drop n path) link in
+    let never : true ≡ false = sym further ∙ clear in cc)
+
+said_of : (follows : Bool) (said : Result Meta DiskError) (w x : World) (path : Names) (from : ℕ) (s t : DiskState) → SameBesidesOpens w x → MetasBy follows s path said t → s.told ≡ Some x → from ≤ s.faults
     → is_linked w.tree path ≡ false → SaidOf w path from t.faults (said_info (said_by said))
-said_of (Ok meta) w x path from s t same metas told le linked =
-    let (row, looked, is) = metas.told x told (ap (λ rows. is_linked rows path) same.tree ∙ linked) in
+said_of follows (Ok meta) w x path from s t same metas told le linked =
+    let (row, looked, is) = metas.told x told (clear_way follows x.tree path (ap (λ rows. is_linked rows path) same.tree ∙ linked)) in
     record { row = row; found = ap (λ rows. look rows path) (sym same.tree) ∙ looked; meta = meta; is = meta_back w x path row meta same looked is; said = refl }
-said_of (Err d) w x path from s t same metas told le linked =
-    said_err d w x path from s t metas.only (metas.told x told (ap (λ rows. is_linked rows path) same.tree ∙ linked)) same.tree metas.asks le
+said_of follows (Err d) w x path from s t same metas told le linked =
+    said_err d w x path from s t metas.only (metas.told x told (clear_way follows x.tree path (ap (λ rows. is_linked rows path) same.tree ∙ linked))) same.tree metas.asks le
 
 moved : (w : World) (p q : Names) (from a b : ℕ) (u r : Result Info FsError) → p ≡ q → a ≡ b → u ≡ r → SaidOf w p from a u → SaidOf w q from b r
 moved w p q from a b u r pq ab ur s =
@@ -221,7 +235,17 @@ says_of w path from now row (Ok info) found s =
     let is : IsMetaOf w row s.meta = subst (λ x. IsMetaOf w x s.meta) one s.is in
     (ap (λ i. i.kind) s.said ∙ is.kind, ap (λ i. i.len) s.said ∙ is.len, ap (λ i. i.modified) s.said ∙ ap known is.modified)
 says_of w path from now row (Err e) found (inl (d, refused)) = let never : Err d ≡ Ok row = sym refused ∙ found in cc
-says_of w path from now row (Err e) found (inr rose) = rose
+says_of w path from now row (Err e) found (inr (is, rose)) = rose
+
+-- metadata of what stands there is refused only because of a fault
+abbrev Fails : ℕ → ℕ → Answered → Type 0
+Fails from now a = (e : FsError) → a.meta ≡ Err e → (e ≡ fs.GeneralFailure) × Rose from now
+
+fails_of : (w : World) (path : Names) (from now : ℕ) (row : Row) (r : Result Info FsError) → look w.tree path ≡ Ok row → SaidOf w path from now r → (e : FsError) → r ≡ Err e
+    → (e ≡ fs.GeneralFailure) × Rose from now
+fails_of w path from now row (Ok info) found s e is = cc
+fails_of w path from now row (Err x) found (inl (d, refused)) e is = let never : Err d ≡ Ok row = sym refused ∙ found in cc
+fails_of w path from now row (Err x) found (inr (general, rose)) e is = ((let same : x ≡ e = cc in sym same ∙ general), rose)
 
 record IsFree (w : World) (dir : Names) (row : Row) : Type 0 where
   stands : StandsIn w.tree dir row
@@ -246,9 +270,30 @@ are_answers w dir from now (a ∷ answers) (row ∷ given) names told free =
     let found : look w.tree (dir ++ a.name ∷ []) ≡ Ok row = ap (look w.tree) path ∙ free.0.stands.found in
     (record { name = names.0; says = says_of w (dir ++ a.name ∷ []) from now row a.meta found (told.0 linked) }, are_answers w dir from now answers given names.1 told.1 free.1)
 
+are_failing : (w : World) (dir : Names) (from now : ℕ) (answers : List Answered) (given : List Row) → AllZip (λ a row. a.name ≡ name_of row) answers given
+    → AllByRecursion (IsTold w dir from now) answers → AllByRecursion (IsFree w dir) given → AllByRecursion (Fails from now) answers
+are_failing w dir from now [] [] names told free = tt
+are_failing w dir from now [] (row ∷ given) names told free = absurd names
+are_failing w dir from now (a ∷ answers) [] names told free = absurd names
+are_failing w dir from now (a ∷ answers) (row ∷ given) names told free =
+    let path : dir ++ a.name ∷ [] ≡ dir ++ name_of row ∷ [] = ap (λ n. dir ++ n ∷ []) names.0 in
+    let linked : is_linked w.tree (dir ++ a.name ∷ []) ≡ false = ap (is_linked w.tree) (path ∙ sym free.0.stands.path) ∙ free.0.linked in
+    let found : look w.tree (dir ++ a.name ∷ []) ≡ Ok row = ap (look w.tree) path ∙ free.0.stands.found in
+    (fails_of w (dir ++ a.name ∷ []) from now row a.meta found (told.0 linked), are_failing w dir from now answers given names.1 told.1 free.1)
+
+last_of : (P : Answered → Type 0) (answers : List Answered) (a : Answered) → AllByRecursion P (answers ++ a ∷ []) → P a
+last_of P [] a all = all.0
+last_of P (x ∷ answers) a all = last_of P answers a all.1
+
 -- ---- a listing as it was begun
 
+-- what a listing wants to be read: the metadata of each entry, links followed or not
+abbrev pub wanted_by : Bool → ReadDirMeta
+wanted_by true = Data
+wanted_by false = DataSymlink
+
 record Begun : Type 0 where
+  follows : Bool
   lister : ℕ
   world : World
   dir : Names
@@ -283,7 +328,7 @@ called e = e.name
 record Front (b : Begun) (given : Names) (t : DiskState) (k : ListingState) : Type 0 where
   lister : k.lister.0 ≡ b.lister
   path : k.path ≡ b.dir
-  wanted : k.wanted ≡ Data
+  wanted : k.wanted ≡ wanted_by b.follows
   rest : Names
   lost : Names
   now : World
@@ -358,10 +403,14 @@ kept_after b m t name before a keeps =
 names_moved : (given batch rest after : Names) (name : List ℕ) → rest ≡ name ∷ after → given ++ (batch ++ ([] ++ rest)) ≡ given ++ ((batch ++ name ∷ []) ++ ([] ++ after))
 names_moved given batch rest after name first = ap (λ z. given ++ z) (ap (λ z. batch ++ z) first ∙ sym (append_assoc batch (name ∷ []) after))
 
+was_read : (follows : Bool) (meta : EntryMeta) (m t : DiskState) (path : Names) → IsKnown meta (wanted_by follows) m path t → WasRead follows meta m path t
+was_read true meta m t path known = known
+was_read false meta m t path known = known
+
 -- what was read of the entry of a name
-read_told : (b : Begun) (meta : EntryMeta) (m t : DiskState) (x : World) (path : Names) → SameBesidesOpens b.world x → m.told ≡ Some x → b.from ≤ m.faults → WasRead true meta m path t → MetaTold b path t.faults meta
+read_told : (b : Begun) (meta : EntryMeta) (m t : DiskState) (x : World) (path : Names) → SameBesidesOpens b.world x → m.told ≡ Some x → b.from ≤ m.faults → WasRead b.follows meta m path t → MetaTold b path t.faults meta
 read_told b (Read answer) m t x path same told le (said, metas, is) = λ linked.
-    subst (λ a. SaidOf b.world path b.from t.faults (said_info a)) (sym is) (said_of said b.world x path b.from m t same metas told le linked)
+    subst (λ a. SaidOf b.world path b.from t.faults (said_info a)) (sym is) (said_of b.follows said b.world x path b.from m t same metas told le linked)
 read_told b (At place) m t x path same told le known = absurd known
 
 -- An entry more is to be given.
@@ -374,9 +423,9 @@ front_entry b given s m t k e name entry f still on named kept_meta keeps is =
     let none = f.whole refused in
     let up : s.faults ≤ t.faults = omega (arith, on.counted.counts, keeps.counts) in
     let le : b.from ≤ m.faults = omega (arith, f.counts, on.counted.counts) in
-    let was = subst (λ (x : ReadDirMeta). IsKnown entry.meta x m (k.path ++ name ∷ []) t) f.wanted kept_meta in
+    let was = was_read b.follows entry.meta m t (k.path ++ name ∷ []) (subst (λ (x : ReadDirMeta). IsKnown entry.meta x m (k.path ++ name ∷ []) t) f.wanted kept_meta) in
     let place : k.path ++ name ∷ [] ≡ b.dir ++ entry.name ∷ [] = ap (λ d. d ++ name ∷ []) f.path ∙ ap (λ z. b.dir ++ z ∷ []) (sym named) in
-    let read = read_told b entry.meta m t a.now (b.dir ++ entry.name ∷ []) a.world a.told le (subst (λ p. WasRead true entry.meta m p t) place was) in
+    let read = read_told b entry.meta m t a.now (b.dir ++ entry.name ∷ []) a.world a.told le (subst (λ p. WasRead b.follows entry.meta m p t) place was) in
     subst (Front b given t) (sym is) (record {
       lister = f.lister;
       path = f.path;
@@ -555,7 +604,7 @@ fills_counts n s t k e (more i a m z c d x still reads fills) =
     let later = fills_counts i m z d x fills in
     omega (arith, first, later)
 
-refills_counts : (batch : List LocalFsDirEntry) (s t : DiskState) (k e : ListingState) → Refills batch s k t e → s.faults ≤ t.faults
+pub refills_counts : (batch : List LocalFsDirEntry) (s t : DiskState) (k e : ListingState) → Refills batch s k t e → s.faults ≤ t.faults
 refills_counts [] s t k e fills = fills_counts 256 s t k e fills
 refills_counts (x ∷ batch) s t k e (same, is) = still_after s s t (omega arith) same
 
@@ -658,10 +707,16 @@ module _ {S C F : Type 0} (view : View S C F) (lists : Listings S C ListingState
     listed : IsOk (listable (look b.world.tree b.dir))
     order : IsPermutation (names_in b.world.tree b.dir) b.names
 
-  -- the entries are of members of the directory, each once
-  given_of : (b : Begun) (n o : S) (l k : ListingState) (answers : List Answered) → IsWorld b.world → HasNoLinks b.world b.dir → Start b n l → Walked view lists n l answers o k
-      → AreOf (members b.world b.dir) b.from (view.state o).faults answers
-  given_of b n o l k answers is links s walk =
+  -- the entries are of rows of the directory, each once
+  record OfRows (b : Begun) (answers : List Answered) (o : S) : Type 0 where
+    others : List Row
+    order : IsPermutation (filter (stands_in b.dir) b.world.tree) others
+    of : Given answers others
+    free : AllByRecursion (IsFree b.world b.dir) of.given
+    each : AllByRecursion (IsTold b.world b.dir b.from (view.state o).faults) answers
+
+  of_rows : (b : Begun) (n o : S) (l k : ListingState) (answers : List Answered) → IsWorld b.world → HasNoLinks b.world b.dir → Start b n l → Walked view lists n l answers o k → OfRows b answers o
+  of_rows b n o l k answers is links s walk =
       let f = led b n l o k answers s.first walk in
       let rows = filter (stands_in b.dir) b.world.tree in
       let (others, order, names) = gives_names rows b.names s.order in
@@ -670,10 +725,25 @@ module _ {S C F : Type 0} (view : View S C F) (lists : Listings S C ListingState
       let free = both_all b.world b.dir rows (rows_stand b.world.tree b.dir at.row is.tree at.is) links.rows in
       let moved_free = recursion_from_All (IsFree b.world b.dir) others (All-permutation (IsFree b.world b.dir) rows others order (All-from_recursion (IsFree b.world b.dir) rows free)) in
       record {
+        others = others;
+        order = order;
+        of = g;
+        free = front_all (IsFree b.world b.dir) g.given g.others (subst (AllByRecursion (IsFree b.world b.dir)) g.parts moved_free);
+        each = f.each;
+      }
+
+  -- the entries are of members of the directory, each once
+  given_of : (b : Begun) (n o : S) (l k : ListingState) (answers : List Answered) → IsWorld b.world → HasNoLinks b.world b.dir → Start b n l → Walked view lists n l answers o k
+      → AreOf (members b.world b.dir) b.from (view.state o).faults answers
+  given_of b n o l k answers is links s walk =
+      let r = of_rows b n o l k answers is links s walk in
+      let g = r.of in
+      record {
         given = map (member_of b.world) g.given;
         rest = map (member_of b.world) g.others;
-        once = subst (λ z. IsPermutation (members b.world b.dir) z) (ap (map (member_of b.world)) g.parts ∙ map-append (member_of b.world) g.given g.others) (IsPermutation-map (member_of b.world) rows others order);
-        each = are_answers b.world b.dir b.from (view.state o).faults answers g.given g.names f.each (front_all (IsFree b.world b.dir) g.given g.others (subst (AllByRecursion (IsFree b.world b.dir)) g.parts moved_free));
+        once = subst (λ z. IsPermutation (members b.world b.dir) z) (ap (map (member_of b.world)) g.parts ∙ map-append (member_of b.world) g.given g.others)
+            (IsPermutation-map (member_of b.world) (filter (stands_in b.dir) b.world.tree) r.others r.order);
+        each = are_answers b.world b.dir b.from (view.state o).faults answers g.given g.names r.each r.free;
       }
 
   -- at the end all names were given
@@ -715,20 +785,20 @@ module _ {S C F : Type 0} (view : View S C F) (lists : Listings S C ListingState
     from : begun.from ≡ p.disk.faults
     start : Start begun n l
 
-  began_at : (p q : Place) (w v : World) (at : Names) (m t : DiskState) (n : S) (l : ListingState) (lister : Lister) → SameBesidesOpens w v → m.told ≡ Some v → p.disk.faults ≤ m.faults
-      → is_linked w.tree at ≡ false → Lists m at (Ok lister) t → l ≡ record { lister = lister; path = at; wanted = Data; batch = []; refused = None; over = false } → view.state n ≡ t → Began p w n l
-  began_at p q w v at m t n l lister same told le clear lists is ends =
+  began_at : (follows : Bool) (p q : Place) (w v : World) (at : Names) (m t : DiskState) (n : S) (l : ListingState) (lister : Lister) → SameBesidesOpens w v → m.told ≡ Some v → p.disk.faults ≤ m.faults
+      → is_linked w.tree at ≡ false → Lists m at (Ok lister) t → l ≡ record { lister = lister; path = at; wanted = wanted_by follows; batch = []; refused = None; over = false } → view.state n ≡ t → Began p w n l
+  began_at follows p q w v at m t n l lister same told le clear lists is ends =
       let (x, now, listed) = told_after m.told t.told (ListedIn at (Ok lister)) v lists.told told in
       let clear_now = ap (λ rows. is_linked rows at) same.tree ∙ clear in
       let stands = listed.2 clear_now in
-      let b : Begun = record { lister = lister.0; world = w; dir = at; names = listed.0; from = p.disk.faults } in
+      let b : Begun = record { follows = follows; lister = lister.0; world = w; dir = at; names = listed.0; from = p.disk.faults } in
       record {
-        begun = record { lister = lister.0; world = w; dir = at; names = listed.0; from = p.disk.faults };
+        begun = record { follows = follows; lister = lister.0; world = w; dir = at; names = listed.0; from = p.disk.faults };
         world = refl;
         dir = ap (λ (d : ListingState). d.path) (sym is);
         from = refl;
         start = record {
-          first = subst (λ d. Front b [] (view.state n) d) (sym is) (subst (λ s. Front b [] s (record { lister = lister; path = at; wanted = Data; batch = []; refused = None; over = false })) (sym ends) (record {
+          first = subst (λ d. Front b [] (view.state n) d) (sym is) (subst (λ s. Front b [] s (record { lister = lister; path = at; wanted = wanted_by follows; batch = []; refused = None; over = false })) (sym ends) (record {
             lister = refl;
             path = refl;
             wanted = refl;
@@ -750,20 +820,20 @@ module _ {S C F : Type 0} (view : View S C F) (lists : Listings S C ListingState
         };
       }
 
-  began : (p q : Place) (w : World) (path : WebPath) (n : S) (l : ListingState) (found : Result Names FsError) (m : DiskState) → p.disk.told ≡ Some w → Resolves p.ways p.disk path.names found m
-      → AfterFound found (record p { disk = m }) (BeginsAt Data) (Ok l) q → view.state n ≡ q.disk → is_linked w.tree l.path ≡ false → Began p w n l
-  began p q w path n l (Err e) m told resolves (is, ends) state clear = absurd (same_ok l e is)
-  began p q w path n l (Ok at) m told resolves (t, (Err e, lists, is), ends) state clear = absurd (same_ok l (fs_error_of e) is)
-  began p q w path n l (Ok at) m told resolves (t, (Ok lister, lists, is), ends) state clear =
-      let (v, now, same) = told_after p.disk.told m.told SameBesidesOpens w resolves.keeps.world told in
-      let dir_is : l ≡ record { lister = lister; path = at; wanted = Data; batch = []; refused = None; over = false } = cc in
+  began : (follows : Bool) (p q : Place) (w : World) (path : WebPath) (n : S) (l : ListingState) (found : Result Names FsError) (m : Place) → p.disk.told ≡ Some w → Resolves p path.names found m
+      → AfterFound found m (BeginsAt (wanted_by follows)) (Ok l) q → view.state n ≡ q.disk → is_linked w.tree l.path ≡ false → Began p w n l
+  began follows p q w path n l (Err e) m told resolves (is, ends) state clear = absurd (same_ok l e is)
+  began follows p q w path n l (Ok at) m told resolves (t, (Err e, lists, is), ends) state clear = absurd (same_ok l (fs_error_of e) is)
+  began follows p q w path n l (Ok at) m told resolves (t, (Ok lister, lists, is), ends) state clear =
+      let (v, now, same) = told_after p.disk.told m.disk.told SameBesidesOpens w resolves.keeps.world told in
+      let dir_is : l ≡ record { lister = lister; path = at; wanted = wanted_by follows; batch = []; refused = None; over = false } = cc in
       let clear_at : is_linked w.tree at ≡ false = ap (λ (d : ListingState). is_linked w.tree d.path) (sym dir_is) ∙ clear in
-      began_at p q w v at m t n l lister same now resolves.keeps.counts clear_at lists dir_is (state ∙ ap (λ (x : Place). x.disk) ends)
+      began_at follows p q w v at m.disk t n l lister same now resolves.keeps.counts clear_at lists dir_is (state ∙ ap (λ (x : Place). x.disk) ends)
 
-  pub walk_told : (p q : Place) (w : World) (path : WebPath) (n o : S) (l k : ListingState) (answers : List Answered) → p.disk.told ≡ Some w → IsWorld w → Finds p path.names (BeginsAt Data) (Ok l) q
+  pub walk_told : (follows : Bool) (p q : Place) (w : World) (path : WebPath) (n o : S) (l k : ListingState) (answers : List Answered) → p.disk.told ≡ Some w → IsWorld w → Finds p path.names (BeginsAt (wanted_by follows)) (Ok l) q
       → view.state n ≡ q.disk → HasNoLinks w l.path → Walked view lists n l answers o k → AreOf (members w l.path) p.disk.faults (view.state o).faults answers
-  walk_told p q w path n o l k answers told world (found, m, resolves, after) state links walk =
-      by_begun (began p q w path n l found m told resolves after state links.way)
+  walk_told follows p q w path n o l k answers told world (found, m, resolves, after) state links walk =
+      by_begun (began follows p q w path n l found m told resolves after state links.way)
     where
       by_begun : Began p w n l → AreOf (members w l.path) p.disk.faults (view.state o).faults answers
       by_begun g =
@@ -772,11 +842,26 @@ module _ {S C F : Type 0} (view : View S C F) (lists : Listings S C ListingState
           (subst (λ d. AreOf (members g.begun.world d) g.begun.from (view.state o).faults answers) g.dir
           (given_of g.begun n o l k answers (subst IsWorld (sym g.world) world) (subst (λ v. HasNoLinks v g.begun.dir) (sym g.world) (subst (HasNoLinks w) (sym g.dir) links)) g.start walk)))
 
-  pub walk_ends : (p q : Place) (w : World) (path : WebPath) (n o r : S) (l k j : ListingState) (answers : List Answered) (last : Result (Option LocalFsDirEntry) FsError) → p.disk.told ≡ Some w
-      → Finds p path.names (BeginsAt Data) (Ok l) q → view.state n ≡ q.disk → HasNoLinks w l.path → Walked view lists n l answers o k → lists.lists_on o k last r j
+  -- The last entry of a walk was refused its metadata: because of a fault.
+  pub walk_fails : (follows : Bool) (p q : Place) (w : World) (path : WebPath) (n o : S) (l k : ListingState) (answers : List Answered) (name : List ℕ) (e : FsError) → p.disk.told ≡ Some w → IsWorld w
+      → Finds p path.names (BeginsAt (wanted_by follows)) (Ok l) q → view.state n ≡ q.disk → HasNoLinks w l.path → Walked view lists n l (answers ++ record { name = name; meta = Err e } ∷ []) o k
+      → (e ≡ fs.GeneralFailure) × Rose p.disk.faults (view.state o).faults
+  walk_fails follows p q w path n o l k answers name e told world (found, m, resolves, after) state links walk =
+      by_begun (began follows p q w path n l found m told resolves after state links.way)
+    where
+      by_begun : Began p w n l → (e ≡ fs.GeneralFailure) × Rose p.disk.faults (view.state o).faults
+      by_begun g =
+          let all = answers ++ record { name = name; meta = Err e } ∷ [] in
+          let r = of_rows g.begun n o l k all (subst IsWorld (sym g.world) world) (subst (λ v. HasNoLinks v g.begun.dir) (sym g.world) (subst (HasNoLinks w) (sym g.dir) links)) g.start walk in
+          let failing = are_failing g.begun.world g.begun.dir g.begun.from (view.state o).faults all r.of.given r.of.names r.each r.free in
+          subst (λ from. (e ≡ fs.GeneralFailure) × Rose from (view.state o).faults) g.from
+          (last_of (Fails g.begun.from (view.state o).faults) answers (record { name = name; meta = Err e }) failing e refl)
+
+  pub walk_ends : (follows : Bool) (p q : Place) (w : World) (path : WebPath) (n o r : S) (l k j : ListingState) (answers : List Answered) (last : Result (Option LocalFsDirEntry) FsError) → p.disk.told ≡ Some w
+      → Finds p path.names (BeginsAt (wanted_by follows)) (Ok l) q → view.state n ≡ q.disk → HasNoLinks w l.path → Walked view lists n l answers o k → lists.lists_on o k last r j
       → EndsBy p.disk.faults (members w l.path) answers last (view.state r).faults
-  walk_ends p q w path n o r l k j answers last told (found, m, resolves, after) state links walk on =
-      by_begun (began p q w path n l found m told resolves after state links.way)
+  walk_ends follows p q w path n o r l k j answers last told (found, m, resolves, after) state links walk on =
+      by_begun (began follows p q w path n l found m told resolves after state links.way)
     where
       by_begun : Began p w n l → EndsBy p.disk.faults (members w l.path) answers last (view.state r).faults
       by_begun g =

@@ -20,28 +20,15 @@ use Rattle.dav_core.specs.Tree.{is_dir}
 use Rattle.dav_core.specs.Writing.{Copies, CreatesDir, RemovesDir, RemovesFile, Renames}
 use Rattle.dav_store.specs.declared.entry.ReadDirMeta.{ReadDirMeta}
 use Rattle.dav_store.specs.Void.{empty_info}
-use Rattle.dav_cache.specs.Memory.{MemoryState, Negates}
+use Rattle.dav_cache.specs.Memory.{Negates}
 use Rattle.dav_model.specs.Finding.{has_slash, is_forbidden, is_localized, is_virtual}
 use Rattle.dav_model.specs.Folds.{Name, is_dot}
 use Rattle.dav_local.specs.declared.file.LocalFsFile.{LocalFsFile}
-use Rattle.dav_local.specs.declared.fs.LocalFs.{LocalFs}
 use Rattle.dav_local.specs.Files.{done_by, filed, looked_as}
 use Rattle.dav_local.specs.Listing.{Begins, ListingState}
+pub use Rattle.dav_local.specs.Places.{Place, Stays, place_of}
 use Rattle.dav_local.specs.Resolving.{Resolves}
 use Rattle.dav_local.specs.Ways.{Ways, rules_of}
-
--- A store as its clauses see it: how it finds paths, its memory and its disk.
-pub record Place : Type 0 where
-  pub ways : Ways
-  pub memory : MemoryState
-  pub disk : DiskState
-
-abbrev pub place_of : {D R : Type 0} → (D → DiskState) → (R → MemoryState) → LocalFs D R → Place
-place_of disk memory fs = record { ways = fs.ways; memory = memory fs.memory; disk = disk fs.disk }
-
--- All but its memory and its disk stays.
-abbrev pub Stays : {D R : Type 0} → LocalFs D R → LocalFs D R → Type 0
-Stays s t = (t.ways ≡ s.ways) × (t.public ≡ s.public) × (t.moment ≡ s.moment)
 
 -- refused, with nothing asked
 abbrev pub Refuses : {T : Type 0} → FsError → Place → Result T FsError → Place → Type 0
@@ -59,8 +46,8 @@ AfterFound (Ok at) m call result q = call at m result q
 
 -- A path is found, and a call follows at the place found.
 abbrev pub Finds : {T : Type 0} → Place → Names → (Names → Place → Result T FsError → Place → Type 0) → Result T FsError → Place → Type 0
-Finds p names call result q = (found : Result Names FsError) × (m : DiskState) × Resolves p.ways p.disk names found m
-    × AfterFound found (record p { disk = m }) call result q
+Finds p names call result q = (found : Result Names FsError) × (m : Place) × Resolves p names found m
+    × AfterFound found m call result q
 
 -- one call of the disk, and what is answered by what it answers
 abbrev pub Asks : {A T : Type 0} → (DiskState → Result A DiskError → DiskState → Type 0) → (Result A DiskError → Result T FsError) → Place → Result T FsError → Place → Type 0

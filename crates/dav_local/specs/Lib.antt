@@ -5,7 +5,9 @@ pub mod Writing
 pub mod Entries
 pub mod LocalStays
 pub mod Ways
+pub mod Places
 pub mod Resolving
+pub mod Remembering
 pub mod Walking
 pub mod Listing
 pub mod Calls

@@ -1,20 +1,26 @@
 -- The steps of a walk that finds names by folding, over any disk.
-use Rattle.std.specs.Prelude.{◌≡◌, ℕ, List, [], ◌∷◌, ◌++◌, true, false, Option, None, Some, IfSome, IsSome, Result, Ok, Err, IfOk, OnErr, ◌⊎◌}
+use Rattle.std.specs.Prelude.{◌≡◌, Bool, ℕ, List, [], ◌∷◌, ◌++◌, true, false, Option, None, Some, IfSome, IsSome, Result, Ok, Err, IfOk, OnErr, ◌⊎◌, OnOk}
 use Rattle.std.specs.List.{list_any}
+use Rattle.std.specs.Option.{is_some}
 use Rattle.std.specs.Str.{bytes_eq}
+use Rattle.dav_io.specs.Counts.{RefusedNothing}
 use Rattle.dav_core.specs.declared.error.FsError.{FsError}
+use Rattle.dav_core.specs.declared.error.FsError.TheVariants.{NoMemory}
 use Rattle.dav_core.specs.declared.handle.DiskError.{DiskError}
 use Rattle.dav_core.specs.declared.handle.Lister.{Lister}
 use Rattle.dav_core.specs.declared.tree.Row.{Row}
 use Rattle.dav_core.specs.Disk.{DiskState}
 use Rattle.dav_core.specs.Path.{Names, is_plain}
-use Rattle.dav_core.specs.Tree.{is_linked, look}
+use Rattle.dav_core.specs.Tree.{is_linked, is_tree, look}
 use Rattle.dav_core.specs.Unchanged.{Keeps}
 use Rattle.dav_core.specs.World.{World, IsWorld}
-use Rattle.dav_store.specs.Files.{Spoiled}
+use Rattle.dav_store.specs.Files.{AsksOnce, Spoiled}
 use Rattle.dav_store.specs.Listings.{IsListed, KeepsButLister}
+use Rattle.dav_cache.specs.Memory.{LearnsNothing, MemoryState}
 use Rattle.dav_model.specs.Finding.{IsLoose, IsOf, is_alike}
 use Rattle.dav_model.specs.Folds.{Name, fold_name, fold_path}
+use Rattle.dav_local.specs.Places.{Place}
+use Rattle.dav_local.specs.Remembering.{AllRemembered, HasFirst, IsRemembered, StandsElsewhere, has_link}
 
 -- A listing was begun, or nothing changed.
 abbrev pub BeginsOne : DiskState → Result Lister DiskError → DiskState → Type 0
@@ -63,11 +69,92 @@ abbrev pub StepsTo : List Row → Names → Name → Option Names → Type 0
 StepsTo tree at name (Some next) = (row : Row) × IsOf row tree × (row.path ≡ next) × (is_alike true at name row ≡ true)
 StepsTo tree at name None = list_any (is_alike true at name) tree ≡ false
 
+-- the path of a name in a directory that folds like this one
+abbrev pub IsAlikeIn : Names → Name → Names → Type 0
+IsAlikeIn at name next = (x : Name) × (next ≡ at ++ x ∷ []) × (fold_name x ≡ fold_name name)
+
 pub record Steps (s : DiskState) (at : Names) (name : Name) (result : Result (Option Names) FsError) (t : DiskState) : Type 0 where
   pub keeps : Keeps s t
   pub refused : OnErr result (Spoiled s result t)
-  pub alike : IfOk result (λ found. IfSome found (λ next. fold_path next ≡ fold_path (at ++ name ∷ [])))
+  pub alike : IfOk result (λ found. IfSome found (λ next. IsAlikeIn at name next))
   pub told : IfOk result (λ found. (w : World) → s.told ≡ Some w → IsWorld w → IsClearAt w.tree at → StepsTo w.tree at name found)
+
+-- ---- steps that ask the memory, too
+
+-- Nothing changed but the cache of paths in the memory.
+pub record KeepsPlace (p q : Place) : Type 0 where
+  pub ways : q.ways ≡ p.ways
+  pub keeps : Keeps p.disk q.disk
+  pub learns : LearnsNothing p.memory q.memory
+  pub dots : q.memory.dots ≡ p.memory.dots
+  pub tells : is_some q.memory.paths ≡ is_some p.memory.paths
+
+-- A row stands there, where that is told and no link stands on the way.
+abbrev pub StandsAt : DiskState → Names → Type 0
+StandsAt s at = (w : World) → s.told ≡ Some w → is_tree w.tree ≡ true → is_linked w.tree at ≡ false
+    → (row : Row) × (look w.tree at ≡ Ok row)
+
+-- what `RemembersRows` says, of trees
+abbrev pub RemembersIn : Place → Place → Type 0
+RemembersIn p q = (w : World) (test : Names → Bool) → p.disk.told ≡ Some w → is_tree w.tree ≡ true
+    → has_link w.tree ≡ false → ((path : Names) (row : Row) → look w.tree path ≡ Ok row → test path ≡ true)
+    → AllRemembered test p.memory → AllRemembered test q.memory
+
+-- A row stands there, in a tree without links.
+abbrev pub StandsIn : DiskState → Names → Type 0
+StandsIn s at = (w : World) → s.told ≡ Some w → is_tree w.tree ≡ true → has_link w.tree ≡ false
+    → (row : Row) × (look w.tree at ≡ Ok row)
+
+-- The memory is asked where a path was found. What it has is the first entry of its cache then.
+pub record Recalls (p : Place) (names : Names) (result : Result (Option Names) FsError) (q : Place) : Type 0 where
+  pub keeps : KeepsPlace p q
+  pub starved : OnErr result ((result ≡ Err NoMemory) × (q.disk ≡ p.disk))
+  pub alike : IfOk result (λ found. IfSome found (λ at. fold_path at ≡ fold_path names))
+  pub stood : IfOk result (λ found. IfSome found (λ at. StandsAt p.disk at))
+  pub first : IfOk result (λ found. IfSome found (λ at. HasFirst names at q.memory))
+  pub rows : RemembersIn p q
+  pub saved : IfOk result (λ found. RefusedNothing p.disk.faults q.disk.faults → (at : Names) → IsRemembered p names at
+      → (found ≡ Some at) × AsksOnce p.disk q.disk)
+
+-- A path is remembered at itself.
+pub record Remembers (p : Place) (at : Names) (result : Result Unit FsError) (q : Place) : Type 0 where
+  pub keeps : KeepsPlace p q
+  pub starved : OnErr result (result ≡ Err NoMemory)
+  pub first : OnOk result (HasFirst at at q.memory)
+  pub rows : StandsIn p.disk at → RemembersIn p q
+
+-- A step of a walk, as above.
+pub record StepsOn (p : Place) (at : Names) (name : Name) (result : Result (Option Names) FsError) (q : Place)
+    : Type 0 where
+  pub keeps : KeepsPlace p q
+  pub refused : OnErr result (Spoiled p.disk result q.disk)
+  pub alike : IfOk result (λ found. IfSome found (λ next. IsAlikeIn at name next))
+  pub told : IfOk result (λ found. (w : World) → p.disk.told ≡ Some w → is_tree w.tree ≡ true → IsClearAt w.tree at
+      → StepsTo w.tree at name found)
+  pub rows : StandsIn p.disk at → RemembersIn p q
+
+-- A directory is found for a path: what stands there folds alike.
+pub record FindsParent (p : Place) (dir : Names) (result : Result (Option Names) FsError) (q : Place) : Type 0 where
+  pub keeps : KeepsPlace p q
+  pub refused : OnErr result (Spoiled p.disk result q.disk)
+  pub alike : IfOk result (λ found. IfSome found (λ at. fold_path at ≡ fold_path dir))
+  pub stood : IfOk result (λ found. IfSome found (λ at. StandsAt p.disk at))
+  pub rows : RemembersIn p q
+
+-- A row in the directory is remembered, or none folds like the name, which is appended as it is asked.
+abbrev pub TakesIn : List Row → Names → Name → Names → MemoryState → Type 0
+TakesIn tree dir name at memory = ((row : Row) × (look tree at ≡ Ok row) × HasFirst at at memory)
+    ⊎ ((at ≡ dir ++ name ∷ []) × (list_any (is_alike true dir name) tree ≡ false))
+
+-- The member of a directory that folds like the name is found.
+pub record TakesMember (p : Place) (dir : Names) (name : Name) (result : Result Names FsError) (q : Place)
+    : Type 0 where
+  pub keeps : KeepsPlace p q
+  pub refused : OnErr result (Spoiled p.disk result q.disk)
+  pub alike : IfOk result (λ at. IsAlikeIn dir name at)
+  pub told : IfOk result (λ at. (w : World) → p.disk.told ≡ Some w → is_tree w.tree ≡ true → IsClearAt w.tree dir
+      → TakesIn w.tree dir name at q.memory)
+  pub rows : StandsIn p.disk dir → RemembersIn p q
 
 -- A walk came to a place with these names to go: however it goes on from there, it does so from the root. Or it came behind a
 -- link, where nothing is said.
@@ -75,10 +162,16 @@ abbrev pub Comes : List Row → Names → Names → Names → Type 0
 Comes tree names at rest = (IsClearAt tree at × ((end : Names) → IsLoose true tree at rest end → IsLoose true tree [] names end))
     ⊎ ((end : Names) × IsLoose true tree [] names end × (is_linked tree end ≡ true))
 
--- A path of which nothing stands there as it is written is walked from the root.
-pub record Walks (s : DiskState) (names : Names) (result : Result Names FsError) (t : DiskState) : Type 0 where
-  pub keeps : Keeps s t
-  pub refused : OnErr result (Spoiled s result t)
+-- a loose walk ends at this place, or behind a link
+abbrev pub EndsAt : List Row → Names → Names → Type 0
+EndsAt tree names at = (end : Names) × IsLoose true tree [] names end × (is_linked tree end ≡ false → at ≡ end)
+
+-- A path is found by folding. What stands elsewhere than it is asked is remembered.
+pub record Walks (p : Place) (names : Names) (result : Result Names FsError) (q : Place) : Type 0 where
+  pub keeps : KeepsPlace p q
+  pub refused : OnErr result (Spoiled p.disk result q.disk)
   pub alike : IfOk result (λ at. fold_path at ≡ fold_path names)
-  pub told : IfOk result (λ at. (w : World) → s.told ≡ Some w → IsWorld w
-      → (end : Names) × IsLoose true w.tree [] names end × (is_linked w.tree end ≡ false → at ≡ end))
+  pub told : IfOk result (λ at. (w : World) → p.disk.told ≡ Some w → is_tree w.tree ≡ true → EndsAt w.tree names at)
+  pub first : IfOk result (λ at. (e : StandsElsewhere p names at) → is_tree e.world.tree ≡ true
+      → HasFirst names at q.memory)
+  pub rows : RemembersIn p q

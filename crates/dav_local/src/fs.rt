@@ -12,16 +12,18 @@ ghost use Rattle.dav_model.specs.Folds.{is_dot};
 ghost use Rattle.dav_model.specs.Valid.{no_twins};
 ghost use Rattle.dav_store.specs.Frames.{KeepsOpen};
 ghost use Rattle.dav_store.specs.Standing.{info_in};
-ghost use Rattle.dav_local.specs.Calls.{Looks, LooksAt, MakesDefaults, MakesOne, Stays, TellsAbsent, is_shut as the_is_shut, place_of};
+ghost use Rattle.dav_local.specs.Calls.{Looks, LooksAt, MakesDefaults, MakesOne, TellsAbsent, is_shut as the_is_shut};
 ghost use Rattle.dav_local.specs.contracts.fs.LocalFs.{the_row};
 ghost use Rattle.dav_local.specs.Files.{local_info};
+ghost use Rattle.dav_local.specs.Places.{Stays, place_of};
+ghost use Rattle.dav_local.specs.Remembering.{KeepsWork, RemembersRows, SavesWork};
 ghost use Rattle.dav_local.specs.Resolving.{Resolves};
 ghost use Rattle.dav_local.specs.Ways.{resolved_by, rules_of};
 
 use crate::acts::make_missing;
 use crate::lists::look_by;
 use crate::meta::looked_as;
-use crate::walk::{parent, resolved};
+use crate::walk::parent;
 use crate::ways::{is_dot_name, is_localized};
 use crate::{LocalFsMetaData, Ways};
 use dav_cache::Remember;
@@ -30,11 +32,12 @@ use dav_io::{Moment, NoMemory};
 use std::alloc::Global;
 
 /// A disk from its root on, or one file of it, as a store. Names may be found that fold like those asked, the rules for
-/// clients of macOS may hold, and a memory is asked whether a name that begins with `._` is absent.
+/// clients of macOS may hold, and a memory is asked where paths were found, and whether a name that begins with `._` is
+/// absent.
 #[derive(Drop)]
 pub struct LocalFs<D, R> {
     pub(crate) disk: D,
-    memory: R,
+    pub(crate) memory: R,
     pub(crate) ways: Ways,
     // What is made is open to everybody.
     pub(crate) public: bool,
@@ -89,6 +92,13 @@ impl<D, R> LocalFs<D, R> {
         }
     }
 
+    /// The disk.
+    pub fn disk(&self) -> &D
+        ensures { result.now ≡ self.now.disk }
+    {
+        &self.disk
+    }
+
     /// Gives the disk and the memory back.
     pub fn into_parts(self) -> (D, R)
         ensures { result ≡ (self.disk, self.memory) }
@@ -115,20 +125,28 @@ impl<D: Disk, R: Remember> LocalFs<D, R> {
     }
 
     /// Where a path is found. Without folding it is the path itself, and for a store of one file that file; nothing is
-    /// asked then. With folding it is the path where it stands, or else what a walk from the root finds, which at each
-    /// directory takes the name as it stands or one that folds alike; what isn't there is appended as it is asked.
+    /// asked then. With folding it is what the memory has, where something stands there; or the path where it stands;
+    /// or the member that folds alike of the directory above, which is found likewise; or else what a walk from the
+    /// root finds, which at each directory takes the name as it stands or one that folds alike. What isn't there is
+    /// appended as it is asked. What is found elsewhere than it is asked is remembered.
     ///
     /// Errors: `GeneralFailure` where the disk met a fault, and want of memory.
     pub fn resolve(&mut self, path: &DavPath) -> Result<FsPath, FsError>
-        ensures done { Resolves self.old.ways (D.state self.old.disk) path.now.names result (D.state self.new.disk) }
+        ensures done { Resolves (place_of D.state R.state self.old) path.now.names result
+            (place_of D.state R.state self.new) }
+        ensures saved { SavesWork (place_of D.state R.state self.old) path.now.names result
+            (place_of D.state R.state self.new) }
+        ensures kept { KeepsWork (place_of D.state R.state self.old) path.now.names result
+            (place_of D.state R.state self.new) }
+        ensures rows { RemembersRows (place_of D.state R.state self.old) (place_of D.state R.state self.new) }
         ensures exactly { IfOk result (λ at. (w : World) → (D.state self.old.disk).told ≡ Some w
             → (self.old.ways.folds ≡ true → no_twins w.tree ≡ true)
             → is_linked w.tree (resolved_by self.old.ways w.tree path.now.names) ≡ false
             → at ≡ resolved_by self.old.ways w.tree path.now.names) }
-        ensures rest { self.new ≡ record self.old { disk = self.new.disk } }
+        ensures stays { Stays self.old self.new }
         ensures loan { D.loan self.new.disk ≡ D.loan self.old.disk }
     {
-        resolved(&mut self.disk, &self.ways, path.names())
+        self.find(path.names())
     }
 
     /// Whether the path is one of the two empty files that clients of macOS look for in the root. It takes no memory.
@@ -251,7 +269,7 @@ impl<D: Disk, R: Remember> LocalFs<D, R> {
         let Ok(path) = root.child(name) else {
             return Err(FsError::NoMemory);
         };
-        match resolved(&mut self.disk, &self.ways, &path) {
+        match self.find(&path) {
             Ok(at) => make_missing(&mut self.disk, &at, self.public),
             Err(error) => Err(error),
         }

@@ -10,6 +10,7 @@ pub mod laws;
 mod listing;
 mod lists;
 mod meta;
+mod steps;
 mod store;
 mod walk;
 mod ways;

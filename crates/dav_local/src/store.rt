@@ -1,7 +1,8 @@
 ghost use Rattle.std.specs.Prelude.{◌≡◌, Option, Some, refl};
 ghost use Rattle.dav_local.specs.Calls.{AsksToCopy, AsksToMake, AsksToMove, AsksToTakeDir, AsksToTakeFile};
-ghost use Rattle.dav_local.specs.Calls.{BeginsAt, Finds, IsOpening, Looks, Stays, place_of};
+ghost use Rattle.dav_local.specs.Calls.{BeginsAt, Finds, IsOpening, Looks};
 ghost use Rattle.dav_local.specs.Listing.{NextEntry, to_come};
+ghost use Rattle.dav_local.specs.Places.{Stays, place_of};
 
 use crate::acts::{copy_at, make_at, move_at, open_at, take_dir_at, take_file_at};
 use crate::listing::{begin, next};

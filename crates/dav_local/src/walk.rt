@@ -1,12 +1,10 @@
-// A path that is found by folding, over any disk: as it stands, or else by a walk from the root, which at each
-// directory takes the name as it stands or the entry that folds alike. Of a listing one name at a time is in memory.
+// The steps of a walk by folding, over any disk: at each directory the name is taken as it stands, or the entry that
+// folds alike. Of a listing one name at a time is in memory.
 ghost use Rattle.std.specs.Prelude.{◌≡◌, ◌++◌, Err, IfOk, IsSome, OnErr, OnOk, true};
 ghost use Rattle.dav_core.specs.Path.{all_plain, is_plain, parent_of};
 ghost use Rattle.dav_model.specs.Folds as folds;
-ghost use Rattle.dav_local.specs.Resolving.{Resolves};
-ghost use Rattle.dav_local.specs.Walking.{Searches, SearchesIn, Steps, Walks};
+ghost use Rattle.dav_local.specs.Walking.{Searches, SearchesIn, Steps};
 
-use crate::Ways;
 use crate::lists::{begin_list, end_list, look, next_name};
 use dav_cache::fold_text;
 use dav_core::{Disk, DiskError, FsError, FsPath, Lister};
@@ -64,7 +62,7 @@ fn search_in<D: Disk>(disk: &mut D, at: &FsPath, folding: &Text) -> Result<Optio
 }
 
 // The path of the name in a directory that folds like this one.
-fn alike<D: Disk>(disk: &mut D, at: &FsPath, name: &Text) -> Result<Option<FsPath>, FsError>
+pub fn alike<D: Disk>(disk: &mut D, at: &FsPath, name: &Text) -> Result<Option<FsPath>, FsError>
     ensures done { Steps (D.state disk.old) at.now name.now result (D.state disk.new) }
     ensures loan { D.loan disk.new ≡ D.loan disk.old }
 {
@@ -82,7 +80,7 @@ fn alike<D: Disk>(disk: &mut D, at: &FsPath, name: &Text) -> Result<Option<FsPat
 }
 
 // The path of a name in a directory: as it stands, or of the one that folds alike.
-fn step<D: Disk>(disk: &mut D, at: &FsPath, name: &Text) -> Result<Option<FsPath>, FsError>
+pub fn step<D: Disk>(disk: &mut D, at: &FsPath, name: &Text) -> Result<Option<FsPath>, FsError>
     requires { is_plain name.now ≡ true }
     ensures done { Steps (D.state disk.old) at.now name.now result (D.state disk.new) }
     ensures loan { D.loan disk.new ≡ D.loan disk.old }
@@ -108,7 +106,7 @@ fn append(names: &mut Vec<Text>, more: &[Text]) -> Result<(), NoMemory>
 }
 
 // The path of these names below another.
-fn below(at: &FsPath, rest: &[Text]) -> Result<FsPath, FsError>
+pub fn below(at: &FsPath, rest: &[Text]) -> Result<FsPath, FsError>
     requires { all_plain rest.now ≡ true }
     ensures ok { IfOk result (λ path. path ≡ at.now ++ rest.now) }
     ensures err { OnErr result (result ≡ Err FsError.NoMemory) }
@@ -123,24 +121,6 @@ fn below(at: &FsPath, rest: &[Text]) -> Result<FsPath, FsError>
     Ok(FsPath::new(names))
 }
 
-// Walks from the root. What isn't there is appended as it is asked.
-fn walk<D: Disk>(disk: &mut D, path: &FsPath) -> Result<FsPath, FsError>
-    ensures done { Walks (D.state disk.old) path.now result (D.state disk.new) }
-    ensures loan { D.loan disk.new ≡ D.loan disk.old }
-{
-    let mut at = FsPath::new(Vec::new(path.allocator()));
-    let mut rest = path.as_slice();
-    while let Some((name, more)) = rest.split_first() {
-        match step(disk, &at, name) {
-            Ok(Some(next)) => at = next,
-            Ok(None) => return below(&at, rest),
-            Err(error) => return Err(error),
-        }
-        rest = more;
-    }
-    Ok(at)
-}
-
 // A copy of a path.
 pub fn copied(path: &FsPath) -> Result<FsPath, FsError>
     ensures ok { IfOk result (λ copy. copy ≡ path.now) }
@@ -149,30 +129,6 @@ pub fn copied(path: &FsPath) -> Result<FsPath, FsError>
     match path.try_clone() {
         Ok(copy) => Ok(copy),
         Err(NoMemory) => Err(FsError::NoMemory),
-    }
-}
-
-// Finds a path by folding: as it stands, or else by a walk.
-fn walked<D: Disk>(disk: &mut D, path: &FsPath) -> Result<FsPath, FsError>
-    ensures done { Walks (D.state disk.old) path.now result (D.state disk.new) }
-    ensures loan { D.loan disk.new ≡ D.loan disk.old }
-{
-    match look(disk, path) {
-        Ok(_) => copied(path),
-        Err(DiskError::Failed) => Err(FsError::GeneralFailure),
-        Err(_) => walk(disk, path),
-    }
-}
-
-// Finds a path as the store finds it.
-pub fn resolved<D: Disk>(disk: &mut D, ways: &Ways, path: &FsPath) -> Result<FsPath, FsError>
-    ensures done { Resolves ways.now (D.state disk.old) path.now result (D.state disk.new) }
-    ensures loan { D.loan disk.new ≡ D.loan disk.old }
-{
-    match &ways.alone {
-        Some(file) => copied(file),
-        None if ways.folds => walked(disk, path),
-        None => copied(path),
     }
 }
 

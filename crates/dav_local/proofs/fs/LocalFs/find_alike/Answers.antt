@@ -1,0 +1,14 @@
+use Rattle.dav_local.proofs.Found.{saves_recalled, saves_unknown, walks_recalled, walks_unknown}
+use Rattle.dav_local.proofs.fs.LocalFs.find_alike.Goals as goal
+
+pub returns-in-Ok-Some-clause-done : goal.returns-in-Ok-Some-clause-done
+returns-in-Ok-Some-clause-done g c = walks_recalled _ _ _ _ c.in-Ok-Some.field-0 c.in-Ok-Some.ensures.done c.in-Ok-Some.field-0-is
+
+pub returns-in-Ok-Some-clause-saved : goal.returns-in-Ok-Some-clause-saved
+returns-in-Ok-Some-clause-saved g c = saves_recalled _ _ _ _ c.in-Ok-Some.field-0 c.in-Ok-Some.ensures.done c.in-Ok-Some.field-0-is
+
+pub returns-in-Ok-None-clause-done : goal.returns-in-Ok-None-clause-done
+returns-in-Ok-None-clause-done g c = walks_unknown _ _ _ _ c.in-Ok-None.field-0 _ c.in-Ok-None.ensures.done c.in-Ok-None.field-0-is c.find_on_disk.ensures.done
+
+pub returns-in-Ok-None-clause-saved : goal.returns-in-Ok-None-clause-saved
+returns-in-Ok-None-clause-saved g c = saves_unknown _ _ _ _ c.in-Ok-None.field-0 _ c.in-Ok-None.ensures.done c.in-Ok-None.field-0-is c.find_on_disk.ensures.done
