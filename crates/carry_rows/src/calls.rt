@@ -6,18 +6,19 @@
 //!
 //! Each `%XX` in a value is a byte.
 use anyhow::Result;
+use dav_cache::Forget;
 use dav_core::{DavError, DavPath, FsError, Kind, Member, OpenOptions, ParseError};
 use dav_disk::MemDisk;
+use dav_local::LocalFs;
 use dav_methods::{copy, move_to};
 use dav_model::Outcome;
-use dav_plain::PlainFs;
 use dav_rows::{Line, bytes_of};
 use dav_store::{GuardedFileSystem, file_close, file_read, read_members};
 use http::HeaderMap;
 use http::header::{HeaderName, HeaderValue};
 use std::alloc::Global;
 
-type Store = PlainFs<MemDisk>;
+type Store = LocalFs<MemDisk, Forget>;
 
 // The most bytes that are read of a file.
 const MOST_BYTES: usize = 64;

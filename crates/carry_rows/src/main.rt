@@ -1,5 +1,5 @@
-//! COPY and MOVE over a plain store on a disk in memory: a row a line on standard input, and an answer a line on standard
-//! output.
+//! COPY and MOVE over a local store on a disk in memory, whose names don't fold: a row a line on standard input, and an
+//! answer a line on standard output.
 //!
 //! A row is parts with ` | ` between them. The parts that set what stands there come first (`scene.rt`), and those behind
 //! them make calls (`calls.rt`); each call's answer stands before a `|`. The last word is how many calls the disk was
@@ -11,8 +11,9 @@ mod scene;
 
 use anyhow::Result;
 use calls::call;
+use dav_cache::Forget;
 use dav_disk::MemDisk;
-use dav_plain::PlainFs;
+use dav_local::LocalFs;
 use dav_rows::Line;
 use scene::{is_set, set};
 use std::alloc::Global;
@@ -24,7 +25,7 @@ fn answer(alloc: Global, row: &str, line: &mut Line) -> Result<()> {
             set(alloc, &mut disk, part.trim())?;
         }
     }
-    let mut store = PlainFs::new(disk);
+    let mut store = LocalFs::new(disk, Forget, false, false, false);
     for part in row.split('|') {
         if !is_set(part.trim()) {
             call(alloc, &mut store, part.trim(), line)?;

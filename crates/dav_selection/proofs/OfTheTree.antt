@@ -1,4 +1,4 @@
--- A plain store over a told disk shows a selection what stands in the world.
+-- A store that shows what stands in a told world shows a selection what stands in it.
 use Rattle.std.proofs.Common.{◌≡◌, ◌++◌, List, [], ◌∷◌, false, Result, Ok, Err, IsOk, refl, sym, ap, subst, ◌∙◌}
 use Rattle.std.specs.List.{AllByRecursion, filter}
 use Rattle.std.proofs.lemmas.List.Elements.{All-from_recursion, recursion_from_All}
@@ -16,8 +16,11 @@ use Rattle.dav_core.specs.World.{IsWorld, World}
 use Rattle.dav_store.specs.Members.{ShowsMembers}
 use Rattle.dav_store.specs.Reached.{ShowsOn}
 use Rattle.dav_store.specs.View.{Listings, View}
-use Rattle.dav_plain.specs.Standing.{HasNoLinks, members_found, members_of, opened}
-use Rattle.dav_plain.proofs.Found.{StandsIn, listed_dir, rows_stand}
+use Rattle.dav_model.specs.Finding.{listed_in, members_or}
+use Rattle.dav_local.specs.Standing.{HasNoLinks}
+use Rattle.dav_local.proofs.Walked.{StandsIn, listed_dir}
+use Rattle.dav_local_laws.specs.Simple.{opened}
+use Rattle.dav_local_laws.proofs.NamedMembers.{rows_stand}
 use Rattle.dav_selection.specs.Reports.{member_path}
 use Rattle.dav_selection.specs.Selection.{Selection, queries, follows, refuses}
 use Rattle.dav_selection.specs.Shown.{ShowsAt, ShowsBy, ShowsFor}
@@ -34,7 +37,7 @@ free_rows w dir [] stand free = tt
 free_rows w dir (row ∷ rows) stand free = (ap (is_linked w.tree) (sym stand.0.path) ∙ free.0, free_rows w dir rows stand.1 free.1)
 
 free_found : (w : World) (dir : Names) (found : Result Row DiskError) (all : List Member) → found ≡ listable (look w.tree dir)
-    → members_of w dir found ≡ Ok all → IsWorld w → HasNoLinks w dir
+    → members_or w dir found ≡ Ok all → IsWorld w → HasNoLinks w dir
     → AllByRecursion (λ (m : Member). is_linked w.tree (dir ++ m.name ∷ []) ≡ false) all
 free_found w dir (Err e) all is told world links = cc
 free_found w dir (Ok row) all is told world links =
@@ -43,7 +46,7 @@ free_found w dir (Ok row) all is told world links =
     let same : members w dir ≡ all = cc in
     subst (AllByRecursion (λ (m : Member). is_linked w.tree (dir ++ m.name ∷ []) ≡ false)) same
     (all_to (λ (m : Member). is_linked w.tree (dir ++ m.name ∷ []) ≡ false) (member_of w) rows
-    (free_rows w dir rows (rows_stand w.tree dir at.row world.tree at.is at.kind) links.rows))
+    (free_rows w dir rows (rows_stand w.tree dir at.row world.tree at.is) links.rows))
 
 module _ {S C F L E : Type 0} (view : View S C F) (lists : Listings S C L E) (s : S) (c : C) (w : World)
     (files : (path : WebPath) → is_linked w.tree path.names ≡ false → ShowsOn view lists s c path (opened w path)) where
@@ -51,12 +54,12 @@ module _ {S C F L E : Type 0} (view : View S C F) (lists : Listings S C L E) (s 
   led_by (Ok path) free = files path free
   led_by (Err e) free = tt
 
-  pub tree_shown : (dir : WebPath) (q : Selection) → IsWorld w → (HasNoLinks w dir.names → ShowsMembers view lists s c dir (members_found w dir))
+  pub tree_shown : (dir : WebPath) (q : Selection) → IsWorld w → (HasNoLinks w dir.names → ShowsMembers view lists s c dir (listed_in w dir.names))
       → IsOf dir q → MeetsNoLink w q
       → ShowsFor view lists s c (stock_of w) q
   tree_shown dir (queries q) world lists_so is links = record {
     members =
-        subst (λ d. ShowsMembers view lists s c d (members_found w d)) (sym is) (lists_so (subst (λ (d : WebPath). HasNoLinks w d.names) is links));
+        subst (λ (d : WebPath). ShowsMembers view lists s c d (listed_in w d.names)) (sym is) (lists_so (subst (λ (d : WebPath). HasNoLinks w d.names) is links));
     files = λ all told. All-from_recursion (λ m. ShowsAt view lists s c (stock_of w) (member_path q.dir m)) all
         (all_map (λ (m : Member). is_linked w.tree (q.dir.names ++ m.name ∷ []) ≡ false) (λ m. ShowsAt view lists s c (stock_of w) (member_path q.dir m)) all
         (λ m free. files (member_path q.dir m) free) (free_found w q.dir.names (listable (look w.tree q.dir.names)) all refl told world links));

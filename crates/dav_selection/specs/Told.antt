@@ -5,13 +5,15 @@ use Rattle.dav_core.specs.DavPath.{WebPath}
 use Rattle.dav_core.specs.Grammar.{parsed}
 use Rattle.dav_core.specs.Tree.{is_linked}
 use Rattle.dav_core.specs.World.{World}
-use Rattle.dav_plain.specs.Standing.{HasNoLinks, members_found, opened}
+use Rattle.dav_model.specs.Finding.{listed_in}
+use Rattle.dav_local.specs.Standing.{HasNoLinks}
+use Rattle.dav_local_laws.specs.Simple.{opened}
 use Rattle.dav_selection.specs.Selection.{Selection, queries, follows, refuses}
 use Rattle.dav_selection.specs.Shown.{Stock}
 
 -- the members of the world's directories, and what is opened at its paths
 abbrev pub stock_of : World → Stock
-stock_of w = record { listed = members_found w; opened = opened w }
+stock_of w = record { listed = λ path. listed_in w path.names; opened = opened w }
 
 -- No link stands on the way to where a link of a request leads.
 abbrev pub IsFreeBy : World → Result WebPath ParseError → Type 0

@@ -1,9 +1,11 @@
-//! Reports over a plain store. Where its disk tells its world, they are those of its tree.
+//! Reports over a local store. Where its disk tells its world and each path is meant as it is written, they are those of
+//! its tree.
 ghost use Rattle.std.specs.Prelude.{◌≡◌, ◌⊎◌, Err, Some};
 ghost use Rattle.dav_io.specs.Counts.{Rose};
 ghost use Rattle.dav_core.specs.Unchanged.{Keeps};
 ghost use Rattle.dav_core.specs.World.{World};
 ghost use Rattle.dav_store.specs.View.{the_listings, the_view};
+ghost use Rattle.dav_local_laws.specs.Simple.{plain_ways};
 ghost use Rattle.dav_report.specs.AddressBooks.{address_report as cards_asked};
 ghost use Rattle.dav_report.specs.Calendars.{calendar_report as calendars_asked};
 ghost use Rattle.dav_selection.specs.Selection.{Selection, address_selection, calendar_selection};
@@ -11,37 +13,37 @@ ghost use Rattle.dav_selection.specs.Shown.{IsRight, ShowsFor};
 ghost use Rattle.dav_selection.specs.Told.{IsOf, MeetsNoLink, stock_of};
 
 use crate::{addressbook_report, calendar_report};
+use dav_cache::Remember;
 use dav_core::{DavPath, Disk};
+use dav_local::{LocalFs, LocalFsDirEntry, LocalFsFile};
+use dav_local_laws::local_stores_show_the_tree;
 use dav_lock::Element;
-use dav_plain::laws::shows_the_members;
-use dav_plain::throughout::shows_throughout;
-use dav_plain::{PlainEntry, PlainFile, PlainFs};
 use dav_report::{Report, ReportError};
 use dav_store::{DavDirEntry, DavFile, GuardedFileSystem};
 use std::alloc::Global;
 
-/// Where the disk tells its world, and no link is met, the store shows a selection what stands in the world; a query is
-/// one of the directory at the path. A law: the call does nothing.
-pub fn shows_the_tree<D: Disk>(_fs: &PlainFs<D>, _path: &DavPath)
-    ensures { (w : World) → (D.state _fs.now.disk).told ≡ Some w → (q : Selection) → IsOf _path.now q → MeetsNoLink w q
-        → ShowsFor (the_view ⟦<PlainFs<D> as GuardedFileSystem<()>>⟧ D.Disk ⟦<PlainFile as DavFile<D>>⟧)
-        (the_listings ⟦<PlainFs<D> as GuardedFileSystem<()>>⟧ ⟦<PlainEntry as DavDirEntry<D>>⟧) _fs.now tt (stock_of w)
-        q }
+/// Where the disk tells its world, each path is meant as it is written and no link is met, the store shows a selection
+/// what stands in the world; a query is one of the directory at the path. A law: the call does nothing.
+pub fn shows_the_tree<D: Disk, R: Remember>(_fs: &LocalFs<D, R>, _path: &DavPath)
+    ensures { (w : World) → (D.state _fs.now.disk).told ≡ Some w → _fs.now.ways ≡ plain_ways → (q : Selection)
+        → IsOf _path.now q → MeetsNoLink w q
+        → ShowsFor (the_view ⟦<LocalFs<D, R> as GuardedFileSystem<()>>⟧ D.Disk ⟦<LocalFsFile as DavFile<D>>⟧)
+        (the_listings ⟦<LocalFs<D, R> as GuardedFileSystem<()>>⟧ ⟦<LocalFsDirEntry as DavDirEntry<D>>⟧) _fs.now tt
+        (stock_of w) q }
 {
-    shows_the_members(_fs, _path);
-    shows_throughout(_fs);
+    local_stores_show_the_tree(_fs);
 }
 
-/// `calendar_report` over a plain store: where its disk tells its world, and no link is met, the report of what stands
-/// in that world, or may stand in its place where a fault was met.
-pub fn plain_calendar_report<D: Disk>(
+/// `calendar_report` over a local store: where its disk tells its world, each path is meant as it is written and no link
+/// is met, the report of what stands in that world, or may stand in its place where a fault was met.
+pub fn local_calendar_report<D: Disk, R: Remember>(
     alloc: Global,
     root: &Element,
     path: &DavPath,
     prefix: &str,
-    fs: &mut PlainFs<D>,
+    fs: &mut LocalFs<D, R>,
 ) -> Result<Report, ReportError>
-    ensures tree { (w : World) → (D.state fs.old.disk).told ≡ Some w
+    ensures tree { (w : World) → (D.state fs.old.disk).told ≡ Some w → fs.old.ways ≡ plain_ways
         → MeetsNoLink w (calendar_selection path.now prefix.now (calendars_asked root.now))
         → IsRight (calendar_selection path.now prefix.now (calendars_asked root.now)) (stock_of w)
         (Rose (D.state fs.old.disk).faults (D.state fs.new.disk).faults) result ⊎ (result ≡ Err ReportError.NoMemory) }
@@ -52,15 +54,15 @@ pub fn plain_calendar_report<D: Disk>(
     calendar_report(alloc, root, path, prefix, fs, &())
 }
 
-/// `addressbook_report` over a plain store likewise.
-pub fn plain_addressbook_report<D: Disk>(
+/// `addressbook_report` over a local store likewise.
+pub fn local_addressbook_report<D: Disk, R: Remember>(
     alloc: Global,
     root: &Element,
     path: &DavPath,
     prefix: &str,
-    fs: &mut PlainFs<D>,
+    fs: &mut LocalFs<D, R>,
 ) -> Result<Report, ReportError>
-    ensures tree { (w : World) → (D.state fs.old.disk).told ≡ Some w
+    ensures tree { (w : World) → (D.state fs.old.disk).told ≡ Some w → fs.old.ways ≡ plain_ways
         → MeetsNoLink w (address_selection path.now prefix.now (cards_asked root.now))
         → IsRight (address_selection path.now prefix.now (cards_asked root.now)) (stock_of w)
         (Rose (D.state fs.old.disk).faults (D.state fs.new.disk).faults) result ⊎ (result ≡ Err ReportError.NoMemory) }

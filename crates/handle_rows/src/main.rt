@@ -14,12 +14,12 @@
 //! with those that are set once the second ones are put over the first. A row that begins with `#` is written as it stands.
 #![tactic(auto)]
 
-ghost use Rattle.std.specs.Prelude.{IfOk, IfSome};
+ghost use Rattle.std.specs.Prelude.{◌≡◌, IfOk, IfSome};
 ghost use Rattle.dav_body.specs.Bodies.{MayPoll};
 ghost use Rattle.dav_config.specs.Responses.{inner_of};
 ghost use Rattle.dav_disk.specs.Failing.{mem_state};
 ghost use Rattle.dav_get.specs.Bodies.{IsHeld};
-ghost use Rattle.dav_plain.specs.Calls.{seen_by};
+ghost use Rattle.dav_local.specs.Files.{seen_by};
 
 mod readers;
 mod requests;
@@ -28,11 +28,12 @@ mod told;
 
 use anyhow::{Result, bail};
 use dav_body::StreamBody;
+use dav_cache::Forget;
 use dav_config::{Answered, DavHandler};
 use dav_core::{FileTime, FsPath};
 use dav_disk::MemDisk;
 use dav_io::{Moment, Text};
-use dav_plain::{PlainFile, PlainFs};
+use dav_local::{LocalFs, LocalFsFile};
 use dav_store::DavFileSystem;
 use http::Request;
 use readers::Pieces;
@@ -40,7 +41,7 @@ use requests::request_of;
 use settings::{Config, config_of};
 use std::alloc::Global;
 
-type Handler = DavHandler<PlainFs<MemDisk>, ()>;
+type Handler = DavHandler<LocalFs<MemDisk, Forget>, ()>;
 
 // A form of `handle`, and the words of the configuration that is given with each request.
 #[derive(Clone, Copy)]
@@ -79,6 +80,13 @@ fn given_disk(alloc: Global, words: &str) -> Result<MemDisk> {
     Ok(disk)
 }
 
+// A store of a disk, in which each path is meant as it is written.
+fn store_of(disk: MemDisk) -> LocalFs<MemDisk, Forget>
+    ensures { result.disk ≡ disk }
+{
+    LocalFs::new(disk, Forget, false, false, false)
+}
+
 // The configuration that is given with a request.
 fn given_config(alloc: Global, words: &str) -> Result<Config> {
     let config = config_of(alloc, words)?;
@@ -86,7 +94,7 @@ fn given_config(alloc: Global, words: &str) -> Result<Config> {
         return Ok(config);
     }
     let disk = given_disk(alloc, words)?;
-    Ok(config.filesystem(PlainFs::new(disk)))
+    Ok(config.filesystem(store_of(disk)))
 }
 
 // The disk on which the rows run.
@@ -111,7 +119,7 @@ fn answered(
     form: &str,
     config: Config,
     request: Request<Pieces>,
-) -> Answered<PlainFile>
+) -> Answered<LocalFsFile>
     ensures { IfOk result (λ r. IfSome handler.new.store (λ s. MayPoll
         (λ b d. IsHeld (λ f. f.handle.0) seen_by (mem_state d) b) (inner_of r) s.disk)) }
 {
@@ -173,7 +181,7 @@ fn handler_of(alloc: Global, form: Form<'_>, words: &str) -> Result<Handler> {
     let disk = disk_of(alloc)?;
     Ok(
         config_of(alloc, words)?
-            .filesystem(PlainFs::new(disk))
+            .filesystem(store_of(disk))
             .build_handler(),
     )
 }

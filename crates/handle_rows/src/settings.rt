@@ -1,14 +1,15 @@
 //! Settings of a row, as words `NAME=VALUE`.
 use anyhow::Result;
+use dav_cache::Forget;
 use dav_config::{DavConfig, Settings};
 use dav_core::{DavMethod, DavMethodSet, DavPath, dav_method, is_plain};
 use dav_disk::MemDisk;
 use dav_io::{NoMemory, Text};
-use dav_plain::PlainFs;
+use dav_local::LocalFs;
 use http::Method;
 use std::alloc::Global;
 
-pub type Config = DavConfig<PlainFs<MemDisk>, ()>;
+pub type Config = DavConfig<LocalFs<MemDisk, Forget>, ()>;
 
 // The methods that there are.
 const METHODS: &str =

@@ -2,14 +2,14 @@
 ghost use Rattle.dav_body.specs.Bodies.{MayPoll};
 ghost use Rattle.dav_disk.specs.Failing.{mem_state};
 ghost use Rattle.dav_get.specs.Bodies.{IsHeld};
-ghost use Rattle.dav_plain.specs.Calls.{seen_by};
+ghost use Rattle.dav_local.specs.Files.{seen_by};
 
 use anyhow::Result;
 use dav_body::{Body, BodyFault, BodyType, collect};
 use dav_disk::MemDisk;
 use dav_get::GetBody;
 use dav_io::Octets;
-use dav_plain::PlainFile;
+use dav_local::LocalFsFile;
 use http::{HeaderMap, Response};
 use percent_encoding::{AsciiSet, CONTROLS, percent_encode};
 use std::alloc::Global;
@@ -38,7 +38,7 @@ pub fn show_head<B>(alloc: Global, line: &mut String, response: &Response<B>) ->
 }
 
 /// Adds what a body is that no disk is there for: nothing.
-pub fn show_kind(line: &mut String, body: &Body<GetBody<PlainFile>>) -> Result<()> {
+pub fn show_kind(line: &mut String, body: &Body<GetBody<LocalFsFile>>) -> Result<()> {
     match &body.inner {
         BodyType::Empty => line.push_str(" =")?,
         BodyType::Bytes(_) => line.push_str(" bytes")?,
@@ -62,7 +62,7 @@ pub fn show_body(line: &mut String, all: &Result<Octets, BodyFault>) -> Result<(
 pub fn gathered(
     alloc: Global,
     disk: &mut MemDisk,
-    body: Body<GetBody<PlainFile>>,
+    body: Body<GetBody<LocalFsFile>>,
 ) -> Result<Octets, BodyFault>
     requires { MayPoll (λ b d. IsHeld (λ f. f.handle.0) seen_by (mem_state d) b) body.inner disk.old }
 {
@@ -73,7 +73,7 @@ pub fn gathered(
 }
 
 /// Ends a body, and its file where it is still open.
-pub fn end(disk: &mut MemDisk, body: Body<GetBody<PlainFile>>)
+pub fn end(disk: &mut MemDisk, body: Body<GetBody<LocalFsFile>>)
     requires { MayPoll (λ b d. IsHeld (λ f. f.handle.0) seen_by (mem_state d) b) body.inner disk.old }
 {
     let Body { inner } = body;

@@ -1,5 +1,5 @@
-//! Puts calendar and address book requests to a plain store over a disk in memory: a row a line on standard input, and what
-//! it selects a line on standard output.
+//! Puts calendar and address book requests to a local store over a disk in memory, whose names don't fold: a row a line on
+//! standard input, and what it selects a line on standard output.
 //!
 //! A row is words with blanks between them; `texts.rt` says how a word writes a text. `new` empties the disk.
 //! `dir PATH NUMBER` and `file PATH NUMBER TEXT` add to it, `raw PATH NUMBER TEXT` with a byte for each character below 256,
@@ -19,8 +19,9 @@ mod told;
 mod trees;
 
 use anyhow::Result;
+use dav_cache::Forget;
 use dav_disk::MemDisk;
-use dav_plain::PlainFs;
+use dav_local::LocalFs;
 use disks::change;
 use texts::word;
 
@@ -30,10 +31,10 @@ fn main(rt: HostRuntime) -> Result<()> {
         let line = line?;
         match word(line.as_str(), 0) {
             "calendar" | "cards" => {
-                let mut fs = PlainFs::new(disk);
+                let mut fs = LocalFs::new(disk, Forget, false, false, false);
                 let told = told::answer(rt.alloc(), &mut fs, line.as_str())?;
                 println!(rt; "{told}")?;
-                disk = fs.into_disk();
+                (disk, _) = fs.into_parts();
             }
             _ => disk = change(rt.alloc(), disk, line.as_str())?,
         }

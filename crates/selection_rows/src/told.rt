@@ -3,9 +3,10 @@
 use crate::texts::{tell, tell_text, word};
 use crate::trees;
 use anyhow::Result;
+use dav_cache::Forget;
 use dav_core::DavPath;
 use dav_disk::MemDisk;
-use dav_plain::PlainFs;
+use dav_local::LocalFs;
 use dav_report::{Record, Report, ReportError};
 use dav_selection::{addressbook_report, calendar_report};
 use std::alloc::Global;
@@ -16,7 +17,7 @@ fn prefix_of(word: &str) -> &str {
 
 fn selected(
     alloc: Global,
-    fs: &mut PlainFs<MemDisk>,
+    fs: &mut LocalFs<MemDisk, Forget>,
     row: &str,
 ) -> Result<std::result::Result<Report, ReportError>> {
     let root = trees::root(alloc, row, 3)?;
@@ -48,7 +49,7 @@ fn tell_report(line: &mut String, report: &Report) -> Result<()> {
 }
 
 /// What a row selects, and how often the disk was asked.
-pub fn answer(alloc: Global, fs: &mut PlainFs<MemDisk>, row: &str) -> Result<String> {
+pub fn answer(alloc: Global, fs: &mut LocalFs<MemDisk, Forget>, row: &str) -> Result<String> {
     let before = fs.disk().asked();
     let mut line = String::new(alloc);
     match selected(alloc, fs, row)? {

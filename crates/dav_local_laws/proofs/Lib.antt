@@ -1,0 +1,17 @@
+pub mod LocalUsual
+pub mod LocalReads
+pub mod LocalAsks
+pub mod PlainLooks
+pub mod CallsDone
+pub mod Refilled
+pub mod FileWrites
+pub mod ReachedCounts
+pub mod NameOrder
+pub mod NamedMembers
+pub mod TreeLooks
+pub mod ListingWorlds
+pub mod PlainWays
+pub mod LocalMoves
+pub mod LocalFollows
+pub mod LocalLeads
+pub mod LocalShows

@@ -1,0 +1,340 @@
+-- A local store follows the rules by which each path is meant as it is written, where its names don't fold and the rules for macOS
+-- don't hold.
+use Rattle.std.proofs.Common.{◌≡◌, ◌⊎◌, ◌++◌, inl, inr, ℕ, true, false, List, [], ◌∷◌, map, length, Option, None, Some, Result, Ok, Err, IsOk, refl, sym, ap, subst, ◌∙◌, arith, append-nil, length-append}
+use Rattle.std.proofs.lemmas.List.Elements.{All-from_recursion, recursion_from_All}
+use Rattle.std.proofs.lemmas.List.Sorted.{All-permutation, IsPermutation-map, IsPermutation-sym, IsPermutation-trans, length_permutation}
+use Rattle.std.proofs.lemmas.Slice.Zip.{AllZip-long}
+use Rattle.std.specs.List.{AllByRecursion, AllZip, filter}
+use Rattle.std.specs.List.Sorted.{IsPermutation}
+use Rattle.dav_io.specs.Counts.{Rose}
+use Rattle.dav_io.specs.Told.{Both}
+use Rattle.dav_io.proofs.ToldLemmas.{both_map, both_same, both_then, told_after}
+use Rattle.dav_core.specs.declared.error.FsError.{FsError}
+use Rattle.dav_core.specs.declared.handle.DiskError.{DiskError}
+use Rattle.dav_core.specs.declared.handle.DiskError.TheVariants.{NotFound, Exists, NotDir, IsDir, NotEmpty, Failed, NoMemory}
+use Rattle.dav_core.specs.declared.handle.Lister.{Lister}
+use Rattle.dav_core.specs.declared.member.Member.{Member}
+use Rattle.dav_core.specs.declared.tree.Kind.TheVariants.{Dir}
+use Rattle.dav_core.specs.declared.tree.Row.{Row}
+use Rattle.dav_core.specs.DavPath.{WebPath}
+use Rattle.dav_core.specs.Disk.{DiskState}
+use Rattle.dav_core.specs.Errors.{fs_error_of}
+use Rattle.dav_core.specs.Info.{Info}
+use Rattle.dav_core.specs.Listing.{EndedIn, ListedIn, ListsOn, NextIn, listable, name_of, stands_in}
+use Rattle.dav_core.specs.Members.{member_of, members}
+use Rattle.dav_core.specs.Path.{Names}
+use Rattle.dav_core.specs.Tree.{has_dir, is_dir, look}
+use Rattle.dav_core.specs.World.{SameBesidesOpens, World, put}
+use Rattle.dav_core.specs.Writing.{appends}
+use Rattle.dav_core.proofs.UnchangedLemmas.{same_besides, same_besides_then}
+use Rattle.dav_store.specs.declared.entry.ReadDirMeta.TheVariants.{DataSymlink}
+use Rattle.dav_store.specs.Files.{Spoiled}
+use Rattle.dav_store.specs.Members.{Answered, AreOf, IsAnswerOf, SaysOrRose, Walked, begun, goes as walks}
+use Rattle.dav_store.specs.View.{Listings, View}
+use Rattle.dav_model.specs.declared.settings.Settings.{Settings}
+use Rattle.dav_model.specs.Finding.{is_clear}
+use Rattle.dav_model.specs.Rules.{plain_rules}
+use Rattle.dav_model.specs.Walks.{dir_first, in_order}
+use Rattle.dav_model.proofs.PlainWalks.{plain_resolved}
+use Rattle.dav_methods.specs.declared.child.Child.{Child}
+use Rattle.dav_methods.specs.Follows.{FailsToList, Follows, ListsBy, Reached, Told, child_of, children_in}
+use Rattle.dav_methods.specs.Pouring.{Writes, WritesFile}
+use Rattle.dav_methods.specs.Reading.{AllSaid, HasMembers, HasNoMembers, MembersUnread, ReadRefused, child_named, child_said, children_said}
+use Rattle.dav_cache.specs.Memory.{MemoryState}
+use Rattle.dav_local.specs.declared.entry.LocalFsDirEntry.{LocalFsDirEntry}
+use Rattle.dav_local.specs.declared.file.LocalFsFile.{LocalFsFile}
+use Rattle.dav_local.specs.Calls.{BeginsAt, Finds, Place}
+use Rattle.dav_local.specs.Listing.{Fills, ListingState, NextEntry, ReadsOne, Refills}
+use Rattle.dav_local.specs.Listing.Fills.{ended, full, more as reads_more}
+use Rattle.dav_local.specs.Shown.{EndsBy, WhyRefused}
+use Rattle.dav_local.specs.Standing.{HasNoLinks}
+use Rattle.dav_local.specs.declared.ways.Ways.{Ways}
+use Rattle.dav_local.proofs.Filling.{given_keeps}
+use Rattle.dav_local.proofs.Walked.{ListsLocal, listed_dir, walk_ends, walk_fails, walk_told}
+use Rattle.dav_local_laws.proofs.FileWrites.{WrittenFrom, writes_told}
+use Rattle.dav_local_laws.proofs.ListingWorlds.{listed_besides, next_besides, same_world}
+use Rattle.dav_local_laws.proofs.NamedMembers.{are_members, in_name_order, member, paths_of, rows_members, rows_stand}
+use Rattle.dav_local_laws.proofs.NameOrder.{ascending_once, order_ascends, order_permutes, sorted_ascends}
+use Rattle.dav_local_laws.proofs.PlainLooks.{both_with, called_for}
+use Rattle.dav_local_laws.proofs.ReachedCounts.{reached_counts}
+use Rattle.dav_local_laws.proofs.TreeLooks.{dir_listed}
+use Rattle.dav_local_laws.specs.Simple.{plain_ways}
+use Rattle.dav_local_laws.proofs.LocalReads.{no_links}
+use Rattle.dav_local_laws.specs.LocalStore.{IsLocalStore, place}
+use Rattle.dav_local_laws.proofs.LocalLeads.{calls_remain}
+use Rattle.dav_local_laws.proofs.LocalMoves.{move_told}
+use Rattle.dav_local_laws.proofs.LocalUsual.{local_usual}
+use Rattle.dav_local_laws.proofs.PlainWays.{Lost, copy_told, finds_plain, look_at_link_told, look_told, make_told, open_told, take_dir_told, take_file_told}
+
+-- ---- members
+
+abbrev childm : WebPath → Member → Child
+childm path m = child_named path m.name (is_dir m.kind)
+
+one_said : (path : WebPath) (from now : ℕ) (a : Answered) (m : Member) → (r : Result Info FsError) → a.meta ≡ r → IsOk r → IsAnswerOf from now a m
+    → child_said path a.name r ≡ childm path m ∷ []
+one_said path from now a m (Ok info) is ok of =
+    let says = subst (SaysOrRose from now m) is of.says in
+    ap (λ n. child_named path n (is_dir info.kind) ∷ []) of.name ∙ ap (λ k. child_named path m.name (is_dir k) ∷ []) says.0
+one_said path from now a m (Err e) is ok of = cc
+
+said_given : (path : WebPath) (from now : ℕ) (answers : List Answered) (given : List Member) → AllSaid answers → AllZip (IsAnswerOf from now) answers given
+    → children_said path answers ≡ map (childm path) given
+said_given path from now [] [] said each = refl
+said_given path from now [] (m ∷ given) said each = absurd each
+said_given path from now (a ∷ answers) [] said each = absurd each
+said_given path from now (a ∷ answers) (m ∷ given) said each =
+    ap (λ ms. ms ++ children_said path answers) (one_said path from now a m a.meta refl said.0 each.0)
+    ∙ ap (λ ms. childm path m ∷ ms) (said_given path from now answers given said.1 each.1)
+
+rows_children : (w : World) (path : WebPath) (rows : List Row) → map (childm path) (map (member_of w) rows) ≡ map (child_of path) rows
+rows_children w path [] = refl
+rows_children w path (row ∷ rows) = ap (λ ms. child_of path row ∷ ms) (rows_children w path rows)
+
+names_children : (path : WebPath) (rows : List Row) → map (λ (m : Child). m.name) (map (child_of path) rows) ≡ map name_of rows
+names_children path [] = refl
+names_children path (row ∷ rows) = ap (λ ns. name_of row ∷ ns) (names_children path rows)
+
+none_left : (given rest : List Member) (n : ℕ) → length (given ++ rest) ≡ n → length given ≡ n → rest ≡ []
+none_left given [] n all some = refl
+none_left given (m ∷ rest) n all some = absurd (omega (arith, length-append given (m ∷ rest)))
+
+-- Where all members were told of, the children are those of the rows, in some order.
+children_are : (w : World) (path : WebPath) (from now : ℕ) (answers : List Answered) → AreOf (members w path.names) from now answers → length answers ≡ length (members w path.names) → AllSaid answers
+    → IsPermutation (map (child_of path) (filter (stands_in path.names) w.tree)) (children_said path answers)
+children_are w path from now answers of long said =
+    let rows = filter (stands_in path.names) w.tree in
+    let all = members w path.names in
+    let none = none_left of.given of.rest (length all) (length_permutation all (of.given ++ of.rest) of.once) (AllZip-long (IsAnswerOf from now) answers of.given of.each ∙ long) in
+    let once : IsPermutation all of.given = subst (IsPermutation all) (ap (λ xs. of.given ++ xs) none ∙ append-nil of.given) of.once in
+    subst (λ z. IsPermutation (map (child_of path) rows) z) (sym (said_given path from now answers of.given said of.each))
+    (subst (λ z. IsPermutation z (map (childm path) of.given)) (rows_children w path rows) (IsPermutation-map (childm path) all of.given once))
+
+-- ---- what listings leave of the told world
+
+abbrev Besides : DiskState → DiskState → Type 0
+Besides s t = Both s.told t.told SameBesidesOpens
+
+besides_then : (s m t : DiskState) → Besides s m → Besides m t → Besides s t
+besides_then s m t p q = both_then s.told m.told t.told SameBesidesOpens SameBesidesOpens SameBesidesOpens same_besides_then p q
+
+besides_same : (s t : DiskState) → t ≡ s → Besides s t
+besides_same s t same = both_same s.told t.told SameBesidesOpens same_besides (ap (λ (d : DiskState). d.told) same)
+
+asked_besides : (l : ℕ) (answer : Result (Option (List ℕ)) DiskError) (s m t : DiskState) → ListsOn s l answer m → Besides m t → Besides s t
+asked_besides l answer s m t on rest = besides_then s m t (both_map s.told m.told (NextIn l answer) SameBesidesOpens (next_besides l answer) on.told) rest
+
+reads_besides : (s t : DiskState) (k e : ListingState) → ReadsOne s k t e → Besides s t
+reads_besides s t k e (Ok (Some name), m, on, (given, gives, is)) = asked_besides k.lister.0 (Ok (Some name)) s m t on (given_keeps name k.path k.wanted m given t gives).world
+reads_besides s t k e (Ok None, m, on, (same, is)) = asked_besides k.lister.0 (Ok None) s m t on (besides_same m t same)
+reads_besides s t k e (Err NoMemory, m, on, (same, is)) = asked_besides k.lister.0 (Err NoMemory) s m t on (besides_same m t same)
+reads_besides s t k e (Err Failed, m, on, (same, is)) = asked_besides k.lister.0 (Err Failed) s m t on (besides_same m t same)
+reads_besides s t k e (Err NotFound, m, on, (same, is)) = asked_besides k.lister.0 (Err NotFound) s m t on (besides_same m t same)
+reads_besides s t k e (Err Exists, m, on, (same, is)) = asked_besides k.lister.0 (Err Exists) s m t on (besides_same m t same)
+reads_besides s t k e (Err NotDir, m, on, (same, is)) = asked_besides k.lister.0 (Err NotDir) s m t on (besides_same m t same)
+reads_besides s t k e (Err IsDir, m, on, (same, is)) = asked_besides k.lister.0 (Err IsDir) s m t on (besides_same m t same)
+reads_besides s t k e (Err NotEmpty, m, on, (same, is)) = asked_besides k.lister.0 (Err NotEmpty) s m t on (besides_same m t same)
+
+fills_besides : (n : ℕ) (s t : DiskState) (k e : ListingState) → Fills n s k t e → Besides s t
+fills_besides n s t k e (full a d) = besides_same a a refl
+fills_besides n s t k e (ended i a d over) = besides_same a a refl
+fills_besides n s t k e (reads_more i a m b d f g still reads fills) = besides_then a m b (reads_besides a m d f reads) (fills_besides i m b f g fills)
+
+refills_besides : (batch : List LocalFsDirEntry) (s t : DiskState) (k e : ListingState) → Refills batch s k t e → Besides s t
+refills_besides [] s t k e fills = fills_besides 256 s t k e fills
+refills_besides (entry ∷ batch) s t k e (same, is) = besides_same s t same
+
+next_entry_besides : (s t : DiskState) (k e : ListingState) (r : Result (Option LocalFsDirEntry) FsError) → NextEntry s k r t e → Besides s t
+next_entry_besides s t k e r (f, refills, gives) = refills_besides k.batch s t k f refills
+
+begins_besides : (p q : Place) (names : Names) (r : Result ListingState FsError) → Finds p names (BeginsAt DataSymlink) r q → Besides p.disk q.disk
+begins_besides p q names r (Err e, m, resolves, (is, ends)) =
+    besides_then p.disk m.disk q.disk resolves.keeps.world (besides_same m.disk q.disk (ap (λ (x : Place). x.disk) ends))
+begins_besides p q names r (Ok end, m, resolves, (t, (answer, lists_so, is), ends)) =
+    besides_then p.disk m.disk q.disk resolves.keeps.world
+    (besides_then m.disk t q.disk (both_map m.disk.told t.told (ListedIn end answer) SameBesidesOpens (listed_besides end answer) lists_so.told) (besides_same t q.disk (ap (λ (x : Place). x.disk) ends)))
+
+why_spoiled : (s t : DiskState) (e : FsError) → WhyRefused s.faults t.faults e → Spoiled {T = Unit {0}} s (Err e) t
+why_spoiled s t e (inl none) = inr (ap Err none)
+why_spoiled s t e (inr (is, rose)) = inl (ap Err is, rose)
+
+module _ {S C : Type 0} (view : View S C LocalFsFile) (lists : Listings S C ListingState LocalFsDirEntry) (writes : Writes LocalFsFile) (c : C) (ways : S → Ways) (memory : S → MemoryState)
+    (local : IsLocalStore view lists writes ways memory) (settings : Settings) where
+  abbrev at : S → Place
+  at s = place view lists writes ways memory s
+
+  writes_file_told : (m n : S) (f g : LocalFsFile) (bytes : List ℕ) (r : Result Unit FsError) → WritesFile view writes m f bytes r n g → appends ((view.state m).live (view.handle f)) ≡ false
+      → Told view lists writes c m n (WrittenFrom (view.handle f) bytes r)
+  writes_file_told m n f g bytes r h end =
+      let (all, same) = local.writes_file f g (view.state m) (view.state n) bytes r h.done in
+      let own = local.handle f in
+      subst (λ k. Both (view.state m).told (view.state n).told (WrittenFrom k bytes r)) (sym own)
+      (writes_told f.handle.0 (view.state m) bytes r (view.state n) all (ap (λ k. appends ((view.state m).live k)) (sym own) ∙ end))
+
+  -- ---- listings
+
+  abbrev lists_local : ListsLocal view lists
+  lists_local = record { next_so = λ s d r t e h. (local.goes_on s t d e r h).0; called_so = local.called; says_so = λ e s r t h. local.says s t e r h }
+
+  -- the directory that was listed is the one asked
+  listed_here : (m n : S) (path : WebPath) (l : ListingState) → ways m ≡ plain_ways → lists.lists m c path DataSymlink (Ok l) n → l.path ≡ path.names
+  listed_here m n path l plain h = by (finds_plain (at m) (at n) path.names (BeginsAt DataSymlink) (Ok l) plain (local.begins m n c path DataSymlink (Ok l) h).0)
+    where
+      by : BeginsAt DataSymlink path.names (at m) (Ok l) (at n) ⊎ Lost (at m) (Ok l) (at n) → l.path ≡ path.names
+      by (inl (t, (Ok lister, lists_so, is), ends)) =
+          let same : l ≡ record { lister = lister; path = path.names; wanted = DataSymlink; batch = []; refused = None; over = false } = cc in ap (λ (d : ListingState). d.path) same
+      by (inl (t, (Err d, lists_so, is), ends)) = cc
+      by (inr (is, same)) = cc
+
+  links_at : (v : World) (m n : S) (path : WebPath) (l : ListingState) → ways m ≡ plain_ways → lists.lists m c path DataSymlink (Ok l) n → is_clear v.tree path.names ≡ true → HasNoLinks v l.path
+  links_at v m n path l plain h clear = subst (HasNoLinks v) (sym (listed_here m n path l plain h)) (no_links v path.names clear)
+
+  -- a directory stands there
+  dir_of_listing : (m n : S) (path : WebPath) (v : World) → ways m ≡ plain_ways → (view.state m).told ≡ Some v → (l : ListingState) → lists.lists m c path DataSymlink (Ok l) n → is_clear v.tree path.names ≡ true
+      → (row : Row) × ((look v.tree path.names ≡ Ok row) × (row.kind ≡ Dir))
+  dir_of_listing m n path v plain told l h clear = by (finds_plain (at m) (at n) path.names (BeginsAt DataSymlink) (Ok l) plain (local.begins m n c path DataSymlink (Ok l) h).0)
+    where
+      by : BeginsAt DataSymlink path.names (at m) (Ok l) (at n) ⊎ Lost (at m) (Ok l) (at n) → (row : Row) × ((look v.tree path.names ≡ Ok row) × (row.kind ≡ Dir))
+      by (inl (t, (Ok lister, lists_so, is), ends)) =
+          let (x, now, listed) = told_after (view.state m).told t.told (ListedIn path.names (Ok lister)) v lists_so.told told in
+          let dir = listed_dir (look v.tree path.names) (listed.2 (no_links v path.names clear).way).0 in
+          (dir.row, (dir.is, dir.kind))
+      by (inl (t, (Err d, lists_so, is), ends)) = cc
+      by (inr (is, same)) = cc
+
+  -- the members that were read are those of the tree
+  members_read : (m n : S) (path : WebPath) (read : List Child) (v : World) → ways m ≡ plain_ways → HasMembers view lists m c path read n → (view.state m).told ≡ Some v → is_clear v.tree path.names ≡ true
+      → read ≡ children_in v.tree path.names path
+  members_read m n path read v plain has told clear =
+      let was = has.was in
+      let all_read = was.reads in
+      let is = local.worlds m v told in
+      let begins_so = (local.begins m was.begin c path DataSymlink (Ok was.listing) was.begins).0 in
+      let links = links_at v m was.begin path was.listing plain was.begins clear in
+      let here = listed_here m was.begin path was.listing plain was.begins in
+      let of = subst (λ d. AreOf (members v d) (view.state m).faults (view.state all_read.place).faults all_read.answers) here
+      (walk_told view lists lists_local false (at m) (at was.begin) v path was.begin all_read.place was.listing all_read.left all_read.answers told is begins_so refl links all_read.walk) in
+      let long = subst (λ d. EndsBy (view.state m).faults (members v d) all_read.answers (Ok None) (view.state was.after).faults) here
+      (walk_ends view lists lists_local false (at m) (at was.begin) v path was.begin all_read.place was.after was.listing all_read.left was.over all_read.answers (Ok None) told begins_so refl links all_read.walk all_read.ends) in
+      let rows = filter (stands_in path.names) v.tree in
+      let target = map (child_of path) rows in
+      let (kind_row, stands) = dir_of_listing m was.begin path v plain told was.listing was.begins clear in
+      let stand = rows_stand v.tree path.names kind_row is.tree stands.0 in
+      let said : IsPermutation target has.listed = subst (IsPermutation target) (sym all_read.told) (children_are v path (view.state m).faults (view.state all_read.place).faults all_read.answers of long all_read.said) in
+      let given : IsPermutation target read = IsPermutation-trans target has.listed read said has.each_once in
+      let each_row : AllByRecursion (λ (x : Child). x ≡ member v path x.name) target = subst (AllByRecursion (λ (x : Child). x ≡ member v path x.name)) (rows_members v path rows stand) (are_members v path (map name_of rows)) in
+      let each = recursion_from_All (λ (x : Child). x ≡ member v path x.name) read (All-permutation (λ (x : Child). x ≡ member v path x.name) target read given
+      (All-from_recursion (λ (x : Child). x ≡ member v path x.name) target each_row)) in
+      let ordered = map name_of (in_order dir_first rows) in
+      let names : IsPermutation (map (λ (x : Child). x.name) read) ordered =
+      IsPermutation-trans (map (λ (x : Child). x.name) read) (map name_of rows) ordered
+      (IsPermutation-sym (map name_of rows) (map (λ (x : Child). x.name) read)
+      (subst (λ z. IsPermutation z (map (λ (x : Child). x.name) read)) (names_children path rows) (IsPermutation-map (λ (x : Child). x.name) target read given)))
+      (IsPermutation-map name_of rows (in_order dir_first rows) (order_permutes dir_first rows)) in
+      in_name_order v path rows read stand each
+      (ascending_once (map (λ (x : Child). x.name) read) ordered (sorted_ascends (λ (x : Child). x.name) read has.in_order)
+      (order_ascends path.names rows (paths_of v path.names rows stand)) names)
+
+  walk_besides : (n : S) (l : ListingState) (answers : List Answered) (o : S) (k : ListingState) → Walked view lists n l answers o k → Besides (view.state n) (view.state o)
+  walk_besides n l answers o k begun = besides_same (view.state n) (view.state n) refl
+  walk_besides n l answers o k (walks before m p q d j e r walk on_so said lent keeps) =
+      besides_then (view.state n) (view.state m) (view.state o) (walk_besides n l before m d walk)
+      (besides_then (view.state m) (view.state p) (view.state o) (next_entry_besides (view.state m) (view.state p) d j (Ok (Some e)) (local.goes_on m p d j (Ok (Some e)) on_so).0) keeps.world)
+
+  -- a listing that came to its end left the world
+  listing_besides : (m n : S) (path : WebPath) (read : List Child) → HasMembers view lists m c path read n → Besides (view.state m) (view.state n)
+  listing_besides m n path read has =
+      let was = has.was in
+      let all_read = was.reads in
+      besides_then (view.state m) (view.state was.begin) (view.state n) (begins_besides (at m) (at was.begin) path.names (Ok was.listing) (local.begins m was.begin c path DataSymlink (Ok was.listing) was.begins).0)
+      (besides_then (view.state was.begin) (view.state all_read.place) (view.state n) (walk_besides was.begin was.listing all_read.answers all_read.place all_read.left all_read.walk)
+      (besides_then (view.state all_read.place) (view.state was.after) (view.state n)
+      (next_entry_besides (view.state all_read.place) (view.state was.after) all_read.left was.over (Ok None) (local.goes_on all_read.place was.after all_read.left was.over (Ok None) all_read.ends).0)
+      (both_map (view.state was.after).told (view.state n).told (EndedIn was.over.lister.0) SameBesidesOpens
+      (λ v w ended_so. same_world v w (put was.over.lister.0 None v.listings) ended_so) (local.ends was.after n was.over was.ended).0.told)))
+
+  members_told : (m n : S) (path : WebPath) (read : List Child) → ways m ≡ plain_ways → HasMembers view lists m c path read n → Told view lists writes c m n (ListsBy view lists writes c (plain_rules settings) path read)
+  members_told m n path read plain has =
+      both_with (view.state m).told (view.state n).told SameBesidesOpens (ListsBy view lists writes c (plain_rules settings) path read) (listing_besides m n path read has)
+      (λ v w told now same. (
+        same,
+        λ clear.
+            members_read m n path read v plain has told (subst (λ names. is_clear v.tree names ≡ true) (plain_resolved settings v.tree path.names) clear)
+            ∙ ap (λ names. children_in v.tree names path) (sym (plain_resolved settings v.tree path.names)),
+      ))
+
+  -- ---- a listing that fails
+
+  begin_refused : (m n : S) (path : WebPath) (e : FsError) (v : World) → ways m ≡ plain_ways → (view.state m).told ≡ Some v → is_clear v.tree path.names ≡ true → has_dir v.tree path.names ≡ true
+      → lists.lists m c path DataSymlink (Err e) n → Spoiled {T = Unit {0}} (view.state m) (Err e) (view.state n)
+  begin_refused m n path e v plain told clear dir h = by (finds_plain (at m) (at n) path.names (BeginsAt DataSymlink) (Err e) plain (local.begins m n c path DataSymlink (Err e) h).0)
+    where
+      by : BeginsAt DataSymlink path.names (at m) (Err e) (at n) ⊎ Lost {T = ListingState} (at m) (Err e) (at n) → Spoiled {T = Unit {0}} (view.state m) (Err e) (view.state n)
+      by (inl (t, (Ok lister, lists_so, is), ends)) = cc
+      by (inl (t, (Err d, lists_so, is), ends)) =
+          let (x, now, listed) = told_after (view.state m).told t.told (ListedIn path.names (Err d)) v lists_so.told told in
+          let (row, there) = dir_listed v.tree (local.worlds m v told).tree path.names dir in
+          let same : e ≡ fs_error_of d = cc in
+          subst (λ x. Spoiled {T = Unit {0}} (view.state m) (Err e) x) (sym (ap (λ (x : Place). x.disk) ends))
+          (elim (called_for Lister Row Unit d (listable (look v.tree path.names)) (view.state m) t (listed.1 (no_links v path.names clear).way) lists_so.counted) [
+            | inl called ↦ (let never : Ok row ≡ Err d = sym there ∙ called in cc)
+            | inr spoiled ↦ subst (λ (x : FsError). Spoiled {T = Unit {0}} (view.state m) (Err x) t) (sym same) spoiled
+          ])
+      by (inr (is, same)) = inr cc
+
+  read_refused : (m b n : S) (path : WebPath) (l k : ListingState) (e : FsError) (v : World) → ways m ≡ plain_ways → (view.state m).told ≡ Some v → is_clear v.tree path.names ≡ true
+      → lists.lists m c path DataSymlink (Ok l) b → ReadRefused view lists b l e n k → Spoiled {T = Unit {0}} (view.state m) (Err e) (view.state n)
+  read_refused m b n path l k e v plain told clear begins (inl (is, answers, walk)) = inr (ap Err is)
+  read_refused m b n path l k e v plain told clear begins (inr (inl (answers, here, left, walk, said, on_so))) =
+      why_spoiled (view.state m) (view.state n) e
+      (walk_ends view lists lists_local false (at m) (at b) v path b here n l left k answers (Err e) told (local.begins m b c path DataSymlink (Ok l) begins).0 refl (links_at v m b path l plain begins clear) walk on_so)
+  read_refused m b n path l k e v plain told clear begins (inr (inr (answers, name, said, walk))) =
+      let failed = walk_fails view lists lists_local false (at m) (at b) v path b n l k answers name e told (local.worlds m v told) (local.begins m b c path DataSymlink (Ok l) begins).0 refl
+      (links_at v m b path l plain begins clear) walk in
+      inl (ap Err failed.0, failed.1)
+
+  spoiled_on : (s m t : DiskState) (e : FsError) → t.faults ≡ m.faults → Spoiled {T = Unit {0}} s (Err e) m → Spoiled {T = Unit {0}} s (Err e) t
+  spoiled_on s m t e same (inl (is, rose)) = inl (is, subst (Rose s.faults) (sym same) rose)
+  spoiled_on s m t e same (inr is) = inr is
+
+  -- the members weren't read because of a fault, or for want of memory
+  members_unread : (m n : S) (path : WebPath) (e : FsError) (v : World) → ways m ≡ plain_ways → HasNoMembers view lists m c path e n → (view.state m).told ≡ Some v → is_clear v.tree path.names ≡ true
+      → has_dir v.tree path.names ≡ true → Spoiled {T = Unit {0}} (view.state m) (Err e) (view.state n)
+  members_unread m n path e v plain hasnt told clear dir = by_why hasnt.why
+    where
+      by_why : MembersUnread view lists m c path e n → Spoiled {T = Unit {0}} (view.state m) (Err e) (view.state n)
+      by_why (inl (is, listed, was)) = inr (ap Err is)
+      by_why (inr (inl begins)) = begin_refused m n path e v plain told clear dir begins
+      by_why (inr (inr (begin, after, listing, over, begins, refused_so, ended_so))) =
+          spoiled_on (view.state m) (view.state after) (view.state n) e (local.ends after n over ended_so).0.counts (read_refused m begin after path listing over e v plain told clear begins refused_so)
+
+  no_members_told : (m n : S) (path : WebPath) (e : FsError) → ways m ≡ plain_ways → HasNoMembers view lists m c path e n → Told view lists writes c m n (FailsToList view lists writes c (plain_rules settings) path m e n)
+  no_members_told m n path e plain hasnt =
+      both_with (view.state m).told (view.state n).told SameBesidesOpens (FailsToList view lists writes c (plain_rules settings) path m e n) hasnt.keeps.world
+      (λ v w told now same. (
+        same,
+        λ clear dir.
+            members_unread m n path e v plain hasnt told (subst (λ names. is_clear v.tree names ≡ true) (plain_resolved settings v.tree path.names) clear)
+            (subst (λ names. has_dir v.tree names ≡ true) (plain_resolved settings v.tree path.names) dir),
+      ))
+
+  pub local_follows : (s : S) → ways s ≡ plain_ways → Follows view lists writes c (plain_rules settings) s
+  local_follows s plain = record {
+    counts = λ n reached. reached_counts view lists writes c (local_usual view lists writes c ways memory local) s n reached;
+    folds = λ n reached. local.folding n ∙ ap (λ (w : Ways). w.folds) (stays n reached);
+    trees = λ n w reached told. local.worlds n w told;
+    looks = λ m n path r reached h. look_told view lists writes c ways memory local settings m n path r (stays m reached) h;
+    looks_at_link = λ m n path r reached h. look_at_link_told view lists writes c ways memory local settings m n path r (stays m reached) h;
+    makes_dir = λ m n path r reached h. make_told view lists writes c ways memory local settings m n path r (stays m reached) h;
+    removes_dir = λ m n path r reached h. take_dir_told view lists writes c ways memory local settings m n path r (stays m reached) h;
+    removes_file = λ m n path r reached h. take_file_told view lists writes c ways memory local settings m n path r (stays m reached) h;
+    renames = λ m n from to r reached h. move_told view lists writes c ways memory local settings m n from to r (stays m reached) h;
+    copies = λ m n from to r reached h. copy_told view lists writes c ways memory local settings m n from to r (stays m reached) h;
+    opens = λ m n path r reached h flat. open_told view lists writes c ways memory local settings m n path r (stays m reached) h flat;
+    writes_file = λ m n f g bytes r reached h end. writes_file_told m n f g bytes r h end;
+    members = λ m n path read reached has. members_told m n path read (stays m reached) has;
+    no_members = λ m n path e reached hasnt. no_members_told m n path e (stays m reached) hasnt;
+  }
+    where
+      stays : (m : S) → Reached view lists writes c s m → ways m ≡ plain_ways
+      stays m reached = (calls_remain view lists writes ways memory local c s m reached).0 ∙ plain

@@ -1,0 +1,181 @@
+-- What a local store may remember after its calls was known before them, and it finds paths as before.
+use Rattle.std.proofs.Common.{◌≡◌, ◌||◌, Bool, true, false, Result, Ok, Err, refl, sym, ap, subst, ◌∙◌}
+use Rattle.dav_io.specs.declared.failure.NoMemory.{NoMemory as Starved}
+use Rattle.dav_core.specs.declared.error.FsError.{FsError}
+use Rattle.dav_core.specs.declared.handle.OpenOptions.{OpenOptions}
+use Rattle.dav_core.specs.DavPath.{WebPath}
+use Rattle.dav_core.specs.declared.handle.DiskError.{DiskError}
+use Rattle.dav_core.specs.Disk.{DiskState, Opens}
+use Rattle.dav_core.specs.Info.{Info}
+use Rattle.dav_core.specs.Path.{Names}
+use Rattle.dav_core.specs.Writing.{Copies, CreatesDir, RemovesDir, RemovesFile}
+use Rattle.dav_store.specs.declared.entry.ReadDirMeta.{ReadDirMeta}
+use Rattle.dav_store.specs.Leads.{LeadsOn, none as by_none, looks as by_look, opens as by_open, begins as by_begin, goes_on as by_next, ends as by_end, lends as by_lend}
+use Rattle.dav_store.specs.View.{Listings, View}
+use Rattle.dav_methods.specs.Follows.{Reached}
+use Rattle.dav_methods.specs.Follows as on
+use Rattle.dav_methods.specs.Pouring.{Writes}
+use Rattle.dav_model.specs.Finding.{has_slash, is_forbidden, is_virtual}
+use Rattle.dav_cache.specs.Memory.{LearnsNothing, MemoryState}
+use Rattle.dav_local.specs.declared.entry.LocalFsDirEntry.{LocalFsDirEntry}
+use Rattle.dav_local.specs.declared.file.LocalFsFile.{LocalFsFile}
+use Rattle.dav_local.specs.declared.ways.Ways.{Ways}
+use Rattle.dav_local.specs.Calls.{AfterAbsent, Asks, AsksToCopy, AsksToMake, AsksToMove, AsksToTakeDir, AsksToTakeFile, BeginsAt, Finds, FindsBoth, IsOpening, Looks, LooksAt, MovesAt, Place, TellsAbsent, Unless, asks_memory, is_shut}
+use Rattle.dav_local.specs.Files.{done_by, filed}
+use Rattle.dav_local.specs.Listing.{ListingState}
+use Rattle.dav_local.specs.Ways.{rules_of}
+use Rattle.dav_local.proofs.Memories.{learns_none, learns_then}
+use Rattle.dav_local_laws.specs.LocalStore.{IsLocalStore, place}
+
+-- ---- memories
+
+learns_same : (p q : Place) → q ≡ p → LearnsNothing p.memory q.memory
+learns_same p q same = subst (λ (x : Place). LearnsNothing p.memory x.memory) (sym same) (learns_none p.memory)
+
+-- ---- calls at a place
+
+absent_learns : (p q : Place) (at : Names) (r : Result Bool Starved) → TellsAbsent p at r q → LearnsNothing p.memory q.memory
+absent_learns p q at r tells = by (asks_memory p.ways at) refl
+  where
+    asked : (r : Result Bool Starved) → TellsAbsent p at r q → asks_memory p.ways at ≡ true → LearnsNothing p.memory q.memory
+    asked (Ok absent) tells e = (tells.dots e).learns
+    asked (Err x) tells e = learns_same p q tells.starved
+
+    by : (b : Bool) → asks_memory p.ways at ≡ b → LearnsNothing p.memory q.memory
+    by true e = asked r tells e
+    by false e = learns_same p q (tells.plain e).0
+
+after_absent : (absent : Result Bool Starved) (follows slash : Bool) (at : Names) (p q : Place) (r : Result Info FsError) → AfterAbsent absent follows slash at p r q → LearnsNothing p.memory q.memory
+after_absent (Err x) follows slash at p q r (is, same) = learns_same p q same
+after_absent (Ok true) follows slash at p q r (is, same) = learns_same p q same
+after_absent (Ok false) follows slash at p q r (answer, t, metas, is, ends) = learns_same (record p { disk = t }) q ends
+
+looked_learns : (follows slash : Bool) (at : Names) (p q : Place) (r : Result Info FsError) → LooksAt follows slash at p r q → LearnsNothing p.memory q.memory
+looked_learns follows slash at p q r (absent, m, tells, after) =
+    learns_then p.memory m.memory q.memory (absent_learns p m at absent tells) (after_absent absent follows slash at m q r after)
+
+finds_learn : {T : Type 0} (p q : Place) (names : Names) (call : Names → Place → Result T FsError → Place → Type 0) (r : Result T FsError)
+    → ((at : Names) (k : Place) → call at k r q → LearnsNothing k.memory q.memory) → Finds p names call r q → LearnsNothing p.memory q.memory
+finds_learn p q names call r each (Ok at, m, resolves, after) = learns_then p.memory m.memory q.memory resolves.learns (each at m after)
+finds_learn p q names call r each (Err e, m, resolves, (is, ends)) = subst (λ (x : Place). LearnsNothing p.memory x.memory) (sym ends) resolves.learns
+
+unless_learns : {T : Type 0} (shut : Bool) (p q : Place) (call : Place → Result T FsError → Place → Type 0) (r : Result T FsError)
+    → (call p r q → LearnsNothing p.memory q.memory) → Unless shut p call r q → LearnsNothing p.memory q.memory
+unless_learns shut p q call r each run = by shut refl
+  where
+    by : (b : Bool) → shut ≡ b → LearnsNothing p.memory q.memory
+    by true e = learns_same p q (run.forbidden e).1
+    by false e = each (run.asked e)
+
+-- a call of the disk alone
+asks_learn : {A T : Type 0} (call : DiskState → Result A DiskError → DiskState → Type 0) (says : Result A DiskError → Result T FsError) (p q : Place) (r : Result T FsError)
+    → Asks call says p r q → LearnsNothing p.memory q.memory
+asks_learn call says p q r (answer, t, asked, is, ends) = learns_same (record p { disk = t }) q ends
+
+look_learns : (follows : Bool) (p q : Place) (path : WebPath) (r : Result Info FsError) → Looks follows p path r q → LearnsNothing p.memory q.memory
+look_learns follows p q path r looks = by (is_virtual (rules_of p.ways) path) refl
+  where
+    by : (b : Bool) → is_virtual (rules_of p.ways) path ≡ b → LearnsNothing p.memory q.memory
+    by true e = learns_same p q (looks.empty e).1
+    by false e =
+        finds_learn p q path.names (LooksAt follows (has_slash p.ways.alone path)) r
+        (λ at k looked. looked_learns follows (has_slash p.ways.alone path) at k q r looked) (looks.asked e)
+
+open_learns : (p q : Place) (path : WebPath) (how : OpenOptions) (r : Result LocalFsFile FsError) → IsOpening p path how r q → LearnsNothing p.memory q.memory
+open_learns p q path how r run =
+    unless_learns (is_shut p.ways path) p q _ r (λ finds. finds_learn p q path.names _ r (λ at k asks. asks_learn (λ s answer t. Opens s at how answer t) filed k q r asks) finds) run
+
+begin_learns : (p q : Place) (names : Names) (how : ReadDirMeta) (r : Result ListingState FsError) → Finds p names (BeginsAt how) r q → LearnsNothing p.memory q.memory
+begin_learns p q names how r finds = finds_learn p q names (BeginsAt how) r (λ at k (t, asked, ends). learns_same (record k { disk = t }) q ends) finds
+
+make_learns : (p q : Place) (path : WebPath) (r : Result Unit FsError) → AsksToMake p path r q → LearnsNothing p.memory q.memory
+make_learns p q path r run =
+    unless_learns (is_forbidden (rules_of p.ways) path) p q _ r (λ finds. finds_learn p q path.names _ r (λ at k asks. asks_learn (λ s answer t. CreatesDir s at answer t) done_by k q r asks) finds) run
+
+take_dir_learns : (p q : Place) (path : WebPath) (r : Result Unit FsError) → AsksToTakeDir p path r q → LearnsNothing p.memory q.memory
+take_dir_learns p q path r finds = finds_learn p q path.names _ r (λ at k asks. asks_learn (λ s answer t. RemovesDir s at answer t) done_by k q r asks) finds
+
+take_file_learns : (p q : Place) (path : WebPath) (r : Result Unit FsError) → AsksToTakeFile p path r q → LearnsNothing p.memory q.memory
+take_file_learns p q path r run =
+    unless_learns (is_shut p.ways path) p q _ r (λ finds. finds_learn p q path.names _ r (λ at k asks. asks_learn (λ s answer t. RemovesFile s at answer t) done_by k q r asks) finds) run
+
+both_learn : (p q : Place) (from to : WebPath) (call : Names → Names → Place → Result Unit FsError → Place → Type 0) (r : Result Unit FsError)
+    → ((at into : Names) (k : Place) → call at into k r q → LearnsNothing k.memory q.memory) → FindsBoth p from to call r q → LearnsNothing p.memory q.memory
+both_learn p q from to call r each run =
+    unless_learns (is_forbidden (rules_of p.ways) from || is_forbidden (rules_of p.ways) to) p q _ r
+    (λ finds. finds_learn p q from.names _ r (λ at k rest. finds_learn k q to.names (call at) r (each at) rest) finds) run
+
+copy_learns : (p q : Place) (from to : WebPath) (r : Result Unit FsError) → AsksToCopy p from to r q → LearnsNothing p.memory q.memory
+copy_learns p q from to r both = both_learn p q from to _ r (λ at into k asks. asks_learn (λ s answer t. Copies s at into answer t) done_by k q r asks) both
+
+move_learns : (p q : Place) (from to : WebPath) (r : Result Unit FsError) → AsksToMove p from to r q → LearnsNothing p.memory q.memory
+move_learns p q from to r both = both_learn p q from to MovesAt r (λ at into k (answer, m, renames, t, after, ends). learns_same (record k { disk = t }) q ends) both
+
+module _ {S C : Type 0} (view : View S C LocalFsFile) (lists : Listings S C ListingState LocalFsDirEntry) (writes : Writes LocalFsFile) (ways : S → Ways) (memory : S → MemoryState)
+    (local : IsLocalStore view lists writes ways memory) where
+  abbrev at : S → Place
+  at s = place view lists writes ways memory s
+
+  -- How paths are found stays, and what is known was known before.
+  abbrev pub Remains : S → S → Type 0
+  Remains s t = (ways t ≡ ways s) × LearnsNothing (memory s) (memory t)
+
+  remains_then : (s m t : S) → Remains s m → Remains m t → Remains s t
+  remains_then s m t first then = (then.0 ∙ first.0, learns_then (memory s) (memory m) (memory t) first.1 then.1)
+
+  lent_remains : (s t : S) → at t ≡ record (at s) { disk = view.state t } → Remains s t
+  lent_remains s t same = (ap (λ (x : Place). x.ways) same, learns_same (record (at s) { disk = view.state t }) (at t) same)
+
+  called_remains : (s m t : S) → Remains s m → ways t ≡ ways m → LearnsNothing (memory m) (memory t) → Remains s t
+  called_remains s m t before stays learns = remains_then s m t before (stays, learns)
+
+  pub local_remains : (c : C) (s t : S) → LeadsOn view lists c s t → Remains s t
+  local_remains c s t by_none = (refl, learns_none (memory s))
+  local_remains c s t (by_look m n path r before call) =
+      let (h, stays) = local.looks m n c path r call in
+      called_remains s m n (local_remains c s m before) stays (look_learns true (at m) (at n) path r h)
+  local_remains c s t (by_open m n path r before call) =
+      let (h, stays) = local.opens m n c path _ r call in
+      called_remains s m n (local_remains c s m before) stays (open_learns (at m) (at n) path _ r h)
+  local_remains c s t (by_begin m n path r before call) =
+      let (h, stays) = local.begins m n c path _ r call in
+      called_remains s m n (local_remains c s m before) stays (begin_learns (at m) (at n) path.names _ r h)
+  local_remains c s t (by_next m n l k r before call) = remains_then s m n (local_remains c s m before) (lent_remains m n (local.goes_on m n l k r call).1)
+  local_remains c s t (by_end m n l before call) = remains_then s m n (local_remains c s m before) (lent_remains m n (local.ends m n l call).1)
+  local_remains c s t (by_lend m n before call) = remains_then s m n (local_remains c s m before) (lent_remains m n (local.lends m n call))
+
+  -- the same of calls that may write
+  pub calls_remain : (c : C) (s t : S) → Reached view lists writes c s t → Remains s t
+  calls_remain c s t on.here = (refl, learns_none (memory s))
+  calls_remain c s t (on.looks m n path r before call) =
+      let (h, stays) = local.looks m n c path r call in
+      called_remains s m n (calls_remain c s m before) stays (look_learns true (at m) (at n) path r h)
+  calls_remain c s t (on.looks_at_link m n path r before call) =
+      let (h, stays) = local.looks_at_link m n c path r call in
+      called_remains s m n (calls_remain c s m before) stays (look_learns false (at m) (at n) path r h)
+  calls_remain c s t (on.opens m n path how r before call) =
+      let (h, stays) = local.opens m n c path how r call in
+      called_remains s m n (calls_remain c s m before) stays (open_learns (at m) (at n) path how r h)
+  calls_remain c s t (on.writes_file m n f g bytes r before call) = remains_then s m n (calls_remain c s m before) (lent_remains m n (local.lends m n call.lent.store))
+  calls_remain c s t (on.ends_file m n f before call) = remains_then s m n (calls_remain c s m before) (lent_remains m n (local.lends m n call.lent.store))
+  calls_remain c s t (on.makes_dir m n path r before call) =
+      let (h, stays) = local.makes_dir m n c path r call in
+      called_remains s m n (calls_remain c s m before) stays (make_learns (at m) (at n) path r h)
+  calls_remain c s t (on.removes_dir m n path r before call) =
+      let (h, stays) = local.removes_dir m n c path r call in
+      called_remains s m n (calls_remain c s m before) stays (take_dir_learns (at m) (at n) path r h)
+  calls_remain c s t (on.removes_file m n path r before call) =
+      let (h, stays) = local.removes_file m n c path r call in
+      called_remains s m n (calls_remain c s m before) stays (take_file_learns (at m) (at n) path r h)
+  calls_remain c s t (on.renames m n from to r before call) =
+      let (h, stays) = local.renames m n c from to r call in
+      called_remains s m n (calls_remain c s m before) stays (move_learns (at m) (at n) from to r h)
+  calls_remain c s t (on.copies m n from to r before call) =
+      let (h, stays) = local.copies m n c from to r call in
+      called_remains s m n (calls_remain c s m before) stays (copy_learns (at m) (at n) from to r h)
+  calls_remain c s t (on.begins m n path how r before call) =
+      let (h, stays) = local.begins m n c path how r call in
+      called_remains s m n (calls_remain c s m before) stays (begin_learns (at m) (at n) path.names how r h)
+  calls_remain c s t (on.goes_on m n l k r before call) = remains_then s m n (calls_remain c s m before) (lent_remains m n (local.goes_on m n l k r call).1)
+  calls_remain c s t (on.says m n e r before call lends) = remains_then s m n (calls_remain c s m before) (lent_remains m n (local.lends m n lends))
+  calls_remain c s t (on.ends_list m n l before call) = remains_then s m n (calls_remain c s m before) (lent_remains m n (local.ends m n l call).1)

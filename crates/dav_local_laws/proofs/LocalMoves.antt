@@ -1,0 +1,167 @@
+-- What a move of a local store makes of the told world where nothing stands at the destination: what one call of the disk makes.
+-- Where a directory was to take a file's place it is asked again, which then is refused as before.
+use Rattle.std.proofs.Common.{◌≡◌, ◌≤◌, ◌⊎◌, inl, inr, Bool, true, false, List, None, Some, Result, Ok, Err, refl, sym, ap, subst, ◌∙◌, arith}
+use Rattle.dav_io.specs.Told.{Both}
+use Rattle.dav_io.proofs.ToldLemmas.{both_map, both_then}
+use Rattle.dav_core.specs.declared.error.FsError.{FsError}
+use Rattle.dav_core.specs.declared.handle.DiskError.{DiskError}
+use Rattle.dav_core.specs.declared.handle.DiskError.TheVariants.{NotFound, Exists, NotDir, IsDir, NotEmpty, Failed, NoMemory}
+use Rattle.dav_core.specs.declared.tree.Row.{Row}
+use Rattle.dav_core.specs.Allowed.{found_then, moving, taking_file, taking_file_row}
+use Rattle.dav_core.specs.DavPath.{WebPath}
+use Rattle.dav_core.specs.Disk.{DiskState}
+use Rattle.dav_core.specs.Path.{Names}
+use Rattle.dav_core.specs.Tree.{is_linked, look, row_at}
+use Rattle.dav_core.specs.World.{SameBesidesOpens, World}
+use Rattle.dav_core.specs.Writing.{DoesIn, LeftBy, Renames}
+use Rattle.dav_core.proofs.UnchangedLemmas.{same_besides, same_besides_then}
+use Rattle.dav_store.specs.View.{Listings, View}
+use Rattle.dav_model.specs.declared.settings.Settings.{Settings}
+use Rattle.dav_model.specs.Finding.{resolved}
+use Rattle.dav_model.specs.Rules.{plain_rules}
+use Rattle.dav_model.proofs.PlainWalks.{plain_resolved}
+use Rattle.dav_methods.specs.Follows.{Calls, Told}
+use Rattle.dav_methods.specs.Pouring.{Writes}
+use Rattle.dav_cache.specs.Memory.{MemoryState}
+use Rattle.dav_local.specs.declared.entry.LocalFsDirEntry.{LocalFsDirEntry}
+use Rattle.dav_local.specs.declared.file.LocalFsFile.{LocalFsFile}
+use Rattle.dav_local.specs.declared.ways.Ways.{Ways}
+use Rattle.dav_local.specs.Calls.{AfterMove, MovesAgain, MovesAt, Place, found_dir}
+use Rattle.dav_local.specs.Files.{done_by}
+use Rattle.dav_local.specs.Listing.{ListingState}
+use Rattle.dav_local.proofs.Rows.{looked_row}
+use Rattle.dav_local_laws.proofs.CallsDone.{calls_from, calls_of, left_called}
+use Rattle.dav_local_laws.proofs.PlainLooks.{both_stays}
+use Rattle.dav_local_laws.specs.Simple.{plain_ways}
+use Rattle.dav_local_laws.specs.LocalStore.{IsLocalStore, place}
+use Rattle.dav_local_laws.proofs.PlainWays.{CallsBetween, Lost, between_lost, finds_both_plain}
+
+-- ---- a file is removed where nothing stands
+
+unlooked : (tree : List Row) (path : Names) → row_at tree path ≡ None → (d : DiskError) × (look tree path ≡ Err d)
+unlooked tree path none = by (look tree path) refl
+  where
+    by : (found : Result Row DiskError) → look tree path ≡ found → (d : DiskError) × (found ≡ Err d)
+    by (Ok row) e = let never : None ≡ Some row = sym none ∙ looked_row tree path row e in cc
+    by (Err d) e = (d, refl)
+
+-- it is refused, and changes nothing
+none_taken : (u x : World) (path : Names) (answer : Result Unit DiskError) → row_at u.tree path ≡ None → DoesIn false (taking_file u.tree path) answer u x → SameBesidesOpens u x
+none_taken u x path answer none does = by answer does
+  where
+    refused : (d : DiskError) × (taking_file u.tree path ≡ Err d)
+    refused = let (d, is) = unlooked u.tree path none in (d, ap (found_then taking_file_row) is)
+
+    by : (answer : Result Unit DiskError) → DoesIn false (taking_file u.tree path) answer u x → SameBesidesOpens u x
+    by (Ok y) (edit, allowed, edited) = let never : Err refused.0 ≡ Ok edit = sym refused.1 ∙ allowed in cc
+    by (Err e) (called, left) = left_called false refused.0 u x (subst (λ a. LeftBy false a u x) refused.1 left)
+
+module _ {S C : Type 0} (view : View S C LocalFsFile) (lists : Listings S C ListingState LocalFsDirEntry) (writes : Writes LocalFsFile) (c : C) (ways : S → Ways) (memory : S → MemoryState)
+    (local : IsLocalStore view lists writes ways memory) (settings : Settings) where
+  abbrev at : S → Place
+  at s = place view lists writes ways memory s
+
+  module _ (m n : S) (r : Result Unit FsError) (from into : Names) where
+    -- nothing stands at the destination, and no link on either way
+    abbrev IfClear : World → Type 0 → Type 0
+    IfClear v P = is_linked v.tree from ≡ false → is_linked v.tree into ≡ false → row_at v.tree into ≡ None → P
+
+    abbrev Moved : World → World → Type 0
+    Moved v w = IfClear v (Calls view lists writes c (moving v.tree from into) m r n v w)
+
+    -- what the disk's move does
+    abbrev Renamed : Result Unit DiskError → World → World → Type 0
+    Renamed answer v w = is_linked v.tree from ≡ false → is_linked v.tree into ≡ false → DoesIn true (moving v.tree from into) answer v w
+
+    -- what follows where the first move was refused
+    abbrev RefusedAs : World → World → Type 0
+    RefusedAs u w = Calls view lists writes c (Err NotDir) m r n u w
+
+    abbrev Again : World → World → Type 0
+    Again u w = IfClear u (moving u.tree from into ≡ Err NotDir → RefusedAs u w)
+
+    -- the same from a world that only calls lie behind that changed nothing
+    refused_before : (r : Result Unit FsError) (v u w : World) → SameBesidesOpens v u → Calls view lists writes c (Err NotDir) m r n u w → Calls view lists writes c (Err NotDir) m r n v w
+    refused_before (Ok x) v u w same (edit, is, edited) = cc
+    refused_before (Err e) v u w same (inl (called, left)) = inl (called, same_besides_then v u w same left)
+    refused_before (Err e) v u w same (inr (spoiled, left)) = inr (spoiled, same_besides_then v u w same left)
+
+    -- ---- the second move
+
+    moved_again : (removal again : Result Unit DiskError) (k : DiskState) → (view.state m).faults ≤ k.faults → Renames k from into again (view.state n) → r ≡ done_by again → (u x w : World)
+        → (is_linked u.tree into ≡ false → DoesIn false (taking_file u.tree into) removal u x)
+        → Renamed again x w → Again u w
+    moved_again removal again k le renames is u x w takes moves clear free nothing refused =
+        let same = none_taken u x into removal nothing (takes free) in
+        let does = subst (λ a. DoesIn true a again x w) (ap (λ t. moving t from into) same.tree ∙ refused)
+        (moves (ap (λ t. is_linked t from) same.tree ∙ clear) (ap (λ t. is_linked t into) same.tree ∙ free)) in
+        refused_before r u x w same (rw is (calls_from view lists writes c true (Err NotDir) again m n k x w does le renames.asks.counted))
+
+    again_told : (dir : Bool) (k : DiskState) → (view.state m).faults ≤ k.faults → MovesAgain dir from into k r (view.state n) → Both k.told (view.state n).told Again
+    again_told false k le (is, same) =
+        both_stays k.told (view.state n).told Again (ap (λ (d : DiskState). d.told) same)
+        (λ w told clear free nothing refused. rw is (inl (refl, same_besides w)))
+    again_told true k le (removal, i, removes, again, renames, is) =
+        both_then k.told i.told (view.state n).told (λ u x. is_linked u.tree into ≡ false → DoesIn false (taking_file u.tree into) removal u x) (Renamed again) Again
+        (moved_again removal again i (omega (arith, le, removes.asks.counts)) renames is)
+        removes.told renames.told
+
+    -- ---- the first
+
+    -- a first move that was refused, and what follows
+    then_moved : (v u w : World) → Renamed (Err NotDir) v u → Again u w → Moved v w
+    then_moved v u w does again clear free nothing =
+        let (refused, left) = does clear free in
+        let same : SameBesidesOpens v u = left_called true NotDir v u (subst (λ a. LeftBy true a v u) refused left) in
+        let after = again (ap (λ t. is_linked t from) same.tree ∙ clear) (ap (λ t. is_linked t into) same.tree ∙ free) (ap (λ t. row_at t into) same.tree ∙ nothing)
+        (ap (λ t. moving t from into) same.tree ∙ refused) in
+        subst (λ a. Calls view lists writes c a m r n v w) (sym refused) (refused_before r v u w same after)
+
+    -- a move that stands
+    moved_once : (answer : Result Unit DiskError) (k : DiskState) → Renames (view.state m) from into answer k → r ≡ done_by answer → view.state n ≡ k → Both (view.state m).told (view.state n).told Moved
+    moved_once answer k renames is same =
+        let all = subst (Renames (view.state m) from into answer) (sym same) renames in
+        both_map (view.state m).told (view.state n).told (Renamed answer) Moved
+        (λ v w does clear free nothing. rw is (calls_of view lists writes c true (moving v.tree from into) answer m n v w (does clear free) all.asks.counted))
+        all.told
+
+    moved_by : (answer : Result Unit DiskError) (k : DiskState) → Renames (view.state m) from into answer k → AfterMove answer from into k r (view.state n) → Both (view.state m).told (view.state n).told Moved
+    moved_by (Ok x) k renames (is, same) = moved_once (Ok x) k renames is same
+    moved_by (Err NotDir) k renames (look, j, metas, again) =
+        both_then (view.state m).told k.told (view.state n).told (Renamed (Err NotDir)) Again Moved then_moved renames.told
+        (subst (λ told. Both told (view.state n).told Again) metas.world (again_told (found_dir look) j (omega (arith, renames.asks.counts, metas.asks.counts)) again))
+    moved_by (Err NotFound) k renames (is, same) = moved_once (Err NotFound) k renames is same
+    moved_by (Err Exists) k renames (is, same) = moved_once (Err Exists) k renames is same
+    moved_by (Err IsDir) k renames (is, same) = moved_once (Err IsDir) k renames is same
+    moved_by (Err NotEmpty) k renames (is, same) = moved_once (Err NotEmpty) k renames is same
+    moved_by (Err Failed) k renames (is, same) = moved_once (Err Failed) k renames is same
+    moved_by (Err NoMemory) k renames (is, same) = moved_once (Err NoMemory) k renames is same
+
+  -- ---- over the store
+
+  -- the move is one where both paths are found, no link is met on either way and nothing stands at the destination
+  abbrev MovedBetween : S → S → WebPath → WebPath → Result Unit FsError → World → World → Type 0
+  MovedBetween m n from to r v w = is_linked v.tree (resolved (plain_rules settings) v.tree from.names) ≡ false
+      → is_linked v.tree (resolved (plain_rules settings) v.tree to.names) ≡ false → row_at v.tree (resolved (plain_rules settings) v.tree to.names) ≡ None
+      → Calls view lists writes c (moving v.tree (resolved (plain_rules settings) v.tree from.names) (resolved (plain_rules settings) v.tree to.names)) m r n v w
+
+  -- each path is meant as it is written
+  moved_plain : (m n : S) (from to : WebPath) (r : Result Unit FsError) (v w : World) → Moved m n r from.names to.names v w → MovedBetween m n from to r v w
+  moved_plain m n from to r v w moved =
+      subst (λ a. is_linked v.tree a ≡ false → is_linked v.tree (resolved (plain_rules settings) v.tree to.names) ≡ false → row_at v.tree (resolved (plain_rules settings) v.tree to.names) ≡ None
+      → Calls view lists writes c (moving v.tree a (resolved (plain_rules settings) v.tree to.names)) m r n v w) (sym (plain_resolved settings v.tree from.names))
+      (subst (λ b. is_linked v.tree from.names ≡ false → is_linked v.tree b ≡ false → row_at v.tree b ≡ None → Calls view lists writes c (moving v.tree from.names b) m r n v w)
+      (sym (plain_resolved settings v.tree to.names)) moved)
+
+  pub move_told : (m n : S) (from to : WebPath) (r : Result Unit FsError) → ways m ≡ plain_ways → view.renames m c from to r n → Told view lists writes c m n (MovedBetween m n from to r)
+  move_told m n from to r plain h = by (finds_both_plain (at m) (at n) from to MovesAt r plain (local.renames m n c from to r h).0)
+    where
+      by : MovesAt from.names to.names (at m) r (at n) ⊎ Lost (at m) r (at n) → Told view lists writes c m n (MovedBetween m n from to r)
+      by (inl (answer, k, renames, t, after, ends)) =
+          let same : view.state n ≡ t = ap (λ (x : Place). x.disk) ends in
+          both_map (view.state m).told (view.state n).told (Moved m n r from.names to.names) (MovedBetween m n from to r) (moved_plain m n from to r)
+          (moved_by m n r from.names to.names answer k renames (subst (AfterMove answer from.names to.names k r) (sym same) after))
+      by (inr lost) =
+          both_map (view.state m).told (view.state n).told (CallsBetween view lists writes c ways memory local settings m n from to r (λ v names into. moving v.tree names into)) (MovedBetween m n from to r)
+          (λ v w done clear free nothing. done clear free)
+          (between_lost view lists writes c ways memory local settings m n from to r (λ v names into. moving v.tree names into) lost)

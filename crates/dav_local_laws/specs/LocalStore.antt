@@ -1,0 +1,71 @@
+-- The calls of a local store, of its files and of its listings, by a view of it.
+use Rattle.std.specs.Prelude.{◌≡◌, ℕ, true, false, List, Option, Some, Result}
+use Rattle.dav_core.specs.declared.error.FsError.{FsError}
+use Rattle.dav_core.specs.declared.handle.OpenOptions.{OpenOptions}
+use Rattle.dav_core.specs.DavPath.{WebPath}
+use Rattle.dav_core.specs.Disk.{DiskState}
+use Rattle.dav_core.specs.Info.{Info}
+use Rattle.dav_core.specs.Listing.{EndsListing}
+use Rattle.dav_core.specs.World.{IsWorld, World}
+use Rattle.dav_store.specs.declared.entry.ReadDirMeta.{ReadDirMeta}
+use Rattle.dav_store.specs.View.{Listings, View}
+use Rattle.dav_methods.specs.Pouring.{Writes}
+use Rattle.dav_cache.specs.Memory.{MemoryState}
+use Rattle.dav_local.specs.declared.entry.LocalFsDirEntry.{LocalFsDirEntry}
+use Rattle.dav_local.specs.declared.file.LocalFsFile.{LocalFsFile}
+use Rattle.dav_local.specs.Calls.{AsksToCopy, AsksToMake, AsksToMove, AsksToTakeDir, AsksToTakeFile, BeginsAt, Finds, IsOpening, Looks, Place}
+use Rattle.dav_local.specs.Entries.{Says}
+use Rattle.dav_local.specs.Files.{seen_by}
+use Rattle.dav_local.specs.Listing.{ListingState, NextEntry}
+use Rattle.dav_local.specs.declared.ways.Ways.{Ways}
+use Rattle.dav_local.specs.Writing.{WritesAll}
+
+module _ {S C : Type 0} (view : View S C LocalFsFile) (lists : Listings S C ListingState LocalFsDirEntry)
+    (writes : Writes LocalFsFile) (ways : S → Ways) (memory : S → MemoryState) where
+  -- the store as its clauses see it
+  abbrev pub place : S → Place
+  place s = record { ways = ways s; memory = memory s; disk = view.state s }
+
+  -- All but the disk is as it was.
+  abbrev pub Lends : S → S → Type 0
+  Lends s t = place t ≡ record (place s) { disk = view.state t }
+
+  -- How it finds paths stays.
+  abbrev pub Stays : S → S → Type 0
+  Stays s t = ways t ≡ ways s
+
+  pub record IsLocalStore : Type 0 where
+    -- each world that the disk tells is one
+    pub worlds : (s : S) (w : World) → (view.state s).told ≡ Some w → IsWorld w
+    -- it folds names where its ways say so
+    pub folding : (s : S) → view.folding s ≡ (ways s).folds
+    pub looks : (s t : S) (c : C) (path : WebPath) (r : Result Info FsError) → view.looks s c path r t
+        → Looks true (place s) path r (place t) × Stays s t
+    pub looks_at_link : (s t : S) (c : C) (path : WebPath) (r : Result Info FsError)
+        → view.looks_at_link s c path r t → Looks false (place s) path r (place t) × Stays s t
+    pub opens : (s t : S) (c : C) (path : WebPath) (how : OpenOptions) (r : Result LocalFsFile FsError)
+        → view.opens s c path how r t → IsOpening (place s) path how r (place t) × Stays s t
+    pub handle : (f : LocalFsFile) → view.handle f ≡ f.handle.0
+    pub seen : view.seen ≡ seen_by
+    pub writes_file : (f g : LocalFsFile) (s t : DiskState) (bytes : List ℕ) (r : Result Unit FsError)
+        → writes f s bytes r g t → WritesAll f.handle.0 s bytes r t × (g ≡ f)
+    pub makes_dir : (s t : S) (c : C) (path : WebPath) (r : Result Unit FsError) → view.makes_dir s c path r t
+        → AsksToMake (place s) path r (place t) × Stays s t
+    pub removes_dir : (s t : S) (c : C) (path : WebPath) (r : Result Unit FsError) → view.removes_dir s c path r t
+        → AsksToTakeDir (place s) path r (place t) × Stays s t
+    pub removes_file : (s t : S) (c : C) (path : WebPath) (r : Result Unit FsError)
+        → view.removes_file s c path r t → AsksToTakeFile (place s) path r (place t) × Stays s t
+    pub renames : (s t : S) (c : C) (from to : WebPath) (r : Result Unit FsError) → view.renames s c from to r t
+        → AsksToMove (place s) from to r (place t) × Stays s t
+    pub copies : (s t : S) (c : C) (from to : WebPath) (r : Result Unit FsError) → view.copies s c from to r t
+        → AsksToCopy (place s) from to r (place t) × Stays s t
+    pub begins : (s t : S) (c : C) (path : WebPath) (how : ReadDirMeta) (r : Result ListingState FsError)
+        → lists.lists s c path how r t → Finds (place s) path.names (BeginsAt how) r (place t) × Stays s t
+    pub goes_on : (s t : S) (l k : ListingState) (r : Result (Option LocalFsDirEntry) FsError)
+        → lists.lists_on s l r t k → NextEntry (view.state s) l r (view.state t) k × Lends s t
+    pub ends : (s t : S) (l : ListingState) → lists.ends_list s l t
+        → EndsListing (view.state s) l.lister.0 (view.state t) × Lends s t
+    pub called : (e : LocalFsDirEntry) → lists.called e ≡ e.name
+    pub says : (s t : DiskState) (e : LocalFsDirEntry) (r : Result Info FsError) → lists.says e s r t
+        → Says e.meta s r t
+    pub lends : (s t : S) → view.lends s t → Lends s t

@@ -1,0 +1,132 @@
+//! What the local store promises GET, HEAD, the methods that write and reports, as laws about its definitions. The calls do
+//! nothing.
+#![tactic(auto)]
+
+ghost use Rattle.std.specs.Prelude.{◌≡◌, ℕ, false, Option, Some};
+ghost use Rattle.dav_cache.specs.Memory.{LearnsNothing};
+ghost use Rattle.dav_core.specs.DavPath.{WebPath};
+ghost use Rattle.dav_core.specs.Tree.{is_linked};
+ghost use Rattle.dav_core.specs.World.{World};
+ghost use Rattle.dav_get.specs.Calls.{AsksByOne};
+ghost use Rattle.dav_get.specs.Heard.{Heard};
+ghost use Rattle.dav_get.specs.Lives.{OpenOnlyHeld};
+ghost use Rattle.dav_get.specs.Right.{IsOfNumber, or_zero, reply_at};
+ghost use Rattle.dav_get.specs.Table.{Given};
+ghost use Rattle.dav_local.specs.Shown.{knowledge_of};
+ghost use Rattle.dav_local.specs.Standing.{HasNoLinks};
+ghost use Rattle.dav_local.specs.Ways.{rules_with};
+ghost use Rattle.dav_local.specs.declared.file.LocalFsFile.{LocalFsFile};
+ghost use Rattle.dav_local.specs.declared.fs.LocalFs.{LocalFs};
+ghost use Rattle.dav_methods.specs.Answers.{RefusesUsually};
+ghost use Rattle.dav_methods.specs.Follows.{Follows, Reached};
+ghost use Rattle.dav_model.specs.Due.{Query};
+ghost use Rattle.dav_model.specs.Finding.{listed_in};
+ghost use Rattle.dav_model.specs.Head.{Reply};
+ghost use Rattle.dav_model.specs.Play.{Reads};
+ghost use Rattle.dav_model.specs.Rules.{plain_rules};
+ghost use Rattle.dav_store.specs.Leads.{LeadsOn};
+ghost use Rattle.dav_store.specs.Members.{ShowsMembers};
+ghost use Rattle.dav_store.specs.Reached.{ShowsOn};
+ghost use Rattle.dav_store.specs.View.{the_listings, the_view};
+ghost use Rattle.dav_local_laws.specs.LocalStore.{IsLocalStore};
+ghost use Rattle.dav_local_laws.specs.Simple.{is_simple, opened, plain_ways};
+
+use dav_cache::Remember;
+use dav_core::Disk;
+use dav_local::{LocalFs, LocalFsDirEntry, LocalFsFile};
+use dav_model::Settings;
+use dav_store::{DavDirEntry, DavFile, GuardedFileSystem};
+
+/// Each call of a local store, of its files and of its listings is one call of its disk at the place where its path is
+/// found, and how it finds paths stays.
+pub fn calls_are_local<D: Disk, R: Remember>(_fs: &LocalFs<D, R>)
+    ensures { IsLocalStore (the_view ⟦<LocalFs<D, R> as GuardedFileSystem<()>>⟧ D.Disk ⟦<LocalFsFile as DavFile<D>>⟧)
+        (the_listings ⟦<LocalFs<D, R> as GuardedFileSystem<()>>⟧ ⟦<LocalFsDirEntry as DavDirEntry<D>>⟧)
+        ⟦<LocalFsFile as DavFile<D>>⟧.writes (λ s. s.ways) (λ s. R.state s.memory) }
+{}
+
+/// The local store refuses few things, and fails only where its disk met a fault. Of a listing this counts from where it
+/// was begun.
+pub fn local_stores_refuse_few<D: Disk, R: Remember>(_fs: &LocalFs<D, R>)
+    ensures { RefusesUsually (the_view ⟦<LocalFs<D, R> as GuardedFileSystem<()>>⟧ D.Disk ⟦<LocalFsFile as DavFile<D>>⟧)
+        (the_listings ⟦<LocalFs<D, R> as GuardedFileSystem<()>>⟧ ⟦<LocalFsDirEntry as DavDirEntry<D>>⟧)
+        ⟦<LocalFsFile as DavFile<D>>⟧.writes tt }
+{
+    calls_are_local(_fs)
+}
+
+/// From any state on in which it serves its disk's root, its names don't fold and the rules for macOS don't hold, the
+/// local store follows the rules by which each path is meant as it is written.
+pub fn local_stores_follow_rules<D: Disk, R: Remember>(_fs: &LocalFs<D, R>, _settings: &Settings)
+    ensures { _fs.now.ways ≡ plain_ways
+        → Follows (the_view ⟦<LocalFs<D, R> as GuardedFileSystem<()>>⟧ D.Disk ⟦<LocalFsFile as DavFile<D>>⟧)
+        (the_listings ⟦<LocalFs<D, R> as GuardedFileSystem<()>>⟧ ⟦<LocalFsDirEntry as DavDirEntry<D>>⟧)
+        ⟦<LocalFsFile as DavFile<D>>⟧.writes tt (plain_rules _settings.now) _fs.now }
+{
+    calls_are_local(_fs)
+}
+
+/// What a GET or HEAD answers by what it heard of the local store is right for something that the store may show by its
+/// rules: in every run, whatever its memory knows and however many names fold alike.
+pub fn reads_are_right<D: Disk, R: Remember>(_fs: &LocalFs<D, R>)
+    ensures { (q : Query) (t : LocalFs D R) (result : Given LocalFsFile) (reply : Reply)
+        → OpenOnlyHeld (the_view ⟦<LocalFs<D, R> as GuardedFileSystem<()>>⟧ D.Disk ⟦<LocalFsFile as DavFile<D>>⟧)
+        _fs.now result t
+        → Heard (the_view ⟦<LocalFs<D, R> as GuardedFileSystem<()>>⟧ D.Disk ⟦<LocalFsFile as DavFile<D>>⟧)
+        (the_listings ⟦<LocalFs<D, R> as GuardedFileSystem<()>>⟧ ⟦<LocalFsDirEntry as DavDirEntry<D>>⟧) q tt _fs.now result t
+        → ((number : Option ℕ)
+        → IsOfNumber (the_view ⟦<LocalFs<D, R> as GuardedFileSystem<()>>⟧ D.Disk ⟦<LocalFsFile as DavFile<D>>⟧) number t
+        result → reply_at q.fields (or_zero number) result ≡ reply)
+        → Reads (rules_with q.settings _fs.now.ways) (knowledge_of (R.state _fs.now.memory)) (D.state _fs.now.disk)
+        (D.state t.disk) q reply }
+{
+    calls_are_local(_fs)
+}
+
+/// Where names don't fold and the rules for macOS don't hold, the local store asks its disk once to look, and at most once
+/// to open.
+pub fn local_stores_ask_once<D: Disk, R: Remember>(_fs: &LocalFs<D, R>)
+    ensures { AsksByOne (the_view ⟦<LocalFs<D, R> as GuardedFileSystem<()>>⟧ D.Disk ⟦<LocalFsFile as DavFile<D>>⟧)
+        (the_listings ⟦<LocalFs<D, R> as GuardedFileSystem<()>>⟧ ⟦<LocalFsDirEntry as DavDirEntry<D>>⟧)
+        (λ s. is_simple s.ways) }
+{
+    calls_are_local(_fs)
+}
+
+/// Calls that write nothing leave how a local store finds paths, and what its memory knows after them it knew before.
+pub fn reads_learn_nothing<D: Disk, R: Remember>(_fs: &LocalFs<D, R>)
+    ensures { (t : LocalFs D R) → LeadsOn (the_view ⟦<LocalFs<D, R> as GuardedFileSystem<()>>⟧ D.Disk ⟦<LocalFsFile as DavFile<D>>⟧)
+        (the_listings ⟦<LocalFs<D, R> as GuardedFileSystem<()>>⟧ ⟦<LocalFsDirEntry as DavDirEntry<D>>⟧) tt _fs.now t
+        → (t.ways ≡ _fs.now.ways) × LearnsNothing (R.state _fs.now.memory) (R.state t.memory) }
+{
+    calls_are_local(_fs)
+}
+
+/// Calls that read and write, whatever they answered, leave how a local store finds paths, and what its memory knows after
+/// them it knew before.
+pub fn calls_teach_nothing<D: Disk, R: Remember>(_fs: &LocalFs<D, R>)
+    ensures { (t : LocalFs D R) → Reached (the_view ⟦<LocalFs<D, R> as GuardedFileSystem<()>>⟧ D.Disk ⟦<LocalFsFile as DavFile<D>>⟧)
+        (the_listings ⟦<LocalFs<D, R> as GuardedFileSystem<()>>⟧ ⟦<LocalFsDirEntry as DavDirEntry<D>>⟧)
+        ⟦<LocalFsFile as DavFile<D>>⟧.writes tt _fs.now t
+        → (t.ways ≡ _fs.now.ways) × LearnsNothing (R.state _fs.now.memory) (R.state t.memory) }
+{
+    calls_are_local(_fs)
+}
+
+/// Where the disk tells its world and each path is meant as it is written, the local store shows what stands in the world:
+/// what is opened at each path on the way to which no link stands, also after looks, openings for reading, calls of open
+/// files and listings; and the members of a directory, where no link stands on the way to it or at one of them.
+pub fn local_stores_show_the_tree<D: Disk, R: Remember>(_fs: &LocalFs<D, R>)
+    ensures opened { (w : World) (path : WebPath) → (D.state _fs.now.disk).told ≡ Some w → _fs.now.ways ≡ plain_ways
+        → is_linked w.tree path.names ≡ false
+        → ShowsOn (the_view ⟦<LocalFs<D, R> as GuardedFileSystem<()>>⟧ D.Disk ⟦<LocalFsFile as DavFile<D>>⟧)
+        (the_listings ⟦<LocalFs<D, R> as GuardedFileSystem<()>>⟧ ⟦<LocalFsDirEntry as DavDirEntry<D>>⟧) _fs.now tt path
+        (opened w path) }
+    ensures listed { (w : World) (path : WebPath) → (D.state _fs.now.disk).told ≡ Some w → _fs.now.ways ≡ plain_ways
+        → HasNoLinks w path.names
+        → ShowsMembers (the_view ⟦<LocalFs<D, R> as GuardedFileSystem<()>>⟧ D.Disk ⟦<LocalFsFile as DavFile<D>>⟧)
+        (the_listings ⟦<LocalFs<D, R> as GuardedFileSystem<()>>⟧ ⟦<LocalFsDirEntry as DavDirEntry<D>>⟧) _fs.now tt path
+        (listed_in w path.names) }
+{
+    calls_are_local(_fs)
+}

@@ -1,5 +1,0 @@
-use Rattle.dav_plain.proofs.Written.{all_written}
-use Rattle.dav_plain.proofs.file.PlainFileDavFile.write_buf.Goals as goal
-
-pub returns-clause-one : goal.returns-clause-one
-returns-clause-one g c = all_written _ _ _ _ _ c.write_pieces.ensures.done
