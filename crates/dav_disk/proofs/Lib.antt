@@ -23,3 +23,4 @@ pub mod OpenDone
 pub mod Written
 pub mod OpenAt
 pub mod CopyAt
+pub mod Room

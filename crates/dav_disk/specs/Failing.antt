@@ -28,6 +28,10 @@ fails_at d = d.faults.fail.items
 abbrev pub lens_left : MemDisk → List ℕ
 lens_left d = d.lens.items
 
+-- how often a listing was asked for
+abbrev pub listings_of : MemDisk → ℕ
+listings_of d = d.listings
+
 -- The call fails exactly where its number is one of those that fail. Then it meets one fault, and else none.
 pub record Follows {T : Type 0} (old : MemDisk) (result : Result T DiskError) (new : MemDisk) : Type 0 where
   pub fails : IsErrOf result Failed ↔ Contains (fails_at old) (one_more old.faults.asked)

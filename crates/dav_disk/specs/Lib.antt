@@ -6,6 +6,7 @@ pub mod Memory
 pub mod Worlds
 pub mod Lengths
 pub mod Failing
+pub mod Room
 pub mod Sure
 pub mod Drawn
 pub mod Moves

@@ -1,5 +1,5 @@
 -- What a disk in memory tells that has no schedule of faults.
-use Rattle.std.specs.Prelude.{◌≡◌, ◌↔◌, Bool, Result, true}
+use Rattle.std.specs.Prelude.{◌≡◌, ◌↔◌, ℕ, Bool, Result, true}
 use Rattle.std.specs.Result.{IsErrOf}
 use Rattle.dav_io.specs.Counts.{one_more}
 use Rattle.dav_core.specs.declared.handle.DiskError.{DiskError}
@@ -15,6 +15,10 @@ sure_state d = state_of (known_of d.memory) d.met d.asked true
 
 abbrev pub sure_world : SureDisk → World
 sure_world d = (known_of d.memory).world
+
+-- how often a listing was asked for
+abbrev pub listings_of : SureDisk → ℕ
+listings_of d = d.listings
 
 -- A call that makes something fails exactly where it needs a next number or a next tick that isn't left. Only then the
 -- count of faults rises, by one.

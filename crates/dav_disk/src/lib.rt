@@ -4,6 +4,7 @@
 mod drawn;
 mod faults;
 mod judge;
+mod laws;
 mod listing;
 mod listings;
 mod mem_disk;
@@ -15,5 +16,6 @@ mod tables;
 mod tree;
 mod writing;
 
+pub use laws::sure_disks_fail_for_want_of_room;
 pub use mem_disk::MemDisk;
 pub use sure_disk::SureDisk;

@@ -14,6 +14,7 @@ pub struct MemDisk {
     memory: Memory,
     faults: Faults,
     lens: Vec<usize>,
+    listings: u64,
     ghost some: { All (λ n. 0 < n) lens.items },
 }
 
@@ -42,7 +43,7 @@ fn drop_first(lens: &mut Vec<usize>)
 impl MemDisk {
     ghost use Rattle.dav_disk.specs.Rows.{first_world, can_add as the_can_add, with_dir, with_file, with_batch};
     ghost use Rattle.dav_disk.specs.Calls.{state_of};
-    ghost use Rattle.dav_disk.specs.Failing.{mem_state, mem_world, is_empty, fails_at, lens_left};
+    ghost use Rattle.dav_disk.specs.Failing.{mem_state, mem_world, is_empty, fails_at, lens_left, listings_of};
 
     /// A root directory alone, of number 1 and time 0. The latest time used is 1 second past 1970, and no call fails.
     pub fn new(alloc: Global) -> Result<Self, NoMemory>
@@ -50,6 +51,7 @@ impl MemDisk {
             true) }
         ensures fails { IfOk result (λ d. fails_at d ≡ []) }
         ensures lens { IfOk result (λ d. lens_left d ≡ []) }
+        ensures listings { IfOk result (λ d. listings_of d ≡ 0) }
     {
         let memory = Memory::new(alloc)?;
         Ok(MemDisk {
@@ -60,6 +62,7 @@ impl MemDisk {
                 met: 0,
             },
             lens: Vec::new(alloc),
+            listings: 0,
         })
     }
 
@@ -79,6 +82,7 @@ impl MemDisk {
         ensures err { OnErr result (mem_state self.new ≡ mem_state self.old) }
         ensures fails { fails_at self.new ≡ fails_at self.old }
         ensures lens { lens_left self.new ≡ lens_left self.old }
+        ensures listings { listings_of self.new ≡ listings_of self.old }
     {
         self.memory.add_dir(path, number, time)
     }
@@ -97,6 +101,7 @@ impl MemDisk {
         ensures err { OnErr result (mem_state self.new ≡ mem_state self.old) }
         ensures fails { fails_at self.new ≡ fails_at self.old }
         ensures lens { lens_left self.new ≡ lens_left self.old }
+        ensures listings { listings_of self.new ≡ listings_of self.old }
     {
         self.memory.add_file(path, number, time, bytes)
     }
@@ -107,6 +112,7 @@ impl MemDisk {
         ensures err { OnErr result (fails_at self.new ≡ fails_at self.old) }
         ensures state { mem_state self.new ≡ mem_state self.old }
         ensures lens { lens_left self.new ≡ lens_left self.old }
+        ensures listings { listings_of self.new ≡ listings_of self.old }
     {
         self.faults.fail.push(call)?;
         Ok(())
@@ -119,6 +125,7 @@ impl MemDisk {
         ensures lens { lens_left self.new ≡ lens.items }
         ensures state { mem_state self.new ≡ record (mem_state self.old) { whole = is_empty lens.items } }
         ensures fails { fails_at self.new ≡ fails_at self.old }
+        ensures listings { listings_of self.new ≡ listings_of self.old }
     {
         self.lens = lens;
     }
@@ -130,6 +137,7 @@ impl MemDisk {
         ensures err { OnErr result (mem_state self.new ≡ mem_state self.old) }
         ensures fails { fails_at self.new ≡ fails_at self.old }
         ensures lens { lens_left self.new ≡ lens_left self.old }
+        ensures listings { listings_of self.new ≡ listings_of self.old }
     {
         self.memory.script(batch)
     }
@@ -147,6 +155,13 @@ impl MemDisk {
     {
         self.faults.met
     }
+
+    /// How often `list` was called, refused calls too. It stays at the greatest u64 once it is there.
+    pub fn listings(&self) -> u64
+        ensures { result ≡ listings_of self.now }
+    {
+        self.listings
+    }
 }
 
 impl Disk for MemDisk {
@@ -155,7 +170,8 @@ impl Disk for MemDisk {
     ghost use Rattle.dav_core.specs.Allowed.{making_dir, taking_dir, taking_file, moving, copying, opening};
     ghost use Rattle.dav_core.specs.Writing.{CreatesDir, RemovesDir, RemovesFile, Renames, Copies, Writes};
     ghost use Rattle.dav_disk.specs.Listings.{AreSorted};
-    ghost use Rattle.dav_disk.specs.Failing.{mem_state, mem_world, Follows, FollowsOr, fails_at, is_empty, lens_left};
+    ghost use Rattle.dav_disk.specs.Failing.{mem_state, mem_world, Follows, FollowsOr, fails_at, is_empty, lens_left, listings_of};
+    ghost use Rattle.dav_io.specs.Counts.{one_more};
     ghost use Rattle.dav_disk.specs.Files.{SaysNoMore};
     ghost use Rattle.dav_disk.specs.Making.{is_spent, writing};
     ghost use Rattle.dav_disk.specs.Memory.{known_of};
@@ -169,6 +185,7 @@ impl Disk for MemDisk {
         ensures loan { ⟦<MemDisk as Disk>⟧.loan self.new ≡ ⟦<MemDisk as Disk>⟧.loan self.old }
         ensures schedule { Follows self.old result self.new }
         ensures lens { lens_left self.new ≡ lens_left self.old }
+        ensures listings { listings_of self.new ≡ listings_of self.old }
     {
         if self.faults.next() {
             return Err(DiskError::Failed);
@@ -182,6 +199,7 @@ impl Disk for MemDisk {
         ensures loan { ⟦<MemDisk as Disk>⟧.loan self.new ≡ ⟦<MemDisk as Disk>⟧.loan self.old }
         ensures schedule { Follows self.old result self.new }
         ensures lens { lens_left self.new ≡ lens_left self.old }
+        ensures listings { listings_of self.new ≡ listings_of self.old }
     {
         if self.faults.next() {
             return Err(DiskError::Failed);
@@ -195,6 +213,7 @@ impl Disk for MemDisk {
         ensures schedule { FollowsOr (is_spent (opening (mem_world self.old).tree path.now how) (mem_world self.old))
             self.old result self.new }
         ensures lens { lens_left self.new ≡ lens_left self.old }
+        ensures listings { listings_of self.new ≡ listings_of self.old }
     {
         if self.faults.next() {
             return Err(DiskError::Failed);
@@ -211,6 +230,7 @@ impl Disk for MemDisk {
         ensures loan { ⟦<MemDisk as Disk>⟧.loan self.new ≡ ⟦<MemDisk as Disk>⟧.loan self.old }
         ensures schedule { Follows self.old result self.new }
         ensures lens { lens_left self.new ≡ lens_left self.old }
+        ensures listings { listings_of self.new ≡ listings_of self.old }
     {
         if self.faults.next() {
             return Err(DiskError::Failed);
@@ -224,6 +244,7 @@ impl Disk for MemDisk {
         ensures loan { ⟦<MemDisk as Disk>⟧.loan self.new ≡ ⟦<MemDisk as Disk>⟧.loan self.old }
         ensures schedule { Follows self.old result self.new }
         ensures lens { lens_left self.new ≡ lens_left self.old }
+        ensures listings { listings_of self.new ≡ listings_of self.old }
     {
         if self.faults.next() {
             return Err(DiskError::Failed);
@@ -239,6 +260,7 @@ impl Disk for MemDisk {
         ensures loan { ⟦<MemDisk as Disk>⟧.loan self.new ≡ ⟦<MemDisk as Disk>⟧.loan self.old }
         ensures schedule { Follows self.old result self.new }
         ensures lens { UsesLength (lens_left self.old) result (lens_left self.new) }
+        ensures listings { listings_of self.new ≡ listings_of self.old }
         ensures most { GivesMost (first_of (lens_left self.old)) (mem_world self.old) file.0 into.new result }
     {
         if self.faults.next() {
@@ -263,6 +285,7 @@ impl Disk for MemDisk {
             (mem_world self.old))
             self.old result self.new }
         ensures lens { lens_left self.new ≡ lens_left self.old }
+        ensures listings { listings_of self.new ≡ listings_of self.old }
     {
         if self.faults.next() {
             return Err(DiskError::Failed);
@@ -278,6 +301,7 @@ impl Disk for MemDisk {
         ensures loan { ⟦<MemDisk as Disk>⟧.loan self.new ≡ ⟦<MemDisk as Disk>⟧.loan self.old }
         ensures fails { fails_at self.new ≡ fails_at self.old }
         ensures lens { lens_left self.new ≡ lens_left self.old }
+        ensures listings { listings_of self.new ≡ listings_of self.old }
     {
         self.memory.close(file);
     }
@@ -288,7 +312,9 @@ impl Disk for MemDisk {
         ensures loan { ⟦<MemDisk as Disk>⟧.loan self.new ≡ ⟦<MemDisk as Disk>⟧.loan self.old }
         ensures schedule { Follows self.old result self.new }
         ensures lens { lens_left self.new ≡ lens_left self.old }
+        ensures listings { listings_of self.new ≡ one_more (listings_of self.old) }
     {
+        self.listings = self.listings.saturating_add(1);
         if self.faults.next() {
             return Err(DiskError::Failed);
         }
@@ -301,6 +327,7 @@ impl Disk for MemDisk {
         ensures loan { ⟦<MemDisk as Disk>⟧.loan self.new ≡ ⟦<MemDisk as Disk>⟧.loan self.old }
         ensures schedule { Follows self.old result self.new }
         ensures lens { lens_left self.new ≡ lens_left self.old }
+        ensures listings { listings_of self.new ≡ listings_of self.old }
     {
         if self.faults.next() {
             return Err(DiskError::Failed);
@@ -314,6 +341,7 @@ impl Disk for MemDisk {
         ensures loan { ⟦<MemDisk as Disk>⟧.loan self.new ≡ ⟦<MemDisk as Disk>⟧.loan self.old }
         ensures fails { fails_at self.new ≡ fails_at self.old }
         ensures lens { lens_left self.new ≡ lens_left self.old }
+        ensures listings { listings_of self.new ≡ listings_of self.old }
     {
         self.memory.end_list(at);
     }
@@ -324,6 +352,7 @@ impl Disk for MemDisk {
         ensures schedule { FollowsOr (is_spent (making_dir (mem_world self.old).tree path.now) (mem_world self.old))
             self.old result self.new }
         ensures lens { lens_left self.new ≡ lens_left self.old }
+        ensures listings { listings_of self.new ≡ listings_of self.old }
     {
         if self.faults.next() {
             return Err(DiskError::Failed);
@@ -339,6 +368,7 @@ impl Disk for MemDisk {
         ensures schedule { FollowsOr (is_spent (taking_dir (mem_world self.old).tree path.now) (mem_world self.old))
             self.old result self.new }
         ensures lens { lens_left self.new ≡ lens_left self.old }
+        ensures listings { listings_of self.new ≡ listings_of self.old }
     {
         if self.faults.next() {
             return Err(DiskError::Failed);
@@ -354,6 +384,7 @@ impl Disk for MemDisk {
         ensures schedule { FollowsOr (is_spent (taking_file (mem_world self.old).tree path.now) (mem_world self.old))
             self.old result self.new }
         ensures lens { lens_left self.new ≡ lens_left self.old }
+        ensures listings { listings_of self.new ≡ listings_of self.old }
     {
         if self.faults.next() {
             return Err(DiskError::Failed);
@@ -369,6 +400,7 @@ impl Disk for MemDisk {
         ensures schedule { FollowsOr (is_spent (moving (mem_world self.old).tree from.now to.now) (mem_world self.old))
             self.old result self.new }
         ensures lens { lens_left self.new ≡ lens_left self.old }
+        ensures listings { listings_of self.new ≡ listings_of self.old }
     {
         if self.faults.next() {
             return Err(DiskError::Failed);
@@ -384,6 +416,7 @@ impl Disk for MemDisk {
         ensures schedule { FollowsOr (is_spent (copying (mem_world self.old) from.now to.now) (mem_world self.old))
             self.old result self.new }
         ensures lens { lens_left self.new ≡ lens_left self.old }
+        ensures listings { listings_of self.new ≡ listings_of self.old }
     {
         if self.faults.next() {
             return Err(DiskError::Failed);
@@ -398,6 +431,7 @@ impl Disk for MemDisk {
         ensures loan { ⟦<MemDisk as Disk>⟧.loan self.new ≡ ⟦<MemDisk as Disk>⟧.loan self.old }
         ensures fails { fails_at self.new ≡ fails_at self.old }
         ensures lens { lens_left self.new ≡ lens_left self.old }
+        ensures listings { listings_of self.new ≡ listings_of self.old }
     {
         self.memory.turn()
     }

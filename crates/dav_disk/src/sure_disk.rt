@@ -1,4 +1,6 @@
 ghost use Rattle.std.specs.Prelude.{◌≡◌, ◌<◌, length, None, Some, IfOk, IsSome, OnOk, OnErr, true};
+ghost use Rattle.dav_disk.specs.Memory.{known_of as known_to};
+ghost use Rattle.dav_disk.specs.Room.{HasRoom};
 
 use crate::faults::{is_fault, noted};
 use crate::memory::Memory;
@@ -13,22 +15,27 @@ pub struct SureDisk {
     memory: Memory,
     asked: u64,
     met: u64,
+    listings: u64,
+    ghost spared: { HasRoom (known_to memory).world → met ≡ 0 },
 }
 
 impl SureDisk {
     ghost use Rattle.dav_disk.specs.Rows.{first_world, can_add as the_can_add, with_dir, with_file, with_batch};
     ghost use Rattle.dav_disk.specs.Calls.{state_of};
-    ghost use Rattle.dav_disk.specs.Sure.{sure_state, sure_world};
+    ghost use Rattle.dav_disk.specs.Sure.{sure_state, sure_world, listings_of};
 
     /// A root directory alone, of number 1 and time 0. The latest time used is 1 second past 1970.
     pub fn new(alloc: Global) -> Result<Self, NoMemory>
-        ensures { IfOk result (λ d. sure_state d ≡ state_of (record { world = first_world; live = λ _. None }) 0 0 true) }
+        ensures made { IfOk result (λ d. sure_state d ≡ state_of (record { world = first_world; live = λ _. None }) 0 0
+            true) }
+        ensures listings { IfOk result (λ d. listings_of d ≡ 0) }
     {
         let memory = Memory::new(alloc)?;
         Ok(SureDisk {
             memory,
             asked: 0,
             met: 0,
+            listings: 0,
         })
     }
 
@@ -46,6 +53,7 @@ impl SureDisk {
         ensures ok { OnOk result (sure_state self.new ≡ record (sure_state self.old)
             { told = Some (with_dir (sure_world self.old) path.now number time) }) }
         ensures err { OnErr result (sure_state self.new ≡ sure_state self.old) }
+        ensures listings { listings_of self.new ≡ listings_of self.old }
     {
         self.memory.add_dir(path, number, time)
     }
@@ -62,6 +70,7 @@ impl SureDisk {
         ensures ok { OnOk result (sure_state self.new ≡ record (sure_state self.old)
             { told = Some (with_file (sure_world self.old) path.now number time bytes.now) }) }
         ensures err { OnErr result (sure_state self.new ≡ sure_state self.old) }
+        ensures listings { listings_of self.new ≡ listings_of self.old }
     {
         self.memory.add_file(path, number, time, bytes)
     }
@@ -71,6 +80,7 @@ impl SureDisk {
         ensures ok { OnOk result (sure_state self.new ≡ record (sure_state self.old)
             { told = Some (with_batch (sure_world self.old) batch.items) }) }
         ensures err { OnErr result (sure_state self.new ≡ sure_state self.old) }
+        ensures listings { listings_of self.new ≡ listings_of self.old }
     {
         self.memory.script(batch)
     }
@@ -88,16 +98,25 @@ impl SureDisk {
     {
         self.met
     }
+
+    /// How often `list` was called, refused calls too. It stays at the greatest u64 once it is there.
+    pub fn listings(&self) -> u64
+        ensures { result ≡ listings_of self.now }
+    {
+        self.listings
+    }
 }
 
 impl Disk for SureDisk {
-    ghost use Rattle.dav_core.specs.Disk.{Metas, LinkMetas, FileMetas, Opens};
+    ghost use Rattle.dav_core.specs.Disk.{Metas, LinkMetas, FileMetas, Opens, Seeks, Reads, Closes, Turns};
+    ghost use Rattle.dav_core.specs.Listing.{Lists, ListsOn, EndsListing};
+    ghost use Rattle.dav_io.specs.Counts.{one_more};
     ghost use Rattle.dav_disk.specs.Files.{SaysNoMore};
     ghost use Rattle.dav_core.specs.Allowed.{making_dir, taking_dir, taking_file, moving, copying, opening};
     ghost use Rattle.dav_core.specs.Writing.{CreatesDir, RemovesDir, RemovesFile, Renames, Copies, Writes};
     ghost use Rattle.dav_disk.specs.Making.{is_spent, writing};
     ghost use Rattle.dav_disk.specs.Memory.{known_of};
-    ghost use Rattle.dav_disk.specs.Sure.{sure_state, sure_world, FailsOnly};
+    ghost use Rattle.dav_disk.specs.Sure.{sure_state, sure_world, listings_of, FailsOnly};
     ghost use Rattle.dav_disk.specs.Worlds.{told_world, told_live};
 
     ghost state = { sure_state };
@@ -105,6 +124,7 @@ impl Disk for SureDisk {
     fn meta(&mut self, path: &FsPath) -> Result<Meta, DiskError>
         ensures done { Metas (sure_state self.old) path.now result (sure_state self.new) }
         ensures loan { ⟦<SureDisk as Disk>⟧.loan self.new ≡ ⟦<SureDisk as Disk>⟧.loan self.old }
+        ensures listings { listings_of self.new ≡ listings_of self.old }
         ensures more { IfOk result SaysNoMore }
     {
         self.asked = self.asked.saturating_add(1);
@@ -114,6 +134,7 @@ impl Disk for SureDisk {
     fn link_meta(&mut self, path: &FsPath) -> Result<Meta, DiskError>
         ensures done { LinkMetas (sure_state self.old) path.now result (sure_state self.new) }
         ensures loan { ⟦<SureDisk as Disk>⟧.loan self.new ≡ ⟦<SureDisk as Disk>⟧.loan self.old }
+        ensures listings { listings_of self.new ≡ listings_of self.old }
         ensures more { IfOk result SaysNoMore }
     {
         self.asked = self.asked.saturating_add(1);
@@ -123,6 +144,7 @@ impl Disk for SureDisk {
     fn open(&mut self, path: &FsPath, how: OpenOptions, _public: bool) -> Result<Handle, DiskError>
         ensures done { Opens (sure_state self.old) path.now how result (sure_state self.new) }
         ensures loan { ⟦<SureDisk as Disk>⟧.loan self.new ≡ ⟦<SureDisk as Disk>⟧.loan self.old }
+        ensures listings { listings_of self.new ≡ listings_of self.old }
         ensures fails { FailsOnly (is_spent (opening (sure_world self.old).tree path.now how) (sure_world self.old))
             self.old result self.new }
     {
@@ -136,19 +158,31 @@ impl Disk for SureDisk {
         requires { IsSome ((sure_state self.old).live file.0) }
         ensures done { FileMetas (sure_state self.old) file.0 result (sure_state self.new) }
         ensures loan { ⟦<SureDisk as Disk>⟧.loan self.new ≡ ⟦<SureDisk as Disk>⟧.loan self.old }
+        ensures listings { listings_of self.new ≡ listings_of self.old }
         ensures more { IfOk result SaysNoMore }
     {
         self.asked = self.asked.saturating_add(1);
         Ok(self.memory.file_meta(file))
     }
 
-    fn seek(&mut self, file: Handle, place: u64) -> Result<(), DiskError> {
+    fn seek(&mut self, file: Handle, place: u64) -> Result<(), DiskError>
+        requires { IsSome ((sure_state self.old).live file.0) }
+        ensures done { Seeks (sure_state self.old) file.0 place result (sure_state self.new) }
+        ensures loan { ⟦<SureDisk as Disk>⟧.loan self.new ≡ ⟦<SureDisk as Disk>⟧.loan self.old }
+        ensures listings { listings_of self.new ≡ listings_of self.old }
+    {
         self.asked = self.asked.saturating_add(1);
         self.memory.seek(file, place);
         Ok(())
     }
 
-    fn read(&mut self, file: Handle, into: &mut [u8]) -> Result<usize, DiskError> {
+    fn read(&mut self, file: Handle, into: &mut [u8]) -> Result<usize, DiskError>
+        requires live { IsSome ((sure_state self.old).live file.0) }
+        requires room { 0 < length into.old }
+        ensures done { Reads (sure_state self.old) file.0 into.new result (sure_state self.new) }
+        ensures loan { ⟦<SureDisk as Disk>⟧.loan self.new ≡ ⟦<SureDisk as Disk>⟧.loan self.old }
+        ensures listings { listings_of self.new ≡ listings_of self.old }
+    {
         self.asked = self.asked.saturating_add(1);
         self.memory.read(file, usize::MAX, into)
     }
@@ -158,6 +192,7 @@ impl Disk for SureDisk {
         requires some { 0 < length from.now }
         ensures done { Writes (sure_state self.old) file.0 from.now result (sure_state self.new) }
         ensures loan { ⟦<SureDisk as Disk>⟧.loan self.new ≡ ⟦<SureDisk as Disk>⟧.loan self.old }
+        ensures listings { listings_of self.new ≡ listings_of self.old }
         ensures fails { FailsOnly (is_spent (writing (known_of self.old.memory) file.0 from.now) (sure_world self.old))
             self.old result self.new }
     {
@@ -167,27 +202,48 @@ impl Disk for SureDisk {
         answer
     }
 
-    fn close(&mut self, file: Handle) {
+    fn close(&mut self, file: Handle)
+        requires { IsSome ((sure_state self.old).live file.0) }
+        ensures done { Closes (sure_state self.old) file.0 (sure_state self.new) }
+        ensures loan { ⟦<SureDisk as Disk>⟧.loan self.new ≡ ⟦<SureDisk as Disk>⟧.loan self.old }
+        ensures listings { listings_of self.new ≡ listings_of self.old }
+    {
         self.memory.close(file);
     }
 
-    fn list(&mut self, path: &FsPath) -> Result<Lister, DiskError> {
+    fn list(&mut self, path: &FsPath) -> Result<Lister, DiskError>
+        ensures done { Lists (sure_state self.old) path.now result (sure_state self.new) }
+        ensures loan { ⟦<SureDisk as Disk>⟧.loan self.new ≡ ⟦<SureDisk as Disk>⟧.loan self.old }
+        ensures listings { listings_of self.new ≡ one_more (listings_of self.old) }
+    {
         self.asked = self.asked.saturating_add(1);
+        self.listings = self.listings.saturating_add(1);
         self.memory.list(path)
     }
 
-    fn list_next(&mut self, _alloc: Global, at: Lister) -> Result<Option<Text>, DiskError> {
+    fn list_next(&mut self, _alloc: Global, at: Lister) -> Result<Option<Text>, DiskError>
+        requires { IsSome ((sure_state self.old).listers at.0) }
+        ensures done { ListsOn (sure_state self.old) at.0 result (sure_state self.new) }
+        ensures loan { ⟦<SureDisk as Disk>⟧.loan self.new ≡ ⟦<SureDisk as Disk>⟧.loan self.old }
+        ensures listings { listings_of self.new ≡ listings_of self.old }
+    {
         self.asked = self.asked.saturating_add(1);
         Ok(self.memory.list_next(at))
     }
 
-    fn end_list(&mut self, at: Lister) {
+    fn end_list(&mut self, at: Lister)
+        requires { IsSome ((sure_state self.old).listers at.0) }
+        ensures done { EndsListing (sure_state self.old) at.0 (sure_state self.new) }
+        ensures loan { ⟦<SureDisk as Disk>⟧.loan self.new ≡ ⟦<SureDisk as Disk>⟧.loan self.old }
+        ensures listings { listings_of self.new ≡ listings_of self.old }
+    {
         self.memory.end_list(at);
     }
 
     fn create_dir(&mut self, path: &FsPath, _public: bool) -> Result<(), DiskError>
         ensures done { CreatesDir (sure_state self.old) path.now result (sure_state self.new) }
         ensures loan { ⟦<SureDisk as Disk>⟧.loan self.new ≡ ⟦<SureDisk as Disk>⟧.loan self.old }
+        ensures listings { listings_of self.new ≡ listings_of self.old }
         ensures fails { FailsOnly (is_spent (making_dir (sure_world self.old).tree path.now) (sure_world self.old))
             self.old result self.new }
     {
@@ -200,6 +256,7 @@ impl Disk for SureDisk {
     fn remove_dir(&mut self, path: &FsPath) -> Result<(), DiskError>
         ensures done { RemovesDir (sure_state self.old) path.now result (sure_state self.new) }
         ensures loan { ⟦<SureDisk as Disk>⟧.loan self.new ≡ ⟦<SureDisk as Disk>⟧.loan self.old }
+        ensures listings { listings_of self.new ≡ listings_of self.old }
         ensures fails { FailsOnly (is_spent (taking_dir (sure_world self.old).tree path.now) (sure_world self.old))
             self.old result self.new }
     {
@@ -212,6 +269,7 @@ impl Disk for SureDisk {
     fn remove_file(&mut self, path: &FsPath) -> Result<(), DiskError>
         ensures done { RemovesFile (sure_state self.old) path.now result (sure_state self.new) }
         ensures loan { ⟦<SureDisk as Disk>⟧.loan self.new ≡ ⟦<SureDisk as Disk>⟧.loan self.old }
+        ensures listings { listings_of self.new ≡ listings_of self.old }
         ensures fails { FailsOnly (is_spent (taking_file (sure_world self.old).tree path.now) (sure_world self.old))
             self.old result self.new }
     {
@@ -224,6 +282,7 @@ impl Disk for SureDisk {
     fn rename(&mut self, from: &FsPath, to: &FsPath) -> Result<(), DiskError>
         ensures done { Renames (sure_state self.old) from.now to.now result (sure_state self.new) }
         ensures loan { ⟦<SureDisk as Disk>⟧.loan self.new ≡ ⟦<SureDisk as Disk>⟧.loan self.old }
+        ensures listings { listings_of self.new ≡ listings_of self.old }
         ensures fails { FailsOnly (is_spent (moving (sure_world self.old).tree from.now to.now) (sure_world self.old))
             self.old result self.new }
     {
@@ -236,6 +295,7 @@ impl Disk for SureDisk {
     fn copy(&mut self, from: &FsPath, to: &FsPath) -> Result<(), DiskError>
         ensures done { Copies (sure_state self.old) from.now to.now result (sure_state self.new) }
         ensures loan { ⟦<SureDisk as Disk>⟧.loan self.new ≡ ⟦<SureDisk as Disk>⟧.loan self.old }
+        ensures listings { listings_of self.new ≡ listings_of self.old }
         ensures fails { FailsOnly (is_spent (copying (sure_world self.old) from.now to.now) (sure_world self.old))
             self.old result self.new }
     {
@@ -245,7 +305,11 @@ impl Disk for SureDisk {
         answer
     }
 
-    fn turn(&mut self) -> Result<(), NoMemory> {
+    fn turn(&mut self) -> Result<(), NoMemory>
+        ensures done { Turns (sure_state self.old) result (sure_state self.new) }
+        ensures loan { ⟦<SureDisk as Disk>⟧.loan self.new ≡ ⟦<SureDisk as Disk>⟧.loan self.old }
+        ensures listings { listings_of self.new ≡ listings_of self.old }
+    {
         self.memory.turn()
     }
 

@@ -8,6 +8,7 @@ use Rattle.dav_disk.specs.Making.{is_spent}
 use Rattle.dav_disk.specs.Memory.{known_of}
 use Rattle.dav_disk.proofs.Judges.{copy_refuses}
 use Rattle.dav_disk.proofs.Makes.{does, does_in, fails_done, fails_in, fails_noted, fails_spent, follows_or, fails_only, noted_by, spent_fails}
+use Rattle.dav_disk.proofs.Room.{makes_grew, spared, unspent}
 use Rattle.dav_disk.proofs.sure_disk.SureDiskDisk.copy.Goals as goal
 
 pub returns-clause-done : goal.returns-clause-done
@@ -27,3 +28,13 @@ returns-clause-fails c =
     let allowed : Allowed = copying k.world c.args.from.now c.args.to.now in
     fails_only (is_spent allowed k.world) c.args.self.now _ c.copy-answer.result c.is_fault.result c.is_fault.ensures
     (fails_spent allowed k n c.copy-answer.result c.copy-answer.ensures) (spent_fails allowed k n c.copy-answer.result c.copy-answer.ensures) c.noted-self.ensures.once c.noted-self.ensures.same
+
+pub invariant_of-self : goal.invariant_of-self
+invariant_of-self c =
+    let k : Known = known_of c.args.self.now.memory in
+    let n : Known = known_of c.copy-answer.new.self in
+    let allowed : Allowed = copying k.world c.args.from.now c.args.to.now in
+    record {
+      spared = spared (is_spent allowed k.world) k.world n.world c.args.self.now.met c.noted-self.result c.copy-answer.result c.is_fault.result c.is_fault.ensures
+          (fails_spent allowed k n c.copy-answer.result c.copy-answer.ensures) (unspent allowed k.world) (makes_grew allowed k n c.copy-answer.result c.copy-answer.ensures) c.noted-self.ensures.same c.args.self.now.spared;
+    }

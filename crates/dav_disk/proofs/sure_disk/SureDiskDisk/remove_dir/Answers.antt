@@ -8,6 +8,7 @@ use Rattle.dav_disk.specs.Making.{is_spent}
 use Rattle.dav_disk.specs.Memory.{known_of}
 use Rattle.dav_disk.proofs.Judges.{take_dir_refuses}
 use Rattle.dav_disk.proofs.Makes.{does, does_in, fails_done, fails_in, fails_noted, fails_spent, follows_or, fails_only, noted_by, spent_fails}
+use Rattle.dav_disk.proofs.Room.{makes_grew, spared, unspent}
 use Rattle.dav_disk.proofs.sure_disk.SureDiskDisk.remove_dir.Goals as goal
 
 pub returns-clause-done : goal.returns-clause-done
@@ -27,3 +28,13 @@ returns-clause-fails c =
     let allowed : Allowed = taking_dir k.world.tree c.args.path.now in
     fails_only (is_spent allowed k.world) c.args.self.now _ c.remove_dir-answer.result c.is_fault.result c.is_fault.ensures
     (fails_spent allowed k n c.remove_dir-answer.result c.remove_dir-answer.ensures) (spent_fails allowed k n c.remove_dir-answer.result c.remove_dir-answer.ensures) c.noted-self.ensures.once c.noted-self.ensures.same
+
+pub invariant_of-self : goal.invariant_of-self
+invariant_of-self c =
+    let k : Known = known_of c.args.self.now.memory in
+    let n : Known = known_of c.remove_dir-answer.new.self in
+    let allowed : Allowed = taking_dir k.world.tree c.args.path.now in
+    record {
+      spared = spared (is_spent allowed k.world) k.world n.world c.args.self.now.met c.noted-self.result c.remove_dir-answer.result c.is_fault.result c.is_fault.ensures
+          (fails_spent allowed k n c.remove_dir-answer.result c.remove_dir-answer.ensures) (unspent allowed k.world) (makes_grew allowed k n c.remove_dir-answer.result c.remove_dir-answer.ensures) c.noted-self.ensures.same c.args.self.now.spared;
+    }

@@ -1,0 +1,15 @@
+pub mod Digits
+pub mod Folding
+pub mod Lists
+pub mod Apart
+pub mod Standing
+pub mod Building
+pub mod Targets
+pub mod Due
+pub mod Moves
+pub mod Played
+pub mod Uris
+pub mod Made
+pub mod Counted
+pub mod Formula
+pub mod Reported

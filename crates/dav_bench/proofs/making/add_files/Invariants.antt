@@ -1,0 +1,6 @@
+use Rattle.dav_disk.specs.Sure.{sure_world}
+use Rattle.dav_bench.specs.Making.{IsSoFar}
+use Rattle.dav_bench.proofs.making.add_files.Given as goal
+
+abbrev pub invariant-loop-j : goal.invariant-loop-j
+invariant-loop-j l = IsSoFar 8 l.m l.i l.j (sure_world l.disk)

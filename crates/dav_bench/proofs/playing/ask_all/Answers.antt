@@ -1,0 +1,20 @@
+use Rattle.std.proofs.Common.{arith, ◌∙◌}
+use Rattle.dav_bench.proofs.Counted.{all_begin, all_go_on, all_have_place}
+use Rattle.dav_bench.proofs.playing.ask_all.Goals as goal
+
+pub loop-i-init : goal.loop-i-init
+loop-i-init g c = record { ready = c.requires.ready; replies = omega arith; counts = all_begin c.args.m c.args.counts.now }
+
+pub ask_dir-requires-clause-place : goal.ask_dir-requires-clause-place
+ask_dir-requires-clause-place g c =
+    all_have_place c.args.m c.loop-i.i c.args.counts.now c.loop-i.counts c.requires.m (omega arith) c.requires.place c.loop-i.invariant.counts
+
+pub loop-i-preserved : goal.loop-i-preserved
+loop-i-preserved g c =
+    let before = c.loop-i.invariant.replies in
+    let more = c.in_ok-ask_dir.ensures.replies in
+    record {
+      ready = c.in_ok-ask_dir.ensures.ready;
+      replies = omega arith;
+      counts = all_go_on c.args.m c.loop-i.i c.args.counts.now c.loop-i.counts c.ask_dir.new.counts c.loop-i.invariant.counts c.in_ok-ask_dir.ensures.counts;
+    }

@@ -1,0 +1,20 @@
+use Rattle.std.proofs.Common.{arith, ◌∙◌}
+use Rattle.dav_bench.proofs.Counted.{dir_begins, dir_goes_on, dir_has_place}
+use Rattle.dav_bench.proofs.playing.ask_dir.Goals as goal
+
+pub loop-j-init : goal.loop-j-init
+loop-j-init g c = record { ready = c.requires.ready; replies = omega arith; counts = dir_begins c.args.i c.args.counts.now }
+
+pub ask-requires-clause-place : goal.ask-requires-clause-place
+ask-requires-clause-place g c =
+    dir_has_place c.args.m c.args.i c.loop-j.j c.args.counts.now c.loop-j.counts c.requires.m c.requires.i (omega arith) c.requires.place c.loop-j.invariant.counts
+
+pub loop-j-preserved : goal.loop-j-preserved
+loop-j-preserved g c =
+    let before = c.loop-j.invariant.replies in
+    let more = c.in_ok-ask.ensures.replies in
+    record {
+      ready = c.in_ok-ask.ensures.ready;
+      replies = omega arith;
+      counts = dir_goes_on c.args.i c.loop-j.j c.args.counts.now c.loop-j.counts c.ask.new.counts c.loop-j.invariant.counts c.in_ok-ask.ensures.counts;
+    }

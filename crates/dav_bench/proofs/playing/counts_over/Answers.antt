@@ -1,0 +1,10 @@
+use Rattle.std.proofs.Common.{arith, ap, ◌∙◌, ◌≡◌}
+use Rattle.dav_bench.specs.Counting.{added, nothing_counted}
+use Rattle.dav_bench.specs.Report.{lengths}
+use Rattle.std.proofs.Common.{sum, ◌*◌}
+use Rattle.dav_bench.proofs.Counted.{second_round}
+use Rattle.dav_bench.proofs.playing.counts_over.Goals as goal
+
+pub ask_all-requires-2-clause-place : goal.ask_all-requires-2-clause-place
+ask_all-requires-2-clause-place g c =
+    second_round c.args.m c.ask_all.new.counts c.requires.m (c.in_ok-ask_all.ensures.counts ∙ ap (added (8 * c.args.m) (sum (lengths c.args.m))) c.none-counts.ensures)
