@@ -25,9 +25,12 @@ use Rattle.dav_model.specs.Written.{ByActs, EndsAs, IsWriteReply, Makes, MakesAs
 use Rattle.dav_store.specs.Frames.{KeepsOpen}
 use Rattle.dav_methods.specs.Answers.{IsAnswer, RefusesUsually}
 use Rattle.dav_store.specs.View.{View, Listings}
-use Rattle.dav_plain.specs.declared.entry.PlainDir.{PlainDir}
-use Rattle.dav_plain.specs.declared.entry.PlainEntry.{PlainEntry}
-use Rattle.dav_plain.specs.declared.file.PlainFile.{PlainFile}
+use Rattle.dav_local.specs.declared.entry.LocalFsDirEntry.{LocalFsDirEntry}
+use Rattle.dav_local.specs.declared.file.LocalFsFile.{LocalFsFile}
+use Rattle.dav_local.specs.declared.ways.Ways.{Ways}
+use Rattle.dav_local.specs.Listing.{ListingState}
+use Rattle.dav_local.specs.Ways.{rules_with}
+use Rattle.dav_local_laws.specs.Simple.{plain_ways}
 use Rattle.dav_methods.specs.Carrying.{CopiesTo, MovesTo}
 use Rattle.dav_methods.specs.Changing.{Changes}
 use Rattle.dav_methods.specs.Follows.{Follows, answer_or}
@@ -43,7 +46,22 @@ use Rattle.dav_methods.proofs.PutFollows.{put_follows}
 use Rattle.dav_methods.proofs.RemovalsListed.{delete_listed}
 use Rattle.dav_methods.specs.Lines.{Given}
 use Rattle.dav_handler.specs.declared.found.Found.{Found}
-use Rattle.dav_handler.specs.Found.{Answers, Finds, HoldsOnly, IsRefusedBy, Said, reply_of}
+use Rattle.dav_handler.specs.By.{By, Over}
+use Rattle.dav_handler.specs.Found.{Answers, Finds, HoldsOnly, IsRefusedBy, Said, Stays, reply_of}
+
+-- The rules by which each path is meant as it is written.
+pub record ArePlain (rules : Rules) : Type 0 where
+  pub folds : rules.folds ≡ false
+  pub macos : rules.macos ≡ false
+  pub alone : rules.alone ≡ None
+
+-- The ways of such rules are plain.
+pub ways_plain : {settings : Settings} (ways : Ways) → ArePlain (rules_with settings ways) → ways ≡ plain_ways
+ways_plain ways plain = λ i. record { alone = plain.alone i; folds = plain.folds i; macos = plain.macos i }
+
+-- such rules are those of a plain store
+are_plain : (rules : Rules) → ArePlain rules → rules ≡ plain_rules rules.settings
+are_plain rules plain = λ i. record { settings = rules.settings; folds = plain.folds i; macos = plain.macos i; alone = plain.alone i }
 
 -- what was done is a part of what is planned
 acts_part : (fields : Fields) (acts : List Act) (done : ℕ) (reply : Reply) (v w : World) → ByActs fields acts done reply v w → PartOf acts v w
@@ -55,12 +73,12 @@ ends_part : (fields : Fields) (plan : Plan) (reply : Reply) (rose : Type 0) (v w
 ends_part fields plan reply rose v w (inl by) = acts_part fields plan.acts plan.done reply v w by
 ends_part fields plan reply rose v w (inr (is, r, part)) = part
 
--- what a method that writes did between two states of the disk
-pub record Did (settings : Settings) (ask : Ask) (s : DiskState) (r : Given) (t : DiskState) : Type 0 where
+-- What a method that writes did between two states of the disk. What it made of the told world is said where the rules are plain.
+pub record Did (rules : Rules) (ask : Ask) (s : DiskState) (r : Given) (t : DiskState) : Type 0 where
   pub keeps : KeepsOpen s t
   pub listed : IsAnswer (Rose s.faults t.faults) r
-  pub right : Both s.told t.told (λ v w. (result : Result Reply NoMemory) → answer_or ask.fields r result
-      → MakesAs ask.method (plain_rules settings) ask result (Rose s.faults t.faults) v w)
+  pub right : ArePlain rules → Both s.told t.told (λ v w. (result : Result Reply NoMemory) → answer_or ask.fields r result
+      → MakesAs ask.method rules ask result (Rose s.faults t.faults) v w)
 
 -- Where it is known what was made for an answer, it is known where memory was refused for that.
 lost_as : (method : DavMethod) (rules : Rules) (ask : Ask) (reply : Reply) (e : NoMemory) (rose : Type 0) (v w : World) → MakesAs method rules ask (Ok reply) rose v w → MakesAs method rules ask (Err e) rose v w
@@ -79,55 +97,59 @@ refused_listed fields rose e has (inl lacks) = absurd (true≢false (sym lacks �
 refused_listed fields rose e has (inr (listed, failed)) =
     inr (inr (record { status = status_of e; close = closes e; is = refl; listed = listed; failed = failed }))
 
-module _ (settings : Settings) (method : DavMethod) (path : WebPath) (said : Said) (s t : DiskState) where
+module _ (a b : By) (method : DavMethod) (path : WebPath) (said : Said) (s t : DiskState) (stays : Stays (record { by = a; disk = s }) (record { by = b; disk = t })) where
   abbrev asks : Ask
   asks = ask_of method path said.fields said.body
 
+  abbrev before : Over
+  before = record { by = a; disk = s }
+
+  abbrev after : Over
+  after = record { by = b; disk = t }
+
   -- what its plan says of this answer, or of want of memory
-  made_as : (r : Given) (result : Result Reply NoMemory) → Did settings asks s r t → answer_or said.fields r result
-      → Makes (Writes method path) (plain_rules settings) said.fields said.body result s t
+  made_as : (r : Given) (result : Result Reply NoMemory) → Did a.rules asks s r t → answer_or said.fields r result → Makes (Writes method path) a.rules said.fields said.body result s t
   made_as r result did is = λ folds macos alone. both_map s.told t.told _
-      (MakesAs method (plain_rules settings) asks result (Rose s.faults t.faults)) (λ v w right. right result is) did.right
+      (MakesAs method a.rules asks result (Rose s.faults t.faults)) (λ v w right. right result is) (did.right (record { folds = folds; macos = macos; alone = alone }))
 
   -- it was done or refused, and memory was refused for the answer
-  made_lost : (r : Given) (reply : Reply) (e : NoMemory) → Did settings asks s r t → answer_or said.fields r (Ok reply)
-      → Makes (Writes method path) (plain_rules settings) said.fields said.body (Err e) s t
+  made_lost : (r : Given) (reply : Reply) (e : NoMemory) → Did a.rules asks s r t → answer_or said.fields r (Ok reply) → Makes (Writes method path) a.rules said.fields said.body (Err e) s t
   made_lost r reply e did is = λ folds macos alone. both_map s.told t.told _
-      (MakesAs method (plain_rules settings) asks (Err e) (Rose s.faults t.faults))
-      (λ v w right. lost_as method (plain_rules settings) asks reply e (Rose s.faults t.faults) v w (right (Ok reply) is)) did.right
+      (MakesAs method a.rules asks (Err e) (Rose s.faults t.faults))
+      (λ v w right. lost_as method a.rules asks reply e (Rose s.faults t.faults) v w (right (Ok reply) is)) (did.right (record { folds = folds; macos = macos; alone = alone }))
 
   -- It was done.
-  pub write_done : (outcome : Outcome) (found : Found) → Did settings asks s (Ok outcome) t → found.outcome ≡ outcome → found.body ≡ None
-      → Answers settings s said (Writes method path) found t
+  pub write_done : (outcome : Outcome) (found : Found) → Did a.rules asks s (Ok outcome) t → found.outcome ≡ outcome → found.body ≡ None → Answers before said (Writes method path) found after
   write_done outcome found did is none =
       let same : reply_of t found ≡ record { status = outcome.status; fields = outcome.fields; parts = [] } = rw (is, none) refl in
       record {
-        holds = subst (λ b. HoldsOnly (read_size_of settings.read_buf_size) s b t) (sym none) did.keeps;
+        stays = stays;
+        holds = subst (λ b. HoldsOnly (read_size_of a.rules.settings.read_buf_size) s b t) (sym none) did.keeps;
         makes = made_as (Ok outcome) (Ok (reply_of t found)) did same;
         right = subst (IsWriteReply said.fields (Rose s.faults t.faults)) (sym same) (done_listed said.fields (Rose s.faults t.faults) outcome did.listed);
         asks = did.keeps.asked;
       }
 
   -- It was refused.
-  pub write_refused : (e : DavError) (result : Result Found NoMemory) → Did settings asks s (Err e) t → IfOk result (IsRefusedBy said.fields e)
-      → Finds settings s said (Writes method path) result t
-  write_refused e (Err x) did is = (did.keeps, by_memory (lacks_memory e) refl, tt)
+  pub write_refused : (e : DavError) (result : Result Found NoMemory) → Did a.rules asks s (Err e) t → IfOk result (IsRefusedBy said.fields e) → Finds before said (Writes method path) result after
+  write_refused e (Err x) did is = record { stays = stays; keeps = did.keeps; makes = λ y. by_memory y (lacks_memory e) refl; asks = tt }
     where
-      by_memory : (b : Bool) → lacks_memory e ≡ b → Makes (Writes method path) (plain_rules settings) said.fields said.body (Err x) s t
-      by_memory true lacks = made_as (Err e) (Err x) did lacks
-      by_memory false has = made_lost (Err e) (refusal said.fields (status_of e) (closes e)) x did (has, refl)
+      by_memory : (y : NoMemory) (b : Bool) → lacks_memory e ≡ b → Makes (Writes method path) a.rules said.fields said.body (Err y) s t
+      by_memory y true lacks = made_as (Err e) (Err y) did lacks
+      by_memory y false has = made_lost (Err e) (refusal said.fields (status_of e) (closes e)) y did (has, refl)
   write_refused e (Ok found) did is =
       let same : reply_of t found ≡ refusal said.fields (status_of e) (closes e) = rw (is.refused.status, is.refused.fields, is.refused.body) refl in
       record {
-        holds = subst (λ b. HoldsOnly (read_size_of settings.read_buf_size) s b t) (sym is.refused.body) did.keeps;
+        stays = stays;
+        holds = subst (λ b. HoldsOnly (read_size_of a.rules.settings.read_buf_size) s b t) (sym is.refused.body) did.keeps;
         makes = made_as (Err e) (Ok (reply_of t found)) did (is.memory, same);
         right = subst (IsWriteReply said.fields (Rose s.faults t.faults)) (sym same) (refused_listed said.fields (Rose s.faults t.faults) e is.memory did.listed);
         asks = did.keeps.asked;
       }
 
--- ---- over the plain store
+-- ---- over the store
 
-module _ {S C : Type 0} (view : View S C PlainFile) (lists : Listings S C PlainDir PlainEntry) (writes : FileWrites PlainFile) (c : C)
+module _ {S C : Type 0} (view : View S C LocalFsFile) (lists : Listings S C ListingState LocalFsDirEntry) (writes : FileWrites LocalFsFile) (c : C)
     (usual : RefusesUsually view lists writes c) (worlds : (s : S) (w : World) → (view.state s).told ≡ Some w → IsWorld w)
     (prefix : List ℕ) (path : WebPath) (said : Said) (s : S) (r : Given) (t : S) where
   listed : (method : DavMethod) → Changes view lists writes c method prefix path said.fields said.body s r t
@@ -155,7 +177,15 @@ module _ {S C : Type 0} (view : View S C PlainFile) (lists : Listings S C PlainD
   right settings own follows other run = mkcalendar_follows view lists writes c worlds (plain_rules settings) s follows
       refl refl refl (ask_of other path said.fields said.body) (λ v. refl) r t run
 
-  -- What a method that writes did over the plain store.
-  pub did_change : (settings : Settings) → prefix ≡ settings.prefix → Follows view lists writes c (plain_rules settings) s → (method : DavMethod) → Changes view lists writes c method prefix path said.fields said.body s r t → KeepsOpen (view.state s) (view.state t)
-      → Did settings (ask_of method path said.fields said.body) (view.state s) r (view.state t)
-  did_change settings own follows method run keeps = record { keeps = keeps; listed = listed method run; right = right settings own follows method run }
+  abbrev RightBy : Rules → DavMethod → Type 0
+  RightBy rules method = Both (view.state s).told (view.state t).told (λ v w. (result : Result Reply NoMemory) → answer_or said.fields r result
+      → MakesAs method rules (ask_of method path said.fields said.body) result (Rose (view.state s).faults (view.state t).faults) v w)
+
+  -- What a method that writes did over the store, which follows plain rules where its own are plain.
+  pub did_change : (rules : Rules) → prefix ≡ rules.settings.prefix → (ArePlain rules → Follows view lists writes c (plain_rules rules.settings) s) → (method : DavMethod)
+      → Changes view lists writes c method prefix path said.fields said.body s r t → KeepsOpen (view.state s) (view.state t) → Did rules (ask_of method path said.fields said.body) (view.state s) r (view.state t)
+  did_change rules own follows method run keeps = record {
+    keeps = keeps;
+    listed = listed method run;
+    right = λ plain. subst (λ x. RightBy x method) (sym (are_plain rules plain)) (right rules.settings own (follows plain) method run);
+  }

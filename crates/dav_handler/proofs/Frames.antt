@@ -16,10 +16,10 @@ use Rattle.dav_model.specs.Play.{HasOpen, has_slice}
 use Rattle.dav_store.specs.Files.{LeavesOpen, SameSeen}
 use Rattle.dav_store.specs.Frames.{KeepsOpen}
 use Rattle.dav_store.specs.Standing.{Seen}
-use Rattle.dav_plain.specs.declared.file.PlainFile.{PlainFile}
-use Rattle.dav_plain.specs.Calls.{seen_by}
-use Rattle.dav_plain.specs.PlainStays.{plain_stays}
-use Rattle.dav_plain.specs.Standing.{seen_in, seen_with}
+use Rattle.dav_local.specs.declared.file.LocalFsFile.{LocalFsFile}
+use Rattle.dav_local.specs.Files.{seen_by}
+use Rattle.dav_local.specs.LocalStays.{local_stays}
+use Rattle.dav_local.specs.Standing.{seen_in, seen_with}
 use Rattle.dav_get.specs.declared.part.BodyPart.{BodyPart}
 use Rattle.dav_get.specs.declared.part.BodyPart.TheVariants.{Text, Slice as SliceOf}
 use Rattle.dav_get.specs.declared.open_at.OpenAt.{OpenAt}
@@ -53,7 +53,7 @@ same_leaves s h = record { opened = both_same s.told s.told (SameOpen h) (λ w. 
 
 -- the file of a body is left as it was
 abbrev pub Leaves : DiskState → DiskState → Body → Type 0
-Leaves s t b = (h : OpenAt PlainFile) → b.file ≡ Some h → LeavesOpen (handle_of h.file) s t
+Leaves s t b = (h : OpenAt LocalFsFile) → b.file ≡ Some h → LeavesOpen (handle_of h.file) s t
 
 number_after : (a b : Option Seen) → SameSeen a b → number_seen b ≡ number_seen a
 number_after None None same = refl
@@ -68,18 +68,18 @@ both_some None (Some g) P same e = absurd same
 both_some (Some f) None P same e = absurd same
 both_some (Some f) (Some g) P same e = refl
 
-number_file : (s t : DiskState) (file : Option (OpenAt PlainFile)) → ((h : OpenAt PlainFile) → file ≡ Some h → LeavesOpen (handle_of h.file) s t) → number_in t file ≡ number_in s file
+number_file : (s t : DiskState) (file : Option (OpenAt LocalFsFile)) → ((h : OpenAt LocalFsFile) → file ≡ Some h → LeavesOpen (handle_of h.file) s t) → number_in t file ≡ number_in s file
 number_file s t None leaves = refl
-number_file s t (Some h) leaves = number_after (seen_by h.file s) (seen_by h.file t) (plain_stays h.file s t (leaves h refl))
+number_file s t (Some h) leaves = number_after (seen_by h.file s) (seen_by h.file t) (local_stays h.file s t (leaves h refl))
 
 pub open_stays : (most : ℕ) (s t : DiskState) (b : Body) → Leaves s t b → IsOpen most s b → IsOpen most t b
 open_stays most s t b leaves is = record {
-  held = held_stays handle_of seen_by plain_stays s t b leaves is.held;
+  held = held_stays handle_of seen_by local_stays s t b leaves is.held;
   size = is.size;
   told = λ w h told file.
       let same = leaves h file in
       let (v, old, open') = told_before s.told t.told (SameOpen (handle_of h.file)) w same.opened told in
-      both_some (seen_by h.file s) (seen_by h.file t) (λ f g. (g.stands.number ≡ f.stands.number) × (g.place ≡ f.place)) (plain_stays h.file s t same) (is.told v h old file);
+      both_some (seen_by h.file s) (seen_by h.file t) (λ f g. (g.stands.number ≡ f.stands.number) × (g.place ≡ f.place)) (local_stays h.file s t same) (is.told v h old file);
 }
 
 pub parts_stay : (s t : DiskState) (b : Body) → Leaves s t b → parts_in t (Some b) ≡ parts_in s (Some b)
@@ -112,8 +112,8 @@ pub no_slices : (x : Bool) → (x ≡ true → false ≡ true) → x ≡ false
 no_slices true h = let f : false ≡ true = h refl in cc
 no_slices false h = refl
 
-file_open : (s : DiskState) (w : World) (parts : List BodyPart) (file : Option (OpenAt PlainFile)) → s.told ≡ Some w → (list_any is_slice parts ≡ true → is_some file ≡ true)
-    → ((h : OpenAt PlainFile) → file ≡ Some h → is_some (seen_by h.file s) ≡ true) → AllByRecursion (HasOpen w (handle_in file)) (parts_of (number_in s file) parts)
+file_open : (s : DiskState) (w : World) (parts : List BodyPart) (file : Option (OpenAt LocalFsFile)) → s.told ≡ Some w → (list_any is_slice parts ≡ true → is_some file ≡ true)
+    → ((h : OpenAt LocalFsFile) → file ≡ Some h → is_some (seen_by h.file s) ≡ true) → AllByRecursion (HasOpen w (handle_in file)) (parts_of (number_in s file) parts)
 file_open s w parts None told needs seen = texts_open w 0 parts (no_slices (list_any is_slice parts) needs)
 file_open s w parts (Some h) told needs seen = all_open w (number_seen (seen_by h.file s)) (handle_of h.file) parts (seen_told s.told (s.live (handle_of h.file)) (handle_of h.file) w told (seen h refl))
 
@@ -137,11 +137,11 @@ pub none_left : (number : ℕ) (parts : List BodyPart) → parts_of number parts
 none_left number [] e = refl
 none_left number (part ∷ parts) e = cc
 
-handle_some : (file : Option (OpenAt PlainFile)) → is_some file ≡ true → is_some (handle_in file) ≡ true
+handle_some : (file : Option (OpenAt LocalFsFile)) → is_some file ≡ true → is_some (handle_in file) ≡ true
 handle_some None e = cc
 handle_some (Some h) e = refl
 
-handle_none : (file : Option (OpenAt PlainFile)) → is_some file ≡ false → handle_in file ≡ None
+handle_none : (file : Option (OpenAt LocalFsFile)) → is_some file ≡ false → handle_in file ≡ None
 handle_none None e = refl
 handle_none (Some h) e = cc
 

@@ -5,9 +5,9 @@ use Rattle.dav_core.specs.World.{put}
 use Rattle.dav_core.specs.Disk.{DiskState, Live}
 use Rattle.dav_core.proofs.UnchangedLemmas.{equal_keys, other_keys}
 use Rattle.dav_model.specs.Play.{Lets, Takes}
-use Rattle.dav_plain.specs.declared.file.PlainFile.{PlainFile}
+use Rattle.dav_local.specs.declared.file.LocalFsFile.{LocalFsFile}
 use Rattle.dav_store.specs.Frames.{KeepsOpen}
-use Rattle.dav_plain.specs.Calls.{seen_by}
+use Rattle.dav_local.specs.Files.{seen_by}
 use Rattle.dav_methods.proofs.KeptOpen.{open_kept}
 use Rattle.dav_get.specs.declared.open_at.OpenAt.{OpenAt}
 use Rattle.dav_get.specs.Bodies.{Closes, TouchesOwn}
@@ -34,7 +34,7 @@ same_by own f g here others = fun_ext (λ n. same_at (n == own) own n f g refl h
 pub keeps_live : (s t : DiskState) → KeepsOpen s t → t.live ≡ s.live
 keeps_live s t keeps = fun_ext (λ n. keeps.live n)
 
-opens_takes : (s t : DiskState) (file : Option (OpenAt PlainFile)) → OpensOnly handle_of s file t → Takes (handle_in file) s.live t.live
+opens_takes : (s t : DiskState) (file : Option (OpenAt LocalFsFile)) → OpensOnly handle_of s file t → Takes (handle_in file) s.live t.live
 opens_takes s t None keeps = keeps_live s t (open_kept s t keeps)
 opens_takes s t (Some h) (keeps, free, now) = (free, put_by (handle_of h.file) _ s.live t.live now (λ n ne. keeps.live n ne))
 
@@ -44,13 +44,13 @@ holds_takes most s t None keeps = keeps_live s t keeps
 holds_takes most s t (Some b) holds = opens_takes s t b.file holds.0
 
 -- what a poll leaves open is the file of its body, or less
-pub touches_lets : (s t : DiskState) (f g : Option (OpenAt PlainFile)) → TouchesOwn handle_of seen_by s f t g → Lets (handle_in f) (handle_in g) s.live t.live
+pub touches_lets : (s t : DiskState) (f g : Option (OpenAt LocalFsFile)) → TouchesOwn handle_of seen_by s f t g → Lets (handle_in f) (handle_in g) s.live t.live
 touches_lets s t None None same = (refl, ap (λ (x : DiskState). x.live) same)
 touches_lets s t None (Some g) touches = absurd touches
 touches_lets s t (Some f) None (keeps, gone) = put_by (handle_of f.file) None s.live t.live gone (λ n ne. keeps.live n ne)
 touches_lets s t (Some f) (Some g) (keeps, same, live, stands) = (same, same_by (handle_of f.file) s.live t.live live (λ n ne. keeps.live n ne))
 
-closes_lets : (s t : DiskState) (file : Option (OpenAt PlainFile)) → Closes handle_of s file t → Lets (handle_in file) None s.live t.live
+closes_lets : (s t : DiskState) (file : Option (OpenAt LocalFsFile)) → Closes handle_of s file t → Lets (handle_in file) None s.live t.live
 closes_lets s t None same = (refl, ap (λ (x : DiskState). x.live) same)
 closes_lets s t (Some h) closes = put_by (handle_of h.file) None s.live t.live closes.live (λ n ne. closes.keeps.live n ne)
 

@@ -1,12 +1,9 @@
 pub mod Frames
 pub mod Upkeep
 pub mod Polling
-pub mod PlainAsks
 pub mod Answering
 pub mod Stepping
 pub mod Handles
-pub mod HeardShown
-pub mod PlainShown
-pub mod ListsRefuse
 pub mod Tables
 pub mod Changing
+pub mod PurgedOnce

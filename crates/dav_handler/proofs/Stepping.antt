@@ -5,6 +5,7 @@ use Rattle.dav_io.specs.Counts.{Rose}
 use Rattle.std.specs.Prelude.{true, is_some}
 use Rattle.dav_io.specs.Told.{Both}
 use Rattle.dav_io.proofs.ToldLemmas.{both_map}
+use Rattle.dav_cache.specs.Memory.{LearnsNothing, MemoryState}
 use Rattle.dav_io.specs.declared.clock.Moment.{Moment}
 use Rattle.dav_io.specs.declared.failure.NoMemory.{NoMemory}
 use Rattle.dav_core.specs.World.{World, put}
@@ -13,7 +14,6 @@ use Rattle.dav_core.specs.Disk.{DiskState, Turns, TurnedIn}
 use Rattle.dav_core.specs.Unchanged.{Keeps, KeepsBut, SameBesidesOpens}
 use Rattle.dav_core.proofs.HeldStays.{held_besides}
 use Rattle.dav_core.proofs.UnchangedLemmas.{keeps_same, same_besides}
-use Rattle.dav_model.specs.declared.settings.Settings.{Settings}
 use Rattle.dav_model.specs.declared.step.Step.TheVariants.{Request, Poll, Abandon, Purge, Turn}
 use Rattle.dav_model.specs.declared.answer.Answer.TheVariants.{Reply as Replied, End, Done}
 use Rattle.dav_model.specs.Requests.{Asked, fields_of}
@@ -23,29 +23,31 @@ use Rattle.dav_model.specs.Calls.{AsksAtGate, AsksToPoll, AsksToReply}
 use Rattle.dav_model.specs.declared.target.Target.{Target}
 use Rattle.dav_model.specs.declared.target.Target.TheVariants.{At, Methods, Refused, Writes}
 use Rattle.dav_model.specs.Play.{Gets, Lets, Quiet, Stage, Stepped, has_slice}
-use Rattle.dav_model.specs.Rules.{nothing_known, plain_rules}
+use Rattle.dav_model.specs.Rules.{Forgets}
 use Rattle.dav_model.specs.Sizes.{read_size_of}
 use Rattle.dav_model.specs.Trail.{Goes, target_of}
 use Rattle.dav_model.specs.Written.{Makes}
 use Rattle.dav_model.proofs.JoiningLemmas.{learns_same, makes_kept}
-use Rattle.dav_plain.specs.declared.file.PlainFile.{PlainFile}
+use Rattle.dav_local.specs.declared.file.LocalFsFile.{LocalFsFile}
+use Rattle.dav_local.specs.Shown.{knowledge_of}
 use Rattle.dav_get.specs.declared.open_at.OpenAt.{OpenAt}
 use Rattle.dav_store.specs.Frames.{KeepsOpen}
 use Rattle.dav_methods.proofs.KeptOpen.{open_kept}
 use Rattle.dav_get.specs.Bodies.{Closes}
 use Rattle.dav_get.specs.Lives.{OpensOnly}
 use Rattle.dav_handler.specs.declared.found.Found.{Found}
-use Rattle.dav_handler.specs.Found.{Answers, HoldsOnly, reply_of, said_in}
+use Rattle.dav_handler.specs.Found.{Answers, HoldsOnly, Starves, Stays, reply_of, said_in}
+use Rattle.dav_handler.specs.By.{By, Over}
 use Rattle.dav_handler.specs.Held.{Body, ClosesBody, IsPlaying, handle_of, held_by, held_in, left_in, parts_in}
-use Rattle.dav_handler.specs.Player.{plain_playing}
+use Rattle.dav_handler.specs.Player.{playing_by}
 use Rattle.dav_handler.proofs.Frames.{body_needs, body_over}
 use Rattle.dav_handler.proofs.Handles.{ends_lets, holds_takes, keeps_live}
 use Rattle.dav_handler.proofs.Upkeep.{closes_others, gone_leave, held_none, held_put, held_undone, holds_every, left_all, left_none, left_put, playing_closed, playing_kept, stays_open, turn_every}
 use Rattle.dav_handler.proofs.Polling.{stay_world}
 
--- a player over a plain store, by what it keeps
-abbrev pub staged : Settings → DiskState → ℕ → (ℕ → Option Body) → Stage
-staged settings s replies at = record { at = s; playing = plain_playing settings replies (left_in s at) (held_in at) }
+-- a player, by what it answers by and what it keeps
+abbrev pub staged : By → DiskState → ℕ → (ℕ → Option Body) → Stage
+staged by s replies at = record { at = s; playing = playing_by by replies (left_in s at) (held_in at) }
 
 open_goes : (s t : DiskState) → KeepsOpen s t → Goes s t
 open_goes s t keeps = record { faults = keeps.counts; asked = keeps.asked; whole = keeps.whole; listers = keeps.listers }
@@ -56,7 +58,7 @@ keeps_goes s t keeps = record { faults = keeps.counts; asked = keeps.asked; whol
 but_goes : (own : ℕ) (s t : DiskState) → KeepsBut own s t → Goes s t
 but_goes own s t keeps = record { faults = keeps.counts; asked = keeps.asked; whole = keeps.whole; listers = keeps.listers }
 
-opens_goes : (s t : DiskState) (file : Option (OpenAt PlainFile)) → OpensOnly handle_of s file t → Goes s t
+opens_goes : (s t : DiskState) (file : Option (OpenAt LocalFsFile)) → OpensOnly handle_of s file t → Goes s t
 opens_goes s t None keeps = keeps_goes s t keeps
 opens_goes s t (Some h) opens = but_goes (handle_of h.file) s t opens.0
 
@@ -68,38 +70,38 @@ body_gets : (most : ℕ) (s t : DiskState) (body : Option Body) → HoldsOnly mo
 body_gets most s t None holds = (λ e. cc, λ e. refl)
 body_gets most s t (Some b) holds = (body_needs t b holds.1.held, body_over t b holds.1.held)
 
--- what the body of a reply has left, and holds
-abbrev gets_found : (settings : Settings) (s t : DiskState) (body : Option Body) (replies : ℕ) (at new : ℕ → Option Body) → left_in t new ≡ put replies (parts_in t body) (left_in s at)
-    → held_in new ≡ put replies (held_by body) (held_in at) → HoldsOnly (read_size_of settings.read_buf_size) s body t
-    → Gets replies (parts_in t body) (plain_playing settings (replies + 1) (left_in s at) (held_in at)) (plain_playing settings (replies + 1) (left_in t new) (held_in new))
-gets_found settings s t body replies at new left held holds =
-    let (needs, over) = body_gets (read_size_of settings.read_buf_size) s t body holds in
+-- What the body of a reply has left, and holds, and what the memory knows then.
+abbrev gets_found : (o p : Over) (body : Option Body) (replies : ℕ) (at new : ℕ → Option Body) → Stays o p → left_in p.disk new ≡ put replies (parts_in p.disk body) (left_in o.disk at)
+    → held_in new ≡ put replies (held_by body) (held_in at) → HoldsOnly (read_size_of o.by.rules.settings.read_buf_size) o.disk body p.disk
+    → Gets replies (parts_in p.disk body) (record (playing_by o.by (replies + 1) (left_in o.disk at) (held_in at)) { knows = p.by.knows }) (playing_by p.by (replies + 1) (left_in p.disk new) (held_in new))
+gets_found o p body replies at new stays left held holds =
+    let (needs, over) = body_gets (read_size_of o.by.rules.settings.read_buf_size) o.disk p.disk body holds in
     record {
       file = held_by body;
-      is = λ i. plain_playing settings (replies + 1) (left i) (held i);
+      is = λ i. record { rules = stays.rules i; replies = replies + 1; left = left i; held = held i; knows = p.by.knows };
       needs = needs;
       over = over;
     }
 
 -- a reply
-pub replied : (settings : Settings) (s t : DiskState) (request : Asked) (now : Moment) (found : Found) (replies : ℕ) (at new : ℕ → Option Body)
-    → Answers settings s (said_in request) (target_of (plain_rules settings) request) found t → left_in t new ≡ put replies (parts_in t found.body) (left_in s at)
-    → held_in new ≡ put replies (held_by found.body) (held_in at) → IsPlaying (read_size_of settings.read_buf_size) t new (replies + 1)
-    → Stepped (staged settings s replies at) (Request request now) (Ok (Replied found.outcome.status found.outcome.fields replies)) (staged settings t (replies + 1) new)
-replied settings s t request now found replies at new answers is held playing = (
+pub replied : (o p : Over) (request : Asked) (now : Moment) (found : Found) (replies : ℕ) (at new : ℕ → Option Body)
+    → Answers o (said_in request) (target_of o.by.rules request) found p → left_in p.disk new ≡ put replies (parts_in p.disk found.body) (left_in o.disk at)
+    → held_in new ≡ put replies (held_by found.body) (held_in at) → IsPlaying (read_size_of o.by.rules.settings.read_buf_size) p.disk new (replies + 1)
+    → Stepped (staged o.by o.disk replies at) (Request request now) (Ok (Replied found.outcome.status found.outcome.fields replies)) (staged p.by p.disk (replies + 1) new)
+replied o p request now found replies at new answers is held playing = (
   record {
-    goes = goes_only (read_size_of settings.read_buf_size) s t found.body answers.holds;
-    reply = reply_of t found;
+    goes = goes_only (read_size_of o.by.rules.settings.read_buf_size) o.disk p.disk found.body answers.holds;
+    reply = reply_of p.disk found;
     makes = answers.makes;
     is = refl;
-    knows = nothing_known;
-    learns = learns_same s.told nothing_known nothing_known refl;
-    gets = gets_found settings s t found.body replies at new is held answers.holds;
-    live = holds_takes (read_size_of settings.read_buf_size) s t found.body answers.holds;
+    knows = p.by.knows;
+    learns = answers.stays.learns;
+    gets = gets_found o p found.body replies at new answers.stays is held answers.holds;
+    live = holds_takes (read_size_of o.by.rules.settings.read_buf_size) o.disk p.disk found.body answers.holds;
     right = answers.right;
     asks = answers.asks;
   },
-  stays_open (read_size_of settings.read_buf_size) t new settings (replies + 1) (replies + 1) playing,
+  stays_open (read_size_of o.by.rules.settings.read_buf_size) p.disk new p.by (replies + 1) (replies + 1) playing,
 )
 
 -- what is left after an answer without a body
@@ -122,19 +124,25 @@ pub held_joined : (at new : ℕ → Option Body) (k : ℕ) (body : Option Body) 
 held_joined at new k body o e is = ap held_in is ∙ held_put at k (Some o) ∙ ap (λ x. put k x (held_in at)) (sym (ap held_by e))
 
 -- a request that was refused memory
-pub refused : (settings : Settings) (s t : DiskState) (request : Asked) (now : Moment) (replies : ℕ) (at : ℕ → Option Body) (e : NoMemory) → KeepsOpen s t
-    → Makes (target_of (plain_rules settings) request) (plain_rules settings) (fields_of request) (body_of request) (Err e) s t
-    → AsksAtGate (target_of (plain_rules settings) request) s.asked t.asked → IsPlaying (read_size_of settings.read_buf_size) s at replies
-    → Stepped (staged settings s replies at) (Request request now) (Err e) (staged settings t replies at)
-refused settings s t request now replies at e keeps makes asks p = record {
-  goes = open_goes s t keeps;
-  makes = λ x. makes;
-  knows = nothing_known;
-  learns = learns_same s.told nothing_known nothing_known refl;
-  live = keeps_live s t keeps;
-  is = ap (λ left. plain_playing settings replies left (held_in at)) (left_all s t at (holds_every (read_size_of settings.read_buf_size) s t None at replies keeps p));
-  held = stays_open (read_size_of settings.read_buf_size) t at settings replies replies (playing_kept (read_size_of settings.read_buf_size) s t at replies keeps p);
-  asks = asks;
+pub refused : (o p : Over) (request : Asked) (now : Moment) (replies : ℕ) (at : ℕ → Option Body) (e : NoMemory) → Starves o (said_in request) (target_of o.by.rules request) p
+    → IsPlaying (read_size_of o.by.rules.settings.read_buf_size) o.disk at replies
+    → Stepped (staged o.by o.disk replies at) (Request request now) (Err e) (staged p.by p.disk replies at)
+refused o p request now replies at e starves playing = record {
+  goes = open_goes o.disk p.disk starves.keeps;
+  makes = starves.makes;
+  knows = p.by.knows;
+  learns = starves.stays.learns;
+  live = keeps_live o.disk p.disk starves.keeps;
+  is = λ i. record {
+    rules = starves.stays.rules i;
+    replies = replies;
+    left = left_all o.disk p.disk at (holds_every (read_size_of o.by.rules.settings.read_buf_size) o.disk p.disk None at replies starves.keeps playing) i;
+    held = held_in at;
+    knows = p.by.knows;
+  };
+  held = stays_open (read_size_of o.by.rules.settings.read_buf_size) p.disk at p.by replies replies
+      (playing_kept (read_size_of o.by.rules.settings.read_buf_size) o.disk p.disk at replies starves.keeps playing);
+  asks = starves.asks;
 }
 
 -- closing a body meets no fault and asks nothing
@@ -142,7 +150,7 @@ closed_quiet : (s t : DiskState) (o : Option Body) → ClosesBody o s t → Quie
 closed_quiet s t None e = rw e (record { goes = keeps_goes s s (keeps_same s); is = refl; faults = refl; asked = refl })
 closed_quiet s t (Some b) c = closed_file b.file c
   where
-    closed_file : (file : Option (OpenAt PlainFile)) → Closes handle_of s file t → Quiet Done s t
+    closed_file : (file : Option (OpenAt LocalFsFile)) → Closes handle_of s file t → Quiet Done s t
     closed_file None e = rw e (record { goes = keeps_goes s s (keeps_same s); is = refl; faults = refl; asked = refl })
     closed_file (Some h) closes = record { goes = but_goes (handle_of h.file) s t closes.keeps; is = refl; faults = closes.counts; asked = closes.asked }
 
@@ -151,42 +159,42 @@ closed_world s t None e = subst (λ x. Both s.told x.told SameBesidesOpens) (sym
 closed_world s t (Some b) c = stay_world s t b.file (closes_others s t b.file c)
 
 -- a body was abandoned
-pub abandoned : (settings : Settings) (s t : DiskState) (at new : ℕ → Option Body) (replies body : ℕ) → IsPlaying (read_size_of settings.read_buf_size) s at replies → ClosesBody (at body) s t → new ≡ put body None at
-    → Stepped (staged settings s replies at) (Abandon body) (Ok Done) (staged settings t replies new)
-abandoned settings s t at new replies body p closes is = (
+pub abandoned : (by : By) (s t : DiskState) (at new : ℕ → Option Body) (replies body : ℕ) → IsPlaying (read_size_of by.rules.settings.read_buf_size) s at replies → ClosesBody (at body) s t → new ≡ put body None at
+    → Stepped (staged by s replies at) (Abandon body) (Ok Done) (staged by t replies new)
+abandoned by s t at new replies body p closes is = (
   (
     closed_quiet s t (at body) closes,
     closed_world s t (at body) closes,
     ends_lets s t (at body) closes,
     record {
       file = None;
-      is = λ i. plain_playing settings replies ((ap (left_in t) is ∙ left_put s t at body None (gone_leave (read_size_of settings.read_buf_size) s t at replies body (at body) p refl closes)) i) ((ap held_in is ∙ held_put at body None) i);
+      is = λ i. playing_by by replies ((ap (left_in t) is ∙ left_put s t at body None (gone_leave (read_size_of by.rules.settings.read_buf_size) s t at replies body (at body) p refl closes)) i) ((ap held_in is ∙ held_put at body None) i);
       needs = λ e. cc;
       over = λ e. refl;
     },
   ),
-  stays_open (read_size_of settings.read_buf_size) t new settings replies replies (playing_closed (read_size_of settings.read_buf_size) s t at new replies body p closes is),
+  stays_open (read_size_of by.rules.settings.read_buf_size) t new by replies replies (playing_closed (read_size_of by.rules.settings.read_buf_size) s t at new replies body p closes is),
 )
 
 -- an ended body was polled
-pub polled_end : (settings : Settings) (s : DiskState) (at : ℕ → Option Body) (replies body : ℕ) → IsPlaying (read_size_of settings.read_buf_size) s at replies → at body ≡ None
-    → Stepped (staged settings s replies at) (Poll body) (Ok End) (staged settings s replies at)
-polled_end settings s at replies body p none = (
+pub polled_end : (by : By) (s : DiskState) (at : ℕ → Option Body) (replies body : ℕ) → IsPlaying (read_size_of by.rules.settings.read_buf_size) s at replies → at body ≡ None
+    → Stepped (staged by s replies at) (Poll body) (Ok End) (staged by s replies at)
+polled_end by s at replies body p none = (
   record {
     goes = keeps_goes s s (keeps_same s);
     leaves = (keeps_same s).world;
     rest = [];
-    gives = subst (λ x. Polls s.told s.whole (read_size_of settings.read_buf_size) (Rose s.faults s.faults) (parts_in s x) End []) (sym none) (refl, refl);
+    gives = subst (λ x. Polls s.told s.whole (read_size_of by.rules.settings.read_buf_size) (Rose s.faults s.faults) (parts_in s x) End []) (sym none) (refl, refl);
     gets = record {
       file = None;
-      is = λ i. plain_playing settings replies (left_none s body at none i) (held_none body at none i);
+      is = λ i. playing_by by replies (left_none s body at none i) (held_none body at none i);
       needs = λ e. cc;
       over = λ e. refl;
     };
     live = subst (λ x. Lets (held_by x) None s.live s.live) (sym none) (refl, refl);
     asks = subst (λ x. AsksToPoll s.told (held_by x) (parts_in s x) End s.asked s.asked) (sym none) refl;
   },
-  stays_open (read_size_of settings.read_buf_size) s at settings replies replies p,
+  stays_open (read_size_of by.rules.settings.read_buf_size) s at by replies replies p,
 )
 
 same_world : {E : Type 0} (x : E) (v w : World) → TurnedIn (Err x) v w → SameBesidesOpens v w
@@ -196,59 +204,69 @@ turns_goes : {E : Type 0} (s t : DiskState) (result : Result Unit E) → Turns s
 turns_goes s t result turns = record { faults = rw turns.counts (omega arith); asked = rw turns.asked (omega arith); whole = turns.whole; listers = turns.listers }
 
 -- a turn of the outside
-pub turned_steps : (settings : Settings) (s t : DiskState) (at : ℕ → Option Body) (replies : ℕ) → IsPlaying (read_size_of settings.read_buf_size) t at replies → Turns {E = NoMemory} s (Ok tt) t
-    → Stepped (staged settings s replies at) Turn (Ok Done) (staged settings t replies at)
-turned_steps settings s t at replies p turns = (
+pub turned_steps : (by : By) (s t : DiskState) (at : ℕ → Option Body) (replies : ℕ) → IsPlaying (read_size_of by.rules.settings.read_buf_size) t at replies → Turns {E = NoMemory} s (Ok tt) t
+    → Stepped (staged by s replies at) Turn (Ok Done) (staged by t replies at)
+turned_steps by s t at replies p turns = (
   (
     record { goes = turns_goes s t (Ok tt) turns; is = refl; faults = turns.counts; asked = turns.asked },
     both_map s.told t.told (TurnedIn {E = NoMemory} (Ok tt)) (λ v w. SameBesidesOpens (turned v) w) (λ v w same. held_besides (turned v) w same) turns.told,
     turns.live,
-    ap (λ left. plain_playing settings replies left (held_in at)) (left_all s t at (turn_every s t (Ok tt) at turns)),
+    ap (λ left. playing_by by replies left (held_in at)) (left_all s t at (turn_every s t (Ok tt) at turns)),
   ),
-  stays_open (read_size_of settings.read_buf_size) t at settings replies replies p,
+  stays_open (read_size_of by.rules.settings.read_buf_size) t at by replies replies p,
 )
 
-pub turn_refused : (settings : Settings) (s t : DiskState) (at : ℕ → Option Body) (replies : ℕ) (e : NoMemory) → IsPlaying (read_size_of settings.read_buf_size) t at replies → Turns s (Err e) t
-    → Stepped (staged settings s replies at) Turn (Err e) (staged settings t replies at)
-turn_refused settings s t at replies e p turns = record {
+pub turn_refused : (by : By) (s t : DiskState) (at : ℕ → Option Body) (replies : ℕ) (e : NoMemory) → IsPlaying (read_size_of by.rules.settings.read_buf_size) t at replies → Turns s (Err e) t
+    → Stepped (staged by s replies at) Turn (Err e) (staged by t replies at)
+turn_refused by s t at replies e p turns = record {
   goes = turns_goes s t (Err e) turns;
   makes = λ x. both_map s.told t.told (TurnedIn {E = NoMemory} (Err e)) SameBesidesOpens (same_world e) turns.told;
-  knows = nothing_known;
-  learns = learns_same s.told nothing_known nothing_known refl;
+  knows = by.knows;
+  learns = learns_same s.told by.knows by.knows refl;
   live = turns.live;
-  is = ap (λ left. plain_playing settings replies left (held_in at)) (left_all s t at (turn_every s t (Err e) at turns));
-  held = stays_open (read_size_of settings.read_buf_size) t at settings replies replies p;
+  is = ap (λ left. playing_by by replies left (held_in at)) (left_all s t at (turn_every s t (Err e) at turns));
+  held = stays_open (read_size_of by.rules.settings.read_buf_size) t at by replies replies p;
   asks = turns.asked;
 }
 
-closed_asks : (m t : DiskState) (file : Option (OpenAt PlainFile)) → Closes handle_of m file t → t.asked ≡ m.asked
+closed_asks : (m t : DiskState) (file : Option (OpenAt LocalFsFile)) → Closes handle_of m file t → t.asked ≡ m.asked
 closed_asks m t None e = ap (λ (x : DiskState). x.asked) e
 closed_asks m t (Some h) closes = closes.asked
 
 -- the body of an answer was closed again
-undone_asks : (settings : Settings) (target : Target) (status : ℕ) (fields : List Field) (s m t : DiskState) (c : Body) → AsksToReply target (plain_rules settings) status fields s.asked m.asked
+undone_asks : (by : By) (target : Target) (status : ℕ) (fields : List Field) (s m t : DiskState) (c : Body) → AsksToReply target (by.rules) status fields s.asked m.asked
     → Closes handle_of m c.file t → AsksAtGate target s.asked t.asked
-undone_asks settings (At method path) status fields s m t c asks closes = tt
-undone_asks settings (Writes method path) status fields s m t c asks closes = tt
-undone_asks settings Methods status fields s m t c asks closes = closed_asks m t c.file closes ∙ asks
-undone_asks settings (Refused gate close) status fields s m t c asks closes = closed_asks m t c.file closes ∙ asks
+undone_asks by (At method path) status fields s m t c asks closes = tt
+undone_asks by (Writes method path) status fields s m t c asks closes = tt
+undone_asks by Methods status fields s m t c asks closes = closed_asks m t c.file closes ∙ asks
+undone_asks by (Refused gate close) status fields s m t c asks closes = closed_asks m t c.file closes ∙ asks
 
--- there was no room for the body of an answer
-pub undone_steps : (status : ℕ) (fields : List Field) (settings : Settings) (s m t : DiskState) (request : Asked) (now : Moment) (replies : ℕ) (at new : ℕ → Option Body) (body : Option Body) (o c : Body) (e : NoMemory)
-    → IsPlaying (read_size_of settings.read_buf_size) s at replies → HoldsOnly (read_size_of settings.read_buf_size) s body m
-    → AsksToReply (target_of (plain_rules settings) request) (plain_rules settings) status fields s.asked m.asked → body ≡ Some o → c ≡ o → Closes handle_of m c.file t → new ≡ at
-    → Stepped (staged settings s replies at) (Request request now) (Err e) (staged settings t replies new)
-undone_steps status fields settings s m t request now replies at new body o c e p holds asks is same closes unchanged =
-    subst (λ z. Stepped (staged settings s replies at) (Request request now) (Err e) (staged settings t replies z)) (sym unchanged)
-    (refused settings s t request now replies at e (open_kept s t (held_undone (read_size_of settings.read_buf_size) s m t body o c holds is same closes))
-    (makes_kept (target_of (plain_rules settings) request) (plain_rules settings) (fields_of request) (body_of request) e s t
-    (held_undone (read_size_of settings.read_buf_size) s m t body o c holds is same closes).world)
-    (undone_asks settings (target_of (plain_rules settings) request) status fields s m t c asks closes) p)
+-- There was no room for the body of an answer, and its file was closed again.
+pub undone_steps : (o p : Over) (t : DiskState) (request : Asked) (now : Moment) (found : Found) (replies : ℕ) (at new : ℕ → Option Body) (b c : Body) (e : NoMemory)
+    → IsPlaying (read_size_of o.by.rules.settings.read_buf_size) o.disk at replies → Answers o (said_in request) (target_of o.by.rules request) found p → found.body ≡ Some b → c ≡ b
+    → Closes handle_of p.disk c.file t → new ≡ at
+    → Stepped (staged o.by o.disk replies at) (Request request now) (Err e) (staged p.by t replies new)
+undone_steps o p t request now found replies at new b c e playing answers is same closes unchanged =
+    let keeps = held_undone (read_size_of o.by.rules.settings.read_buf_size) o.disk p.disk t found.body b c answers.holds is same closes in
+    subst (λ z. Stepped (staged o.by o.disk replies at) (Request request now) (Err e) (staged p.by t replies z)) (sym unchanged)
+    (refused o (record p { disk = t }) request now replies at e (record {
+      stays = record { rules = answers.stays.rules; learns = answers.stays.learns };
+      keeps = open_kept o.disk t keeps;
+      makes = λ x. makes_kept (target_of o.by.rules request) o.by.rules (fields_of request) (body_of request) x o.disk t keeps.world;
+      asks = undone_asks o.by (target_of o.by.rules request) found.outcome.status found.outcome.fields o.disk p.disk t c answers.asks closes;
+    }) playing)
 
--- A purge leaves the disk as it was, and a plain store has no memory of which anything could go.
-pub purged : (settings : Settings) (s : DiskState) (now : Moment) (replies : ℕ) (at : ℕ → Option Body) → IsPlaying (read_size_of settings.read_buf_size) s at replies
-    → Stepped (staged settings s replies at) (Purge now) (Ok Done) (staged settings s replies at)
-purged settings s now replies at p = (
-  (refl, refl, (nothing_known, refl, record { open_same = λ dir time. refl; known = λ dir time has e. cc })),
-  stays_open (read_size_of settings.read_buf_size) s at settings replies replies p,
+-- What a memory knows that learned nothing was known before.
+forgets_of : (m n : MemoryState) → LearnsNothing m n → Forgets (knowledge_of m) (knowledge_of n)
+forgets_of m n learns = record {
+  open_same = learns.same_open;
+  known = λ dir time has is. (let (had, was, alike) = learns.known dir time has is in (had, was, λ x dot. alike x));
+}
+
+-- A purge leaves the disk as it was, and the memory forgets.
+pub purged : (by : By) (s : DiskState) (now : Moment) (m n : MemoryState) (replies : ℕ) (at : ℕ → Option Body) → IsPlaying (read_size_of by.rules.settings.read_buf_size) s at replies → by.knows ≡ knowledge_of m
+    → LearnsNothing m n → Stepped (staged by s replies at) (Purge now) (Ok Done) (staged (record by { knows = knowledge_of n }) s replies at)
+purged by s now m n replies at p same learns = (
+  (refl, refl, (knowledge_of n, refl, subst (λ k. Forgets k (knowledge_of n)) (sym same) (forgets_of m n learns))),
+  stays_open (read_size_of by.rules.settings.read_buf_size) s at (record by { knows = knowledge_of n }) replies replies p,
 )

@@ -6,20 +6,20 @@ use Rattle.dav_core.specs.World.{World, put}
 use Rattle.dav_core.specs.Disk.{DiskState, Live, Turns, can_read}
 use Rattle.dav_core.specs.Unchanged.{Keeps, KeepsBut}
 use Rattle.dav_core.proofs.UnchangedLemmas.{but_then, closed_again, put_other, equal_keys, other_keys}
-use Rattle.dav_model.specs.declared.settings.Settings.{Settings}
 use Rattle.dav_model.specs.Bodies.{NoneEmpty, Part}
 use Rattle.dav_model.specs.Play.{AreFull, HasOpen, StaysOpen}
 use Rattle.dav_store.specs.Files.{LeavesOpen}
 use Rattle.dav_store.specs.Frames.{KeepsOpen}
 use Rattle.dav_methods.proofs.KeptOpen.{open_kept}
-use Rattle.dav_plain.specs.declared.file.PlainFile.{PlainFile}
-use Rattle.dav_plain.specs.Calls.{seen_by}
+use Rattle.dav_local.specs.declared.file.LocalFsFile.{LocalFsFile}
+use Rattle.dav_local.specs.Files.{seen_by}
 use Rattle.dav_get.specs.declared.open_at.OpenAt.{OpenAt}
 use Rattle.dav_get.specs.Bodies.{Closes, TouchesOwn, left_of}
 use Rattle.dav_get.specs.Lives.{OpensOnly}
 use Rattle.dav_handler.specs.Found.{HoldsOnly}
+use Rattle.dav_handler.specs.By.{By}
 use Rattle.dav_handler.specs.Held.{Body, ClosesBody, IsOpen, IsPlaying, handle_of, held_by, held_in, left_in, number_in, parts_in}
-use Rattle.dav_handler.specs.Player.{plain_playing}
+use Rattle.dav_handler.specs.Player.{playing_by}
 use Rattle.dav_handler.proofs.Frames.{Leaves, parts_full, body_open, but_leaves, keeps_leaves, open_stays, parts_stay, same_leaves, turn_leaves}
 
 chosen : (b : Bool) (w x : Option Body) (c : Body) → cond b w x ≡ Some c → ((b ≡ true) × (w ≡ Some c)) ⊎ ((b ≡ false) × (x ≡ Some c))
@@ -97,7 +97,7 @@ module _ (most : ℕ) (s t : DiskState) (at : ℕ → Option Body) where
 
   -- the table after a change at k
   pub playing_put : (k replies after : ℕ) (w : Option Body) → IsPlaying most s at replies → Others s t at k → ((c : Body) → w ≡ Some c → IsOpen most t c)
-      → ((n : ℕ) (b c : Body) (h g : OpenAt PlainFile) → n ≢ k → at n ≡ Some b → w ≡ Some c → b.file ≡ Some h → c.file ≡ Some g → handle_of h.file ≢ handle_of g.file)
+      → ((n : ℕ) (b c : Body) (h g : OpenAt LocalFsFile) → n ≢ k → at n ≡ Some b → w ≡ Some c → b.file ≡ Some h → c.file ≡ Some g → handle_of h.file ≢ handle_of g.file)
       → ((n : ℕ) → after ≤ n → put k w at n ≡ None) → IsPlaying most t (put k w at) after
   playing_put k replies after w p others own apart earlier = record {
     held = λ n b e. elim (after_put k w at n b e) as (λ _. IsOpen most t b) [ inl q ↦ own b q.1 | inr q ↦ open_stays most s t b (others n b q.0 q.1) (p.held n b q.1) ];
@@ -126,22 +126,22 @@ pub turn_every : {E : Type 0} (s t : DiskState) (result : Result Unit E) (at : �
 turn_every s t result at turns n b e h file = turn_leaves s t result (handle_of h.file) turns
 
 -- No other file is touched.
-abbrev pub OthersStay : DiskState → Option (OpenAt PlainFile) → DiskState → Type 0
+abbrev pub OthersStay : DiskState → Option (OpenAt LocalFsFile) → DiskState → Type 0
 OthersStay s None t = t ≡ s
 OthersStay s (Some h) t = KeepsBut (handle_of h.file) s t
 
-pub touches_others : (s t : DiskState) (f g : Option (OpenAt PlainFile)) → TouchesOwn handle_of seen_by s f t g → OthersStay s f t
+pub touches_others : (s t : DiskState) (f g : Option (OpenAt LocalFsFile)) → TouchesOwn handle_of seen_by s f t g → OthersStay s f t
 touches_others s t None None touches = touches
 touches_others s t None (Some g) touches = absurd touches
 touches_others s t (Some f) None touches = touches.0
 touches_others s t (Some f) (Some g) touches = touches.0
 
-pub closes_others : (s t : DiskState) (f : Option (OpenAt PlainFile)) → Closes handle_of s f t → OthersStay s f t
+pub closes_others : (s t : DiskState) (f : Option (OpenAt LocalFsFile)) → Closes handle_of s f t → OthersStay s f t
 closes_others s t None same = same
 closes_others s t (Some f) closes = closes.keeps
 
 -- what is done with the file of a body leaves those of the others
-pub others_leave : (most : ℕ) (s t : DiskState) (at : ℕ → Option Body) (replies k : ℕ) (b : Body) (file : Option (OpenAt PlainFile)) → b.file ≡ file → IsPlaying most s at replies
+pub others_leave : (most : ℕ) (s t : DiskState) (at : ℕ → Option Body) (replies k : ℕ) (b : Body) (file : Option (OpenAt LocalFsFile)) → b.file ≡ file → IsPlaying most s at replies
     → at k ≡ Some b → OthersStay s file t → Others s t at k
 others_leave most s t at replies k b None e p there stays n c ne other h file = subst (λ x. LeavesOpen (handle_of h.file) s x) (sym stays) (same_leaves s (handle_of h.file))
 others_leave most s t at replies k b (Some g) e p there stays n c ne other h file =
@@ -164,7 +164,7 @@ fresh_file s own h none live e = let f : s.live h ≡ None = ap s.live e ∙ non
     not_read None e f = cc
     not_read (Some l) e f = cc
 
-opens_every : (most : ℕ) (s t : DiskState) (file : Option (OpenAt PlainFile)) (at : ℕ → Option Body) (replies : ℕ) → OpensOnly handle_of s file t → IsPlaying most s at replies → Every s t at
+opens_every : (most : ℕ) (s t : DiskState) (file : Option (OpenAt LocalFsFile)) (at : ℕ → Option Body) (replies : ℕ) → OpensOnly handle_of s file t → IsPlaying most s at replies → Every s t at
 opens_every most s t None at replies keeps p n b e h file = keeps_every most s t at replies (open_kept s t keeps) p n b e h file
 opens_every most s t (Some g) at replies (keeps, none, now) p n b e h file =
     let live = ((p.held n b e).held.file h file).live in
@@ -178,7 +178,7 @@ holds_every most s t (Some b) at replies holds p = opens_every most s t b.file a
 pub playing_more : (most : ℕ) (s : DiskState) (at : ℕ → Option Body) (replies : ℕ) → IsPlaying most s at replies → IsPlaying most s at (replies + 1)
 playing_more most s at replies p = record { held = p.held; apart = p.apart; earlier = λ n le. p.earlier n (omega arith) }
 
-fresh_apart : (s t : DiskState) (file : Option (OpenAt PlainFile)) (g : OpenAt PlainFile) (h : ℕ) → OpensOnly handle_of s file t → file ≡ Some g → can_read (s.live h) ≡ true → h ≢ handle_of g.file
+fresh_apart : (s t : DiskState) (file : Option (OpenAt LocalFsFile)) (g : OpenAt LocalFsFile) (h : ℕ) → OpensOnly handle_of s file t → file ≡ Some g → can_read (s.live h) ≡ true → h ≢ handle_of g.file
 fresh_apart s t None g h opens e live = cc
 fresh_apart s t (Some f) g h opens e live = let same : f ≡ g = cc in rw (← same) (fresh_file s (handle_of f.file) h opens.1 live)
 
@@ -194,7 +194,7 @@ playing_joined most s t at new k body o p holds e is =
     (λ n le. put_other k n (Some o) at (λ same. absurd (omega arith)) ∙ p.earlier n (omega arith))
     )
 
-undone : (s m t : DiskState) (file : Option (OpenAt PlainFile)) → OpensOnly handle_of s file m → Closes handle_of m file t → Keeps s t
+undone : (s m t : DiskState) (file : Option (OpenAt LocalFsFile)) → OpensOnly handle_of s file m → Closes handle_of m file t → Keeps s t
 undone s m t None opens closes = subst (λ x. Keeps s x) (sym closes) opens
 undone s m t (Some f) opens closes = closed_again (handle_of f.file) s t (but_then (handle_of f.file) s m t opens.0 closes.keeps) opens.1 closes.live
 
@@ -209,18 +209,18 @@ each_open most s w None is told = tt
 each_open most s w (Some b) is told = body_open most s w b (is b refl) told
 
 -- each body of a player has its file open
-pub stays_open : (most : ℕ) (s : DiskState) (at : ℕ → Option Body) (settings : Settings) (replies count : ℕ) → IsPlaying most s at replies
-    → StaysOpen s (plain_playing settings count (left_in s at) (held_in at))
-stays_open most s at settings replies count p w told body = each_open most s w (at body) (p.held body) told
+pub stays_open : (most : ℕ) (s : DiskState) (at : ℕ → Option Body) (by : By) (replies count : ℕ) → IsPlaying most s at replies
+    → StaysOpen s (playing_by by count (left_in s at) (held_in at))
+stays_open most s at by replies count p w told body = each_open most s w (at body) (p.held body) told
 
 each_full : (most : ℕ) (s : DiskState) (o : Option Body) → ((b : Body) → o ≡ Some b → IsOpen most s b) → NoneEmpty (parts_in s o)
 each_full most s None is = tt
 each_full most s (Some b) is = parts_full (number_in s b.file) (left_of b) (is b refl).held.parts
 
 -- no part of a body of a player is empty
-pub stays_full : (most : ℕ) (s : DiskState) (at : ℕ → Option Body) (settings : Settings) (replies count : ℕ) → IsPlaying most s at replies
-    → AreFull (plain_playing settings count (left_in s at) (held_in at))
-stays_full most s at settings replies count p body = each_full most s (at body) (p.held body)
+pub stays_full : (most : ℕ) (s : DiskState) (at : ℕ → Option Body) (by : By) (replies count : ℕ) → IsPlaying most s at replies
+    → AreFull (playing_by by count (left_in s at) (held_in at))
+stays_full most s at by replies count p body = each_full most s (at body) (p.held body)
 
 -- a request that was refused memory
 pub playing_kept : (most : ℕ) (s t : DiskState) (at : ℕ → Option Body) (replies : ℕ) → KeepsOpen s t → IsPlaying most s at replies → IsPlaying most t at replies

@@ -5,7 +5,6 @@ use Rattle.dav_io.specs.declared.failure.NoMemory.{NoMemory}
 use Rattle.dav_core.specs.declared.dav_error.DavError.{DavError}
 use Rattle.dav_core.specs.Disk.{DiskState}
 use Rattle.dav_core.specs.Statuses.{closes, lacks_memory, status_of}
-use Rattle.dav_model.specs.declared.settings.Settings.{Settings}
 use Rattle.dav_model.specs.declared.target.Target.{Target}
 use Rattle.dav_model.specs.Calls.{AsksAtGate, AsksToReply}
 use Rattle.dav_model.specs.Conditions.{Fields}
@@ -13,12 +12,13 @@ use Rattle.dav_model.specs.Head.{Reply, refusal}
 use Rattle.dav_model.specs.Sizes.{read_size_of}
 use Rattle.dav_model.specs.Play.{Replies}
 use Rattle.dav_model.specs.Requests.{Asked, fields_of}
-use Rattle.dav_model.specs.Rules.{nothing_known, plain_rules}
+use Rattle.dav_model.specs.Rules.{Learns}
 use Rattle.dav_model.specs.Written.{Makes}
 use Rattle.dav_store.specs.Frames.{KeepsOpen}
 use Rattle.dav_get.specs.Bodies.{left_of}
 use Rattle.dav_get.specs.Lives.{OpensOnly}
 use Rattle.dav_handler.specs.declared.found.Found.{Found}
+use Rattle.dav_handler.specs.By.{Over}
 use Rattle.dav_handler.specs.Held.{Body, IsOpen, handle_of, parts_in}
 
 -- the fields and the body of a request
@@ -31,25 +31,38 @@ said_in request = record { fields = fields_of request; body = body_of request }
 
 -- what is answered with what was found
 abbrev pub reply_of : DiskState → Found → Reply
-reply_of t found = record { status = found.outcome.status; fields = found.outcome.fields; parts = parts_in t found.body }
+reply_of t found =
+    record { status = found.outcome.status; fields = found.outcome.fields; parts = parts_in t found.body }
 
 -- Nothing stays open but the file of a body, which is new.
 abbrev pub HoldsOnly : ℕ → DiskState → Option Body → DiskState → Type 0
 HoldsOnly most s None t = KeepsOpen s t
 HoldsOnly most s (Some b) t = OpensOnly handle_of s b.file t × IsOpen most t b
 
--- The answer to what is asked for.
-pub record Answers (settings : Settings) (s : DiskState) (said : Said) (target : Target) (found : Found) (t : DiskState) : Type 0 where
-  pub holds : HoldsOnly (read_size_of settings.read_buf_size) s found.body t
-  -- what it makes of the told world
-  pub makes : Makes target (plain_rules settings) said.fields said.body (Ok (reply_of t found)) s t
-  pub right : Replies target (plain_rules settings) nothing_known s t said.fields (reply_of t found)
-  pub asks : AsksToReply target (plain_rules settings) found.outcome.status found.outcome.fields s.asked t.asked
+-- The rules stay, and the memory knows nothing more but what the told world has.
+pub record Stays (o p : Over) : Type 0 where
+  pub rules : p.by.rules ≡ o.by.rules
+  pub learns : Learns o.disk.told o.by.knows p.by.knows
 
-abbrev pub Finds : Settings → DiskState → Said → Target → Result Found NoMemory → DiskState → Type 0
-Finds settings s said target (Ok found) t = Answers settings s said target found t
-Finds settings s said target (Err e) t = KeepsOpen s t × Makes target (plain_rules settings) said.fields said.body (Err e) s t
-    × AsksAtGate target s.asked t.asked
+-- The answer to what is asked for.
+pub record Answers (o : Over) (said : Said) (target : Target) (found : Found) (p : Over) : Type 0 where
+  pub stays : Stays o p
+  pub holds : HoldsOnly (read_size_of o.by.rules.settings.read_buf_size) o.disk found.body p.disk
+  -- what it makes of the told world
+  pub makes : Makes target o.by.rules said.fields said.body (Ok (reply_of p.disk found)) o.disk p.disk
+  pub right : Replies target o.by.rules o.by.knows o.disk p.disk said.fields (reply_of p.disk found)
+  pub asks : AsksToReply target o.by.rules found.outcome.status found.outcome.fields o.disk.asked p.disk.asked
+
+-- Memory was refused.
+pub record Starves (o : Over) (said : Said) (target : Target) (p : Over) : Type 0 where
+  pub stays : Stays o p
+  pub keeps : KeepsOpen o.disk p.disk
+  pub makes : (e : NoMemory) → Makes target o.by.rules said.fields said.body (Err e) o.disk p.disk
+  pub asks : AsksAtGate target o.disk.asked p.disk.asked
+
+abbrev pub Finds : Over → Said → Target → Result Found NoMemory → Over → Type 0
+Finds o said target (Ok found) p = Answers o said target found p
+Finds o said target (Err e) p = Starves o said target p
 
 -- An answer without a body.
 pub record IsAlone (reply : Reply) (found : Found) : Type 0 where

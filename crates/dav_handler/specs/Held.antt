@@ -7,8 +7,8 @@ use Rattle.dav_core.specs.Tables.{at_key}
 use Rattle.dav_model.specs.declared.answer.Answer.{Answer}
 use Rattle.dav_model.specs.Bodies.{Part}
 use Rattle.dav_store.specs.Standing.{Seen}
-use Rattle.dav_plain.specs.declared.file.PlainFile.{PlainFile}
-use Rattle.dav_plain.specs.Calls.{seen_by}
+use Rattle.dav_local.specs.declared.file.LocalFsFile.{LocalFsFile}
+use Rattle.dav_local.specs.Files.{seen_by}
 use Rattle.dav_get.specs.declared.body.GetBody.{GetBody}
 use Rattle.dav_get.specs.declared.open_at.OpenAt.{OpenAt}
 use Rattle.dav_get.specs.Bodies.{left_of, is_slice, IsHeld, Closes, IsPolled}
@@ -16,7 +16,7 @@ use Rattle.dav_get.specs.Parts.{parts_of}
 use Rattle.dav_handler.specs.declared.bodies.Bodies.{Bodies}
 
 abbrev pub Body : Type 0
-Body = GetBody PlainFile
+Body = GetBody LocalFsFile
 
 -- a table whose value at 0 stands beside the others
 abbrev pub beside : {X : Type 0} → Option X → (ℕ → Option X) → ℕ → Option X
@@ -28,7 +28,7 @@ unfoldable pub body_at : Bodies → ℕ → Option Body
 body_at bodies = beside bodies.first (at_key bodies.later)
 
 -- the handle of an open file
-abbrev pub handle_of : PlainFile → ℕ
+abbrev pub handle_of : LocalFsFile → ℕ
 handle_of f = f.handle.0
 
 -- the number of an open file, where it is told, and 0 where it isn't
@@ -36,7 +36,7 @@ abbrev pub number_seen : Option Seen → ℕ
 number_seen None = 0
 number_seen (Some f) = f.stands.number
 
-abbrev pub number_in : DiskState → Option (OpenAt PlainFile) → ℕ
+abbrev pub number_in : DiskState → Option (OpenAt LocalFsFile) → ℕ
 number_in s None = 0
 number_in s (Some h) = number_seen (seen_by h.file s)
 
@@ -46,7 +46,7 @@ parts_in s None = []
 parts_in s (Some b) = parts_of (number_in s b.file) (left_of b)
 
 -- the handle of a body's file, where it holds one
-abbrev pub handle_in : Option (OpenAt PlainFile) → Option ℕ
+abbrev pub handle_in : Option (OpenAt LocalFsFile) → Option ℕ
 handle_in None = None
 handle_in (Some h) = Some (handle_of h.file)
 
@@ -62,16 +62,20 @@ held_in bodies n = held_by (bodies n)
 abbrev pub left_in : DiskState → (ℕ → Option Body) → ℕ → List Part
 left_in s bodies n = parts_in s (bodies n)
 
--- A body that may be polled, by pieces of at most so many bytes of its file. Where the world is told, its file is open there.
+-- A body that may be polled, by pieces of at most so many bytes of its file. Where the world is told, its file is open
+-- there.
 pub record IsOpen (most : ℕ) (s : DiskState) (b : Body) : Type 0 where
   pub held : IsHeld handle_of seen_by s b
   pub size : list_any is_slice (left_of b) ≡ true → b.most ≡ most
-  pub told : (w : World) (h : OpenAt PlainFile) → s.told ≡ Some w → b.file ≡ Some h → is_some (seen_by h.file s) ≡ true
+  pub told : (w : World) (h : OpenAt LocalFsFile) → s.told ≡ Some w → b.file ≡ Some h
+      → is_some (seen_by h.file s) ≡ true
 
--- What a player keeps: each body may be polled, no two bodies have one handle, and bodies are numbered by earlier replies.
+-- What a player keeps: each body may be polled, no two bodies have one handle, and bodies are numbered by earlier
+-- replies.
 pub record IsPlaying (most : ℕ) (s : DiskState) (bodies : ℕ → Option Body) (replies : ℕ) : Type 0 where
   pub held : (n : ℕ) (b : Body) → bodies n ≡ Some b → IsOpen most s b
-  pub apart : (m n : ℕ) (b c : Body) (h g : OpenAt PlainFile) → bodies m ≡ Some b → bodies n ≡ Some c → b.file ≡ Some h → c.file ≡ Some g
+  pub apart : (m n : ℕ) (b c : Body) (h g : OpenAt LocalFsFile) → bodies m ≡ Some b → bodies n ≡ Some c
+      → b.file ≡ Some h → c.file ≡ Some g
       → handle_of h.file ≡ handle_of g.file → m ≡ n
   pub earlier : (n : ℕ) → replies ≤ n → bodies n ≡ None
 

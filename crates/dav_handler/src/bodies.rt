@@ -2,13 +2,13 @@
 ghost use Rattle.std.specs.Prelude.{◌≡◌, ◌==◌, Some, None, IsSome, IsTrue, IfErr, OnOk, ◌↔◌, option_map, vec_len, vec_capacity};
 ghost use Rattle.dav_core.specs.World.{put};
 ghost use Rattle.dav_get.specs.Bodies.{IsRoom, left_of, next_most_of};
-ghost use Rattle.dav_plain.specs.Calls.{seen_by};
 ghost use Rattle.dav_handler.specs.Held.{Body as AnyBody, ClosesBody, IsHeldBody, PollsBody, Sweeps, body_at};
 
+use dav_cache::Remember;
 use dav_core::Disk;
 use dav_get::GetBody;
+use dav_local::{LocalFs, LocalFsFile};
 use dav_model::Answer;
-use dav_plain::{PlainFile, PlainFs};
 use dav_store::DavFileSystem;
 use std::alloc::{AllocFailed, Global};
 use std::collections::BTreeMap;
@@ -17,8 +17,8 @@ use std::collections::BTreeMap;
 /// one request takes no memory for it.
 #[derive(Drop)]
 pub struct Bodies {
-    pub first: Option<GetBody<PlainFile>>,
-    pub later: BTreeMap<u32, GetBody<PlainFile>>,
+    pub first: Option<GetBody<LocalFsFile>>,
+    pub later: BTreeMap<u32, GetBody<LocalFsFile>>,
 }
 
 /// No body.
@@ -37,8 +37,8 @@ pub fn no_bodies(alloc: Global) -> Bodies
 pub fn hold_body(
     bodies: &mut Bodies,
     number: u32,
-    body: GetBody<PlainFile>,
-) -> Result<(), GetBody<PlainFile>>
+    body: GetBody<LocalFsFile>,
+) -> Result<(), GetBody<LocalFsFile>>
     ensures ok { OnOk result (body_at bodies.new ≡ put number (Some body) (body_at bodies.old)) }
     ensures err { IfErr result (λ back. (back ≡ body) × (body_at bodies.new ≡ body_at bodies.old)) }
 {
@@ -57,7 +57,7 @@ pub fn hold_body(
 
 /// The open body of a number.
 #[tactic(auto, unfolding(crate::specs::Held::body_at))]
-pub fn open_body(bodies: &Bodies, number: u32) -> Option<&GetBody<PlainFile>>
+pub fn open_body(bodies: &Bodies, number: u32) -> Option<&GetBody<LocalFsFile>>
     ensures value { option_map (λ r. r.now) result ≡ body_at bodies.now number }
 {
     if number == 0 {
@@ -68,7 +68,7 @@ pub fn open_body(bodies: &Bodies, number: u32) -> Option<&GetBody<PlainFile>>
 
 // Takes a body out.
 #[tactic(auto, unfolding(crate::specs::Held::body_at))]
-fn take_body(bodies: &mut Bodies, number: u32) -> Option<GetBody<PlainFile>>
+fn take_body(bodies: &mut Bodies, number: u32) -> Option<GetBody<LocalFsFile>>
     ensures value { result ≡ body_at bodies.old number }
     ensures bodies { body_at bodies.new ≡ put number None (body_at bodies.old) }
 {
@@ -79,10 +79,11 @@ fn take_body(bodies: &mut Bodies, number: u32) -> Option<GetBody<PlainFile>>
 }
 
 /// Takes a body out, and closes its file.
-pub fn end_body<D: Disk>(bodies: &mut Bodies, store: &mut PlainFs<D>, body: u32)
+pub fn end_body<D: Disk, R: Remember>(bodies: &mut Bodies, store: &mut LocalFs<D, R>, body: u32)
     requires { IsHeldBody (body_at bodies.old body) (D.state store.old.disk) }
     ensures bodies { body_at bodies.new ≡ put body None (body_at bodies.old) }
     ensures disk { ClosesBody (body_at bodies.old body) (D.state store.old.disk) (D.state store.new.disk) }
+    ensures rest { store.new ≡ record store.old { disk = store.new.disk } }
     ensures loan { D.loan store.new.disk ≡ D.loan store.old.disk }
 {
     if let Some(gone) = take_body(bodies, body) {
@@ -92,9 +93,9 @@ pub fn end_body<D: Disk>(bodies: &mut Bodies, store: &mut PlainFs<D>, body: u32)
 
 /// Polls the body of a number. Its piece is given in the room that was made ready for it, or for which that one stands in.
 #[tactic(auto, unfolding(crate::specs::Held::body_at))]
-pub fn poll_body<D: Disk>(
+pub fn poll_body<D: Disk, R: Remember>(
     bodies: &mut Bodies,
-    store: &mut PlainFs<D>,
+    store: &mut LocalFs<D, R>,
     body: u32,
     room: Vec<u8>,
 ) -> Answer
@@ -104,6 +105,7 @@ pub fn poll_body<D: Disk>(
         → IsRoom (left_of b) (vec_len b.buffer) (vec_len room) (vec_capacity room) }
     ensures done { PollsBody (body_at bodies.old) body (D.state store.old.disk) result (D.state store.new.disk)
         (body_at bodies.new) }
+    ensures rest { store.new ≡ record store.old { disk = store.new.disk } }
     ensures loan { D.loan store.new.disk ≡ D.loan store.old.disk }
 {
     if body == 0 {
@@ -130,10 +132,11 @@ fn is_over(bodies: &Bodies, body: u32) -> bool
 }
 
 /// Takes the body of a number out where nothing is left of it. Its file is closed then.
-pub fn sweep<D: Disk>(bodies: &mut Bodies, store: &mut PlainFs<D>, body: u32)
+pub fn sweep<D: Disk, R: Remember>(bodies: &mut Bodies, store: &mut LocalFs<D, R>, body: u32)
     requires { IsHeldBody (body_at bodies.old body) (D.state store.old.disk) }
     ensures done { Sweeps (body_at bodies.old) body (body_at bodies.new) }
     ensures disk { D.state store.new.disk ≡ D.state store.old.disk }
+    ensures rest { store.new ≡ record store.old { disk = store.new.disk } }
     ensures loan { D.loan store.new.disk ≡ D.loan store.old.disk }
 {
     if is_over(bodies, body) {

@@ -3,25 +3,30 @@ ghost use Rattle.std.specs.Prelude.{◌≡◌, IfOk, List, None, false, ℕ};
 ghost use Rattle.dav_get.specs.Bodies.{IsHeld};
 ghost use Rattle.dav_model.specs.Allowing.{allowing};
 ghost use Rattle.dav_model.specs.Head.{refusal as the_refusal};
-ghost use Rattle.dav_model.specs.Rules.{plain_rules};
 ghost use Rattle.dav_model.specs.Trail.{target_of};
 ghost use Rattle.dav_model.specs.declared.target.Target.TheVariants.{At, Writes};
-ghost use Rattle.dav_plain.specs.Calls.{seen_by};
+ghost use Rattle.dav_local.specs.Files.{seen_by};
+ghost use Rattle.dav_local.specs.Ways.{rules_with};
 ghost use Rattle.dav_store.specs.Frames.{KeepsOpen};
 ghost use Rattle.dav_store.specs.View.{the_listings, the_view};
 ghost use Rattle.dav_methods.specs.Changing.{Changes};
+ghost use Rattle.dav_handler.specs.By.{over_of};
 ghost use Rattle.dav_handler.specs.Found.{Finds, Gives, IsAlone, IsRefusedBy, said_in};
 ghost use Rattle.dav_handler.specs.Held.{handle_of};
 
 use crate::gates::target;
+use dav_cache::Remember;
 use dav_config::{refused, refused_by};
 use dav_core::{DavError, DavMethod, DavMethodSet, DavPath, Disk};
-use dav_follows::{plain_stores_follow_rules, plain_stores_refuse_few};
 use dav_get::{GetBody, handle_get};
 use dav_io::{NoMemory, Octets};
-use dav_methods::{copy, delete, mkcalendar, mkcol, move_to, options, put_whole};
+use dav_local::{LocalFs, LocalFsDirEntry, LocalFsFile};
+use dav_local_laws::{
+    calls_teach_nothing, local_stores_ask_once, local_stores_follow_rules, local_stores_refuse_few,
+    reads_are_right, reads_learn_nothing,
+};
+use dav_methods::{copy, delete, mkcalendar, mkcol, move_to, options, put_whole, writes_lead_on};
 use dav_model::{Outcome, Settings, Target};
-use dav_plain::{PlainEntry, PlainFile, PlainFs};
 use dav_store::{DavDirEntry, DavFile, DavFileSystem, GuardedFileSystem};
 use http::{HeaderMap, Request};
 use std::alloc::Global;
@@ -30,7 +35,7 @@ use std::alloc::Global;
 #[derive(Drop)]
 pub struct Found {
     pub outcome: Outcome,
-    pub body: Option<GetBody<PlainFile>>,
+    pub body: Option<GetBody<LocalFsFile>>,
 }
 
 // An answer without a body.
@@ -75,10 +80,15 @@ fn refuse(alloc: Global, fields: &HeaderMap, error: DavError) -> Result<Found, N
 }
 
 // Gives a body of which something is left; another is ended.
-fn give<D: Disk>(store: &mut PlainFs<D>, outcome: Outcome, body: GetBody<PlainFile>) -> Found
+fn give<D: Disk, R: Remember>(
+    store: &mut LocalFs<D, R>,
+    outcome: Outcome,
+    body: GetBody<LocalFsFile>,
+) -> Found
     requires { IsHeld handle_of seen_by (D.state store.old.disk) body }
     ensures outcome { result.outcome ≡ outcome }
     ensures gives { Gives (D.state store.old.disk) body result.body (D.state store.new.disk) }
+    ensures rest { store.new ≡ record store.old { disk = store.new.disk } }
     ensures loan { D.loan store.new.disk ≡ D.loan store.old.disk }
 {
     if body.next_most() == 0 {
@@ -95,18 +105,22 @@ fn give<D: Disk>(store: &mut PlainFs<D>, outcome: Outcome, body: GetBody<PlainFi
 }
 
 // What stands at a path, by GET or HEAD.
-fn find_at<D: Disk>(
+fn find_at<D: Disk, R: Remember>(
     alloc: Global,
     settings: &Settings,
-    store: &mut PlainFs<D>,
+    store: &mut LocalFs<D, R>,
     method: DavMethod,
     path: &DavPath,
     fields: &HeaderMap,
 ) -> Result<Found, NoMemory>
-    ensures done { (body : List ℕ) → Finds settings.now (D.state store.old.disk) (record { fields = fields.now; body = body })
-        (At method path.now) result (D.state store.new.disk) }
+    ensures done { (body : List ℕ) → Finds (over_of D.state R.state settings.now store.old)
+        (record { fields = fields.now; body = body }) (At method path.now) result
+        (over_of D.state R.state settings.now store.new) }
     ensures loan { D.loan store.new.disk ≡ D.loan store.old.disk }
 {
+    reads_are_right(store);
+    reads_learn_nothing(store);
+    local_stores_ask_once(store);
     match handle_get(alloc, settings, store, &(), method, path, fields) {
         Ok(given) => {
             let (outcome, body) = given;
@@ -117,18 +131,18 @@ fn find_at<D: Disk>(
 }
 
 // What a method that writes is answered, of a request whose body is in memory. The prefix is that of a destination.
-fn change<D: Disk>(
+fn change<D: Disk, R: Remember>(
     alloc: Global,
-    store: &mut PlainFs<D>,
+    store: &mut LocalFs<D, R>,
     method: DavMethod,
     path: &DavPath,
     fields: &HeaderMap,
     body: &[u8],
     prefix: &str,
 ) -> Result<Outcome, DavError>
-    ensures table { Changes (the_view ⟦<PlainFs<D> as GuardedFileSystem<()>>⟧ D.Disk ⟦<PlainFile as DavFile<D>>⟧)
-        (the_listings ⟦<PlainFs<D> as GuardedFileSystem<()>>⟧ ⟦<PlainEntry as DavDirEntry<D>>⟧)
-        ⟦<PlainFile as DavFile<D>>⟧.writes tt method prefix.now path.now fields.now body.now store.old result store.new }
+    ensures table { Changes (the_view ⟦<LocalFs<D, R> as GuardedFileSystem<()>>⟧ D.Disk ⟦<LocalFsFile as DavFile<D>>⟧)
+        (the_listings ⟦<LocalFs<D, R> as GuardedFileSystem<()>>⟧ ⟦<LocalFsDirEntry as DavDirEntry<D>>⟧)
+        ⟦<LocalFsFile as DavFile<D>>⟧.writes tt method prefix.now path.now fields.now body.now store.old result store.new }
     ensures keeps { KeepsOpen (D.state store.old.disk) (D.state store.new.disk) }
     ensures loan { D.loan store.new.disk ≡ D.loan store.old.disk }
 {
@@ -143,21 +157,24 @@ fn change<D: Disk>(
 }
 
 // What a method makes of a path: one that writes. The laws of the store say what its table means.
-fn write_at<D: Disk>(
+fn write_at<D: Disk, R: Remember>(
     alloc: Global,
     settings: &Settings,
-    store: &mut PlainFs<D>,
+    store: &mut LocalFs<D, R>,
     method: DavMethod,
     path: &DavPath,
     fields: &HeaderMap,
     body: &[u8],
 ) -> Result<Found, NoMemory>
-    ensures done { Finds settings.now (D.state store.old.disk) (record { fields = fields.now; body = body.now })
-        (Writes method path.now) result (D.state store.new.disk) }
+    ensures done { Finds (over_of D.state R.state settings.now store.old)
+        (record { fields = fields.now; body = body.now }) (Writes method path.now) result
+        (over_of D.state R.state settings.now store.new) }
     ensures loan { D.loan store.new.disk ≡ D.loan store.old.disk }
 {
-    plain_stores_refuse_few(store);
-    plain_stores_follow_rules(store, settings);
+    local_stores_refuse_few(store);
+    local_stores_follow_rules(store, settings);
+    calls_teach_nothing(store);
+    writes_lead_on::<LocalFs<D, R>, ()>();
     let prefix = settings.prefix.as_str();
     match change(alloc, store, method, path, fields, body, prefix) {
         Ok(outcome) => Ok(alone(outcome)),
@@ -166,16 +183,17 @@ fn write_at<D: Disk>(
 }
 
 // What is answered to what is asked for.
-fn find<D: Disk>(
+fn find<D: Disk, R: Remember>(
     alloc: Global,
     settings: &Settings,
-    store: &mut PlainFs<D>,
+    store: &mut LocalFs<D, R>,
     target: &Target,
     fields: &HeaderMap,
     body: &[u8],
 ) -> Result<Found, NoMemory>
-    ensures done { Finds settings.now (D.state store.old.disk) (record { fields = fields.now; body = body.now })
-        target.now result (D.state store.new.disk) }
+    ensures done { Finds (over_of D.state R.state settings.now store.old)
+        (record { fields = fields.now; body = body.now }) target.now result
+        (over_of D.state R.state settings.now store.new) }
     ensures loan { D.loan store.new.disk ≡ D.loan store.old.disk }
 {
     match target {
@@ -189,14 +207,15 @@ fn find<D: Disk>(
 }
 
 /// What a request finds.
-pub fn find_for<D: Disk>(
+pub fn find_for<D: Disk, R: Remember>(
     alloc: Global,
     settings: &Settings,
-    store: &mut PlainFs<D>,
+    store: &mut LocalFs<D, R>,
     request: &Request<Octets>,
 ) -> Result<Found, NoMemory>
-    ensures done { Finds settings.now (D.state store.old.disk) (said_in request.now)
-        (target_of (plain_rules settings.now) request.now) result (D.state store.new.disk) }
+    ensures done { Finds (over_of D.state R.state settings.now store.old) (said_in request.now)
+        (target_of (rules_with settings.now store.old.ways) request.now) result
+        (over_of D.state R.state settings.now store.new) }
     ensures loan { D.loan store.new.disk ≡ D.loan store.old.disk }
 {
     match target(alloc, settings, request) {

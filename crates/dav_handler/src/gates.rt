@@ -1,7 +1,7 @@
 // The gates of a request with its whole body.
-ghost use Rattle.std.specs.Prelude.{◌≡◌, IfOk};
-ghost use Rattle.dav_model.specs.Rules.{plain_rules};
-ghost use Rattle.dav_model.specs.Trail.{target_of};
+ghost use Rattle.std.specs.Prelude.{◌≡◌, IfOk, true};
+ghost use Rattle.http.specs.Request.{body_of, head_of};
+ghost use Rattle.dav_model.specs.Gates.{bulk_of as the_bulk_of, gates};
 
 use dav_config::{admitted, bulk_of, weighed};
 use dav_io::{NoMemory, Octets};
@@ -15,7 +15,8 @@ pub fn target(
     settings: &Settings,
     request: &Request<Octets>,
 ) -> Result<Target, NoMemory>
-    ensures { IfOk result (λ target. target ≡ target_of (plain_rules settings.now) request.now) }
+    ensures { IfOk result (λ target. target
+        ≡ gates settings.now true (head_of request.now) (the_bulk_of (body_of request.now))) }
 {
     let target = admitted(alloc, settings, true, request)?;
     let bulk = bulk_of(request.body().as_slice());

@@ -7,8 +7,9 @@ mod gates;
 mod player;
 mod playing;
 
+pub use dav_cache::{Forget, Remember};
 pub use dav_config::{DavConfig, DavHandler};
+pub use dav_local::LocalFs;
 pub use dav_model::{Answer, Settings, Step};
-pub use dav_plain::PlainFs;
 pub use player::Player;
 pub use playing::play;

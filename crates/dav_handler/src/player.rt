@@ -2,41 +2,47 @@ ghost use Rattle.std.specs.Prelude.{◌≡◌, ◌<◌, ◌≤◌, ◌+◌, ◌^
 ghost use Rattle.dav_model.specs.Sizes.{read_size_of};
 ghost use Rattle.dav_core.specs.Disk.{Turns};
 ghost use Rattle.dav_model.specs.declared.answer.Answer.TheVariants.{Reply as Replied};
+ghost use Rattle.dav_handler.specs.By.{by_store};
 ghost use Rattle.dav_handler.specs.Held.{IsPlaying, body_at};
+ghost use Rattle.dav_handler.specs.Purging.{PurgesBy};
+ghost use Rattle.dav_cache.specs.Memory.{Purges};
 
 use crate::bodies::{Bodies, end_body, hold_body, no_bodies, open_body, poll_body, sweep};
 use crate::found::{Found, find_for};
+use dav_cache::Remember;
 use dav_config::DavHandler;
 use dav_core::Disk;
 use dav_io::{Moment, NoMemory, Octets};
+use dav_local::LocalFs;
 use dav_model::{Answer, Outcome, Settings, Step};
-use dav_plain::PlainFs;
 use dav_store::DavFileSystem;
 use http::Request;
 use std::alloc::Global;
 use std::mem;
 
 /// Answers steps over a disk. It numbers its replies from 0, and keeps the body of each reply of which something is left.
-pub struct Player<D: Disk> {
+pub struct Player<D: Disk, R: Remember> {
     alloc: Global,
     settings: Settings,
-    store: PlainFs<D>,
+    store: LocalFs<D, R>,
     bodies: Bodies,
     replies: u32,
     ghost ok: { IsPlaying (read_size_of settings.read_buf_size) (D.state store.disk) (body_at bodies) replies },
 }
 
-impl<D: Disk> Player<D> {
-    ghost use Rattle.dav_handler.specs.Player.{plain_playing, playing_of, stage_of};
+impl<D: Disk, R: Remember> Player<D, R> {
+    ghost use Rattle.dav_handler.specs.Player.{playing_by, playing_of, stage_of};
     ghost use Rattle.dav_model.specs.Play.{AreFull, StaysOpen, Stepped};
     ghost use Rattle.dav_model.specs.declared.step.Step.TheVariants.{Abandon, Poll, Purge, Turn, Request as Asks};
 
     /// A player over the store of a handler, which has one, by the handler's settings. It gave no reply yet.
-    pub fn new(handler: DavHandler<PlainFs<D>, ()>) -> Self
+    pub fn new(handler: DavHandler<LocalFs<D, R>, ()>) -> Self
         requires { IsSome handler.store }
         ensures loan { IfSome handler.store (λ store. D.loan result.store.disk ≡ D.loan store.disk) }
-        ensures stage { IfSome handler.store (λ store. stage_of result ≡ record
-            { at = D.state store.disk; playing = plain_playing handler.settings 0 (λ _. []) (λ _. None) }) }
+        ensures stage { IfSome handler.store (λ store. stage_of result ≡ record {
+          at = D.state store.disk;
+          playing = playing_by (by_store R.state handler.settings store) 0 (λ _. []) (λ _. None);
+        }) }
     {
         let (alloc, settings, store) = handler.into_parts();
         match store {
@@ -46,10 +52,10 @@ impl<D: Disk> Player<D> {
     }
 
     // A player over a store, by these settings.
-    fn over(alloc: Global, settings: Settings, store: PlainFs<D>) -> Self
+    fn over(alloc: Global, settings: Settings, store: LocalFs<D, R>) -> Self
         ensures loan { D.loan result.store.disk ≡ D.loan store.disk }
         ensures stage { stage_of result ≡ record
-            { at = D.state store.disk; playing = plain_playing settings 0 (λ _. []) (λ _. None) } }
+            { at = D.state store.disk; playing = playing_by (by_store R.state settings store) 0 (λ _. []) (λ _. None) } }
     {
         Player {
             alloc,
@@ -74,9 +80,9 @@ impl<D: Disk> Player<D> {
         self.replies
     }
 
-    /// Gives the disk back, with the files of bodies that have bytes left still open.
-    pub fn into_disk(self) -> D
-        ensures { result ≡ self.store.disk }
+    /// Gives the disk and the memory back, with the files of bodies that have bytes left still open.
+    pub fn into_parts(self) -> (D, R)
+        ensures { result ≡ (self.store.disk, self.store.memory) }
     {
         let Player {
             alloc: _,
@@ -85,7 +91,19 @@ impl<D: Disk> Player<D> {
             bodies: _,
             replies: _,
         } = self;
-        store.into_disk()
+        store.into_parts()
+    }
+
+    /// Gives the disk back so, and leaves the memory where it is told to. A disk that was lent goes back to its lender.
+    pub fn into_disk(self, memory: &mut Option<R>) -> D
+    where
+        R: Drop,
+        ensures disk { result ≡ self.store.disk }
+        ensures memory { memory.new ≡ Some self.store.memory }
+    {
+        let (disk, left) = self.into_parts();
+        *memory = Some(left);
+        disk
     }
 
     /// A turn of the outside, as its step is answered.
@@ -110,12 +128,13 @@ impl<D: Disk> Player<D> {
         Answer::Done
     }
 
-    /// Drops what caches hold too long at this moment, as its step is answered. There are none.
+    /// What the memory of the store holds too long at this moment is forgotten, as its step is answered.
     pub fn purge(&mut self, now: Moment) -> Answer
         ensures done { Stepped (stage_of self.old) (Purge now) (Ok result) (stage_of self.new) }
+        ensures purges { Purges (R.state self.old.store.memory) now (R.state self.new.store.memory) }
         ensures loan { D.loan self.new.store.disk ≡ D.loan self.old.store.disk }
     {
-        let _now = now;
+        self.store.memory().purge(now);
         Answer::Done
     }
 
@@ -125,6 +144,7 @@ impl<D: Disk> Player<D> {
         ensures done { Stepped (stage_of self.old) (Asks request.now now) result (stage_of self.new) }
         ensures loan { D.loan self.new.store.disk ≡ D.loan self.old.store.disk }
     {
+        DavFileSystem::set_now(&mut self.store, now);
         let found = match find_for(self.alloc, &self.settings, &mut self.store, request) {
             Ok(found) => found,
             Err(error) => return Err(error),
@@ -183,6 +203,7 @@ impl<D: Disk> Player<D> {
         ensures held { StaysOpen (D.state self.old.store.disk) (playing_of self.old) }
         ensures full { AreFull (playing_of self.old) }
         ensures done { Stepped (stage_of self.old) step.now result (stage_of self.new) }
+        ensures purges { PurgesBy step.now (R.state self.old.store.memory) (R.state self.new.store.memory) }
         ensures loan { D.loan self.new.store.disk ≡ D.loan self.old.store.disk }
     {
         match step {
@@ -208,8 +229,9 @@ fn reply(outcome: Outcome, body: u32) -> Answer
 }
 
 // A turn of the outside, by the disk of the store.
-fn turn_disk<D: Disk>(store: &mut PlainFs<D>) -> Result<(), NoMemory>
+fn turn_disk<D: Disk, R: Remember>(store: &mut LocalFs<D, R>) -> Result<(), NoMemory>
     ensures done { Turns (D.state store.old.disk) result (D.state store.new.disk) }
+    ensures rest { store.new ≡ record store.old { disk = store.new.disk } }
     ensures loan { D.loan store.new.disk ≡ D.loan store.old.disk }
 {
     DavFileSystem::disk(store).turn()

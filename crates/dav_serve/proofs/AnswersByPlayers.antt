@@ -6,6 +6,7 @@ use Rattle.http.specs.Request.{head_of, body_of}
 use Rattle.dav_io.specs.declared.failure.NoMemory.{NoMemory}
 use Rattle.dav_io.specs.declared.clock.Moment.{Moment}
 use Rattle.dav_model.specs.Requests.{Asked}
+use Rattle.dav_model.specs.Rules.{Knowledge}
 use Rattle.dav_model.specs.Trail.{Point}
 use Rattle.dav_serve.specs.declared.exchange.Ended.{Ended}
 use Rattle.dav_serve.specs.declared.exchange.Ended.TheVariants.{Open, Closed, SinkFailed, Broke as BrokeOff}
@@ -35,12 +36,13 @@ exchanges_as Is As a SinkFailed b f e = record { bytes = e.bytes; reached = reac
 exchanges_as Is As a BrokeOff b f e = record { exchange = e.exchange; is = f e.exchange e.is; played = e.played; sent = e.sent; rose = e.rose }
 
 -- one request was answered by a player of its own
-pub answered : {request : Asked} {parts : Parts} {body : List ℕ} {closing : _} (now : Moment) (made start : Stage) (outlet : Outlet) (b : Work) (t : Point) (result : Result Ended NoMemory)
-    → Comes request parts body closing → made ≡ start → b.stage.at ≡ t → IfOk result (λ ended. Exchanges (IsAt request now closing) (record { outlet = outlet; stage = made }) ended b)
-    → IfOk result (λ ended. Answers parts body now (record { outlet = outlet; stage = start }) ended b.outlet t)
-answered now made start outlet b t (Err e) comes first last exchanges = tt
-answered {request = request} {parts = parts} {body = body} {closing = closing} now made start outlet b t (Ok ended) comes first last exchanges = (
+pub answered : {request : Asked} {parts : Parts} {body : List ℕ} {closing : _} (now : Moment) (made start : Stage) (outlet : Outlet) (b : Work) (t : Point) (knows : Knowledge) (result : Result Ended NoMemory)
+    → Comes request parts body closing → made ≡ start → b.stage.at ≡ t → b.stage.playing.knows ≡ knows → IfOk result (λ ended. Exchanges (IsAt request now closing) (record { outlet = outlet; stage = made }) ended b)
+    → IfOk result (λ ended. Answers parts body now (record { outlet = outlet; stage = start }) ended b.outlet t knows)
+answered now made start outlet b t knows (Err e) comes first last known exchanges = tt
+answered {request = request} {parts = parts} {body = body} {closing = closing} now made start outlet b t knows (Ok ended) comes first last known exchanges = (
   b.stage.playing,
+  known,
   exchanges_as (IsAt request now closing) (IsAnswerTo parts body now) (record { outlet = outlet; stage = start }) ended (record { outlet = b.outlet; stage = record { at = t; playing = b.stage.playing } })
       (answer_of request parts body now closing comes)
       (subst (λ z. Exchanges (IsAt request now closing) (record { outlet = outlet; stage = start }) ended (record { outlet = b.outlet; stage = record { at = z; playing = b.stage.playing } })) last

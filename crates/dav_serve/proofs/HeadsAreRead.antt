@@ -60,11 +60,11 @@ begun_is_read a b x steps behind result on =
 
 chain_is_read : (rules : Rules) (a b : Stage) (xs : List Exchange) → Chain rules a xs b → AllByRecursion HasHead xs
 chain_is_read rules a b [] chain = tt
-chain_is_read rules a b (x ∷ xs) (m, played, chain) = (begun_is_read a m x (steps_of x) (Done ∷ End ∷ []) (Ok tt) played, chain_is_read rules (ready rules m.at) b xs chain)
+chain_is_read rules a b (x ∷ xs) (m, played, chain) = (begun_is_read a m x (steps_of x) (Done ∷ End ∷ []) (Ok tt) played, chain_is_read rules (ready rules m.playing.knows m.at) b xs chain)
 
 pub served_are_read : (setup : Setup) (closed : Bool) (before : Outside) (source : Stream) (held : List ℕ) (xs : List Exchange) (last : Stage)
     → Serving setup closed before source held xs last → AllByRecursion HasHead xs
-served_are_read setup closed before source held xs last v = chain_is_read setup.rules (ready setup.rules before.disk) last xs v.played
+served_are_read setup closed before source held xs last v = chain_is_read setup.rules (ready setup.rules setup.knows before.disk) last xs v.played
 
 zero_length : Field
 zero_length = record { name = codes "content-length"; value = codes "0" }

@@ -1,5 +1,6 @@
-pub mod SizesAreSaid
+pub mod NumbersAreSaid
 pub mod WordRows
+pub mod OneIsSaid
 pub mod Prefixes
 pub mod PlayedByTree
 pub mod StepsArePlayed
@@ -21,3 +22,4 @@ pub mod ServedGiveAnnounced
 pub mod BrokenGiveLess
 pub mod FieldsAdded
 pub mod HeadsAreRead
+pub mod ServedByTree

@@ -10,7 +10,7 @@ use Rattle.dav_io.specs.Told.{Both}
 use Rattle.dav_io.proofs.ToldLemmas.{both_then, both_map, both_same}
 use Rattle.dav_io.specs.Outside.{Stream}
 use Rattle.dav_io.specs.declared.clock.Moment.{Moment}
-use Rattle.dav_model.specs.Rules.{Rules}
+use Rattle.dav_model.specs.Rules.{Knowledge, Rules}
 use Rattle.dav_model.proofs.JoiningLemmas.{played_counts}
 use Rattle.dav_wire.specs.Heads.{IsRead}
 use Rattle.dav_wire.specs.Pending.{Pending}
@@ -26,10 +26,10 @@ use Rattle.dav_serve.specs.Serving.{Setup, Chain, Alike, Follow, IsOpen, wires, 
 use Rattle.dav_serve.specs.Stages.{PlayedOn, Outside, Work, outlet_of, outside_of, work_of}
 use Rattle.dav_serve.proofs.RequestsAreSome.{message_shorter}
 
--- what was served, what of it was sent and waits, and how many bytes were taken for it
-pub record Progress (setup : Setup) (before : Outside) (held : Pending) (waiting : List ℕ) (now : Outside) : Type 0 where
+-- what was served, what of it was sent and waits, how many bytes were taken for it, and what the memory knows then
+pub record Progress (setup : Setup) (before : Outside) (held : Pending) (waiting : List ℕ) (now : Outside) (knows : Knowledge) : Type 0 where
   pub exchanges : List Exchange
-  pub serving : Serving setup false before now.source held.bytes exchanges (ready setup.rules now.disk)
+  pub serving : Serving setup false before now.source held.bytes exchanges (ready setup.rules knows now.disk)
   pub sent : Sent before.sink now.sink (wires exchanges) waiting
   pub taken : TookBytes before.source now.source held.taken
 
@@ -74,15 +74,15 @@ meets_shorter old new held rest passed message most on is =
     (steps_by held.taken rest.taken (length held.bytes) (length rest.bytes) (length on.got) (leb rest.taken (2 ^ 60)) refl most on.taken (omega arith))
 
 chain_more : (rules : Rules) (a b m : Stage) (xs : List Exchange) (x : Exchange) → Chain rules a xs b → PlayedOn b (steps_of x) (answers_of x) (Ok tt) m
-    → Chain rules a (xs ++ x ∷ []) (ready rules m.at)
+    → Chain rules a (xs ++ x ∷ []) (ready rules m.playing.knows m.at)
 chain_more rules a b m [] x chain played = (m, subst (λ z. PlayedOn z (steps_of x) (answers_of x) (Ok tt) m) chain played, refl)
-chain_more rules a b m (y ∷ xs) x (n, first, chain) played = (n, first, chain_more rules (ready rules n.at) b m xs x chain played)
+chain_more rules a b m (y ∷ xs) x (n, first, chain) played = (n, first, chain_more rules (ready rules n.playing.knows n.at) b m xs x chain played)
 
 pub chain_counts : (rules : Rules) (a b : Stage) (xs : List Exchange) → Chain rules a xs b → a.at.faults ≤ b.at.faults
 chain_counts rules a b [] chain = rw chain (omega arith)
 chain_counts rules a b (x ∷ xs) (m, first, chain) =
     let here = played_counts first.trail a m (steps_of x) [] (answers_of x) first.played in
-    let later = chain_counts rules (ready rules m.at) b xs chain in
+    let later = chain_counts rules (ready rules m.playing.knows m.at) b xs chain in
     omega arith
 
 alike_more : (setup : Setup) (hs : List Message) (xs : List Exchange) (h : Message) (x : Exchange) → Alike setup hs xs → IsOf setup.shown h x → Alike setup (hs ++ h ∷ []) (xs ++ x ∷ [])
@@ -103,7 +103,7 @@ pub wires_more : (xs : List Exchange) (x : Exchange) → wires xs ++ wire_of x �
 wires_more [] x = sym (append-nil (wire_of x))
 wires_more (y ∷ xs) x = append_assoc (wire_of y) (wires xs) (wire_of x) ∙ ap (λ z. wire_of y ++ z) (wires_more xs x)
 
-none_serving : (setup : Setup) (before : Outside) → Serving setup false before before.source [] [] (ready setup.rules before.disk)
+none_serving : (setup : Setup) (before : Outside) → Serving setup false before before.source [] [] (ready setup.rules setup.knows before.disk)
 none_serving setup before = record {
   messages = [];
   played = refl;
@@ -114,10 +114,10 @@ none_serving setup before = record {
 }
 
 -- nothing was served yet
-pub none_served : (setup : Setup) (before : Outside) (held : Pending) (waiting : List ℕ) → held ≡ record { bytes = []; taken = 0 } → waiting ≡ [] → Progress setup before held waiting before
+pub none_served : (setup : Setup) (before : Outside) (held : Pending) (waiting : List ℕ) → held ≡ record { bytes = []; taken = 0 } → waiting ≡ [] → Progress setup before held waiting before setup.knows
 none_served setup before held waiting none empty = record {
   exchanges = [];
-  serving = subst (λ (z : List ℕ). Serving setup false before before.source z [] (ready setup.rules before.disk)) (sym (ap (λ (z : Pending). z.bytes) none)) (none_serving setup before);
+  serving = subst (λ (z : List ℕ). Serving setup false before before.source z [] (ready setup.rules setup.knows before.disk)) (sym (ap (λ (z : Pending). z.bytes) none)) (none_serving setup before);
   sent = subst (λ (z : List ℕ). Sent before.sink before.sink [] z) (sym empty) (none_sent before.sink []);
   taken = both_same before.source.bytes before.source.bytes (λ a b. length a ≡ held.taken + length b)
       (λ a. let n = ap (λ (z : Pending). z.taken) none in omega arith) refl;
@@ -128,7 +128,7 @@ pub none_halfway : (setup : Setup) (before : Outside) → Halfway setup before b
 none_halfway setup before = record {
   closed = false;
   held = [];
-  place = ready setup.rules before.disk;
+  place = ready setup.rules setup.knows before.disk;
   serving = none_serving setup before;
   partway = nothing refl refl;
   behind = λ e. refl;
@@ -155,16 +155,16 @@ next_message input source held rest ms message is both = both_map input.bytes so
     (λ a b r. messages_join a (held ++ b) (rest ++ b) ms (message ∷ []) r (rest ++ b, message_stays held b message rest is, refl)) both
 
 -- An exchange more was played, as the last of its list: it closes or not.
-pub serving_more : {setup : Setup} {before : Outside} {held : Pending} {waiting : List ℕ} {mid : Outside} {parts : Parts} {body : List ℕ} {now : Moment} {rest : Pending} (closed : Bool) (a b : Work)
-    → (v : Progress setup before held waiting mid) → Meets setup.shown held parts body now rest → a.stage ≡ ready setup.rules mid.disk → (made : Whole (IsAnswerTo parts body now) closed a b)
-    → Serving setup closed before mid.source rest.bytes (v.exchanges ++ made.exchange ∷ []) (ready setup.rules b.stage.at)
-serving_more {setup = setup} {before = before} {held = held} {mid = mid} {parts = parts} {body = body} {now = now} {rest = rest} closed a b v m first made =
+pub serving_more : {setup : Setup} {before : Outside} {held : Pending} {waiting : List ℕ} {mid : Outside} {knows : Knowledge} {parts : Parts} {body : List ℕ} {now : Moment} {rest : Pending} (closed : Bool) (a b : Work)
+    → (v : Progress setup before held waiting mid knows) → Meets setup.shown held parts body now rest → a.stage ≡ ready setup.rules knows mid.disk → (made : Whole (IsAnswerTo parts body now) closed a b)
+    → Serving setup closed before mid.source rest.bytes (v.exchanges ++ made.exchange ∷ []) (ready setup.rules b.stage.playing.knows b.stage.at)
+serving_more {setup = setup} {before = before} {held = held} {mid = mid} {knows = knows} {parts = parts} {body = body} {now = now} {rest = rest} closed a b v m first made =
     let x = made.exchange in
     let w = v.serving in
     let message : Message = record { head = m.head; body = body } in
     record {
       messages = w.messages ++ message ∷ [];
-      played = chain_more setup.rules (ready setup.rules before.disk) (ready setup.rules mid.disk) b.stage v.exchanges x w.played
+      played = chain_more setup.rules (ready setup.rules setup.knows before.disk) (ready setup.rules knows mid.disk) b.stage v.exchanges x w.played
           (subst (λ z. PlayedOn z (steps_of x) (answers_of x) (Ok tt) b.stage) first made.played);
       alike = alike_more setup w.messages v.exchanges message x w.alike (is_of setup m.head parts body now x m.read m.shown made.is);
       follow = follows closed v.exchanges x w.follow made.closed_is;
@@ -173,19 +173,20 @@ serving_more {setup = setup} {before = before} {held = held} {mid = mid} {parts 
     }
 
 -- what an answer to the next request stands on
-abbrev pub working : Setup → List ℕ → Outside → Work
-working setup waiting now = work_of now.sink waiting (ready setup.rules now.disk)
+abbrev pub working : Setup → List ℕ → Outside → Knowledge → Work
+working setup waiting now knows = work_of now.sink waiting (ready setup.rules knows now.disk)
 
 -- one exchange more
-pub served_more : {setup : Setup} {before : Outside} {held : Pending} {waiting : List ℕ} {mid : Outside} {parts : Parts} {body : List ℕ} {now : Moment} {rest : Pending} {later : List ℕ} {next : Outside}
-    → Progress setup before held waiting mid → Meets setup.shown held parts body now rest → next.source ≡ mid.source
-    → Answers parts body now (working setup waiting mid) Open (outlet_of next.sink later) next.disk → Progress setup before rest later next
-served_more {setup = setup} {before = before} {held = held} {waiting = waiting} {mid = mid} {parts = parts} {now = now} {rest = rest} {later = later} {next = next} v m same (q, made) =
+pub served_more : {setup : Setup} {before : Outside} {held : Pending} {waiting : List ℕ} {mid : Outside} {parts : Parts} {body : List ℕ} {now : Moment} {rest : Pending} {later : List ℕ} {next : Outside} {knows learned : Knowledge}
+    → Progress setup before held waiting mid knows → Meets setup.shown held parts body now rest → next.source ≡ mid.source
+    → Answers parts body now (working setup waiting mid knows) Open (outlet_of next.sink later) next.disk learned → Progress setup before rest later next learned
+served_more {setup = setup} {before = before} {held = held} {waiting = waiting} {mid = mid} {parts = parts} {now = now} {rest = rest} {later = later} {next = next} {knows = knows} v m same (q, learns, made) =
     let x = made.exchange in
     record {
       exchanges = v.exchanges ++ x ∷ [];
-      serving = subst (λ z. Serving setup false before z rest.bytes (v.exchanges ++ x ∷ []) (ready setup.rules next.disk)) (sym same)
-          (serving_more false (working setup waiting mid) _ v m refl made);
+      serving = subst (λ k. Serving setup false before next.source rest.bytes (v.exchanges ++ x ∷ []) (ready setup.rules k next.disk)) learns
+          (subst (λ z. Serving setup false before z rest.bytes (v.exchanges ++ x ∷ []) (ready setup.rules q.knows next.disk)) (sym same)
+          (serving_more false (working setup waiting mid knows) _ v m refl made));
       sent = subst (λ z. Sent before.sink next.sink z later) (wires_more v.exchanges x) (sent_then before.sink mid.sink next.sink (wires v.exchanges) waiting (wire_of x) later v.sent made.sent);
       taken = subst (λ z. TookBytes before.source z rest.taken) (sym same) (subst (λ z. TookBytes before.source mid.source z) (sym m.same) v.taken);
     }
@@ -197,9 +198,9 @@ counts_more : (n m : ℕ) (a b c got : List ℕ) → m ≡ n + length got → le
 counts_more n m a b c got taken e told = let long = ap (length {A = ℕ}) told ∙ length-append got c in omega arith
 
 -- more bytes were got from the source, and what waited was given to the sink or waits still
-pub served_on : {setup : Setup} {before : Outside} {held kept : Pending} {waiting later : List ℕ} {mid : Outside} {left written : Stream} {passed : List ℕ}
-    → Progress setup before held waiting mid → ReadsOn mid.source held passed kept left → Pushes mid.sink waiting [] (Ok tt) later written
-    → Progress setup before (all_of passed kept) later (outside_of left written mid.disk)
+pub served_on : {setup : Setup} {before : Outside} {held kept : Pending} {waiting later : List ℕ} {mid : Outside} {left written : Stream} {passed : List ℕ} {knows : Knowledge}
+    → Progress setup before held waiting mid knows → ReadsOn mid.source held passed kept left → Pushes mid.sink waiting [] (Ok tt) later written
+    → Progress setup before (all_of passed kept) later (outside_of left written mid.disk) knows
 served_on {setup = setup} {before = before} {held = held} {kept = kept} {waiting = waiting} {later = later} {mid = mid} {left = left} {written = written} {passed = passed} v on pushes =
     let w = v.serving in
     record {
@@ -220,16 +221,17 @@ served_on {setup = setup} {before = before} {held = held} {kept = kept} {waiting
     }
 
 -- more bytes were got from the source
-pub served_read : {setup : Setup} {before : Outside} {held kept : Pending} {waiting : List ℕ} {mid : Outside} {left : Stream} {passed : List ℕ}
-    → Progress setup before held waiting mid → ReadsOn mid.source held passed kept left → Progress setup before (all_of passed kept) waiting (outside_of left mid.sink mid.disk)
+pub served_read : {setup : Setup} {before : Outside} {held kept : Pending} {waiting : List ℕ} {mid : Outside} {left : Stream} {passed : List ℕ} {knows : Knowledge}
+    → Progress setup before held waiting mid knows → ReadsOn mid.source held passed kept left → Progress setup before (all_of passed kept) waiting (outside_of left mid.sink mid.disk) knows
 served_read {waiting = waiting} {mid = mid} v on = served_on v on (holds mid.sink waiting [] waiting (sym (append-nil waiting)))
 
 -- All that came is answered and written, and more is wanted.
-pub so_far : {setup : Setup} {before : Outside} {held : Pending} {waiting : List ℕ} {now : Outside} → Progress setup before held waiting now → waiting ≡ [] → IsWanting held.bytes
+pub so_far : {setup : Setup} {before : Outside} {held : Pending} {waiting : List ℕ} {now : Outside} {knows : Knowledge} → Progress setup before held waiting now knows → waiting ≡ [] → IsWanting held.bytes
     → ServedSoFar setup before now
-so_far {before = before} {held = held} {waiting = waiting} {now = now} v none wanting = record {
+so_far {before = before} {held = held} {waiting = waiting} {now = now} {knows = knows} v none wanting = record {
   held = held.bytes;
   exchanges = v.exchanges;
+  knows = knows;
   serving = v.serving;
   sent = sent_all_of before.sink now.sink (wires v.exchanges) waiting none v.sent;
   wanting = wanting;

@@ -8,6 +8,7 @@ use Rattle.dav_io.proofs.ToldLemmas.{both_then, both_map}
 use Rattle.dav_io.specs.Outside.{Stream}
 use Rattle.dav_io.specs.declared.clock.Moment.{Moment}
 use Rattle.dav_io.specs.declared.failure.Failed.{Failed as SinkFailure}
+use Rattle.dav_model.specs.Rules.{Knowledge}
 use Rattle.dav_model.specs.declared.step.Step.TheVariants.{Poll, Turn}
 use Rattle.dav_model.specs.declared.answer.Answer.TheVariants.{Broken, Done}
 use Rattle.dav_wire.specs.Answers.{refusal_text}
@@ -29,13 +30,13 @@ use Rattle.dav_serve.proofs.Progress.{Progress, Meets, faces, chain_counts, serv
 
 -- ---- what is begun behind the exchanges that were played
 
-halfway : {setup : Setup} {before : Outside} {held : Pending} {waiting : List ℕ} {mid next : Outside} (v : Progress setup before held waiting mid) → next.source ≡ mid.source → (bytes : List ℕ)
-    → Partway setup (λ flaw. LeftIs (IsRefusedBy flaw) before.source next.source held.bytes) held.bytes (ready setup.rules mid.disk) bytes next.disk → Halfway setup before next v.exchanges bytes
-halfway {setup = setup} {before = before} {held = held} {mid = mid} v same bytes part = record {
+halfway : {setup : Setup} {before : Outside} {held : Pending} {waiting : List ℕ} {mid next : Outside} {knows : Knowledge} (v : Progress setup before held waiting mid knows) → next.source ≡ mid.source → (bytes : List ℕ)
+    → Partway setup (λ flaw. LeftIs (IsRefusedBy flaw) before.source next.source held.bytes) held.bytes (ready setup.rules knows mid.disk) bytes next.disk → Halfway setup before next v.exchanges bytes
+halfway {setup = setup} {before = before} {held = held} {mid = mid} {knows = knows} v same bytes part = record {
   closed = false;
   held = held.bytes;
-  place = ready setup.rules mid.disk;
-  serving = subst (λ z. Serving setup false before z held.bytes v.exchanges (ready setup.rules mid.disk)) (sym same) v.serving;
+  place = ready setup.rules knows mid.disk;
+  serving = subst (λ z. Serving setup false before z held.bytes v.exchanges (ready setup.rules knows mid.disk)) (sym same) v.serving;
   partway = part;
   behind = λ e. absurd (true≢false (sym e));
 }
@@ -68,21 +69,22 @@ reached_as Is As f (inr (inr u)) = inr (inr (record { exchange = u.exchange; is 
 -- ---- an answer is the last
 
 -- an answer closes, and then all is given to the sink
-pub ends_closing : {setup : Setup} {before : Outside} {held : Pending} {waiting : List ℕ} {mid next : Outside} {parts : Parts} {body : List ℕ} {now : Moment} {rest : Pending} (between : Stream) (later : List ℕ)
-    (end : Ending) → Progress setup before held waiting mid → Meets setup.shown held parts body now rest → next.source ≡ mid.source
-    → Answers parts body now (working setup waiting mid) Closed (outlet_of between later) next.disk → Finishes RunClosed (outlet_of between later) next.sink end → EndsBy setup before next end
-ends_closing {setup = setup} {before = before} {waiting = waiting} {mid = mid} {next = next} {rest = rest} between later end v m same (q, made) (inl (is, given)) =
+pub ends_closing : {setup : Setup} {before : Outside} {held : Pending} {waiting : List ℕ} {mid next : Outside} {knows learned : Knowledge} {parts : Parts} {body : List ℕ} {now : Moment} {rest : Pending} (between : Stream) (later : List ℕ)
+    (end : Ending) → Progress setup before held waiting mid knows → Meets setup.shown held parts body now rest → next.source ≡ mid.source
+    → Answers parts body now (working setup waiting mid knows) Closed (outlet_of between later) next.disk learned → Finishes RunClosed (outlet_of between later) next.sink end → EndsBy setup before next end
+ends_closing {setup = setup} {before = before} {waiting = waiting} {mid = mid} {next = next} {knows = knows} {rest = rest} between later end v m same (q, learns, made) (inl (is, given)) =
     let x = made.exchange in
     let sent = sent_then before.sink mid.sink between (wires v.exchanges) waiting (wire_of x) later v.sent made.sent in
     subst (EndsBy setup before next) (sym is) (record {
       held = rest.bytes;
       exchanges = v.exchanges ++ x ∷ [];
-      serving = subst (λ z. Serving setup true before z rest.bytes (v.exchanges ++ x ∷ []) (ready setup.rules next.disk)) (sym same)
-          (serving_more true (working setup waiting mid) _ v m refl made);
+      knows = q.knows;
+      serving = subst (λ z. Serving setup true before z rest.bytes (v.exchanges ++ x ∷ []) (ready setup.rules q.knows next.disk)) (sym same)
+          (serving_more true (working setup waiting mid knows) _ v m refl made);
       sent = subst (λ z. SentAll before.sink next.sink z) (wires_more v.exchanges x)
           (sent_all_of before.sink next.sink (wires v.exchanges ++ wire_of x) [] refl (sent_on before.sink between next.sink (wires v.exchanges ++ wire_of x) later [] sent given));
     })
-ends_closing {setup = setup} {before = before} {waiting = waiting} {mid = mid} {next = next} {rest = rest} between later end v m same (q, made) (inr (is, given, rose)) =
+ends_closing {setup = setup} {before = before} {waiting = waiting} {mid = mid} {next = next} {knows = knows} {rest = rest} between later end v m same (q, learns, made) (inr (is, given, rose)) =
     let x = made.exchange in
     let sent = sent_then before.sink mid.sink between (wires v.exchanges) waiting (wire_of x) later v.sent made.sent in
     subst (EndsBy setup before next) (sym is) (
@@ -93,9 +95,9 @@ ends_closing {setup = setup} {before = before} {waiting = waiting} {mid = mid} {
         halfway = record {
           closed = true;
           held = rest.bytes;
-          place = ready setup.rules next.disk;
-          serving = subst (λ z. Serving setup true before z rest.bytes (v.exchanges ++ x ∷ []) (ready setup.rules next.disk)) (sym same)
-              (serving_more true (working setup waiting mid) _ v m refl made);
+          place = ready setup.rules q.knows next.disk;
+          serving = subst (λ z. Serving setup true before z rest.bytes (v.exchanges ++ x ∷ []) (ready setup.rules q.knows next.disk)) (sym same)
+              (serving_more true (working setup waiting mid knows) _ v m refl made);
           partway = nothing refl refl;
           behind = λ e. refl;
         };
@@ -105,10 +107,10 @@ ends_closing {setup = setup} {before = before} {waiting = waiting} {mid = mid} {
     )
 
 -- the sink failed in an answer
-pub ends_unsent : {setup : Setup} {before : Outside} {held : Pending} {waiting : List ℕ} {mid next : Outside} {parts : Parts} {body : List ℕ} {now : Moment} {rest : Pending} (later : List ℕ)
-    → Progress setup before held waiting mid → Meets setup.shown held parts body now rest → next.source ≡ mid.source
-    → Answers parts body now (working setup waiting mid) SinkFailed (outlet_of next.sink later) next.disk → EndsBy setup before next RunSinkFailed
-ends_unsent {setup = setup} {before = before} {held = held} {waiting = waiting} {mid = mid} {next = next} {parts = parts} {body = body} {now = now} later v m same (q, made) = (
+pub ends_unsent : {setup : Setup} {before : Outside} {held : Pending} {waiting : List ℕ} {mid next : Outside} {knows learned : Knowledge} {parts : Parts} {body : List ℕ} {now : Moment} {rest : Pending} (later : List ℕ)
+    → Progress setup before held waiting mid knows → Meets setup.shown held parts body now rest → next.source ≡ mid.source
+    → Answers parts body now (working setup waiting mid knows) SinkFailed (outlet_of next.sink later) next.disk learned → EndsBy setup before next RunSinkFailed
+ends_unsent {setup = setup} {before = before} {held = held} {waiting = waiting} {mid = mid} {next = next} {parts = parts} {body = body} {now = now} later v m same (q, learns, made) = (
   rose_between before.sink.faults mid.sink.faults mid.sink.faults next.sink.faults v.sent.counts (omega arith) made.rose,
   record {
     exchanges = v.exchanges;
@@ -119,9 +121,9 @@ ends_unsent {setup = setup} {before = before} {held = held} {waiting = waiting} 
 )
 
 -- memory was refused in an answer
-pub starves_answering : {setup : Setup} {before : Outside} {held : Pending} {waiting : List ℕ} {mid next : Outside} {parts : Parts} {body : List ℕ} {now : Moment} {rest : Pending} (later : List ℕ)
-    → Progress setup before held waiting mid → Meets setup.shown held parts body now rest → next.source ≡ mid.source
-    → MemoryStopped (IsAnswerTo parts body now) (working setup waiting mid) (outlet_of next.sink later) next.disk → Starved setup before later next
+pub starves_answering : {setup : Setup} {before : Outside} {held : Pending} {waiting : List ℕ} {mid next : Outside} {knows : Knowledge} {parts : Parts} {body : List ℕ} {now : Moment} {rest : Pending} (later : List ℕ)
+    → Progress setup before held waiting mid knows → Meets setup.shown held parts body now rest → next.source ≡ mid.source
+    → MemoryStopped (IsAnswerTo parts body now) (working setup waiting mid knows) (outlet_of next.sink later) next.disk → Starved setup before later next
 starves_answering {setup = setup} {before = before} {held = held} {waiting = waiting} {mid = mid} {next = next} {parts = parts} {body = body} {now = now} later v m same made = record {
   exchanges = v.exchanges;
   bytes = made.bytes;
@@ -130,19 +132,19 @@ starves_answering {setup = setup} {before = before} {held = held} {waiting = wai
 }
 
 -- a body broke in an answer, and then all is given to the sink
-pub ends_broken : {setup : Setup} {before : Outside} {held : Pending} {waiting : List ℕ} {mid next : Outside} {parts : Parts} {body : List ℕ} {now : Moment} {rest : Pending} (between : Stream) (later : List ℕ)
-    (end : Ending) → Progress setup before held waiting mid → Meets setup.shown held parts body now rest → next.source ≡ mid.source
-    → Answers parts body now (working setup waiting mid) BrokeOff (outlet_of between later) next.disk → Finishes DiskFailed (outlet_of between later) next.sink end → EndsBy setup before next end
-ends_broken {setup = setup} {before = before} {held = held} {waiting = waiting} {mid = mid} {next = next} between later end v m same (q, made) (inl (is, given)) =
+pub ends_broken : {setup : Setup} {before : Outside} {held : Pending} {waiting : List ℕ} {mid next : Outside} {knows learned : Knowledge} {parts : Parts} {body : List ℕ} {now : Moment} {rest : Pending} (between : Stream) (later : List ℕ)
+    (end : Ending) → Progress setup before held waiting mid knows → Meets setup.shown held parts body now rest → next.source ≡ mid.source
+    → Answers parts body now (working setup waiting mid knows) BrokeOff (outlet_of between later) next.disk learned → Finishes DiskFailed (outlet_of between later) next.sink end → EndsBy setup before next end
+ends_broken {setup = setup} {before = before} {held = held} {waiting = waiting} {mid = mid} {next = next} {knows = knows} between later end v m same (q, learns, made) (inl (is, given)) =
     let x = made.exchange in
     let sent = sent_then before.sink mid.sink between (wires v.exchanges) waiting (begun_wire_of x) later v.sent made.sent in
     subst (EndsBy setup before next) (sym is) (
-      rose_between before.disk.faults mid.disk.faults mid.disk.faults next.disk.faults (chain_counts setup.rules (ready setup.rules before.disk) _ v.exchanges v.serving.played) (omega arith) made.rose,
+      rose_between before.disk.faults mid.disk.faults mid.disk.faults next.disk.faults (chain_counts setup.rules (ready setup.rules setup.knows before.disk) _ v.exchanges v.serving.played) (omega arith) made.rose,
       record {
         held = held.bytes;
-        place = ready setup.rules mid.disk;
+        place = ready setup.rules knows mid.disk;
         exchanges = v.exchanges;
-        serving = subst (λ z. Serving setup false before z held.bytes v.exchanges (ready setup.rules mid.disk)) (sym same) v.serving;
+        serving = subst (λ z. Serving setup false before z held.bytes v.exchanges (ready setup.rules knows mid.disk)) (sym same) v.serving;
         broken = x;
         faces = faces m x made.is;
         player = q;
@@ -150,7 +152,7 @@ ends_broken {setup = setup} {before = before} {held = held} {waiting = waiting} 
         sent = sent_all_of before.sink next.sink (wires v.exchanges ++ begun_wire_of x) [] refl (sent_on before.sink between next.sink (wires v.exchanges ++ begun_wire_of x) later [] sent given);
       },
     )
-ends_broken {setup = setup} {before = before} {held = held} {waiting = waiting} {mid = mid} {next = next} between later end v m same (q, made) (inr (is, given, rose)) =
+ends_broken {setup = setup} {before = before} {held = held} {waiting = waiting} {mid = mid} {next = next} {knows = knows} between later end v m same (q, learns, made) (inr (is, given, rose)) =
     let x = made.exchange in
     let sent = sent_then before.sink mid.sink between (wires v.exchanges) waiting (begun_wire_of x) later v.sent made.sent in
     subst (EndsBy setup before next) (sym is) (
@@ -181,21 +183,22 @@ stays_refused input next source held messages flaw same told refused = subst (λ
     (both_map input.bytes source.bytes (λ a b. Messages a messages (held ++ b)) (λ a b. MessageRefusal (held ++ b) flaw) (λ a b r. message_refusal_stays held b flaw refused) told)
 
 -- what no request can be was refused, and all is given to the sink
-pub ends_refused : {setup : Setup} {before : Outside} {held : Pending} {waiting : List ℕ} {mid next : Outside} (flaw : Flaw) (end : Ending) → Progress setup before held waiting mid
+pub ends_refused : {setup : Setup} {before : Outside} {held : Pending} {waiting : List ℕ} {mid next : Outside} {knows : Knowledge} (flaw : Flaw) (end : Ending) → Progress setup before held waiting mid knows
     → MessageRefusal held.bytes flaw → next.source ≡ mid.source → next.disk ≡ mid.disk → Finishes Refused (outlet_of mid.sink (waiting ++ refusal_text flaw)) next.sink end
     → EndsBy setup before next end
-ends_refused {setup = setup} {before = before} {held = held} {waiting = waiting} {mid = mid} {next = next} flaw end v refused source disk (inl (is, given)) =
+ends_refused {setup = setup} {before = before} {held = held} {waiting = waiting} {mid = mid} {next = next} {knows = knows} flaw end v refused source disk (inl (is, given)) =
     subst (EndsBy setup before next) (sym is) (record {
       held = held.bytes;
       exchanges = v.exchanges;
       flaw = flaw;
-      serving = subst (λ z. Serving setup false before next.source held.bytes v.exchanges (ready setup.rules z)) (sym disk)
-          (subst (λ z. Serving setup false before z held.bytes v.exchanges (ready setup.rules mid.disk)) (sym source) v.serving);
+      knows = knows;
+      serving = subst (λ z. Serving setup false before next.source held.bytes v.exchanges (ready setup.rules knows z)) (sym disk)
+          (subst (λ z. Serving setup false before z held.bytes v.exchanges (ready setup.rules knows mid.disk)) (sym source) v.serving);
       sent = sent_all_of before.sink next.sink (wires v.exchanges ++ refusal_text flaw) [] refl
           (sent_then before.sink mid.sink next.sink (wires v.exchanges) waiting (refusal_text flaw) [] v.sent given);
       refused = stays_refused before.source next.source mid.source held.bytes v.serving.messages flaw source v.serving.requests refused;
     })
-ends_refused {setup = setup} {before = before} {held = held} {waiting = waiting} {mid = mid} {next = next} flaw end v refused source disk (inr (is, given, rose)) =
+ends_refused {setup = setup} {before = before} {held = held} {waiting = waiting} {mid = mid} {next = next} {knows = knows} flaw end v refused source disk (inr (is, given, rose)) =
     subst (EndsBy setup before next) (sym is) (
       rose_between before.sink.faults mid.sink.faults mid.sink.faults next.sink.faults v.sent.counts (omega arith) rose,
       record {
@@ -208,7 +211,7 @@ ends_refused {setup = setup} {before = before} {held = held} {waiting = waiting}
     )
 
 -- memory was refused between two answers
-pub starves : {setup : Setup} {before : Outside} {held : Pending} {waiting : List ℕ} {now : Outside} → Progress setup before held waiting now → Starved setup before waiting now
+pub starves : {setup : Setup} {before : Outside} {held : Pending} {waiting : List ℕ} {now : Outside} {knows : Knowledge} → Progress setup before held waiting now knows → Starved setup before waiting now
 starves {before = before} {waiting = waiting} {now = now} v = record {
   exchanges = v.exchanges;
   bytes = [];
@@ -219,8 +222,8 @@ starves {before = before} {waiting = waiting} {now = now} v = record {
 -- ---- no more comes
 
 -- the client may be asked, where all that came whole is answered and written
-pub may_ask : {setup : Setup} {before : Outside} {held : Pending} {waiting : List ℕ} {now : Outside} (P : Stream → Stream → Type 0) → HoldsSoFar setup before P
-    → Progress setup before held waiting now → waiting ≡ [] → IsWanting held.bytes → P now.source now.sink
+pub may_ask : {setup : Setup} {before : Outside} {held : Pending} {waiting : List ℕ} {now : Outside} {knows : Knowledge} (P : Stream → Stream → Type 0) → HoldsSoFar setup before P
+    → Progress setup before held waiting now knows → waiting ≡ [] → IsWanting held.bytes → P now.source now.sink
 may_ask {now = now} P holds v none wanting = holds now (so_far v none wanting)
 
 now_emptied : (input mid source : Stream) (n : ℕ) → TookBytes input mid n → IsEmptied mid source → IsEmptied input source
@@ -231,22 +234,24 @@ took_fewer : (input source : Stream) (n : ℕ) → n < 2 ^ 60 → TookBytes inpu
 took_fewer input source n less took = both_map input.bytes source.bytes (λ a b. length a ≡ n + length b) (λ a b. length a < 2 ^ 60 + length b) (λ a b e. omega arith) took
 
 -- the input is over
-pub ends_over : {setup : Setup} {before : Outside} {held : Pending} {waiting : List ℕ} {now : Outside} (n : ℕ) (mid : Stream) → Progress setup before held waiting now → waiting ≡ []
+pub ends_over : {setup : Setup} {before : Outside} {held : Pending} {waiting : List ℕ} {now : Outside} {knows : Knowledge} (n : ℕ) (mid : Stream) → Progress setup before held waiting now knows → waiting ≡ []
     → held.bytes ≡ [] → held.taken < 2 ^ 60 → TookBytes before.source mid n → IsEmptied mid now.source → EndsBy setup before now Over
-ends_over {setup = setup} {before = before} {held = held} {waiting = waiting} {now = now} n mid v none nothing' few took over = record {
+ends_over {setup = setup} {before = before} {held = held} {waiting = waiting} {now = now} {knows = knows} n mid v none nothing' few took over = record {
   exchanges = v.exchanges;
-  serving = subst (λ z. Serving setup false before now.source z v.exchanges (ready setup.rules now.disk)) nothing' v.serving;
+  knows = knows;
+  serving = subst (λ z. Serving setup false before now.source z v.exchanges (ready setup.rules knows now.disk)) nothing' v.serving;
   sent = sent_all_of before.sink now.sink (wires v.exchanges) waiting none v.sent;
   over = now_emptied before.source mid now.source n took over;
   few = took_fewer before.source now.source held.taken few v.taken;
 }
 
 -- the input ends inside a request
-pub ends_unfinished : {setup : Setup} {before : Outside} {held : Pending} {waiting : List ℕ} {now : Outside} (n : ℕ) (mid : Stream) → Progress setup before held waiting now → waiting ≡ []
+pub ends_unfinished : {setup : Setup} {before : Outside} {held : Pending} {waiting : List ℕ} {now : Outside} {knows : Knowledge} (n : ℕ) (mid : Stream) → Progress setup before held waiting now knows → waiting ≡ []
     → IsMessageUnfinished held.bytes → held.taken < 2 ^ 60 → TookBytes before.source mid n → IsEmptied mid now.source → EndsBy setup before now Unfinished
-ends_unfinished {before = before} {held = held} {waiting = waiting} {now = now} n mid v none unfinished few took over = record {
+ends_unfinished {before = before} {held = held} {waiting = waiting} {now = now} {knows = knows} n mid v none unfinished few took over = record {
   held = held.bytes;
   exchanges = v.exchanges;
+  knows = knows;
   serving = v.serving;
   sent = sent_all_of before.sink now.sink (wires v.exchanges) waiting none v.sent;
   over = now_emptied before.source mid now.source n took over;
@@ -255,7 +260,7 @@ ends_unfinished {before = before} {held = held} {waiting = waiting} {now = now} 
 }
 
 -- the source failed
-pub ends_failed : {setup : Setup} {before : Outside} {held : Pending} {waiting : List ℕ} {now : Outside} (counted : ℕ) → Progress setup before held waiting now → waiting ≡ []
+pub ends_failed : {setup : Setup} {before : Outside} {held : Pending} {waiting : List ℕ} {now : Outside} {knows : Knowledge} (counted : ℕ) → Progress setup before held waiting now knows → waiting ≡ []
     → IsWanting held.bytes → held.taken < 2 ^ 60 → before.source.faults ≤ counted → Rose counted now.source.faults → EndsBy setup before now SourceFailed
 ends_failed {before = before} {held = held} {now = now} counted v none wanting few first rose = (
   rose_between before.source.faults counted counted now.source.faults first (omega arith) rose,
@@ -264,12 +269,12 @@ ends_failed {before = before} {held = held} {now = now} counted v none wanting f
 )
 
 -- 2^60 bytes were taken
-pub ends_too_much : {setup : Setup} {before : Outside} {held : Pending} {waiting : List ℕ} {now : Outside} → Progress setup before held waiting now → waiting ≡ []
+pub ends_too_much : {setup : Setup} {before : Outside} {held : Pending} {waiting : List ℕ} {now : Outside} {knows : Knowledge} → Progress setup before held waiting now knows → waiting ≡ []
     → IsWanting held.bytes → held.taken ≡ 2 ^ 60 → EndsBy setup before now TooMuch
 ends_too_much {before = before} {now = now} v none wanting all = (subst (λ z. TookBytes before.source now.source z) all v.taken, so_far v none wanting)
 
 -- the sink failed between two answers
-pub ends_stopped : {setup : Setup} {before : Outside} {held : Pending} {waiting : List ℕ} {mid : Outside} (new : Stream) (later : List ℕ) → Progress setup before held waiting mid
+pub ends_stopped : {setup : Setup} {before : Outside} {held : Pending} {waiting : List ℕ} {mid : Outside} {knows : Knowledge} (new : Stream) (later : List ℕ) → Progress setup before held waiting mid knows
     → Pushes mid.sink waiting [] (Err (record {})) later new → EndsBy setup before (outside_of mid.source new mid.disk) RunSinkFailed
 ends_stopped {before = before} {waiting = waiting} {mid = mid} new later v pushes = (
   rose_between before.sink.faults mid.sink.faults mid.sink.faults new.faults v.sent.counts (omega arith) (pushes.failed refl),

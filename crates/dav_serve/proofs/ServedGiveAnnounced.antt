@@ -5,6 +5,7 @@ use Rattle.std.specs.List.{AllByRecursion}
 use Rattle.dav_wire.specs.Messages.{Message}
 use Rattle.dav_io.specs.Outside.{Stream}
 use Rattle.dav_model.specs.declared.answer.Answer.TheVariants.{End}
+use Rattle.dav_model.specs.Rules.{Knowledge}
 use Rattle.dav_model.specs.Trail.{Point}
 use Rattle.dav_serve.specs.Bodies.{GivesAnnounced}
 use Rattle.dav_serve.specs.Exchange.{Exchange, IsOf, steps_of, answers_of}
@@ -25,13 +26,13 @@ gives_announced shown message a b x is r = record {
   tells = tells_end shown message x is;
 }
 
-all_give : (setup : Setup) (s : Point) (b : Stage) (messages : List Message) (xs : List Exchange) → Chain setup.rules (ready setup.rules s) xs b → Alike setup messages xs
+all_give : (setup : Setup) (knows : Knowledge) (s : Point) (b : Stage) (messages : List Message) (xs : List Exchange) → Chain setup.rules (ready setup.rules knows s) xs b → Alike setup messages xs
     → AllByRecursion (GivesAnnounced setup.rules) xs
-all_give setup s b messages [] chain alike = tt
-all_give setup s b [] (x ∷ xs) chain alike = elim alike [ ]
-all_give setup s b (message ∷ messages) (x ∷ xs) (m, played, chain) (is, alike) =
-    (gives_announced setup.shown message (ready setup.rules s) m x is played, all_give setup m.at b messages xs chain alike)
+all_give setup knows s b messages [] chain alike = tt
+all_give setup knows s b [] (x ∷ xs) chain alike = elim alike [ ]
+all_give setup knows s b (message ∷ messages) (x ∷ xs) (m, played, chain) (is, alike) =
+    (gives_announced setup.shown message (ready setup.rules knows s) m x is played, all_give setup m.playing.knows m.at b messages xs chain alike)
 
 pub served_give : (setup : Setup) (closed : Bool) (before : Outside) (source : Stream) (held : List ℕ) (xs : List Exchange) (last : Stage)
     → Serving setup closed before source held xs last → AllByRecursion (GivesAnnounced setup.rules) xs
-served_give setup closed before source held xs last v = all_give setup before.disk last v.messages xs v.played v.alike
+served_give setup closed before source held xs last v = all_give setup setup.knows before.disk last v.messages xs v.played v.alike

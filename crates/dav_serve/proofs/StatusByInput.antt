@@ -104,7 +104,7 @@ front_of : (setup : Setup) (a b : Stage) (messages more : List Message) (xs : Li
 front_of setup a b [] more xs chain alike o = record { exchanges = []; last = a; played = refl; alike = tt; are_open = tt }
 front_of setup a b (message ∷ messages) more [] chain alike o = absurd alike
 front_of setup a b (message ∷ messages) more (x ∷ xs) (m, played, chain) (is, alike) (first, others) =
-    let f = front_of setup (ready setup.rules m.at) b messages more xs chain alike others in
+    let f = front_of setup (ready setup.rules m.playing.knows m.at) b messages more xs chain alike others in
     record { exchanges = x ∷ f.exchanges; last = f.last; played = (m, played, f.played); alike = (is, f.alike); are_open = (first, f.are_open) }
 
 nothing_more : (rest left : List ℕ) (more : List Message) → rest ≡ [] → Messages rest more left → left ≡ []
@@ -113,14 +113,14 @@ nothing_more rest left (message ∷ more) e (after, is, later) = absurd (end_has
 
 -- a valid input has no place where no request stands
 no_place : (setup : Setup) (s : Point) (last : Stage) (a rest left : List ℕ) (messages others : List Message) (xs : List Exchange) → Messages a messages rest
-    → (rest ≡ []) ⊎ Closes setup s messages → Messages a others left → HasNoMessage left → (left ≡ [] → ⊥) → Chain setup.rules (ready setup.rules s) xs last → Alike setup others xs
+    → (rest ≡ []) ⊎ Closes setup s messages → Messages a others left → HasNoMessage left → (left ≡ [] → ⊥) → Chain setup.rules (ready setup.rules setup.knows s) xs last → Alike setup others xs
     → AllByRecursion IsOpen xs → ⊥
 no_place setup s last a rest left messages others xs first (inl over) second none some chain alike o =
     let c = compare a rest left messages others first second none in
     some (nothing_more rest left c.0 over c.2)
 no_place setup s last a rest left messages others xs first (inr closes) second none some chain alike o =
     let c = compare a rest left messages others first second none in
-    let f = front_of setup (ready setup.rules s) last messages c.0 xs chain (subst (λ z. Alike setup z xs) c.1 alike) o in
+    let f = front_of setup (ready setup.rules setup.knows s) last messages c.0 xs chain (subst (λ z. Alike setup z xs) c.1 alike) o in
     closes f.exchanges f.last f.played f.alike f.are_open
 
 both_and : {A : Type 0} (old new : Option A) (P Q : A → A → Type 0) → Both old new P → Both old new Q → Both old new (λ a b. P a b × Q a b)
@@ -144,10 +144,10 @@ asks_closes : (setup : Setup) (a : Stage) (messages : List Message) (last : Mess
 asks_closes setup a [] last asks [] b chain alike o = absurd alike
 asks_closes setup a [] last asks (x ∷ xs) b chain (is, alike) o = closed_by x.closing (has_close_field x.fields) (is.closing.1 (asks (head_of x.request) is.parts)) o.0
 asks_closes setup a (message ∷ messages) last asks [] b chain alike o = absurd alike
-asks_closes setup a (message ∷ messages) last asks (x ∷ xs) b (m, played, chain) (is, alike) o = asks_closes setup (ready setup.rules m.at) messages last asks xs b chain alike o.1
+asks_closes setup a (message ∷ messages) last asks (x ∷ xs) b (m, played, chain) (is, alike) o = asks_closes setup (ready setup.rules m.playing.knows m.at) messages last asks xs b chain alike o.1
 
 asked_closes : (setup : Setup) (s : Point) (messages : List Message) (last : Message) → LastByHead last.head → Closes setup s (messages ++ last ∷ [])
-asked_closes setup s messages last asks xs b chain alike o = asks_closes setup (ready setup.rules s) messages last asks xs b chain alike o
+asked_closes setup s messages last asks xs b chain alike o = asks_closes setup (ready setup.rules setup.knows s) messages last asks xs b chain alike o
 
 left_valid : (setup : Setup) (s : Point) (a : List ℕ) → IsLeft a → IsValid setup s a
 left_valid setup s a left = record { messages = left.messages ++ left.last ∷ []; rest = left.rest; requests = left.requests; ends = inr (asked_closes setup s left.messages left.last left.asks) }

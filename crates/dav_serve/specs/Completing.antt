@@ -20,12 +20,12 @@ pub record Faultless (before after : Outside) : Type 0 where
 
 -- The last of these requests closes: no exchanges that answer them from here on leave the connection open.
 abbrev pub Closes : Setup → Point → List Message → Type 0
-Closes setup s messages = (xs : List Exchange) (last : Stage) → Chain setup.rules (ready setup.rules s) xs last → Alike setup messages xs → AllByRecursion IsOpen xs → ⊥
+Closes setup s messages = (xs : List Exchange) (last : Stage) → Chain setup.rules (ready setup.rules setup.knows s) xs last → Alike setup messages xs → AllByRecursion IsOpen xs → ⊥
 
 -- None of these requests closes: exchanges that answer the first of them leave the connection open.
 abbrev pub StayOpen : Setup → Point → List Message → Type 0
 StayOpen setup s messages = (front back : List Message) → messages ≡ front ++ back → (xs : List Exchange) (last : Stage)
-    → Chain setup.rules (ready setup.rules s) xs last → Alike setup front xs → AllByRecursion IsOpen xs
+    → Chain setup.rules (ready setup.rules setup.knows s) xs last → Alike setup front xs → AllByRecursion IsOpen xs
 
 -- By its head alone a request is the last.
 abbrev pub LastByHead : RequestHead → Type 0

@@ -15,6 +15,7 @@ use Rattle.dav_model.specs.declared.step.Step.TheVariants.{Poll, Turn}
 use Rattle.dav_model.specs.declared.answer.Answer.{Answer}
 use Rattle.dav_model.specs.declared.answer.Answer.TheVariants.{Broken, Done}
 use Rattle.dav_model.specs.Requests.{Asked}
+use Rattle.dav_model.specs.Rules.{Knowledge}
 use Rattle.dav_model.specs.Trail.{Point}
 use Rattle.dav_serve.specs.declared.exchange.Ended.{Ended}
 use Rattle.dav_serve.specs.declared.exchange.Ended.TheVariants.{Open, Closed, SinkFailed, Broke as BrokeOff}
@@ -122,7 +123,8 @@ Exchanges Is a Closed b = Whole Is true a b
 Exchanges Is a SinkFailed b = SinkStopped Is a b.outlet b.stage.at
 Exchanges Is a BrokeOff b = BrokenOff Is a b
 
--- One request was answered by a player of its own.
-abbrev pub Answers : Parts → List ℕ → Moment → Work → Ended → Outlet → Point → Type 0
-Answers parts body now a ended b t =
-    (q : Playing) × Exchanges (IsAnswerTo parts body now) a ended (record { outlet = b; stage = stage_at t q })
+-- One request was answered by a player of its own, over a memory that knows this afterwards.
+abbrev pub Answers : Parts → List ℕ → Moment → Work → Ended → Outlet → Point → Knowledge → Type 0
+Answers parts body now a ended b t knows =
+    (q : Playing) × (q.knows ≡ knows)
+    × Exchanges (IsAnswerTo parts body now) a ended (record { outlet = b; stage = stage_at t q })

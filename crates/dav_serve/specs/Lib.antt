@@ -7,3 +7,4 @@ pub mod Next
 pub mod Completing
 pub mod Bodies
 pub mod Heads
+pub mod ByTree

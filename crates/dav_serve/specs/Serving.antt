@@ -1,15 +1,16 @@
 -- What a run has served so far, and how it ends.
 use Rattle.dav_model.specs.Play.{Stage, Playing}
-use Rattle.std.specs.Prelude.{◌≡◌, ◌≤◌, ◌<◌, ◌+◌, ◌^◌, ◌⊎◌, ℕ, List, [], ◌∷◌, ◌++◌, length, Bool, true, false, Ok, Option, Some}
+use Rattle.std.specs.Prelude.{◌≡◌, ◌≤◌, ◌<◌, ◌+◌, ◌^◌, ◌⊎◌, ℕ, List, [], ◌∷◌, ◌++◌, length, Bool, true, false, Ok, Option, Some, None}
 use Rattle.std.specs.List.{flat_map, AllByRecursion}
 use Rattle.httparse.specs.Grammar.{RequestHead, HasNoRequest, MayBecomeRequest}
+use Rattle.dav_cache.specs.Memory.{MemoryState}
 use Rattle.dav_io.specs.Counts.{Rose}
 use Rattle.dav_io.specs.Told.{Both}
 use Rattle.dav_io.specs.Outside.{Stream}
 use Rattle.dav_io.specs.declared.clock.Moment.{Moment}
 use Rattle.dav_model.specs.declared.answer.Answer.TheVariants.{Broken, Done}
-use Rattle.dav_model.specs.declared.settings.Settings.{Settings}
-use Rattle.dav_model.specs.Rules.{Rules, nothing_known, plain_rules}
+use Rattle.dav_local.specs.Shown.{knowledge_of}
+use Rattle.dav_model.specs.Rules.{Knowledge, Rules, nothing_known}
 use Rattle.dav_model.specs.Trail.{Point}
 use Rattle.dav_wire.specs.Announced.{announces}
 use Rattle.dav_wire.specs.Answers.{refusal_text}
@@ -24,22 +25,34 @@ use Rattle.dav_serve.specs.Exchange.{Exchange, IsOf, fresh, is_closed, steps_of,
 use Rattle.dav_serve.specs.Ends.{Reached}
 use Rattle.dav_serve.specs.Stages.{PlayedOn, Outlet, Outside, stage_at}
 
--- What is the same for all exchanges of a run: what the clock shows, and what is set.
+-- What is the same for all exchanges of a run: what the clock shows, what is set, and what the memory knows at first.
 pub record Setup : Type 0 where
   pub shown : Option Moment
   pub rules : Rules
+  pub knows : Knowledge
 
-abbrev pub setup_with : Option Moment → Settings → Setup
-setup_with shown settings = record { shown = shown; rules = plain_rules settings }
+abbrev pub setup_over : Option Moment → Rules → Knowledge → Setup
+setup_over shown rules knows = record { shown = shown; rules = rules; knows = knows }
 
--- a new player over the disk
-abbrev pub ready : Rules → Point → Stage
-ready rules s = stage_at s (fresh rules nothing_known)
+-- of a run whose memory knows nothing at first
+abbrev pub setup_with : Option Moment → Rules → Setup
+setup_with shown rules = setup_over shown rules nothing_known
 
--- The exchanges were played one after the other, each by a new player over the disk that the one before it left.
+-- what a memory knows, where there is one
+abbrev pub knows_in : {R : Type 0} → (R → MemoryState) → Option R → Knowledge
+knows_in state None = nothing_known
+knows_in state (Some memory) = knowledge_of (state memory)
+
+-- a new player over the disk and a memory that knows this
+abbrev pub ready : Rules → Knowledge → Point → Stage
+ready rules knows s = stage_at s (fresh rules knows)
+
+-- The exchanges were played one after the other, each by a new player over the disk and the memory that the one before it
+-- left.
 abbrev pub Chain : Rules → Stage → List Exchange → Stage → Type 0
 Chain rules a [] b = b ≡ a
-Chain rules a (x ∷ xs) b = (m : Stage) × PlayedOn a (steps_of x) (answers_of x) (Ok tt) m × Chain rules (ready rules m.at) xs b
+Chain rules a (x ∷ xs) b = (m : Stage) × PlayedOn a (steps_of x) (answers_of x) (Ok tt) m
+    × Chain rules (ready rules m.playing.knows m.at) xs b
 
 -- each exchange is that of its message
 abbrev pub Alike : Setup → List Message → List Exchange → Type 0
@@ -64,7 +77,7 @@ wires xs = flat_map wire_of xs
 -- taken from the source behind them, and `last` is the stage at which the next request would be played.
 pub record Serving (setup : Setup) (closed : Bool) (before : Outside) (source : Stream) (held : List ℕ) (exchanges : List Exchange) (last : Stage) : Type 0 where
   pub messages : List Message
-  pub played : Chain setup.rules (ready setup.rules before.disk) exchanges last
+  pub played : Chain setup.rules (ready setup.rules setup.knows before.disk) exchanges last
   pub alike : Alike setup messages exchanges
   pub follow : Follow closed exchanges
   pub counted : before.source.faults ≤ source.faults
@@ -108,7 +121,8 @@ pub record Faces (setup : Setup) (held : List ℕ) (x : Exchange) : Type 0 where
 -- The input was read to its end, below 2^60 bytes: all requests are answered.
 pub record ServedAll (setup : Setup) (before after : Outside) : Type 0 where
   pub exchanges : List Exchange
-  pub serving : Serving setup false before after.source [] exchanges (ready setup.rules after.disk)
+  pub knows : Knowledge
+  pub serving : Serving setup false before after.source [] exchanges (ready setup.rules knows after.disk)
   pub sent : SentAll before.sink after.sink (wires exchanges)
   pub over : IsEmptied before.source after.source
   pub few : TookFewer before.source after.source (2 ^ 60)
@@ -117,7 +131,8 @@ pub record ServedAll (setup : Setup) (before after : Outside) : Type 0 where
 pub record ServedClosing (setup : Setup) (before after : Outside) : Type 0 where
   pub held : List ℕ
   pub exchanges : List Exchange
-  pub serving : Serving setup true before after.source held exchanges (ready setup.rules after.disk)
+  pub knows : Knowledge
+  pub serving : Serving setup true before after.source held exchanges (ready setup.rules knows after.disk)
   pub sent : SentAll before.sink after.sink (wires exchanges)
 
 -- Behind the requests that were answered stands what no request can be, and 400 was written for it, or 413 where its body
@@ -126,7 +141,8 @@ pub record ServedRefusing (setup : Setup) (before after : Outside) : Type 0 wher
   pub held : List ℕ
   pub exchanges : List Exchange
   pub flaw : Flaw
-  pub serving : Serving setup false before after.source held exchanges (ready setup.rules after.disk)
+  pub knows : Knowledge
+  pub serving : Serving setup false before after.source held exchanges (ready setup.rules knows after.disk)
   pub sent : SentAll before.sink after.sink (wires exchanges ++ refusal_text flaw)
   pub refused : LeftIs (IsRefusedBy flaw) before.source after.source held
 
@@ -135,7 +151,8 @@ pub record ServedRefusing (setup : Setup) (before after : Outside) : Type 0 wher
 pub record ServedUnfinished (setup : Setup) (before after : Outside) : Type 0 where
   pub held : List ℕ
   pub exchanges : List Exchange
-  pub serving : Serving setup false before after.source held exchanges (ready setup.rules after.disk)
+  pub knows : Knowledge
+  pub serving : Serving setup false before after.source held exchanges (ready setup.rules knows after.disk)
   pub sent : SentAll before.sink after.sink (wires exchanges)
   pub over : IsEmptied before.source after.source
   pub few : TookFewer before.source after.source (2 ^ 60)
@@ -145,7 +162,8 @@ pub record ServedUnfinished (setup : Setup) (before after : Outside) : Type 0 wh
 pub record ServedSoFar (setup : Setup) (before after : Outside) : Type 0 where
   pub held : List ℕ
   pub exchanges : List Exchange
-  pub serving : Serving setup false before after.source held exchanges (ready setup.rules after.disk)
+  pub knows : Knowledge
+  pub serving : Serving setup false before after.source held exchanges (ready setup.rules knows after.disk)
   pub sent : SentAll before.sink after.sink (wires exchanges)
   pub wanting : IsWanting held
 

@@ -10,16 +10,18 @@ ghost use Rattle.dav_model.specs.declared.answer.Answer.{Answer};
 ghost use Rattle.dav_model.specs.declared.answer.Answer.TheVariants.{Broken, Done};
 ghost use Rattle.dav_model.specs.declared.step.Step.{Step};
 ghost use Rattle.dav_model.specs.Announced.{bytes_in, length_is_own};
-ghost use Rattle.dav_model.specs.Trail.{target_of};
+ghost use Rattle.dav_model.specs.Trail.{points_of, target_of};
+ghost use Rattle.dav_model.specs.Valid.{Valid};
 ghost use Rattle.dav_wire.specs.AnswerHeads.{ReadsAnswer};
 ghost use Rattle.dav_wire.specs.Answers.{bad_request_text, close_field, head_text, too_large_text};
 ghost use Rattle.dav_wire.specs.Chunks.{written, ending, HasBody};
 ghost use Rattle.dav_wire.specs.Messages.{Message};
 ghost use Rattle.dav_wire.specs.declared.chunks.Framing.TheVariants.{Raw, Chunked};
 ghost use Rattle.dav_serve.specs.Bodies.{Announces, AnnouncesMore, GivesAnnounced, IsBodiless, IsHeadAlone, IsNonempty, IsShort, TellsEnd};
+ghost use Rattle.dav_serve.specs.ByTree.{AllByTree, moves_of};
 ghost use Rattle.dav_serve.specs.Exchange.{Exchange, IsOf, begun_answers, framing_of, steps_of, answers_of, wire_of};
 ghost use Rattle.dav_serve.specs.Heads.{HasHead};
-ghost use Rattle.dav_serve.specs.Serving.{Setup, Serving, ServedSoFar, Owes};
+ghost use Rattle.dav_serve.specs.Serving.{Setup, Serving, ServedSoFar, Owes, ready};
 ghost use Rattle.dav_serve.specs.Stages.{Outside, PlayedOn};
 
 /// Where the field `content-length` of an answer speaks of the body that is sent, its value is the number of the bytes
@@ -73,6 +75,16 @@ pub fn framed_answers_end()
 pub fn served_answers_give_what_they_announce()
     ensures { (setup : Setup) (closed : Bool) (before : Outside) (source : Stream) (held : List ℕ) (xs : List Exchange) (last : Stage)
         → Serving setup closed before source held xs last → AllByRecursion (GivesAnnounced setup.rules) xs }
+{}
+
+/// In a valid run each reply to a GET or HEAD of all its exchanges is that of the tree before its step, as if there were no
+/// memory: what is known at an exchange was known at first, or a world of those before it has it.
+pub fn served_answers_are_those_of_the_tree()
+    ensures { (setup : Setup) (closed : Bool) (before : Outside) (source : Stream) (held : List ℕ) (xs : List Exchange) (last : Stage)
+        (v : Serving setup closed before source held xs last)
+        → Valid setup.rules setup.knows (before.disk
+        ∷ points_of (moves_of setup.rules (ready setup.rules setup.knows before.disk) xs last v.played))
+        → AllByTree setup.rules (ready setup.rules setup.knows before.disk) xs last v.played }
 {}
 
 /// The head of each answer that a run writes is read back as one response head, whatever follows: with exactly its status

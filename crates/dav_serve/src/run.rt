@@ -1,15 +1,70 @@
 // The top call: all that the program does, over what is handed in.
-ghost use Rattle.std.specs.Prelude.{◌≡◌, ◌↔◌, IfOk, IfSome, None, Ok, OnErr};
-ghost use Rattle.dav_serve.specs.Words.{settings_said};
-ghost use Rattle.dav_serve.specs.Serving.{HoldsSoFar, ServeEnds, ServedPartly, setup_with};
+ghost use Rattle.std.specs.Prelude.{◌≡◌, ◌≤◌, ◌+◌, ◌↔◌, IfOk, IfSome, None, Ok, OnErr};
+ghost use Rattle.dav_bench.specs.Report.{Benches};
+ghost use Rattle.dav_cache.specs.Memory.{memory_of};
+ghost use Rattle.dav_local.specs.Shown.{knowledge_of};
+ghost use Rattle.dav_model.specs.Rules.{nothing_known};
+ghost use Rattle.dav_serve.specs.Words.{NothingSaid, rules_said, seed_said as the_seed_said, set_by};
+ghost use Rattle.dav_serve.specs.Serving.{EndsBy, HoldsSoFar, ServeEnds, ServedPartly, setup_with};
 ghost use Rattle.dav_serve.specs.Stages.{outside_of};
 ghost use Rattle.dav_serve.specs.Completing.{StatusIs};
 
+use crate::ending::Ending;
 use crate::serving::serve;
-use crate::words::options_said;
+use crate::words::{Options, options_said, seed_said};
+use dav_bench::bench;
+use dav_cache::Owned;
 use dav_core::Disk;
 use dav_io::{Client, Clock, NoMemory, Sink};
 use std::alloc::Global;
+
+// For how many paths a memory has room, and for how many directories and names together that may be absent.
+const ENTRIES: usize = 4096;
+
+// A memory that knows nothing yet.
+fn empty_memory(alloc: Global) -> Result<Owned, NoMemory>
+    ensures { IfOk result (λ memory. knowledge_of (memory_of memory) ≡ nothing_known) }
+{
+    Owned::new(alloc, ENTRIES, ENTRIES)
+}
+
+// Serves with one memory for the whole run, which knows nothing at first.
+fn serve_remembering<S: Client<K>, K: Sink, D: Disk, C: Clock>(
+    alloc: Global,
+    options: &Options<'_>,
+    source: &mut S,
+    sink: &mut K,
+    disk: &mut D,
+    clock: &mut C,
+) -> Result<Ending, NoMemory>
+    requires waits { HoldsSoFar (setup_with (C.shows clock.old) (set_by options.now))
+        (outside_of (S.stream source.old) (K.stream sink.old) (D.state disk.old))
+        (S.may source.old) }
+    ensures clock { C.shows clock.new ≡ C.shows clock.old }
+    ensures ends { IfOk result (EndsBy (setup_with (C.shows clock.old) (set_by options.now))
+        (outside_of (S.stream source.old) (K.stream sink.old) (D.state disk.old))
+        (outside_of (S.stream source.new) (K.stream sink.new) (D.state disk.new))) }
+    ensures memory { OnErr result (ServedPartly (setup_with (C.shows clock.old) (set_by options.now))
+        (outside_of (S.stream source.old) (K.stream sink.old) (D.state disk.old))
+        (outside_of (S.stream source.new) (K.stream sink.new) (D.state disk.new))) }
+{
+    match empty_memory(alloc) {
+        Ok(memory) => serve(alloc, options, source, sink, disk, memory, clock),
+        Err(refused) => Err(refused),
+    }
+}
+
+// Makes a large input from a number, plays it over a disk of its own with a memory that knows nothing at first, and
+// writes what was counted.
+fn bench_remembering<K: Sink>(alloc: Global, seed: u32, sink: &mut K) -> Result<u8, NoMemory>
+    requires { seed ≤ 399 }
+    ensures { Benches (seed + 1) (K.stream sink.old) result (K.stream sink.new) }
+{
+    match empty_memory(alloc) {
+        Ok(memory) => bench(alloc, seed, memory, sink),
+        Err(refused) => Err(refused),
+    }
+}
 
 /// Runs the program over these words, which stand behind its name, and answers its status: 0 where the input was read to
 /// its end, or to a request whose answer closes; 2 where the words are not understood, and then nothing is read or
@@ -19,6 +74,8 @@ use std::alloc::Global;
 /// For the settings that the words say, what the sink gets is told for each status (`serves`) and for want of memory
 /// (`memory`), and the status by the input where no fault ends the run (`complete`). The client is asked for more only
 /// where all whole requests that came are answered and all answers are written (`waits`); a source may always be asked.
+/// Where the words say a large input, it is played, what was counted over it is written, and the status is 0, or 4 where
+/// the sink failed (`benches`); nothing is read, and the disk isn't asked.
 pub fn run<S: Client<K>, K: Sink, D: Disk, C: Clock>(
     alloc: Global,
     words: &[String],
@@ -27,33 +84,38 @@ pub fn run<S: Client<K>, K: Sink, D: Disk, C: Clock>(
     disk: &mut D,
     clock: &mut C,
 ) -> Result<u8, NoMemory>
-    requires waits { IfSome (settings_said words.now) (λ settings. HoldsSoFar
-        (setup_with (C.shows clock.old) settings)
+    requires waits { IfSome (rules_said words.now) (λ rules. HoldsSoFar
+        (setup_with (C.shows clock.old) rules)
         (outside_of (S.stream source.old) (K.stream sink.old) (D.state disk.old))
         (S.may source.old)) }
-    ensures words { (result ≡ Ok 2) ↔ (settings_said words.now ≡ None) }
-    ensures source { settings_said words.now ≡ None → S.stream source.new ≡ S.stream source.old }
-    ensures sink { settings_said words.now ≡ None → K.stream sink.new ≡ K.stream sink.old }
-    ensures disk { settings_said words.now ≡ None → D.state disk.new ≡ D.state disk.old }
+    ensures words { (result ≡ Ok 2) ↔ NothingSaid words.now }
+    ensures source { rules_said words.now ≡ None → S.stream source.new ≡ S.stream source.old }
+    ensures sink { NothingSaid words.now → K.stream sink.new ≡ K.stream sink.old }
+    ensures disk { rules_said words.now ≡ None → D.state disk.new ≡ D.state disk.old }
     ensures clock { C.shows clock.new ≡ C.shows clock.old }
-    ensures serves { IfSome (settings_said words.now) (λ settings. IfOk result (ServeEnds
-        (setup_with (C.shows clock.old) settings)
+    ensures serves { IfSome (rules_said words.now) (λ rules. IfOk result (ServeEnds
+        (setup_with (C.shows clock.old) rules)
         (outside_of (S.stream source.old) (K.stream sink.old) (D.state disk.old))
         (outside_of (S.stream source.new) (K.stream sink.new) (D.state disk.new)))) }
-    ensures complete { IfSome (settings_said words.now) (λ settings. IfOk result (StatusIs
-        (setup_with (C.shows clock.old) settings)
+    ensures complete { IfSome (rules_said words.now) (λ rules. IfOk result (StatusIs
+        (setup_with (C.shows clock.old) rules)
         (outside_of (S.stream source.old) (K.stream sink.old) (D.state disk.old))
         (outside_of (S.stream source.new) (K.stream sink.new) (D.state disk.new)))) }
-    ensures memory { IfSome (settings_said words.now) (λ settings. OnErr result (ServedPartly
-        (setup_with (C.shows clock.old) settings)
+    ensures memory { IfSome (rules_said words.now) (λ rules. OnErr result (ServedPartly
+        (setup_with (C.shows clock.old) rules)
         (outside_of (S.stream source.old) (K.stream sink.old) (D.state disk.old))
         (outside_of (S.stream source.new) (K.stream sink.new) (D.state disk.new)))) }
+    ensures benches { IfSome (the_seed_said words.now) (λ seed. Benches (seed + 1) (K.stream sink.old) result
+        (K.stream sink.new)) }
 {
     match options_said(words) {
-        Some(options) => match serve(alloc, &options, source, sink, disk, clock) {
+        Some(options) => match serve_remembering(alloc, &options, source, sink, disk, clock) {
             Ok(ending) => Ok(ending.status()),
             Err(error) => Err(error),
         },
-        None => Ok(2),
+        None => match seed_said(words) {
+            Some(seed) => bench_remembering(alloc, seed, sink),
+            None => Ok(2),
+        },
     }
 }

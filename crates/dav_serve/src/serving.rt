@@ -1,20 +1,20 @@
 // Serving the requests of a source, one after the other.
-ghost use Rattle.std.specs.Prelude.{◌≡◌, ◌++◌, IfOk, OnErr, []};
+ghost use Rattle.std.specs.Prelude.{◌≡◌, ◌++◌, IfOk, IsSome, OnErr, []};
 ghost use Rattle.dav_handler.specs.Player.{stage_of};
-ghost use Rattle.dav_model.specs.Rules.{plain_rules};
+ghost use Rattle.dav_local.specs.Shown.{knowledge_of};
 ghost use Rattle.dav_wire.specs.Answers.{refusal_text as the_refusal_text};
 ghost use Rattle.dav_serve.specs.declared.ending.Ending.TheVariants.{Refused};
 ghost use Rattle.dav_serve.specs.Ends.{Answers, IsAnswerTo, MemoryStopped};
-ghost use Rattle.dav_serve.specs.Serving.{HoldsSoFar, EndsBy, ServedPartly, Starved, Finishes, ready, setup_with};
+ghost use Rattle.dav_serve.specs.Serving.{HoldsSoFar, EndsBy, ServedPartly, Starved, Finishes, knows_in, ready, setup_over};
 ghost use Rattle.dav_serve.specs.Stages.{outlet_of, outside_of, work_of};
-ghost use Rattle.dav_serve.specs.Words.{set_by};
+ghost use Rattle.dav_serve.specs.Words.{set_by, settings_by};
 
 use crate::asking::{Message, Next, next_message};
 use crate::ending::Ending;
 use crate::exchange::{Ended, Spare, exchange, manner_of};
 use crate::words::Options;
 use dav_core::Disk;
-use dav_handler::{DavConfig, PlainFs, Player, Settings};
+use dav_handler::{DavConfig, LocalFs, Player, Remember, Settings};
 use dav_io::{Client, Clock, Moment, NoMemory, Sink};
 use dav_wire::{Flaw, Input, Output, ReadError, refusal_text};
 use http::Request;
@@ -28,35 +28,49 @@ struct Held {
     spare: Spare,
 }
 
-// A player over the disk from its root on, by these settings. It gave no reply yet.
-fn player_over<D: Disk + Drop>(alloc: Global, disk: D, settings: Settings) -> Player<D>
+// A player over the disk from its root on and a memory, by these settings, whose store finds names as the options say. It
+// gave no reply yet.
+fn player_over<D: Disk + Drop, R: Remember + Drop>(
+    alloc: Global,
+    disk: D,
+    memory: R,
+    settings: Settings,
+    options: &Options<'_>,
+) -> Player<D, R>
     ensures loan { D.loan result.store.disk ≡ D.loan disk }
-    ensures stage { stage_of result ≡ ready (plain_rules settings) (D.state disk) }
+    ensures stage { settings ≡ settings_by options.now
+        → stage_of result ≡ ready (set_by options.now) (knowledge_of (R.state memory)) (D.state disk) }
 {
+    let store = LocalFs::new(disk, memory, false, options.fold, options.macos);
     let handler = DavConfig::new(alloc)
         .settings(settings)
-        .filesystem(PlainFs::new(disk))
+        .filesystem(store)
         .build_handler();
     Player::new(handler)
 }
 
-// Answers a request by a player of its own, so that no count of replies ever runs out. The memory of its fields goes back
-// to the input.
-fn answer<K: Sink, D: Disk>(
+// Answers a request by a player of its own over the disk and the memory, so that no count of replies ever runs out. What
+// held its fields goes back to the input.
+fn answer<K: Sink, D: Disk, R: Remember + Drop>(
     alloc: Global,
     options: &Options<'_>,
     disk: &mut D,
+    memory: &mut Option<R>,
     held: &mut Held,
     sink: &mut K,
     now: Moment,
     message: Message,
 ) -> Result<Ended, NoMemory>
+    requires { IsSome memory.old }
     ensures input { held.new.input ≡ held.old.input }
+    ensures some { IsSome memory.new }
     ensures ends { IfOk result (λ ended. Answers message.parts message.body now
-        (work_of (K.stream sink.old) held.old.output (ready (plain_rules (set_by options.now)) (D.state disk.old)))
-        ended (outlet_of (K.stream sink.new) held.new.output) (D.state disk.new)) }
+        (work_of (K.stream sink.old) held.old.output
+        (ready (set_by options.now) (knows_in R.state memory.old) (D.state disk.old)))
+        ended (outlet_of (K.stream sink.new) held.new.output) (D.state disk.new) (knows_in R.state memory.new)) }
     ensures memory { OnErr result (MemoryStopped (IsAnswerTo message.parts message.body now)
-        (work_of (K.stream sink.old) held.old.output (ready (plain_rules (set_by options.now)) (D.state disk.old)))
+        (work_of (K.stream sink.old) held.old.output
+        (ready (set_by options.now) (knows_in R.state memory.old) (D.state disk.old)))
         (outlet_of (K.stream sink.new) held.new.output) (D.state disk.new)) }
 {
     let manner = manner_of(&message.parts);
@@ -66,7 +80,10 @@ fn answer<K: Sink, D: Disk>(
         Ok(settings) => settings,
         Err(error) => return Err(error),
     };
-    let mut player = player_over(alloc, &mut *disk, settings);
+    let Some(known) = memory.take() else {
+        unreachable!("there is a memory");
+    };
+    let mut player = player_over(alloc, &mut *disk, known, settings, options);
     let ended = exchange(
         &mut held.spare,
         &mut player,
@@ -76,7 +93,7 @@ fn answer<K: Sink, D: Disk>(
         manner,
         &request,
     );
-    let _ = player.into_disk();
+    let _ = player.into_disk(memory);
     let (parts, _) = request.into_parts();
     held.input.take_back(parts.headers);
     ended
@@ -106,37 +123,39 @@ fn refuse<K: Sink>(output: &mut Output, sink: &mut K, flaw: Flaw) -> Ending
 // Answers requests until the input ends, an answer closes, or something fails. Answers to requests that came together
 // leave together: what waits for the sink is given to it before the client is asked again, and at the end. Where memory
 // is refused, it waits still.
-fn answer_all<S: Client<K>, K: Sink, D: Disk, C: Clock>(
+fn answer_all<S: Client<K>, K: Sink, D: Disk, R: Remember + Drop, C: Clock>(
     alloc: Global,
     options: &Options<'_>,
     held: &mut Held,
     source: &mut S,
     sink: &mut K,
     disk: &mut D,
+    first: R,
     clock: &mut C,
 ) -> Result<Ending, NoMemory>
     requires unread { held.old.input ≡ record { bytes = []; taken = 0 } }
     requires empty { held.old.output ≡ [] }
     requires waits { HoldsSoFar
-        (setup_with (C.shows clock.old) (set_by options.now))
+        (setup_over (C.shows clock.old) (set_by options.now) (knowledge_of (R.state first)))
         (outside_of (S.stream source.old) (K.stream sink.old) (D.state disk.old))
         (S.may source.old) }
     ensures clock { C.shows clock.new ≡ C.shows clock.old }
     ensures ends { IfOk result (EndsBy
-        (setup_with (C.shows clock.old) (set_by options.now))
+        (setup_over (C.shows clock.old) (set_by options.now) (knowledge_of (R.state first)))
         (outside_of (S.stream source.old) (K.stream sink.old) (D.state disk.old))
         (outside_of (S.stream source.new) (K.stream sink.new) (D.state disk.new))) }
     ensures memory { OnErr result (Starved
-        (setup_with (C.shows clock.old) (set_by options.now))
+        (setup_over (C.shows clock.old) (set_by options.now) (knowledge_of (R.state first)))
         (outside_of (S.stream source.old) (K.stream sink.old) (D.state disk.old))
         held.new.output
         (outside_of (S.stream source.new) (K.stream sink.new) (D.state disk.new))) }
 {
+    let mut memory = Some(first);
     'requests: loop {
         match next_message(alloc, &mut held.input, source, &mut held.output, sink) {
             Ok(Next::Whole(message)) => {
                 let now = clock.now();
-                match answer(alloc, options, disk, held, sink, now, message) {
+                match answer(alloc, options, disk, &mut memory, held, sink, now, message) {
                     Ok(Ended::Open) => {}
                     Ok(Ended::Closed) => return Ok(finish(&mut held.output, sink, Ending::Closed)),
                     Ok(Ended::SinkFailed) => return Ok(Ending::SinkFailed),
@@ -161,25 +180,27 @@ fn answer_all<S: Client<K>, K: Sink, D: Disk, C: Clock>(
 
 /// Reads requests from a client and writes their answers to a sink, until the input ends, an answer closes, or something
 /// fails. It answers how it ended. The client is asked only where all requests that came whole are answered and written.
-pub fn serve<S: Client<K>, K: Sink, D: Disk, C: Clock>(
+/// What was remembered at one request is known at the next.
+pub fn serve<S: Client<K>, K: Sink, D: Disk, R: Remember + Drop, C: Clock>(
     alloc: Global,
     options: &Options<'_>,
     source: &mut S,
     sink: &mut K,
     disk: &mut D,
+    memory: R,
     clock: &mut C,
 ) -> Result<Ending, NoMemory>
     requires waits { HoldsSoFar
-        (setup_with (C.shows clock.old) (set_by options.now))
+        (setup_over (C.shows clock.old) (set_by options.now) (knowledge_of (R.state memory)))
         (outside_of (S.stream source.old) (K.stream sink.old) (D.state disk.old))
         (S.may source.old) }
     ensures clock { C.shows clock.new ≡ C.shows clock.old }
     ensures ends { IfOk result (EndsBy
-        (setup_with (C.shows clock.old) (set_by options.now))
+        (setup_over (C.shows clock.old) (set_by options.now) (knowledge_of (R.state memory)))
         (outside_of (S.stream source.old) (K.stream sink.old) (D.state disk.old))
         (outside_of (S.stream source.new) (K.stream sink.new) (D.state disk.new))) }
     ensures memory { OnErr result (ServedPartly
-        (setup_with (C.shows clock.old) (set_by options.now))
+        (setup_over (C.shows clock.old) (set_by options.now) (knowledge_of (R.state memory)))
         (outside_of (S.stream source.old) (K.stream sink.old) (D.state disk.old))
         (outside_of (S.stream source.new) (K.stream sink.new) (D.state disk.new))) }
 {
@@ -196,7 +217,7 @@ pub fn serve<S: Client<K>, K: Sink, D: Disk, C: Clock>(
         output,
         spare: Spare::new(alloc),
     };
-    match answer_all(alloc, options, &mut held, source, sink, disk, clock) {
+    match answer_all(alloc, options, &mut held, source, sink, disk, memory, clock) {
         Ok(ending) => Ok(ending),
         Err(error) => {
             // What was answered before is written also where memory is refused.

@@ -7,7 +7,7 @@ ghost use Rattle.dav_model.specs.declared.step.Step.TheVariants.{Poll, Purge, Re
 ghost use Rattle.dav_model.specs.declared.answer.Answer.TheVariants.{Done, Reply as Replied};
 
 use dav_core::Disk;
-use dav_handler::{Answer, Player};
+use dav_handler::{Answer, Player, Remember};
 use dav_io::{Fields, Moment, NoMemory, Octets};
 use http::Request;
 
@@ -20,8 +20,8 @@ pub struct Reply {
 }
 
 /// A turn of the outside and a poll. The piece takes the memory of `spare`.
-pub fn poll_turn<D: Disk>(
-    player: &mut Player<D>,
+pub fn poll_turn<D: Disk, R: Remember>(
+    player: &mut Player<D, R>,
     body: u32,
     spare: &mut Vec<u8>,
 ) -> Result<Answer, NoMemory>
@@ -44,8 +44,8 @@ pub fn poll_turn<D: Disk>(
 }
 
 /// A turn of the outside, a purge and a request.
-pub fn request_turn<D: Disk>(
-    player: &mut Player<D>,
+pub fn request_turn<D: Disk, R: Remember>(
+    player: &mut Player<D, R>,
     now: Moment,
     request: &Request<Octets>,
 ) -> Result<Reply, NoMemory>

@@ -1,8 +1,8 @@
 // The words of the command line.
-ghost use Rattle.std.specs.Prelude.{◌≡◌, IfOk, None, map, option_map, string_bytes};
+ghost use Rattle.std.specs.Prelude.{◌≡◌, ◌≤◌, IfOk, IfSome, None, map, option_map, string_bytes};
 ghost use Rattle.dav_model.specs.Unset.{nothing_set};
 ghost use Rattle.std.specs.List.{list_all};
-ghost use Rattle.dav_serve.specs.Words.{has_names as the_has_names, is_name as the_is_name, is_pages as the_is_pages, is_prefix as the_is_prefix, is_prefix_byte as the_is_prefix_byte, options_set, prefix_said, set_by, settings_said as the_settings_said, size_said as the_size_said, with_buffer as the_with_buffer, with_index as the_with_index, with_pages as the_with_pages, with_prefix as the_with_prefix, with_value as the_with_value};
+ghost use Rattle.dav_serve.specs.Words.{has_names as the_has_names, is_name as the_is_name, is_prefix as the_is_prefix, is_prefix_byte as the_is_prefix_byte, is_switch as the_is_switch, number_said as the_number_said, options_set, prefix_said, rules_said, seed_said as the_seed_said, set_by, settings_by, size_said as the_size_said, with_buffer as the_with_buffer, with_fold as the_with_fold, with_index as the_with_index, with_macos as the_with_macos, with_pages as the_with_pages, with_prefix as the_with_prefix, with_switch as the_with_switch, with_value as the_with_value};
 ghost use Rattle.std.specs.Option.{option_and_then};
 ghost use Rattle.dav_serve.specs.Words.{name_said};
 
@@ -13,6 +13,9 @@ use std::alloc::Global;
 
 // The most bytes that a read buffer may have.
 const MOST_BUFFER: usize = 1_048_576;
+
+// The greatest number of a large input.
+const MOST_SEED: usize = 399;
 
 /// What the options of the command line set.
 #[derive(Clone, Copy)]
@@ -25,12 +28,16 @@ pub struct Options<'a> {
     pub indexfile: Option<&'a str>,
     /// The most bytes of a file in one piece of a body; 0 is the default, as is none.
     pub bufsize: Option<usize>,
+    /// A name may be found that folds like the one asked.
+    pub fold: bool,
+    /// The rules for clients of macOS hold.
+    pub macos: bool,
 }
 
 impl Options<'_> {
     /// The settings that they make.
     pub fn settings(&self, alloc: Global) -> Result<Settings, NoMemory>
-        ensures { IfOk result (λ settings. settings ≡ set_by self.now) }
+        ensures { IfOk result (λ settings. settings ≡ settings_by self.now) }
     {
         let mut settings = Settings::defaults(alloc);
         if self.autoindex {
@@ -48,7 +55,7 @@ impl Options<'_> {
 /// What the words behind the program's name set, which are `ROOT serve` with a root that isn't empty, and options. None
 /// where they aren't understood.
 pub fn options_said(words: &[String]) -> Option<Options<'_>>
-    ensures { option_map set_by result ≡ the_settings_said words.now }
+    ensures { option_map set_by result ≡ rules_said words.now }
 {
     match words {
         [root, verb, options @ ..] => {
@@ -63,8 +70,33 @@ pub fn options_said(words: &[String]) -> Option<Options<'_>>
                 autoindex: false,
                 indexfile: None,
                 bufsize: None,
+                fold: false,
+                macos: false,
             };
             options_behind(&none, options)
+        }
+        _ => None,
+    }
+}
+
+/// The number that the words behind the program's name say of a large input, which are `ROOT bench SEED` with a root that
+/// isn't empty. None where they say something else.
+pub fn seed_said(words: &[String]) -> Option<u32>
+    ensures said { result ≡ the_seed_said words.now }
+    ensures few { IfSome result (λ seed. seed ≤ 399) }
+{
+    match words {
+        [root, verb, seed] => {
+            if root.as_str().is_empty() {
+                return None;
+            }
+            if verb.as_str() != "bench" {
+                return None;
+            }
+            match number_said(seed.as_str(), MOST_SEED) {
+                Some(seed) => Some(seed as u32),
+                None => None,
+            }
         }
         _ => None,
     }
@@ -77,8 +109,8 @@ fn options_behind<'a>(options: &Options<'a>, words: &'a [String]) -> Option<Opti
     let Some((word, behind)) = words.split_first() else {
         return Some(*options);
     };
-    if word.as_str() == "--autoindex" {
-        let options = with_pages(options)?;
+    if is_switch(word.as_str()) {
+        let options = with_switch(options, word.as_str())?;
         return options_behind(&options, behind);
     }
     let Some((value, rest)) = behind.split_first() else {
@@ -86,6 +118,52 @@ fn options_behind<'a>(options: &Options<'a>, words: &'a [String]) -> Option<Opti
     };
     let options = with_value(options, word.as_str(), value.as_str())?;
     options_behind(&options, rest)
+}
+
+// Whether a word is an option by itself.
+fn is_switch(word: &str) -> bool
+    ensures { result ≡ the_is_switch word.now }
+{
+    word == "--autoindex" || word == "--fold" || word == "--macos"
+}
+
+// What an option by itself sets besides.
+fn with_switch<'a>(options: &Options<'a>, word: &str) -> Option<Options<'a>>
+    ensures { option_map set_by result ≡ the_with_switch (set_by options.now) word.now }
+{
+    if word == "--autoindex" {
+        return with_pages(options);
+    }
+    if word == "--fold" {
+        return with_fold(options);
+    }
+    with_macos(options)
+}
+
+// Names that fold besides, where they weren't asked for before.
+fn with_fold<'a>(options: &Options<'a>) -> Option<Options<'a>>
+    ensures { option_map set_by result ≡ the_with_fold (set_by options.now) }
+{
+    if options.fold {
+        return None;
+    }
+    Some(Options {
+        fold: true,
+        ..*options
+    })
+}
+
+// The rules for clients of macOS besides, where they weren't asked for before.
+fn with_macos<'a>(options: &Options<'a>) -> Option<Options<'a>>
+    ensures { option_map set_by result ≡ the_with_macos (set_by options.now) }
+{
+    if options.macos {
+        return None;
+    }
+    Some(Options {
+        macos: true,
+        ..*options
+    })
 }
 
 // Index pages besides, where they weren't asked for before.
@@ -96,10 +174,8 @@ fn with_pages<'a>(options: &Options<'a>) -> Option<Options<'a>>
         return None;
     }
     Some(Options {
-        prefix: options.prefix,
         autoindex: true,
-        indexfile: options.indexfile,
-        bufsize: options.bufsize,
+        ..*options
     })
 }
 
@@ -130,10 +206,8 @@ fn with_index<'a>(options: &Options<'a>, name: &'a str) -> Option<Options<'a>>
         return None;
     }
     Some(Options {
-        prefix: options.prefix,
-        autoindex: options.autoindex,
         indexfile: Some(name),
-        bufsize: options.bufsize,
+        ..*options
     })
 }
 
@@ -146,10 +220,8 @@ fn with_buffer<'a>(options: &Options<'a>, word: &str) -> Option<Options<'a>>
         return None;
     }
     Some(Options {
-        prefix: options.prefix,
-        autoindex: options.autoindex,
-        indexfile: options.indexfile,
         bufsize: Some(size),
+        ..*options
     })
 }
 
@@ -163,12 +235,7 @@ fn with_prefix<'a>(options: &Options<'a>, prefix: &'a str) -> Option<Options<'a>
     if !options.prefix.is_empty() {
         return None;
     }
-    Some(Options {
-        prefix,
-        autoindex: options.autoindex,
-        indexfile: options.indexfile,
-        bufsize: options.bufsize,
-    })
+    Some(Options { prefix, ..*options })
 }
 
 // A byte that may stand in a prefix.
@@ -211,9 +278,17 @@ fn is_prefix(word: &str) -> bool
     has_names(word.as_bytes())
 }
 
-// The size that a word says, in decimal digits without sign and leading zeros.
+// The size of the read buffer that a word says.
 fn size_said(word: &str) -> Option<usize>
     ensures { result ≡ the_size_said word.now }
+{
+    number_said(word, MOST_BUFFER)
+}
+
+// The number up to the most that a word says, in decimal digits without sign and leading zeros.
+fn number_said(word: &str, most: usize) -> Option<usize>
+    ensures said { result ≡ the_number_said most word.now }
+    ensures few { IfSome result (λ number. number ≤ most) }
 {
     let bytes = word.as_bytes();
     if bytes.is_empty() {
@@ -227,7 +302,7 @@ fn size_said(word: &str) -> Option<usize>
         return None;
     }
     match word.parse::<usize>() {
-        Ok(size) if size <= MOST_BUFFER => Some(size),
+        Ok(number) if number <= most => Some(number),
         _ => None,
     }
 }

@@ -1,4 +1,5 @@
-//! The program: it serves a folder to the requests on standard input, and writes the answers to standard output.
+//! The program: it serves a folder to the requests on standard input, and writes the answers to standard output, or plays
+//! a large input of its own, and writes what was counted.
 #![tactic(auto)]
 
 use dav_host::{HostDisk, StdSink, StdSource, SystemClock};
@@ -9,7 +10,7 @@ use std::process::ExitCode;
 use std::{env, io};
 
 const USAGE: &str =
-    "usage: davserve ROOT serve [--prefix P] [--autoindex] [--indexfile NAME] [--bufsize N]";
+    "usage: davserve ROOT serve [--prefix P] [--autoindex] [--indexfile NAME] [--bufsize N] [--fold] [--macos], or davserve ROOT bench SEED";
 
 // What stands in the words behind the program's name.
 enum Arguments {
@@ -68,7 +69,7 @@ fn serve(rt: &HostRuntime, words: &[String]) -> Result<u8, NoMemory> {
 fn line_of(status: u8) -> &'static str {
     match status {
         2 =>
-            "davserve: the words are not understood; usage: davserve ROOT serve [--prefix P] [--autoindex] [--indexfile NAME] [--bufsize N]",
+            "davserve: the words are not understood; usage: davserve ROOT serve [--prefix P] [--autoindex] [--indexfile NAME] [--bufsize N] [--fold] [--macos], or davserve ROOT bench SEED",
         3 => "davserve: reading the requests failed",
         4 => "davserve: writing the answers failed",
         5 => "davserve: the disk failed in the middle of a body",

@@ -11,6 +11,9 @@
 //!     source-fails CALL    the call of the source of this number fails; likewise `sink-fails` and `disk-fails`
 //!     cut COUNT            after the first piece of a body, `f.txt` is cut to so many bytes
 //!     long COUNT           the file `long.bin` has so many bytes
+//!     docs                 there is a directory `Docs` with the file `A.txt` of ten digits
+//!     gains SECONDS        the clock gains so many seconds each time that it is asked
+//!     listings             behind the rest stands how many listings the disk was asked for
 //!     rooms                the run is made with each smaller room as well
 //!
 //! In a text each `%XX` is a byte, `N*TEXT` is so many copies of a text, and `^` stands between texts that are joined. The
@@ -19,22 +22,25 @@
 #![tactic(auto)]
 
 mod cells;
+mod clock;
 mod rooms;
 mod scene;
 
 use anyhow::Result;
 use cells::show;
+use clock::GainingClock;
 use dav_core::Disk;
-use dav_io::{MemSink, MemSource, Moment, NoMemory, SetClock};
+use dav_io::{MemSink, MemSource, NoMemory};
 use dav_serve::run::run;
 use scene::{Scene, scene_of};
 use std::alloc::Global;
 
-/// What came of a run: its status, whether the disk was asked, and what was written.
+/// What came of a run: its status, whether the disk was asked, and for how many listings, and what was written.
 #[derive(Drop)]
 pub struct Came {
     pub status: u8,
     pub asked: bool,
+    pub listings: u64,
     pub sink: MemSink,
 }
 
@@ -48,20 +54,27 @@ pub fn came_of(alloc: Global, scene: Scene, room: usize) -> Result<Came, NoMemor
         put,
         source_fails,
         sink_fails,
+        gain,
         ..
     } = scene;
     let mut source = MemSource::new(input, take.max(1), source_fails);
     let mut sink = MemSink::new(alloc, room, put.max(1), sink_fails)?;
-    let mut clock = SetClock::new(Moment(0));
+    let mut clock = GainingClock::new(gain);
     let status = run(alloc, &words, &mut source, &mut sink, &mut disk, &mut clock);
-    ended_with(status, disk.asked() > 0, sink)
+    ended_with(status, disk.asked() > 0, disk.listings(), sink)
 }
 
 // What came of a run that wasn't refused memory. It stands apart from what the run owns.
-fn ended_with(status: Result<u8, NoMemory>, asked: bool, sink: MemSink) -> Result<Came, NoMemory> {
+fn ended_with(
+    status: Result<u8, NoMemory>,
+    asked: bool,
+    listings: u64,
+    sink: MemSink,
+) -> Result<Came, NoMemory> {
     Ok(Came {
         status: status?,
         asked,
+        listings,
         sink,
     })
 }
@@ -80,7 +93,11 @@ fn answer(alloc: Global, row: &str) -> Result<String> {
     }
     let scene = scene_of(alloc, row)?;
     let room = scene.room;
-    let mut line = told(alloc, &came_of(alloc, scene, room)?)?;
+    let came = came_of(alloc, scene, room)?;
+    let mut line = told(alloc, &came)?;
+    if row.ends_with("| listings") {
+        write!(line, " | {} listings", came.listings)?;
+    }
     if row.ends_with("| rooms") {
         rooms::tell(alloc, &mut line, row)?;
     }

@@ -22,12 +22,16 @@ pub struct Scene {
     pub room: usize,
     pub source_fails: Vec<u64>,
     pub sink_fails: Vec<u64>,
+    // How many seconds the clock gains at each call.
+    pub gain: u64,
 }
 
-// The path of a name.
-fn path_of(alloc: Global, name: &str) -> Result<FsPath> {
+// The path of these names, with slashes between them.
+fn path_of(alloc: Global, text: &str) -> Result<FsPath> {
     let mut names = Vec::new(alloc);
-    names.push(Text::copy(alloc, name)?)?;
+    for name in text.split('/') {
+        names.push(Text::copy(alloc, name)?)?;
+    }
     if !FsPath::fits(&names) {
         bail!("no path");
     }
@@ -38,11 +42,11 @@ fn path_of(alloc: Global, name: &str) -> Result<FsPath> {
 fn set_file(
     alloc: Global,
     disk: &mut MemDisk,
-    name: &str,
+    text: &str,
     number: u64,
     bytes: &[u8],
 ) -> Result<()> {
-    let path = path_of(alloc, name)?;
+    let path = path_of(alloc, text)?;
     if disk.can_add(&path, number, SECOND) {
         disk.add_file(&path, number, SECOND, bytes)?;
     }
@@ -55,6 +59,15 @@ fn folder(alloc: Global) -> Result<MemDisk> {
     set_file(alloc, &mut disk, "f.txt", 0x1a, b"0123456789")?;
     set_file(alloc, &mut disk, "e.txt", 0x1b, b"")?;
     Ok(disk)
+}
+
+// A directory with a file of ten bytes.
+fn add_docs(alloc: Global, disk: &mut MemDisk) -> Result<()> {
+    let path = path_of(alloc, "Docs")?;
+    if disk.can_add(&path, 0x1d, SECOND) {
+        disk.add_dir(&path, 0x1d, SECOND)?;
+    }
+    set_file(alloc, disk, "Docs/A.txt", 0x1e, b"0123456789")
 }
 
 // The third turn of a run is the one behind the first piece of a body.
@@ -116,7 +129,9 @@ fn set(alloc: Global, scene: &mut Scene, part: &str) -> Result<()> {
             let bytes = Vec::from_elem(alloc, 7u8, count_of(text)?)?;
             set_file(alloc, &mut scene.disk, "long.bin", 0x1c, bytes.as_slice())?;
         }
-        "rooms" => {}
+        "docs" => add_docs(alloc, &mut scene.disk)?,
+        "gains" => scene.gain = number(text)?,
+        "listings" | "rooms" => {}
         _ => bail!("no part of a row: {word}"),
     }
     Ok(())
@@ -140,6 +155,7 @@ pub fn scene_of(alloc: Global, row: &str) -> Result<Scene> {
         room: ROOM,
         source_fails: Vec::new(alloc),
         sink_fails: Vec::new(alloc),
+        gain: 0,
     };
     set_all(alloc, &mut scene, row)?;
     Ok(scene)

@@ -4,12 +4,12 @@
 //! on the disk and how it behaves, and the parts behind them are steps, as `scene.rt` and `steps.rt` read them.
 //!
 //! Some rows have a first part of one word. At `collect` the body of one request is collected as a stream (`streams.rt`).
-//! At `disk` and `sure` the parts are calls of a disk (`calls.rt`), and at `store` they are calls of the plain store
+//! At `disk` and `sure` the parts are calls of a disk (`calls.rt`), and at `store` they are calls of a local store
 //! (`stores.rt`). A row that begins with `#` is written as it stands.
 //!
 //! Answers have `|` between them: a reply with its status, the number of its body and its fields; a piece with its bytes;
-//! `end`, `broken` or `done`. The last words say how many calls the disk was asked, and how many of them failed. A row
-//! that isn't understood has no answer.
+//! `end`, `broken` or `done`. The last words say how many calls the disk was asked, unless names fold, and how many of them
+//! failed. A row that isn't understood has no answer.
 #![tactic(auto)]
 
 mod answers;
@@ -21,7 +21,7 @@ mod stores;
 mod streams;
 
 use dav_disk::MemDisk;
-use dav_handler::{Answer, DavConfig, PlainFs, Player, Settings, Step, play};
+use dav_handler::{Answer, DavConfig, Forget, LocalFs, Player, Settings, Step, play};
 use dav_io::NoMemory;
 use dav_rows::Line;
 use scene::{Scene, scene_of};
@@ -31,18 +31,22 @@ use std::io;
 // More steps than any row has.
 const STEPS: usize = 100_000;
 
-// A player over a disk, with no reply yet.
-fn player_over(alloc: Global, disk: MemDisk, settings: Settings) -> Player<MemDisk> {
+// A player over a store that remembers nothing, with no reply yet.
+fn player_over(
+    alloc: Global,
+    store: LocalFs<MemDisk, Forget>,
+    settings: Settings,
+) -> Player<MemDisk, Forget> {
     let handler = DavConfig::new(alloc)
         .settings(settings)
-        .filesystem(PlainFs::new(disk))
+        .filesystem(store)
         .build_handler();
     Player::new(handler)
 }
 
 // Adds the answers to these steps to those that were given, by a player that gave none yet.
 fn play_all(
-    player: &mut Player<MemDisk>,
+    player: &mut Player<MemDisk, Forget>,
     steps: &[Step],
     answers: &mut Vec<Answer>,
 ) -> Result<(), NoMemory> {
@@ -57,17 +61,24 @@ fn played(alloc: Global, line: &mut Line, scene: Scene) {
     let Scene {
         disk,
         settings,
+        folds,
+        macos,
         steps,
     } = scene;
     let mut answers = Vec::new(alloc);
-    let mut player = player_over(alloc, disk, settings);
+    let store = LocalFs::new(disk, Forget, false, folds, macos);
+    let mut player = player_over(alloc, store, settings);
     if play_all(&mut player, &steps, &mut answers).is_err() {
         line.refuse();
     }
     answers::tell(line, &answers);
-    let disk = player.into_disk();
-    line.add_number("asked ", disk.asked());
-    line.add_number(", failed ", disk.faults());
+    let (disk, _) = player.into_parts();
+    // A store whose names fold may find a path in several ways.
+    if !folds {
+        line.add_number("asked ", disk.asked());
+        line.add(", ");
+    }
+    line.add_number("failed ", disk.faults());
 }
 
 fn answer(alloc: Global, line: &mut Line, row: &str) {

@@ -6,6 +6,8 @@
 //!     short LENGTH..                the next reads give no more bytes than these
 //!     batch CHANGE..                changes that are made in one turn, as `steps.rt` reads them
 //!     set NAME VALUE..              a setting
+//!     folds                         the store may find names that fold like those asked
+//!     macos                         the rules for clients of macOS hold
 //!
 //! Each other part is a step, as `steps.rt` reads it.
 use crate::cells::{bytes_of, number, path_of};
@@ -23,6 +25,8 @@ use std::alloc::Global;
 pub struct Scene {
     pub disk: MemDisk,
     pub settings: Settings,
+    pub folds: bool,
+    pub macos: bool,
     pub steps: Vec<Step>,
 }
 
@@ -151,6 +155,17 @@ fn add(alloc: Global, scene: &mut Scene, line: &mut Line, part: &str) {
     if set_disk(alloc, &mut scene.disk, line, part) {
         return;
     }
+    match part {
+        "folds" => {
+            scene.folds = true;
+            return;
+        }
+        "macos" => {
+            scene.macos = true;
+            return;
+        }
+        _ => {}
+    }
     line.need(if part.starts_with("set ") {
         set(alloc, &mut scene.settings, part)
     } else {
@@ -163,6 +178,8 @@ pub fn scene_of(alloc: Global, line: &mut Line, parts: &str) -> Option<Scene> {
     let mut scene = Scene {
         disk: MemDisk::new(alloc).ok()?,
         settings: Settings::defaults(alloc),
+        folds: false,
+        macos: false,
         steps: Vec::new(alloc),
     };
     for part in parts.split('|') {

@@ -1,4 +1,4 @@
-//! Calls of the plain store, one after the other.
+//! Calls of a local store whose names don't fold, one after the other.
 //!
 //!     look PATH               what stands at a path: its kind and length
 //!     link PATH               the same, a link at its end not followed
@@ -21,10 +21,11 @@ ghost use Rattle.dav_store.specs.Listings.{HasLister};
 use crate::cells::{bytes_of, number, tell_bytes, tell_time};
 use crate::scene::set_disk;
 use bytes::Bytes;
+use dav_cache::Forget;
 use dav_core::{DavMetaData, DavPath, FileTime, FsError, Kind, Member, OpenOptions};
 use dav_disk::MemDisk;
 use dav_io::{Moment, Text};
-use dav_plain::{EntryMeta, PlainEntry, PlainFs, PlainMeta};
+use dav_local::{EntryMeta, LocalFs, LocalFsDirEntry, LocalFsMetaData};
 use dav_rows::Line;
 use dav_store::{
     DavDirEntry, DavFile, DavFileSystem, GuardedFileSystem, ReadDirMeta, file_close, file_metadata,
@@ -32,7 +33,7 @@ use dav_store::{
 };
 use std::alloc::Global;
 
-type Store = PlainFs<MemDisk>;
+type Store = LocalFs<MemDisk, Forget>;
 
 // The most calls of a listing.
 const MOST_ENTRIES: u32 = 100;
@@ -54,14 +55,14 @@ fn tell_length<M: DavMetaData>(line: &mut Line, meta: &M) {
     line.add_number(" ", meta.len());
 }
 
-fn tell_looked(line: &mut Line, answer: Result<PlainMeta, FsError>) {
+fn tell_looked(line: &mut Line, answer: Result<LocalFsMetaData, FsError>) {
     match answer {
         Ok(meta) => tell_length(line, &meta),
         Err(error) => line.add_value(&error),
     }
 }
 
-fn meta_at(store: &mut Store, path: &DavPath) -> Result<PlainMeta, FsError> {
+fn meta_at(store: &mut Store, path: &DavPath) -> Result<LocalFsMetaData, FsError> {
     DavFileSystem::metadata(store, path)
 }
 
@@ -97,7 +98,7 @@ fn tag(alloc: Global, line: &mut Line, store: &mut Store, path: &DavPath, tag: &
     }
 }
 
-fn tell_tag(alloc: Global, line: &mut Line, meta: &PlainMeta, tag: &str, runs: bool) {
+fn tell_tag(alloc: Global, line: &mut Line, meta: &LocalFsMetaData, tag: &str, runs: bool) {
     match meta.etag(alloc) {
         Ok(Some(text)) => line.add(text.as_str()),
         Ok(None) => line.add("none"),
@@ -114,7 +115,7 @@ fn home(alloc: Global, line: &mut Line, store: &mut Store, path: &DavPath, place
     }
 }
 
-fn tell_home(alloc: Global, line: &mut Line, meta: &PlainMeta, place: &str) {
+fn tell_home(alloc: Global, line: &mut Line, meta: &LocalFsMetaData, place: &str) {
     match DavPath::new(alloc, place) {
         Ok(place) => {
             line.add_whether("calendar ", meta.is_calendar(&place));
@@ -130,7 +131,7 @@ fn entry(line: &mut Line, store: &mut Store, path: &DavPath) {
         Ok(meta) => match path.names().as_slice().last() {
             Some(name) => match name.try_clone() {
                 Ok(name) => {
-                    let entry = PlainEntry::new(name, EntryMeta::Read(Ok(meta)));
+                    let entry = LocalFsDirEntry::new(name, EntryMeta::Read(Ok(meta)));
                     tell_entry(line, DavFileSystem::disk(store), &entry);
                 }
                 Err(_) => line.refuse(),
@@ -141,7 +142,7 @@ fn entry(line: &mut Line, store: &mut Store, path: &DavPath) {
     }
 }
 
-fn tell_entry(line: &mut Line, disk: &mut MemDisk, entry: &PlainEntry) {
+fn tell_entry(line: &mut Line, disk: &mut MemDisk, entry: &LocalFsDirEntry) {
     line.add(DavDirEntry::<MemDisk>::name(entry));
     match entry.metadata(disk) {
         Ok(meta) => line.add_number(" ", meta.len()),
@@ -308,7 +309,7 @@ fn list_on<S: GuardedFileSystem<()>>(
     }
 }
 
-fn tell_member(line: &mut Line, disk: &mut MemDisk, entry: &PlainEntry) {
+fn tell_member(line: &mut Line, disk: &mut MemDisk, entry: &LocalFsDirEntry) {
     line.add(", ");
     line.add(DavDirEntry::<MemDisk>::name(entry));
     line.add(" ");
@@ -338,7 +339,7 @@ fn list(alloc: Global, line: &mut Line, store: &mut Store, path: &DavPath, word:
     }
 }
 
-fn tell_entries(line: &mut Line, disk: &mut MemDisk, entries: &[PlainEntry]) {
+fn tell_entries(line: &mut Line, disk: &mut MemDisk, entries: &[LocalFsDirEntry]) {
     for entry in entries {
         tell_member(line, disk, entry);
     }
@@ -438,9 +439,9 @@ fn call_all(alloc: Global, line: &mut Line, store: &mut Store, row: &str) {
 pub fn calls(alloc: Global, line: &mut Line, row: &str) {
     match MemDisk::new(alloc) {
         Ok(disk) => {
-            let mut store = PlainFs::new(disk);
+            let mut store = LocalFs::new(disk, Forget, false, false, false);
             call_all(alloc, line, &mut store, row);
-            let disk = store.into_disk();
+            let (disk, _) = store.into_parts();
             line.add_number("asked ", disk.asked());
             line.add_number(", failed ", disk.faults());
         }

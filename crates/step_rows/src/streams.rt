@@ -4,7 +4,7 @@ ghost use Rattle.std.specs.Prelude.{IfSome};
 ghost use Rattle.dav_disk.specs.Failing.{mem_state};
 ghost use Rattle.dav_get.specs.Bodies.{IsHeld};
 ghost use Rattle.dav_handler.specs.Held.{handle_of};
-ghost use Rattle.dav_plain.specs.Calls.{seen_by};
+ghost use Rattle.dav_local.specs.Files.{seen_by};
 
 use crate::cells::tell_bytes;
 use crate::scene::{Scene, scene_of};
@@ -12,9 +12,9 @@ use dav_body::{AsyncStream, Body, BodyFault, collect};
 use dav_core::{DavMethod, DavPath};
 use dav_disk::MemDisk;
 use dav_get::{GetBody, handle_get};
-use dav_handler::{PlainFs, Settings, Step};
+use dav_handler::{Forget, LocalFs, Settings, Step};
 use dav_io::Octets;
-use dav_plain::PlainFile;
+use dav_local::LocalFsFile;
 use dav_rows::Line;
 use futures::task::Poll;
 use http::Request;
@@ -27,10 +27,10 @@ fn body_of(
     settings: &Settings,
     path: &DavPath,
     request: &Request<Octets>,
-) -> Option<(MemDisk, GetBody<PlainFile>, u16)>
+) -> Option<(MemDisk, GetBody<LocalFsFile>, u16)>
     ensures { IfSome result (λ r. IsHeld handle_of seen_by (mem_state r.0) r.1) }
 {
-    let mut store = PlainFs::new(disk);
+    let mut store = LocalFs::new(disk, Forget, false, false, false);
     match handle_get(
         alloc,
         settings,
@@ -42,7 +42,8 @@ fn body_of(
     ) {
         Ok(given) => {
             let (outcome, body) = given;
-            Some((store.into_disk(), body, outcome.status))
+            let (disk, _) = store.into_parts();
+            Some((disk, body, outcome.status))
         }
         Err(_) => None,
     }
@@ -52,7 +53,7 @@ fn body_of(
 fn joined(
     alloc: Global,
     mut disk: MemDisk,
-    body: GetBody<PlainFile>,
+    body: GetBody<LocalFsFile>,
 ) -> (Result<Octets, BodyFault>, bool)
     requires { IsHeld handle_of seen_by (mem_state disk) body }
 {

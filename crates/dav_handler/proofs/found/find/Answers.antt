@@ -1,5 +1,8 @@
+use Rattle.dav_handler.specs.By.{over_of}
 use Rattle.dav_handler.proofs.Answering.{gate_answers}
 use Rattle.dav_handler.proofs.found.find.Goals as goal
 
 pub returns-in-Refused-clause-done : goal.returns-in-Refused-clause-done
-returns-in-Refused-clause-done g c = rw c.in-Refused.is (gate_answers _ _ _ _ _ c.refusal.result c.refusal.ensures)
+returns-in-Refused-clause-done g c =
+    rw c.in-Refused.is (gate_answers (over_of g.D.Disk.state g.R.Remember.state c.args.settings.now c.args.store.now) (record { fields = c.args.fields.now; body = c.args.body.now }) _ _ c.refusal.result
+    c.refusal.ensures)

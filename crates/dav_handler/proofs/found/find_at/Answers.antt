@@ -1,21 +1,31 @@
-use Rattle.std.proofs.Common.{refl}
-use Rattle.dav_handler.proofs.Answering.{given_answers, given_heard, refused_answers}
+use Rattle.std.proofs.Common.{Ok, Err, refl}
+use Rattle.dav_model.specs.Due.{query}
+use Rattle.dav_local_laws.specs.Simple.{is_simple}
+use Rattle.dav_handler.specs.By.{by_store}
+use Rattle.dav_handler.proofs.Answering.{given_answers, given_heard, refused_answers, simple_ways, stays_read, unless_memory}
 use Rattle.dav_handler.proofs.found.find_at.Goals as goal
 
 pub give-requires : goal.give-requires
 give-requires g c = c.in-Ok.ensures.life.0
 
 pub returns-in-Ok-clause-done : goal.returns-in-Ok-clause-done
-returns-in-Ok-clause-done g c body =
-    given_answers _ _ (record { looks_so = λ s k path r t h. h; links_so = λ s k path r t h. h; opens_so = λ s k path how o t h. h; seen_so = refl })
-    (record { lists_so = λ s k path r t h. h; next_so = λ s d r t e h. h; called_so = λ e. refl; says_so = λ e s r t h. h })
-    c.args.settings.now c.args.store.now c.handle_get.new.fs tt c.args.method c.args.path.now c.args.fields.now body (g.met.D.Disk.world c.args.store.now.disk) (g.met.D.Disk.tells_live c.handle_get.new.fs.disk)
-    c.in-Ok.given (g.D.Disk.state c.give.new.store.disk) c.give.result (given_heard c.in-Ok.given c.in-Ok.ensures.heard) (λ looked opened listed shows. given_heard c.in-Ok.given (c.in-Ok.ensures.right looked opened listed shows)) c.in-Ok.ensures.asks
-    c.in-Ok.ensures.life.0 c.in-Ok.ensures.life.1 c.in-Ok.ensures.most c.give.ensures.outcome c.give.ensures.gives
+returns-in-Ok-clause-done g c body = rw c.give.ensures.rest (
+    given_answers _ _ tt (by_store g.R.Remember.state c.args.settings.now c.args.store.now) (by_store g.R.Remember.state c.args.settings.now c.handle_get.new.fs) c.args.store.now c.handle_get.new.fs c.in-Ok.ensures.leads
+    (λ led. stays_read c.args.settings.now c.args.store.now.ways c.handle_get.new.fs.ways (g.R.Remember.state c.args.store.now.memory) (g.R.Remember.state c.handle_get.new.fs.memory) (g.D.Disk.state c.args.store.now.disk)
+    (g.D.Disk.state c.handle_get.new.fs.disk) (c.reads_learn_nothing.ensures c.handle_get.new.fs led).0 (c.reads_learn_nothing.ensures c.handle_get.new.fs led).1)
+    refl c.args.method c.args.path.now (record { fields = c.args.fields.now; body = body })
+    (g.met.D.Disk.tells_live c.handle_get.new.fs.disk) c.in-Ok.given (g.D.Disk.state c.give.new.store.disk) c.give.result
+    (λ reply same. c.reads_are_right.ensures (query c.args.settings.now c.args.fields.now c.args.method c.args.path.now) c.handle_get.new.fs (Ok c.in-Ok.given) reply c.in-Ok.ensures.life (given_heard c.in-Ok.given c.in-Ok.ensures.heard) same)
+    (λ folds macos. given_heard c.in-Ok.given (c.in-Ok.ensures.asks (λ s. is_simple s.ways) c.local_stores_ask_once.ensures (simple_ways c.args.store.now.ways folds macos)))
+    c.in-Ok.ensures.life.0 c.in-Ok.ensures.life.1 c.in-Ok.ensures.most c.give.ensures.outcome c.give.ensures.gives)
 
 pub returns-in-Err-clause-done : goal.returns-in-Err-clause-done
 returns-in-Err-clause-done g c body =
-    refused_answers _ _ (record { looks_so = λ s k path r t h. h; links_so = λ s k path r t h. h; opens_so = λ s k path how o t h. h; seen_so = refl })
-    (record { lists_so = λ s k path r t h. h; next_so = λ s d r t e h. h; called_so = λ e. refl; says_so = λ e s r t h. h })
-    c.args.settings.now c.args.store.now c.handle_get.new.fs tt c.args.method c.args.path.now c.args.fields.now body (g.met.D.Disk.world c.args.store.now.disk)
-    c.in-Err.error c.refuse.result c.in-Err.ensures.heard c.in-Err.ensures.life c.in-Err.ensures.right c.in-Err.ensures.asks c.refuse.ensures
+    refused_answers _ _ tt (by_store g.R.Remember.state c.args.settings.now c.args.store.now) (by_store g.R.Remember.state c.args.settings.now c.handle_get.new.fs) c.args.store.now c.handle_get.new.fs c.in-Err.ensures.leads
+    (λ led. stays_read c.args.settings.now c.args.store.now.ways c.handle_get.new.fs.ways (g.R.Remember.state c.args.store.now.memory) (g.R.Remember.state c.handle_get.new.fs.memory) (g.D.Disk.state c.args.store.now.disk)
+    (g.D.Disk.state c.handle_get.new.fs.disk) (c.reads_learn_nothing.ensures c.handle_get.new.fs led).0 (c.reads_learn_nothing.ensures c.handle_get.new.fs led).1)
+    refl c.args.method c.args.path.now (record { fields = c.args.fields.now; body = body })
+    c.in-Err.error c.refuse.result c.in-Err.ensures.life
+    (λ reply had same. c.reads_are_right.ensures (query c.args.settings.now c.args.fields.now c.args.method c.args.path.now) c.handle_get.new.fs (Err c.in-Err.error) reply c.in-Err.ensures.life (unless_memory c.in-Err.error had c.in-Err.ensures.heard) same)
+    (λ had folds macos. unless_memory c.in-Err.error had (c.in-Err.ensures.asks (λ s. is_simple s.ways) c.local_stores_ask_once.ensures (simple_ways c.args.store.now.ways folds macos)))
+    c.refuse.ensures

@@ -1,13 +1,16 @@
 use Rattle.dav_methods.proofs.KeptOpen.{open_same}
 use Rattle.dav_model.proofs.JoiningLemmas.{gate_none, leaves_same, makes_kept}
-use Rattle.dav_model.specs.Rules.{plain_rules}
 use Rattle.dav_model.specs.Trail.{target_of}
+use Rattle.dav_local.specs.Ways.{rules_with}
+use Rattle.dav_handler.specs.By.{over_of}
+use Rattle.dav_handler.proofs.Answering.{stays_same}
 use Rattle.dav_handler.proofs.found.find_for.Goals as goal
 
 pub returns-in-Err-clause-done : goal.returns-in-Err-clause-done
-returns-in-Err-clause-done g c = (
-  open_same (g.D.Disk.state c.args.store.now.disk),
-  makes_kept (target_of (plain_rules c.args.settings.now) c.args.request.now) (plain_rules c.args.settings.now) _ _ c.in-Err.error
-      (g.D.Disk.state c.args.store.now.disk) (g.D.Disk.state c.args.store.now.disk) (leaves_same (g.D.Disk.state c.args.store.now.disk)),
-  gate_none (target_of (plain_rules c.args.settings.now) c.args.request.now) (g.D.Disk.state c.args.store.now.disk).asked,
-)
+returns-in-Err-clause-done g c = record {
+  stays = stays_same (over_of g.D.Disk.state g.R.Remember.state c.args.settings.now c.args.store.now);
+  keeps = open_same (g.D.Disk.state c.args.store.now.disk);
+  makes = λ e. makes_kept (target_of (rules_with c.args.settings.now c.args.store.now.ways) c.args.request.now) (rules_with c.args.settings.now c.args.store.now.ways) _ _ e
+      (g.D.Disk.state c.args.store.now.disk) (g.D.Disk.state c.args.store.now.disk) (leaves_same (g.D.Disk.state c.args.store.now.disk));
+  asks = gate_none (target_of (rules_with c.args.settings.now c.args.store.now.ways) c.args.request.now) (g.D.Disk.state c.args.store.now.disk).asked;
+}

@@ -1,4 +1,5 @@
 use Rattle.std.proofs.Common.{◌≡◌, ◌∙◌, Option, Some, option_map, IfSome, sym, ap, subst}
+use Rattle.dav_serve.proofs.OneIsSaid.{serving_says_no_seed, unsaid}
 use Rattle.dav_serve.proofs.StatusByInput.{completes}
 use Rattle.dav_serve.proofs.run.run.Goals as goal
 
@@ -12,3 +13,12 @@ for_said P said x e p = subst (λ z. IfSome z P) (sym e) p
 pub returns-in-Ok-clause-complete : goal.returns-in-Ok-clause-complete
 returns-in-Ok-clause-complete g c =
     for_said _ _ _ (said_as _ _ _ c.options_said.ensures _ c.in-Some.is) (completes _ _ _ _ c.in-Ok.ending c.status.ensures c.in-Ok.ensures.ends)
+
+-- words that say how to serve say no large input
+pub returns-in-Ok-clause-benches : goal.returns-in-Ok-clause-benches
+returns-in-Ok-clause-benches g c =
+    unsaid _ _ (serving_says_no_seed c.args.words.now _ (said_as _ _ _ c.options_said.ensures _ c.in-Some.is))
+
+pub returns-in-Err-clause-benches : goal.returns-in-Err-clause-benches
+returns-in-Err-clause-benches g c =
+    unsaid _ _ (serving_says_no_seed c.args.words.now _ (said_as _ _ _ c.options_said.ensures _ c.in-Some.is))

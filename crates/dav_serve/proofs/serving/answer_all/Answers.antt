@@ -1,10 +1,10 @@
-use Rattle.std.proofs.Common.{◌∙◌, refl}
+use Rattle.std.proofs.Common.{rules, ◌∙◌, refl}
 use Rattle.dav_serve.proofs.Progress.{none_served, meets, meets_shorter, served_more, served_on, served_read, shown_now}
 use Rattle.dav_serve.proofs.RunEnds.{ends_broken, ends_closing, ends_failed, ends_over, ends_refused, ends_stopped, ends_too_much, ends_unfinished, ends_unsent, may_ask, starves, starves_answering}
 use Rattle.dav_serve.proofs.serving.answer_all.Goals as goal
 
 pub requests-init : goal.requests-init
-requests-init g c = record { clock = refl; progress = none_served _ _ _ _ c.requires.unread c.requires.empty; may = λ left written may. may }
+requests-init g c = record { clock = refl; some = search rules; progress = none_served _ _ _ _ c.requires.unread c.requires.empty; may = λ left written may. may }
 
 pub next_message-requires : goal.next_message-requires
 next_message-requires g c = record {
@@ -22,6 +22,7 @@ requests-preserved g c =
     let reads = rw c.in-Ok-Whole.field-0-is at c.in-Ok-Whole.ensures.reads in
     record {
       clock = c.now-now.ensures.stays ∙ c.requests.invariant.clock;
+      some = c.in-Ok-Open.ensures.some;
       progress = rw c.in-Ok-Open.ensures.input (served_more (served_on c.requests.invariant.progress reads.on c.in-Ok-Whole.ensures.sends)
           (meets _ _ _ _ _ _ reads.gives refl (shown_now _ _ _ c.requests.invariant.clock c.now-now.ensures.shown)) refl
           (rw c.in-Ok-Open.field-0-is at c.in-Ok-Open.ensures.ends));

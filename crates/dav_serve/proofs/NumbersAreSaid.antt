@@ -1,4 +1,4 @@
--- Which words say a size.
+-- Which words say a number up to the most.
 use Rattle.std.proofs.Common.{◌≡◌, ◌<◌, ◌≤◌, ◌^◌, ◌&&◌, ◌≢◌, ◌⊎◌, inl, inr, ℕ, suc, zero, List, [], ◌∷◌, length, get_or, decimal, Bool, true, false, cond, Option, None, Some, refl, sym, ap, subst, ◌∙◌, arith, bytes_eq, nat_le, leb-true, le-leb}
 use Rattle.std.specs.Str.{all_ascii_digits}
 use Rattle.std.specs.Str.Parse.{AllDigits, IsNumeral, digits_value, without_leading_plus}
@@ -6,31 +6,31 @@ use Rattle.std.proofs.lemmas.Bool.{and_from, and_parts}
 use Rattle.std.proofs.lemmas.Fmt.{decimal_is_IsNumeral, decimal-digits_value, decimal_nonempty, first_decimal, decimal_digit}
 use Rattle.std.proofs.lemmas.Slice.Eq.{bytes_eq-Decides}
 use Rattle.std.proofs.lemmas.Str.Parse.{IsNumeralModel, numerals_by_value, tells_all_ascii_digits, digit_from_value, without_leading_plus_none}
-use Rattle.dav_serve.specs.Words.{size_said}
+use Rattle.dav_serve.specs.Words.{number_said}
 
 own : IsNumeralModel (λ ds. all_ascii_digits ds ≡ true) (digits_value 10)
 own = numerals_by_value _ tells_all_ascii_digits
 
-abbrev is_size : List ℕ → Bool
-is_size word = nat_le (digits_value 10 word) 1048576 && bytes_eq word (decimal (digits_value 10 word))
+abbrev is_number : ℕ → List ℕ → Bool
+is_number most word = nat_le (digits_value 10 word) most && bytes_eq word (decimal (digits_value 10 word))
 
-abbrev size_where : List ℕ → Bool → Option ℕ
-size_where word t = cond t (Some (digits_value 10 word)) None
+abbrev number_where : List ℕ → Bool → Option ℕ
+number_where word t = cond t (Some (digits_value 10 word)) None
 
 -- a word says a number that is written so
-pub said_of : (word : List ℕ) → digits_value 10 word ≤ 1048576 → word ≡ decimal (digits_value 10 word) → size_said word ≡ Some (digits_value 10 word)
-said_of word few is = ap (size_where word) (and_from _ _ (le-leb _ _ few) ((bytes_eq-Decides _ _).1 is))
+pub said_of : (most : ℕ) (word : List ℕ) → digits_value 10 word ≤ most → word ≡ decimal (digits_value 10 word) → number_said most word ≡ Some (digits_value 10 word)
+said_of most word few is = ap (number_where word) (and_from _ _ (le-leb _ _ few) ((bytes_eq-Decides _ _).1 is))
 
 -- another says none
-said_not : (word : List ℕ) → ((n : ℕ) → n ≤ 1048576 → word ≡ decimal n → ⊥) → None ≡ size_said word
-said_not word never = by (is_size word) refl
+said_not : (most : ℕ) (word : List ℕ) → ((n : ℕ) → n ≤ most → word ≡ decimal n → ⊥) → None ≡ number_said most word
+said_not most word never = by (is_number most word) refl
   where
-    by : (t : Bool) → is_size word ≡ t → None ≡ size_said word
+    by : (t : Bool) → is_number most word ≡ t → None ≡ number_said most word
     by true e = let parts = and_parts _ _ e in absurd (never (digits_value 10 word) (leb-true _ _ parts.0) ((bytes_eq-Decides _ _).0 parts.1))
-    by false e = sym (ap (size_where word) e)
+    by false e = sym (ap (number_where word) e)
 
-pub empty_says_none : (word : List ℕ) → length word ≡ 0 → None ≡ size_said word
-empty_says_none word empty = said_not word (λ n few is.
+pub empty_says_none : (most : ℕ) (word : List ℕ) → most < 2 ^ 64 → length word ≡ 0 → None ≡ number_said most word
+empty_says_none most word small empty = said_not most word (λ n few is.
     let some = decimal_nonempty n (omega arith) in
     let same = ap (length {A = ℕ}) is in
     absurd (omega arith))
@@ -39,18 +39,18 @@ first_in : (ds : List ℕ) → AllDigits 10 ds → 0 < length ds → get_or ds 0
 first_in [] all some e = absurd (omega arith)
 first_in (d ∷ ds) all some e = let range = digit_from_value d all.0 in absurd (omega arith)
 
-pub plus_says_none : (word : List ℕ) → get_or word 0 0 ≡ 43 → None ≡ size_said word
-plus_says_none word plus = said_not word (λ n few is.
+pub plus_says_none : (most : ℕ) (word : List ℕ) → most < 2 ^ 64 → get_or word 0 0 ≡ 43 → None ≡ number_said most word
+plus_says_none most word small plus = said_not most word (λ n few is.
     let digits = (decimal_is_IsNumeral n (omega arith)).0 in
     first_in (decimal n) digits.1 digits.0 (ap (λ ds. get_or ds 0 0) (sym is) ∙ plus))
 
-one_zero : (n : ℕ) → n ≤ 1048576 → get_or (decimal n) 0 0 ≡ 48 → length (decimal n) ≡ 1
+one_zero : (n : ℕ) → n < 2 ^ 64 → get_or (decimal n) 0 0 ≡ 48 → length (decimal n) ≡ 1
 one_zero zero few e = ap length (decimal_digit 0 (omega arith))
 one_zero (suc n) few e = let more = first_decimal (suc n) (omega arith) (omega arith) in absurd (omega arith)
 
-pub zeros_say_none : (word : List ℕ) → get_or word 0 0 ≡ 48 → 1 < length word → None ≡ size_said word
-zeros_say_none word first long = said_not word (λ n few is.
-    let one = one_zero n few (ap (λ ds. get_or ds 0 0) (sym is) ∙ first) in
+pub zeros_say_none : (most : ℕ) (word : List ℕ) → most < 2 ^ 64 → get_or word 0 0 ≡ 48 → 1 < length word → None ≡ number_said most word
+zeros_say_none most word small first long = said_not most word (λ n few is.
+    let one = one_zero n (omega arith) (ap (λ ds. get_or ds 0 0) (sym is) ∙ first) in
     let same = ap (length {A = ℕ}) is in
     absurd (omega arith))
 
@@ -65,16 +65,17 @@ one_at_most word some (inl (first, few)) zeros = omega arith
 one_at_most word some (inr other) zeros = absurd (other zeros)
 
 -- the number that std reads, where no sign and no zeros stand in front
-pub read_says : (word : List ℕ) (n : ℕ) → get_or word 0 0 ≢ 43 → ((get_or word 0 0 ≡ 48) × (length word ≤ 1)) ⊎ (get_or word 0 0 ≢ 48) → IsRead word × (n ≡ digits_value 10 (without_leading_plus word))
-    → n ≤ 1048576 → Some n ≡ size_said word
-read_says word n plain short reads few =
+pub read_says : (most : ℕ) (word : List ℕ) (n : ℕ) → get_or word 0 0 ≢ 43 → ((get_or word 0 0 ≡ 48) × (length word ≤ 1)) ⊎ (get_or word 0 0 ≢ 48) → IsRead word × (n ≡ digits_value 10 (without_leading_plus word))
+    → n ≤ most → Some n ≡ number_said most word
+read_says most word n plain short reads few =
     let numeral = bare word plain reads.0 in
     let same : n ≡ digits_value 10 word = reads.1 ∙ ap (digits_value 10) (without_leading_plus_none word plain) in
     let written = decimal-digits_value own word (own.from word numeral.0.1) numeral.0.0 (one_at_most word numeral.0.0 short) numeral.1 in
-    ap Some same ∙ sym (said_of word (omega arith) (sym written))
+    ap Some same ∙ sym (said_of most word (omega arith) (sym written))
 
-pub unread_says_none : (word : List ℕ) → get_or word 0 0 ≢ 43 → (IsRead word → ⊥) → None ≡ size_said word
-unread_says_none word plain unread = said_not word (λ n few is.
+-- none is said where std reads none that is small enough
+pub unread_says_none : (most : ℕ) (word : List ℕ) → most < 2 ^ 64 → get_or word 0 0 ≢ 43 → (IsRead word → ⊥) → None ≡ number_said most word
+unread_says_none most word small plain unread = said_not most word (λ n few is.
     let numeral = decimal_is_IsNumeral n (omega arith) in
     let read : IsNumeral 10 word × (digits_value 10 word < 2 ^ 64) =
     subst (λ ds. IsNumeral 10 ds × (digits_value 10 ds < 2 ^ 64)) (sym is) (numeral.0, omega (arith, numeral.1)) in

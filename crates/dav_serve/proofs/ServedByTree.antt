@@ -1,0 +1,33 @@
+-- In a valid run each reply of all exchanges is that of the tree: what is known at an exchange was told before it.
+use Rattle.std.proofs.Common.{◌≡◌, List, [], ◌∷◌, Bool, ℕ, Ok, sym, ap, subst}
+use Rattle.dav_io.specs.Outside.{Stream}
+use Rattle.dav_model.specs.declared.step.Step.{Step}
+use Rattle.dav_model.specs.Play.{Ends, Playing, Stage}
+use Rattle.dav_model.specs.Rules.{Knowledge, Rules}
+use Rattle.dav_model.specs.Trail.{Move, Point, last_of, points_of}
+use Rattle.dav_model.specs.Valid.{Valid}
+use Rattle.dav_model.proofs.JoiningLemmas.{played_learned, valid_back, valid_front}
+use Rattle.dav_serve.specs.ByTree.{AllByTree, moves_of}
+use Rattle.dav_serve.specs.Exchange.{Exchange, answers_of, steps_of}
+use Rattle.dav_serve.specs.Serving.{Chain, Serving, Setup, ready}
+use Rattle.dav_serve.specs.Stages.{Outside}
+
+-- a run that wasn't refused memory ends where its trail leads
+ends_there : (rest : List Step) (at : Point) (player : Playing) (b : Stage) → Ends (Ok tt) rest (record { at = at; playing = player }) b → b.at ≡ at
+ends_there [] at player b ends = ap (λ (z : Stage). z.at) ends
+ends_there (step ∷ rest) at player b ends = elim ends [ ]
+
+chain_by_tree : (rules : Rules) (knows : Knowledge) (s : Point) (xs : List Exchange) (b : Stage) (chain : Chain rules (ready rules knows s) xs b)
+    → Valid rules knows (s ∷ points_of (moves_of rules (ready rules knows s) xs b chain)) → AllByTree rules (ready rules knows s) xs b chain
+chain_by_tree rules knows s [] b chain valid = tt
+chain_by_tree rules knows s (x ∷ xs) b (m, r, chain) valid =
+    let rest : List Move = moves_of rules (ready rules m.playing.knows m.at) xs b chain in
+    let front = valid_front rules knows s r.trail rest valid in
+    let learned = played_learned r.trail (ready rules knows s) m (steps_of x) [] (answers_of x) (Ok tt) r.played front.told in
+    let back = valid_back rules knows m.playing.knows s r.trail rest valid learned in
+    (r.headline front, chain_by_tree rules m.playing.knows m.at xs b chain (subst (λ z. Valid rules m.playing.knows (z ∷ points_of rest)) (sym (ends_there r.played.rest (last_of s r.trail) r.played.player m r.played.ends)) back))
+
+pub served_by_tree : (setup : Setup) (closed : Bool) (before : Outside) (source : Stream) (held : List ℕ) (xs : List Exchange) (last : Stage) (v : Serving setup closed before source held xs last)
+    → Valid setup.rules setup.knows (before.disk ∷ points_of (moves_of setup.rules (ready setup.rules setup.knows before.disk) xs last v.played))
+    → AllByTree setup.rules (ready setup.rules setup.knows before.disk) xs last v.played
+served_by_tree setup closed before source held xs last v valid = chain_by_tree setup.rules setup.knows before.disk xs last v.played valid
