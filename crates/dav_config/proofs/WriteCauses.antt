@@ -36,6 +36,7 @@ use Rattle.dav_methods.specs.Carrying.{Arrives, Carries, CopyMoves, Goes, Leaves
 use Rattle.dav_methods.specs.Copying.{AfterMaking, Copies, CopiesBy, CopiesDir, Enters, ReadsInto, done as all_copied, short as copied_short, goes as copies_on, stops as copies_stopped}
 use Rattle.dav_model.specs.CarryPlans.{method_of}
 use Rattle.dav_model.specs.Destination.{Asks, IsDestination, IsPlace, asked_by, depth_of, overwrite_of, path_or_refusal}
+use Rattle.dav_methods.specs.Follows as on
 use Rattle.dav_methods.specs.Lines.{Given, Line, above, done_over, fails_when, first_of, found_or_failed, info_there, is_dir_there, is_there, made, may_delete, may_make, may_put, no_parent, refused_but_missing, silent, unless, unmet, with_status}
 use Rattle.dav_model.specs.Overlap.{overlap}
 use Rattle.dav_methods.specs.Pouring.{Poured, Stops, Writes, WritesFile, begun as none_poured, goes as pours_on}
@@ -43,7 +44,7 @@ use Rattle.dav_methods.specs.Putting.{AfterChecks, MayPut, MayReplace, Puts, put
 use Rattle.dav_methods.specs.Reading.{HasMembers, HasNoMembers, MembersUnread, ReadRefused}
 use Rattle.dav_methods.specs.Removing.{Deletes, LooksAtLink, RefusesDir, RemovesAll, RemovesOne, Removes, is_deep, is_root, line_of, done, short, goes as removes_on, stops as stopped}
 use Rattle.dav_methods.specs.Table.{Below, Ends, EndsMade, Looks, MkCalendars, MkCols, Next, Run, Unless}
-use Rattle.dav_config.specs.Ways as on
+use Rattle.dav_methods.proofs.ListingsLead.{listed_on}
 use Rattle.dav_config.specs.Writing as one
 use Rattle.dav_config.specs.Writing.{ByMethod, Order, RefusedOnWay, RefusesOne}
 
@@ -264,7 +265,7 @@ asked_never moving prefix fields asked (to, is, by) =
 
 module _ {S C F L E : Type 0} (view : View S C F) (lists : Listings S C L E) (writes : Writes F) (c : C) where
   abbrev Reach : S → S → Type 0
-  Reach = on.Leads view lists writes c
+  Reach = on.Reached view lists writes c
 
   abbrev Refuses : S → S → Type 0
   Refuses = RefusesOne view lists writes c
@@ -411,39 +412,26 @@ module _ {S C F L E : Type 0} (view : View S C F) (lists : Listings S C L E) (wr
 
   -- ---- DELETE
 
-  walked_came : (s m : S) (l : L) (answers : List Answered) (t : S) (k : L) → Reach s m → Walked view lists m l answers t k → Reach s t
-  walked_came s m l answers t k came begun = came
-  walked_came s m l answers t k came (walks front n o p i j e r before nexts said lends keeps) =
-      on.says n o t i k e r (walked_came s m l front n i came before) nexts said
-
-  -- the last that was asked was refused
-  said_way : (s b m t : S) (path : WebPath) (l k : L) (all front : List Answered) (a : Answered) → a.meta ≡ Err fs.GeneralFailure → all ≡ front ++ a ∷ [] → Reach s b
-      → lists.lists b c path DataSymlink (Ok l) m → Walked view lists m l all t k → Way s t
-  said_way s b m t path l k all [] a is same came begins begun = cc
-  said_way s b m t path l k all (x ∷ front) a is same came begins begun = cc
-  said_way s b m t path l k all front a is same came begins (walks before n o p i j e r walked nexts said lends keeps) =
+  -- the last that was asked was refused, and the listing was ended
+  said_way : (s b m o t : S) (path : WebPath) (l k : L) (all front : List Answered) (a : Answered) → a.meta ≡ Err fs.GeneralFailure → all ≡ front ++ a ∷ [] → Reach s b
+      → lists.lists b c path DataSymlink (Ok l) m → Walked view lists m l all o k → lists.ends_list o k t → Way s t
+  said_way s b m o t path l k all [] a is same came begins begun ended = cc
+  said_way s b m o t path l k all (x ∷ front) a is same came begins begun ended = cc
+  said_way s b m o t path l k all front a is same came begins (walks before n p q i j e r walked nexts said lends keeps) ended =
       let last = ends_same before front (record { name = lists.called e; meta = r }) a same in
       let refused : r ≡ Err fs.GeneralFailure = ap (λ (x : Answered). x.meta) last ∙ is in
-      way s b t t came (one.says path DataSymlink l i k m n o before e begins walked nexts (subst (λ x. lists.says e (view.state o) x (view.state t)) refused said)) refl
-
-  way_on : (s m t : S) → Way s m → ((n : S) → Reach n m → Reach n t) → Way s t
-  way_on s m t on_way more = record { before = on_way.before; after = on_way.after; came = on_way.came; fails = on_way.fails; ends = more on_way.after on_way.ends }
+      way s b t t came (one.says path DataSymlink l i k m n p o before e begins walked nexts (subst (λ x. lists.says e (view.state p) x (view.state o)) refused said) ended) refl
 
   members_came : (s m t : S) (path : WebPath) (members : _) → Reach s m → HasMembers view lists m c path members t → Reach s t
-  members_came s m t path members came has =
-      let was = has.was in
-      let reads = was.reads in
-      on.ends_list was.after t was.over
-      (on.goes_on reads.place was.after reads.left was.over (Ok None)
-      (walked_came s was.begin was.listing reads.answers reads.place reads.left (on.begins m was.begin path DataSymlink (Ok was.listing) came was.begins) reads.walk) reads.ends)
-      was.ended
+  members_came s m t path members came has = listed_on view lists writes c s m t path has.listed came has.was
 
-  read_way : (s b m t : S) (path : WebPath) (l k : L) (e : FsError) → Reach s b → lists.lists b c path DataSymlink (Ok l) m → ReadRefused view lists m l e t k → e ≡ fs.GeneralFailure → Way s t
-  read_way s b m t path l k e came begins (inl (wants, answers, walk)) is = cc
-  read_way s b m t path l k e came begins (inr (inl (answers, place, left, walk, said, refused))) is =
-      way s b t t came (one.goes_on path DataSymlink l left k m place answers begins walk (subst (λ x. lists.lists_on place left (Err x) t k) is refused)) refl
-  read_way s b m t path l k e came begins (inr (inr (answers, name, said, walk))) is =
-      said_way s b m t path l k (answers ++ record { name = name; meta = Err e } ∷ []) answers (record { name = name; meta = Err e }) (ap (λ (x : FsError). Err x) is) refl came begins walk
+  read_way : (s b m o t : S) (path : WebPath) (l k : L) (e : FsError) → Reach s b → lists.lists b c path DataSymlink (Ok l) m → ReadRefused view lists m l e o k → lists.ends_list o k t
+      → e ≡ fs.GeneralFailure → Way s t
+  read_way s b m o t path l k e came begins (inl (wants, answers, walk)) ended is = cc
+  read_way s b m o t path l k e came begins (inr (inl (answers, place, left, walk, said, refused))) ended is =
+      way s b t t came (one.goes_on path DataSymlink l left k m place o answers begins walk (subst (λ x. lists.lists_on place left (Err x) o k) is refused) ended) refl
+  read_way s b m o t path l k e came begins (inr (inr (answers, name, said, walk))) ended is =
+      said_way s b m o t path l k (answers ++ record { name = name; meta = Err e } ∷ []) answers (record { name = name; meta = Err e }) (ap (λ (x : FsError). Err x) is) refl came begins walk ended
 
   unread_way : (s m t : S) (path : WebPath) (e : FsError) → Reach s m → HasNoMembers view lists m c path e t → e ≡ fs.GeneralFailure → Way s t
   unread_way s m t path e came none is = by none.why
@@ -451,9 +439,7 @@ module _ {S C F L E : Type 0} (view : View S C F) (lists : Listings S C L E) (wr
       by : MembersUnread view lists m c path e t → Way s t
       by (inl (wants, listed, was)) = cc
       by (inr (inl refused)) = way s m t t came (one.begins path DataSymlink (subst (λ x. lists.lists m c path DataSymlink (Err x) t) is refused)) refl
-      by (inr (inr (begin, after, listing, over, begins, refused, ended))) =
-          way_on s after t (read_way s m begin after path listing over e came begins refused is)
-          (λ n reach. on.ends_list after t over reach ended)
+      by (inr (inr (begin, after, listing, over, begins, refused, ended))) = read_way s m begin after t path listing over e came begins refused ended is
 
   one_done : (s m n : S) (work : Work) (works rest : List Work) → Reach s m → RemovesOne view lists c work works m (Ok tt) n rest → Reach s n
   one_done s m n (Whole path false) works rest came (gone, removes, is, left) = on.removes_file m n path gone came removes

@@ -1,17 +1,25 @@
 -- Over a store that refuses few things a call is refused with a failure only where its disk met a fault.
-use Rattle.std.proofs.Common.{◌≤◌, Some, Ok, refl, arith}
+use Rattle.std.proofs.Common.{◌≤◌, Some, Ok, Err, refl, arith}
 use Rattle.dav_io.specs.Counts.{Rose}
+use Rattle.dav_store.specs.declared.entry.ReadDirMeta.TheVariants.{DataSymlink}
+use Rattle.dav_store.specs.Leads as list
 use Rattle.dav_store.specs.View.{View, Listings}
 use Rattle.dav_get.proofs.HeardIsRight.{rose_through}
 use Rattle.dav_methods.specs.Answers.{RefusesUsually}
+use Rattle.dav_methods.specs.Follows as on
 use Rattle.dav_methods.specs.Pouring.{Writes}
-use Rattle.dav_config.specs.Ways as on
 use Rattle.dav_config.specs.Writing as one
 use Rattle.dav_config.specs.Writing.{RefusedOnWay, RefusesOne}
 
 module _ {S C F L E : Type 0} (view : View S C F) (lists : Listings S C L E) (writes : Writes F) (c : C) (usual : RefusesUsually view lists writes c) where
-  -- no call forgets a fault
-  reached_counts : (s t : S) → on.Leads view lists writes c s t → (view.state s).faults ≤ (view.state t).faults
+  -- no call of a listing forgets a fault, nor another call
+  listed_counts : (b : S) (first : L) (t : S) (l : L) → list.ListedOn view lists b first t l → (view.state b).faults ≤ (view.state t).faults
+  listed_counts b first t l list.begun = omega arith
+  listed_counts b first t l (list.goes_on m n k j r before call) = let front = listed_counts b first m k before in let last = usual.goes_counts m n k j r call in omega arith
+  listed_counts b first t l (list.says m n o k j e r before gives says lends keeps) =
+      let front = listed_counts b first m k before in let given = usual.goes_counts m n k j (Ok (Some e)) gives in let last = usual.says_counts n o e r says in omega arith
+
+  reached_counts : (s t : S) → on.Reached view lists writes c s t → (view.state s).faults ≤ (view.state t).faults
   reached_counts s t on.here = omega arith
   reached_counts s t (on.looks m n path r before call) = let first = reached_counts s m before in let last = (usual.looks m n path r call).counts in omega arith
   reached_counts s t (on.looks_at_link m n path r before call) = let first = reached_counts s m before in let last = (usual.looks_at_link m n path r call).counts in omega arith
@@ -24,11 +32,13 @@ module _ {S C F L E : Type 0} (view : View S C F) (lists : Listings S C L E) (wr
   reached_counts s t (on.removes_file m n path r before call) = let first = reached_counts s m before in let last = (usual.removes_file m n path r call).counts in omega arith
   reached_counts s t (on.renames m n from to r before call) = let first = reached_counts s m before in let last = (usual.renames m n from to r call).counts in omega arith
   reached_counts s t (on.copies m n from to r before call) = let first = reached_counts s m before in let last = (usual.copies m n from to r call).counts in omega arith
-  reached_counts s t (on.begins m n path how r before call) = let first = reached_counts s m before in let last = (usual.begins m n path how r call).counts in omega arith
-  reached_counts s t (on.goes_on m n l k r before call) = let first = reached_counts s m before in let last = usual.goes_counts m n l k r call in omega arith
-  reached_counts s t (on.says m n o l k e r before gives says) =
-      let first = reached_counts s m before in let given = usual.goes_counts m n l k (Ok (Some e)) gives in let last = usual.says_counts n o e r says in omega arith
-  reached_counts s t (on.ends_list m n l before call) = let first = reached_counts s m before in let last = usual.ends m n l call in omega arith
+  reached_counts s t (on.unlisted m n path e before call) =
+      let first = reached_counts s m before in let last = (usual.begins m n path DataSymlink (Err e) call).counts in omega arith
+  reached_counts s t (on.listed m n path before through) =
+      let first = reached_counts s m before in
+      let begun = (usual.begins m through.begin path DataSymlink (Ok through.listing) through.begins).counts in
+      let gone_on = listed_counts through.begin through.listing through.after through.over through.on in
+      let last = usual.ends through.after n through.over through.ended in omega arith
 
   one_rose : (m n : S) → RefusesOne view lists writes c m n → Rose (view.state m).faults (view.state n).faults
   one_rose m n (one.looks path call) = (usual.looks m n path _ call).refused.1 refl
@@ -41,8 +51,10 @@ module _ {S C F L E : Type 0} (view : View S C F) (lists : Listings S C L E) (wr
   one_rose m n (one.renames from to call) = (usual.renames m n from to _ call).refused.1 refl
   one_rose m n (one.copies from to call) = (usual.copies m n from to _ call).refused.1 refl
   one_rose m n (one.begins path how call) = (usual.begins m n path how _ call).refused.1 refl
-  one_rose m n (one.goes_on path how first l k b s answers begins walk call) = (usual.goes_on m b s n path how first l k answers _ begins walk call).refused.1 refl
-  one_rose m n (one.says path how first l k b s o answers e begins walk gives call) = (usual.says m b s o n path how first l k answers e _ begins walk gives call).refused.1 refl
+  one_rose m n (one.goes_on path how first l k b s o answers begins walk call ended) =
+      rose_through _ _ _ _ (omega arith) ((usual.goes_on m b s o path how first l k answers _ begins walk call).refused.1 refl) (usual.ends o n k ended)
+  one_rose m n (one.says path how first l k b s o p answers e begins walk gives call ended) =
+      rose_through _ _ _ _ (omega arith) ((usual.says m b s o p path how first l k answers e _ begins walk gives call).refused.1 refl) (usual.ends p n k ended)
 
   pub way_rose : (s t : S) → RefusedOnWay view lists writes c s t → Rose (view.state s).faults (view.state t).faults
   way_rose s t way =

@@ -4,7 +4,6 @@ pub mod Names
 pub mod Reading
 pub mod Responses
 pub mod Failing
-pub mod Ways
 pub mod Writing
 pub mod Handling
 pub mod Given

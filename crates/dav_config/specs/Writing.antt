@@ -20,13 +20,13 @@ use Rattle.dav_model.specs.declared.outcome.Outcome.{Outcome}
 use Rattle.dav_model.specs.Conditions.{Fields, writes as is_writing}
 use Rattle.dav_model.specs.Head.{Reply, refusal}
 use Rattle.dav_methods.specs.Carrying.{CopiesTo, MovesTo}
+use Rattle.dav_methods.specs.Follows.{Reached}
 use Rattle.dav_methods.specs.Lines.{Given}
 use Rattle.dav_methods.specs.Pouring.{Writes, WritesFile}
 use Rattle.dav_methods.specs.Putting.{Puts}
 use Rattle.dav_methods.specs.Removing.{Deletes}
 use Rattle.dav_methods.specs.Table.{MkCalendars, MkCols, Run}
 use Rattle.dav_config.specs.Responses.{IsBare, Responded}
-use Rattle.dav_config.specs.Ways.{Leads}
 
 -- ---- which requests write
 
@@ -91,8 +91,8 @@ module _ {S C F L E : Type 0} (view : View S C F) (lists : Listings S C L E) (wr
 
   -- ---- why it is answered 500
 
-  -- A call of the store or of a file was refused with a failure; or a listing was, or an entry of it, from where it was begun: a
-  -- store may read ahead, and tell a fault later.
+  -- A call of the store or of a file was refused with a failure; or a listing was, or an entry of it, from where it was
+  -- begun to where it was ended: a store may read ahead, and tell a fault later.
   pub data RefusesOne (m n : S) : Type 0 where
     looks : (path : WebPath) → view.looks m c path (Err GeneralFailure) n → RefusesOne m n
     looks_at_link : (path : WebPath) → view.looks_at_link m c path (Err GeneralFailure) n → RefusesOne m n
@@ -104,19 +104,22 @@ module _ {S C F L E : Type 0} (view : View S C F) (lists : Listings S C L E) (wr
     renames : (from to : WebPath) → view.renames m c from to (Err GeneralFailure) n → RefusesOne m n
     copies : (from to : WebPath) → view.copies m c from to (Err GeneralFailure) n → RefusesOne m n
     begins : (path : WebPath) (how : ReadDirMeta) → lists.lists m c path how (Err GeneralFailure) n → RefusesOne m n
-    goes_on : (path : WebPath) (how : ReadDirMeta) (first l k : L) (b s : S) (answers : List Answered) → lists.lists m c path how (Ok first) b
-        → Walked view lists b first answers s l → lists.lists_on s l (Err GeneralFailure) n k → RefusesOne m n
+    goes_on : (path : WebPath) (how : ReadDirMeta) (first l k : L) (b s o : S) (answers : List Answered)
+        → lists.lists m c path how (Ok first) b → Walked view lists b first answers s l
+        → lists.lists_on s l (Err GeneralFailure) o k → lists.ends_list o k n → RefusesOne m n
     -- (an entry that was given)
-    says : (path : WebPath) (how : ReadDirMeta) (first l k : L) (b s o : S) (answers : List Answered) (e : E) → lists.lists m c path how (Ok first) b
-        → Walked view lists b first answers s l → lists.lists_on s l (Ok (Some e)) o k → lists.says e (view.state o) (Err GeneralFailure) (view.state n) → RefusesOne m n
+    says : (path : WebPath) (how : ReadDirMeta) (first l k : L) (b s o p : S) (answers : List Answered) (e : E)
+        → lists.lists m c path how (Ok first) b → Walked view lists b first answers s l
+        → lists.lists_on s l (Ok (Some e)) o k → lists.says e (view.state o) (Err GeneralFailure) (view.state p)
+        → lists.ends_list p k n → RefusesOne m n
 
   -- On the way from a store to another a call was refused so.
   pub record RefusedOnWay (s t : S) : Type 0 where
     pub before : S
     pub after : S
-    pub came : Leads view lists writes c s before
+    pub came : Reached view lists writes c s before
     pub fails : RefusesOne before after
-    pub ends : Leads view lists writes c after t
+    pub ends : Reached view lists writes c after t
 
   -- the same of a store that there is, once its moment is set
   pub record RefusedIn (set : S → S) (old new : Option S) : Type 0 where

@@ -5,7 +5,8 @@ use Rattle.dav_core.specs.declared.tree.Kind.{Kind}
 use Rattle.dav_core.specs.declared.tree.Kind.TheVariants.{Dir, File, Link}
 use Rattle.dav_core.specs.Disk.{Live, can_read}
 use Rattle.dav_core.specs.Tree.{is_file}
-use Rattle.dav_core.specs.Unchanged.{Keeps, KeepsBut}
+use Rattle.dav_io.specs.Told.{Both}
+use Rattle.dav_core.specs.Unchanged.{Keeps, KeepsBut, SameBesidesOpens}
 use Rattle.dav_core.proofs.UnchangedLemmas.{keeps_but, keeps_then, but_then, closed_again}
 use Rattle.dav_core.specs.Options.{reading}
 use Rattle.dav_store.specs.Frames.{IsOpened}
@@ -63,6 +64,15 @@ module _ {S C F : Type 0} (view : View S C F) where
         ap (view.state s).live kept.1 ∙ fresh,
         same ∙ read_alone ((view.state m).live n) can how,
       )
+
+  -- A file in hand that is held or closed leaves the told world.
+  pub life_world : (n : ℕ) (s : S) (result : Given F) (t : S) → HeldOrClosed view n s result t → Both (view.state s).told (view.state t).told SameBesidesOpens
+  life_world n s (Ok r) t life = by r.1.file life.1
+    where
+      by : (held : Option (OpenAt F)) → KeptOrClosed view n s held t → Both (view.state s).told (view.state t).told SameBesidesOpens
+      by None closed = closed.0.world
+      by (Some h) held = held.0.world
+  life_world n s (Err e) t life = life.0.world
 
   -- The file in hand was opened before.
   pub opened_before : (how : OpenOptions) (s m t : S) (file : F) (result : Given F) → how ≡ reading → IsOpened how (view.state s) (view.handle file) (view.seen file (view.state m)) (view.state m)

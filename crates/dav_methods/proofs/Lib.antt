@@ -21,6 +21,7 @@ mod TreeRows
 mod RemovalWork
 mod WorkCovers
 mod ActsJoined
+pub mod ListingsLead
 mod RemovalRun
 pub mod DeleteRight
 mod CallDone

@@ -18,7 +18,6 @@ use Rattle.dav_core.specs.Tree.{has_dir, is_dir, is_dir_row, is_linked, is_tree}
 use Rattle.dav_core.specs.World.{IsWorld, SameBesidesOpens, World}
 use Rattle.dav_core.specs.Writing.{LeftBy}
 use Rattle.dav_core.proofs.UnchangedLemmas.{same_besides}
-use Rattle.dav_store.specs.Members.{Answered, Walked, begun, goes as walk_goes}
 use Rattle.dav_store.specs.View.{Listings, View}
 use Rattle.dav_model.specs.Conditions.{Fields}
 use Rattle.dav_model.specs.Finding.{is_clear, resolved}
@@ -28,12 +27,13 @@ use Rattle.dav_model.proofs.JoiningLemmas.{part_none}
 use Rattle.dav_methods.specs.declared.child.Child.{Child}
 use Rattle.dav_methods.specs.declared.work.Work.{Work}
 use Rattle.dav_methods.specs.declared.work.Work.TheVariants.{Emptied, Whole}
-use Rattle.dav_methods.specs.Follows.{Calls, CallsFor, Follows, Reached, Told, begins, children_in, ends_list, goes_on, removes_dir, removes_file, says}
+use Rattle.dav_methods.specs.Follows.{Calls, CallsFor, Follows, Reached, Told, children_in, removes_dir, removes_file}
 use Rattle.dav_methods.specs.Lines.{Line}
 use Rattle.dav_methods.specs.Pouring.{Writes}
 use Rattle.dav_methods.specs.Reading.{HasMembers, HasNoMembers}
 use Rattle.dav_methods.specs.Removing.{Removes, RemovesOne, goes, is_deep, line_of, short as cut_short, stops, works_in, done as no_work}
 use Rattle.dav_methods.proofs.ActsJoined.{Comes, FillsNone, acts_by, comes_after, comes_behind, halted_comes, removals_none, short_comes, spoiled_comes}
+use Rattle.dav_methods.proofs.ListingsLead.{listed_on}
 use Rattle.dav_methods.proofs.RemovalWork.{Left, StandsAs, dir_allowed, file_allowed, left_same, left_taken, one_file, stands_now, unlinked}
 use Rattle.dav_methods.proofs.TreeRows.{all_in, at_row, front_itself, front_then, in_filter, parts_of}
 use Rattle.dav_methods.proofs.WalkOrder.{In, in_left, path_in}
@@ -252,17 +252,8 @@ module _ {S C F L E : Type 0} (view : View S C F) (lists : Listings S C L E) (wr
 
   -- ---- where it leads
 
-  walked_reached : (m : S) (l : L) (n : S) (k : L) (answers : List Answered) → Here m → Walked view lists m l answers n k → Here n
-  walked_reached m l n k answers reached begun = reached
-  walked_reached m l n k answers reached (walk_goes before a b o i j e r walk on said lent keeps) =
-      says b o e r (goes_on a b i j (Ok (Some e)) (walked_reached m l a i before reached walk) on) said lent
-
   pub members_reached : (path : WebPath) (members : List Child) (m n : S) → Here m → HasMembers view lists m c path members n → Here n
-  members_reached path members m n reached has =
-      let was = has.was in
-      let began = begins m was.begin path _ (Ok was.listing) reached was.begins in
-      let walked = walked_reached was.begin was.listing was.reads.place was.reads.left was.reads.answers began was.reads.walk in
-      ends_list was.after n was.over (goes_on was.reads.place was.after was.reads.left was.over (Ok None) walked was.reads.ends) was.ended
+  members_reached path members m n reached has = listed_on view lists writes c start m n path has.listed reached has.was
 
   -- the first of the work was done
   step_told : (work : Work) (works rest : List Work) (m n : S) → Here m → RemovesOne view lists c work works m (Ok tt) n rest → Here n × ToldIn m n (Steps (work ∷ works) rest)

@@ -1,5 +1,5 @@
 -- What a DELETE may answer over a store that refuses few things.
-use Rattle.std.proofs.Common.{◌≡◌, ◌≤◌, ◌⊎◌, ◌++◌, inl, inr, ℕ, Bool, true, false, List, [], ◌∷◌, Option, None, Some, Result, Ok, Err, refl, ap, subst, arith}
+use Rattle.std.proofs.Common.{◌≡◌, ◌≤◌, ◌++◌, inl, inr, ℕ, Bool, true, false, List, [], ◌∷◌, Option, None, Some, Result, Ok, Err, refl, ap, subst, arith}
 use Rattle.dav_io.specs.Counts.{Rose}
 use Rattle.dav_io.proofs.AppendingLemmas.{rose_after, rose_before}
 use Rattle.dav_core.specs.declared.dav_error.DavError.{DavError}

@@ -372,7 +372,7 @@ both_known None (Some b) P Q h p = absurd p
 both_known (Some a) None P Q h p = absurd p
 both_known (Some a) (Some b) P Q h p = h a b refl p
 
--- Rules by which each path is meant as it is written are those of a plain store.
+-- Rules by which each path is meant as it is written are the plain ones.
 pub plain_are : (rules : Rules) → rules.folds ≡ false → rules.macos ≡ false → rules.alone ≡ None → rules ≡ plain_rules rules.settings
 plain_are rules folds macos alone =
     ap (λ b. record { settings = rules.settings; folds = b; macos = rules.macos; alone = rules.alone }) folds

@@ -1,5 +1,5 @@
 -- The calls that a method that writes makes lead to the store that is left, in every outcome.
-use Rattle.std.proofs.Common.{ℕ, List, [], ◌∷◌, ◌++◌, Bool, true, false, None, Some, Result, Ok, Err, sym, subst, inl, inr}
+use Rattle.std.proofs.Common.{ℕ, List, [], ◌∷◌, Bool, true, false, Result, Ok, Err, sym, subst, inl, inr}
 use Rattle.dav_core.specs.declared.dav_error.DavError.{DavError}
 use Rattle.dav_core.specs.declared.error.FsError.{FsError}
 use Rattle.dav_core.specs.declared.method.DavMethod.{DavMethod}
@@ -7,8 +7,6 @@ use Rattle.dav_core.specs.declared.method.DavMethod.TheVariants.{Copy, Delete, M
 use Rattle.dav_core.specs.DavPath.{WebPath}
 use Rattle.dav_core.specs.Info.{Info}
 use Rattle.dav_core.specs.Tree.{is_dir}
-use Rattle.dav_store.specs.declared.entry.ReadDirMeta.TheVariants.{DataSymlink}
-use Rattle.dav_store.specs.Members.{Answered, Walked, begun, goes as walks}
 use Rattle.dav_store.specs.View.{Listings, View}
 use Rattle.dav_model.specs.declared.asked.Asked.{Asked}
 use Rattle.dav_model.specs.declared.outcome.Outcome.{Outcome}
@@ -25,9 +23,10 @@ use Rattle.dav_methods.specs.Follows as on
 use Rattle.dav_methods.specs.Lines.{Given, Line, above, done_over, fails_when, found_or_failed, is_dir_there, made, may_delete, may_make, may_put, no_parent, silent, unless, unmet}
 use Rattle.dav_methods.specs.Pouring.{Writes}
 use Rattle.dav_methods.specs.Putting.{AfterChecksWhole, AfterOpeningWhole, MayPut, MayReplace, PutsWhole, put_options}
-use Rattle.dav_methods.specs.Reading.{Listed, MembersUnread, ReadRefused}
+use Rattle.dav_methods.specs.Reading.{Listed, MembersUnread}
 use Rattle.dav_methods.specs.Removing.{Deletes, LooksAtLink, RefusesDir, RemovesAll, RemovesOne, Removes, is_deep, is_root, done, short, goes as removes_more, stops as removes_stopped}
 use Rattle.dav_methods.specs.Table.{Below, Ends, EndsMade, Looks, MkCalendars, MkCols, Next, Run, Unless}
+use Rattle.dav_methods.proofs.ListingsLead as lead
 
 module _ {S C F L E : Type 0} (view : View S C F) (lists : Listings S C L E) (writes : Writes F) (c : C) (s : S) where
   abbrev Reach : S → Type 0
@@ -93,31 +92,11 @@ module _ {S C F L E : Type 0} (view : View S C F) (lists : Listings S C L E) (wr
 
   -- ---- the reading of a directory
 
-  walked_on : (m : S) (l : L) (answers : List Answered) (t : S) (k : L) → Reach m → Walked view lists m l answers t k → Reach t
-  walked_on m l answers t k came begun = came
-  walked_on m l answers t k came (walks front n o p i j e r before nexts said lends keeps) =
-      on.says o t e r (on.goes_on n o i k (Ok (Some e)) (walked_on m l front n i came before) nexts) said lends
-
   listed_on : (m t : S) (path : WebPath) (members : List Child) → Reach m → Listed view lists m c path members t → Reach t
-  listed_on m t path members came was =
-      let reads = was.reads in
-      on.ends_list was.after t was.over
-      (on.goes_on reads.place was.after reads.left was.over (Ok None)
-      (walked_on was.begin was.listing reads.answers reads.place reads.left (on.begins m was.begin path DataSymlink (Ok was.listing) came was.begins) reads.walk) reads.ends)
-      was.ended
-
-  refused_on : (m t : S) (l over : L) (e : FsError) → Reach m → ReadRefused view lists m l e t over → Reach t
-  refused_on m t l over e came (inl (is, answers, walk)) = walked_on m l answers t over came walk
-  refused_on m t l over e came (inr (inl (answers, place, left, walk, said, ends))) =
-      on.goes_on place t left over (Err e) (walked_on m l answers place left came walk) ends
-  refused_on m t l over e came (inr (inr (answers, name, said, walk))) =
-      walked_on m l (answers ++ record { name = name; meta = Err e } ∷ []) t over came walk
+  listed_on = lead.listed_on view lists writes c s
 
   unread_on : (m t : S) (path : WebPath) (e : FsError) → Reach m → MembersUnread view lists m c path e t → Reach t
-  unread_on m t path e came (inl (is, listed, was)) = listed_on m t path listed came was
-  unread_on m t path e came (inr (inl begins)) = on.begins m t path DataSymlink (Err e) came begins
-  unread_on m t path e came (inr (inr (begin, after, listing, over, begins, refused, ended))) =
-      on.ends_list after t over (refused_on begin after listing over e (on.begins m begin path DataSymlink (Ok listing) came begins) refused) ended
+  unread_on = lead.unread_on view lists writes c s
 
   -- ---- DELETE
 

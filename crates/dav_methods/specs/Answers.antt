@@ -18,7 +18,7 @@ use Rattle.dav_methods.specs.Pouring.{Writes, WritesFile}
 
 -- ---- stores that refuse few things
 
--- the refusals of a plain store
+-- the refusals of a store over a disk
 abbrev pub is_usual : FsError → Bool
 is_usual fs.NotFound = true
 is_usual fs.Forbidden = true

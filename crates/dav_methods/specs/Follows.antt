@@ -20,8 +20,9 @@ use Rattle.dav_core.specs.Statuses.{closes, lacks_memory, status_of}
 use Rattle.dav_core.specs.Tree.{has_dir, is_dir, is_linked, row_at}
 use Rattle.dav_core.specs.World.{World, OpenFile, IsWorld, SameBesidesOpens, bytes_of}
 use Rattle.dav_core.specs.Writing.{LeftBy, appends, written}
-use Rattle.dav_store.specs.declared.entry.ReadDirMeta.{ReadDirMeta}
+use Rattle.dav_store.specs.declared.entry.ReadDirMeta.TheVariants.{DataSymlink}
 use Rattle.dav_store.specs.Files.{Spoiled}
+use Rattle.dav_store.specs.Leads.{ListedThrough}
 use Rattle.dav_store.specs.View.{View, Listings, Closes}
 use Rattle.dav_model.specs.Conditions.{Fields}
 use Rattle.dav_model.specs.Finding.{is_clear, resolved}
@@ -74,7 +75,7 @@ module _ {S C F L E : Type 0} (view : View S C F) (lists : Listings S C L E) (wr
   abbrev pub Told : S → S → (World → World → Type 0) → Type 0
   Told s t P = Both (view.state s).told (view.state t).told P
 
-  -- The stores that calls lead to from here.
+  -- The stores that calls lead to from here. A listing is one step, from where it was begun to where it was ended.
   pub data Reached (s : S) : S → Type 0 where
     here : Reached s s
     looks : (m n : S) (path : WebPath) (r : Result Info FsError) → Reached s m → view.looks m c path r n → Reached s n
@@ -87,10 +88,9 @@ module _ {S C F L E : Type 0} (view : View S C F) (lists : Listings S C L E) (wr
     removes_file : (m n : S) (path : WebPath) (r : Result Unit FsError) → Reached s m → view.removes_file m c path r n → Reached s n
     renames : (m n : S) (from to : WebPath) (r : Result Unit FsError) → Reached s m → view.renames m c from to r n → Reached s n
     copies : (m n : S) (from to : WebPath) (r : Result Unit FsError) → Reached s m → view.copies m c from to r n → Reached s n
-    begins : (m n : S) (path : WebPath) (how : ReadDirMeta) (r : Result L FsError) → Reached s m → lists.lists m c path how r n → Reached s n
-    goes_on : (m n : S) (l k : L) (r : Result (Option E) FsError) → Reached s m → lists.lists_on m l r n k → Reached s n
-    says : (m n : S) (e : E) (r : Result Info FsError) → Reached s m → lists.says e (view.state m) r (view.state n) → view.lends m n → Reached s n
-    ends_list : (m n : S) (l : L) → Reached s m → lists.ends_list m l n → Reached s n
+    unlisted : (m n : S) (path : WebPath) (e : FsError) → Reached s m → lists.lists m c path DataSymlink (Err e) n
+        → Reached s n
+    listed : (m n : S) (path : WebPath) → Reached s m → ListedThrough view lists DataSymlink m c path n → Reached s n
 
   -- A look changes nothing, and finds what stands there, or was spoiled.
   abbrev pub LooksBy : Rules → WebPath → S → Result Info FsError → S → World → World → Type 0

@@ -5,7 +5,7 @@ ghost use Rattle.dav_core.specs.declared.error.FsError.{FsError};
 ghost use Rattle.dav_core.specs.declared.member.Member.{Member};
 ghost use Rattle.dav_core.specs.Info.{Info};
 ghost use Rattle.dav_core.specs.Unchanged.{Keeps};
-ghost use Rattle.dav_store.specs.Leads.{LeadsOn};
+ghost use Rattle.dav_store.specs.Leads.{LeadsOn, ListedOn};
 ghost use Rattle.dav_store.specs.Listings.{HasLister, KeepsButLister};
 ghost use Rattle.dav_store.specs.Members.{IsNamedPlain, ReadsThere, RefusesThere, ShowsMembers, WalksOut, WasListed, member_said, told_of};
 ghost use Rattle.dav_store.specs.View.{the_listings, the_view};
@@ -87,8 +87,8 @@ fn read_on<S: GuardedFileSystem<C>, C>(
     ensures lister { S.lister dir.new ≡ S.lister dir.old }
     ensures keeps { KeepsButLister (S.lister dir.old) (S.Disk.state (S.inside fs.old))
         (S.Disk.state (S.inside fs.new)) }
-    ensures leads { (c : C) → LeadsOn (the_view S.GuardedFileSystem S.Disk.Disk S.File.DavFile)
-        (the_listings S.GuardedFileSystem S.Entry.DavDirEntry) c fs.old fs.new }
+    ensures on { ListedOn (the_view S.GuardedFileSystem S.Disk.Disk S.File.DavFile)
+        (the_listings S.GuardedFileSystem S.Entry.DavDirEntry) fs.old dir.old fs.new dir.new }
     ensures error { IfErr result (λ e. e ≡ FsError.NoMemory) }
     ensures loan { S.Disk.loan (S.inside fs.new) ≡ S.Disk.loan (S.inside fs.old) }
 {

@@ -1,5 +1,5 @@
 use Rattle.std.proofs.Common.{◌∙◌, sym}
-use Rattle.dav_store.specs.Leads.{begins, ends, none}
+use Rattle.dav_store.specs.Leads.{begun, listed, none, unlisted}
 use Rattle.dav_store.specs.View.{the_listings, the_view}
 use Rattle.dav_store.proofs.Walking.{walk_leaves, walk_same}
 use Rattle.dav_get.proofs.PageMembers.{listed_by, listed_none}
@@ -21,7 +21,16 @@ returns-in-Ok-clause-keeps g c =
     walk_leaves (g.S.GuardedFileSystem.lister c.in-Ok.dir) _ _ _ _ c.in-Ok.ensures.one (walk_same _ _) c.end_dir.ensures.ends
 
 pub returns-in-Ok-clause-leads : goal.returns-in-Ok-clause-leads
-returns-in-Ok-clause-leads g c = ends _ _ _ (begins _ _ _ _ none c.in-Ok.ensures.done) c.end_dir.ensures.done
+returns-in-Ok-clause-leads g c =
+    listed _ _ _ none (record {
+      begin = c.read_dir.new.self;
+      listing = c.in-Ok.dir;
+      begins = c.in-Ok.ensures.done;
+      after = c.read_dir.new.self;
+      over = c.in-Ok.dir;
+      on = begun;
+      ended = c.end_dir.ensures.done;
+    }) (returns-in-Ok-clause-keeps g c).world
 
 pub returns-in-Err-clause-leads : goal.returns-in-Err-clause-leads
-returns-in-Err-clause-leads g c = begins _ _ _ _ none c.in-Err.ensures.done
+returns-in-Err-clause-leads g c = unlisted _ _ _ _ none c.in-Err.ensures.done c.in-Err.ensures.one.world

@@ -1,9 +1,8 @@
 use Rattle.std.proofs.Common.{Err, subst, arith}
-use Rattle.dav_store.specs.Leads.{begins, ends, none}
+use Rattle.dav_store.specs.Leads.{listed, none, unlisted}
 use Rattle.dav_store.specs.Listings.{EndsList}
 use Rattle.dav_store.specs.Shows.{here}
 use Rattle.dav_store.specs.View.{the_listings, the_view}
-use Rattle.dav_store.proofs.Leading.{leads_then}
 use Rattle.dav_store.proofs.Reading.{refuses_there, shown_by}
 use Rattle.dav_store.proofs.Walking.{walk_leaves}
 use Rattle.dav_store.proofs.members.read_members.Goals as goal
@@ -26,11 +25,16 @@ returns-clause-keeps g c =
     walk_leaves (g.S.GuardedFileSystem.lister c.in-Ok.dir) _ _ _ _ c.in-Ok.ensures.one c.read_on-members.ensures.keeps ended
 
 pub returns-in-Err-clause-leads : goal.returns-in-Err-clause-leads
-returns-in-Err-clause-leads g c = begins _ _ _ _ none c.in-Err.ensures.done
+returns-in-Err-clause-leads g c = unlisted _ _ _ _ none c.in-Err.ensures.done c.in-Err.ensures.one.world
 
 pub returns-clause-leads : goal.returns-clause-leads
 returns-clause-leads g c =
-    ends _ _ _
-    (leads_then (the_view g.S.GuardedFileSystem g.S.Disk.Disk g.S.File.DavFile) (the_listings g.S.GuardedFileSystem g.S.Entry.DavDirEntry) c.args.credentials.now _ _ _
-    (begins _ _ _ _ none c.in-Ok.ensures.done) (c.read_on-members.ensures.leads c.args.credentials.now))
-    c.end_dir.ensures.done
+    listed _ _ _ none (record {
+      begin = c.read_dir.new.self;
+      listing = c.in-Ok.dir;
+      begins = c.in-Ok.ensures.done;
+      after = c.read_on-members.new.fs;
+      over = c.read_on-members.new.dir;
+      on = c.read_on-members.ensures.on;
+      ended = c.end_dir.ensures.done;
+    }) (returns-clause-keeps g c).world

@@ -1,5 +1,5 @@
 use Rattle.std.proofs.Common.{[], ◌++◌, ◌∷◌, refl, ◌∙◌}
-use Rattle.dav_store.specs.Leads.{goes_on, lends, none}
+use Rattle.dav_store.specs.Leads.{begun as just_begun, goes_on, says}
 use Rattle.dav_store.specs.Members.{begun, goes}
 use Rattle.dav_store.proofs.Reading.{lister_kept, step_keeps, told_then}
 use Rattle.dav_store.proofs.Walking.{walk_same}
@@ -14,7 +14,7 @@ entries-init g c = record {
   loan = refl;
   walk = ([], begun, c.new-members.ensures.items);
   plain = rw c.new-members.ensures.items tt;
-  leads = λ who. none;
+  on = just_begun;
 }
 
 pub entries-preserved : goal.entries-preserved
@@ -38,21 +38,21 @@ entries-preserved g c =
         told_then answers name r c.entries.members.items c.add_member.new.members.items added.told.2 before.walk.2,
       );
       plain = added.plain before.plain;
-      leads = λ who. lends _ _ (goes_on _ _ _ _ _ (before.leads who) c.next_entry.ensures.done) added.store;
+      on = says _ _ _ _ _ _ _ before.on (rw c.in-Ok-Some.field-0-is at c.in-Ok-Some.ensures.done) added.told.1 added.store added.keeps;
     }
 
 pub returns-in_default-clause-keeps : goal.returns-in_default-clause-keeps
 returns-in_default-clause-keeps g c =
     step_keeps _ _ _ _ _ _ c.entries.invariant.lister c.entries.invariant.keeps c.next_entry.ensures.goes_on.keeps c.add_member.ensures.keeps
 
-pub returns-in_default-clause-leads : goal.returns-in_default-clause-leads
-returns-in_default-clause-leads g c = λ who. lends _ _ (goes_on _ _ _ _ _ (c.entries.invariant.leads who) c.next_entry.ensures.done) c.add_member.ensures.store
+pub returns-in_default-clause-on : goal.returns-in_default-clause-on
+returns-in_default-clause-on g c = says _ _ _ _ _ _ _ c.entries.invariant.on (rw c.in-Ok-Some.field-0-is at c.in-Ok-Some.ensures.done) c.add_member.ensures.told.1 c.add_member.ensures.store c.add_member.ensures.keeps
 
-pub returns-in-Ok-None-clause-leads : goal.returns-in-Ok-None-clause-leads
-returns-in-Ok-None-clause-leads g c = λ who. goes_on _ _ _ _ _ (c.entries.invariant.leads who) c.next_entry.ensures.done
+pub returns-in-Ok-None-clause-on : goal.returns-in-Ok-None-clause-on
+returns-in-Ok-None-clause-on g c = goes_on _ _ _ _ _ c.entries.invariant.on c.next_entry.ensures.done
 
-pub returns-in-Err-NoMemory-clause-leads : goal.returns-in-Err-NoMemory-clause-leads
-returns-in-Err-NoMemory-clause-leads g c = λ who. goes_on _ _ _ _ _ (c.entries.invariant.leads who) c.next_entry.ensures.done
+pub returns-in-Err-NoMemory-clause-on : goal.returns-in-Err-NoMemory-clause-on
+returns-in-Err-NoMemory-clause-on g c = goes_on _ _ _ _ _ c.entries.invariant.on c.next_entry.ensures.done
 
-pub returns-in-Err-clause-leads : goal.returns-in-Err-clause-leads
-returns-in-Err-clause-leads g c = λ who. goes_on _ _ _ _ _ (c.entries.invariant.leads who) c.next_entry.ensures.done
+pub returns-in-Err-clause-on : goal.returns-in-Err-clause-on
+returns-in-Err-clause-on g c = goes_on _ _ _ _ _ c.entries.invariant.on c.next_entry.ensures.done

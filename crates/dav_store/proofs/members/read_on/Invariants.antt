@@ -1,6 +1,6 @@
 use Rattle.std.proofs.Common.{◌≡◌, List}
 use Rattle.std.specs.List.{AllByRecursion}
-use Rattle.dav_store.specs.Leads.{LeadsOn}
+use Rattle.dav_store.specs.Leads.{ListedOn}
 use Rattle.dav_store.specs.Listings.{HasLister, KeepsButLister, left_of}
 use Rattle.dav_store.specs.Members.{Answered, IsNamedPlain, Walked, members_told}
 use Rattle.dav_store.specs.View.{the_listings, the_view}
@@ -17,7 +17,8 @@ invariant-entries g l = record {
   walk : (answers : List Answered) × Walked (the_view g.S.GuardedFileSystem g.S.Disk.Disk g.S.File.DavFile) (the_listings g.S.GuardedFileSystem g.S.Entry.DavDirEntry)
       l.initial.fs l.initial.dir answers l.fs l.dir × (l.members.items ≡ members_told answers);
   plain : AllByRecursion IsNamedPlain l.members.items;
-  leads : (c : g.row.C.Denot) → LeadsOn (the_view g.S.GuardedFileSystem g.S.Disk.Disk g.S.File.DavFile) (the_listings g.S.GuardedFileSystem g.S.Entry.DavDirEntry) c l.initial.fs l.fs;
+  on : ListedOn (the_view g.S.GuardedFileSystem g.S.Disk.Disk g.S.File.DavFile) (the_listings g.S.GuardedFileSystem g.S.Entry.DavDirEntry)
+      l.initial.fs l.initial.dir l.fs l.dir;
 }
 
 abbrev pub decreases-entries : goal.decreases-entries
