@@ -1,5 +1,6 @@
 -- A row more keeps a tree a tree, and each of its files stored.
-use Rattle.std.proofs.Common.{◌≡◌, ◌≢◌, ◌==◌, ◌&&◌, ◌||◌, ◌++◌, ◌∷◌, [], ℕ, List, Bool, true, false, cond, not, length, Option, Some, max, refl, ap, ◌∙◌, arith}
+use Rattle.std.proofs.Common.{◌≡◌, ◌≢◌, ◌==◌, ◌&&◌, ◌||◌, ◌++◌, ◌∷◌, [], ℕ, List, Bool, true, false, cond, not, length, Option, None, Some, max, refl, ap, ◌∙◌, arith}
+use mathlib.Core.Path.{fun_ext}
 use Rattle.std.specs.List.{list_any, list_all, AllByRecursion}
 use Rattle.std.specs.Option.{is_none, option_map}
 use Rattle.std.proofs.lemmas.Bool.{and_parts}
@@ -13,11 +14,11 @@ use Rattle.dav_core.specs.Path.{Names, same_names, parent_of}
 use Rattle.dav_core.specs.Tree.{row_at, is_dir, is_dir_row, has_dir, is_placed, is_free, is_apart, is_tree}
 use Rattle.dav_core.specs.Changes.{is_free_in}
 use Rattle.dav_core.specs.World.{World, Stored, put}
-use Rattle.dav_core.proofs.UnchangedLemmas.{put_other, put_same}
-use Rattle.std.specs.BTreeMap.{BTreeMap, Updates}
+use Rattle.dav_core.proofs.UnchangedLemmas.{equal_keys, put_other, put_same}
+use Rattle.std.specs.BTreeMap.{BTreeMap, Updates, UpdatesBy}
 use Rattle.std.specs.Ordering.{nat_cmp}
 use Rattle.dav_core.specs.Tables.{at_key}
-use Rattle.dav_core.proofs.TablesLemmas.{updates_put, put_map}
+use Rattle.dav_core.proofs.TablesLemmas.{updates_put, put_map, value_put}
 use Rattle.dav_disk.specs.declared.tables.StoredFile.{StoredFile}
 use Rattle.dav_disk.specs.Files.{IsStored, AreStored, stored_of, stored_at}
 use Rattle.dav_disk.specs.Rows.{is_new_number, can_add, can_be_set, with_file, later_of, second_past}
@@ -133,6 +134,7 @@ stored_file rows files row bytes new stored =
 pub record Addable (w : World) (path : Names) (number : ℕ) (time : FileTime) : Type 0 where
   pub free : is_free_in w.tree path ≡ true
   pub new : not (list_any (λ row. number == row.number) w.tree) ≡ true
+  pub unstored : is_none (w.files number) ≡ true
   pub settable : can_be_set time ≡ true
 
 pub addable : (w : World) (path : Names) (number : ℕ) (time : FileTime) → can_add w path number time ≡ true → Addable w path number time
@@ -141,7 +143,7 @@ addable w path number time e =
     let u = and_parts (is_new_number w number) _ t.1 in
     let v = and_parts _ (can_be_set time) u.1 in
     let n = and_parts (not (list_any (λ row. number == row.number) w.tree)) _ u.0 in
-    record { free = t.0; new = n.0; settable = v.1 }
+    record { free = t.0; new = n.0; unstored = n.1; settable = v.1 }
 
 abbrev pub known_as : World → (ℕ → Option Live) → Known
 known_as w live = record { world = w; live = live }
@@ -179,3 +181,24 @@ files_put old new number f bytes u e =
     ap (λ (t : ℕ → Option StoredFile). λ n. option_map stored_of (t n)) (updates_put number old new (Some f) u)
     ∙ put_map stored_of number (Some f) (at_key old)
     ∙ ap (λ bytes. put number (Some (record { bytes = bytes; time = f.time })) (stored_at old)) e
+
+put_back_by : (b : Bool) (s : Stored) (o : Option Stored) → (b ≡ true → is_none o ≡ true) → cond b None (cond b (Some s) o) ≡ o
+put_back_by true s None h = refl
+put_back_by true s (Some x) h = let none = h refl in cc
+put_back_by false s o h = refl
+
+put_back : (number : ℕ) (s : Stored) (files : ℕ → Option Stored) → is_none (files number) ≡ true → put number None (put number (Some s) files) ≡ files
+put_back number s files none = fun_ext (λ n. put_back_by (n == number) s (files n) (λ e. ap (λ k. is_none (files k)) (equal_keys n number e) ∙ none))
+
+-- the files after one was put and taken again
+pub files_back : (old mid new : BTreeMap ℕ StoredFile) (number : ℕ) (f : StoredFile) → Updates nat_cmp old mid number (Some f) → UpdatesBy nat_cmp (nat_cmp number) mid new None
+    → is_none (stored_at old number) ≡ true → stored_at new ≡ stored_at old
+files_back old mid new number f u v none =
+    value_put stored_of number mid new None v
+    ∙ ap (put number None) (value_put stored_of number old mid (Some f) u)
+    ∙ put_back number (stored_of f) (stored_at old) none
+
+-- what is known, where rows and files are the same again
+pub known_back : (w : World) (live : ℕ → Option Live) (rows : List Row) (files : ℕ → Option Stored) → rows ≡ w.tree → files ≡ w.files
+    → known_as (record w { tree = rows; files = files }) live ≡ known_as w live
+known_back w live rows files e f = rw (e, f) refl

@@ -1,15 +1,12 @@
 -- A copy, by the files that it has to do with.
-use Rattle.std.proofs.Common.{◌≡◌, ◌≤◌, [], ℕ, List, Bool, true, false, cond, Option, None, Some, Result, Ok, Err, refl, sym, ap, ◌∙◌}
-use Rattle.std.specs.Option.{is_none}
+use Rattle.std.proofs.Common.{◌≡◌, ◌≤◌, ℕ, Bool, true, false, cond, Option, None, Some, Result, Ok, Err, refl, sym, ap, ◌∙◌}
 use Rattle.dav_core.specs.declared.tree.Row.{Row}
-use Rattle.dav_core.specs.declared.tree.Kind.TheVariants.{File}
 use Rattle.dav_core.specs.declared.handle.DiskError.{DiskError}
 use Rattle.dav_core.specs.declared.handle.DiskError.TheVariants.{IsDir}
 use Rattle.dav_core.specs.Path.{Names, same_names}
 use Rattle.dav_core.specs.Tree.{is_dir, is_tree, look}
-use Rattle.dav_core.specs.World.{World, AreGiven, bytes_of}
+use Rattle.dav_core.specs.World.{World, AreGiven}
 use Rattle.dav_core.specs.Changes.{is_free_in}
-use Rattle.dav_core.specs.Edits.{makes, fills}
 use Rattle.dav_core.specs.Allowed.{Allowed, place, copying, copying_to, copying_over, found_then}
 use Rattle.dav_disk.specs.declared.judge.Copying.{Copying}
 use Rattle.dav_disk.specs.declared.judge.Copying.TheVariants.{Stays, Makes, Fills}

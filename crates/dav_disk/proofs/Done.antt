@@ -1,24 +1,17 @@
 -- What a call does to what is known is what the trait of disks asks, with the counts beside it.
-use Rattle.std.proofs.Common.{◌≡◌, ◌≤◌, ◌==◌, ◌||◌, ◌∷◌, [], ℕ, List, Bool, arith, ◌↔◌, true, false, IsTrue, IsErrOf, Option, Some, Result, Ok, Err, inl, inr, refl, ap, ◌∙◌}
-use Rattle.std.specs.Option.{option_map}
-use Rattle.std.proofs.lemmas.Bool.Decides.{nat_tests}
+use Rattle.std.proofs.Common.{◌≡◌, ◌≤◌, ℕ, Bool, ◌↔◌, true, false, IsTrue, IsErrOf, Some, Result, Ok, Err, inl, inr, refl, ap}
 use Rattle.dav_io.specs.Counts.{one_more}
 use Rattle.dav_core.specs.declared.tree.Row.{Row}
 use Rattle.dav_core.specs.declared.handle.Meta.{Meta}
-use Rattle.dav_core.specs.declared.handle.Handle.{Handle}
-use Rattle.dav_core.specs.declared.handle.OpenOptions.{OpenOptions}
 use Rattle.dav_core.specs.declared.handle.DiskError.{DiskError}
 use Rattle.dav_core.specs.declared.handle.DiskError.TheVariants.{NotFound, Exists, NotDir, IsDir, NotEmpty, Failed, NoMemory}
 use Rattle.dav_core.specs.Path.{Names}
 use Rattle.dav_core.specs.Tree.{look, IsTreeRefusal}
 use Rattle.dav_core.proofs.LookLemmas.{look_err}
-use Rattle.dav_core.specs.World.{World, is_numbered, put}
-use Rattle.dav_core.proofs.UnchangedLemmas.{put_same}
-use Rattle.dav_core.specs.Disk.{Live, IsCounted, Refused, MetasBy, MayRefuseMeta, Opens, MayRefuseOpen, Closes}
+use Rattle.dav_core.specs.World.{World}
+use Rattle.dav_core.specs.Disk.{IsCounted, Refused, MetasBy, MayRefuseMeta, Closes}
 use Rattle.dav_core.proofs.HeldStays.{same_held}
 use Rattle.dav_core.proofs.RefusedLemmas.{refused_of}
-use Rattle.dav_disk.proofs.Changed.{look_in}
-use Rattle.dav_disk.proofs.Trees.{In}
 use Rattle.dav_disk.specs.Calls.{Known, state_of, lengths, FindsMeta, RefusesBy, with_closed}
 
 -- what a counted call makes of the counts, and of whether reads are whole

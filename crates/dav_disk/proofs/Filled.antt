@@ -9,7 +9,7 @@ use Rattle.dav_core.specs.Path.{Names, parent_of}
 use Rattle.dav_core.specs.Tree.{is_tree}
 use Rattle.dav_core.specs.World.{World, Stored, AreGiven, IsGiven, IsPlain, ArePlain, put}
 use Rattle.dav_core.specs.Changes.{tick}
-use Rattle.dav_core.specs.Edits.{fills, timed_number}
+use Rattle.dav_core.specs.Edits.{timed_number}
 use Rattle.dav_core.proofs.UnchangedLemmas.{put_same, put_other, equal_keys, other_keys}
 use Rattle.dav_disk.specs.Files.{IsStored, AreStored}
 use Rattle.dav_disk.proofs.Trees.{parts_of, Maps, mapped_tree, in_map, parent_row}

@@ -1,5 +1,5 @@
 -- No change leaves a number above the greatest, or a time after the latest.
-use Rattle.std.proofs.Common.{◌≡◌, ◌≤◌, ◌<◌, ◌==◌, ◌+◌, ◌-◌, ◌⊎◌, ◌∷◌, ◌++◌, ◌&&◌, ◌||◌, ◌<ℤ◌, ◌≤ℤ◌, ◌+ℤ◌, ℤ, pos, max, [], ℕ, List, Bool, true, false, cond, not, length, map, nat_lt, int_lt, Option, None, Some, Result, Ok, Err, OnOk, OnErr, subst, inl, inr, refl, sym, ap, ◌∙◌, arith}
+use Rattle.std.proofs.Common.{◌≡◌, ◌≤◌, ◌<◌, ◌==◌, ◌+◌, ◌-◌, ◌⊎◌, ◌∷◌, ◌++◌, ◌&&◌, ◌||◌, ◌<ℤ◌, ◌≤ℤ◌, ◌+ℤ◌, ℤ, pos, max, [], ℕ, List, Bool, true, false, cond, not, length, map, nat_lt, int_lt, Option, None, Some, Result, Ok, Err, OnOk, OnErr, subst, inl, inr, refl, sym, ap, arith}
 use Rattle.std.proofs.lemmas.Bool.{and_parts}
 use Rattle.std.proofs.lemmas.Bool.Decides.{nat_tests, Decides-int_eq}
 use Rattle.std.specs.Option.{option_map}
@@ -19,7 +19,7 @@ use Rattle.dav_core.specs.Tree.{look}
 use Rattle.dav_core.specs.World.{World, Stored, OpenFile, NotAfter, IsGiven, AreGiven, put}
 use Rattle.dav_core.proofs.TimesLemmas.{not_after_itself, not_after_then}
 use Rattle.dav_core.proofs.UnchangedLemmas.{equal_keys}
-use Rattle.dav_core.specs.Changes.{tick, timed_row, touched_at, touched, then_touched, is_free_in, added_at, added, stored_in, made_or, dir_added, file_added, cut_at_time, cut_kind, cut_found, without, removed_found, moved_row, renames_to, parents_touched, renamed_found, changed, all_changed, turned, turned_by, resized}
+use Rattle.dav_core.specs.Changes.{tick, timed_row, touched_at, touched, then_touched, is_free_in, added_at, added, stored_in, made_or, dir_added, file_added, cut_at_time, cut_kind, cut_found, without, removed_found, moved_row, renames_to, parents_touched, renamed_found, changed, all_changed, turned, turned_by}
 use Rattle.dav_disk.specs.declared.tables.Opened.{Opened}
 use Rattle.std.specs.BTreeMap.{BTreeMap, Updates, IsUnchanged, is_at}
 use Rattle.std.specs.Map.{lookup}

@@ -1,5 +1,5 @@
 -- What a tree refuses a call with stands in the tree: it is no fault, and no want of memory.
-use Rattle.std.proofs.Common.{◌≡◌, ◌==◌, ◌&&◌, ◌||◌, ◌++◌, ◌∷◌, [], List, Bool, true, false, cond, length, Option, None, Some, Result, Ok, Err, inl, inr, refl, sym, ap, ◌∙◌}
+use Rattle.std.proofs.Common.{◌≡◌, ◌&&◌, ◌||◌, ◌++◌, ◌∷◌, [], List, Bool, true, false, cond, Option, None, Some, Result, Ok, Err, inl, inr, refl, sym, ap, ◌∙◌}
 use Rattle.dav_core.specs.declared.tree.Row.{Row}
 use Rattle.dav_core.specs.declared.tree.Kind.{Kind}
 use Rattle.dav_core.specs.declared.tree.Kind.TheVariants.{Dir, File, Link}
@@ -7,7 +7,7 @@ use Rattle.dav_core.specs.declared.handle.OpenOptions.{OpenOptions}
 use Rattle.dav_core.specs.declared.handle.DiskError.{DiskError}
 use Rattle.dav_core.specs.declared.handle.DiskError.TheVariants.{NotFound, Exists, NotDir, IsDir, NotEmpty, Failed, NoMemory}
 use Rattle.dav_core.specs.Path.{Names, same_names, is_front}
-use Rattle.dav_core.specs.Tree.{look, look_from, row_at, is_dir, is_file, IsTreeRefusal}
+use Rattle.dav_core.specs.Tree.{look, row_at, is_dir, IsTreeRefusal}
 use Rattle.dav_core.specs.World.{World}
 use Rattle.dav_core.specs.Changes.{is_leaf}
 use Rattle.dav_core.specs.Edits.{Edit}

@@ -1,4 +1,7 @@
 pub mod Walks
+pub mod Placed
+pub mod Indexed
+pub mod Listed
 pub mod Opened
 pub mod Added
 pub mod Done

@@ -4,9 +4,9 @@ use Rattle.std.specs.Option.{is_none}
 use Rattle.dav_io.specs.Counts.{Rose, one_more}
 use Rattle.dav_core.specs.declared.handle.DiskError.{DiskError}
 use Rattle.dav_core.specs.declared.handle.DiskError.TheVariants.{NotFound, Exists, NotDir, IsDir, NotEmpty, Failed, NoMemory}
-use Rattle.dav_core.specs.World.{World, SameBesidesOpens, AreGiven}
-use Rattle.dav_core.specs.Disk.{IsCounted, Refused}
-use Rattle.dav_core.specs.Edits.{Edit, EditedBy, SameOpens}
+use Rattle.dav_core.specs.World.{World, AreGiven}
+use Rattle.dav_core.specs.Disk.{IsCounted}
+use Rattle.dav_core.specs.Edits.{Edit, SameOpens}
 use Rattle.dav_core.specs.Allowed.{Allowed}
 use Rattle.dav_core.specs.Writing.{Does, DoesIn, LeftBy}
 use Rattle.dav_core.proofs.UnchangedLemmas.{same_besides}

@@ -1,5 +1,5 @@
 -- An opening that does what is allowed is what the trait of disks asks, with the counts beside it.
-use Rattle.std.proofs.Common.{◌≡◌, ◌≢◌, ◌≤◌, ◌<◌, ◌==◌, ◌+◌, ◌&&◌, ◌||◌, ◌⊎◌, ◌∷◌, ◌++◌, [], ℕ, List, Bool, true, false, cond, map, length, Option, None, Some, Result, Ok, Err, IsErrOf, IfErr, OnErr, inl, inr, subst, refl, sym, ap, ◌∙◌, arith, append-nil, append_assoc, nat_lt}
+use Rattle.std.proofs.Common.{◌≡◌, ◌==◌, ◌+◌, ◌&&◌, ◌||◌, ◌⊎◌, ◌∷◌, ◌++◌, [], ℕ, List, Bool, true, false, cond, map, Option, None, Some, Result, Ok, Err, IsErrOf, OnErr, inl, inr, refl, sym, ap, ◌∙◌, arith, append-nil, append_assoc, nat_lt}
 use Rattle.std.specs.Option.{option_map, is_none}
 use Rattle.std.proofs.lemmas.Bool.Decides.{nat_tests}
 use Rattle.std.specs.Str.{bytes_eq}
@@ -13,17 +13,17 @@ use Rattle.dav_core.specs.declared.handle.DiskError.{DiskError}
 use Rattle.dav_core.specs.declared.handle.DiskError.TheVariants.{NotFound, Exists, NotDir, IsDir, NotEmpty, Failed, NoMemory}
 use Rattle.dav_core.specs.declared.time.FileTime.{FileTime}
 use Rattle.dav_core.specs.Path.{Names, same_names, parent_of}
-use Rattle.dav_core.specs.Tree.{look, row_at, is_dir, is_file, is_linked, IsTreeRefusal}
+use Rattle.dav_core.specs.Tree.{look, row_at, is_dir, is_file, IsTreeRefusal}
 use Rattle.dav_core.specs.World.{World, OpenFile, Holds, SameBesidesOpens, Stored, AreGiven, is_numbered, put, bytes_of}
-use Rattle.dav_core.specs.Disk.{Live, Opens, OpenedBy, OpenedIn, OpenedOver, MayRefuseOpen, LiveAfterOpen, Refused, may_change, kind_opened, with_opens, at_start}
-use Rattle.dav_core.specs.Edits.{Edit, makes, fills, filled, timed_number, EditedBy, SameOpens}
+use Rattle.dav_core.specs.Disk.{Live, Opens, OpenedBy, OpenedIn, OpenedOver, MayRefuseOpen, Refused, may_change, kind_opened, with_opens, at_start}
+use Rattle.dav_core.specs.Edits.{Edit, makes, fills, filled, timed_number}
 use Rattle.dav_core.specs.Changes.{tick, timed_row, touched_at, then_touched, added_at, stored_in}
 use Rattle.dav_core.specs.Allowed.{Allowed, place, place_from, through, through_kind, opening, opening_at, opening_row}
 use Rattle.dav_core.proofs.LookLemmas.{look_err}
 use Rattle.dav_core.proofs.PlaceLemmas.{look_place, stands_at}
 use Rattle.dav_core.proofs.UnchangedLemmas.{put_same, same_besides}
 use Rattle.dav_disk.specs.Calls.{Known, state_of, lengths}
-use Rattle.dav_disk.specs.Making.{OpensAs, OpensBy, IsOpened, opened_known, edited, edited_by, filled_at, is_spent}
+use Rattle.dav_disk.specs.Making.{OpensAs, IsOpened, edited, edited_by, filled_at, is_spent}
 use Rattle.dav_disk.proofs.Edited.{edited_by_is, edited_opens}
 use Rattle.dav_disk.proofs.Judges.{opening_err}
 use Rattle.dav_disk.proofs.Makes.{Noted, is_counted}

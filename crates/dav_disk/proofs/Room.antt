@@ -1,5 +1,5 @@
 -- A disk in memory uses up numbers and ticks, and gives none back: so as long as some are left it never lacked one.
-use Rattle.std.proofs.Common.{◌≡◌, ◌≤◌, ◌<◌, ◌+◌, ◌-◌, ◌==◌, [], ◌∷◌, ◌++◌, ◌&&◌, ◌↔◌, ◌<ℤ◌, ◌≤ℤ◌, ◌+ℤ◌, ℤ, pos, ℕ, List, Bool, true, false, cond, length, map, nat_lt, int_lt, IsTrue, IsErrOf, Option, None, Some, Result, Ok, Err, OnOk, OnErr, refl, sym, ap, ◌∙◌, arith, max}
+use Rattle.std.proofs.Common.{◌≡◌, ◌≤◌, ◌<◌, ◌+◌, ◌-◌, ◌==◌, [], ◌∷◌, ◌++◌, ◌↔◌, ◌<ℤ◌, ◌≤ℤ◌, ◌+ℤ◌, ℤ, pos, ℕ, List, Bool, true, false, cond, length, map, nat_lt, int_lt, IsTrue, IsErrOf, Option, None, Some, Result, Ok, Err, OnOk, OnErr, refl, sym, ap, ◌∙◌, arith}
 use Rattle.std.proofs.lemmas.Bool.Decides.{nat_tests}
 use Rattle.std.proofs.lemmas.Int.{ints}
 use Rattle.std.specs.Option.{is_none}
@@ -18,13 +18,12 @@ use Rattle.dav_core.specs.declared.handle.DiskError.TheVariants.{NotFound, Exist
 use Rattle.dav_core.specs.Path.{Names, same_names, parent_of}
 use Rattle.dav_core.specs.Tree.{look}
 use Rattle.dav_core.specs.World.{World, bytes_of}
-use Rattle.dav_core.specs.Changes.{tick, timed_row, touched_at, touched, then_touched, is_free_in, added_at, added, stored_in, made_or, dir_added, file_added, cut_at_time, cut_kind, cut_found, without, removed_found, moved_row, renames_to, parents_touched, renamed_found, changed, all_changed, turned, turned_by}
+use Rattle.dav_core.specs.Changes.{tick, timed_row, touched_at, touched, then_touched, is_free_in, added_at, added, stored_in, made_or, cut_at_time, cut_kind, cut_found, without, removed_found, moved_row, renames_to, parents_touched, renamed_found, changed, all_changed, turned, turned_by}
 use Rattle.dav_core.specs.Edits.{Edit, makes, fills, takes, moves}
 use Rattle.dav_core.specs.Allowed.{Allowed}
 use Rattle.dav_core.specs.Writing.{appends, write_place, written}
 use Rattle.dav_disk.specs.Calls.{Known}
-use Rattle.dav_disk.specs.Making.{edited, edited_by, filled_at, is_spent, MakesAt, OpensAs, OpensBy, WritesAt}
-use Rattle.dav_disk.specs.Rows.{is_earlier, later_of, second_past}
+use Rattle.dav_disk.specs.Making.{edited, edited_by, filled_at, is_spent, MakesAt, OpensAs, WritesAt}
 use Rattle.dav_disk.specs.Room.{HasRoom}
 
 -- ---- what a world used up

@@ -1,15 +1,15 @@
 -- An edit and then a handle that is put or placed are the edit still.
-use Rattle.std.proofs.Common.{◌≡◌, ◌≢◌, ◌≤◌, ◌<◌, ◌==◌, ◌+◌, ◌⊎◌, [], ℕ, List, Bool, true, false, cond, length, take, Option, None, Some, Result, Ok, Err, IsErrOf, IfOk, IfErr, OnErr, inl, inr, subst, refl, sym, ap, ◌∙◌, arith}
+use Rattle.std.proofs.Common.{◌≡◌, ◌≤◌, ◌<◌, ◌==◌, ◌+◌, ◌⊎◌, ℕ, List, Bool, true, false, cond, length, take, Option, None, Some, Result, Ok, Err, IsErrOf, IfOk, IfErr, OnErr, inl, inr, refl, sym, ap, ◌∙◌, arith}
 use Rattle.std.specs.Option.{option_map, is_none}
 use Rattle.std.proofs.lemmas.List.{take_all}
 use Rattle.dav_core.specs.declared.time.FileTime.{FileTime}
 use Rattle.dav_core.specs.declared.tree.Kind.{Kind}
 use Rattle.dav_core.specs.declared.handle.DiskError.{DiskError}
 use Rattle.dav_core.specs.declared.handle.DiskError.TheVariants.{NotFound, Exists, NotDir, IsDir, NotEmpty, Failed, NoMemory}
-use Rattle.dav_core.specs.Path.{Names, parent_of}
-use Rattle.dav_core.specs.World.{World, OpenFile, Holds, SameBesidesOpens, AreGiven, NotAfter, is_numbered, number_of, put, bytes_of}
-use Rattle.dav_core.specs.Disk.{Live, Asks, with_opens, placed}
-use Rattle.dav_core.specs.Edits.{Edit, makes, fills, takes, moves, Edited, EditedBy, IsNew, IsNext, Becomes, SameOpens}
+use Rattle.dav_core.specs.Path.{Names}
+use Rattle.dav_core.specs.World.{World, OpenFile, Holds, SameBesidesOpens, AreGiven, put, bytes_of}
+use Rattle.dav_core.specs.Disk.{with_opens, placed}
+use Rattle.dav_core.specs.Edits.{Edit, makes, fills, takes, moves, Edited, EditedBy, IsNew, Becomes, SameOpens}
 use Rattle.dav_core.specs.Writing.{Writes, WrittenIn, WroteIn, MayRefuseWrite, can_write, appends, written, write_place}
 use Rattle.dav_core.proofs.UnchangedLemmas.{same_besides, same_besides_then}
 use Rattle.dav_disk.specs.Calls.{Known, state_of, lengths, with_place}

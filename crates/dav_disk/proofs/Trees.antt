@@ -165,7 +165,7 @@ found_later false x r o e f = f
 pub apart_from : (x r : Row) → (not (same_names r.path x.path) && not (r.number == x.number)) ≡ true → (same_names r.path x.path ≡ false) × ((r.number == x.number) ≡ false)
 apart_from x r e = let t = and_parts (not (same_names r.path x.path)) (not (r.number == x.number)) e in (not_true (same_names r.path x.path) t.0, not_true (r.number == x.number) t.1)
 
-free_at : (x : Row) (xs : List Row) (r : Row) → is_free xs x ≡ true → In r xs → (same_names r.path x.path ≡ false) × ((r.number == x.number) ≡ false)
+pub free_at : (x : Row) (xs : List Row) (r : Row) → is_free xs x ≡ true → In r xs → (same_names r.path x.path ≡ false) × ((r.number == x.number) ≡ false)
 free_at x xs r free i = apart_from x r (all_at (λ other. not (same_names other.path x.path) && not (other.number == x.number)) xs r free i)
 
 pub in_find : (rows : List Row) (r : Row) → is_apart rows ≡ true → In r rows → row_at rows r.path ≡ Some r

@@ -1,5 +1,5 @@
 -- A batch of changes keeps what holds of a world.
-use Rattle.std.proofs.Common.{◌≡◌, ◌≤◌, ◌<◌, ◌∷◌, ◌==◌, [], ℕ, List, Option, length, drop, get_or, Bool, true, false, All, arith, refl, sym, ap, ◌∙◌, drop-cons}
+use Rattle.std.proofs.Common.{◌≡◌, ◌<◌, ◌∷◌, ◌==◌, [], ℕ, List, Option, length, drop, get_or, Bool, true, false, arith, refl, sym, ap, ◌∙◌, drop-cons}
 use Rattle.std.proofs.lemmas.Bool.Decides.{nat_tests}
 use Rattle.std.specs.List.{remove}
 use Rattle.std.proofs.lemmas.List.Elements.{All-from_recursion, recursion_from_All}

@@ -3,15 +3,13 @@ use Rattle.std.specs.Prelude.{◌≡◌, ◌+◌, ℕ, List, [], ◌∷◌, leng
 use Rattle.std.specs.Option.{option_map}
 use Rattle.dav_core.specs.declared.tree.Row.{Row}
 use Rattle.dav_core.specs.declared.handle.Meta.{Meta}
-use Rattle.dav_core.specs.declared.handle.Handle.{Handle}
 use Rattle.dav_core.specs.declared.handle.Lister.{Lister}
-use Rattle.dav_core.specs.declared.handle.OpenOptions.{OpenOptions}
 use Rattle.dav_core.specs.declared.handle.DiskError.{DiskError}
 use Rattle.dav_core.specs.declared.handle.DiskError.TheVariants.{IsDir, NoMemory}
 use Rattle.dav_core.specs.Path.{Names}
 use Rattle.dav_core.specs.Tree.{look}
 use Rattle.dav_core.specs.World.{World, OpenFile, put}
-use Rattle.dav_core.specs.Disk.{Live, DiskState, MetaIn, at_start, with_opens, placed, rest_of, can_read}
+use Rattle.dav_core.specs.Disk.{Live, DiskState, MetaIn, with_opens, placed, rest_of, can_read}
 use Rattle.dav_core.specs.Listing.{names_in, listable, with_listings}
 use Rattle.dav_disk.specs.Listings.{IsInOrder}
 

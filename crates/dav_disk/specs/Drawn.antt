@@ -4,4 +4,4 @@ use Rattle.dav_disk.specs.Files.{stored_at}
 use Rattle.dav_disk.specs.declared.drawn.Drawn.{Drawn}
 
 abbrev pub drawn_in : Drawn → World → World
-drawn_in d w = record w { tree = d.rows.items; files = stored_at d.files; greatest = d.greatest; latest = d.latest }
+drawn_in d w = record w { tree = d.rows; files = stored_at d.files; greatest = d.greatest; latest = d.latest }

@@ -1,3 +1,4 @@
+pub mod Places
 pub mod Files
 pub mod Listings
 pub mod Rows

@@ -1,5 +1,5 @@
 -- What a writing call makes of a disk in memory: its edit, with the next number and the next ticks.
-use Rattle.std.specs.Prelude.{◌≡◌, ◌==◌, ◌&&◌, ◌+◌, ◌⊎◌, ℕ, [], length, List, Bool, true, false, map, cond, Option, None, Some, Result, Ok, Err, nat_lt}
+use Rattle.std.specs.Prelude.{◌≡◌, ◌&&◌, ◌+◌, ◌⊎◌, ℕ, [], length, List, Bool, true, false, map, cond, Option, None, Some, Result, Ok, Err, nat_lt}
 use Rattle.std.specs.Option.{is_none, is_some}
 use Rattle.dav_io.specs.Counts.{greatest}
 use Rattle.std.specs.Str.{bytes_eq}

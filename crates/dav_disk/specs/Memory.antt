@@ -7,7 +7,7 @@ use Rattle.dav_disk.specs.declared.memory.Memory.{Memory}
 abbrev pub known_of : Memory → Known
 known_of m = record {
   world = record {
-    tree = m.rows.items;
+    tree = m.rows;
     files = stored_at m.files;
     opens = open_at m.opens;
     listings = listing_at m.listings;

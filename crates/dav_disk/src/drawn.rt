@@ -5,11 +5,12 @@ ghost use Rattle.dav_core.specs.Changes.{changed, all_changed, dir_added, file_a
 ghost use Rattle.dav_disk.specs.Files.{stored_at};
 ghost use Rattle.dav_disk.specs.Moves.{may_move, placed_at, touched_above};
 
-use crate::paths::{is_front, move_rows, parent_of, set_time, take_away, tick, yields};
+use crate::indexed_rows::IndexedRows;
+use crate::paths::{is_front, move_rows, parent_of, rows_without, tick, yields};
 use crate::rows::is_free;
 use crate::tables::{StoredFile, bytes_at, put_file};
-use crate::tree::look;
-use dav_core::{Change, FileTime, FsPath, Kind, Row, has_dir};
+use crate::tree::{has_dir, look};
+use dav_core::{Change, FileTime, FsPath, Kind, Row};
 use dav_io::{NoMemory, Text};
 use std::alloc::Global;
 use std::collections::BTreeMap;
@@ -17,22 +18,11 @@ use std::collections::BTreeMap;
 // The rows and files of a disk in memory, on which a batch of changes is made.
 #[derive(Drop)]
 pub struct Drawn {
-    pub rows: Vec<Row>,
+    pub rows: IndexedRows,
     pub files: BTreeMap<u64, StoredFile>,
     pub greatest: u64,
     pub latest: FileTime,
-    ghost plain: { ArePlain rows.items },
-}
-
-// A copy of rows.
-fn copy_rows(alloc: Global, rows: &[Row]) -> Result<Vec<Row>, NoMemory>
-    ensures { IfOk result (λ copy. copy.items ≡ rows.now) }
-{
-    let mut copy = Vec::new(alloc);
-    for row in rows {
-        copy.push(row.try_clone()?)?;
-    }
-    Ok(copy)
+    ghost plain: { ArePlain rows },
 }
 
 // A copy of files.
@@ -67,8 +57,7 @@ impl Drawn {
 
     // A copy of a disk's rows and files.
     pub fn copy(
-        alloc: Global,
-        rows: &[Row],
+        rows: &IndexedRows,
         files: &BTreeMap<u64, StoredFile>,
         greatest: u64,
         latest: FileTime,
@@ -82,7 +71,7 @@ impl Drawn {
               latest = latest;
             }) }
     {
-        let rows = copy_rows(alloc, rows)?;
+        let rows = rows.try_clone()?;
         let files = copy_files(files)?;
         Ok(Drawn {
             rows,
@@ -111,7 +100,7 @@ impl Drawn {
             number: self.greatest + 1,
             time: made,
         })?;
-        set_time(&mut self.rows, parent_of(path.as_slice()), touched);
+        self.rows.set_time(parent_of(path.as_slice()), touched);
         self.greatest += 1;
         self.latest = touched;
         Ok(())
@@ -130,7 +119,7 @@ impl Drawn {
         let Some(touched) = tick(made) else {
             return Ok(());
         };
-        let alloc: Global = *self.rows.allocator();
+        let alloc: Global = self.rows.allocator();
         let bytes = Vec::from_slice(alloc, bytes)?;
         put_file(&mut self.files, self.greatest + 1, bytes, made)?;
         self.rows.push(Row {
@@ -139,7 +128,7 @@ impl Drawn {
             number: self.greatest + 1,
             time: made,
         })?;
-        set_time(&mut self.rows, parent_of(path.as_slice()), touched);
+        self.rows.set_time(parent_of(path.as_slice()), touched);
         self.greatest += 1;
         self.latest = touched;
         Ok(())
@@ -159,37 +148,38 @@ impl Drawn {
         let Some(time) = tick(self.latest) else {
             return Ok(());
         };
-        let alloc: Global = *self.rows.allocator();
+        let alloc: Global = self.rows.allocator();
         let number = row.number;
         resize(alloc, &mut self.files, number, len, time)?;
-        set_time(&mut self.rows, path.as_slice(), time);
+        self.rows.set_time(path.as_slice(), time);
         self.latest = time;
         Ok(())
     }
 
     // What stands at a path goes, with all below it.
-    fn remove(&mut self, path: &FsPath)
-        ensures { (w : World) → drawn_in self.new w ≡ removed_found (found (drawn_in self.old w).tree path.now)
-            (drawn_in self.old w) }
+    fn remove(&mut self, path: &FsPath) -> Result<(), NoMemory>
+        ensures { OnOk result ((w : World) → drawn_in self.new w ≡ removed_found (found (drawn_in self.old w).tree path.now)
+            (drawn_in self.old w)) }
     {
         let names = path.as_slice();
         let Ok(_) = look(&self.rows, names) else {
-            return;
+            return Ok(());
         };
         if names.is_empty() {
-            return;
+            return Ok(());
         }
         let Some(time) = tick(self.latest) else {
-            return;
+            return Ok(());
         };
-        take_away(&mut self.rows, names);
-        set_time(&mut self.rows, parent_of(names), time);
+        self.rows.take_away(names)?;
+        self.rows.set_time(parent_of(names), time);
         self.latest = time;
+        Ok(())
     }
 
     // Whether what stands at a path may be moved to another.
     fn may_rename(&self, kind: Kind, from: &[Text], to: &[Text]) -> bool
-        ensures { result ≡ may_move kind self.now.rows.items from.now to.now }
+        ensures { result ≡ may_move kind self.now.rows from.now to.now }
     {
         if from.is_empty() || to.is_empty() || is_front(from, to) {
             return false;
@@ -201,7 +191,7 @@ impl Drawn {
     fn touch(&mut self, path: &[Text], time: FileTime)
         ensures { (w : World) → drawn_in self.new w ≡ touched_above (drawn_in self.old w) path.now time }
     {
-        set_time(&mut self.rows, parent_of(path), time);
+        self.rows.set_time(parent_of(path), time);
         self.latest = time;
     }
 
@@ -209,10 +199,10 @@ impl Drawn {
     fn place(&mut self, from: &[Text], to: &FsPath, time: FileTime) -> Result<(), NoMemory>
         ensures { OnOk result ((w : World) → drawn_in self.new w ≡ placed_at (drawn_in self.old w) from.now to.now time) }
     {
-        let alloc: Global = *self.rows.allocator();
-        take_away(&mut self.rows, to.as_slice());
-        self.rows = move_rows(alloc, &self.rows, from, to)?;
-        set_time(&mut self.rows, parent_of(from), time);
+        let alloc: Global = self.rows.allocator();
+        let kept = rows_without(alloc, self.rows.as_slice(), to.as_slice())?;
+        self.rows = IndexedRows::of(move_rows(alloc, &kept, from, to)?)?;
+        self.rows.set_time(parent_of(from), time);
         self.latest = time;
         Ok(())
     }
@@ -251,10 +241,7 @@ impl Drawn {
             Change::AddDir(path) => self.add_dir(path),
             Change::AddFile(path, bytes) => self.add_file(path, bytes.as_slice()),
             Change::Cut(path, len) => self.cut(path, *len),
-            Change::Remove(path) => {
-                self.remove(path);
-                Ok(())
-            }
+            Change::Remove(path) => self.remove(path),
             Change::Rename(from, to) => self.rename(from, to),
         }
     }

@@ -6,13 +6,14 @@ ghost use Rattle.dav_core.specs.Allowed.{place as the_place, making_dir, taking_
 ghost use Rattle.dav_core.specs.Tree.{is_file};
 ghost use Rattle.dav_disk.specs.Making.{opened_edit, copies};
 
+use crate::indexed_rows::IndexedRows;
 use crate::paths::{is_front, is_leaf};
 use crate::tree::{look, place};
 use dav_core::{DiskError, Kind, OpenOptions, Row};
 use dav_io::Text;
 
 // Whether a directory may be made at a path.
-pub fn may_make_dir(rows: &[Row], path: &[Text]) -> Result<(), DiskError>
+pub fn may_make_dir(rows: &IndexedRows, path: &[Text]) -> Result<(), DiskError>
     ensures { MatchResult result (λ x. making_dir rows.now path.now ≡ Ok (Some (makes path.now TheDir [])))
         (λ e. making_dir rows.now path.now ≡ Err e) }
 {
@@ -24,7 +25,7 @@ pub fn may_make_dir(rows: &[Row], path: &[Text]) -> Result<(), DiskError>
 }
 
 // Whether the directory at a path may be removed.
-pub fn may_take_dir(rows: &[Row], path: &[Text]) -> Result<(), DiskError>
+pub fn may_take_dir(rows: &IndexedRows, path: &[Text]) -> Result<(), DiskError>
     ensures { MatchResult result (λ x. taking_dir rows.now path.now ≡ Ok (Some (takes path.now)))
         (λ e. taking_dir rows.now path.now ≡ Err e) }
 {
@@ -35,14 +36,14 @@ pub fn may_take_dir(rows: &[Row], path: &[Text]) -> Result<(), DiskError>
     if row.kind != Kind::Dir {
         return Err(DiskError::NotDir);
     }
-    if path.is_empty() || !is_leaf(rows, path) {
+    if path.is_empty() || !is_leaf(rows.as_slice(), path) {
         return Err(DiskError::NotEmpty);
     }
     Ok(())
 }
 
 // Whether the file at a path may be removed.
-pub fn may_take_file(rows: &[Row], path: &[Text]) -> Result<(), DiskError>
+pub fn may_take_file(rows: &IndexedRows, path: &[Text]) -> Result<(), DiskError>
     ensures { MatchResult result (λ x. taking_file rows.now path.now ≡ Ok (Some (takes path.now)))
         (λ e. taking_file rows.now path.now ≡ Err e) }
 {
@@ -58,7 +59,7 @@ pub fn may_take_file(rows: &[Row], path: &[Text]) -> Result<(), DiskError>
 }
 
 // Whether something of this kind may go in place of what stands where it is moved to.
-fn may_replace(rows: &[Row], row: &Row, there: &Row) -> Result<(), DiskError>
+fn may_replace(rows: &IndexedRows, row: &Row, there: &Row) -> Result<(), DiskError>
     ensures { MatchResult result
         (λ x. (to : List (List ℕ)) → moving_over rows.now row.now to (Some there.now) ≡ Ok (Some (moves row.now.path to)))
         (λ e. (to : List (List ℕ)) → moving_over rows.now row.now to (Some there.now) ≡ Err e) }
@@ -72,14 +73,14 @@ fn may_replace(rows: &[Row], row: &Row, there: &Row) -> Result<(), DiskError>
     if there.kind != Kind::Dir {
         return Err(DiskError::NotDir);
     }
-    if !is_leaf(rows, there.path.as_slice()) {
+    if !is_leaf(rows.as_slice(), there.path.as_slice()) {
         return Err(DiskError::NotEmpty);
     }
     Ok(())
 }
 
 // Whether what stands at a path may be moved to another, and isn't there already.
-pub fn may_move(rows: &[Row], from: &[Text], to: &[Text]) -> Result<bool, DiskError>
+pub fn may_move(rows: &IndexedRows, from: &[Text], to: &[Text]) -> Result<bool, DiskError>
     ensures { MatchResult result
         (λ moves_it. moving rows.now from.now to.now ≡ Ok (cond moves_it (Some (moves from.now to.now)) None))
         (λ e. moving rows.now from.now to.now ≡ Err e) }
@@ -112,7 +113,7 @@ pub fn may_move(rows: &[Row], from: &[Text], to: &[Text]) -> Result<bool, DiskEr
 
 // What stands where something is opened, or nothing where a file is to be made.
 pub fn may_open<'a>(
-    rows: &'a [Row],
+    rows: &'a IndexedRows,
     path: &[Text],
     how: OpenOptions,
 ) -> Result<Option<&'a Row>, DiskError>
@@ -159,7 +160,7 @@ pub enum Copying {
 }
 
 // What a copy from a path to another makes.
-pub fn may_copy(rows: &[Row], from: &[Text], to: &[Text]) -> Result<Copying, DiskError>
+pub fn may_copy(rows: &IndexedRows, from: &[Text], to: &[Text]) -> Result<Copying, DiskError>
     ensures { MatchResult result (λ c. copies rows.now from.now to.now ≡ Ok c)
         (λ e. copies rows.now from.now to.now ≡ Err e) }
 {

@@ -3,6 +3,7 @@
 
 mod drawn;
 mod faults;
+mod indexed_rows;
 mod judge;
 mod laws;
 mod listing;
@@ -10,6 +11,7 @@ mod listings;
 mod mem_disk;
 mod memory;
 mod paths;
+mod places;
 mod rows;
 mod sure_disk;
 mod tables;

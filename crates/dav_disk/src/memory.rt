@@ -5,13 +5,14 @@ ghost use Rattle.dav_disk.specs.Files.{AreStored, SaysNoMore, open_at, open_of, 
 ghost use Rattle.dav_disk.specs.Rows.{root_row as the_root};
 
 use crate::drawn::Drawn;
+use crate::indexed_rows::IndexedRows;
 use crate::judge::{
     Copying, empties, may_copy, may_make_dir, may_move, may_open, may_take_dir, may_take_file,
 };
 use crate::listing::Listing;
 use crate::listings::{listing_of, take_name};
-use crate::paths::{parent_of, set_number_time, tick};
-use crate::rows::{can_be_set, has_number, is_free, later_of, put_row, second_past};
+use crate::paths::{parent_of, tick};
+use crate::rows::{can_be_set, has_number, is_free, later_of, second_past};
 use crate::tables::{
     Opened, StoredFile, bytes_at, can_be_written, copy_from, free_key, is_stored, open_file,
     set_place, store_file, time_at,
@@ -28,17 +29,17 @@ use std::collections::BTreeMap;
 // The rows, files, open files and open listings of a disk in memory, without its faults and counts.
 #[derive(Drop)]
 pub struct Memory {
-    rows: Vec<Row>,
+    rows: IndexedRows,
     files: BTreeMap<u64, StoredFile>,
     opens: BTreeMap<u32, Opened>,
     listings: BTreeMap<u32, Listing>,
     greatest: u64,
     latest: FileTime,
     script: Vec<Batch>,
-    ghost tree: { is_tree rows.items ≡ true },
-    ghost plain: { ArePlain rows.items },
-    ghost stored: { AreStored rows.items (stored_at files) },
-    ghost given: { AreGiven rows.items (stored_at files) (open_at opens) greatest latest },
+    ghost tree: { is_tree rows ≡ true },
+    ghost plain: { ArePlain rows },
+    ghost stored: { AreStored rows (stored_at files) },
+    ghost given: { AreGiven rows (stored_at files) (open_at opens) greatest latest },
 }
 
 // The row of a root.
@@ -72,7 +73,7 @@ impl Memory {
     pub fn new(alloc: Global) -> Result<Self, NoMemory>
         ensures { IfOk result (λ m. known_of m ≡ record { world = first_world; live = λ _. None }) }
     {
-        let mut rows = Vec::new(alloc);
+        let mut rows = IndexedRows::new(alloc);
         rows.push(root_row(alloc))?;
         Ok(Memory {
             rows,
@@ -113,7 +114,11 @@ impl Memory {
         if opened.kind == Kind::File {
             return time_at(&self.files, opened.number);
         }
-        let row = self.rows.iter().find(|row| row.number == opened.number)?;
+        let row = self
+            .rows
+            .as_slice()
+            .iter()
+            .find(|row| row.number == opened.number)?;
         Some(row.time)
     }
 
@@ -186,7 +191,7 @@ impl Memory {
         let Some(lister) = free_key(&self.listings) else {
             return Err(DiskError::NoMemory);
         };
-        let alloc: Global = *self.rows.allocator();
+        let alloc: Global = self.rows.allocator();
         let Ok(listing) = listing_of(alloc, &self.rows, path.as_slice()) else {
             return Err(DiskError::NoMemory);
         };
@@ -216,7 +221,7 @@ impl Memory {
     fn is_new(&self, number: u64) -> bool
         ensures { result ≡ is_new_number (known_of self.now).world number }
     {
-        !has_number(&self.rows, number) && !is_stored(&self.files, number)
+        !has_number(self.rows.as_slice(), number) && !is_stored(&self.files, number)
     }
 
     // Whether a row of this number and time may be set at a path.
@@ -265,7 +270,7 @@ impl Memory {
         ensures err { OnErr result (known_of self.new ≡ known_of self.old) }
     {
         let latest = later_of(self.latest, second_past(time));
-        let alloc: Global = *self.rows.allocator();
+        let alloc: Global = self.rows.allocator();
         let row = Row {
             path: path.try_clone()?,
             kind: Kind::File,
@@ -273,9 +278,11 @@ impl Memory {
             time,
         };
         let bytes = Vec::from_slice(alloc, bytes)?;
-        self.rows.reserve(1)?;
         self.files.insert(number, StoredFile { bytes, time })?;
-        put_row(&mut self.rows, row);
+        if self.rows.push(row).is_err() {
+            let _ = self.files.remove(&number);
+            return Err(NoMemory);
+        }
         self.greatest = self.greatest.max(number);
         self.latest = latest;
         Ok(())
@@ -301,8 +308,8 @@ impl Memory {
         if self.script.is_empty() {
             return Ok(());
         }
-        let alloc: Global = *self.rows.allocator();
-        let mut drawn = Drawn::copy(alloc, &self.rows, &self.files, self.greatest, self.latest)?;
+        let alloc: Global = self.rows.allocator();
+        let mut drawn = Drawn::copy(&self.rows, &self.files, self.greatest, self.latest)?;
         drawn.make(self.script[0].as_slice())?;
         let _ = self.script.remove(0);
         let Drawn {
@@ -324,8 +331,8 @@ impl Memory {
             { world = changed (known_of self.old).world change.now }) }
         ensures err { OnErr result ((known_of self.new ≡ known_of self.old) × (result ≡ Err OutOfMemory)) }
     {
-        let alloc: Global = *self.rows.allocator();
-        let copy = Drawn::copy(alloc, &self.rows, &self.files, self.greatest, self.latest);
+        let alloc: Global = self.rows.allocator();
+        let copy = Drawn::copy(&self.rows, &self.files, self.greatest, self.latest);
         let Ok(mut drawn) = copy else {
             return Err(DiskError::NoMemory);
         };
@@ -465,7 +472,7 @@ impl Memory {
         let Ok(path) = to.try_clone() else {
             return Err(DiskError::NoMemory);
         };
-        let alloc: Global = *self.rows.allocator();
+        let alloc: Global = self.rows.allocator();
         let Ok(bytes) = Vec::from_slice(alloc, bytes_at(&self.files, number)) else {
             return Err(DiskError::NoMemory);
         };
@@ -485,7 +492,7 @@ impl Memory {
         let Some(time) = tick(self.latest) else {
             return Err(DiskError::Failed);
         };
-        let alloc: Global = *self.rows.allocator();
+        let alloc: Global = self.rows.allocator();
         let Ok(copy) = Vec::from_slice(alloc, bytes) else {
             return Err(DiskError::NoMemory);
         };
@@ -517,7 +524,7 @@ impl Memory {
         if store_file(&mut self.files, number, bytes, time).is_err() {
             return Err(DiskError::NoMemory);
         }
-        set_number_time(&mut self.rows, number, time);
+        self.rows.set_number_time(number, time);
         self.latest = time;
         Ok(())
     }
@@ -542,7 +549,7 @@ impl Memory {
         let Some(end) = place.checked_add(from.len() as u64) else {
             return Err(DiskError::NoMemory);
         };
-        let alloc: Global = *self.rows.allocator();
+        let alloc: Global = self.rows.allocator();
         let Ok(all) = spliced(alloc, bytes, place, from) else {
             return Err(DiskError::NoMemory);
         };
@@ -617,7 +624,7 @@ impl Memory {
         let Some(time) = tick(self.latest) else {
             return Err(DiskError::Failed);
         };
-        let alloc: Global = *self.rows.allocator();
+        let alloc: Global = self.rows.allocator();
         self.store(number, Vec::new(alloc), time)
     }
 
@@ -666,8 +673,8 @@ impl Memory {
         let Some(handle) = free_key(&self.opens) else {
             return Err(DiskError::NoMemory);
         };
-        let alloc: Global = *self.rows.allocator();
-        let copy = Drawn::copy(alloc, &self.rows, &self.files, self.greatest, self.latest);
+        let alloc: Global = self.rows.allocator();
+        let copy = Drawn::copy(&self.rows, &self.files, self.greatest, self.latest);
         let Ok(mut drawn) = copy else {
             return Err(DiskError::NoMemory);
         };

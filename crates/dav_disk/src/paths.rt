@@ -1,11 +1,12 @@
 // Paths below others, and the rows that stand there.
-ghost use Rattle.std.specs.Prelude.{◌≡◌, ◌<◌, ◌++◌, ℕ, List, OnOk, IfOk, Option, option_map, map, drop, length, not, true};
+ghost use Rattle.std.specs.Prelude.{◌≡◌, ◌<◌, ◌++◌, ℕ, List, IfOk, Option, option_map, map, drop, length, not, true};
 ghost use Rattle.std.specs.List.{filter};
 ghost use Rattle.dav_core.specs.Path.{is_front as the_front, parent_of as the_parent, same_names};
 ghost use Rattle.dav_core.specs.Tree.{row_at as the_row_at};
 ghost use Rattle.dav_core.specs.Edits.{timed_number};
 ghost use Rattle.dav_core.specs.Changes.{timed_row, without, moved_row, is_leaf as the_leaf, yields as the_yields, tick as the_tick};
 
+use crate::indexed_rows::IndexedRows;
 use crate::tree::row_at;
 use dav_core::{FileTime, FsPath, Kind, Row};
 use dav_io::{NoMemory, Text};
@@ -60,7 +61,7 @@ pub fn set_time(rows: &mut [Row], path: &[Text], time: FileTime)
 }
 
 // Sets the time of the rows of a number.
-fn set_times(rows: &mut [Row], number: u64, time: FileTime)
+pub fn set_times(rows: &mut [Row], number: u64, time: FileTime)
     ensures { rows.new ≡ map (timed_number number time) rows.old }
 {
     for row in rows.iter_mut() {
@@ -70,18 +71,28 @@ fn set_times(rows: &mut [Row], number: u64, time: FileTime)
     }
 }
 
-// Sets the time of the row of a number.
-pub fn set_number_time(rows: &mut Vec<Row>, number: u64, time: FileTime)
-    ensures { rows.new.items ≡ map (timed_number number time) rows.old.items }
+// A copy of rows.
+pub fn copy_rows(alloc: Global, rows: &[Row]) -> Result<Vec<Row>, NoMemory>
+    ensures { IfOk result (λ copy. copy.items ≡ rows.now) }
 {
-    set_times(rows.as_mut_slice(), number, time);
+    let mut copy = Vec::new(alloc);
+    for row in rows {
+        copy.push(row.try_clone()?)?;
+    }
+    Ok(copy)
 }
 
-// Takes away the rows at a path and below it.
-pub fn take_away(rows: &mut Vec<Row>, path: &[Text])
-    ensures { rows.new.items ≡ without path.now rows.old.items }
+// A copy of the rows that don't stand at a path or below it.
+pub fn rows_without(alloc: Global, rows: &[Row], path: &[Text]) -> Result<Vec<Row>, NoMemory>
+    ensures { IfOk result (λ copy. copy.items ≡ without path.now rows.now) }
 {
-    rows.retain(|row| !is_front(path, row.path.as_slice()));
+    let mut copy = Vec::new(alloc);
+    for row in rows {
+        if !is_front(path, row.path.as_slice()) {
+            copy.push(row.try_clone()?)?;
+        }
+    }
+    Ok(copy)
 }
 
 // The new path of what stands below `from`, below `to`.
@@ -139,14 +150,14 @@ pub fn is_leaf(rows: &[Row], path: &[Text]) -> bool
 }
 
 // Whether what stands at a path, if anything does, may go where something of this kind is moved there.
-pub fn yields(rows: &[Row], kind: Kind, path: &[Text]) -> bool
+pub fn yields(rows: &IndexedRows, kind: Kind, path: &[Text]) -> bool
     ensures { result ≡ the_yields kind (the_row_at rows.now path.now) rows.now }
 {
     let Some(there) = row_at(rows, path) else {
         return true;
     };
     match kind {
-        Kind::Dir => there.kind == Kind::Dir && is_leaf(rows, there.path.as_slice()),
+        Kind::Dir => there.kind == Kind::Dir && is_leaf(rows.as_slice(), there.path.as_slice()),
         Kind::File | Kind::Link => there.kind != Kind::Dir,
     }
 }

@@ -4,8 +4,9 @@ ghost use Rattle.std.specs.List.{list_any};
 ghost use Rattle.dav_core.specs.Changes.{is_free_in};
 ghost use Rattle.dav_disk.specs.Rows.{later_of as the_later, second_past as the_second_past, can_be_set as is_settable};
 
-use crate::tree::row_at;
-use dav_core::{FileTime, Row, has_dir};
+use crate::indexed_rows::IndexedRows;
+use crate::tree::{has_dir, row_at};
+use dav_core::{FileTime, Row};
 use dav_io::Text;
 
 // The later of two times.
@@ -40,7 +41,7 @@ pub fn second_past(time: FileTime) -> FileTime
 }
 
 // Whether nothing stands at a path, and a directory at its parent.
-pub fn is_free(rows: &[Row], path: &[Text]) -> bool
+pub fn is_free(rows: &IndexedRows, path: &[Text]) -> bool
     ensures { result ≡ is_free_in rows.now path.now }
 {
     let count = path.len();

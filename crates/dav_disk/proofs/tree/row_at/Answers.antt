@@ -2,4 +2,4 @@ use Rattle.dav_disk.proofs.Trees.{found_path}
 use Rattle.dav_disk.proofs.tree.row_at.Goals as goal
 
 pub returns-clause-path : goal.returns-clause-path
-returns-clause-path c = found_path (λ r. r.now) c.args.rows.now c.args.path.now c.row_at.result c.row_at.ensures
+returns-clause-path c = found_path (λ r. r.now) c.args.rows.now c.args.path.now c.find.result c.find.ensures

@@ -1,7 +1,7 @@
 use Rattle.std.proofs.Common.{◌≡◌, ◌≤◌, ◌+◌, length, take, drop, Decides, arith}
 use Rattle.std.proofs.lemmas.Bool.Decides.{Decides-eqb}
 use Rattle.std.proofs.lemmas.Slice.Eq.{slice_eq-Decides}
-use Rattle.dav_disk.proofs.Written.{longer, there_is}
+use Rattle.dav_disk.proofs.Written.{there_is}
 use Rattle.dav_disk.proofs.writing.stands.Goals as goal
 
 pub returns-clause-same : goal.returns-clause-same

@@ -1,6 +1,5 @@
-use Rattle.dav_disk.proofs.PlainRows.{plain_set}
+use Rattle.dav_disk.proofs.PlainRows.{plain_timed}
 use Rattle.dav_disk.proofs.drawn.Drawn.touch.Goals as goal
 
 pub invariant_of-self : goal.invariant_of-self
-invariant_of-self c =
-    record { plain = plain_set c.args.self.now.rows.len c.set_time.new.rows c.deref_mut.result.now c.args.self.now.rows.items _ _ c.args.self.now.plain c.deref_mut.ensures.value c.set_time.ensures }
+invariant_of-self c = record { plain = rw c.set_time.ensures (plain_timed c.parent_of.result.now c.args.time c.args.self.now.rows c.args.self.now.plain) }

@@ -1,4 +1,4 @@
-use Rattle.std.proofs.Common.{◌≡◌, true, false, Err, refl, arith, rules}
+use Rattle.std.proofs.Common.{◌≡◌, true, false, Err, rules}
 use Rattle.dav_core.specs.declared.handle.DiskError.TheVariants.{Failed}
 use Rattle.dav_core.specs.Tree.{is_linked}
 use Rattle.dav_core.specs.Allowed.{Allowed, copying}
@@ -7,7 +7,7 @@ use Rattle.dav_disk.specs.Calls.{Known}
 use Rattle.dav_disk.specs.Making.{is_spent}
 use Rattle.dav_disk.specs.Memory.{known_of}
 use Rattle.dav_disk.proofs.Judges.{copy_refuses}
-use Rattle.dav_disk.proofs.Makes.{makes_leaves, does, does_in, fails_done, fails_in, fails_noted, fails_spent, follows_or, fails_only, noted_by, spent_fails}
+use Rattle.dav_disk.proofs.Makes.{makes_leaves, does, does_in, fails_done, fails_in, fails_noted, fails_spent, follows_or, noted_by, spent_fails}
 use Rattle.dav_disk.proofs.mem_disk.MemDiskDisk.copy.Goals as goal
 
 pub returns-then-next-clause-done : goal.returns-then-next-clause-done

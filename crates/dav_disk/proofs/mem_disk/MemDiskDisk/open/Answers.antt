@@ -1,9 +1,9 @@
-use Rattle.std.proofs.Common.{◌≡◌, ◌<◌, length, true, false, Err, refl, arith, rules}
+use Rattle.std.proofs.Common.{rules}
 use Rattle.dav_core.specs.Allowed.{Allowed, opening}
 use Rattle.dav_disk.specs.Calls.{Known}
-use Rattle.dav_disk.specs.Making.{is_spent, writing}
+use Rattle.dav_disk.specs.Making.{is_spent}
 use Rattle.dav_disk.specs.Memory.{known_of}
-use Rattle.dav_disk.proofs.Makes.{fails_noted, follows_or, fails_only, noted_by}
+use Rattle.dav_disk.proofs.Makes.{fails_noted, follows_or, noted_by}
 use Rattle.dav_disk.proofs.OpenDone.{open_leaves, open_done, open_fails_done, open_fails, fails_open}
 use Rattle.dav_disk.proofs.mem_disk.MemDiskDisk.open.Goals as goal
 

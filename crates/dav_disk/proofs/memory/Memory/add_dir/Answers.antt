@@ -8,13 +8,13 @@ use Rattle.dav_disk.proofs.memory.Memory.add_dir.Goals as goal
 
 pub invariant_of-self-2 : goal.invariant_of-self-2
 invariant_of-self-2 c =
-    let t = dir_set (known_of c.args.self.now).world c.args.path.now c.in_ok-try_clone.field-0 c.args.number c.args.time c.push.new.self.items c.requires
-    c.args.self.now.tree c.args.self.now.stored c.in_ok-try_clone.ensures.copy c.in_ok-push.ensures.items in
+    let t = dir_set (known_of c.args.self.now).world c.args.path.now c.in_ok-try_clone.field-0 c.args.number c.args.time c.push.new.self c.requires
+    c.args.self.now.tree c.args.self.now.stored c.in_ok-try_clone.ensures.copy c.in_ok-push.ensures.ok in
     record {
       tree = t.0;
-      plain = plain_more c.args.self.now.rows.items c.push.new.self.items _ c.args.self.now.plain c.in_ok-push.ensures.items (rw c.in_ok-try_clone.ensures.copy c.in_ok-try_clone.ensures.plain);
+      plain = plain_more c.args.self.now.rows c.push.new.self _ c.args.self.now.plain c.in_ok-push.ensures.ok (rw c.in_ok-try_clone.ensures.copy c.in_ok-try_clone.ensures.plain);
       stored = t.1;
-      given = dir_given (known_of c.args.self.now).world (row_of c.in_ok-try_clone.field-0 Dir c.args.number c.args.time) (known_of c.args.self.now).world.tree c.push.new.self.items
+      given = dir_given (known_of c.args.self.now).world (row_of c.in_ok-try_clone.field-0 Dir c.args.number c.args.time) (known_of c.args.self.now).world.tree c.push.new.self
           c.max-self.result c.later_of-latest.result c.second_past.result (addable (known_of c.args.self.now).world c.args.path.now c.args.number c.args.time c.requires).settable
-          c.args.self.now.given refl c.in_ok-push.ensures.items c.max-self.ensures c.later_of-latest.ensures c.second_past.ensures;
+          c.args.self.now.given refl c.in_ok-push.ensures.ok c.max-self.ensures c.later_of-latest.ensures c.second_past.ensures;
     }

@@ -2,7 +2,7 @@ use Rattle.std.proofs.Common.{◌≡◌, ap, ◌∙◌}
 use Rattle.dav_core.specs.World.{World}
 use Rattle.dav_core.specs.Changes.{changed}
 use Rattle.dav_disk.specs.Drawn.{drawn_in}
-use Rattle.dav_disk.specs.Files.{live_at, stored_at}
+use Rattle.dav_disk.specs.Files.{live_at}
 use Rattle.dav_disk.specs.Memory.{known_of}
 use Rattle.dav_disk.proofs.Moved.{changed_good}
 use Rattle.dav_disk.proofs.Standing.{on_fine}
@@ -15,7 +15,7 @@ invariant_of-self-2 c =
     let old : World = (known_of c.args.self.now).world in
     let v : World = drawn_in c.change.new.self old in
     let drawn = on_fine c.change.result _ c.is_err.result c.is_err.ensures.value c.if-is_err.false c.change.ensures in
-    let made : v ≡ changed old c.args.change.now = drawn old ∙ ap (λ w. changed w c.args.change.now) (c.in-Ok.ensures old ∙ ap (λ rows. record old { tree = rows }) c.deref.ensures.value) in
+    let made : v ≡ changed old c.args.change.now = drawn old ∙ ap (λ w. changed w c.args.change.now) (c.in-Ok.ensures old) in
     let kept = kept_of v (changed old c.args.change.now) made (changed_good old c.args.change.now (good_of old c.args.self.now.tree c.args.self.now.stored c.args.self.now.given)) in
     record { tree = kept.tree; plain = c.change.new.self.plain; stored = kept.stored; given = changed_given v old c.args.change.now made c.args.self.now.given }
 
@@ -23,5 +23,5 @@ pub returns-clause-ok : goal.returns-clause-ok
 returns-clause-ok c =
     let old : World = (known_of c.args.self.now).world in
     let drawn = on_fine c.change.result _ c.is_err.result c.is_err.ensures.value c.if-is_err.false c.change.ensures in
-    let made : drawn_in c.change.new.self old ≡ changed old c.args.change.now = drawn old ∙ ap (λ w. changed w c.args.change.now) (c.in-Ok.ensures old ∙ ap (λ rows. record old { tree = rows }) c.deref.ensures.value) in
+    let made : drawn_in c.change.new.self old ≡ changed old c.args.change.now = drawn old ∙ ap (λ w. changed w c.args.change.now) (c.in-Ok.ensures old) in
     ap (λ v. knows v (live_at c.args.self.now.opens)) made

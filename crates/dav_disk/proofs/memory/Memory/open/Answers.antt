@@ -14,28 +14,28 @@ returns-in-Ok-None c =
     let w : World = (known_of c.args.self.now).world in
     let free = rw c.in-Ok-None.field-0-is at c.in-Ok-None.ensures.place in
     let judged = rw c.in-Ok-None.field-0-is at c.in-Ok-None.ensures.judged in
-    let at : place w.tree c.args.path.now ≡ Ok None = rw (← c.deref.ensures.value, ← c.as_slice.ensures.value) free in
-    let by : opening w.tree c.args.path.now c.args.how ≡ Ok (Some (makes c.args.path.now File [])) = rw (← c.deref.ensures.value, ← c.as_slice.ensures.value) judged in
+    let at : place w.tree c.args.path.now ≡ Ok None = rw (← c.as_slice.ensures.value) free in
+    let by : opening w.tree c.args.path.now c.args.how ≡ Ok (Some (makes c.args.path.now File [])) = rw (← c.as_slice.ensures.value) judged in
     made_as (known_of c.args.self.now) (known_of c.open_new.new.self) c.args.path.now c.args.how c.open_new.result at by c.open_new.ensures
 
 pub returns-in-Err : goal.returns-in-Err
 returns-in-Err c =
     let w : World = (known_of c.args.self.now).world in
-    let by : opening w.tree c.args.path.now c.args.how ≡ Err c.in-Err.e = rw (← c.deref.ensures.value, ← c.as_slice.ensures.value) c.in-Err.ensures.judged in
+    let by : opening w.tree c.args.path.now c.args.how ≡ Err c.in-Err.e = rw (← c.as_slice.ensures.value) c.in-Err.ensures.judged in
     refused_as (known_of c.args.self.now) c.args.path.now c.args.how c.in-Err.e (opening_judged w.tree c.args.path.now c.args.how c.in-Err.e by) by
 
 pub open_emptied-requires : goal.open_emptied-requires
 open_emptied-requires c =
     let w : World = (known_of c.args.self.now).world in
     let there = rw c.in-Ok-Some.field-0-is at c.in-Ok-Some.ensures.place in
-    let at : place w.tree c.args.path.now ≡ Ok (Some c.in-Ok-Some.row.now) = rw (← c.deref.ensures.value, ← c.as_slice.ensures.value) there in
+    let at : place w.tree c.args.path.now ≡ Ok (Some c.in-Ok-Some.row.now) = rw (← c.as_slice.ensures.value) there in
     placed_given w c.args.path.now c.in-Ok-Some.row.now c.args.self.now.given at
 
 pub open_number-requires : goal.open_number-requires
 open_number-requires c =
     let w : World = (known_of c.args.self.now).world in
     let there = rw c.in-Ok-Some.field-0-is at c.in-Ok-Some.ensures.place in
-    let at : place w.tree c.args.path.now ≡ Ok (Some c.in-Ok-Some.row.now) = rw (← c.deref.ensures.value, ← c.as_slice.ensures.value) there in
+    let at : place w.tree c.args.path.now ≡ Ok (Some c.in-Ok-Some.row.now) = rw (← c.as_slice.ensures.value) there in
     placed_given w c.args.path.now c.in-Ok-Some.row.now c.args.self.now.given at
 
 pub returns-then-empties : goal.returns-then-empties
@@ -43,8 +43,8 @@ returns-then-empties c =
     let w : World = (known_of c.args.self.now).world in
     let there = rw c.in-Ok-Some.field-0-is at c.in-Ok-Some.ensures.place in
     let judged = rw c.in-Ok-Some.field-0-is at c.in-Ok-Some.ensures.judged in
-    let at : place w.tree c.args.path.now ≡ Ok (Some c.in-Ok-Some.row.now) = rw (← c.deref.ensures.value, ← c.as_slice.ensures.value) there in
-    let by : opening w.tree c.args.path.now c.args.how ≡ Ok (opened_edit c.args.how c.args.path.now (Some c.in-Ok-Some.row.now)) = rw (← c.deref.ensures.value, ← c.as_slice.ensures.value) judged in
+    let at : place w.tree c.args.path.now ≡ Ok (Some c.in-Ok-Some.row.now) = rw (← c.as_slice.ensures.value) there in
+    let by : opening w.tree c.args.path.now c.args.how ≡ Ok (opened_edit c.args.how c.args.path.now (Some c.in-Ok-Some.row.now)) = rw (← c.as_slice.ensures.value) judged in
     opened_as (known_of c.args.self.now) (known_of c.open_emptied.new.self) c.args.path.now c.args.how c.open_emptied.result c.in-Ok-Some.row.now (Some (fills c.in-Ok-Some.row.now.number [])) at
     (by ∙ ap (λ b. Ok (cond b (Some (fills c.in-Ok-Some.row.now.number [])) None)) (sym c.empties.ensures ∙ c.if-empties.true)) c.open_emptied.ensures
 
@@ -53,7 +53,7 @@ returns c =
     let w : World = (known_of c.args.self.now).world in
     let there = rw c.in-Ok-Some.field-0-is at c.in-Ok-Some.ensures.place in
     let judged = rw c.in-Ok-Some.field-0-is at c.in-Ok-Some.ensures.judged in
-    let at : place w.tree c.args.path.now ≡ Ok (Some c.in-Ok-Some.row.now) = rw (← c.deref.ensures.value, ← c.as_slice.ensures.value) there in
-    let by : opening w.tree c.args.path.now c.args.how ≡ Ok (opened_edit c.args.how c.args.path.now (Some c.in-Ok-Some.row.now)) = rw (← c.deref.ensures.value, ← c.as_slice.ensures.value) judged in
+    let at : place w.tree c.args.path.now ≡ Ok (Some c.in-Ok-Some.row.now) = rw (← c.as_slice.ensures.value) there in
+    let by : opening w.tree c.args.path.now c.args.how ≡ Ok (opened_edit c.args.how c.args.path.now (Some c.in-Ok-Some.row.now)) = rw (← c.as_slice.ensures.value) judged in
     opened_as (known_of c.args.self.now) (known_of c.open_number.new.self) c.args.path.now c.args.how c.open_number.result c.in-Ok-Some.row.now None at
     (by ∙ ap (λ b. Ok (cond b (Some (fills c.in-Ok-Some.row.now.number [])) None)) (sym c.empties.ensures ∙ c.if-empties.false)) c.open_number.ensures

@@ -1,4 +1,4 @@
-use Rattle.std.proofs.Common.{◌≡◌, ◌≤◌, ◌+◌, [], Some, ap, sym, ◌∙◌, refl, arith}
+use Rattle.std.proofs.Common.{◌≡◌, ◌≤◌, ◌+◌, [], Some, ap, sym, ◌∙◌, arith}
 use Rattle.std.specs.Option.{option_map}
 use Rattle.dav_core.proofs.TablesLemmas.{updates_put}
 use Rattle.dav_core.specs.Tables.{at_key}
@@ -7,7 +7,6 @@ use Rattle.dav_core.specs.Changes.{file_added}
 use Rattle.dav_core.specs.Edits.{makes}
 use Rattle.dav_core.specs.declared.tree.Kind.TheVariants.{File}
 use Rattle.dav_core.specs.declared.change.Change.TheVariants.{AddFile}
-use Rattle.dav_disk.specs.declared.tables.Opened.{Opened}
 use Rattle.dav_disk.specs.Drawn.{drawn_in}
 use Rattle.dav_disk.specs.Making.{edited}
 use Rattle.dav_disk.specs.Files.{live_of}
@@ -25,7 +24,7 @@ returns c =
     let old : World = (known_of c.args.self.now).world in
     let v : World = drawn_in c.add_file.new.self old in
     let drawn = on_fine c.add_file.result _ c.is_err.result c.is_err.ensures.value c.if-is_err.false c.add_file.ensures in
-    let made : v ≡ file_added old c.args.path.now [] = drawn old ∙ ap (λ w. file_added w c.args.path.now []) (c.in-Ok.ensures old ∙ ap (λ rows. record old { tree = rows }) c.deref.ensures.value) in
+    let made : v ≡ file_added old c.args.path.now [] = drawn old ∙ ap (λ w. file_added w c.args.path.now []) (c.in-Ok.ensures old) in
     let left = file_is_left old c.args.path.now [] (sym c.has_row_left.ensures ∙ c.if-not-has_row_left.false) in
     let updates = on_fine c.insert.result _ c.is_err-2.result c.is_err-2.ensures.value c.if-is_err-2.false c.insert.ensures.updates in (
       v,
@@ -39,7 +38,7 @@ invariant_of-self-2 c =
     let old : World = (known_of c.args.self.now).world in
     let v : World = drawn_in c.add_file.new.self old in
     let drawn = on_fine c.add_file.result _ c.is_err.result c.is_err.ensures.value c.if-is_err.false c.add_file.ensures in
-    let made : v ≡ file_added old c.args.path.now [] = drawn old ∙ ap (λ w. file_added w c.args.path.now []) (c.in-Ok.ensures old ∙ ap (λ rows. record old { tree = rows }) c.deref.ensures.value) in
+    let made : v ≡ file_added old c.args.path.now [] = drawn old ∙ ap (λ w. file_added w c.args.path.now []) (c.in-Ok.ensures old) in
     let left = file_is_left old c.args.path.now [] (sym c.has_row_left.ensures ∙ c.if-not-has_row_left.false) in
     let edit : edited (makes c.args.path.now File []) old ≡ Some v = file_made old v c.args.path.now [] (free_place old.tree c.args.path.now c.args.self.now.tree c.requires) left made in
     let more : v.greatest ≡ old.greatest + 1 = made_greatest old v c.args.path.now edit in

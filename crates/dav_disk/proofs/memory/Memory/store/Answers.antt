@@ -13,7 +13,7 @@ invariant_of-self-2 c =
     let h = filled_holding old c.args.number c.args.bytes.items c.args.time
     (record { tree = c.args.self.now.tree; plain = c.args.self.now.plain; stored = c.args.self.now.stored; given = c.args.self.now.given }) c.requires.ticked c.requires.given in
     let p = on_fine c.store_file.result _ c.is_err.result c.is_err.ensures.value c.if-is_err.false c.store_file.ensures.ok in
-    let held = held_by (filled_now c.args.number c.args.bytes.items c.args.time old) c.set_number_time.new.rows.items (stored_at c.store_file.new.files) c.set_number_time.ensures p h in
+    let held = held_by (filled_now c.args.number c.args.bytes.items c.args.time old) c.set_number_time.new.self (stored_at c.store_file.new.files) c.set_number_time.ensures p h in
     record { tree = held.tree; plain = held.plain; stored = held.stored; given = held.given }
 
 pub invariant_of-self : goal.invariant_of-self

@@ -1,4 +1,4 @@
-use Rattle.std.proofs.Common.{◌<◌, ap, arith, length, vec_len}
+use Rattle.std.proofs.Common.{◌<◌, refl, ap, arith, length, vec_len}
 use Rattle.dav_core.specs.World.{World}
 use Rattle.dav_core.specs.Changes.{turned}
 use Rattle.dav_disk.specs.Drawn.{drawn_in}
@@ -14,8 +14,8 @@ invariant_of-self-2 c =
     let w : World = record old { script = c.remove.new.self.items } in
     let len : 0 < vec_len c.args.self.now.script = some_batch c.is_empty.result _ c.is_empty.ensures c.if-is_empty.false in
     let some : 0 < length c.args.self.now.script.items = omega (arith, c.args.self.now.script.ok) in
-    let made = turn_made old (drawn_in c.make.new.self w) (drawn_in c.in_ok-drawn.drawn w) c.deref.result.now c.remove.new.self.items c.as_slice.result.now c.index.result.now
-    some c.index.ensures c.as_slice.ensures c.remove.ensures.items c.deref.ensures.value (c.in_ok-drawn.ensures w) (c.in_ok-make.ensures w) in
+    let made = turn_made old (drawn_in c.make.new.self w) (drawn_in c.in_ok-drawn.drawn w) c.args.self.now.rows c.remove.new.self.items c.as_slice.result.now c.index.result.now
+    some c.index.ensures c.as_slice.ensures c.remove.ensures.items refl (c.in_ok-drawn.ensures w) (c.in_ok-make.ensures w) in
     let kept = kept_of (drawn_in c.make.new.self w) (turned old) made (turned_good old (good_of old c.args.self.now.tree c.args.self.now.stored c.args.self.now.given)) in
     record { tree = kept.tree; plain = c.make.new.self.plain; stored = kept.stored; given = turned_given (drawn_in c.make.new.self w) old made c.args.self.now.given }
 
@@ -25,5 +25,5 @@ returns-clause-ok c =
     let w : World = record old { script = c.remove.new.self.items } in
     let len : 0 < vec_len c.args.self.now.script = some_batch c.is_empty.result _ c.is_empty.ensures c.if-is_empty.false in
     let some : 0 < length c.args.self.now.script.items = omega (arith, c.args.self.now.script.ok) in
-    ap (λ v. knows v (live_at c.args.self.now.opens)) (turn_made old (drawn_in c.make.new.self w) (drawn_in c.in_ok-drawn.drawn w) c.deref.result.now c.remove.new.self.items c.as_slice.result.now c.index.result.now
-    some c.index.ensures c.as_slice.ensures c.remove.ensures.items c.deref.ensures.value (c.in_ok-drawn.ensures w) (c.in_ok-make.ensures w))
+    ap (λ v. knows v (live_at c.args.self.now.opens)) (turn_made old (drawn_in c.make.new.self w) (drawn_in c.in_ok-drawn.drawn w) c.args.self.now.rows c.remove.new.self.items c.as_slice.result.now c.index.result.now
+    some c.index.ensures c.as_slice.ensures c.remove.ensures.items refl (c.in_ok-drawn.ensures w) (c.in_ok-make.ensures w))

@@ -1,4 +1,4 @@
-use Rattle.std.proofs.Common.{◌≡◌, Some, true, false, ap, sym, ◌∙◌, refl}
+use Rattle.std.proofs.Common.{ap, sym, ◌∙◌}
 use Rattle.dav_core.specs.Tables.{at_key}
 use Rattle.dav_core.specs.Writing.{can_write, appends, write_place}
 use Rattle.dav_disk.specs.Calls.{Known}

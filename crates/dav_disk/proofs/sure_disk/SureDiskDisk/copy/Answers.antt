@@ -1,5 +1,4 @@
-use Rattle.std.proofs.Common.{◌≡◌, true, false, Err, refl, arith, rules}
-use Rattle.dav_core.specs.declared.handle.DiskError.TheVariants.{Failed}
+use Rattle.std.proofs.Common.{◌≡◌, true, false, refl, arith}
 use Rattle.dav_core.specs.Tree.{is_linked}
 use Rattle.dav_core.specs.Allowed.{Allowed, copying}
 use Rattle.dav_core.specs.Writing.{DoesIn, MayRefuseCopy}
@@ -7,7 +6,7 @@ use Rattle.dav_disk.specs.Calls.{Known}
 use Rattle.dav_disk.specs.Making.{is_spent}
 use Rattle.dav_disk.specs.Memory.{known_of}
 use Rattle.dav_disk.proofs.Judges.{copy_refuses}
-use Rattle.dav_disk.proofs.Makes.{does, does_in, fails_done, fails_in, fails_noted, fails_spent, follows_or, fails_only, noted_by, spent_fails}
+use Rattle.dav_disk.proofs.Makes.{does, does_in, fails_spent, fails_only, noted_by, spent_fails}
 use Rattle.dav_disk.proofs.Room.{makes_grew, spared, unspent}
 use Rattle.dav_disk.proofs.sure_disk.SureDiskDisk.copy.Goals as goal
 

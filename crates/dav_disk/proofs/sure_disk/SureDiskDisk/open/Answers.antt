@@ -1,10 +1,10 @@
-use Rattle.std.proofs.Common.{◌≡◌, ◌<◌, length, true, false, Err, refl, arith, rules}
+use Rattle.std.proofs.Common.{true, refl, arith}
 use Rattle.dav_core.specs.Allowed.{Allowed, opening}
 use Rattle.dav_disk.specs.Calls.{Known}
-use Rattle.dav_disk.specs.Making.{is_spent, writing}
+use Rattle.dav_disk.specs.Making.{is_spent}
 use Rattle.dav_disk.specs.Memory.{known_of}
-use Rattle.dav_disk.proofs.Makes.{fails_noted, follows_or, fails_only, noted_by}
-use Rattle.dav_disk.proofs.OpenDone.{open_done, open_fails_done, open_fails, fails_open}
+use Rattle.dav_disk.proofs.Makes.{fails_only, noted_by}
+use Rattle.dav_disk.proofs.OpenDone.{open_done, open_fails, fails_open}
 use Rattle.dav_disk.proofs.Room.{opens_grew, spared, unspent}
 use Rattle.dav_disk.proofs.sure_disk.SureDiskDisk.open.Goals as goal
 

@@ -1,0 +1,114 @@
+// The places of rows, by their paths.
+ghost use Rattle.std.specs.Prelude.{◌≡◌, ℕ, List, None, IfOk, OnOk, OnErr, is_some};
+ghost use Rattle.std.specs.BTreeMap.{keys, IsOrdered};
+ghost use Rattle.std.specs.Cmp.Lexicographic.{slice_cmp};
+ghost use Rattle.std.specs.Ordering.{nat_cmp};
+ghost use Rattle.dav_disk.specs.Listings.{AreSorted};
+ghost use Rattle.dav_disk.specs.Places.{place_in, has_name, IsAdded, IsKept, IsEachOnce};
+
+use dav_io::{NoMemory, Text};
+use std::alloc::Global;
+use std::collections::BTreeMap;
+
+// For each directory, the places of its members by their names.
+#[derive(Drop)]
+pub struct Places {
+    dirs: BTreeMap<Vec<Text>, BTreeMap<Text, usize>>,
+}
+
+// A copy of names.
+fn copied(alloc: Global, names: &[Text]) -> Result<Vec<Text>, NoMemory>
+    ensures { IfOk result (λ copy. copy.items ≡ names.now) }
+{
+    let mut copy = Vec::new(alloc);
+    for name in names {
+        copy.push(name.try_clone()?)?;
+    }
+    Ok(copy)
+}
+
+// The names of members, in order of their bytes.
+fn names_of(alloc: Global, members: &BTreeMap<Text, usize>) -> Result<Vec<Text>, NoMemory>
+    ensures names { IfOk result (λ v. v.items ≡ keys members.now) }
+    ensures ordered { IsOrdered (slice_cmp nat_cmp) members.now }
+{
+    let mut names = Vec::with_capacity(alloc, members.len())?;
+    for name in members.keys() {
+        names.push(name.try_clone()?)?;
+    }
+    Ok(names)
+}
+
+impl Places {
+    // No place.
+    pub fn new(alloc: Global) -> Self
+        ensures { (dir : List (List ℕ)) (name : List ℕ) → place_in result dir name ≡ None }
+    {
+        Places {
+            dirs: BTreeMap::new(alloc),
+        }
+    }
+
+    // The place of a name in a directory.
+    pub fn place(&self, dir: &[Text], name: &Text) -> Option<usize>
+        ensures { result ≡ place_in self.now dir.now name.now }
+    {
+        match self.dirs.get(dir) {
+            Some(members) => members.get(name).copied(),
+            None => None,
+        }
+    }
+
+    // Gives a name that has none a place.
+    fn put(
+        &mut self,
+        alloc: Global,
+        dir: &[Text],
+        name: &Text,
+        place: usize,
+    ) -> Result<(), NoMemory>
+        requires { place_in self.old dir.now name.now ≡ None }
+        ensures ok { OnOk result (IsAdded dir.now name.now place self.old self.new) }
+        ensures err { OnErr result (IsKept self.old self.new) }
+    {
+        let name = name.try_clone()?;
+        if let Some(members) = self.dirs.get_mut(dir) {
+            members.insert(name, place)?;
+            return Ok(());
+        }
+        let mut members = BTreeMap::new(alloc);
+        members.insert(name, place)?;
+        self.dirs.insert(copied(alloc, dir)?, members)?;
+        Ok(())
+    }
+
+    // Gives a name a place. One that has a place keeps it.
+    pub fn add(
+        &mut self,
+        alloc: Global,
+        dir: &[Text],
+        name: &Text,
+        place: usize,
+    ) -> Result<(), NoMemory>
+        ensures ok { OnOk result (IsAdded dir.now name.now place self.old self.new) }
+        ensures err { OnErr result (IsKept self.old self.new) }
+    {
+        if self.place(dir, name).is_some() {
+            return Ok(());
+        }
+        self.put(alloc, dir, name, place)
+    }
+
+    // The names that have a place in a directory, in order of their bytes.
+    pub fn names(&self, alloc: Global, dir: &[Text]) -> Result<Vec<Text>, NoMemory>
+        ensures once { IfOk result (λ v. IsEachOnce v.items) }
+        ensures sorted { IfOk result (λ v. AreSorted v.items) }
+        ensures all { IfOk result (λ v. (name : List ℕ)
+            → has_name v.items name ≡ is_some (place_in self.now dir.now name)) }
+    {
+        match self.dirs.get(dir) {
+            Some(members) => Ok(names_of(alloc, members)?),
+            None => Ok(Vec::new(alloc)),
+        }
+    }
+}
