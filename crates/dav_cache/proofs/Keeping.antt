@@ -75,7 +75,7 @@ twice : (a c : Bool) → (a || c) ≡ (a || (a || c))
 twice true c = refl
 twice false c = refl
 
-any-kept : (x n : Name) (names : List Name) → list_any (same_name x) (kept n names) ≡ (same_name x n || list_any (same_name x) names)
+pub any-kept : (x n : Name) (names : List Name) → list_any (same_name x) (kept n names) ≡ (same_name x n || list_any (same_name x) names)
 any-kept x n [] = refl
 any-kept x n (m ∷ ms) =
     kept-case (λ l. list_any (same_name x) l ≡ (same_name x n || (same_name x m || list_any (same_name x) ms))) n m ms

@@ -83,9 +83,19 @@ pub trait Remember {
             → may_seal self.new dir time names };
 }
 
+/// A memory that may be sealed with any names. What a store listed may be remembered in such a one, whatever it was.
+pub trait RememberAny: Remember {
+    ghost seals: { (memory : Self) (dir : Names) (time : Time) (names : List Name)
+        → Self.Remember.may_seal memory dir time names };
+}
+
 /// A memory that remembers nothing.
 #[derive(Clone, Copy, Debug)]
 pub struct Forget;
+
+impl RememberAny for Forget {
+    ghost seals = { λ _ _ _ _. tt };
+}
 
 impl Remember for Forget {
     ghost state = { λ _. memory.nothing_kept };

@@ -13,6 +13,7 @@ use Rattle.dav_core.specs.declared.handle.DiskError.TheVariants as disk
 use Rattle.dav_core.specs.declared.handle.Lister.{Lister}
 use Rattle.dav_core.specs.declared.handle.Meta.{Meta}
 use Rattle.dav_core.specs.declared.time.FileTime.{FileTime}
+use Rattle.dav_core.specs.declared.member.Member.{Member}
 use Rattle.dav_core.specs.declared.tree.Kind.{Kind}
 use Rattle.dav_core.specs.declared.tree.Row.{Row}
 use Rattle.dav_core.specs.DavPath.{WebPath, last_name}
@@ -33,6 +34,7 @@ use Rattle.dav_store.specs.Shows.{LooksThere, OpensThere}
 use Rattle.dav_store.specs.Standing.{Seen}
 use Rattle.dav_store.specs.Void.{empty_info}
 use Rattle.dav_store.proofs.Reading.{rose_from}
+use Rattle.dav_cache.specs.Builder.{BuilderState}
 use Rattle.dav_cache.specs.Memory as cache
 use Rattle.dav_cache.specs.Memory.{Denied, LearnsNothing, MemoryState, Negates}
 use Rattle.dav_model.specs.Finding.{Denies, EndsLoosely, has_slash, is_localized, is_named, is_virtual, listed_in, members_or}
@@ -43,12 +45,13 @@ use Rattle.dav_model.proofs.PlainWalks.{linked_below}
 use Rattle.dav_local.specs.declared.file.LocalFsFile.{LocalFsFile}
 use Rattle.dav_local.specs.Calls.{AfterFound, Asks, BeginsAt, Finds, IsOpening, Looks, LooksAt, AfterAbsent, Place, TellsAbsent, asks_memory, is_shut}
 use Rattle.dav_local.specs.Files.{filed, looked_as, seen_by}
+use Rattle.dav_local.specs.Gathering.{BeginsDir, LocalFsReadDir, dir_with, gathers}
 use Rattle.dav_local.specs.Listing.{ListingState, dir_of}
 use Rattle.dav_local.specs.Resolving.{Leads, Resolves}
 use Rattle.dav_local.specs.Shown.{ListsByRules, LooksByRules, OpensByRules, empty_standing, knowledge_of, looked_by, opened_by}
 use Rattle.dav_local.specs.Standing.{found, seen_in, seen_with}
 use Rattle.dav_local.specs.Ways.{Ways, resolved_by, rules_of}
-use Rattle.dav_local.proofs.Keeping.{asked_keeps}
+use Rattle.dav_local.proofs.Keeping.{asked_keeps, metas_keep}
 use Rattle.dav_local.proofs.Memories.{denied_before}
 use Rattle.dav_local.proofs.Rows.{splits}
 use Rattle.dav_local.proofs.Showing.{looks_there, opens_there}
@@ -383,7 +386,7 @@ opens_by_rules p q w path result told world opening = by_shut (is_shut p.ways pa
 
 -- ---- listings
 
-abbrev Listed : Place → World → WebPath → Result ListingState FsError → Place → Type 0
+abbrev Listed : Place → World → WebPath → Result LocalFsReadDir FsError → Place → Type 0
 Listed p w path result q = ListsByRules p.ways w path p.disk result q.disk
 
 members_there : (w : World) (dir : Names) (stands : Result Row DiskError) (d : ListingState) → IsOk stands → BeginsThere (members_or w dir stands) (Ok d)
@@ -410,23 +413,60 @@ begins_there v at wanted (Err e) s t told clear lists =
     refused_there e v at (listable (look v.tree at)) s t (listed.1 clear) lists.counted
 
 -- whether a listing is begun doesn't ask what is open
-pub begun_by : (w v : World) (at : Names) (stands : Result Row DiskError) (r : Result ListingState FsError) → BeginsThere (members_or v at stands) r → BeginsThere (members_or w at stands) r
+pub begun_by : {L : Type 0} (w v : World) (at : Names) (stands : Result Row DiskError) (r : Result L FsError) → BeginsThere (members_or v at stands) r → BeginsThere (members_or w at stands) r
 begun_by w v at (Ok row) (Ok d) there = tt
 begun_by w v at (Ok row) (Err e) there = absurd there
 begun_by w v at (Err e) (Ok d) there = absurd there
 begun_by w v at (Err e) (Err f) there = there
 
-no_listing : {A : Type 0} (d : ListingState) (e : FsError) → ◌≡◌ {A = Result ListingState FsError} (Ok d) (Err e) → A
+-- the same, whatever is gathered from it
+begun_with : (builder : Option BuilderState) (found : Result (List Member) FsError) (r : Result ListingState FsError) (s t : DiskState) → BeginsThere found r ⊎ Spoiled s r t
+    → BeginsThere found (dir_with builder r) ⊎ Spoiled s (dir_with builder r) t
+begun_with builder (Ok all) (Ok d) s t there = inl tt
+begun_with builder (Err e) (Ok d) s t (inl never) = absurd never
+begun_with builder (Err e) (Ok d) s t (inr (inl (is, rose))) = cc
+begun_with builder (Err e) (Ok d) s t (inr (inr is)) = cc
+begun_with builder (Ok all) (Err f) s t (inl never) = absurd never
+begun_with builder (Err e) (Err f) s t (inl there) = inl there
+begun_with builder found (Err f) s t (inr (inl (is, rose))) = inr (inl (cc, rose))
+begun_with builder found (Err f) s t (inr (inr is)) = inr (inr cc)
+
+begun_dir : (gathers : Bool) (v : World) (at : Names) (wanted : ReadDirMeta) (result : Result LocalFsReadDir FsError) (s t : DiskState) → s.told ≡ Some v → is_linked v.tree at ≡ false
+    → BeginsDir gathers at wanted s result t → BeginsThere (members_or v at (listable (look v.tree at))) result ⊎ Spoiled s result t
+begun_dir false v at wanted result s t told clear (begun, (answer, lists, is), whole) =
+    subst (λ (r : Result LocalFsReadDir FsError). BeginsThere (members_or v at (listable (look v.tree at))) r ⊎ Spoiled s r t) (sym whole)
+    (begun_with None (members_or v at (listable (look v.tree at))) begun s t
+    (subst (λ (r : Result ListingState FsError). BeginsThere (members_or v at (listable (look v.tree at))) r ⊎ Spoiled s r t) (sym is) (begins_there v at wanted answer s t told clear lists)))
+begun_dir true v at wanted result s t told clear (inl (starved, same)) = inr (inr starved)
+begun_dir true v at wanted result s t told clear (inr (b, u, (found, metas, is_b), begun, (answer, lists, is), whole)) =
+    let keeps = metas_keep true s at found u metas in
+    let (x, now, still) = told_after s.told u.told SameBesidesOpens v keeps.world told in
+    let there = subst (λ (r : Result ListingState FsError). BeginsThere (members_or x at (listable (look x.tree at))) r ⊎ Spoiled u r t) (sym is)
+    (begins_there x at wanted answer u t now (ap (λ rows. is_linked rows at) still.tree ∙ clear) lists) in
+    subst (λ (r : Result LocalFsReadDir FsError). BeginsThere (members_or v at (listable (look v.tree at))) r ⊎ Spoiled s r t) (sym whole)
+    (begun_with (Some b) (members_or v at (listable (look v.tree at))) begun s t (back x still keeps.counts there))
+  where
+    back : (x : World) → SameBesidesOpens v x → s.faults ≤ u.faults → BeginsThere (members_or x at (listable (look x.tree at))) begun ⊎ Spoiled u begun t
+        → BeginsThere (members_or v at (listable (look v.tree at))) begun ⊎ Spoiled s begun t
+    back x still up (inl there) = inl (begun_by v x at (listable (look v.tree at)) begun (subst (λ rows. BeginsThere (members_or x at (listable (look rows at))) begun) still.tree there))
+    back x still up (inr spoiled) = inr (spoiled_later s u t begun up spoiled)
+
+no_listing : {A : Type 0} (d : LocalFsReadDir) (e : FsError) → ◌≡◌ {A = Result LocalFsReadDir FsError} (Ok d) (Err e) → A
 no_listing d e is = cc
 
 -- the path of a listing is that of its directory
-listed_path : (at : Names) (wanted : ReadDirMeta) (answer : Result Lister DiskError) (d : ListingState) → dir_of at wanted answer ≡ Ok d → d.path ≡ at
-listed_path at wanted (Ok lister) d is =
-    let same : record { lister = lister; path = at; wanted = wanted; batch = []; refused = None; over = false } ≡ d = cc in
-    ap (λ (x : ListingState). x.path) (sym same)
-listed_path at wanted (Err e) d is = no_listing d (fs_error_of e) (sym is)
+path_with : (builder : Option BuilderState) (at : Names) (wanted : ReadDirMeta) (answer : Result Lister DiskError) (d : LocalFsReadDir) → dir_with builder (dir_of at wanted answer) ≡ Ok d → d.reading.path ≡ at
+path_with builder at wanted (Ok lister) d is =
+    let same : record { reading = record { lister = lister; path = at; wanted = wanted; batch = []; refused = None; over = false }; builder = builder } ≡ d = cc in
+    ap (λ (x : LocalFsReadDir). x.reading.path) (sym same)
+path_with builder at wanted (Err e) d is = no_listing d (fs_error_of e) (sym is)
 
-listed_in_by : (p m q : Place) (w : World) (path : WebPath) (wanted : ReadDirMeta) (found_at : Result Names FsError) (result : Result ListingState FsError) → p.disk.told ≡ Some w
+listed_path : (gathers : Bool) (at : Names) (wanted : ReadDirMeta) (s t : DiskState) (d : LocalFsReadDir) → BeginsDir gathers at wanted s (Ok d) t → d.reading.path ≡ at
+listed_path false at wanted s t d (begun, (answer, lists, is), whole) = path_with None at wanted answer d (ap (dir_with None) (sym is) ∙ sym whole)
+listed_path true at wanted s t d (inl (starved, same)) = no_listing d fs.NoMemory starved
+listed_path true at wanted s t d (inr (b, u, starts, begun, (answer, lists, is), whole)) = path_with (Some b) at wanted answer d (ap (dir_with (Some b)) (sym is) ∙ sym whole)
+
+listed_in_by : (p m q : Place) (w : World) (path : WebPath) (wanted : ReadDirMeta) (found_at : Result Names FsError) (result : Result LocalFsReadDir FsError) → p.disk.told ≡ Some w
     → Resolves p path.names found_at m → AfterFound found_at m (BeginsAt wanted) result q → Listed p w path result q
 listed_in_by p m q w path wanted (Err e) result told resolves (is, ends) = record {
   end = resolved_by p.ways w.tree path.names;
@@ -434,14 +474,14 @@ listed_in_by p m q w path wanted (Err e) result told resolves (is, ends) = recor
   shows = λ clear. inr (subst (λ (x : Place). Spoiled p.disk result x.disk) (sym ends) (spoiled_by p.disk p.disk m.disk e result (omega arith) is resolves.refused));
   at_end = λ d ok clear. no_listing d e (sym ok ∙ is);
 }
-listed_in_by p m q w path wanted (Ok at) result told resolves (t, (answer, lists, is), ends) =
+listed_in_by p m q w path wanted (Ok at) result told resolves (t, begins, ends) =
     let leads = resolves.told w told in
     let (v, now, same) = told_after p.disk.told m.disk.told SameBesidesOpens w resolves.keeps.world told in
     record {
       end = leads.end;
       loosely = leads.loosely;
       shows = λ clear. shows leads clear v now same;
-      at_end = λ d ok clear. listed_path at wanted answer d (sym is ∙ ok) ∙ leads.here clear;
+      at_end = λ d ok clear. listed_path (gathers m.ways.macos wanted) at wanted m.disk t d (subst (λ (r : Result LocalFsReadDir FsError). BeginsDir (gathers m.ways.macos wanted) at wanted m.disk r t) ok begins) ∙ leads.here clear;
     }
   where
     shows : (leads : Leads p.ways w.tree path.names at) → is_linked w.tree leads.end ≡ false → (v : World) → m.disk.told ≡ Some v → SameBesidesOpens w v
@@ -449,14 +489,14 @@ listed_in_by p m q w path wanted (Ok at) result told resolves (t, (answer, lists
     shows leads clear v now same =
         let here = leads.here clear in
         let ended : q.disk ≡ t = ap (λ (x : Place). x.disk) ends in
-        elim (begins_there v at wanted answer m.disk t now (ap (λ rows. is_linked rows at) same.tree ∙ ap (is_linked w.tree) here ∙ clear) lists) [
+        elim (begun_dir (gathers m.ways.macos wanted) v at wanted result m.disk t now (ap (λ rows. is_linked rows at) same.tree ∙ ap (is_linked w.tree) here ∙ clear) begins) [
           | inl there ↦ inl (subst (λ z. BeginsThere (listed_in w z) result) here
               (subst (λ rows. BeginsThere (members_or w at (listable (look rows at))) result) same.tree
-              (begun_by w v at (listable (look v.tree at)) result (subst (λ r. BeginsThere (members_or v at (listable (look v.tree at))) r) (sym is) there))))
-          | inr spoiled ↦ inr (subst (λ d. Spoiled p.disk result d) (sym ended) (spoiled_later p.disk m.disk t result resolves.keeps.counts (subst (λ r. Spoiled m.disk r t) (sym is) spoiled)))
+              (begun_by w v at (listable (look v.tree at)) result there)))
+          | inr spoiled ↦ inr (subst (λ d. Spoiled p.disk result d) (sym ended) (spoiled_later p.disk m.disk t result resolves.keeps.counts spoiled))
         ]
 
 -- Each beginning of a listing is answered by the rules.
-pub lists_by_rules : (p q : Place) (w : World) (path : WebPath) (wanted : ReadDirMeta) (result : Result ListingState FsError) → p.disk.told ≡ Some w
+pub lists_by_rules : (p q : Place) (w : World) (path : WebPath) (wanted : ReadDirMeta) (result : Result LocalFsReadDir FsError) → p.disk.told ≡ Some w
     → Finds p path.names (BeginsAt wanted) result q → Listed p w path result q
 lists_by_rules p q w path wanted result told (found_at, m, resolves, after) = listed_in_by p m q w path wanted found_at result told resolves after

@@ -17,4 +17,7 @@ pub mod Framing
 pub mod Showing
 pub mod ByRules
 pub mod Allowed
+pub mod Gathered
+pub mod EntriesTold
+pub mod Fronts
 pub mod Walked

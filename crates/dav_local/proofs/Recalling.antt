@@ -61,12 +61,12 @@ got_first None (Some b) names s t f both = absurd both
 got_first (Some a) None names s t f both = absurd both
 got_first (Some a) (Some b) names s t f both = looked_first (lookup (same_path (kept_path names)) a.entries) a b names s t f both
 
-no_rise : (a b : ℕ) → RefusedNothing a b → Rose a b → ⊥
+pub no_rise : (a b : ℕ) → RefusedNothing a b → Rose a b → ⊥
 no_rise a b nothing (inl lt) = absurd (omega (arith, nothing.same, lt))
 no_rise a b nothing (inr full) = absurd (omega (arith, nothing.room, full))
 
 -- What stands there is refused only because of a fault.
-no_refusal : (e : DiskError) (found : Result Row DiskError) (row : Row) → MayRefuseMeta e → Refused e found → found ≡ Ok row → (e ≡ Failed → ⊥) → ⊥
+pub no_refusal : (e : DiskError) (found : Result Row DiskError) (row : Row) → MayRefuseMeta e → Refused e found → found ≡ Ok row → (e ≡ Failed → ⊥) → ⊥
 no_refusal NotFound found row may refused stands fault = cc
 no_refusal NotDir found row may refused stands fault = cc
 no_refusal IsDir found row may refused stands fault = absurd may

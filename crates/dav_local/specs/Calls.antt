@@ -25,7 +25,7 @@ use Rattle.dav_model.specs.Finding.{has_slash, is_forbidden, is_localized, is_vi
 use Rattle.dav_model.specs.Folds.{Name, is_dot}
 use Rattle.dav_local.specs.declared.file.LocalFsFile.{LocalFsFile}
 use Rattle.dav_local.specs.Files.{done_by, filed, looked_as}
-use Rattle.dav_local.specs.Listing.{Begins, ListingState}
+use Rattle.dav_local.specs.Gathering.{BeginsDir, LocalFsReadDir, gathers}
 pub use Rattle.dav_local.specs.Places.{Place, Stays, place_of}
 use Rattle.dav_local.specs.Resolving.{Resolves}
 use Rattle.dav_local.specs.Ways.{Ways, rules_of}
@@ -93,8 +93,9 @@ abbrev pub IsOpening : Place → WebPath → OpenOptions → Result LocalFsFile 
 IsOpening p path how result q = Unless (is_shut p.ways path) p
     (λ p. Finds p path.names (λ at. Asks (λ s answer t. Opens s at how answer t) filed)) result q
 
-abbrev pub BeginsAt : ReadDirMeta → Names → Place → Result ListingState FsError → Place → Type 0
-BeginsAt wanted at p result q = (t : DiskState) × Begins p.disk at wanted result t × (q ≡ record p { disk = t })
+abbrev pub BeginsAt : ReadDirMeta → Names → Place → Result LocalFsReadDir FsError → Place → Type 0
+BeginsAt wanted at p result q = (t : DiskState) × BeginsDir (gathers p.ways.macos wanted) at wanted p.disk result t
+    × (q ≡ record p { disk = t })
 
 abbrev pub AsksToMake : Place → WebPath → Result Unit FsError → Place → Type 0
 AsksToMake p path result q = Unless (is_forbidden (rules_of p.ways) path) p

@@ -10,5 +10,6 @@ pub mod Resolving
 pub mod Remembering
 pub mod Walking
 pub mod Listing
+pub mod Gathering
 pub mod Calls
 pub mod Shown

@@ -1,4 +1,4 @@
--- What a local store answers of listings, by what its disk answers.
+-- What a listing of a disk answers that is read in batches, by what the disk answers.
 use Rattle.std.specs.Prelude.{◌≡◌, ◌≤◌, ◌+◌, ◌||◌, ℕ, suc, List, [], ◌∷◌, ◌++◌, length, Bool, true, false, Option, None, Some, Result, Ok, Err}
 use Rattle.std.specs.Option.{is_some}
 use Rattle.dav_core.specs.declared.error.FsError.{FsError}
@@ -100,6 +100,10 @@ Gives [] None d result e = (result ≡ Ok None) × (e ≡ d)
 
 abbrev pub NextEntry : DiskState → ListingState → Result (Option LocalFsDirEntry) FsError → DiskState → ListingState → Type 0
 NextEntry s d result t e = (f : ListingState) × Refills d.batch s d t f × Gives f.batch f.refused f result e
+
+-- It gives nothing more, and asks the disk no more.
+abbrev pub stopped : ListingState → ListingState
+stopped d = record d { batch = []; refused = None; over = true }
 
 -- ---- how many answers are to come: the entries that were read, a fault, and as many as the disk has names to come
 

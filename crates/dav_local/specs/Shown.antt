@@ -26,7 +26,7 @@ use Rattle.dav_local.specs.declared.entry.LocalFsDirEntry.{LocalFsDirEntry}
 use Rattle.dav_local.specs.declared.file.LocalFsFile.{LocalFsFile}
 use Rattle.dav_local.specs.Calls.{is_shut}
 use Rattle.dav_local.specs.Files.{seen_by}
-use Rattle.dav_local.specs.Listing.{ListingState}
+use Rattle.dav_local.specs.Gathering.{LocalFsReadDir}
 use Rattle.dav_local.specs.Standing.{found}
 use Rattle.dav_local.specs.Ways.{Ways, rules_of}
 
@@ -89,11 +89,11 @@ finding_of rules w looked opened listed denies = record {
 }
 
 -- A listing that is begun likewise: of a directory that stands where the path is found.
-pub record ListsByRules (ways : Ways) (w : World) (path : WebPath) (s : DiskState) (result : Result ListingState FsError) (t : DiskState) : Type 0 where
+pub record ListsByRules (ways : Ways) (w : World) (path : WebPath) (s : DiskState) (result : Result LocalFsReadDir FsError) (t : DiskState) : Type 0 where
   pub end : Names
   pub loosely : EndsLoosely ways.alone ways.folds w.tree path.names end
   pub shows : is_linked w.tree end ≡ false → BeginsThere (listed_in w end) result ⊎ Spoiled s result t
-  pub at_end : (d : ListingState) → result ≡ Ok d → is_linked w.tree end ≡ false → d.path ≡ end
+  pub at_end : (d : LocalFsReadDir) → result ≡ Ok d → is_linked w.tree end ≡ false → d.reading.path ≡ end
 
 -- ---- walks over listings
 

@@ -32,6 +32,13 @@ impl LocalFsDirEntry {
     {
         LocalFsDirEntry { name, meta }
     }
+
+    // Its name.
+    pub(crate) fn text(&self) -> &str
+        ensures { result.now ≡ self.now.name }
+    {
+        self.name.as_str()
+    }
 }
 
 impl<D: Disk> DavDirEntry<D> for LocalFsDirEntry {
@@ -44,7 +51,7 @@ impl<D: Disk> DavDirEntry<D> for LocalFsDirEntry {
     ghost says = { λ e s result t. Says e.meta s result t };
 
     fn name(&self) -> &str {
-        self.name.as_str()
+        self.text()
     }
 
     fn metadata(&self, disk: &mut D) -> Result<LocalFsMetaData, FsError> {

@@ -22,19 +22,19 @@ ghost use Rattle.dav_local.specs.declared.entry.LocalFsDirEntry.{LocalFsDirEntry
 ghost use Rattle.dav_local.specs.declared.file.LocalFsFile.{LocalFsFile};
 ghost use Rattle.dav_local.specs.declared.fs.LocalFs.{LocalFs};
 ghost use Rattle.dav_local.specs.Shown.{EndsBy, ListsByRules, LooksByRules, OpensByRules, as_stood, finding_of, found_at, knowledge_of, looked_by, opened_by, shown_where};
-ghost use Rattle.dav_local.specs.Listing.{ListingState};
+ghost use Rattle.dav_local.specs.Gathering.{LocalFsReadDir};
 ghost use Rattle.dav_store.specs.declared.entry.ReadDirMeta.{ReadDirMeta};
 ghost use Rattle.dav_local.specs.Standing.{HasNoLinks, seen_at};
 ghost use Rattle.dav_local.specs.Ways.{Ways, rules_with};
 
 use crate::{LocalFs, LocalFsDirEntry, LocalFsFile};
-use dav_cache::Remember;
+use dav_cache::RememberAny;
 use dav_core::{DavPath, Disk};
 use dav_store::{DavDirEntry, DavFile, DavFileSystem, GuardedFileSystem};
 
 /// Over a told disk each look is answered by the rules for a place where a loose walk of the path ends, whatever the
 /// memory knows and however many names fold alike.
-pub fn looks_are_by_the_rules<D: Disk, R: Remember>(_fs: &LocalFs<D, R>, _path: &DavPath)
+pub fn looks_are_by_the_rules<D: Disk, R: RememberAny>(_fs: &LocalFs<D, R>, _path: &DavPath)
     ensures { (w : World) (result : Result Info FsError) (t : LocalFs D R)
         → (D.state _fs.now.disk).told ≡ Some w
         → ⟦<LocalFs<D, R> as DavFileSystem>⟧.looks _fs.now _path.now result t
@@ -43,7 +43,7 @@ pub fn looks_are_by_the_rules<D: Disk, R: Remember>(_fs: &LocalFs<D, R>, _path: 
 {}
 
 /// Over a told disk each opening for reading likewise.
-pub fn openings_are_by_the_rules<D: Disk, R: Remember>(_fs: &LocalFs<D, R>, _path: &DavPath)
+pub fn openings_are_by_the_rules<D: Disk, R: RememberAny>(_fs: &LocalFs<D, R>, _path: &DavPath)
     ensures { (w : World) (result : Result LocalFsFile FsError) (t : LocalFs D R)
         → (D.state _fs.now.disk).told ≡ Some w
         → ⟦<LocalFs<D, R> as DavFileSystem>⟧.opens _fs.now _path.now reading result t
@@ -51,8 +51,8 @@ pub fn openings_are_by_the_rules<D: Disk, R: Remember>(_fs: &LocalFs<D, R>, _pat
 {}
 
 /// Over a told disk each beginning of a listing likewise.
-pub fn listings_are_by_the_rules<D: Disk, R: Remember>(_fs: &LocalFs<D, R>, _path: &DavPath)
-    ensures { (w : World) (wanted : ReadDirMeta) (result : Result ListingState FsError) (t : LocalFs D R)
+pub fn listings_are_by_the_rules<D: Disk, R: RememberAny>(_fs: &LocalFs<D, R>, _path: &DavPath)
+    ensures { (w : World) (wanted : ReadDirMeta) (result : Result LocalFsReadDir FsError) (t : LocalFs D R)
         → (D.state _fs.now.disk).told ≡ Some w
         → ⟦<LocalFs<D, R> as DavFileSystem>⟧.lists _fs.now _path.now wanted result t
         → ListsByRules _fs.now.ways w _path.now (D.state _fs.now.disk) result (D.state t.disk) }
@@ -61,20 +61,20 @@ pub fn listings_are_by_the_rules<D: Disk, R: Remember>(_fs: &LocalFs<D, R>, _pat
 /// Over a told disk, a walk over the listing of a directory, where no link stands on the way to it or at one of its
 /// members, is told of its members, each once. It ends where all were given, for want of memory, or because of a fault
 /// that was met since the listing was asked for.
-pub fn walks_tell_the_members<D: Disk, R: Remember>(_fs: &LocalFs<D, R>, _path: &DavPath)
-    ensures each { (w : World) (n o : LocalFs D R) (l k : ListingState) (answers : List Answered)
+pub fn walks_tell_the_members<D: Disk, R: RememberAny>(_fs: &LocalFs<D, R>, _path: &DavPath)
+    ensures each { (w : World) (n o : LocalFs D R) (l k : LocalFsReadDir) (answers : List Answered)
         → (D.state _fs.now.disk).told ≡ Some w
-        → ⟦<LocalFs<D, R> as DavFileSystem>⟧.lists _fs.now _path.now Data (Ok l) n → HasNoLinks w l.path
+        → ⟦<LocalFs<D, R> as DavFileSystem>⟧.lists _fs.now _path.now Data (Ok l) n → HasNoLinks w l.reading.path
         → Walked (the_view ⟦<LocalFs<D, R> as GuardedFileSystem<()>>⟧ D.Disk ⟦<LocalFsFile as DavFile<D>>⟧)
         (the_listings ⟦<LocalFs<D, R> as GuardedFileSystem<()>>⟧ ⟦<LocalFsDirEntry as DavDirEntry<D>>⟧) n l answers o k
-        → AreOf (members w l.path) (D.state _fs.now.disk).faults (D.state o.disk).faults answers }
-    ensures ends { (w : World) (n o t : LocalFs D R) (l k j : ListingState) (answers : List Answered)
+        → AreOf (members w l.reading.path) (D.state _fs.now.disk).faults (D.state o.disk).faults answers }
+    ensures ends { (w : World) (n o t : LocalFs D R) (l k j : LocalFsReadDir) (answers : List Answered)
         (last : Result (Option LocalFsDirEntry) FsError) → (D.state _fs.now.disk).told ≡ Some w
-        → ⟦<LocalFs<D, R> as DavFileSystem>⟧.lists _fs.now _path.now Data (Ok l) n → HasNoLinks w l.path
+        → ⟦<LocalFs<D, R> as DavFileSystem>⟧.lists _fs.now _path.now Data (Ok l) n → HasNoLinks w l.reading.path
         → Walked (the_view ⟦<LocalFs<D, R> as GuardedFileSystem<()>>⟧ D.Disk ⟦<LocalFsFile as DavFile<D>>⟧)
         (the_listings ⟦<LocalFs<D, R> as GuardedFileSystem<()>>⟧ ⟦<LocalFsDirEntry as DavDirEntry<D>>⟧) n l answers o k
         → ⟦<LocalFs<D, R> as DavFileSystem>⟧.lists_on o k last t j
-        → EndsBy (D.state _fs.now.disk).faults (members w l.path) answers last (D.state t.disk).faults }
+        → EndsBy (D.state _fs.now.disk).faults (members w l.reading.path) answers last (D.state t.disk).faults }
 {}
 
 /// What the store shows at a place is what the rules show of a path that is found there, where no link stands on the

@@ -2,7 +2,7 @@ ghost use Rattle.std.specs.Prelude.{◌≡◌, ◌⊎◌, Err, None, Ok, Some, f
 ghost use Rattle.dav_core.specs.Path.{is_plain};
 ghost use Rattle.dav_core.specs.Unchanged.{Keeps};
 ghost use Rattle.dav_store.specs.Listings.{GoesOn, HasLister, ListsOne, Nearer};
-ghost use Rattle.dav_local.specs.Listing.{Begins, Filled, GivesEntry, Gives, NextEntry, ReadsOne, Refilled, is_ended as the_is_ended, to_come, with_given};
+ghost use Rattle.dav_local.specs.Listing.{Begins, Filled, GivesEntry, Gives, NextEntry, ReadsOne, Refilled, is_ended as the_is_ended, stopped, to_come, with_given};
 
 use crate::lists::{begin_list, next_name};
 use crate::meta::said;
@@ -16,10 +16,10 @@ use std::marker::Model;
 // How many names are read at a time.
 const BATCH: u32 = 256;
 
-/// A listing, of which the names are read in batches of at most 256, with their metadata where it is asked for. A fault
-/// ends it.
+// A listing of a disk, of which the names are read in batches of at most 256, with their metadata where it is asked for.
+// A fault ends it.
 #[derive(Drop)]
-pub struct LocalFsReadDir {
+pub struct Reading {
     lister: Lister,
     path: FsPath,
     wanted: ReadDirMeta,
@@ -31,7 +31,7 @@ pub struct LocalFsReadDir {
     over: bool,
 }
 
-impl Model for LocalFsReadDir {
+impl Model for Reading {
     ghost use Rattle.dav_local.specs.Listing.{ListingState};
 
     ghost Value = { ListingState };
@@ -46,12 +46,21 @@ impl Model for LocalFsReadDir {
     } };
 }
 
-impl LocalFsReadDir {
+impl Reading {
     // The disk's lister.
     pub(crate) fn lister(&self) -> Lister
         ensures { result ≡ self.now.lister }
     {
         self.lister
+    }
+
+    // Gives nothing more, and asks the disk no more.
+    pub(crate) fn stop(&mut self)
+        ensures { self.new ≡ stopped self.old }
+    {
+        self.batch.clear();
+        self.refused = None;
+        self.over = true;
     }
 
     // Whether nothing more is read for a batch.
@@ -74,18 +83,14 @@ impl LocalFsReadDir {
 }
 
 // Begins a listing of the directory at a path.
-pub fn begin<D: Disk>(
-    disk: &mut D,
-    path: FsPath,
-    wanted: ReadDirMeta,
-) -> Result<LocalFsReadDir, FsError>
+pub fn begin<D: Disk>(disk: &mut D, path: FsPath, wanted: ReadDirMeta) -> Result<Reading, FsError>
     ensures done { Begins (D.state disk.old) path wanted result (D.state disk.new) }
     ensures one { ListsOne (λ d. Some d.lister.0) (D.state disk.old) result (D.state disk.new) }
     ensures loan { D.loan disk.new ≡ D.loan disk.old }
 {
     let alloc = path.allocator();
     match begin_list(disk, &path) {
-        Ok(lister) => Ok(LocalFsReadDir {
+        Ok(lister) => Ok(Reading {
             lister,
             path,
             wanted,
@@ -121,7 +126,7 @@ fn entry_of<D: Disk>(
 }
 
 // Asks the disk for one name more.
-fn read_one<D: Disk>(disk: &mut D, dir: &mut LocalFsReadDir)
+fn read_one<D: Disk>(disk: &mut D, dir: &mut Reading)
     requires live { HasLister (D.state disk.old) (Some dir.old.lister.0) }
     requires going { the_is_ended dir.old ≡ false }
     ensures done { ReadsOne (D.state disk.old) dir.old (D.state disk.new) dir.new }
@@ -144,7 +149,7 @@ fn read_one<D: Disk>(disk: &mut D, dir: &mut LocalFsReadDir)
 }
 
 // Reads the next batch.
-fn fill<D: Disk>(disk: &mut D, dir: &mut LocalFsReadDir)
+fn fill<D: Disk>(disk: &mut D, dir: &mut Reading)
     requires { HasLister (D.state disk.old) (Some dir.old.lister.0) }
     ensures done { Filled (D.state disk.old) dir.old (D.state disk.new) dir.new }
     ensures loan { D.loan disk.new ≡ D.loan disk.old }
@@ -157,7 +162,7 @@ fn fill<D: Disk>(disk: &mut D, dir: &mut LocalFsReadDir)
 }
 
 // Reads the next batch where nothing is left to be given.
-fn refill<D: Disk>(disk: &mut D, dir: &mut LocalFsReadDir)
+fn refill<D: Disk>(disk: &mut D, dir: &mut Reading)
     requires { HasLister (D.state disk.old) (Some dir.old.lister.0) }
     ensures done { Refilled (D.state disk.old) dir.old (D.state disk.new) dir.new }
     ensures loan { D.loan disk.new ≡ D.loan disk.old }
@@ -168,7 +173,7 @@ fn refill<D: Disk>(disk: &mut D, dir: &mut LocalFsReadDir)
 }
 
 // Gives what stands first.
-fn give(dir: &mut LocalFsReadDir) -> Result<Option<LocalFsDirEntry>, FsError>
+fn give(dir: &mut Reading) -> Result<Option<LocalFsDirEntry>, FsError>
     ensures { Gives dir.old.batch dir.old.refused dir.old result dir.new }
 {
     if let Some(entry) = dir.batch.pop_front() {
@@ -181,10 +186,7 @@ fn give(dir: &mut LocalFsReadDir) -> Result<Option<LocalFsDirEntry>, FsError>
 }
 
 // The next entry.
-pub fn next<D: Disk>(
-    disk: &mut D,
-    dir: &mut LocalFsReadDir,
-) -> Result<Option<LocalFsDirEntry>, FsError>
+pub fn next<D: Disk>(disk: &mut D, dir: &mut Reading) -> Result<Option<LocalFsDirEntry>, FsError>
     requires { HasLister (D.state disk.old) (Some dir.old.lister.0) }
     ensures done { NextEntry (D.state disk.old) dir.old result (D.state disk.new) dir.new }
     ensures goes_on { GoesOn (D.state disk.old) (Some dir.old.lister.0) (D.state disk.new) }

@@ -1,19 +1,19 @@
 ghost use Rattle.std.specs.Prelude.{◌≡◌, Option, Some, refl};
 ghost use Rattle.dav_local.specs.Calls.{AsksToCopy, AsksToMake, AsksToMove, AsksToTakeDir, AsksToTakeFile};
 ghost use Rattle.dav_local.specs.Calls.{BeginsAt, Finds, IsOpening, Looks};
-ghost use Rattle.dav_local.specs.Listing.{NextEntry, to_come};
+ghost use Rattle.dav_local.specs.Gathering.{GivesNext, dir_to_come};
 ghost use Rattle.dav_local.specs.Places.{Stays, place_of};
 
 use crate::acts::{copy_at, make_at, move_at, open_at, take_dir_at, take_file_at};
-use crate::listing::{begin, next};
+use crate::gathering::{begin_dir, next_in};
 use crate::lists::end_list;
 use crate::{LocalFs, LocalFsDirEntry, LocalFsFile, LocalFsMetaData, LocalFsReadDir};
-use dav_cache::Remember;
+use dav_cache::RememberAny;
 use dav_core::{DavPath, Disk, FsError, OpenOptions};
 use dav_io::Moment;
 use dav_store::{DavFileSystem, ReadDirMeta};
 
-impl<D: Disk, R: Remember> DavFileSystem for LocalFs<D, R> {
+impl<D: Disk, R: RememberAny> DavFileSystem for LocalFs<D, R> {
     ghost use Rattle.std.specs.Prelude.{true, false};
     ghost use Rattle.dav_core.specs.Listing.{EndsListing};
 
@@ -46,17 +46,17 @@ impl<D: Disk, R: Remember> DavFileSystem for LocalFs<D, R> {
     ghost opens = { λ s path how result t. IsOpening (place_of D.state R.state s) path how result
         (place_of D.state R.state t) × Stays s t };
 
-    ghost lister = { λ d. Some d.lister.0 };
+    ghost lister = { λ d. Some d.reading.lister.0 };
 
-    ghost to_come = { to_come };
+    ghost to_come = { dir_to_come };
 
     ghost lists = { λ s path wanted result t. Finds (place_of D.state R.state s) path.names (BeginsAt wanted) result
         (place_of D.state R.state t) × Stays s t };
 
-    ghost lists_on = { λ s d result t e. NextEntry (D.state s.disk) d result (D.state t.disk) e
-        × (t ≡ record s { disk = t.disk }) };
+    ghost lists_on = { λ s d result t e. GivesNext s.moment (place_of D.state R.state s) d result
+        (place_of D.state R.state t) e × Stays s t };
 
-    ghost ends_list = { λ s d t. EndsListing (D.state s.disk) d.lister.0 (D.state t.disk)
+    ghost ends_list = { λ s d t. EndsListing (D.state s.disk) d.reading.lister.0 (D.state t.disk)
         × (t ≡ record s { disk = t.disk }) };
 
     ghost makes_dir = { λ s path result t. AsksToMake (place_of D.state R.state s) path result
@@ -110,13 +110,13 @@ impl<D: Disk, R: Remember> DavFileSystem for LocalFs<D, R> {
 
     fn read_dir(&mut self, path: &DavPath, meta: ReadDirMeta) -> Result<LocalFsReadDir, FsError> {
         match self.resolve(path) {
-            Ok(at) => begin(&mut self.disk, at, meta),
+            Ok(at) => begin_dir(&mut self.disk, at, meta, self.ways.macos),
             Err(error) => Err(error),
         }
     }
 
     fn next_entry(&mut self, dir: &mut LocalFsReadDir) -> Result<Option<LocalFsDirEntry>, FsError> {
-        next(&mut self.disk, dir)
+        next_in(self, dir)
     }
 
     fn end_dir(&mut self, dir: LocalFsReadDir) {

@@ -1,3 +1,6 @@
+pub mod DirNames
+pub mod LocalListings
+pub mod LocalLearns
 pub mod LocalUsual
 pub mod LocalReads
 pub mod LocalAsks
@@ -15,3 +18,4 @@ pub mod LocalMoves
 pub mod LocalFollows
 pub mod LocalLeads
 pub mod LocalShows
+pub mod LocalSeals

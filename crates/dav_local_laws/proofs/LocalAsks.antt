@@ -6,7 +6,7 @@ use Rattle.dav_io.specs.Counts.{one_more}
 use Rattle.dav_core.specs.declared.error.FsError.{FsError}
 use Rattle.dav_core.specs.declared.error.FsError.TheVariants as fs
 use Rattle.dav_core.specs.DavPath.{WebPath, last_name}
-use Rattle.dav_core.specs.Disk.{Opens}
+use Rattle.dav_core.specs.Disk.{DiskState, Opens}
 use Rattle.dav_core.specs.Info.{Info}
 use Rattle.dav_core.specs.Options.{reading}
 use Rattle.dav_core.specs.Listing.{or_empty}
@@ -25,7 +25,8 @@ use Rattle.dav_local.specs.declared.file.LocalFsFile.{LocalFsFile}
 use Rattle.dav_local.specs.declared.ways.Ways.{Ways}
 use Rattle.dav_local.specs.Calls.{AfterAbsent, Asks, BeginsAt, Finds, IsOpening, LooksAt, Place, is_shut}
 use Rattle.dav_local.specs.Files.{filed}
-use Rattle.dav_local.specs.Listing.{ListingState}
+use Rattle.dav_local.specs.declared.gathering.LocalFsReadDir.{LocalFsReadDir}
+use Rattle.dav_local.specs.Gathering.{BeginsDir, gathers}
 use Rattle.dav_local.specs.Ways.{is_known, rules_of}
 use Rattle.dav_local_laws.specs.Simple.{is_simple}
 use Rattle.dav_local_laws.specs.LocalStore.{IsLocalStore, place}
@@ -39,7 +40,7 @@ or_true : (b : Bool) → (b || true) ≡ true
 or_true true = refl
 or_true false = refl
 
-known_of : (ways : Ways) → ways.folds ≡ false → is_known ways ≡ true
+pub known_of : (ways : Ways) → ways.folds ≡ false → is_known ways ≡ true
 known_of ways e = ap (λ b. is_some ways.alone || not b) e ∙ or_true (is_some ways.alone)
 
 -- The path is found with nothing asked, or memory was refused.
@@ -74,7 +75,7 @@ opened_asks at p q o (answer, t, opens, is, ends) = by o (ap (λ (x : Place). x.
 shut_asks : (p q : Place) (o : Result LocalFsFile FsError) (e : FsError) → o ≡ Err e → q ≡ p → AsksToOpen o p.disk q.disk
 shut_asks p q o e is same = subst (λ o. AsksToOpen o p.disk q.disk) (sym is) (inl (same_asked p q same))
 
-module _ {S C : Type 0} (view : View S C LocalFsFile) (lists : Listings S C ListingState LocalFsDirEntry) (writes : Writes LocalFsFile) (ways : S → Ways) (memory : S → MemoryState)
+module _ {S C : Type 0} (view : View S C LocalFsFile) (lists : Listings S C LocalFsReadDir LocalFsDirEntry) (writes : Writes LocalFsFile) (ways : S → Ways) (memory : S → MemoryState)
     (local : IsLocalStore view lists writes ways memory) where
   abbrev at : S → Place
   at s = place view lists writes ways memory s
@@ -108,8 +109,14 @@ module _ {S C : Type 0} (view : View S C LocalFsFile) (lists : Listings S C List
   list_asks s t c path e simple h =
       by (finds_simple (at s) (at t) path.names (BeginsAt Data) (Err e) (known_of (ways s) (simple_parts (ways s).folds (ways s).macos simple).0) (local.begins s t c path Data (Err e) h).0)
     where
-      by : ((end : Names) × BeginsAt Data end (at s) (Err e) (at t)) ⊎ (◌≡◌ {A = Result ListingState FsError} (Err e) (Err fs.NoMemory) × (at t ≡ at s)) → AsksAtMostOnce (view.state s) (view.state t)
-      by (inl (end, (x, (answer, lists_so, is), ends))) = inr (ap (λ (x : Place). x.disk.asked) ends ∙ lists_so.counted.asked)
+      plain : gathers (ways s).macos Data ≡ false
+      plain = (simple_parts (ways s).folds (ways s).macos simple).1
+
+      begun : (end : Names) (x : DiskState) → BeginsDir false end Data (view.state s) (Err e) x → at t ≡ record (at s) { disk = x } → AsksAtMostOnce (view.state s) (view.state t)
+      begun end x (listing, (answer, lists_so, is), whole) ends = inr (ap (λ (x : Place). x.disk.asked) ends ∙ lists_so.counted.asked)
+
+      by : ((end : Names) × BeginsAt Data end (at s) (Err e) (at t)) ⊎ (◌≡◌ {A = Result LocalFsReadDir FsError} (Err e) (Err fs.NoMemory) × (at t ≡ at s)) → AsksAtMostOnce (view.state s) (view.state t)
+      by (inl (end, (x, begins, ends))) = begun end x (subst (λ b. BeginsDir b end Data (view.state s) (Err e) x) plain begins) ends
       by (inr (none, same)) = inl (same_asked (at s) (at t) same)
 
   pub local_asks : AsksByOne view lists (λ s. is_simple (ways s))

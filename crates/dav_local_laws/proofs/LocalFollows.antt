@@ -50,10 +50,11 @@ use Rattle.dav_local.specs.Shown.{EndsBy, WhyRefused}
 use Rattle.dav_local.specs.Standing.{HasNoLinks}
 use Rattle.dav_local.specs.declared.ways.Ways.{Ways}
 use Rattle.dav_local.proofs.Filling.{given_keeps}
-use Rattle.dav_local.proofs.Walked.{ListsLocal, listed_dir, walk_ends, walk_fails, walk_told}
+use Rattle.dav_local.proofs.EntriesTold.{listed_dir, rows_stand}
+use Rattle.dav_local.proofs.Walked.{ListsLocal, walk_ends, walk_fails, walk_told}
 use Rattle.dav_local_laws.proofs.FileWrites.{WrittenFrom, writes_told}
 use Rattle.dav_local_laws.proofs.ListingWorlds.{listed_besides, next_besides, same_world}
-use Rattle.dav_local_laws.proofs.NamedMembers.{are_members, in_name_order, member, paths_of, rows_members, rows_stand}
+use Rattle.dav_local_laws.proofs.NamedMembers.{are_members, in_name_order, member, paths_of, rows_members}
 use Rattle.dav_local_laws.proofs.NameOrder.{ascending_once, order_ascends, order_permutes, sorted_ascends}
 use Rattle.dav_local_laws.proofs.PlainLooks.{both_with, called_for}
 use Rattle.dav_local_laws.proofs.ReachedCounts.{reached_counts}
@@ -65,6 +66,9 @@ use Rattle.dav_local_laws.proofs.LocalLeads.{calls_remain}
 use Rattle.dav_local_laws.proofs.LocalMoves.{move_told}
 use Rattle.dav_local_laws.proofs.LocalUsual.{local_usual}
 use Rattle.dav_local_laws.proofs.PlainWays.{Lost, copy_told, finds_plain, look_at_link_told, look_told, make_told, open_told, take_dir_told, take_file_told}
+use Rattle.dav_local.specs.declared.gathering.LocalFsReadDir.{LocalFsReadDir}
+use Rattle.dav_local.proofs.Gathered.{Next, after_keeps}
+use Rattle.dav_local_laws.proofs.LocalListings.{lists_local, next_local}
 
 -- ---- members
 
@@ -144,21 +148,27 @@ refills_besides : (batch : List LocalFsDirEntry) (s t : DiskState) (k e : Listin
 refills_besides [] s t k e fills = fills_besides 256 s t k e fills
 refills_besides (entry ∷ batch) s t k e (same, is) = besides_same s t same
 
-next_entry_besides : (s t : DiskState) (k e : ListingState) (r : Result (Option LocalFsDirEntry) FsError) → NextEntry s k r t e → Besides s t
+pub next_entry_besides : (s t : DiskState) (k e : ListingState) (r : Result (Option LocalFsDirEntry) FsError) → NextEntry s k r t e → Besides s t
 next_entry_besides s t k e r (f, refills, gives) = refills_besides k.batch s t k f refills
 
-begins_besides : (p q : Place) (names : Names) (r : Result ListingState FsError) → Finds p names (BeginsAt DataSymlink) r q → Besides p.disk q.disk
+begins_besides : (p q : Place) (names : Names) (r : Result LocalFsReadDir FsError) → Finds p names (BeginsAt DataSymlink) r q → Besides p.disk q.disk
 begins_besides p q names r (Err e, m, resolves, (is, ends)) =
     besides_then p.disk m.disk q.disk resolves.keeps.world (besides_same m.disk q.disk (ap (λ (x : Place). x.disk) ends))
-begins_besides p q names r (Ok end, m, resolves, (t, (answer, lists_so, is), ends)) =
+begins_besides p q names r (Ok end, m, resolves, (t, (reading, (answer, lists_so, is), whole), ends)) =
     besides_then p.disk m.disk q.disk resolves.keeps.world
     (besides_then m.disk t q.disk (both_map m.disk.told t.told (ListedIn end answer) SameBesidesOpens (listed_besides end answer) lists_so.told) (besides_same t q.disk (ap (λ (x : Place). x.disk) ends)))
+
+next_besides_all : (s t : DiskState) (k e : LocalFsReadDir) (r : Result (Option LocalFsDirEntry) FsError) → Next s k r t e → Besides s t
+next_besides_all s t k e r n =
+    besides_then s n.middle t (next_entry_besides s n.middle k.reading n.reading n.given n.first)
+    (besides_then n.middle n.before.disk t (besides_same n.middle n.before.disk n.start)
+    (besides_then n.before.disk n.after.disk t (after_keeps k.builder n.given n.now n.before (record k { reading = n.reading }) r n.after e n.follows).world (besides_same n.after.disk t (sym n.disk))))
 
 why_spoiled : (s t : DiskState) (e : FsError) → WhyRefused s.faults t.faults e → Spoiled {T = Unit {0}} s (Err e) t
 why_spoiled s t e (inl none) = inr (ap Err none)
 why_spoiled s t e (inr (is, rose)) = inl (ap Err is, rose)
 
-module _ {S C : Type 0} (view : View S C LocalFsFile) (lists : Listings S C ListingState LocalFsDirEntry) (writes : Writes LocalFsFile) (c : C) (ways : S → Ways) (memory : S → MemoryState)
+module _ {S C : Type 0} (view : View S C LocalFsFile) (lists : Listings S C LocalFsReadDir LocalFsDirEntry) (writes : Writes LocalFsFile) (c : C) (ways : S → Ways) (memory : S → MemoryState)
     (local : IsLocalStore view lists writes ways memory) (settings : Settings) where
   abbrev at : S → Place
   at s = place view lists writes ways memory s
@@ -173,33 +183,38 @@ module _ {S C : Type 0} (view : View S C LocalFsFile) (lists : Listings S C List
 
   -- ---- listings
 
-  abbrev lists_local : ListsLocal view lists
-  lists_local = record { next_so = λ s d r t e h. (local.goes_on s t d e r h).0; called_so = local.called; says_so = λ e s r t h. local.says s t e r h }
+  abbrev listings : ListsLocal view lists
+  listings = lists_local view lists writes ways memory local
+
+  next : (s t : S) (d e : LocalFsReadDir) (r : Result (Option LocalFsDirEntry) FsError) → lists.lists_on s d r t e → Next (view.state s) d r (view.state t) e
+  next s t d e r on = next_local view lists writes ways memory local s t d e r on
 
   -- the directory that was listed is the one asked
-  listed_here : (m n : S) (path : WebPath) (l : ListingState) → ways m ≡ plain_ways → lists.lists m c path DataSymlink (Ok l) n → l.path ≡ path.names
+  listed_here : (m n : S) (path : WebPath) (l : LocalFsReadDir) → ways m ≡ plain_ways → lists.lists m c path DataSymlink (Ok l) n → l.reading.path ≡ path.names
   listed_here m n path l plain h = by (finds_plain (at m) (at n) path.names (BeginsAt DataSymlink) (Ok l) plain (local.begins m n c path DataSymlink (Ok l) h).0)
     where
-      by : BeginsAt DataSymlink path.names (at m) (Ok l) (at n) ⊎ Lost (at m) (Ok l) (at n) → l.path ≡ path.names
-      by (inl (t, (Ok lister, lists_so, is), ends)) =
-          let same : l ≡ record { lister = lister; path = path.names; wanted = DataSymlink; batch = []; refused = None; over = false } = cc in ap (λ (d : ListingState). d.path) same
-      by (inl (t, (Err d, lists_so, is), ends)) = cc
+      by : BeginsAt DataSymlink path.names (at m) (Ok l) (at n) ⊎ Lost (at m) (Ok l) (at n) → l.reading.path ≡ path.names
+      by (inl (t, (Ok reading, (Ok lister, lists_so, is), whole), ends)) =
+          let same : l.reading ≡ record { lister = lister; path = path.names; wanted = DataSymlink; batch = []; refused = None; over = false } = cc in ap (λ (d : ListingState). d.path) same
+      by (inl (t, (Ok reading, (Err d, lists_so, is), whole), ends)) = cc
+      by (inl (t, (Err f, begins_so, whole), ends)) = cc
       by (inr (is, same)) = cc
 
-  links_at : (v : World) (m n : S) (path : WebPath) (l : ListingState) → ways m ≡ plain_ways → lists.lists m c path DataSymlink (Ok l) n → is_clear v.tree path.names ≡ true → HasNoLinks v l.path
+  links_at : (v : World) (m n : S) (path : WebPath) (l : LocalFsReadDir) → ways m ≡ plain_ways → lists.lists m c path DataSymlink (Ok l) n → is_clear v.tree path.names ≡ true → HasNoLinks v l.reading.path
   links_at v m n path l plain h clear = subst (HasNoLinks v) (sym (listed_here m n path l plain h)) (no_links v path.names clear)
 
   -- a directory stands there
-  dir_of_listing : (m n : S) (path : WebPath) (v : World) → ways m ≡ plain_ways → (view.state m).told ≡ Some v → (l : ListingState) → lists.lists m c path DataSymlink (Ok l) n → is_clear v.tree path.names ≡ true
+  dir_of_listing : (m n : S) (path : WebPath) (v : World) → ways m ≡ plain_ways → (view.state m).told ≡ Some v → (l : LocalFsReadDir) → lists.lists m c path DataSymlink (Ok l) n → is_clear v.tree path.names ≡ true
       → (row : Row) × ((look v.tree path.names ≡ Ok row) × (row.kind ≡ Dir))
   dir_of_listing m n path v plain told l h clear = by (finds_plain (at m) (at n) path.names (BeginsAt DataSymlink) (Ok l) plain (local.begins m n c path DataSymlink (Ok l) h).0)
     where
       by : BeginsAt DataSymlink path.names (at m) (Ok l) (at n) ⊎ Lost (at m) (Ok l) (at n) → (row : Row) × ((look v.tree path.names ≡ Ok row) × (row.kind ≡ Dir))
-      by (inl (t, (Ok lister, lists_so, is), ends)) =
+      by (inl (t, (reading, (Ok lister, lists_so, is), whole), ends)) =
           let (x, now, listed) = told_after (view.state m).told t.told (ListedIn path.names (Ok lister)) v lists_so.told told in
           let dir = listed_dir (look v.tree path.names) (listed.2 (no_links v path.names clear).way).0 in
           (dir.row, (dir.is, dir.kind))
-      by (inl (t, (Err d, lists_so, is), ends)) = cc
+      by (inl (t, (Ok reading, (Err d, lists_so, is), whole), ends)) = cc
+      by (inl (t, (Err f, (Err d, lists_so, is), whole), ends)) = cc
       by (inr (is, same)) = cc
 
   -- the members that were read are those of the tree
@@ -213,9 +228,9 @@ module _ {S C : Type 0} (view : View S C LocalFsFile) (lists : Listings S C List
       let links = links_at v m was.begin path was.listing plain was.begins clear in
       let here = listed_here m was.begin path was.listing plain was.begins in
       let of = subst (λ d. AreOf (members v d) (view.state m).faults (view.state all_read.place).faults all_read.answers) here
-      (walk_told view lists lists_local false (at m) (at was.begin) v path was.begin all_read.place was.listing all_read.left all_read.answers told is begins_so refl links all_read.walk) in
+      (walk_told view lists listings false (at m) (at was.begin) v path was.begin all_read.place was.listing all_read.left all_read.answers told is begins_so refl links all_read.walk) in
       let long = subst (λ d. EndsBy (view.state m).faults (members v d) all_read.answers (Ok None) (view.state was.after).faults) here
-      (walk_ends view lists lists_local false (at m) (at was.begin) v path was.begin all_read.place was.after was.listing all_read.left was.over all_read.answers (Ok None) told begins_so refl links all_read.walk all_read.ends) in
+      (walk_ends view lists listings false (at m) (at was.begin) v path was.begin all_read.place was.after was.listing all_read.left was.over all_read.answers (Ok None) told begins_so refl links all_read.walk all_read.ends) in
       let rows = filter (stands_in path.names) v.tree in
       let target = map (child_of path) rows in
       let (kind_row, stands) = dir_of_listing m was.begin path v plain told was.listing was.begins clear in
@@ -235,11 +250,11 @@ module _ {S C : Type 0} (view : View S C LocalFsFile) (lists : Listings S C List
       (ascending_once (map (λ (x : Child). x.name) read) ordered (sorted_ascends (λ (x : Child). x.name) read has.in_order)
       (order_ascends path.names rows (paths_of v path.names rows stand)) names)
 
-  walk_besides : (n : S) (l : ListingState) (answers : List Answered) (o : S) (k : ListingState) → Walked view lists n l answers o k → Besides (view.state n) (view.state o)
+  walk_besides : (n : S) (l : LocalFsReadDir) (answers : List Answered) (o : S) (k : LocalFsReadDir) → Walked view lists n l answers o k → Besides (view.state n) (view.state o)
   walk_besides n l answers o k begun = besides_same (view.state n) (view.state n) refl
   walk_besides n l answers o k (walks before m p q d j e r walk on_so said lent keeps) =
       besides_then (view.state n) (view.state m) (view.state o) (walk_besides n l before m d walk)
-      (besides_then (view.state m) (view.state p) (view.state o) (next_entry_besides (view.state m) (view.state p) d j (Ok (Some e)) (local.goes_on m p d j (Ok (Some e)) on_so).0) keeps.world)
+      (besides_then (view.state m) (view.state p) (view.state o) (next_besides_all (view.state m) (view.state p) d j (Ok (Some e)) (next m p d j (Ok (Some e)) on_so)) keeps.world)
 
   -- a listing that came to its end left the world
   listing_besides : (m n : S) (path : WebPath) (read : List Child) → HasMembers view lists m c path read n → Besides (view.state m) (view.state n)
@@ -249,9 +264,9 @@ module _ {S C : Type 0} (view : View S C LocalFsFile) (lists : Listings S C List
       besides_then (view.state m) (view.state was.begin) (view.state n) (begins_besides (at m) (at was.begin) path.names (Ok was.listing) (local.begins m was.begin c path DataSymlink (Ok was.listing) was.begins).0)
       (besides_then (view.state was.begin) (view.state all_read.place) (view.state n) (walk_besides was.begin was.listing all_read.answers all_read.place all_read.left all_read.walk)
       (besides_then (view.state all_read.place) (view.state was.after) (view.state n)
-      (next_entry_besides (view.state all_read.place) (view.state was.after) all_read.left was.over (Ok None) (local.goes_on all_read.place was.after all_read.left was.over (Ok None) all_read.ends).0)
-      (both_map (view.state was.after).told (view.state n).told (EndedIn was.over.lister.0) SameBesidesOpens
-      (λ v w ended_so. same_world v w (put was.over.lister.0 None v.listings) ended_so) (local.ends was.after n was.over was.ended).0.told)))
+      (next_besides_all (view.state all_read.place) (view.state was.after) all_read.left was.over (Ok None) (next all_read.place was.after all_read.left was.over (Ok None) all_read.ends))
+      (both_map (view.state was.after).told (view.state n).told (EndedIn was.over.reading.lister.0) SameBesidesOpens
+      (λ v w ended_so. same_world v w (put was.over.reading.lister.0 None v.listings) ended_so) (local.ends was.after n was.over was.ended).0.told)))
 
   members_told : (m n : S) (path : WebPath) (read : List Child) → ways m ≡ plain_ways → HasMembers view lists m c path read n → Told view lists writes c m n (ListsBy view lists writes c (plain_rules settings) path read)
   members_told m n path read plain has =
@@ -269,9 +284,10 @@ module _ {S C : Type 0} (view : View S C LocalFsFile) (lists : Listings S C List
       → lists.lists m c path DataSymlink (Err e) n → Spoiled {T = Unit {0}} (view.state m) (Err e) (view.state n)
   begin_refused m n path e v plain told clear dir h = by (finds_plain (at m) (at n) path.names (BeginsAt DataSymlink) (Err e) plain (local.begins m n c path DataSymlink (Err e) h).0)
     where
-      by : BeginsAt DataSymlink path.names (at m) (Err e) (at n) ⊎ Lost {T = ListingState} (at m) (Err e) (at n) → Spoiled {T = Unit {0}} (view.state m) (Err e) (view.state n)
-      by (inl (t, (Ok lister, lists_so, is), ends)) = cc
-      by (inl (t, (Err d, lists_so, is), ends)) =
+      by : BeginsAt DataSymlink path.names (at m) (Err e) (at n) ⊎ Lost {T = LocalFsReadDir} (at m) (Err e) (at n) → Spoiled {T = Unit {0}} (view.state m) (Err e) (view.state n)
+      by (inl (t, (Ok reading, begins_so, whole), ends)) = cc
+      by (inl (t, (Err f, (Ok lister, lists_so, is), whole), ends)) = cc
+      by (inl (t, (Err f, (Err d, lists_so, is), whole), ends)) =
           let (x, now, listed) = told_after (view.state m).told t.told (ListedIn path.names (Err d)) v lists_so.told told in
           let (row, there) = dir_listed v.tree (local.worlds m v told).tree path.names dir in
           let same : e ≡ fs_error_of d = cc in
@@ -282,14 +298,14 @@ module _ {S C : Type 0} (view : View S C LocalFsFile) (lists : Listings S C List
           ])
       by (inr (is, same)) = inr cc
 
-  read_refused : (m b n : S) (path : WebPath) (l k : ListingState) (e : FsError) (v : World) → ways m ≡ plain_ways → (view.state m).told ≡ Some v → is_clear v.tree path.names ≡ true
+  read_refused : (m b n : S) (path : WebPath) (l k : LocalFsReadDir) (e : FsError) (v : World) → ways m ≡ plain_ways → (view.state m).told ≡ Some v → is_clear v.tree path.names ≡ true
       → lists.lists m c path DataSymlink (Ok l) b → ReadRefused view lists b l e n k → Spoiled {T = Unit {0}} (view.state m) (Err e) (view.state n)
   read_refused m b n path l k e v plain told clear begins (inl (is, answers, walk)) = inr (ap Err is)
   read_refused m b n path l k e v plain told clear begins (inr (inl (answers, here, left, walk, said, on_so))) =
       why_spoiled (view.state m) (view.state n) e
-      (walk_ends view lists lists_local false (at m) (at b) v path b here n l left k answers (Err e) told (local.begins m b c path DataSymlink (Ok l) begins).0 refl (links_at v m b path l plain begins clear) walk on_so)
+      (walk_ends view lists listings false (at m) (at b) v path b here n l left k answers (Err e) told (local.begins m b c path DataSymlink (Ok l) begins).0 refl (links_at v m b path l plain begins clear) walk on_so)
   read_refused m b n path l k e v plain told clear begins (inr (inr (answers, name, said, walk))) =
-      let failed = walk_fails view lists lists_local false (at m) (at b) v path b n l k answers name e told (local.worlds m v told) (local.begins m b c path DataSymlink (Ok l) begins).0 refl
+      let failed = walk_fails view lists listings false (at m) (at b) v path b n l k answers name e told (local.worlds m v told) (local.begins m b c path DataSymlink (Ok l) begins).0 refl
       (links_at v m b path l plain begins clear) walk in
       inl (ap Err failed.0, failed.1)
 

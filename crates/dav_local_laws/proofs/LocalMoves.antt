@@ -28,7 +28,7 @@ use Rattle.dav_local.specs.declared.file.LocalFsFile.{LocalFsFile}
 use Rattle.dav_local.specs.declared.ways.Ways.{Ways}
 use Rattle.dav_local.specs.Calls.{AfterMove, MovesAgain, MovesAt, Place, found_dir}
 use Rattle.dav_local.specs.Files.{done_by}
-use Rattle.dav_local.specs.Listing.{ListingState}
+use Rattle.dav_local.specs.declared.gathering.LocalFsReadDir.{LocalFsReadDir}
 use Rattle.dav_local.proofs.Rows.{looked_row}
 use Rattle.dav_local_laws.proofs.CallsDone.{calls_from, calls_of, left_called}
 use Rattle.dav_local_laws.proofs.PlainLooks.{both_stays}
@@ -56,7 +56,7 @@ none_taken u x path answer none does = by answer does
     by (Ok y) (edit, allowed, edited) = let never : Err refused.0 ≡ Ok edit = sym refused.1 ∙ allowed in cc
     by (Err e) (called, left) = left_called false refused.0 u x (subst (λ a. LeftBy false a u x) refused.1 left)
 
-module _ {S C : Type 0} (view : View S C LocalFsFile) (lists : Listings S C ListingState LocalFsDirEntry) (writes : Writes LocalFsFile) (c : C) (ways : S → Ways) (memory : S → MemoryState)
+module _ {S C : Type 0} (view : View S C LocalFsFile) (lists : Listings S C LocalFsReadDir LocalFsDirEntry) (writes : Writes LocalFsFile) (c : C) (ways : S → Ways) (memory : S → MemoryState)
     (local : IsLocalStore view lists writes ways memory) (settings : Settings) where
   abbrev at : S → Place
   at s = place view lists writes ways memory s

@@ -58,7 +58,8 @@ use Rattle.dav_local.specs.declared.file.LocalFsFile.{LocalFsFile}
 use Rattle.dav_local.specs.declared.ways.Ways.{Ways}
 use Rattle.dav_local.specs.Calls.{AfterAbsent, Asks, BeginsAt, Finds, IsOpening, Looks, LooksAt, Place, is_shut}
 use Rattle.dav_local.specs.Files.{filed, looked_as, seen_by}
-use Rattle.dav_local.specs.Listing.{ListingState}
+use Rattle.dav_local.specs.declared.gathering.LocalFsReadDir.{LocalFsReadDir}
+use Rattle.dav_local.specs.Gathering.{BeginsDir, gathers}
 use Rattle.dav_local.specs.Shown.{EndsBy, ListsByRules, LooksByRules, OpensByRules, as_stood, finding_of, found_at, knowledge_of, looked_by, opened_by, shown_where, stood_of}
 use Rattle.dav_local.specs.Standing.{HasNoLinks, found}
 use Rattle.dav_local.specs.Ways.{rules_of, rules_with}
@@ -67,6 +68,8 @@ use Rattle.dav_local.proofs.ByRules.{begun_by, lists_by_rules, looks_by_rules, o
 use Rattle.dav_local.proofs.Showing.{each_numbered, same_found}
 use Rattle.dav_local.proofs.Walked.{ListsLocal, walk_ends, walk_told}
 use Rattle.dav_local_laws.specs.LocalStore.{IsLocalStore, place}
+use Rattle.dav_local_laws.proofs.LocalListings.{lists_local}
+use Rattle.dav_local.proofs.Keeping.{metas_keep}
 
 -- ---- what a local store refuses, where nothing failed
 
@@ -99,7 +102,7 @@ disk_refuses_open IsDir e s t may counted is = absurd may
 disk_refuses_open Exists e s t may counted is = absurd may
 disk_refuses_open NotEmpty e s t may counted is = absurd may
 
-disk_refuses_list : (d : DiskError) (e : FsError) (s t : DiskState) → MayRefuseList d → IsCounted {T = Lister} (Err d) s t → e ≡ fs_error_of d → Refuses ListingState e s t
+disk_refuses_list : (d : DiskError) (e : FsError) (s t : DiskState) → MayRefuseList d → IsCounted {T = Lister} (Err d) s t → e ≡ fs_error_of d → Refuses LocalFsReadDir e s t
 disk_refuses_list NotFound e s t may counted is = inl (inl is)
 disk_refuses_list NotDir e s t may counted is = inl (inr is)
 disk_refuses_list Failed e s t may counted is = inr (inl (cc, counted.rose refl))
@@ -152,10 +155,24 @@ open_refuses p q path e run = by (is_shut p.ways path) refl
     by true is = let (forbidden, same) = run.forbidden is in inl (inr cc)
     by false is = finds_refuse LocalFsFile p q path.names _ e (λ at k asks. opened_refuses k q at e asks) (run.asked is)
 
-begun_refuses : (k q : Place) (at : Names) (e : FsError) → BeginsAt Data at k (Err e) q → Refuses ListingState e k.disk q.disk
-begun_refuses k q at e (t, (Ok lister, lists, is), ends) = cc
-begun_refuses k q at e (t, (Err d, lists, is), ends) =
-    subst (λ x. Refuses ListingState e k.disk x) (sym (ap (λ (x : Place). x.disk) ends)) (disk_refuses_list d e k.disk t lists.only lists.counted cc)
+begun_refuses : (k q : Place) (at : Names) (e : FsError) → BeginsAt Data at k (Err e) q → Refuses LocalFsReadDir e k.disk q.disk
+begun_refuses k q at e (t, begins, ends) =
+    subst (λ x. Refuses LocalFsReadDir e k.disk x) (sym (ap (λ (x : Place). x.disk) ends)) (by (gathers k.ways.macos Data) begins)
+  where
+    later : (m : DiskState) → k.disk.faults ≤ m.faults → Refuses LocalFsReadDir e m t → Refuses LocalFsReadDir e k.disk t
+    later m le (inl is) = inl is
+    later m le (inr (inl (is, rose))) = inr (inl (is, rose_from k.disk.faults m.faults t.faults le rose))
+    later m le (inr (inr is)) = inr (inr is)
+
+    by : (b : Bool) → BeginsDir b at Data k.disk (Err e) t → Refuses LocalFsReadDir e k.disk t
+    by false (Ok reading, lists_so, whole) = cc
+    by false (Err f, (Ok lister, lists, is), whole) = cc
+    by false (Err f, (Err d, lists, is), whole) = disk_refuses_list d e k.disk t lists.only lists.counted cc
+    by true (inl (starved, same)) = inr (inr starved)
+    by true (inr (b, m, starts, Ok reading, lists_so, whole)) = cc
+    by true (inr (b, m, starts, Err f, (Ok lister, lists, is), whole)) = cc
+    by true (inr (b, m, (found, metas, is_b), Err f, (Err d, lists, is), whole)) =
+        later m (metas_keep true k.disk at found m metas).counts (disk_refuses_list d e m t lists.only lists.counted cc)
 
 -- ---- what is shown
 
@@ -201,12 +218,12 @@ members_still w v dir same =
     members_of_still w v (stands_in dir) v.tree same (each_numbered v.tree v.tree (λ n e. e))
     ∙ ap (λ rows. map (member_of w) (filter (stands_in dir) rows)) same.tree
 
-begins_still : (w v : World) (dir : Names) (r : Result ListingState FsError) → SameBesidesOpens w v → BeginsThere (listed_in v dir) r → BeginsThere (listed_in w dir) r
+begins_still : (w v : World) (dir : Names) (r : Result LocalFsReadDir FsError) → SameBesidesOpens w v → BeginsThere (listed_in v dir) r → BeginsThere (listed_in w dir) r
 begins_still w v dir r same there =
     subst (λ rows. BeginsThere (members_or w dir (listable (look rows dir))) r) same.tree (begun_by w v dir (listable (look v.tree dir)) r there)
 
 -- what was begun stands there
-begun_there : (w : World) (dir : Names) (stands : Result Row DiskError) (l : ListingState) → BeginsThere (members_or w dir stands) (Ok l) → members_or w dir stands ≡ Ok (members w dir)
+begun_there : (w : World) (dir : Names) (stands : Result Row DiskError) (l : LocalFsReadDir) → BeginsThere (members_or w dir stands) (Ok l) → members_or w dir stands ≡ Ok (members w dir)
 begun_there w dir (Ok row) l there = refl
 begun_there w dir (Err e) l there = absurd there
 
@@ -235,7 +252,7 @@ later : (from last end : ℕ) (all : List Member) (answers : List Answered) → 
 later from last end all answers (inl long) le = inl long
 later from last end all answers (inr rose) le = inr (rose_on from last end rose le)
 
-module _ {S C : Type 0} (view : View S C LocalFsFile) (lists : Listings S C ListingState LocalFsDirEntry) (writes : Writes LocalFsFile) (ways : S → Ways) (memory : S → MemoryState)
+module _ {S C : Type 0} (view : View S C LocalFsFile) (lists : Listings S C LocalFsReadDir LocalFsDirEntry) (writes : Writes LocalFsFile) (ways : S → Ways) (memory : S → MemoryState)
     (local : IsLocalStore view lists writes ways memory) where
   abbrev at : S → Place
   at s = place view lists writes ways memory s
@@ -244,7 +261,7 @@ module _ {S C : Type 0} (view : View S C LocalFsFile) (lists : Listings S C List
   refuses_few = record {
     looks = λ s t c path e h. look_refuses (at s) (at t) path e (local.looks s t c path (Err e) h).0;
     opens = λ s t c path e h. open_refuses (at s) (at t) path e (local.opens s t c path reading (Err e) h).0;
-    begins = λ s t c path e h. finds_refuse ListingState (at s) (at t) path.names (BeginsAt Data) e (λ end k begins. begun_refuses k (at t) end e begins) (local.begins s t c path Data (Err e) h).0;
+    begins = λ s t c path e h. finds_refuse LocalFsReadDir (at s) (at t) path.names (BeginsAt Data) e (λ end k begins. begun_refuses k (at t) end e begins) (local.begins s t c path Data (Err e) h).0;
   }
 
   module _ (q : Query) (c : C) (s : S) (result : Given LocalFsFile) (t : S) (life : OpenOnlyHeld view s result t) (reply : Reply)
@@ -462,7 +479,7 @@ module _ {S C : Type 0} (view : View S C LocalFsFile) (lists : Listings S C List
             kept_all : Keeps (view.state s) (view.state t)
             kept_all = keeps_then (view.state s) (view.state m) (view.state t) keeps kept
 
-            module _ (begun : Result ListingState FsError) (x : S) (begins : lists.lists m c q.path Data begun x) where
+            module _ (begun : Result LocalFsReadDir FsError) (x : S) (begins : lists.lists m c q.path Data begun x) where
               lists_so : ListsByRules (ways s) later_world.now q.path (view.state m) begun (view.state x)
               lists_so = subst (λ ws. ListsByRules ws later_world.now q.path (view.state m) begun (view.state x)) stays
                   (lists_by_rules (at m) (at x) later_world.now q.path Data begun later_world.told_now (local.begins m x c q.path Data begun begins).0)
@@ -512,7 +529,7 @@ module _ {S C : Type 0} (view : View S C LocalFsFile) (lists : Listings S C List
                 by true clear = clear_reads (Err e) t begins clear
                     (unlisted_fits view lists q s result t life reply same (listed_in w (lists_so (Err e) t begins).end) e h.number m (begins_there (Err e) t begins clear) keeps.counts had heard)
 
-            bare_listing : (lister : ListingState) (members_read : List Member) (x : S) (begins : lists.lists m c q.path Data (Ok lister) x) → is_get q.method ≡ false
+            bare_listing : (lister : LocalFsReadDir) (members_read : List Member) (x : S) (begins : lists.lists m c q.path Data (Ok lister) x) → is_get q.method ≡ false
                 → HeardTo (page q.path members_read) → CouldList view lists q s result t life reply same → TheReads
             bare_listing lister members_read x begins get heard could = by (is_clear w.tree (lists_so (Ok lister) x begins).end) refl
               where
@@ -533,16 +550,16 @@ module _ {S C : Type 0} (view : View S C LocalFsFile) (lists : Listings S C List
                   by true clear =
                       let l_so = lists_so (Ok was.listing) was.begin was.begins in
                       let clear_now : is_clear later_world.now.tree end ≡ true = ap (λ rows. is_clear rows end) later_world.besides.tree ∙ clear in
-                      let at_end : was.listing.path ≡ end = l_so.at_end was.listing refl (no_links later_world.now end clear_now).way in
+                      let at_end : was.listing.reading.path ≡ end = l_so.at_end was.listing refl (no_links later_world.now end clear_now).way in
                       let links = subst (HasNoLinks later_world.now) (sym at_end) (no_links later_world.now end clear_now) in
                       let begins_so = (local.begins m was.begin c q.path Data (Ok was.listing) was.begins).0 in
-                      let lists_local : ListsLocal view lists = record { next_so = λ s d r t e on. (local.goes_on s t d e r on).0; called_so = local.called; says_so = λ e s r t says. local.says s t e r says } in
-                      let of = walk_told view lists lists_local true (at m) (at was.begin) later_world.now q.path was.begin was.walks.place was.listing was.walks.left was.walks.answers
+                      let listings = lists_local view lists writes ways memory local in
+                      let of = walk_told view lists listings true (at m) (at was.begin) later_world.now q.path was.begin was.walks.place was.listing was.walks.left was.walks.answers
                       later_world.told_now later_world.is_world begins_so refl links was.walks.walk in
-                      let ends = walk_ends view lists lists_local true (at m) (at was.begin) later_world.now q.path was.begin was.walks.place was.after was.listing was.walks.left was.over was.walks.answers was.walks.last
+                      let ends = walk_ends view lists listings true (at m) (at was.begin) later_world.now q.path was.begin was.walks.place was.after was.listing was.walks.left was.over was.walks.answers was.walks.last
                       later_world.told_now begins_so refl links was.walks.walk was.walks.ends in
                       let closed = (local.ends was.after t was.over was.ended).0.counts in
-                      let all = members later_world.now was.listing.path in
+                      let all = members later_world.now was.listing.reading.path in
                       let why = later (view.state m).faults (view.state was.after).faults (view.state t).faults all was.walks.answers
                       (stopped (view.state m).faults (view.state was.after).faults all was.walks.answers was.walks.last was.walks.stops ends) (omega (arith, closed)) in
                       let reads = reads_there all (view.state m).faults (view.state was.walks.place).faults (view.state t).faults was.walks.answers of (omega (arith, was.walks.on, closed)) why in

@@ -32,7 +32,7 @@ use Rattle.dav_local.specs.declared.file.LocalFsFile.{LocalFsFile}
 use Rattle.dav_local.specs.declared.ways.Ways.{Ways}
 use Rattle.dav_local.specs.Calls.{Asks, IsOpening, Looks, LooksAt, Place, is_shut}
 use Rattle.dav_local.specs.Files.{filed, seen_by}
-use Rattle.dav_local.specs.Listing.{ListingState}
+use Rattle.dav_local.specs.declared.gathering.LocalFsReadDir.{LocalFsReadDir}
 use Rattle.dav_local.specs.Shown.{EndsBy, ListsByRules}
 use Rattle.dav_local.specs.Standing.{HasNoLinks, found}
 use Rattle.dav_local.specs.Ways.{rules_of}
@@ -41,6 +41,7 @@ use Rattle.dav_local.proofs.Showing.{opens_there}
 use Rattle.dav_local.proofs.Walked.{ListsLocal, walk_ends, walk_told}
 use Rattle.dav_local_laws.specs.Simple.{opened, plain_ways}
 use Rattle.dav_local_laws.specs.LocalStore.{IsLocalStore, place}
+use Rattle.dav_local_laws.proofs.LocalListings.{lists_local, next_ways}
 use Rattle.dav_local_laws.proofs.PlainWays.{Lost, finds_plain, looked_plain}
 
 -- what is opened where no slash ends the path
@@ -56,23 +57,23 @@ members_ok : (w : World) (dir : Names) (stands : Result Row DiskError) (all : Li
 members_ok w dir (Ok row) all is = cc
 members_ok w dir (Err e) all is = cc
 
-module _ {S C : Type 0} (view : View S C LocalFsFile) (lists : Listings S C ListingState LocalFsDirEntry) (writes : Writes LocalFsFile) (ways : S → Ways) (memory : S → MemoryState)
+module _ {S C : Type 0} (view : View S C LocalFsFile) (lists : Listings S C LocalFsReadDir LocalFsDirEntry) (writes : Writes LocalFsFile) (ways : S → Ways) (memory : S → MemoryState)
     (local : IsLocalStore view lists writes ways memory) where
   abbrev at : S → Place
   at s = place view lists writes ways memory s
 
-  abbrev lists_local : ListsLocal view lists
-  lists_local = record { next_so = λ s d r t e h. (local.goes_on s t d e r h).0; called_so = local.called; says_so = λ e s r t h. local.says s t e r h }
+  abbrev listings : ListsLocal view lists
+  listings = lists_local view lists writes ways memory local
 
   -- ---- what stays
 
-  lent_ways : (s t : S) → at t ≡ record (at s) { disk = view.state t } → ways t ≡ ways s
-  lent_ways s t same = ap (λ (x : Place). x.ways) same
+  same_ways : (s t : S) → at t ≡ record (at s) { disk = view.state t } → ways t ≡ ways s
+  same_ways s t same = ap (λ (x : Place). x.ways) same
 
-  walk_ways : (n : S) (l : ListingState) (answers : List Answered) (o : S) (k : ListingState) → Walked view lists n l answers o k → ways o ≡ ways n
+  walk_ways : (n : S) (l : LocalFsReadDir) (answers : List Answered) (o : S) (k : LocalFsReadDir) → Walked view lists n l answers o k → ways o ≡ ways n
   walk_ways n l answers o k begun = refl
   walk_ways n l answers o k (goes before m p q d j e r walk on said lent keeps) =
-      lent_ways p q (local.lends p q lent) ∙ (lent_ways m p (local.goes_on m p d j (Ok (Some e)) on).1 ∙ walk_ways n l before m d walk)
+      same_ways p q (local.lends p q lent) ∙ (next_ways view lists writes ways memory local m p d j (Ok (Some e)) on ∙ walk_ways n l before m d walk)
 
   -- A reader's calls leave how paths are found.
   reached_ways : (s : S) (c : C) (t : S) → Reached view lists s c t → ways t ≡ ways s
@@ -80,11 +81,11 @@ module _ {S C : Type 0} (view : View S C LocalFsFile) (lists : Listings S C List
   reached_ways s c t (by_look m n path r before call keeps) = (local.looks m n c path r call).1 ∙ reached_ways s c m before
   reached_ways s c t (by_look_at_link m n path r before call keeps) = (local.looks_at_link m n c path r call).1 ∙ reached_ways s c m before
   reached_ways s c t (by_opening m n path r before call one) = (local.opens m n c path reading r call).1 ∙ reached_ways s c m before
-  reached_ways s c t (by_file m n h before keeps lent) = lent_ways m n (local.lends m n lent) ∙ reached_ways s c m before
+  reached_ways s c t (by_file m n h before keeps lent) = same_ways m n (local.lends m n lent) ∙ reached_ways s c m before
   reached_ways s c t (by_listing m n path members before was keeps) =
       let w = was.walks in
-      lent_ways was.after n (local.ends was.after n was.over was.ended).1
-      ∙ (lent_ways w.place was.after (local.goes_on w.place was.after w.left was.over w.last w.ends).1
+      same_ways was.after n (local.ends was.after n was.over was.ended).1
+      ∙ (next_ways view lists writes ways memory local w.place was.after w.left was.over w.last w.ends
       ∙ (walk_ways was.begin was.listing w.answers w.place w.left w.walk
       ∙ ((local.begins m was.begin c path Data (Ok was.listing) was.begins).1 ∙ reached_ways s c m before)))
 
@@ -140,7 +141,7 @@ module _ {S C : Type 0} (view : View S C LocalFsFile) (lists : Listings S C List
   -- ---- listings
 
   -- a listing is begun at the path asked
-  module _ (m n : S) (c : C) (path : WebPath) (r : Result ListingState FsError) (w : World) (plain : ways m ≡ plain_ways) (told : (view.state m).told ≡ Some w)
+  module _ (m n : S) (c : C) (path : WebPath) (r : Result LocalFsReadDir FsError) (w : World) (plain : ways m ≡ plain_ways) (told : (view.state m).told ≡ Some w)
       (clear : is_linked w.tree path.names ≡ false) (h : lists.lists m c path Data r n) where
     by_rules : ListsByRules (ways m) w path (view.state m) r (view.state n)
     by_rules = lists_by_rules (at m) (at n) w path Data r told (local.begins m n c path Data r h).0
@@ -154,7 +155,7 @@ module _ {S C : Type 0} (view : View S C LocalFsFile) (lists : Listings S C List
     begun_there : BeginsThere (listed_in w path.names) r ⊎ Spoiled (view.state m) r (view.state n)
     begun_there = subst (λ z. BeginsThere (listed_in w z) r ⊎ Spoiled (view.state m) r (view.state n)) end_here (by_rules.shows end_clear)
 
-    listed_here : (l : ListingState) → r ≡ Ok l → l.path ≡ path.names
+    listed_here : (l : LocalFsReadDir) → r ≡ Ok l → l.reading.path ≡ path.names
     listed_here l is = by_rules.at_end l is end_clear ∙ end_here
 
   ends_there : (m p : S) (all : List Member) (answers : List Answered) (r : Result (Option LocalFsDirEntry) FsError) → EndsBy (view.state m).faults all answers r (view.state p).faults
@@ -171,13 +172,13 @@ module _ {S C : Type 0} (view : View S C LocalFsFile) (lists : Listings S C List
         let (still, same) = looked_stays s c m plain first in
         let here = listed_here m n c path (Ok l) w still (same ∙ told) links.way h l refl in
         subst (λ all. AreOf all (view.state m).faults (view.state o).faults answers) (ap (members w) here ∙ members_ok w path.names (listable (look w.tree path.names)) all is)
-        (walk_told view lists lists_local true (at m) (at n) w path n o l k answers (same ∙ told) (local.worlds s w told) (local.begins m n c path Data (Ok l) h).0 refl
+        (walk_told view lists listings true (at m) (at n) w path n o l k answers (same ∙ told) (local.worlds s w told) (local.begins m n c path Data (Ok l) h).0 refl
         (subst (HasNoLinks w) (sym here) links) walk);
     ends = λ all is m n o p l k j answers r first h walk on.
         let (still, same) = looked_stays s c m plain first in
         let here = listed_here m n c path (Ok l) w still (same ∙ told) links.way h l refl in
         ends_there m p all answers r
         (subst (λ all. EndsBy (view.state m).faults all answers r (view.state p).faults) (ap (members w) here ∙ members_ok w path.names (listable (look w.tree path.names)) all is)
-        (walk_ends view lists lists_local true (at m) (at n) w path n o p l k j answers r (same ∙ told) (local.begins m n c path Data (Ok l) h).0 refl
+        (walk_ends view lists listings true (at m) (at n) w path n o p l k j answers r (same ∙ told) (local.begins m n c path Data (Ok l) h).0 refl
         (subst (HasNoLinks w) (sym here) links) walk on));
   }

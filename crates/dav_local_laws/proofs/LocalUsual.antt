@@ -3,7 +3,6 @@
 use Rattle.std.proofs.Common.{◌≡◌, ◌≤◌, ◌||◌, ℕ, List, [], ◌∷◌, ◌++◌, Bool, true, false, not, ◌&&◌, Option, None, Some, Result, Ok, Err, IfSome, refl, sym, ap, subst, ◌∙◌, inl, inr, arith, if◌then◌else◌, drop}
 use Rattle.std.specs.List.{AllByRecursion}
 use Rattle.dav_io.specs.Counts.{Rose}
-use Rattle.dav_io.specs.declared.failure.NoMemory.{NoMemory as Starved}
 use Rattle.dav_core.specs.declared.error.FsError.{FsError}
 use Rattle.dav_core.specs.declared.error.FsError.TheVariants as fs
 use Rattle.dav_core.specs.declared.handle.DiskError.{DiskError}
@@ -40,7 +39,7 @@ use Rattle.dav_local.specs.declared.ways.Ways.{Ways}
 use Rattle.dav_local.specs.Calls.{AfterAbsent, AfterFound, AfterMove, Asks, AsksToCopy, AsksToMake, AsksToMove, AsksToTakeDir, AsksToTakeFile, BeginsAt, Finds, FindsBoth, IsOpening, Looks, LooksAt, MovesAgain, MovesAt, Place, Unless, found_dir, is_shut}
 use Rattle.dav_local.specs.Entries.{Says, said_info}
 use Rattle.dav_local.specs.Files.{done_by, filed, looked_as, said_by}
-use Rattle.dav_local.specs.Listing.{Fills, Gives, GivesEntry, IsKnown, ListingState, NextEntry, ReadsOne, Refills, WasRead, dir_of, with_given}
+use Rattle.dav_local.specs.Listing.{Begins, stopped, Fills, Gives, GivesEntry, IsKnown, ListingState, NextEntry, ReadsOne, Refills, WasRead, dir_of, with_given}
 use Rattle.dav_local.specs.Listing.Fills.{full, ended, more}
 use Rattle.dav_local.specs.Resolving.{Resolves}
 use Rattle.dav_local.specs.Ways.{rules_of}
@@ -48,8 +47,15 @@ use Rattle.dav_local.specs.Writing.{WritesAll}
 use Rattle.dav_local.specs.Writing.WritesAll.{more as writes_more, nothing, refused as write_refused}
 use Rattle.dav_local.proofs.ByRules.{tells_keeps}
 use Rattle.dav_local.proofs.Filling.{given_keeps}
-use Rattle.dav_local.proofs.Walked.{refills_counts}
+use Rattle.dav_local.proofs.Fronts.{refills_counts}
 use Rattle.dav_local_laws.specs.LocalStore.{IsLocalStore, place}
+use Rattle.dav_io.specs.declared.clock.Moment.{Moment}
+use Rattle.dav_io.specs.declared.failure.NoMemory.{NoMemory as Starved}
+use Rattle.dav_cache.specs.Builder.{BuilderState}
+use Rattle.dav_local.specs.declared.gathering.LocalFsReadDir.{LocalFsReadDir}
+use Rattle.dav_local.specs.Gathering.{AfterNext, BeginsDir, at_end, dir_with, gathers}
+use Rattle.dav_local.proofs.Gathered.{Next, after_keeps}
+use Rattle.dav_local_laws.proofs.LocalListings.{next_local}
 
 -- ---- what a disk is refused with
 
@@ -230,12 +236,26 @@ move_usual p q from to r moves =
     let same : q.disk ≡ t = ap (λ (x : Place). x.disk) ends in
     subst (λ x. Usual k.disk r x) (sym same) (moved_usual answer at into k.disk m r t renames.asks.counted after)) moves
 
-begin_usual : (p q : Place) (path : WebPath) (how : ReadDirMeta) (r : Result ListingState FsError) → Finds p path.names (BeginsAt how) r q → Usual p.disk r q.disk
+-- whatever is gathered from a listing
+with_usual : (builder : Option BuilderState) (r : Result ListingState FsError) (s t : DiskState) → RefusedUsually s r t → RefusedUsually s (dir_with builder r) t
+with_usual builder (Ok d) s t usual = tt
+with_usual builder (Err e) s t usual = usual
+
+reading_usual : (builder : Option BuilderState) (at : Names) (how : ReadDirMeta) (s : DiskState) (reading : Result ListingState FsError) (t : DiskState) → Begins s at how reading t → Usual s (dir_with builder reading) t
+reading_usual builder at how s reading t (answer, lists, is) =
+    subst (λ (r : Result ListingState FsError). Usual s (dir_with builder r) t) (sym is)
+    (record { counts = lists.counted.counts; refused = with_usual builder (dir_of at how answer) s t (dir_usual at how answer s t lists.counted) })
+
+begun_usual : (b : Bool) (at : Names) (how : ReadDirMeta) (s : DiskState) (r : Result LocalFsReadDir FsError) (t : DiskState) → BeginsDir b at how s r t → Usual s r t
+begun_usual false at how s r t (reading, begins, whole) = subst (λ r. Usual s r t) (sym whole) (reading_usual None at how s reading t begins)
+begun_usual true at how s r t (inl (starved, same)) = rw (starved, same) (record { counts = omega arith; refused = (refl, λ e. cc) })
+begun_usual true at how s r t (inr (b, m, (found, metas, is_b), reading, begins, whole)) =
+    usual_from LocalFsReadDir r s m t metas.asks.counts (subst (λ r. Usual m r t) (sym whole) (reading_usual (Some b) at how m reading t begins))
+
+begin_usual : (p q : Place) (path : WebPath) (how : ReadDirMeta) (r : Result LocalFsReadDir FsError) → Finds p path.names (BeginsAt how) r q → Usual p.disk r q.disk
 begin_usual p q path how r finds =
-    finds_usual ListingState p q path.names (BeginsAt how) r
-    (λ at k (t, (answer, lists, is), ends).
-    let same : q.disk ≡ t = ap (λ (x : Place). x.disk) ends in
-    rw (is, same) (record { counts = lists.counted.counts; refused = dir_usual at how answer k.disk t lists.counted })) finds
+    finds_usual LocalFsReadDir p q path.names (BeginsAt how) r
+    (λ at k (t, begins, ends). subst (λ x. Usual k.disk r x) (sym (ap (λ (x : Place). x.disk) ends)) (begun_usual (gathers k.ways.macos how) at how k.disk r t begins)) finds
 
 -- ---- listings: what is kept of refusals that were met while a batch was read
 
@@ -384,29 +404,75 @@ gives_sane from now [] None k r e first none sane (is, ends) = record {
 next_sane : (from : ℕ) (s t : DiskState) (k e : ListingState) (r : Result (Option LocalFsDirEntry) FsError) → NextEntry s k r t e → Sane from s.faults k → Given from t.faults r e
 next_sane from s t k e r (f, refills, gives) sane = gives_sane from t.faults f.batch f.refused f r e refl refl (refills_sane from k.batch s t k f refills sane) gives
 
-next_counts : (s t : DiskState) (k e : ListingState) (r : Result (Option LocalFsDirEntry) FsError) → NextEntry s k r t e → s.faults ≤ t.faults
-next_counts s t k e r (f, refills, gives) = refills_counts k.batch s t k f refills
+pub next_entry_counts : (s t : DiskState) (k e : ListingState) (r : Result (Option LocalFsDirEntry) FsError) → NextEntry s k r t e → s.faults ≤ t.faults
+next_entry_counts s t k e r (f, refills, gives) = refills_counts k.batch s t k f refills
 
 refusal_usual : (T : Type 0) (r : Result T FsError) (s t : DiskState) → s.faults ≤ t.faults → ((f : FsError) → r ≡ Err f → Refusal s.faults t.faults f) → Usual {T = T} s r t
 refusal_usual T (Ok x) s t le refused = record { counts = le; refused = tt }
 refusal_usual T (Err f) s t le refused = record { counts = le; refused = refused f refl }
 
+-- what a local store's listing answers, and what it leaves
+follow_sane : (from : ℕ) (builder : Option BuilderState) (given : Result (Option LocalFsDirEntry) FsError) (now : Moment) (p : Place) (d : LocalFsReadDir) (r : Result (Option LocalFsDirEntry) FsError) (q : Place) (e : LocalFsReadDir)
+    → AfterNext builder given now p d r q e → Given from p.disk.faults given d.reading → Given from q.disk.faults r e.reading
+follow_sane from None given now p d r q e (is, same, whole) g =
+    subst (λ (x : Place). Given from x.disk.faults r e.reading) (sym same) (subst (λ (x : LocalFsReadDir). Given from p.disk.faults r x.reading) (sym whole) (subst (λ r. Given from p.disk.faults r d.reading) (sym is) g))
+follow_sane from (Some b) (Ok (Some entry)) now p d (Ok found) q e (same, (is, whole)) g =
+    subst (λ (x : Place). Given from x.disk.faults (Ok found) e.reading) (sym same)
+    (subst (λ (x : LocalFsReadDir). Given from p.disk.faults (Ok found) x.reading) (sym whole) (subst (λ f. Given from p.disk.faults (Ok f) d.reading) (sym is) g))
+follow_sane from (Some b) (Ok (Some entry)) now p d (Err f) q e (same, (is, whole)) g =
+    subst (λ (x : Place). Given from x.disk.faults (Err f) e.reading) (sym same)
+    (subst (λ (x : LocalFsReadDir). Given from p.disk.faults (Err f) x.reading) (sym whole) (starved_given f is))
+  where
+    starved_given : (f : FsError) → f ≡ fs.NoMemory → Given from p.disk.faults (Err f) (stopped d.reading)
+    starved_given f is = record {
+      sane = record { counts = g.sane.counts; refused = tt; each = tt };
+      kept = λ entry given. cc;
+      refused = λ h same. subst (Refusal from p.disk.faults) (let e : f ≡ h = cc in sym is ∙ e) (refl, λ never. cc);
+    }
+follow_sane from (Some b) (Ok None) now p d r q e (sealed, c, finishes, ways, is, whole) g =
+    let le = (after_keeps (Some b) (Ok None) now p d r q e (sealed, c, finishes, ways, is, whole)).counts in
+    let sane = sane_later from p.disk.faults q.disk.faults d.reading le g.sane in
+    subst (λ (x : LocalFsReadDir). Given from q.disk.faults r x.reading) (sym whole) (subst (λ r. Given from q.disk.faults r d.reading) (sym is) (ended sane sealed))
+  where
+    ended : Sane from q.disk.faults d.reading → (sealed : Result Unit Starved) → Given from q.disk.faults (at_end sealed) d.reading
+    ended sane (Ok x) = record { sane = sane; kept = λ entry given. cc; refused = λ f given. cc }
+    ended sane (Err x) = record { sane = sane; kept = λ entry given. cc; refused = λ f given. subst (Refusal from q.disk.faults) (let e : fs.NoMemory ≡ f = cc in e) (refl, λ never. cc) }
+follow_sane from (Some b) (Err f) now p d r q e (is, same, whole) g =
+    subst (λ (x : Place). Given from x.disk.faults r e.reading) (sym same) (subst (λ (x : LocalFsReadDir). Given from p.disk.faults r x.reading) (sym whole) (subst (λ r. Given from p.disk.faults r d.reading) (sym is) g))
+
+dir_sane : (from : ℕ) (s t : DiskState) (k e : LocalFsReadDir) (r : Result (Option LocalFsDirEntry) FsError) → Next s k r t e → Sane from s.faults k.reading → Given from t.faults r e.reading
+dir_sane from s t k e r n sane =
+    subst (λ (x : DiskState). Given from x.faults r e.reading) n.disk
+    (follow_sane from k.builder n.given n.now n.before (record k { reading = n.reading }) r n.after e n.follows
+    (subst (λ (x : DiskState). Given from x.faults n.given n.reading) (sym n.start) (next_sane from s n.middle k.reading n.reading n.given n.first sane)))
+
+dir_counts : (s t : DiskState) (k e : LocalFsReadDir) (r : Result (Option LocalFsDirEntry) FsError) → Next s k r t e → s.faults ≤ t.faults
+dir_counts s t k e r n =
+    let first = next_entry_counts s n.middle k.reading n.reading n.given n.first in
+    let more = (after_keeps k.builder n.given n.now n.before (record k { reading = n.reading }) r n.after e n.follows).counts in
+    omega (arith, first, more, ap (λ (x : DiskState). x.faults) n.start, ap (λ (x : DiskState). x.faults) n.disk)
+
 -- a listing that was just begun
-begun_sane : (p q : Place) (path : WebPath) (how : ReadDirMeta) (l : ListingState) → Finds p path.names (BeginsAt how) (Ok l) q → Sane p.disk.faults q.disk.faults l
+begun_sane : (p q : Place) (path : WebPath) (how : ReadDirMeta) (l : LocalFsReadDir) → Finds p path.names (BeginsAt how) (Ok l) q → Sane p.disk.faults q.disk.faults l.reading
 begun_sane p q path how l finds = by finds
   where
     le : p.disk.faults ≤ q.disk.faults
     le = (begin_usual p q path how (Ok l) finds).counts
 
-    of : (at : Names) (answer : Result Lister DiskError) → Ok l ≡ dir_of at how answer → Sane p.disk.faults q.disk.faults l
-    of at (Ok lister) is =
-        let same : l ≡ record { lister = lister; path = at; wanted = how; batch = []; refused = None; over = false } = cc in
+    of : (builder : Option BuilderState) (at : Names) (answer : Result Lister DiskError) → Ok l ≡ dir_with builder (dir_of at how answer) → Sane p.disk.faults q.disk.faults l.reading
+    of builder at (Ok lister) is =
+        let same : l.reading ≡ record { lister = lister; path = at; wanted = how; batch = []; refused = None; over = false } = cc in
         subst (Sane p.disk.faults q.disk.faults) (sym same) (record { counts = le; refused = tt; each = tt })
-    of at (Err d) is = cc
+    of builder at (Err d) is = cc
 
-    by : Finds p path.names (BeginsAt how) (Ok l) q → Sane p.disk.faults q.disk.faults l
+    begun_so : (b : Bool) (at : Names) (m t : DiskState) → BeginsDir b at how m (Ok l) t → Sane p.disk.faults q.disk.faults l.reading
+    begun_so false at m t (reading, (answer, lists, is), whole) = of None at answer (whole ∙ ap (dir_with None) is)
+    begun_so true at m t (inl (starved, same)) = cc
+    begun_so true at m t (inr (b, u, starts, reading, (answer, lists, is), whole)) = of (Some b) at answer (whole ∙ ap (dir_with (Some b)) is)
+
+    by : Finds p path.names (BeginsAt how) (Ok l) q → Sane p.disk.faults q.disk.faults l.reading
     by (Err e, m, resolves, (is, ends)) = cc
-    by (Ok at, m, resolves, (t, (answer, lists, is), ends)) = of at answer is
+    by (Ok at, m, resolves, (t, begins, ends)) = begun_so (gathers m.ways.macos how) at m.disk t begins
 
 says_usual : (meta : EntryMeta) (r : Result Info FsError) (b m t : DiskState) → b.faults ≤ m.faults → Kept b.faults m.faults meta → Says meta m r t → Usual b r t
 says_usual (Read (Ok answer)) r b m t le kept (is, same) = rw (is, same) (record { counts = le; refused = tt })
@@ -432,19 +498,22 @@ writing_usual h s bytes r t (writes_more a m b from piece n result chunk writes 
 
 -- ---- the store
 
-module _ {S C : Type 0} (view : View S C LocalFsFile) (lists : Listings S C ListingState LocalFsDirEntry) (writes : Writes LocalFsFile) (c : C) (ways : S → Ways) (memory : S → MemoryState)
+module _ {S C : Type 0} (view : View S C LocalFsFile) (lists : Listings S C LocalFsReadDir LocalFsDirEntry) (writes : Writes LocalFsFile) (c : C) (ways : S → Ways) (memory : S → MemoryState)
     (local : IsLocalStore view lists writes ways memory) where
   abbrev at : S → Place
   at s = place view lists writes ways memory s
 
-  walk_sane : (from : ℕ) (n : S) (l : ListingState) (answers : List Answered) (s : S) (k : ListingState) → Sane from (view.state n).faults l → Walked view lists n l answers s k → Sane from (view.state s).faults k
+  next : (s t : S) (d e : LocalFsReadDir) (r : Result (Option LocalFsDirEntry) FsError) → lists.lists_on s d r t e → Next (view.state s) d r (view.state t) e
+  next s t d e r on = next_local view lists writes ways memory local s t d e r on
+
+  walk_sane : (from : ℕ) (n : S) (l : LocalFsReadDir) (answers : List Answered) (s : S) (k : LocalFsReadDir) → Sane from (view.state n).faults l.reading → Walked view lists n l answers s k → Sane from (view.state s).faults k.reading
   walk_sane from n l answers s k sane begun = sane
   walk_sane from n l answers s k sane (walks before a b o i j e r walk on said lent keeps) =
       let first = walk_sane from n l before a i sane walk in
-      sane_later from (view.state b).faults (view.state o).faults j keeps.counts (next_sane from (view.state a) (view.state b) i j (Ok (Some e)) (local.goes_on a b i j (Ok (Some e)) on).0 first).sane
+      sane_later from (view.state b).faults (view.state o).faults j.reading keeps.counts (dir_sane from (view.state a) (view.state b) i j (Ok (Some e)) (next a b i j (Ok (Some e)) on) first).sane
 
-  listed_sane : (b n s : S) (path : WebPath) (how : ReadDirMeta) (first l : ListingState) (answers : List Answered) → lists.lists b c path how (Ok first) n → Walked view lists n first answers s l
-      → Sane (view.state b).faults (view.state s).faults l
+  listed_sane : (b n s : S) (path : WebPath) (how : ReadDirMeta) (first l : LocalFsReadDir) (answers : List Answered) → lists.lists b c path how (Ok first) n → Walked view lists n first answers s l
+      → Sane (view.state b).faults (view.state s).faults l.reading
   listed_sane b n s path how first l answers begins walk =
       walk_sane (view.state b).faults n first answers s l (begun_sane (at b) (at n) path how first (local.begins b n c path how (Ok first) begins).0) walk
 
@@ -462,14 +531,13 @@ module _ {S C : Type 0} (view : View S C LocalFsFile) (lists : Listings S C List
     begins = λ s t path how r h. begin_usual (at s) (at t) path how r (local.begins s t c path how r h).0;
     goes_on = λ b n s t path how first l k answers r begins walk h.
         (let sane = listed_sane b n s path how first l answers begins walk in
-        let next = (local.goes_on s t l k r h).0 in
-        let given = next_sane (view.state b).faults (view.state s) (view.state t) l k r next sane in
+        let given = dir_sane (view.state b).faults (view.state s) (view.state t) l k r (next s t l k r h) sane in
         refusal_usual (Option LocalFsDirEntry) r (view.state b) (view.state t) given.sane.counts given.refused);
     says = λ b n s m t path how first l k answers e r begins walk on h.
         (let sane = listed_sane b n s path how first l answers begins walk in
-        let given = next_sane (view.state b).faults (view.state s) (view.state m) l k (Ok (Some e)) (local.goes_on s m l k (Ok (Some e)) on).0 sane in
+        let given = dir_sane (view.state b).faults (view.state s) (view.state m) l k (Ok (Some e)) (next s m l k (Ok (Some e)) on) sane in
         says_usual e.meta r (view.state b) (view.state m) (view.state t) given.sane.counts (given.kept e refl) (local.says (view.state m) (view.state t) e r h));
-    goes_counts = λ s t l k r h. next_counts (view.state s) (view.state t) l k r (local.goes_on s t l k r h).0;
+    goes_counts = λ s t l k r h. dir_counts (view.state s) (view.state t) l k r (next s t l k r h);
     says_counts = λ s t e r h. says_counts e.meta (view.state s) r (view.state t) (local.says (view.state s) (view.state t) e r h);
     ends = λ s t l h. (let same = (local.ends s t l h).0.counts in omega (arith, same));
   }

@@ -1,45 +1,19 @@
 -- The rows that stand in a directory of a tree, and its members by their names.
-use Rattle.std.proofs.Common.{◌≡◌, inl, inr, ℕ, Bool, true, false, cond, List, [], ◌∷◌, ◌++◌, map, Result, Ok, Err, refl, ap, ◌∙◌}
-use Rattle.std.specs.List.{AllByRecursion, filter}
+use Rattle.std.proofs.Common.{◌≡◌, ℕ, Bool, false, List, [], ◌∷◌, ◌++◌, map, Result, Ok, Err, refl, ap, ◌∙◌}
+use Rattle.std.specs.List.{AllByRecursion}
 use Rattle.dav_core.specs.declared.handle.DiskError.{DiskError}
 use Rattle.dav_core.specs.declared.tree.Row.{Row}
 use Rattle.dav_core.specs.DavPath.{WebPath}
-use Rattle.dav_core.specs.Listing.{name_of, stands_in}
+use Rattle.dav_core.specs.Listing.{name_of}
 use Rattle.dav_core.specs.Path.{Names}
-use Rattle.dav_core.specs.Tree.{is_dir, is_tree, look}
+use Rattle.dav_core.specs.Tree.{is_dir, look}
 use Rattle.dav_core.specs.World.{World}
-use Rattle.dav_model.specs.Finding.{IsOf}
 use Rattle.dav_model.specs.Walks.{dir_first, in_order}
 use Rattle.dav_methods.specs.declared.child.Child.{Child}
 use Rattle.dav_methods.specs.Follows.{child_of}
 use Rattle.dav_methods.specs.Reading.{child_named}
-use Rattle.dav_local.proofs.Rows.{path_in, stands_below, tree_parts}
-use Rattle.dav_local.proofs.Walked.{StandsIn}
+use Rattle.dav_local.proofs.EntriesTold.{StandsIn}
 use Rattle.dav_local_laws.proofs.NameOrder.{all_in_order}
-
--- ---- rows
-
-choose : {X : Type 0} (Q : X → Type 0) (b : Bool) (x : X) (xs : List X) → (b ≡ true → Q x) → AllByRecursion Q xs → AllByRecursion Q (cond b (x ∷ xs) xs)
-choose Q true x xs h all = (h refl, all)
-choose Q false x xs h all = all
-
-filtered : {X : Type 0} (p : X → Bool) (P Q : X → Type 0) → ((x : X) → p x ≡ true → P x → Q x) → (xs : List X) → AllByRecursion P xs → AllByRecursion Q (filter p xs)
-filtered p P Q h [] all = tt
-filtered p P Q h (x ∷ xs) all = choose Q (p x) x (filter p xs) (λ e. h x e all.0) (filtered p P Q h xs all.1)
-
-each_of : (rows all : List Row) → ((row : Row) → IsOf row rows → IsOf row all) → AllByRecursion (λ row. IsOf row all) rows
-each_of [] all up = tt
-each_of (row ∷ rows) all up = (up row (inl refl), each_of rows all (λ r o. up r (inr o)))
-
-stands_by : (tree : List Row) (dir : Names) (at row : Row) → is_tree tree ≡ true → look tree dir ≡ Ok at → stands_in dir row ≡ true → IsOf row tree → StandsIn tree dir row
-stands_by tree dir at row is looked stands o =
-    let path = path_in dir row stands in
-    record { path = path; found = stands_below tree dir (name_of row) at row (tree_parts tree is) looked o path }
-
--- the rows in a directory of a tree
-pub rows_stand : (tree : List Row) (dir : Names) (at : Row) → is_tree tree ≡ true → look tree dir ≡ Ok at → AllByRecursion (StandsIn tree dir) (filter (stands_in dir) tree)
-rows_stand tree dir at is looked =
-    filtered (stands_in dir) (λ row. IsOf row tree) (StandsIn tree dir) (λ row stands o. stands_by tree dir at row is looked stands o) tree (each_of tree tree (λ r o. o))
 
 pub paths_of : (w : World) (dir : Names) (rows : List Row) → AllByRecursion (StandsIn w.tree dir) rows → AllByRecursion (λ (row : Row). row.path ≡ dir ++ name_of row ∷ []) rows
 paths_of w dir [] stand = tt

@@ -27,7 +27,7 @@ use Rattle.dav_local.specs.declared.file.LocalFsFile.{LocalFsFile}
 use Rattle.dav_local.specs.declared.ways.Ways.{Ways}
 use Rattle.dav_local.specs.Calls.{AfterAbsent, Asks, AsksToTakeFile, Finds, FindsBoth, Looks, LooksAt, Place, asks_memory, is_shut}
 use Rattle.dav_local.specs.Files.{done_by, filed, looked_as}
-use Rattle.dav_local.specs.Listing.{ListingState}
+use Rattle.dav_local.specs.declared.gathering.LocalFsReadDir.{LocalFsReadDir}
 use Rattle.dav_local.specs.Ways.{is_known, rules_of}
 use Rattle.dav_local_laws.proofs.CallsDone.{done_between, done_of, opened_of}
 use Rattle.dav_local_laws.proofs.PlainLooks.{both_stays, looks_told}
@@ -81,7 +81,7 @@ looked_plain follows slash names p q r plain (absent, n, tells, after) =
     by (answer, t, metas, is, ends) same =
         (answer, subst (λ x. MetasBy follows p.disk names answer x) (sym (ap (λ (x : Place). x.disk) ends)) (subst (λ (x : Place). MetasBy follows x.disk names answer t) same metas), is)
 
-module _ {S C : Type 0} (view : View S C LocalFsFile) (lists : Listings S C ListingState LocalFsDirEntry) (writes : Writes LocalFsFile) (c : C) (ways : S → Ways) (memory : S → MemoryState)
+module _ {S C : Type 0} (view : View S C LocalFsFile) (lists : Listings S C LocalFsReadDir LocalFsDirEntry) (writes : Writes LocalFsFile) (c : C) (ways : S → Ways) (memory : S → MemoryState)
     (local : IsLocalStore view lists writes ways memory) (settings : Settings) where
   abbrev at : S → Place
   at s = place view lists writes ways memory s

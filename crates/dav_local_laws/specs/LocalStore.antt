@@ -1,5 +1,6 @@
 -- The calls of a local store, of its files and of its listings, by a view of it.
 use Rattle.std.specs.Prelude.{◌≡◌, ℕ, true, false, List, Option, Some, Result}
+use Rattle.dav_io.specs.declared.clock.Moment.{Moment}
 use Rattle.dav_core.specs.declared.error.FsError.{FsError}
 use Rattle.dav_core.specs.declared.handle.OpenOptions.{OpenOptions}
 use Rattle.dav_core.specs.DavPath.{WebPath}
@@ -16,11 +17,12 @@ use Rattle.dav_local.specs.declared.file.LocalFsFile.{LocalFsFile}
 use Rattle.dav_local.specs.Calls.{AsksToCopy, AsksToMake, AsksToMove, AsksToTakeDir, AsksToTakeFile, BeginsAt, Finds, IsOpening, Looks, Place}
 use Rattle.dav_local.specs.Entries.{Says}
 use Rattle.dav_local.specs.Files.{seen_by}
-use Rattle.dav_local.specs.Listing.{ListingState, NextEntry}
+use Rattle.dav_local.specs.declared.gathering.LocalFsReadDir.{LocalFsReadDir}
+use Rattle.dav_local.specs.Gathering.{GivesNext}
 use Rattle.dav_local.specs.declared.ways.Ways.{Ways}
 use Rattle.dav_local.specs.Writing.{WritesAll}
 
-module _ {S C : Type 0} (view : View S C LocalFsFile) (lists : Listings S C ListingState LocalFsDirEntry)
+module _ {S C : Type 0} (view : View S C LocalFsFile) (lists : Listings S C LocalFsReadDir LocalFsDirEntry)
     (writes : Writes LocalFsFile) (ways : S → Ways) (memory : S → MemoryState) where
   -- the store as its clauses see it
   abbrev pub place : S → Place
@@ -59,12 +61,12 @@ module _ {S C : Type 0} (view : View S C LocalFsFile) (lists : Listings S C List
         → AsksToMove (place s) from to r (place t) × Stays s t
     pub copies : (s t : S) (c : C) (from to : WebPath) (r : Result Unit FsError) → view.copies s c from to r t
         → AsksToCopy (place s) from to r (place t) × Stays s t
-    pub begins : (s t : S) (c : C) (path : WebPath) (how : ReadDirMeta) (r : Result ListingState FsError)
+    pub begins : (s t : S) (c : C) (path : WebPath) (how : ReadDirMeta) (r : Result LocalFsReadDir FsError)
         → lists.lists s c path how r t → Finds (place s) path.names (BeginsAt how) r (place t) × Stays s t
-    pub goes_on : (s t : S) (l k : ListingState) (r : Result (Option LocalFsDirEntry) FsError)
-        → lists.lists_on s l r t k → NextEntry (view.state s) l r (view.state t) k × Lends s t
-    pub ends : (s t : S) (l : ListingState) → lists.ends_list s l t
-        → EndsListing (view.state s) l.lister.0 (view.state t) × Lends s t
+    pub goes_on : (s t : S) (l k : LocalFsReadDir) (r : Result (Option LocalFsDirEntry) FsError)
+        → lists.lists_on s l r t k → (now : Moment) × GivesNext now (place s) l r (place t) k
+    pub ends : (s t : S) (l : LocalFsReadDir) → lists.ends_list s l t
+        → EndsListing (view.state s) l.reading.lister.0 (view.state t) × Lends s t
     pub called : (e : LocalFsDirEntry) → lists.called e ≡ e.name
     pub says : (s t : DiskState) (e : LocalFsDirEntry) (r : Result Info FsError) → lists.says e s r t
         → Says e.meta s r t

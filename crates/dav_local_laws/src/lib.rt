@@ -2,7 +2,19 @@
 //! nothing.
 #![tactic(auto)]
 
-ghost use Rattle.std.specs.Prelude.{◌≡◌, ℕ, false, Option, Some};
+ghost use Rattle.std.specs.Prelude.{◌≡◌, ℕ, List, false, true, None, Ok, Option, Result, Some};
+ghost use Rattle.dav_io.specs.Counts.{RefusedNothing};
+ghost use Rattle.dav_core.specs.declared.error.FsError.{FsError};
+ghost use Rattle.dav_core.specs.declared.time.FileTime.{FileTime as Time};
+ghost use Rattle.dav_core.specs.DavPath.{last_name};
+ghost use Rattle.dav_core.specs.Info.{Info};
+ghost use Rattle.dav_core.specs.Listing.{or_empty};
+ghost use Rattle.dav_cache.specs.Builder.{BuilderState, may_settle};
+ghost use Rattle.dav_local.specs.Calls.{place_of};
+ghost use Rattle.dav_local.specs.declared.gathering.LocalFsReadDir.{LocalFsReadDir};
+ghost use Rattle.dav_model.specs.Folds.{dir_time, is_dot};
+ghost use Rattle.dav_store.specs.Members.{Answered, Walked};
+ghost use Rattle.dav_local_laws.specs.Sealed.{DeniedAtOnce, IsKnownAbsent, SealedWith, gathered};
 ghost use Rattle.dav_cache.specs.Memory.{LearnsNothing};
 ghost use Rattle.dav_core.specs.DavPath.{WebPath};
 ghost use Rattle.dav_core.specs.Tree.{is_linked};
@@ -23,7 +35,7 @@ ghost use Rattle.dav_model.specs.Due.{Query};
 ghost use Rattle.dav_model.specs.Finding.{listed_in};
 ghost use Rattle.dav_model.specs.Head.{Reply};
 ghost use Rattle.dav_model.specs.Play.{Reads};
-ghost use Rattle.dav_model.specs.Rules.{plain_rules};
+ghost use Rattle.dav_model.specs.Rules.{Learns, plain_rules};
 ghost use Rattle.dav_store.specs.Leads.{LeadsOn};
 ghost use Rattle.dav_store.specs.Members.{ShowsMembers};
 ghost use Rattle.dav_store.specs.Reached.{ShowsOn};
@@ -31,15 +43,15 @@ ghost use Rattle.dav_store.specs.View.{the_listings, the_view};
 ghost use Rattle.dav_local_laws.specs.LocalStore.{IsLocalStore};
 ghost use Rattle.dav_local_laws.specs.Simple.{is_simple, opened, plain_ways};
 
-use dav_cache::Remember;
-use dav_core::Disk;
+use dav_cache::RememberAny;
+use dav_core::{DavPath, Disk};
 use dav_local::{LocalFs, LocalFsDirEntry, LocalFsFile};
 use dav_model::Settings;
-use dav_store::{DavDirEntry, DavFile, GuardedFileSystem};
+use dav_store::{DavDirEntry, DavFile, DavFileSystem, GuardedFileSystem};
 
 /// Each call of a local store, of its files and of its listings is one call of its disk at the place where its path is
 /// found, and how it finds paths stays.
-pub fn calls_are_local<D: Disk, R: Remember>(_fs: &LocalFs<D, R>)
+pub fn calls_are_local<D: Disk, R: RememberAny>(_fs: &LocalFs<D, R>)
     ensures { IsLocalStore (the_view ⟦<LocalFs<D, R> as GuardedFileSystem<()>>⟧ D.Disk ⟦<LocalFsFile as DavFile<D>>⟧)
         (the_listings ⟦<LocalFs<D, R> as GuardedFileSystem<()>>⟧ ⟦<LocalFsDirEntry as DavDirEntry<D>>⟧)
         ⟦<LocalFsFile as DavFile<D>>⟧.writes (λ s. s.ways) (λ s. R.state s.memory) }
@@ -47,7 +59,7 @@ pub fn calls_are_local<D: Disk, R: Remember>(_fs: &LocalFs<D, R>)
 
 /// The local store refuses few things, and fails only where its disk met a fault. Of a listing this counts from where it
 /// was begun.
-pub fn local_stores_refuse_few<D: Disk, R: Remember>(_fs: &LocalFs<D, R>)
+pub fn local_stores_refuse_few<D: Disk, R: RememberAny>(_fs: &LocalFs<D, R>)
     ensures { RefusesUsually (the_view ⟦<LocalFs<D, R> as GuardedFileSystem<()>>⟧ D.Disk ⟦<LocalFsFile as DavFile<D>>⟧)
         (the_listings ⟦<LocalFs<D, R> as GuardedFileSystem<()>>⟧ ⟦<LocalFsDirEntry as DavDirEntry<D>>⟧)
         ⟦<LocalFsFile as DavFile<D>>⟧.writes tt }
@@ -57,7 +69,7 @@ pub fn local_stores_refuse_few<D: Disk, R: Remember>(_fs: &LocalFs<D, R>)
 
 /// From any state on in which it serves its disk's root, its names don't fold and the rules for macOS don't hold, the
 /// local store follows the rules by which each path is meant as it is written.
-pub fn local_stores_follow_rules<D: Disk, R: Remember>(_fs: &LocalFs<D, R>, _settings: &Settings)
+pub fn local_stores_follow_rules<D: Disk, R: RememberAny>(_fs: &LocalFs<D, R>, _settings: &Settings)
     ensures { _fs.now.ways ≡ plain_ways
         → Follows (the_view ⟦<LocalFs<D, R> as GuardedFileSystem<()>>⟧ D.Disk ⟦<LocalFsFile as DavFile<D>>⟧)
         (the_listings ⟦<LocalFs<D, R> as GuardedFileSystem<()>>⟧ ⟦<LocalFsDirEntry as DavDirEntry<D>>⟧)
@@ -68,7 +80,7 @@ pub fn local_stores_follow_rules<D: Disk, R: Remember>(_fs: &LocalFs<D, R>, _set
 
 /// What a GET or HEAD answers by what it heard of the local store is right for something that the store may show by its
 /// rules: in every run, whatever its memory knows and however many names fold alike.
-pub fn reads_are_right<D: Disk, R: Remember>(_fs: &LocalFs<D, R>)
+pub fn reads_are_right<D: Disk, R: RememberAny>(_fs: &LocalFs<D, R>)
     ensures { (q : Query) (t : LocalFs D R) (result : Given LocalFsFile) (reply : Reply)
         → OpenOnlyHeld (the_view ⟦<LocalFs<D, R> as GuardedFileSystem<()>>⟧ D.Disk ⟦<LocalFsFile as DavFile<D>>⟧)
         _fs.now result t
@@ -85,7 +97,7 @@ pub fn reads_are_right<D: Disk, R: Remember>(_fs: &LocalFs<D, R>)
 
 /// Where names don't fold and the rules for macOS don't hold, the local store asks its disk once to look, and at most once
 /// to open.
-pub fn local_stores_ask_once<D: Disk, R: Remember>(_fs: &LocalFs<D, R>)
+pub fn local_stores_ask_once<D: Disk, R: RememberAny>(_fs: &LocalFs<D, R>)
     ensures { AsksByOne (the_view ⟦<LocalFs<D, R> as GuardedFileSystem<()>>⟧ D.Disk ⟦<LocalFsFile as DavFile<D>>⟧)
         (the_listings ⟦<LocalFs<D, R> as GuardedFileSystem<()>>⟧ ⟦<LocalFsDirEntry as DavDirEntry<D>>⟧)
         (λ s. is_simple s.ways) }
@@ -93,18 +105,52 @@ pub fn local_stores_ask_once<D: Disk, R: Remember>(_fs: &LocalFs<D, R>)
     calls_are_local(_fs)
 }
 
-/// Calls that write nothing leave how a local store finds paths, and what its memory knows after them it knew before.
-pub fn reads_learn_nothing<D: Disk, R: Remember>(_fs: &LocalFs<D, R>)
+/// Calls that write nothing leave how a local store finds paths, and what its memory knows after them it knew before, or
+/// the told world has it.
+pub fn reads_learn_what_stands<D: Disk, R: RememberAny>(_fs: &LocalFs<D, R>)
     ensures { (t : LocalFs D R) → LeadsOn (the_view ⟦<LocalFs<D, R> as GuardedFileSystem<()>>⟧ D.Disk ⟦<LocalFsFile as DavFile<D>>⟧)
         (the_listings ⟦<LocalFs<D, R> as GuardedFileSystem<()>>⟧ ⟦<LocalFsDirEntry as DavDirEntry<D>>⟧) tt _fs.now t
-        → (t.ways ≡ _fs.now.ways) × LearnsNothing (R.state _fs.now.memory) (R.state t.memory) }
+        → (t.ways ≡ _fs.now.ways) × Learns (D.state _fs.now.disk).told (knowledge_of (R.state _fs.now.memory))
+        (knowledge_of (R.state t.memory)) }
+{
+    calls_are_local(_fs)
+}
+
+/// A look at a name that begins with `._`, where the rules for macOS hold and names don't fold, costs one call of the disk
+/// where the memory knows the name to be absent and the disk refuses nothing. It finds nothing then, or memory was wanting.
+pub fn absent_names_cost_one_look<D: Disk, R: RememberAny>(_fs: &LocalFs<D, R>, _path: &DavPath)
+    ensures { (result : Result Info FsError) (t : LocalFs D R)
+        → ⟦<LocalFs<D, R> as DavFileSystem>⟧.looks _fs.now _path.now result t
+        → _fs.now.ways.macos ≡ true → _fs.now.ways.folds ≡ false → _fs.now.ways.alone ≡ None
+        → is_dot (or_empty (last_name _path.now.names)) ≡ true
+        → RefusedNothing (D.state _fs.now.disk).faults (D.state t.disk).faults
+        → IsKnownAbsent (place_of D.state R.state _fs.now) _path.now.names
+        → DeniedAtOnce (place_of D.state R.state _fs.now) result (place_of D.state R.state t) }
+{
+    calls_are_local(_fs)
+}
+
+/// A listing that gathers names gathers each that it gives. Where its directory had a known time before it and has it at
+/// its end, nothing was refused, and no fault was noted, the memory is sealed with what was gathered.
+pub fn whole_listings_are_sealed<D: Disk, R: RememberAny>(_fs: &LocalFs<D, R>)
+    ensures gathers { (n o : LocalFs D R) (l k : LocalFsReadDir) (answers : List Answered) (b : BuilderState)
+        → l.builder ≡ Some b
+        → Walked (the_view ⟦<LocalFs<D, R> as GuardedFileSystem<()>>⟧ D.Disk ⟦<LocalFsFile as DavFile<D>>⟧)
+        (the_listings ⟦<LocalFs<D, R> as GuardedFileSystem<()>>⟧ ⟦<LocalFsDirEntry as DavDirEntry<D>>⟧) n l answers o k
+        → k.builder ≡ Some (gathered answers b) }
+    ensures seals { (t : LocalFs D R) (k j : LocalFsReadDir) (b : BuilderState) (time : Time) (w : World)
+        → k.builder ≡ Some b → may_settle b ≡ Some time → (D.state _fs.now.disk).told ≡ Some w
+        → is_linked w.tree b.dir ≡ false → dir_time w.tree b.dir ≡ Some time
+        → RefusedNothing (D.state _fs.now.disk).faults (D.state t.disk).faults
+        → ⟦<LocalFs<D, R> as DavFileSystem>⟧.lists_on _fs.now k (Ok None) t j
+        → SealedWith (R.state _fs.now.memory) b time _fs.now.moment (R.state t.memory) }
 {
     calls_are_local(_fs)
 }
 
 /// Calls that read and write, whatever they answered, leave how a local store finds paths, and what its memory knows after
-/// them it knew before.
-pub fn calls_teach_nothing<D: Disk, R: Remember>(_fs: &LocalFs<D, R>)
+/// them it knew before: what is listed on the way is about to change, and isn't remembered.
+pub fn calls_teach_nothing<D: Disk, R: RememberAny>(_fs: &LocalFs<D, R>)
     ensures { (t : LocalFs D R) → Reached (the_view ⟦<LocalFs<D, R> as GuardedFileSystem<()>>⟧ D.Disk ⟦<LocalFsFile as DavFile<D>>⟧)
         (the_listings ⟦<LocalFs<D, R> as GuardedFileSystem<()>>⟧ ⟦<LocalFsDirEntry as DavDirEntry<D>>⟧)
         ⟦<LocalFsFile as DavFile<D>>⟧.writes tt _fs.now t
@@ -116,7 +162,7 @@ pub fn calls_teach_nothing<D: Disk, R: Remember>(_fs: &LocalFs<D, R>)
 /// Where the disk tells its world and each path is meant as it is written, the local store shows what stands in the world:
 /// what is opened at each path on the way to which no link stands, also after looks, openings for reading, calls of open
 /// files and listings; and the members of a directory, where no link stands on the way to it or at one of them.
-pub fn local_stores_show_the_tree<D: Disk, R: Remember>(_fs: &LocalFs<D, R>)
+pub fn local_stores_show_the_tree<D: Disk, R: RememberAny>(_fs: &LocalFs<D, R>)
     ensures opened { (w : World) (path : WebPath) → (D.state _fs.now.disk).told ≡ Some w → _fs.now.ways ≡ plain_ways
         → is_linked w.tree path.names ≡ false
         → ShowsOn (the_view ⟦<LocalFs<D, R> as GuardedFileSystem<()>>⟧ D.Disk ⟦<LocalFsFile as DavFile<D>>⟧)

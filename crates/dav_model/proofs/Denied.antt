@@ -42,7 +42,7 @@ use Rattle.dav_model.proofs.Headline.{DeniesRightly, headline}
 bytes_refl : (a : List _) → bytes_eq a a ≡ true
 bytes_refl a = (slice_eq-Decides unsigned_Decides a a (bytes_eq a a) refl).1 refl
 
-member_pushed : (dir : Names) (name : Name) → member_name dir (dir ++ name ∷ []) ≡ Some name
+pub member_pushed : (dir : Names) (name : Name) → member_name dir (dir ++ name ∷ []) ≡ Some name
 member_pushed [] name = refl
 member_pushed (d ∷ dir) name = ap (λ b. cond b (member_name dir (dir ++ name ∷ [])) None) (bytes_refl d) ∙ member_pushed dir name
 

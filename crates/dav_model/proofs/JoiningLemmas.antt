@@ -21,7 +21,7 @@ use Rattle.dav_model.specs.declared.answer.Answer.{Answer}
 use Rattle.dav_model.specs.Bodies.{Polls}
 use Rattle.dav_model.specs.Sizes.{read_size_of}
 use Rattle.dav_model.specs.Folds.{Name, has_name}
-use Rattle.dav_model.specs.Rules.{Rules, Knowledge, Learns, Forgets, WasKnown, HasNames, SameDots}
+use Rattle.dav_model.specs.Rules.{Rules, Knowledge, Learns, Forgets, WasKnown, HasNames, ShowsNames, SameDots}
 use Rattle.dav_model.specs.Head.{Reply}
 use Rattle.dav_model.specs.Plans.{Act, Ask, does, halts, plan}
 use Rattle.http.specs.Request.{body_of}
@@ -72,13 +72,13 @@ pub learned_none : (points : List Point) (k : Knowledge) → Learned points k k
 learned_none points k = record { open_same = λ dir time. refl; known = λ dir time has e. inl (has, e, λ x dot. refl) }
 
 was_then : (points : List Point) (k l : Knowledge) (dir : Names) (time : FileTime) (has : Name → Bool) → Learned points k l
-    → WasKnown l dir time has → WasKnown k dir time has ⊎ ((w : World) × Occurs w points × HasNames w dir time has)
+    → WasKnown l dir time has → WasKnown k dir time has ⊎ ((w : World) × Occurs w points × ShowsNames w dir time has)
 was_then points k l dir time has learned (had, e, same) = or_before (learned.known dir time had e)
   where
-    or_before : WasKnown k dir time had ⊎ ((w : World) × Occurs w points × HasNames w dir time had)
-        → WasKnown k dir time has ⊎ ((w : World) × Occurs w points × HasNames w dir time has)
+    or_before : WasKnown k dir time had ⊎ ((w : World) × Occurs w points × ShowsNames w dir time had)
+        → WasKnown k dir time has ⊎ ((w : World) × Occurs w points × ShowsNames w dir time has)
     or_before (inl (first, f, same')) = inl (first, f, same_dots_then has had first same same')
-    or_before (inr (w, o, names)) = inr (w, o, record { there = names.there; names = same_dots_then has had (has_name w.tree dir) same names.names })
+    or_before (inr (w, o, names)) = inr (w, o, λ clear. let shown = names clear in record { there = shown.there; names = same_dots_then has had (has_name w.tree dir) same shown.names })
 
 told_some : (o : Option World) → is_some o ≡ true → (w : World) × (o ≡ Some w)
 told_some None e = cc
@@ -149,12 +149,13 @@ valid_within rules k l all before part v first within told learned = record {
   told = told;
   apart = λ folds w o. v.apart folds w (within w o);
   times = λ macos a b o o'. v.times macos a b (within a o) (within b o');
+  links = λ macos a b o o'. v.links macos a b (within a o) (within b o');
   sound = λ macos w o. record {
     closed = λ dir time e. learned.open_same dir time ∙ (v.sound macos w (within w o)).closed dir time e;
     names = λ dir time has e f. elim (learned.known dir time has f) [
       | inl (had, g, same) ↦ same_dots_then has had (has_name w.tree dir) same ((v.sound macos w (within w o)).names dir time had e g)
-      | inr (u, o', names) ↦ same_dots_then has (has_name u.tree dir) (has_name w.tree dir) names.names
-          (λ x dot. v.times macos u w (first u o') (within w o) dir time names.there e x)
+      | inr (u, o', names) ↦ (let shown = names (v.links macos u w (first u o') (within w o) dir time e) in
+          same_dots_then has (has_name u.tree dir) (has_name w.tree dir) shown.names (λ x dot. v.times macos u w (first u o') (within w o) dir time shown.there e x))
     ];
   };
 }

@@ -29,7 +29,7 @@ use Rattle.dav_model.specs.Finding.{MayShow, is_clear, resolved, shown_in}
 use Rattle.dav_model.specs.Folds.{Name}
 use Rattle.dav_model.specs.Head.{Reply, refusal}
 use Rattle.dav_model.specs.Requests.{Asked, fields_of}
-use Rattle.dav_model.specs.Rules.{Rules, Knowledge, Learns, Forgets, WasKnown, HasNames}
+use Rattle.dav_model.specs.Rules.{Rules, Knowledge, Learns, Forgets, WasKnown, ShowsNames}
 use Rattle.dav_model.specs.Shown.{Shown, CouldShow}
 use Rattle.dav_model.specs.Sizes.{read_size_of}
 use Rattle.dav_model.specs.Trail.{Point, Move, Goes, Leaves, target_of, last_of, steps_of, answers_of, points_of}
@@ -220,11 +220,11 @@ abbrev pub Stepped : Stage → Step → Result Answer NoMemory → Stage → Typ
 Stepped a step (Ok answer) b = Stands a.playing a.at b.at step answer b.playing × StaysOpen b.at b.playing
 Stepped a step (Err e) b = Refuses a.playing a.at b.at step b.playing
 
--- What is known at exit was known at entry, or a world of the trail has it. It is the same trail in both.
+-- What is known at exit was known at entry, or a world of the trail shows it. It is the same trail in both.
 pub record Learned (points : List Point) (k l : Knowledge) : Type 0 where
   pub open_same : (dir : Names) (time : FileTime) → l.is_open dir time ≡ k.is_open dir time
   pub known : (dir : Names) (time : FileTime) (has : Name → Bool) → l.names dir time ≡ Some has
-      → WasKnown k dir time has ⊎ ((w : World) × Occurs w points × HasNames w dir time has)
+      → WasKnown k dir time has ⊎ ((w : World) × Occurs w points × ShowsNames w dir time has)
 
 -- ---- the headline
 

@@ -2,6 +2,7 @@
 use Rattle.std.specs.Prelude.{◌≡◌, ◌⊎◌, Bool, true, false, Option, None, Some}
 use Rattle.dav_core.specs.declared.time.FileTime.{FileTime}
 use Rattle.dav_core.specs.Path.{Names}
+use Rattle.dav_core.specs.Tree.{is_linked}
 use Rattle.dav_core.specs.World.{World}
 use Rattle.dav_model.specs.declared.settings.Settings.{Settings}
 use Rattle.dav_model.specs.Folds.{Name, is_dot, has_name, dir_time}
@@ -16,7 +17,7 @@ pub record Rules : Type 0 where
   -- the file that every path names, where one is served alone
   pub alone : Option Names
 
--- the rules of a run over a plain store: each path is meant as it is written
+-- the rules of a run in which each path is meant as it is written
 abbrev pub plain_rules : Settings → Rules
 plain_rules settings = record { settings = settings; folds = false; macos = false; alone = None }
 
@@ -38,6 +39,10 @@ pub record HasNames (w : World) (dir : Names) (time : FileTime) (has : Name → 
   pub there : dir_time w.tree dir ≡ Some time
   pub names : SameDots has (has_name w.tree dir)
 
+-- It does, where no link stands on the way to it: behind one a disk tells nothing.
+abbrev pub ShowsNames : World → Names → FileTime → (Name → Bool) → Type 0
+ShowsNames w dir time has = is_linked w.tree dir ≡ false → HasNames w dir time has
+
 -- What is known of a directory of the world at its time is what it has.
 pub record IsSound (k : Knowledge) (w : World) : Type 0 where
   pub closed : (dir : Names) (time : FileTime) → dir_time w.tree dir ≡ Some time → k.is_open dir time ≡ false
@@ -47,11 +52,11 @@ pub record IsSound (k : Knowledge) (w : World) : Type 0 where
 abbrev pub WasKnown : Knowledge → Names → FileTime → (Name → Bool) → Type 0
 WasKnown k dir time has = (had : Name → Bool) × (k.names dir time ≡ Some had) × SameDots has had
 
--- What is known after was known before, or a world that is told has it.
+-- What is known after was known before, or a world that is told shows it.
 pub record Learns (told : Option World) (k l : Knowledge) : Type 0 where
   pub open_same : (dir : Names) (time : FileTime) → l.is_open dir time ≡ k.is_open dir time
   pub known : (dir : Names) (time : FileTime) (has : Name → Bool) → l.names dir time ≡ Some has
-      → WasKnown k dir time has ⊎ ((w : World) → told ≡ Some w → HasNames w dir time has)
+      → WasKnown k dir time has ⊎ ((w : World) → told ≡ Some w → ShowsNames w dir time has)
 
 -- what is known after was known before
 pub record Forgets (k l : Knowledge) : Type 0 where

@@ -1,10 +1,11 @@
 -- Valid runs: what is assumed of the worlds of a trail, and of what the memory knows at entry. (That no link is met is asked
 -- beside it, of the path that an answer looks at.)
-use Rattle.std.specs.Prelude.{◌≡◌, ◌⊎◌, ◌&&◌, List, [], ◌∷◌, Bool, true, not, is_some, Some}
+use Rattle.std.specs.Prelude.{◌≡◌, ◌⊎◌, ◌&&◌, List, [], ◌∷◌, Bool, true, false, not, is_some, Some}
 use Rattle.std.specs.List.{AllByRecursion, list_all}
 use Rattle.dav_core.specs.declared.time.FileTime.{FileTime}
 use Rattle.dav_core.specs.declared.tree.Row.{Row}
 use Rattle.dav_core.specs.Path.{Names, same_names, parent_of}
+use Rattle.dav_core.specs.Tree.{is_linked}
 use Rattle.dav_core.specs.World.{World}
 use Rattle.dav_model.specs.Folds.{Name, folds_like, has_name, dir_time}
 use Rattle.dav_model.specs.Rules.{Rules, Knowledge, IsSound}
@@ -33,8 +34,14 @@ TimesTell points = (v w : World) → Occurs v points → Occurs w points → (di
     → dir_time v.tree dir ≡ Some time → dir_time w.tree dir ≡ Some time → (x : Name)
     → has_name v.tree dir x ≡ has_name w.tree dir x
 
+-- A directory that stands in one world is behind no link in another.
+abbrev pub LinksStay : List Point → Type 0
+LinksStay points = (v w : World) → Occurs v points → Occurs w points → (dir : Names) (time : FileTime)
+    → dir_time w.tree dir ≡ Some time → is_linked v.tree dir ≡ false
+
 pub record Valid (rules : Rules) (k : Knowledge) (points : List Point) : Type 0 where
   pub told : AllByRecursion (λ (s : Point). is_some s.told ≡ true) points
   pub apart : rules.folds ≡ true → (w : World) → Occurs w points → Twinless w
   pub times : rules.macos ≡ true → TimesTell points
+  pub links : rules.macos ≡ true → LinksStay points
   pub sound : rules.macos ≡ true → (w : World) → Occurs w points → IsSound k w

@@ -3,4 +3,4 @@ use Rattle.dav_local.proofs.Framing.{lists_after}
 use Rattle.dav_local.proofs.store.LocalFsDavFileSystem.read_dir.Goals as goal
 
 pub returns-in-Ok-clause-one : goal.returns-in-Ok-clause-one
-returns-in-Ok-clause-one g c = lists_after (λ d. Some d.lister.0) _ _ _ _ c.in-Ok.ensures.done.keeps c.begin.ensures.one
+returns-in-Ok-clause-one g c = lists_after (λ d. Some d.reading.lister.0) _ _ _ _ c.in-Ok.ensures.done.keeps c.begin_dir.ensures.one
