@@ -102,6 +102,7 @@ valid m rules k s t u v most same a b c d = record {
   told = (ap is_some a.told, (ap is_some b.told, (ap is_some c.told, (ap is_some d.told, tt))));
   apart = λ folds w occurs. ap no_twins (four_occur m s t u v w a b c d occurs) ∙ rows_have_no_twins m most;
   times = λ macos. let e : false ≡ true = sym (ap (λ (r : Rules). r.macos) same) ∙ macos in cc;
+  links = λ macos. let e : false ≡ true = sym (ap (λ (r : Rules). r.macos) same) ∙ macos in cc;
   sound = λ macos. let e : false ≡ true = sym (ap (λ (r : Rules). r.macos) same) ∙ macos in cc;
 }
 

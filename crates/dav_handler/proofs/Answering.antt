@@ -24,7 +24,8 @@ use Rattle.dav_model.specs.Conditions.{Fields}
 use Rattle.dav_model.specs.Due.{query}
 use Rattle.dav_model.specs.Head.{Reply, is_set, is_well_known, refusal}
 use Rattle.dav_model.specs.Play.{Reads}
-use Rattle.dav_model.specs.Rules.{Rules}
+use Rattle.dav_local_laws.proofs.LocalLearns.{nothing_learned}
+use Rattle.dav_model.specs.Rules.{Learns, Rules}
 use Rattle.dav_model.specs.Sizes.{read_size_of}
 use Rattle.dav_model.specs.Trail.{Leaves}
 use Rattle.dav_model.proofs.JoiningLemmas.{learns_same, leaves_same}
@@ -64,16 +65,18 @@ reply_told t allow found is = rw (is.status, is.fields, is.body) refl
 pub stays_same : (o : Over) → Stays o o
 stays_same o = record { rules = refl; learns = learns_same o.disk.told o.by.knows o.by.knows refl }
 
--- Calls that write nothing leave how paths are found, and teach the memory nothing.
-pub stays_read : (settings : Settings) (v w : Ways) (m n : MemoryState) (s t : DiskState) → w ≡ v → LearnsNothing m n
+-- Calls leave how paths are found, and teach the memory what the told world has.
+pub stays_read : (settings : Settings) (v w : Ways) (m n : MemoryState) (s t : DiskState) → w ≡ v → Learns s.told (knowledge_of m) (knowledge_of n)
     → Stays (record { by = record { rules = rules_with settings v; knows = knowledge_of m }; disk = s }) (record { by = record { rules = rules_with settings w; knows = knowledge_of n }; disk = t })
 stays_read settings v w m n s t same learns = record {
   rules = ap (rules_with settings) same;
-  learns = record {
-    open_same = learns.same_open;
-    known = λ dir time has is. (let (had, was, alike) = learns.known dir time has is in inl (had, was, λ x dot. alike x));
-  };
+  learns = learns;
 }
+
+-- the same of calls that teach it nothing
+pub stays_write : (settings : Settings) (v w : Ways) (m n : MemoryState) (s t : DiskState) → w ≡ v → LearnsNothing m n
+    → Stays (record { by = record { rules = rules_with settings v; knows = knowledge_of m }; disk = s }) (record { by = record { rules = rules_with settings w; knows = knowledge_of n }; disk = t })
+stays_write settings v w m n s t same learns = stays_read settings v w m n s t same (nothing_learned s.told m n learns)
 
 -- OPTIONS asks nothing.
 pub methods_answers : (o : Over) (said : Said) (result : Result Found NoMemory) → IfOk result (IsAlone (allowing o.by.rules.settings.allow false))

@@ -28,7 +28,7 @@ use Rattle.dav_store.specs.View.{View, Listings}
 use Rattle.dav_local.specs.declared.entry.LocalFsDirEntry.{LocalFsDirEntry}
 use Rattle.dav_local.specs.declared.file.LocalFsFile.{LocalFsFile}
 use Rattle.dav_local.specs.declared.ways.Ways.{Ways}
-use Rattle.dav_local.specs.Listing.{ListingState}
+use Rattle.dav_local.specs.declared.gathering.LocalFsReadDir.{LocalFsReadDir}
 use Rattle.dav_local.specs.Ways.{rules_with}
 use Rattle.dav_local_laws.specs.Simple.{plain_ways}
 use Rattle.dav_methods.specs.Carrying.{CopiesTo, MovesTo}
@@ -149,7 +149,7 @@ module _ (a b : By) (method : DavMethod) (path : WebPath) (said : Said) (s t : D
 
 -- ---- over the store
 
-module _ {S C : Type 0} (view : View S C LocalFsFile) (lists : Listings S C ListingState LocalFsDirEntry) (writes : FileWrites LocalFsFile) (c : C)
+module _ {S C : Type 0} (view : View S C LocalFsFile) (lists : Listings S C LocalFsReadDir LocalFsDirEntry) (writes : FileWrites LocalFsFile) (c : C)
     (usual : RefusesUsually view lists writes c) (worlds : (s : S) (w : World) → (view.state s).told ≡ Some w → IsWorld w)
     (prefix : List ℕ) (path : WebPath) (said : Said) (s : S) (r : Given) (t : S) where
   listed : (method : DavMethod) → Changes view lists writes c method prefix path said.fields said.body s r t

@@ -4,7 +4,7 @@ ghost use Rattle.dav_core.specs.World.{put};
 ghost use Rattle.dav_get.specs.Bodies.{IsRoom, left_of, next_most_of};
 ghost use Rattle.dav_handler.specs.Held.{Body as AnyBody, ClosesBody, IsHeldBody, PollsBody, Sweeps, body_at};
 
-use dav_cache::Remember;
+use dav_cache::RememberAny;
 use dav_core::Disk;
 use dav_get::GetBody;
 use dav_local::{LocalFs, LocalFsFile};
@@ -79,7 +79,7 @@ fn take_body(bodies: &mut Bodies, number: u32) -> Option<GetBody<LocalFsFile>>
 }
 
 /// Takes a body out, and closes its file.
-pub fn end_body<D: Disk, R: Remember>(bodies: &mut Bodies, store: &mut LocalFs<D, R>, body: u32)
+pub fn end_body<D: Disk, R: RememberAny>(bodies: &mut Bodies, store: &mut LocalFs<D, R>, body: u32)
     requires { IsHeldBody (body_at bodies.old body) (D.state store.old.disk) }
     ensures bodies { body_at bodies.new ≡ put body None (body_at bodies.old) }
     ensures disk { ClosesBody (body_at bodies.old body) (D.state store.old.disk) (D.state store.new.disk) }
@@ -93,7 +93,7 @@ pub fn end_body<D: Disk, R: Remember>(bodies: &mut Bodies, store: &mut LocalFs<D
 
 /// Polls the body of a number. Its piece is given in the room that was made ready for it, or for which that one stands in.
 #[tactic(auto, unfolding(crate::specs::Held::body_at))]
-pub fn poll_body<D: Disk, R: Remember>(
+pub fn poll_body<D: Disk, R: RememberAny>(
     bodies: &mut Bodies,
     store: &mut LocalFs<D, R>,
     body: u32,
@@ -132,7 +132,7 @@ fn is_over(bodies: &Bodies, body: u32) -> bool
 }
 
 /// Takes the body of a number out where nothing is left of it. Its file is closed then.
-pub fn sweep<D: Disk, R: Remember>(bodies: &mut Bodies, store: &mut LocalFs<D, R>, body: u32)
+pub fn sweep<D: Disk, R: RememberAny>(bodies: &mut Bodies, store: &mut LocalFs<D, R>, body: u32)
     requires { IsHeldBody (body_at bodies.old body) (D.state store.old.disk) }
     ensures done { Sweeps (body_at bodies.old) body (body_at bodies.new) }
     ensures disk { D.state store.new.disk ≡ D.state store.old.disk }

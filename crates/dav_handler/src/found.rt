@@ -15,7 +15,7 @@ ghost use Rattle.dav_handler.specs.Found.{Finds, Gives, IsAlone, IsRefusedBy, sa
 ghost use Rattle.dav_handler.specs.Held.{handle_of};
 
 use crate::gates::target;
-use dav_cache::Remember;
+use dav_cache::RememberAny;
 use dav_config::{refused, refused_by};
 use dav_core::{DavError, DavMethod, DavMethodSet, DavPath, Disk};
 use dav_get::{GetBody, handle_get};
@@ -23,7 +23,7 @@ use dav_io::{NoMemory, Octets};
 use dav_local::{LocalFs, LocalFsDirEntry, LocalFsFile};
 use dav_local_laws::{
     calls_teach_nothing, local_stores_ask_once, local_stores_follow_rules, local_stores_refuse_few,
-    reads_are_right, reads_learn_nothing,
+    reads_are_right, reads_learn_what_stands,
 };
 use dav_methods::{copy, delete, mkcalendar, mkcol, move_to, options, put_whole, writes_lead_on};
 use dav_model::{Outcome, Settings, Target};
@@ -80,7 +80,7 @@ fn refuse(alloc: Global, fields: &HeaderMap, error: DavError) -> Result<Found, N
 }
 
 // Gives a body of which something is left; another is ended.
-fn give<D: Disk, R: Remember>(
+fn give<D: Disk, R: RememberAny>(
     store: &mut LocalFs<D, R>,
     outcome: Outcome,
     body: GetBody<LocalFsFile>,
@@ -105,7 +105,7 @@ fn give<D: Disk, R: Remember>(
 }
 
 // What stands at a path, by GET or HEAD.
-fn find_at<D: Disk, R: Remember>(
+fn find_at<D: Disk, R: RememberAny>(
     alloc: Global,
     settings: &Settings,
     store: &mut LocalFs<D, R>,
@@ -119,7 +119,7 @@ fn find_at<D: Disk, R: Remember>(
     ensures loan { D.loan store.new.disk ≡ D.loan store.old.disk }
 {
     reads_are_right(store);
-    reads_learn_nothing(store);
+    reads_learn_what_stands(store);
     local_stores_ask_once(store);
     match handle_get(alloc, settings, store, &(), method, path, fields) {
         Ok(given) => {
@@ -131,7 +131,7 @@ fn find_at<D: Disk, R: Remember>(
 }
 
 // What a method that writes is answered, of a request whose body is in memory. The prefix is that of a destination.
-fn change<D: Disk, R: Remember>(
+fn change<D: Disk, R: RememberAny>(
     alloc: Global,
     store: &mut LocalFs<D, R>,
     method: DavMethod,
@@ -157,7 +157,7 @@ fn change<D: Disk, R: Remember>(
 }
 
 // What a method makes of a path: one that writes. The laws of the store say what its table means.
-fn write_at<D: Disk, R: Remember>(
+fn write_at<D: Disk, R: RememberAny>(
     alloc: Global,
     settings: &Settings,
     store: &mut LocalFs<D, R>,
@@ -183,7 +183,7 @@ fn write_at<D: Disk, R: Remember>(
 }
 
 // What is answered to what is asked for.
-fn find<D: Disk, R: Remember>(
+fn find<D: Disk, R: RememberAny>(
     alloc: Global,
     settings: &Settings,
     store: &mut LocalFs<D, R>,
@@ -207,7 +207,7 @@ fn find<D: Disk, R: Remember>(
 }
 
 /// What a request finds.
-pub fn find_for<D: Disk, R: Remember>(
+pub fn find_for<D: Disk, R: RememberAny>(
     alloc: Global,
     settings: &Settings,
     store: &mut LocalFs<D, R>,

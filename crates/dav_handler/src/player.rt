@@ -9,7 +9,7 @@ ghost use Rattle.dav_cache.specs.Memory.{Purges};
 
 use crate::bodies::{Bodies, end_body, hold_body, no_bodies, open_body, poll_body, sweep};
 use crate::found::{Found, find_for};
-use dav_cache::Remember;
+use dav_cache::RememberAny;
 use dav_config::DavHandler;
 use dav_core::Disk;
 use dav_io::{Moment, NoMemory, Octets};
@@ -21,7 +21,7 @@ use std::alloc::Global;
 use std::mem;
 
 /// Answers steps over a disk. It numbers its replies from 0, and keeps the body of each reply of which something is left.
-pub struct Player<D: Disk, R: Remember> {
+pub struct Player<D: Disk, R: RememberAny> {
     alloc: Global,
     settings: Settings,
     store: LocalFs<D, R>,
@@ -30,7 +30,7 @@ pub struct Player<D: Disk, R: Remember> {
     ghost ok: { IsPlaying (read_size_of settings.read_buf_size) (D.state store.disk) (body_at bodies) replies },
 }
 
-impl<D: Disk, R: Remember> Player<D, R> {
+impl<D: Disk, R: RememberAny> Player<D, R> {
     ghost use Rattle.dav_handler.specs.Player.{playing_by, playing_of, stage_of};
     ghost use Rattle.dav_model.specs.Play.{AreFull, StaysOpen, Stepped};
     ghost use Rattle.dav_model.specs.declared.step.Step.TheVariants.{Abandon, Poll, Purge, Turn, Request as Asks};
@@ -229,7 +229,7 @@ fn reply(outcome: Outcome, body: u32) -> Answer
 }
 
 // A turn of the outside, by the disk of the store.
-fn turn_disk<D: Disk, R: Remember>(store: &mut LocalFs<D, R>) -> Result<(), NoMemory>
+fn turn_disk<D: Disk, R: RememberAny>(store: &mut LocalFs<D, R>) -> Result<(), NoMemory>
     ensures done { Turns (D.state store.old.disk) result (D.state store.new.disk) }
     ensures rest { store.new ≡ record store.old { disk = store.new.disk } }
     ensures loan { D.loan store.new.disk ≡ D.loan store.old.disk }

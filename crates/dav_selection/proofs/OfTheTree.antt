@@ -18,9 +18,8 @@ use Rattle.dav_store.specs.Reached.{ShowsOn}
 use Rattle.dav_store.specs.View.{Listings, View}
 use Rattle.dav_model.specs.Finding.{listed_in, members_or}
 use Rattle.dav_local.specs.Standing.{HasNoLinks}
-use Rattle.dav_local.proofs.Walked.{StandsIn, listed_dir}
+use Rattle.dav_local.proofs.EntriesTold.{StandsIn, listed_dir, rows_stand}
 use Rattle.dav_local_laws.specs.Simple.{opened}
-use Rattle.dav_local_laws.proofs.NamedMembers.{rows_stand}
 use Rattle.dav_selection.specs.Reports.{member_path}
 use Rattle.dav_selection.specs.Selection.{Selection, queries, follows, refuses}
 use Rattle.dav_selection.specs.Shown.{ShowsAt, ShowsBy, ShowsFor}

@@ -13,7 +13,7 @@ ghost use Rattle.dav_selection.specs.Shown.{IsRight, ShowsFor};
 ghost use Rattle.dav_selection.specs.Told.{IsOf, MeetsNoLink, stock_of};
 
 use crate::{addressbook_report, calendar_report};
-use dav_cache::Remember;
+use dav_cache::RememberAny;
 use dav_core::{DavPath, Disk};
 use dav_local::{LocalFs, LocalFsDirEntry, LocalFsFile};
 use dav_local_laws::local_stores_show_the_tree;
@@ -24,7 +24,7 @@ use std::alloc::Global;
 
 /// Where the disk tells its world, each path is meant as it is written and no link is met, the store shows a selection
 /// what stands in the world; a query is one of the directory at the path. A law: the call does nothing.
-pub fn shows_the_tree<D: Disk, R: Remember>(_fs: &LocalFs<D, R>, _path: &DavPath)
+pub fn shows_the_tree<D: Disk, R: RememberAny>(_fs: &LocalFs<D, R>, _path: &DavPath)
     ensures { (w : World) → (D.state _fs.now.disk).told ≡ Some w → _fs.now.ways ≡ plain_ways → (q : Selection)
         → IsOf _path.now q → MeetsNoLink w q
         → ShowsFor (the_view ⟦<LocalFs<D, R> as GuardedFileSystem<()>>⟧ D.Disk ⟦<LocalFsFile as DavFile<D>>⟧)
@@ -36,7 +36,7 @@ pub fn shows_the_tree<D: Disk, R: Remember>(_fs: &LocalFs<D, R>, _path: &DavPath
 
 /// `calendar_report` over a local store: where its disk tells its world, each path is meant as it is written and no link
 /// is met, the report of what stands in that world, or may stand in its place where a fault was met.
-pub fn local_calendar_report<D: Disk, R: Remember>(
+pub fn local_calendar_report<D: Disk, R: RememberAny>(
     alloc: Global,
     root: &Element,
     path: &DavPath,
@@ -55,7 +55,7 @@ pub fn local_calendar_report<D: Disk, R: Remember>(
 }
 
 /// `addressbook_report` over a local store likewise.
-pub fn local_addressbook_report<D: Disk, R: Remember>(
+pub fn local_addressbook_report<D: Disk, R: RememberAny>(
     alloc: Global,
     root: &Element,
     path: &DavPath,

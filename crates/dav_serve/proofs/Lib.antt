@@ -23,3 +23,4 @@ pub mod BrokenGiveLess
 pub mod FieldsAdded
 pub mod HeadsAreRead
 pub mod ServedByTree
+pub mod PurgedByTree

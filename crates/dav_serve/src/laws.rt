@@ -1,6 +1,6 @@
 //! Laws over the exchanges that `run` answers: of their heads, of their bodies, and where these end. Each function does
 //! nothing; its contract is the law.
-ghost use Rattle.dav_model.specs.Play.{Stage};
+ghost use Rattle.dav_model.specs.Play.{EachByTree, Playing, Plays, Stage, Stands};
 ghost use Rattle.std.specs.Prelude.{◌≡◌, ◌++◌, ℕ, Bool, List, [], ◌∷◌, All, true, false, codes, decimal, Option, Result, Ok, length};
 ghost use Rattle.std.specs.List.{AllByRecursion, concat, flat_map};
 ghost use Rattle.dav_io.specs.Outside.{Stream};
@@ -9,8 +9,9 @@ ghost use Rattle.dav_io.specs.declared.failure.NoMemory.{NoMemory};
 ghost use Rattle.dav_model.specs.declared.answer.Answer.{Answer};
 ghost use Rattle.dav_model.specs.declared.answer.Answer.TheVariants.{Broken, Done};
 ghost use Rattle.dav_model.specs.declared.step.Step.{Step};
+ghost use Rattle.dav_model.specs.declared.step.Step.TheVariants.{Purge};
 ghost use Rattle.dav_model.specs.Announced.{bytes_in, length_is_own};
-ghost use Rattle.dav_model.specs.Trail.{points_of, target_of};
+ghost use Rattle.dav_model.specs.Trail.{Move, Point, points_of, target_of};
 ghost use Rattle.dav_model.specs.Valid.{Valid};
 ghost use Rattle.dav_wire.specs.AnswerHeads.{ReadsAnswer};
 ghost use Rattle.dav_wire.specs.Answers.{bad_request_text, close_field, head_text, too_large_text};
@@ -85,6 +86,15 @@ pub fn served_answers_are_those_of_the_tree()
         → Valid setup.rules setup.knows (before.disk
         ∷ points_of (moves_of setup.rules (ready setup.rules setup.knows before.disk) xs last v.played))
         → AllByTree setup.rules (ready setup.rules setup.knows before.disk) xs last v.played }
+{}
+
+/// A purge changes no later answer to a GET or HEAD: it leaves the player as it was but for what its memory knows, and in a
+/// valid run each later reply is that of the tree before its step, which no memory decides.
+pub fn purges_change_no_answer()
+    ensures { (p q r : Playing) (s t : Point) (now : Moment) (answer : Answer) (moves : List Move)
+        → Stands p s t (Purge now) answer q → Valid p.rules p.knows (s ∷ points_of moves)
+        → (plays : Plays q t moves r)
+        → (t ≡ s) × (q ≡ record p { knows = q.knows }) × EachByTree q t moves r plays }
 {}
 
 /// The head of each answer that a run writes is read back as one response head, whatever follows: with exactly its status

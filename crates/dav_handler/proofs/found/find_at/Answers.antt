@@ -12,7 +12,7 @@ pub returns-in-Ok-clause-done : goal.returns-in-Ok-clause-done
 returns-in-Ok-clause-done g c body = rw c.give.ensures.rest (
     given_answers _ _ tt (by_store g.R.Remember.state c.args.settings.now c.args.store.now) (by_store g.R.Remember.state c.args.settings.now c.handle_get.new.fs) c.args.store.now c.handle_get.new.fs c.in-Ok.ensures.leads
     (λ led. stays_read c.args.settings.now c.args.store.now.ways c.handle_get.new.fs.ways (g.R.Remember.state c.args.store.now.memory) (g.R.Remember.state c.handle_get.new.fs.memory) (g.D.Disk.state c.args.store.now.disk)
-    (g.D.Disk.state c.handle_get.new.fs.disk) (c.reads_learn_nothing.ensures c.handle_get.new.fs led).0 (c.reads_learn_nothing.ensures c.handle_get.new.fs led).1)
+    (g.D.Disk.state c.handle_get.new.fs.disk) (c.reads_learn_what_stands.ensures c.handle_get.new.fs led).0 (c.reads_learn_what_stands.ensures c.handle_get.new.fs led).1)
     refl c.args.method c.args.path.now (record { fields = c.args.fields.now; body = body })
     (g.met.D.Disk.tells_live c.handle_get.new.fs.disk) c.in-Ok.given (g.D.Disk.state c.give.new.store.disk) c.give.result
     (λ reply same. c.reads_are_right.ensures (query c.args.settings.now c.args.fields.now c.args.method c.args.path.now) c.handle_get.new.fs (Ok c.in-Ok.given) reply c.in-Ok.ensures.life (given_heard c.in-Ok.given c.in-Ok.ensures.heard) same)
@@ -23,7 +23,7 @@ pub returns-in-Err-clause-done : goal.returns-in-Err-clause-done
 returns-in-Err-clause-done g c body =
     refused_answers _ _ tt (by_store g.R.Remember.state c.args.settings.now c.args.store.now) (by_store g.R.Remember.state c.args.settings.now c.handle_get.new.fs) c.args.store.now c.handle_get.new.fs c.in-Err.ensures.leads
     (λ led. stays_read c.args.settings.now c.args.store.now.ways c.handle_get.new.fs.ways (g.R.Remember.state c.args.store.now.memory) (g.R.Remember.state c.handle_get.new.fs.memory) (g.D.Disk.state c.args.store.now.disk)
-    (g.D.Disk.state c.handle_get.new.fs.disk) (c.reads_learn_nothing.ensures c.handle_get.new.fs led).0 (c.reads_learn_nothing.ensures c.handle_get.new.fs led).1)
+    (g.D.Disk.state c.handle_get.new.fs.disk) (c.reads_learn_what_stands.ensures c.handle_get.new.fs led).0 (c.reads_learn_what_stands.ensures c.handle_get.new.fs led).1)
     refl c.args.method c.args.path.now (record { fields = c.args.fields.now; body = body })
     c.in-Err.error c.refuse.result c.in-Err.ensures.life
     (λ reply had same. c.reads_are_right.ensures (query c.args.settings.now c.args.fields.now c.args.method c.args.path.now) c.handle_get.new.fs (Err c.in-Err.error) reply c.in-Err.ensures.life (unless_memory c.in-Err.error had c.in-Err.ensures.heard) same)

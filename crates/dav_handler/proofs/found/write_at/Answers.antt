@@ -1,6 +1,6 @@
 use Rattle.dav_local.specs.Ways.{rules_with}
 use Rattle.dav_handler.specs.By.{by_store}
-use Rattle.dav_handler.proofs.Answering.{stays_read}
+use Rattle.dav_handler.proofs.Answering.{stays_write}
 use Rattle.dav_handler.proofs.Changing.{did_change, ways_plain, write_done, write_refused}
 use Rattle.dav_handler.proofs.found.write_at.Goals as goal
 
@@ -9,7 +9,7 @@ returns-in-Ok-clause-done g c =
     let taught = c.calls_teach_nothing.ensures c.change.new.store (c.writes_lead_on.ensures tt c.args.store.now c.change.new.store c.args.method c.as_str-prefix.result.now c.args.path.now c.args.fields.now c.args.body.now _ c.in-Ok.ensures.table) in
     write_done (by_store g.R.Remember.state c.args.settings.now c.args.store.now) (by_store g.R.Remember.state c.args.settings.now c.change.new.store) c.args.method c.args.path.now
     (record { fields = c.args.fields.now; body = c.args.body.now }) (g.D.Disk.state c.args.store.now.disk) (g.D.Disk.state c.change.new.store.disk)
-    (stays_read c.args.settings.now c.args.store.now.ways c.change.new.store.ways (g.R.Remember.state c.args.store.now.memory) (g.R.Remember.state c.change.new.store.memory) (g.D.Disk.state c.args.store.now.disk)
+    (stays_write c.args.settings.now c.args.store.now.ways c.change.new.store.ways (g.R.Remember.state c.args.store.now.memory) (g.R.Remember.state c.change.new.store.memory) (g.D.Disk.state c.args.store.now.disk)
     (g.D.Disk.state c.change.new.store.disk) taught.0 taught.1)
     c.in-Ok.outcome c.alone.result
     (did_change _ _ _ tt c.local_stores_refuse_few.ensures (λ s w told. g.met.D.Disk.world s.disk w told) _ c.args.path.now (record { fields = c.args.fields.now; body = c.args.body.now }) c.args.store.now _ c.change.new.store
@@ -21,7 +21,7 @@ returns-in-Err-clause-done g c =
     let taught = c.calls_teach_nothing.ensures c.change.new.store (c.writes_lead_on.ensures tt c.args.store.now c.change.new.store c.args.method c.as_str-prefix.result.now c.args.path.now c.args.fields.now c.args.body.now _ c.in-Err.ensures.table) in
     write_refused (by_store g.R.Remember.state c.args.settings.now c.args.store.now) (by_store g.R.Remember.state c.args.settings.now c.change.new.store) c.args.method c.args.path.now
     (record { fields = c.args.fields.now; body = c.args.body.now }) (g.D.Disk.state c.args.store.now.disk) (g.D.Disk.state c.change.new.store.disk)
-    (stays_read c.args.settings.now c.args.store.now.ways c.change.new.store.ways (g.R.Remember.state c.args.store.now.memory) (g.R.Remember.state c.change.new.store.memory) (g.D.Disk.state c.args.store.now.disk)
+    (stays_write c.args.settings.now c.args.store.now.ways c.change.new.store.ways (g.R.Remember.state c.args.store.now.memory) (g.R.Remember.state c.change.new.store.memory) (g.D.Disk.state c.args.store.now.disk)
     (g.D.Disk.state c.change.new.store.disk) taught.0 taught.1)
     c.in-Err.error c.refuse.result
     (did_change _ _ _ tt c.local_stores_refuse_few.ensures (λ s w told. g.met.D.Disk.world s.disk w told) _ c.args.path.now (record { fields = c.args.fields.now; body = c.args.body.now }) c.args.store.now _ c.change.new.store
