@@ -6,17 +6,25 @@
 //!     read PATH         the bytes of a file, at most 64
 //!     write PATH BYTES  makes a file, or empties the one that stands there, and writes bytes
 //!     list PATH         the members of a directory, each with its kind
+//!     front PATH COUNT  the names that its listing gives first, so many, where it is left
+//!     while PATH COUNT mv PATH PATH  the names of a directory; behind so many others do this on the disk, as at `out`
 //!     mkdir PATH        makes a directory; `rmdir`, `rm`, `mv`, `cp` likewise
-//!     copy PATH NAME:VALUE..  the status of a COPY with these fields, and of a MOVE at `move`; each `%XX` in a value is a byte
+//!     copy PATH NAME:VALUE..  the status of a COPY with these fields, of a MOVE at `move`, and of a DELETE at `delete`; each
+//!                       `%XX` in a value is a byte
 //!     defaults          makes the directories that a store has from its start
 //!     rules PATH        whether the path is one of the two empty files, and whether it is forbidden
 //!     asked             how many calls the disk was asked so far
+//!     kept              how many paths are remembered, and how many directories and names together
+//!     now SECONDS       the moment of the calls behind it; nanoseconds behind a point
+//!     purge SECONDS     what is too old at that moment is forgotten
 //!     out mv PATH PATH  what others do on the disk: a rename, or with `cp` a copy. Its paths are the disk's.
 use crate::carrying::carry;
-use crate::scene::path_of;
+use crate::listing::{front, list_while};
+use crate::outside::outside;
+use crate::scene::moment_of;
 use anyhow::{Result, bail};
-use dav_cache::Owned;
-use dav_core::{DavMetaData, DavPath, Disk, FsError, FsPath, Kind, Member, OpenOptions};
+use dav_cache::{Owned, Remember};
+use dav_core::{DavMetaData, DavPath, FsError, FsPath, Kind, Member, OpenOptions};
 use dav_disk::MemDisk;
 use dav_local::{LocalFs, LocalFsMetaData};
 use dav_rows::Line;
@@ -120,24 +128,6 @@ fn write(line: &mut Line, store: &mut Store, path: &DavPath, bytes: &str) {
     }
 }
 
-fn outside(alloc: Global, line: &mut Line, store: &mut Store, part: &str) -> Result<()> {
-    let mut words = part.split(' ').skip(1);
-    let kind = words.next().unwrap_or("");
-    let from = path_of(alloc, words.next().unwrap_or(""))?;
-    let to = path_of(alloc, words.next().unwrap_or(""))?;
-    let disk = DavFileSystem::disk(store);
-    let answer = match kind {
-        "mv" => disk.rename(&from, &to),
-        "cp" => disk.copy(&from, &to),
-        _ => bail!("nobody does this: {kind}"),
-    };
-    match answer {
-        Ok(()) => line.add("done"),
-        Err(error) => line.add_value(&error),
-    }
-    Ok(())
-}
-
 fn look(alloc: Global, line: &mut Line, store: &mut Store, path: &DavPath, kind: &str) {
     let answer = if kind == "look" {
         DavFileSystem::metadata(store, path)
@@ -188,6 +178,8 @@ fn call_at(alloc: Global, line: &mut Line, store: &mut Store, part: &str) -> Res
         "read" => read(line, store, &path),
         "write" => write(line, store, &path, third),
         "list" => tell_members(line, read_members(alloc, store, &path, &())),
+        "front" => front(line, store, &path, part)?,
+        "while" => list_while(alloc, line, store, &path, part)?,
         "rules" => {
             line.add_whether("empty ", store.is_virtual(&path));
             line.add_whether(", forbidden ", store.is_forbidden(&path));
@@ -202,13 +194,32 @@ fn call_at(alloc: Global, line: &mut Line, store: &mut Store, part: &str) -> Res
     Ok(())
 }
 
+fn tell_kept(line: &mut Line, memory: &Owned) {
+    line.add_number("kept ", memory.paths().len() as u64);
+    line.add_number(" and ", memory.dots().len() as u64);
+}
+
+// Sets the moment, or forgets what is too old then.
+fn pass(line: &mut Line, store: &mut Store, part: &str) -> Result<()> {
+    let now = moment_of(part.split(' ').nth(1).unwrap_or(""))?;
+    if part.starts_with("now ") {
+        DavFileSystem::set_now(store, now);
+    } else {
+        store.memory().purge(now);
+    }
+    line.add("done");
+    Ok(())
+}
+
 /// Makes the call of a part.
 pub fn call(alloc: Global, store: &mut Store, part: &str, line: &mut Line) -> Result<()> {
     match part.split(' ').next().unwrap_or("") {
         "asked" => line.add_number("asked ", DavFileSystem::disk(store).asked()),
         "defaults" => tell_done(line, store.create_defaults(alloc)),
-        "out" => return outside(alloc, line, store, part),
-        "copy" | "move" => return carry(alloc, line, store, part),
+        "kept" => tell_kept(line, store.memory()),
+        "now" | "purge" => return pass(line, store, part),
+        "out" => return outside(alloc, line, DavFileSystem::disk(store), part),
+        "copy" | "move" | "delete" => return carry(alloc, line, store, part),
         _ => return call_at(alloc, line, store, part),
     }
     Ok(())

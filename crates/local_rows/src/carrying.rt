@@ -1,10 +1,10 @@
-//! COPY and MOVE over the local store.
+//! COPY, MOVE and DELETE over the local store.
 use anyhow::{Result, bail};
 use dav_cache::Owned;
 use dav_core::{DavError, DavPath, FsError, ParseError};
 use dav_disk::MemDisk;
 use dav_local::LocalFs;
-use dav_methods::{copy, move_to};
+use dav_methods::{copy, delete, move_to};
 use dav_model::Outcome;
 use dav_rows::{Line, bytes_of};
 use http::HeaderMap;
@@ -52,15 +52,15 @@ pub fn carry(
     part: &str,
 ) -> Result<()> {
     let mut words = part.split(' ');
-    let moving = words.next().unwrap_or("") == "move";
+    let kind = words.next().unwrap_or("");
     let Ok(path) = DavPath::new(alloc, words.next().unwrap_or("/")) else {
         bail!("no path: {part}");
     };
     let fields = fields_of(alloc, part)?;
-    let answer = if moving {
-        move_to(alloc, store, &(), &path, &fields, "")
-    } else {
-        copy(alloc, store, &(), &path, &fields, "")
+    let answer = match kind {
+        "move" => move_to(alloc, store, &(), &path, &fields, ""),
+        "delete" => delete(alloc, store, &(), &path, &fields),
+        _ => copy(alloc, store, &(), &path, &fields, ""),
     };
     tell_outcome(line, answer);
     Ok(())

@@ -8,6 +8,8 @@
 
 mod calls;
 mod carrying;
+mod listing;
+mod outside;
 mod scene;
 
 use anyhow::{Result, bail};
@@ -16,11 +18,8 @@ use dav_cache::Owned;
 use dav_disk::MemDisk;
 use dav_local::LocalFs;
 use dav_rows::Line;
-use scene::{is_set, path_of, set};
+use scene::{is_set, memory_of, path_of, set};
 use std::alloc::Global;
-
-// How many paths, and how many directories and names together, are remembered.
-const ROOM: usize = 16;
 
 // The store that the first part of a row names.
 fn store_of(
@@ -45,7 +44,7 @@ fn store_of(
 
 fn answer(alloc: Global, row: &str, line: &mut Line) -> Result<()> {
     let mut disk = MemDisk::new(alloc)?;
-    let mut memory = Owned::new(alloc, ROOM, ROOM)?;
+    let mut memory = memory_of(alloc, row)?;
     for part in row.split('|').skip(1) {
         if is_set(part.trim()) {
             set(alloc, &mut disk, &mut memory, part.trim())?;

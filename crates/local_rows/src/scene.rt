@@ -4,6 +4,8 @@
 //!     file PATH NUMBER SECONDS BYTES   a file
 //!     fail CALL..                      the calls of these numbers fail
 //!     sealed PATH NAME..               the memory knows these names of a directory, as of its time now: two calls
+//!     room PATHS NAMES                 so many paths are remembered, and so many directories and names together; without
+//!                                      it 16 and 16
 //!
 //! What the disk doesn't take isn't set.
 use anyhow::{Result, bail};
@@ -17,7 +19,7 @@ use std::alloc::Global;
 pub fn is_set(part: &str) -> bool {
     matches!(
         part.split(' ').next().unwrap_or(""),
-        "dir" | "file" | "fail" | "sealed"
+        "dir" | "file" | "fail" | "sealed" | "room"
     )
 }
 
@@ -35,11 +37,41 @@ pub fn path_of(alloc: Global, word: &str) -> Result<FsPath> {
     Ok(FsPath::new(names))
 }
 
-fn number(word: &str) -> Result<u64> {
+/// The number of a word.
+pub fn number(word: &str) -> Result<u64> {
     match word.parse::<u64>() {
         Ok(number) => Ok(number),
         Err(_) => bail!("no number: {word}"),
     }
+}
+
+/// The moment of a word: seconds, at most a million, and nanoseconds behind a point.
+pub fn moment_of(word: &str) -> Result<Moment> {
+    let mut halves = word.splitn(2, '.');
+    let secs = number(halves.next().unwrap_or(""))?.min(1_000_000);
+    let nanos = number(halves.next().unwrap_or("0"))?.min(999_999_999);
+    Ok(Moment(secs * 1_000_000_000 + nanos))
+}
+
+// The words behind the first part that sets a room.
+fn room_words(row: &str) -> &str {
+    for part in row.split('|') {
+        if let Some(words) = part.trim().strip_prefix("room ") {
+            return words;
+        }
+    }
+    "16 16"
+}
+
+/// An empty memory of the room that a row sets.
+pub fn memory_of(alloc: Global, row: &str) -> Result<Owned> {
+    let mut words = room_words(row).split(' ');
+    let paths = number(words.next().unwrap_or(""))? as usize;
+    let dots = number(words.next().unwrap_or(""))? as usize;
+    if paths == 0 || dots == 0 {
+        bail!("no room: {row}");
+    }
+    Ok(Owned::new(alloc, paths, dots)?)
 }
 
 fn stand(alloc: Global, disk: &mut MemDisk, part: &str) -> Result<()> {
@@ -78,6 +110,10 @@ fn seal(alloc: Global, disk: &mut MemDisk, memory: &mut Owned, part: &str) -> Re
 pub fn set(alloc: Global, disk: &mut MemDisk, memory: &mut Owned, part: &str) -> Result<()> {
     if part.starts_with("sealed ") {
         return seal(alloc, disk, memory, part);
+    }
+    // The memory was made with its room.
+    if part.starts_with("room ") {
+        return Ok(());
     }
     if part.starts_with("fail ") {
         for word in part.split(' ').skip(1) {

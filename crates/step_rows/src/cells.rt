@@ -1,7 +1,7 @@
 //! Texts of words. In a text each `%XX` is a byte, `N*TEXT` is so many copies of a text, and `^` stands between texts that
 //! are joined. A path is its names, each behind a slash; the root is a slash alone.
 use dav_core::{FileTime, FsPath};
-use dav_io::Text;
+use dav_io::{Moment, Text};
 use dav_rows::Line;
 use percent_encoding::{CONTROLS, percent_decode};
 use std::alloc::{AllocError, Global};
@@ -9,6 +9,14 @@ use std::alloc::{AllocError, Global};
 /// A number of digits. What is none is 0.
 pub fn number(word: &str) -> u64 {
     word.parse::<u64>().unwrap_or(0)
+}
+
+/// The moment of a word: seconds, at most a million, and nanoseconds behind a point.
+pub fn moment_of(word: &str) -> Moment {
+    let mut halves = word.splitn(2, '.');
+    let secs = number(halves.next().unwrap_or("")).min(1_000_000);
+    let nanos = number(halves.next().unwrap_or("")).min(999_999_999);
+    Moment(secs * 1_000_000_000 + nanos)
 }
 
 // Appends the bytes of a text without `^`.

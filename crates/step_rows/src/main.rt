@@ -8,8 +8,8 @@
 //! (`stores.rt`). A row that begins with `#` is written as it stands.
 //!
 //! Answers have `|` between them: a reply with its status, the number of its body and its fields; a piece with its bytes;
-//! `end`, `broken` or `done`. The last words say how many calls the disk was asked, unless names fold, and how many of them
-//! failed. A row that isn't understood has no answer.
+//! `end`, `broken` or `done`. The last words say how many calls the disk was asked, unless names fold or the row asks for
+//! no count, and how many of them failed. A row that isn't understood has no answer.
 #![tactic(auto)]
 
 mod answers;
@@ -20,23 +20,24 @@ mod steps;
 mod stores;
 mod streams;
 
+use dav_cache::Owned;
 use dav_disk::MemDisk;
-use dav_handler::{Answer, DavConfig, Forget, LocalFs, Player, Settings, Step, play};
+use dav_handler::{Answer, DavConfig, Forget, LocalFs, Player, RememberAny, Settings, Step, play};
 use dav_io::NoMemory;
 use dav_rows::Line;
-use scene::{Scene, scene_of};
+use scene::{Room, Scene, scene_of};
 use std::alloc::Global;
 use std::io;
 
 // More steps than any row has.
 const STEPS: usize = 100_000;
 
-// A player over a store that remembers nothing, with no reply yet.
-fn player_over(
+// A player over a store, with no reply yet.
+fn player_over<R: RememberAny + Drop>(
     alloc: Global,
-    store: LocalFs<MemDisk, Forget>,
+    store: LocalFs<MemDisk, R>,
     settings: Settings,
-) -> Player<MemDisk, Forget> {
+) -> Player<MemDisk, R> {
     let handler = DavConfig::new(alloc)
         .settings(settings)
         .filesystem(store)
@@ -45,8 +46,8 @@ fn player_over(
 }
 
 // Adds the answers to these steps to those that were given, by a player that gave none yet.
-fn play_all(
-    player: &mut Player<MemDisk, Forget>,
+fn play_all<R: RememberAny>(
+    player: &mut Player<MemDisk, R>,
     steps: &[Step],
     answers: &mut Vec<Answer>,
 ) -> Result<(), NoMemory> {
@@ -56,29 +57,55 @@ fn play_all(
     play(player, steps, answers)
 }
 
-// Plays a scene to its end.
-fn played(alloc: Global, line: &mut Line, scene: Scene) {
+// Adds how often a disk was asked, where that is told, and how many of its calls failed.
+fn tell_counts(line: &mut Line, disk: &MemDisk, counted: bool) {
+    if counted {
+        line.add_number("asked ", disk.asked());
+        line.add(", ");
+    }
+    line.add_number("failed ", disk.faults());
+}
+
+// Plays a scene to its end, over a store with this memory.
+fn play_over<R: RememberAny + Drop>(alloc: Global, line: &mut Line, scene: Scene, memory: R) {
     let Scene {
         disk,
         settings,
         folds,
         macos,
+        counted,
         steps,
+        ..
     } = scene;
     let mut answers = Vec::new(alloc);
-    let store = LocalFs::new(disk, Forget, false, folds, macos);
+    let store = LocalFs::new(disk, memory, false, folds, macos);
     let mut player = player_over(alloc, store, settings);
     if play_all(&mut player, &steps, &mut answers).is_err() {
         line.refuse();
     }
     answers::tell(line, &answers);
-    let (disk, _) = player.into_parts();
+    let (disk, _memory) = player.into_parts();
     // A store whose names fold may find a path in several ways.
-    if !folds {
-        line.add_number("asked ", disk.asked());
-        line.add(", ");
+    tell_counts(line, &disk, counted && !folds);
+}
+
+// The memory of a room that isn't empty.
+fn memory_of(alloc: Global, room: Room) -> Option<Owned> {
+    if room.paths == 0 || room.dots == 0 {
+        return None;
     }
-    line.add_number("failed ", disk.faults());
+    Owned::new(alloc, room.paths, room.dots).ok()
+}
+
+// Plays a scene to its end.
+fn played(alloc: Global, line: &mut Line, scene: Scene) {
+    match scene.room {
+        None => play_over(alloc, line, scene, Forget),
+        Some(room) => match memory_of(alloc, room) {
+            Some(memory) => play_over(alloc, line, scene, memory),
+            None => line.refuse(),
+        },
+    }
 }
 
 fn answer(alloc: Global, line: &mut Line, row: &str) {

@@ -6,27 +6,41 @@
 //!     short LENGTH..                the next reads give no more bytes than these
 //!     batch CHANGE..                changes that are made in one turn, as `steps.rt` reads them
 //!     set NAME VALUE..              a setting
+//!     set memory PATHS NAMES        the store remembers so many paths, and so many directories and names together
 //!     folds                         the store may find names that fold like those asked
 //!     macos                         the rules for clients of macOS hold
+//!     uncounted                     how often the disk is asked isn't told
+//!     now SECONDS                   the moment of the requests behind it; nanoseconds behind a point
 //!
 //! Each other part is a step, as `steps.rt` reads it.
-use crate::cells::{bytes_of, number, path_of};
+use crate::cells::{bytes_of, moment_of, number, path_of};
 use crate::steps::{add_steps, batch_of};
 use dav_core::{DavMethod, DavMethodSet, FileTime, FsPath, dav_method};
 use dav_disk::MemDisk;
 use dav_handler::{Settings, Step};
-use dav_io::{NoMemory, Text};
+use dav_io::{Moment, NoMemory, Text};
 use dav_rows::Line;
 use http::Method;
 use std::alloc::Global;
 
-/// What a row sets.
+/// How many paths are remembered, and how many directories and names together.
+#[derive(Clone, Copy)]
+pub struct Room {
+    pub paths: usize,
+    pub dots: usize,
+}
+
+/// What a row sets. Without a room nothing is remembered.
 #[derive(Drop)]
 pub struct Scene {
     pub disk: MemDisk,
     pub settings: Settings,
+    pub room: Option<Room>,
     pub folds: bool,
     pub macos: bool,
+    pub counted: bool,
+    // Of the requests that are read next.
+    now: Moment,
     pub steps: Vec<Step>,
 }
 
@@ -150,26 +164,43 @@ pub fn set_disk(alloc: Global, disk: &mut MemDisk, line: &mut Line, part: &str) 
     true
 }
 
+// The room that a part sets.
+fn room_of(part: &str) -> Room {
+    let mut words = part.split(' ').skip(2);
+    Room {
+        paths: number(words.next().unwrap_or("")) as usize,
+        dots: number(words.next().unwrap_or("")) as usize,
+    }
+}
+
+// Sets what a part says of the store and its requests, and answers whether it says something.
+fn set_store(scene: &mut Scene, part: &str) -> bool {
+    match part {
+        "folds" => scene.folds = true,
+        "macos" => scene.macos = true,
+        "uncounted" => scene.counted = false,
+        _ => {
+            if part.starts_with("set memory ") {
+                scene.room = Some(room_of(part));
+            } else if let Some(seconds) = part.strip_prefix("now ") {
+                scene.now = moment_of(seconds);
+            } else {
+                return false;
+            }
+        }
+    }
+    true
+}
+
 // Adds a part to a scene.
 fn add(alloc: Global, scene: &mut Scene, line: &mut Line, part: &str) {
-    if set_disk(alloc, &mut scene.disk, line, part) {
+    if set_disk(alloc, &mut scene.disk, line, part) || set_store(scene, part) {
         return;
-    }
-    match part {
-        "folds" => {
-            scene.folds = true;
-            return;
-        }
-        "macos" => {
-            scene.macos = true;
-            return;
-        }
-        _ => {}
     }
     line.need(if part.starts_with("set ") {
         set(alloc, &mut scene.settings, part)
     } else {
-        add_steps(alloc, &mut scene.steps, part)
+        add_steps(alloc, &mut scene.steps, part, scene.now)
     });
 }
 
@@ -178,8 +209,11 @@ pub fn scene_of(alloc: Global, line: &mut Line, parts: &str) -> Option<Scene> {
     let mut scene = Scene {
         disk: MemDisk::new(alloc).ok()?,
         settings: Settings::defaults(alloc),
+        room: None,
         folds: false,
         macos: false,
+        counted: true,
+        now: Moment(0),
         steps: Vec::new(alloc),
     };
     for part in parts.split('|') {

@@ -3,11 +3,11 @@
 //!     METHOD TARGET NAME:VALUE..    a request of these fields; a word that begins with `=` is its body
 //!     poll BODY COUNT               so many polls of a body, without COUNT one
 //!     abandon BODY
-//!     purge SECONDS                 at a moment
+//!     purge SECONDS                 at a moment; nanoseconds behind a point
 //!     turn                          a turn of the outside
 //!
 //! A change is a word: `dir:PATH`, `file:PATH:BYTES`, `cut:PATH:LENGTH`, `remove:PATH` or `rename:PATH:PATH`.
-use crate::cells::{bytes_of, number, path_of};
+use crate::cells::{bytes_of, moment_of, number, path_of};
 use dav_core::Change;
 use dav_handler::Step;
 use dav_io::{Moment, Octets};
@@ -110,28 +110,25 @@ fn add_polls(steps: &mut Vec<Step>, body: u64, count: &str) -> Option<()> {
 }
 
 // The step of a part, by its first two words.
-fn step_of(alloc: Global, part: &str, kind: &str, second: &str) -> Option<Step> {
+fn step_of(alloc: Global, part: &str, kind: &str, second: &str, now: Moment) -> Option<Step> {
     match kind {
         "abandon" => Some(Step::Abandon(number(second).min(u64::from(u32::MAX)) as u32)),
-        "purge" => Some(Step::Purge(Moment(number(second).min(1_000_000) * 1_000_000_000))),
+        "purge" => Some(Step::Purge(moment_of(second))),
         "turn" => Some(Step::Turn),
         _ => {
             let request = request_of(alloc, part)?;
-            Some(Step::Request {
-                request,
-                now: Moment(0),
-            })
+            Some(Step::Request { request, now })
         }
     }
 }
 
-/// Adds the steps of a part.
-pub fn add_steps(alloc: Global, steps: &mut Vec<Step>, part: &str) -> Option<()> {
+/// Adds the steps of a part, a request at a moment.
+pub fn add_steps(alloc: Global, steps: &mut Vec<Step>, part: &str, now: Moment) -> Option<()> {
     let mut words = part.split(' ');
     let kind = words.next().unwrap_or("");
     let second = words.next().unwrap_or("");
     if kind == "poll" {
         return add_polls(steps, number(second), words.next().unwrap_or(""));
     }
-    steps.push(step_of(alloc, part, kind, second)?).ok()
+    steps.push(step_of(alloc, part, kind, second, now)?).ok()
 }
