@@ -556,13 +556,14 @@ module _ {S C : Type 0} (view : View S C LocalFsFile) (lists : Listings S C Loca
                       let listings = lists_local view lists writes ways memory local in
                       let of = walk_told view lists listings true (at m) (at was.begin) later_world.now q.path was.begin was.walks.place was.listing was.walks.left was.walks.answers
                       later_world.told_now later_world.is_world begins_so refl links was.walks.walk in
-                      let ends = walk_ends view lists listings true (at m) (at was.begin) later_world.now q.path was.begin was.walks.place was.after was.listing was.walks.left was.over was.walks.answers was.walks.last
+                      let ends = walk_ends view lists listings true (at m) (at was.begin) later_world.now q.path was.begin was.walks.place was.walks.behind was.listing was.walks.left was.walks.rest was.walks.answers was.walks.last
                       later_world.told_now begins_so refl links was.walks.walk was.walks.ends in
                       let closed = (local.ends was.after t was.over was.ended).0.counts in
                       let all = members later_world.now was.listing.reading.path in
-                      let why = later (view.state m).faults (view.state was.after).faults (view.state t).faults all was.walks.answers
-                      (stopped (view.state m).faults (view.state was.after).faults all was.walks.answers was.walks.last was.walks.stops ends) (omega (arith, closed)) in
-                      let reads = reads_there all (view.state m).faults (view.state was.walks.place).faults (view.state t).faults was.walks.answers of (omega (arith, was.walks.on, closed)) why in
+                      let to_end : (view.state was.walks.behind).faults ≤ (view.state t).faults = omega (arith, was.walks.out, closed) in
+                      let why = later (view.state m).faults (view.state was.walks.behind).faults (view.state t).faults all was.walks.answers
+                      (stopped (view.state m).faults (view.state was.walks.behind).faults all was.walks.answers was.walks.last was.walks.stops ends) to_end in
+                      let reads = reads_there all (view.state m).faults (view.state was.walks.place).faults (view.state t).faults was.walks.answers of (omega (arith, was.walks.on, to_end)) why in
                       let same_all : all ≡ members w end = ap (members later_world.now) at_end ∙ members_still w later_world.now end later_world.besides in
                       let reads_here : ReadsThere (Ok (members w end)) (view.state m).faults members_read (view.state t).faults =
                       subst (λ ms. ReadsThere (Ok (members w end)) (view.state m).faults ms (view.state t).faults) (sym was.walks.told)

@@ -8,11 +8,17 @@ use Rattle.dav_core.specs.Options.{reading}
 use Rattle.dav_core.specs.Unchanged.{SameBesidesOpens}
 use Rattle.dav_core.proofs.UnchangedLemmas.{same_besides, same_besides_then}
 use Rattle.dav_store.specs.Frames.{OpensOne}
-use Rattle.dav_store.specs.Leads.{LeadsOn, LeavesWorld, ListedOn, none, looks, opens, unlisted, listed, lends, begun as just_begun, says as says_on}
+use Rattle.dav_store.specs.Leads.{LeadsOn, LeavesWorld, ListedOn, none, looks, opens, unlisted, listed, lends, begun as just_begun, goes_on as goes_further, says as says_on}
 use Rattle.dav_store.specs.Members.{Answered, Walked, begun, goes}
 use Rattle.dav_store.specs.View.{Listings, View}
 
 module _ {S C F L E : Type 0} (view : View S C F) (lists : Listings S C L E) where
+  -- calls of a listing after others
+  pub on_then : (s m : S) (l j : L) → ListedOn view lists s l m j → (t : S) (k : L) → ListedOn view lists m j t k → ListedOn view lists s l t k
+  on_then s m l j first t k just_begun = first
+  on_then s m l j first t k (goes_further a b i h r before call) = goes_further a b i h r (on_then s m l j first a i before) call
+  on_then s m l j first t k (says_on a b c i h e r before gives said lent keeps) = says_on a b c i h e r (on_then s m l j first a i before) gives said lent keeps
+
   -- a walk is calls of a listing
   pub walked_on : (s : S) (l : L) (answers : List Answered) (t : S) (k : L) → Walked view lists s l answers t k → ListedOn view lists s l t k
   walked_on s l answers t k begun = just_begun

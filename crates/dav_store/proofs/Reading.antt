@@ -145,9 +145,10 @@ module _ {S C F L E : Type 0} (view : View S C F) (lists : Listings S C L E) whe
   listed_there (Ok all) s c path members t l shows le on =
       let w = l.walks in
       let of = shows.walks all refl s l.begin w.place l.listing w.left w.answers here l.begins w.walk in
-      let ends = shows.ends all refl s l.begin w.place l.after l.listing w.left l.over w.answers w.last here l.begins w.walk w.ends in
-      let why = ends_there all w.answers w.last s l.after w.stops ends in
-      rw w.told (reads_there all (view.state s).faults (view.state w.place).faults (view.state t).faults w.answers of (omega (arith, w.on, on)) (later (view.state s).faults (view.state l.after).faults (view.state t).faults w.answers why on))
+      let ends = shows.ends all refl s l.begin w.place w.behind l.listing w.left w.rest w.answers w.last here l.begins w.walk w.ends in
+      let why = ends_there all w.answers w.last s w.behind w.stops ends in
+      let to_end : (view.state w.behind).faults ≤ (view.state t).faults = omega (arith, w.out, on) in
+      rw w.told (reads_there all (view.state s).faults (view.state w.place).faults (view.state t).faults w.answers of (omega (arith, w.on, to_end)) (later (view.state s).faults (view.state w.behind).faults (view.state t).faults w.answers why to_end))
     where
       later : (from last end : ℕ) (answers : List Answered) → (length answers ≡ length all) ⊎ Rose from last → last ≤ end → (length answers ≡ length all) ⊎ Rose from end
       later from last end answers (inl long) le = inl long

@@ -1,5 +1,5 @@
 -- What a listing leaves that was begun, read on and ended: all is as it was.
-use Rattle.std.proofs.Common.{◌≡◌, ◌≢◌, ◌==◌, ℕ, Bool, true, false, Option, None, Some, refl, sym, ap, ◌∙◌, arith}
+use Rattle.std.proofs.Common.{◌≡◌, ◌≢◌, ◌==◌, ℕ, Bool, true, false, Option, None, Some, refl, sym, ap, subst, ◌∙◌, arith}
 use Rattle.dav_io.proofs.ToldLemmas.{both_same, both_then}
 use Rattle.dav_core.specs.Disk.{DiskState}
 use Rattle.dav_core.specs.Unchanged.{Keeps, SameBesidesOpens, SameListing, SameOpen}
@@ -32,6 +32,12 @@ walk_then own s m t p q = record {
   listings = λ n k ne is. both_then _ _ _ (SameListing n) (SameListing n) (SameListing n) (same_listing_then n) (p.listings n k ne is)
       (q.listings n k ne (p.listers n ne ∙ is));
 }
+
+-- two calls of the listing after others
+pub walk_all : (own before after : Option ℕ) (s a m t : DiskState) → before ≡ own → after ≡ before → KeepsButLister own s a → KeepsButLister before a m
+    → KeepsButLister after m t → KeepsButLister own s t
+walk_all own before after s a m t same still first next last = walk_then own s a t first
+    (walk_then own a m t (subst (λ o. KeepsButLister o a m) same next) (subst (λ o. KeepsButLister o m t) (still ∙ same) last))
 
 none_apart : (l : ℕ) → None ≢ Some l
 none_apart l e = cc

@@ -13,6 +13,7 @@ use Rattle.dav_core.specs.Path.{is_plain}
 use Rattle.dav_core.specs.Unchanged.{Keeps}
 use Rattle.dav_store.specs.declared.entry.ReadDirMeta.TheVariants.{Data}
 use Rattle.dav_store.specs.Files.{Spoiled}
+use Rattle.dav_store.specs.Leads.{ListedOn}
 use Rattle.dav_store.specs.Shows.{Looked}
 use Rattle.dav_store.specs.View.{View, Listings}
 
@@ -83,6 +84,16 @@ module _ {S C F L E : Type 0} (view : View S C F) (lists : Listings S C L E) whe
         → lists.lists_on m k (Ok (Some e)) n j → lists.says e (view.state n) r (view.state o) → view.lends n o → Keeps (view.state n) (view.state o)
         → Walked s l (answers ++ record { name = lists.called e; meta = r } ∷ []) o j
 
+  -- A listing was asked on to its end, whatever it gave on the way.
+  abbrev pub ReadOut : S → L → S → L → Type 0
+  ReadOut s l t over = (m : S) × (k : L) × ListedOn view lists s l m k × lists.lists_on m k (Ok None) t over
+
+  -- Behind a fault a listing is asked on to its end, as a store ends there what it gathers.
+  abbrev pub RunsOut : Result (Option E) FsError → S → L → S → L → Type 0
+  RunsOut (Ok None) s l t over = (t ≡ s) × (over ≡ l)
+  RunsOut (Ok (Some entry)) s l t over = ⊥
+  RunsOut (Err e) s l t over = ReadOut s l t over
+
   -- A walk went as far as it goes, and was told of these members.
   pub record WalksOut (s : S) (l : L) (members : List Member) (t : S) (over : L) : Type 0 where
     pub answers : List Answered
@@ -91,11 +102,15 @@ module _ {S C F L E : Type 0} (view : View S C F) (lists : Listings S C L E) whe
     pub walk : Walked s l answers place left
     pub last : Result (Option E) FsError
     pub stops : Stops last
-    pub ends : lists.lists_on place left last t over
+    pub behind : S
+    pub rest : L
+    pub ends : lists.lists_on place left last behind rest
+    pub runs_out : RunsOut last behind rest t over
     pub told : members ≡ members_told answers
     -- no count of faults fell
     pub from : (view.state s).faults ≤ (view.state place).faults
-    pub on : (view.state place).faults ≤ (view.state t).faults
+    pub on : (view.state place).faults ≤ (view.state behind).faults
+    pub out : (view.state behind).faults ≤ (view.state t).faults
 
   -- The directory at a path was listed, the walk told of these members, and the listing was ended.
   pub record WasListed (s : S) (c : C) (path : WebPath) (members : List Member) (t : S) : Type 0 where

@@ -7,7 +7,7 @@ ghost use Rattle.dav_core.specs.Info.{Info};
 ghost use Rattle.dav_core.specs.Unchanged.{Keeps};
 ghost use Rattle.dav_store.specs.Leads.{LeadsOn, ListedOn};
 ghost use Rattle.dav_store.specs.Listings.{HasLister, KeepsButLister};
-ghost use Rattle.dav_store.specs.Members.{IsNamedPlain, ReadsThere, RefusesThere, ShowsMembers, WalksOut, WasListed, member_said, told_of};
+ghost use Rattle.dav_store.specs.Members.{IsNamedPlain, ReadOut, ReadsThere, RefusesThere, ShowsMembers, WalksOut, WasListed, member_said, told_of};
 ghost use Rattle.dav_store.specs.View.{the_listings, the_view};
 ghost use Rattle.dav_store.specs.declared.entry.ReadDirMeta.TheVariants.{Data};
 
@@ -70,8 +70,36 @@ fn add_member<S: GuardedFileSystem<C>, C>(
     Ok(())
 }
 
+#[tactic(auto, using(crate::proofs::Walking::walk_same, crate::proofs::Walking::walk_then))]
+// Asks a listing on behind a fault, up to its end, where a store ends what it gathered. What it still gives is passed
+// over.
+fn run_out<S: GuardedFileSystem<C>, C>(fs: &mut S, dir: &mut S::Dir) -> Result<(), FsError>
+    requires live { HasLister (S.Disk.state (S.inside fs.old)) (S.lister dir.old) }
+    requires admits { S.admits fs.old }
+    ensures ends { OnOk result (ReadOut (the_view S.GuardedFileSystem S.Disk.Disk S.File.DavFile)
+        (the_listings S.GuardedFileSystem S.Entry.DavDirEntry) fs.old dir.old fs.new dir.new) }
+    ensures live { HasLister (S.Disk.state (S.inside fs.new)) (S.lister dir.new) }
+    ensures admits { S.admits fs.new }
+    ensures lister { S.lister dir.new ≡ S.lister dir.old }
+    ensures keeps { KeepsButLister (S.lister dir.old) (S.Disk.state (S.inside fs.old))
+        (S.Disk.state (S.inside fs.new)) }
+    ensures on { ListedOn (the_view S.GuardedFileSystem S.Disk.Disk S.File.DavFile)
+        (the_listings S.GuardedFileSystem S.Entry.DavDirEntry) fs.old dir.old fs.new dir.new }
+    ensures error { IfErr result (λ e. e ≡ FsError.NoMemory) }
+    ensures loan { S.Disk.loan (S.inside fs.new) ≡ S.Disk.loan (S.inside fs.old) }
+{
+    'entries: loop {
+        match fs.next_entry(dir) {
+            Ok(None) => return Ok(()),
+            Err(FsError::NoMemory) => return Err(FsError::NoMemory),
+            Ok(Some(_entry)) => {}
+            Err(_) => {}
+        }
+    }
+}
+
 #[tactic(auto, using(crate::proofs::Walking::walk_same, crate::proofs::Walking::walk_then, crate::proofs::Reading::keeps_lister))]
-// The members that a listing has to come, up to its end or a fault.
+// The members that a listing has to come, up to its end or a fault, behind which it is asked on to its end.
 fn read_on<S: GuardedFileSystem<C>, C>(
     alloc: Global,
     fs: &mut S,
@@ -102,13 +130,18 @@ fn read_on<S: GuardedFileSystem<C>, C>(
                 };
             }
             Err(FsError::NoMemory) => return Err(FsError::NoMemory),
-            Err(_) => return Ok(members),
+            Err(_) => {
+                return match run_out::<S, C>(fs, dir) {
+                    Ok(()) => Ok(members),
+                    Err(error) => Err(error),
+                };
+            }
         }
     }
 }
 
 /// The members of the directory at a path whose metadata the store gives, in the order of its listing, up to the end or
-/// a fault. The listing is ended, and nothing is left open.
+/// a fault. The listing is read to its end, also behind a fault, and ended, and nothing is left open.
 ///
 /// Errors: what the store refuses a listing with, and want of memory.
 pub fn read_members<S: GuardedFileSystem<C>, C>(

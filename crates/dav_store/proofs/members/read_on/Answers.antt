@@ -1,8 +1,9 @@
-use Rattle.std.proofs.Common.{[], ◌++◌, ◌∷◌, refl, ◌∙◌}
+use Rattle.std.proofs.Common.{rules, [], ◌++◌, ◌∷◌, Err, refl, ◌∙◌}
 use Rattle.dav_store.specs.Leads.{begun as just_begun, goes_on, says}
 use Rattle.dav_store.specs.Members.{begun, goes}
+use Rattle.dav_store.proofs.Leading.{on_then}
 use Rattle.dav_store.proofs.Reading.{lister_kept, step_keeps, told_then}
-use Rattle.dav_store.proofs.Walking.{walk_same}
+use Rattle.dav_store.proofs.Walking.{walk_all, walk_same}
 use Rattle.dav_store.proofs.members.read_on.Goals as goal
 
 pub entries-init : goal.entries-init
@@ -54,5 +55,38 @@ returns-in-Ok-None-clause-on g c = goes_on _ _ _ _ _ c.entries.invariant.on c.ne
 pub returns-in-Err-NoMemory-clause-on : goal.returns-in-Err-NoMemory-clause-on
 returns-in-Err-NoMemory-clause-on g c = goes_on _ _ _ _ _ c.entries.invariant.on c.next_entry.ensures.done
 
-pub returns-in-Err-clause-on : goal.returns-in-Err-clause-on
-returns-in-Err-clause-on g c = goes_on _ _ _ _ _ c.entries.invariant.on c.next_entry.ensures.done
+pub returns-in-Ok-run_out-clause-walks : goal.returns-in-Ok-run_out-clause-walks
+returns-in-Ok-run_out-clause-walks g c =
+    let before = c.entries.invariant in
+    record {
+      answers = before.walk.0;
+      place = c.entries.fs;
+      left = c.entries.dir;
+      walk = before.walk.1;
+      last = Err c.in-Err.field-0;
+      stops = search rules;
+      behind = c.next_entry.new.self;
+      rest = c.next_entry.new.dir;
+      ends = c.in-Err.ensures.done;
+      runs_out = c.in-Ok-run_out.ensures.ends;
+      told = before.walk.2;
+      from = before.keeps.counts;
+      on = c.next_entry.ensures.goes_on.keeps.counts;
+      out = c.run_out.ensures.keeps.counts;
+    }
+
+pub returns-in-Ok-run_out-clause-keeps : goal.returns-in-Ok-run_out-clause-keeps
+returns-in-Ok-run_out-clause-keeps g c =
+    walk_all _ _ _ _ _ _ _ c.entries.invariant.lister c.next_entry.ensures.lister c.entries.invariant.keeps c.next_entry.ensures.goes_on.keeps c.run_out.ensures.keeps
+
+pub returns-in-Ok-run_out-clause-on : goal.returns-in-Ok-run_out-clause-on
+returns-in-Ok-run_out-clause-on g c =
+    on_then _ _ _ _ _ _ (goes_on _ _ _ _ _ c.entries.invariant.on c.next_entry.ensures.done) _ _ c.run_out.ensures.on
+
+pub returns-in-Err-run_out-clause-keeps : goal.returns-in-Err-run_out-clause-keeps
+returns-in-Err-run_out-clause-keeps g c =
+    walk_all _ _ _ _ _ _ _ c.entries.invariant.lister c.next_entry.ensures.lister c.entries.invariant.keeps c.next_entry.ensures.goes_on.keeps c.run_out.ensures.keeps
+
+pub returns-in-Err-run_out-clause-on : goal.returns-in-Err-run_out-clause-on
+returns-in-Err-run_out-clause-on g c =
+    on_then _ _ _ _ _ _ (goes_on _ _ _ _ _ c.entries.invariant.on c.next_entry.ensures.done) _ _ c.run_out.ensures.on
