@@ -9,8 +9,8 @@
 //!     front PATH COUNT  the names that its listing gives first, so many, where it is left
 //!     while PATH COUNT mv PATH PATH  the names of a directory; behind so many others do this on the disk, as at `out`
 //!     mkdir PATH        makes a directory; `rmdir`, `rm`, `mv`, `cp` likewise
-//!     copy PATH NAME:VALUE..  the status of a COPY with these fields, of a MOVE at `move`, and of a DELETE at `delete`; each
-//!                       `%XX` in a value is a byte
+//!     copy PATH PREFIX NAME:VALUE..  the status of a COPY with these fields, of a MOVE at `move`, and of a DELETE at
+//!                       `delete`; a prefix `-` is empty, and each `%XX` in a value is a byte
 //!     defaults          makes the directories that a store has from its start
 //!     rules PATH        whether the path is one of the two empty files, and whether it is forbidden
 //!     asked             how many calls the disk was asked so far

@@ -21,7 +21,7 @@ fn add_field(alloc: Global, fields: &mut HeaderMap, word: &str) -> Result<()> {
 
 fn fields_of(alloc: Global, part: &str) -> Result<HeaderMap> {
     let mut fields = HeaderMap::new(alloc);
-    for word in part.split(' ').skip(2) {
+    for word in part.split(' ').skip(3) {
         add_field(alloc, &mut fields, word)?;
     }
     Ok(fields)
@@ -53,14 +53,17 @@ pub fn carry(
 ) -> Result<()> {
     let mut words = part.split(' ');
     let kind = words.next().unwrap_or("");
-    let Ok(path) = DavPath::new(alloc, words.next().unwrap_or("/")) else {
+    let text = words.next().unwrap_or("/");
+    let word = words.next().unwrap_or("-");
+    let prefix = if word == "-" { "" } else { word };
+    let Ok(path) = DavPath::from_str_and_prefix(alloc, text, prefix) else {
         bail!("no path: {part}");
     };
     let fields = fields_of(alloc, part)?;
     let answer = match kind {
-        "move" => move_to(alloc, store, &(), &path, &fields, ""),
+        "move" => move_to(alloc, store, &(), &path, &fields, prefix),
         "delete" => delete(alloc, store, &(), &path, &fields),
-        _ => copy(alloc, store, &(), &path, &fields, ""),
+        _ => copy(alloc, store, &(), &path, &fields, prefix),
     };
     tell_outcome(line, answer);
     Ok(())

@@ -13,6 +13,7 @@ use dav_cache::{DUCacheBuilder, Owned};
 use dav_core::{FileTime, FsPath};
 use dav_disk::MemDisk;
 use dav_io::{Moment, Text};
+use dav_rows::text_of;
 use std::alloc::Global;
 
 /// Whether a part sets something.
@@ -23,12 +24,12 @@ pub fn is_set(part: &str) -> bool {
     )
 }
 
-/// The path of a word: its names, each behind a slash.
+/// The path of a word: its names, each behind a slash. Each `%XX` in a name is a byte.
 pub fn path_of(alloc: Global, word: &str) -> Result<FsPath> {
     let mut names = Vec::new(alloc);
     for name in word.split('/') {
         if !name.is_empty() {
-            names.push(Text::copy(alloc, name)?)?;
+            names.push(Text::new(text_of(alloc, name)?))?;
         }
     }
     if !FsPath::fits(&names) {

@@ -3,12 +3,12 @@
 //! The reading calls are `calendar TREE`, `addresses TREE`, and, of a text, `is-calendar`, `is-vcard`, `calendar-uid`,
 //! `vcard-uid` and `vcard-fn`. `making.rt`, `values.rt`, `levels.rt` and `locks.rt` have the others.
 
-use crate::texts::{read, tell_maybe, tell_whether, word};
+use crate::texts::{tell_maybe, tell_whether};
 use crate::{filters, levels, locks, making, trees, values};
 use dav_io::{NoMemory, Text};
 use dav_lock::Element;
 use dav_report::*;
-use dav_rows::Line;
+use dav_rows::{Line, unescaped, word};
 use std::alloc::Global;
 
 /// Adds the answer to a row.
@@ -57,7 +57,7 @@ fn addresses(alloc: Global, line: &mut Line, root: &Element) {
 }
 
 fn content(alloc: Global, line: &mut Line, row: &str) {
-    match read(alloc, word(row, 1)) {
+    match unescaped(alloc, word(row, 1)) {
         Ok(text) => tell_content(alloc, line, word(row, 0), text.as_str()),
         Err(_) => line.refuse(),
     }

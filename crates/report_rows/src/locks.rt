@@ -2,11 +2,10 @@
 //! none, a depth of `I` is deep, a scope of `S` is shared, and the moment is in nanoseconds. `let-go PATH TOKEN` prints what
 //! the other calls answer.
 
-use crate::texts::word;
 use dav_core::DavPath;
 use dav_io::Moment;
 use dav_lock::{DavLock, DavLockSystem, FakeLs, Lease, LockError};
-use dav_rows::Line;
+use dav_rows::{Line, word};
 use std::alloc::Global;
 use uuid::Uuid;
 

@@ -2,7 +2,7 @@
 //! a line.
 //!
 //! A row is a call, and words behind it, with blanks between them. `trees.rt` says how words make an element tree, and
-//! `texts.rt` how a word writes a text.
+//! `dav_rows` how a word writes a text.
 #![tactic(auto)]
 
 mod answers;

@@ -7,14 +7,14 @@
 //! - `children TREE` prints the names of the elements, as each of the three calls gives them, and `attribute NAME TREE` the
 //!   value that each of the two calls finds.
 
-use crate::texts::{tell_whether, word};
+use crate::texts::tell_whether;
 use crate::trees::{read, root, tell_tree};
 use dav_io::{NoMemory, Text};
 use dav_lock::{Element, Pairs};
 use dav_report::ElementExt;
 use dav_report::caldav::*;
 use dav_report::carddav::*;
-use dav_rows::Line;
+use dav_rows::{Line, word};
 use std::alloc::Global;
 
 /// Adds what a row makes.

@@ -8,11 +8,10 @@
 //!
 //! A printed tree is in the same words, with `ns|PREFIX|URI` for each namespace that an element declares.
 
-use crate::texts::{cell, read_text};
 use dav_io::{NoMemory, Text};
 use dav_lock::{Element, Pairs, XmlNode};
 use dav_report::ElementExt;
-use dav_rows::Line;
+use dav_rows::{Line, cell, unescaped_text};
 use std::alloc::Global;
 
 /// An element that holds the trees of a row behind its first words.
@@ -63,7 +62,7 @@ fn add(alloc: Global, open: &mut Vec<Element>, word: &str) -> Result<(), NoMemor
         "e" => start(alloc, open, word),
         "/" => close(open),
         "n" => {
-            name_space(open, read_text(alloc, cell(word, 1))?);
+            name_space(open, unescaped_text(alloc, cell(word, 1))?);
             Ok(())
         }
         _ => match node(alloc, word)? {
@@ -75,7 +74,7 @@ fn add(alloc: Global, open: &mut Vec<Element>, word: &str) -> Result<(), NoMemor
 
 // The node of a word that is no element's.
 fn node(alloc: Global, word: &str) -> Result<Option<XmlNode>, NoMemory> {
-    let text = read_text(alloc, cell(word, 1))?;
+    let text = unescaped_text(alloc, cell(word, 1))?;
     Ok(match cell(word, 0) {
         "t" => Some(XmlNode::Text(text)),
         "c" => Some(XmlNode::Comment(text)),
@@ -102,7 +101,7 @@ fn add_attributes(alloc: Global, attributes: &mut Pairs, word: &str) -> Result<(
     for attribute in word.split('|').skip(2) {
         let name = attribute.split('=').next().unwrap_or("");
         let value = attribute.split('=').nth(1).unwrap_or("");
-        attributes.put(Text::copy(alloc, name)?, read_text(alloc, value)?)?;
+        attributes.put(Text::copy(alloc, name)?, unescaped_text(alloc, value)?)?;
     }
     Ok(())
 }

@@ -5,13 +5,13 @@
 //! - `report PATH ETAG TEXT LINK` prints a report of one resource and one link that led to none.
 
 use crate::filters;
-use crate::texts::{read_text, tell_maybe, word};
+use crate::texts::tell_maybe;
 use dav_core::DavPath;
 use dav_io::NoMemory;
 use dav_report::caldav::CalendarProperties;
 use dav_report::carddav::AddressBookProperties;
 use dav_report::{Names, ParameterFilter, Record, Records, Report, TextMatch};
-use dav_rows::Line;
+use dav_rows::{Line, unescaped_text, word};
 use std::alloc::Global;
 
 /// Adds what a row makes.
@@ -89,8 +89,8 @@ fn report(alloc: Global, row: &str) -> Result<Report, NoMemory> {
 fn records(alloc: Global, row: &str) -> Result<Records, NoMemory> {
     let mut records = Records::empty(alloc);
     if let Ok(path) = DavPath::new(alloc, word(row, 1)) {
-        let etag = read_text(alloc, word(row, 2))?;
-        let text = read_text(alloc, word(row, 3))?;
+        let etag = unescaped_text(alloc, word(row, 2))?;
+        let text = unescaped_text(alloc, word(row, 3))?;
         records.push(Record { path, etag, text })?;
     }
     Ok(records)
@@ -98,7 +98,7 @@ fn records(alloc: Global, row: &str) -> Result<Records, NoMemory> {
 
 fn missing(alloc: Global, row: &str) -> Result<Names, NoMemory> {
     let mut missing = Names::empty(alloc);
-    missing.push(read_text(alloc, word(row, 4))?)?;
+    missing.push(unescaped_text(alloc, word(row, 4))?)?;
     Ok(missing)
 }
 

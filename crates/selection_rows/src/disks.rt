@@ -1,9 +1,9 @@
 //! Changes of the disk on which requests are made.
 
-use crate::texts::{read, word};
 use anyhow::{Result, bail};
 use dav_core::{Change, DavPath, Disk, FileTime, FsPath};
 use dav_disk::MemDisk;
+use dav_rows::{unescaped, word};
 use std::alloc::Global;
 
 /// The time of all that stands on it.
@@ -35,12 +35,12 @@ fn add_dir(disk: &mut MemDisk, path: &FsPath, number: u64) -> Result<()> {
 
 // A text so many times, and an end behind it.
 fn long_text(alloc: Global, row: &str) -> Result<String> {
-    let part = read(alloc, word(row, 4))?;
+    let part = unescaped(alloc, word(row, 4))?;
     let mut text = String::new(alloc);
     for _ in 0..number(word(row, 3)) {
         text.push_str(part.as_str())?;
     }
-    text.push_str(read(alloc, word(row, 5))?.as_str())?;
+    text.push_str(unescaped(alloc, word(row, 5))?.as_str())?;
     Ok(text)
 }
 
@@ -110,12 +110,12 @@ pub fn change(alloc: Global, disk: MemDisk, row: &str) -> Result<MemDisk> {
             number(word(row, 2)),
         )?,
         "file" => {
-            let text = read(alloc, word(row, 3))?;
+            let text = unescaped(alloc, word(row, 3))?;
             let path = path_of(alloc, word(row, 1))?;
             add_file(&mut disk, &path, number(word(row, 2)), text.as_bytes())?;
         }
         "raw" => {
-            let text = read(alloc, word(row, 3))?;
+            let text = unescaped(alloc, word(row, 3))?;
             let path = path_of(alloc, word(row, 1))?;
             let bytes = bytes_of(alloc, text.as_str())?;
             add_file(&mut disk, &path, number(word(row, 2)), bytes.as_slice())?;

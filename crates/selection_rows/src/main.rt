@@ -1,7 +1,7 @@
 //! Puts calendar and address book requests to a local store over a disk in memory, whose names don't fold: a row a line on
 //! standard input, and what it selects a line on standard output.
 //!
-//! A row is words with blanks between them; `texts.rt` says how a word writes a text. `new` empties the disk.
+//! A row is words with blanks between them; `dav_rows` says how a word writes a text. `new` empties the disk.
 //! `dir PATH NUMBER` and `file PATH NUMBER TEXT` add to it, `raw PATH NUMBER TEXT` with a byte for each character below 256,
 //! and `long PATH NUMBER COUNT TEXT END` with a text so many times and an end behind it. `fail CALL` lets the disk fail at
 //! that call of the next request, and `short LENGTH..` gives no more bytes than these at its reads. `cut PATH LENGTH`,
@@ -22,8 +22,8 @@ use anyhow::Result;
 use dav_cache::Forget;
 use dav_disk::MemDisk;
 use dav_local::LocalFs;
+use dav_rows::word;
 use disks::change;
-use texts::word;
 
 fn main(rt: HostRuntime) -> Result<()> {
     let mut disk = MemDisk::new(rt.alloc())?;

@@ -1,6 +1,6 @@
 //! What a request selects, in words.
 
-use crate::texts::{tell, tell_text, word};
+use crate::texts::{tell, tell_text};
 use crate::trees;
 use anyhow::Result;
 use dav_cache::Forget;
@@ -8,6 +8,7 @@ use dav_core::DavPath;
 use dav_disk::MemDisk;
 use dav_local::LocalFs;
 use dav_report::{Record, Report, ReportError};
+use dav_rows::word;
 use dav_selection::{addressbook_report, calendar_report};
 use std::alloc::Global;
 

@@ -5,10 +5,10 @@
 //! - `/` closes the innermost element. Elements that are open at the end of a row are closed there.
 //! - `x|N` does the next word N times.
 
-use crate::texts::{cell, read_text};
 use dav_io::{NoMemory, Text};
 use dav_lock::{Element, XmlNode};
 use dav_report::ElementExt;
+use dav_rows::{cell, unescaped_text};
 use std::alloc::Global;
 
 /// An element that holds the trees of a row behind its first words.
@@ -49,7 +49,7 @@ fn add(alloc: Global, open: &mut Vec<Element>, word: &str) -> Result<(), NoMemor
             open.push(start(alloc, word)?)?;
             Ok(())
         }
-        "t" => add_node(open, XmlNode::Text(read_text(alloc, cell(word, 1))?)),
+        "t" => add_node(open, XmlNode::Text(unescaped_text(alloc, cell(word, 1))?)),
         "/" => close(open),
         _ => Ok(()),
     }
@@ -62,7 +62,7 @@ fn start(alloc: Global, word: &str) -> Result<Element, NoMemory> {
         let value = attribute.split('=').nth(1).unwrap_or("");
         element
             .attributes
-            .put(Text::copy(alloc, name)?, read_text(alloc, value)?)?;
+            .put(Text::copy(alloc, name)?, unescaped_text(alloc, value)?)?;
     }
     Ok(element)
 }
