@@ -16,7 +16,8 @@ use Rattle.dav_core.specs.Tree.{is_linked, look}
 use Rattle.dav_core.specs.World.{IsWorld, SameBesidesOpens, World}
 use Rattle.dav_store.specs.declared.entry.ReadDirMeta.TheVariants.{Data}
 use Rattle.dav_store.specs.Files.{Spoiled}
-use Rattle.dav_store.specs.Members.{Answered, AreOf, BeginsThere, EndsThere, ShowsMembers, Walked, begun, goes}
+use Rattle.dav_store.specs.Leads.{ListedOn, begun as just_begun, goes_on as goes_further, says as says_on}
+use Rattle.dav_store.specs.Members.{Answered, AreOf, BeginsThere, EndsThere, RunsOut, ShowsMembers, Walked, begun, goes}
 use Rattle.dav_store.specs.Reached.{Reached, ShowsOn, by_file, by_listing, by_look, by_look_at_link, by_none, by_opening}
 use Rattle.dav_store.specs.Shows.{Looked, OpensThere, here, looks, looks_at_link}
 use Rattle.dav_store.specs.View.{Listings, View}
@@ -75,6 +76,17 @@ module _ {S C : Type 0} (view : View S C LocalFsFile) (lists : Listings S C Loca
   walk_ways n l answers o k (goes before m p q d j e r walk on said lent keeps) =
       same_ways p q (local.lends p q lent) ∙ (next_ways view lists writes ways memory local m p d j (Ok (Some e)) on ∙ walk_ways n l before m d walk)
 
+  listed_ways : (b : S) (first : LocalFsReadDir) (n : S) (l : LocalFsReadDir) → ListedOn view lists b first n l → ways n ≡ ways b
+  listed_ways b first n l just_begun = refl
+  listed_ways b first n l (goes_further m p k j r before call) = next_ways view lists writes ways memory local m p k j r call ∙ listed_ways b first m k before
+  listed_ways b first n l (says_on m p q k j e r before gives said lent keeps) =
+      same_ways p q (local.lends p q lent) ∙ (next_ways view lists writes ways memory local m p k j (Ok (Some e)) gives ∙ listed_ways b first m k before)
+
+  out_ways : (last : Result (Option LocalFsDirEntry) FsError) (b : S) (l : LocalFsReadDir) (t : S) (over : LocalFsReadDir) → RunsOut view lists last b l t over → ways t ≡ ways b
+  out_ways (Ok None) b l t over (same, on) = ap ways same
+  out_ways (Ok (Some e)) b l t over never = absurd never
+  out_ways (Err e) b l t over (m, k, on, ends) = next_ways view lists writes ways memory local m t k over (Ok None) ends ∙ listed_ways b l m k on
+
   -- A reader's calls leave how paths are found.
   reached_ways : (s : S) (c : C) (t : S) → Reached view lists s c t → ways t ≡ ways s
   reached_ways s c t by_none = refl
@@ -85,9 +97,10 @@ module _ {S C : Type 0} (view : View S C LocalFsFile) (lists : Listings S C Loca
   reached_ways s c t (by_listing m n path members before was keeps) =
       let w = was.walks in
       same_ways was.after n (local.ends was.after n was.over was.ended).1
-      ∙ (next_ways view lists writes ways memory local w.place was.after w.left was.over w.last w.ends
+      ∙ (out_ways w.last w.behind w.rest was.after was.over w.runs_out
+      ∙ (next_ways view lists writes ways memory local w.place w.behind w.left w.rest w.last w.ends
       ∙ (walk_ways was.begin was.listing w.answers w.place w.left w.walk
-      ∙ ((local.begins m was.begin c path Data (Ok was.listing) was.begins).1 ∙ reached_ways s c m before)))
+      ∙ ((local.begins m was.begin c path Data (Ok was.listing) was.begins).1 ∙ reached_ways s c m before))))
 
   -- a look leaves the told world
   look_world : (follows : Bool) (m n : S) (path : WebPath) (r : Result Info FsError) → ways m ≡ plain_ways → Looks follows (at m) path r (at n) → (view.state n).told ≡ (view.state m).told
