@@ -60,11 +60,6 @@ module _ {S C F L E : Type 0} (served : Served S C F L E) where
   ended_with (Ok r) asking config old new given ends is same = tt
   ended_with (Err e) asking config old new given ends is same = rw is (ends, same)
 
-  pub stayed_with : {A X : Type 0} (result : Result A X) (asking : Asking C) (config old new : Option S) → OnErr result (Stays served asking old new) → config ≡ None
-      → OnErr result (StaysWith served asking config old new)
-  stayed_with (Ok r) asking config old new stays is = tt
-  stayed_with (Err e) asking config old new stays is = rw is stays
-
   -- nothing was asked
   pub unasked : (asking : Asking C) (config old : Option S) → StaysWith served asking config old old
   unasked asking None old = stays_same served asking old

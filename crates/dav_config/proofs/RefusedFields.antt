@@ -89,11 +89,6 @@ pub readable_name : (found : Bool) (name : List ℕ) → IsVisibleAscii name →
 readable_name found name visible is =
     found_text found (codes "Microsoft") name is ∙ named_by (is_visible_text name) (has_text (codes "Microsoft") name) (list_all-from_AllPass is_visible_or_blank name visible)
 
--- and one that isn't
-pub other_name : (name : List ℕ) → (IsVisibleAscii name → ⊥) → false ≡ is_microsoft (Some name)
-other_name name never =
-    none_by (is_visible_text name) (has_text (codes "Microsoft") name) (λ e. never (AllPass-from_list_all is_visible_or_blank name e))
-
 -- the name that a request's client gives itself, or none
 pub from_name : (fields : Fields) (value : FieldValue) → Some value ≡ get fields (codes "user-agent") → is_microsoft (Some value.bytes) ≡ is_from_microsoft fields
 unfolding is_from_microsoft

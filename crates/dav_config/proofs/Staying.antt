@@ -24,14 +24,3 @@ module _ {S C F L E : Type 0} (served : Served S C F L E) (asking : Asking C) wh
   pub stays_same : (old : Option S) → Stays served asking old old
   stays_same None = tt
   stays_same (Some s) = (kept_unless (asks_to_write asking.head) (served.view.state s) (served.view.state s) (keeps_same (served.view.state s)), refl)
-
-  pub stays_where : {X P : Type 0} (result : Result X P) (s t : S) → OnErr result (Keeps (served.view.state s) (served.view.state t))
-      → served.view.loan t ≡ served.view.loan s → OnErr result (Stays served asking (Some s) (Some t))
-  stays_where (Ok r) s t keeps loan = tt
-  stays_where (Err e) s t keeps loan = (kept_unless (asks_to_write asking.head) (served.view.state s) (served.view.state t) keeps, loan)
-
-  pub open_where : {X P : Type 0} (result : Result X P) (s t : S) → asks_to_write asking.head ≡ true
-      → OnErr result (KeepsOpen (served.view.state s) (served.view.state t)) → served.view.loan t ≡ served.view.loan s
-      → OnErr result (Stays served asking (Some s) (Some t))
-  open_where (Ok r) s t writes opened loan = tt
-  open_where (Err e) s t writes opened loan = (open_unless (asks_to_write asking.head) (served.view.state s) (served.view.state t) writes opened, loan)

@@ -261,27 +261,3 @@ pub sends_not : (A B : Type 0) {old between new : Stream} {waiting mid later : L
     → Pushes between mid [] (sending {A = A} (Err e)) later new → Pushes old waiting [] (sending {A = B} (Err e)) later new
 sends_not A B {old = old} {new = new} {waiting = waiting} {later = later} e a b =
     subst (λ z. Pushes old waiting [] z later new) (sending_as A B e) (sends_then a b)
-
-over_emptied : (bytes waiting : List ℕ) → waiting ≡ [] → IsEmptiedBy (Ok (over_with bytes)) waiting
-over_emptied [] waiting none = none
-over_emptied (b ∷ bytes) waiting none = none
-
-pub over_empties : (bytes waiting : List ℕ) (end : Next) → end ≡ over_with bytes → waiting ≡ [] → IsEmptiedBy (Ok end) waiting
-over_empties bytes waiting end is none = subst (λ z. IsEmptiedBy (Ok z) waiting) (sym is) (over_emptied bytes waiting none)
-
-pub fails_empties : (e : ReadError) (waiting : List ℕ) → waiting ≡ [] → IsEmptiedBy (Err e) waiting
-fails_empties Failed waiting none = none
-fails_empties TooMuch waiting none = none
-fails_empties WithoutMemory waiting none = tt
-fails_empties Unsent waiting none = none
-
-pub body_empties : (parts : Parts) (read : BodyRead) (end : Next) (waiting : List ℕ) → end ≡ next_by parts read → IsBodyEmptiedBy (Ok read) waiting → IsEmptiedBy (Ok end) waiting
-body_empties parts (BodyWhole body) end waiting is none = subst (λ z. IsEmptiedBy (Ok z) waiting) (sym is) tt
-body_empties parts (BodyRefused flaw) end waiting is none = subst (λ z. IsEmptiedBy (Ok z) waiting) (sym is) tt
-body_empties parts Ended end waiting is none = subst (λ z. IsEmptiedBy (Ok z) waiting) (sym is) none
-
-pub body_fails_empties : (e : ReadError) (waiting : List ℕ) → IsBodyEmptiedBy (Err e) waiting → IsEmptiedBy (Err e) waiting
-body_fails_empties Failed waiting none = none
-body_fails_empties TooMuch waiting none = none
-body_fails_empties WithoutMemory waiting none = tt
-body_fails_empties Unsent waiting none = none
