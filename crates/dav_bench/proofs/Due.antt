@@ -58,10 +58,6 @@ file_is_due m i j w most it jt b =
     ap (due_looked (shown_in bench_rules w) (bench_query i j)) (stands_at m i j w most it jt b)
     ∙ ap (due_opened (asked_at i j)) (stands_at m i j w most it jt b)
 
--- without fields all is sent
-all_is_sent : (stood : Stood) → sent_of Get [] stood ≡ All
-all_is_sent stood = refl
-
 pub record IsWhole (number len : ℕ) (reply : Reply) : Type 0 where
   pub status : reply.status ≡ 200
   pub parts : reply.parts ≡ slice number 0 len ∷ []

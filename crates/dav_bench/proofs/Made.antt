@@ -29,9 +29,6 @@ at_first m = record {
   latest = refl;
 }
 
-all_four : (a b c : Bool) → a ≡ true → b ≡ false → c ≡ true → (a && ((not b && c) && (true && true))) ≡ true
-all_four a b c e f g = rw (e, f, g) refl
-
 low : (n : ℕ) → n < 9223372036854775808 → nat_lt n 9223372036854775808 ≡ true
 low n lt = grind (arith, nat_tests)
 
@@ -70,9 +67,6 @@ small_product i m le most = let e : i * m ≤ 8 * m = by_rows i 8 m le in omega 
   where
     by_rows : (a b c : ℕ) → a ≤ b → a * c ≤ b * c
     by_rows a b c h = grind arith
-
-pub product_is_small : (i m : ℕ) → i ≤ 8 → m ≤ 400 → i * m ≤ 3200
-product_is_small i m le most = small_product i m le most
 
 pub file_may_be_added : (m i j : ℕ) (w : World) → m ≤ 400 → i < 8 → j < m → IsSoFar 8 m i j w → can_add w (file_path i j) (10 + (i * m + j)) beginning ≡ true
 file_may_be_added m i j w most it jt so =

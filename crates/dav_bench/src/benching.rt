@@ -29,9 +29,9 @@ fn player_over<R: RememberAny + Drop>(
 }
 
 /// Makes a large input from a number, plays it over a disk of its own, and writes what was counted: status 0, or 4
-/// where the sink failed. There are eight directories `Dir0`, `Dir1` and so on, each with one file more than the number:
-/// `File0`, `File1` and so on. File j of directory i has 10(i+1)+j bytes. Twice each file is asked for, by a name that
-/// folds like its own, and the body of the answer is polled twice.
+/// where the sink failed. There are eight directories `Dir0`, `Dir1` and so on, each with one file more than the
+/// number: `File0`, `File1` and so on. File j of directory i has 10(i+1)+j bytes. Twice each file is asked for, by a
+/// name that folds like its own, and the body of the answer is polled twice.
 pub fn bench<R: RememberAny + Drop, K: Sink>(
     alloc: Global,
     seed: u32,

@@ -12,7 +12,8 @@ MayPoll may (Stream a) x = may a.steps x
 MayPoll may Empty x = Unit {0}
 
 -- Bytes are given once, also where there are none; a stream gives its items; then nothing.
-abbrev pub BodyGives : {S X E : Type 0} → (S → X → Option (Result (List ℕ) E) → S → X → Type 0) → (E → Bool) → BodyType S → X
+abbrev pub BodyGives : {S X E : Type 0} → (S → X → Option (Result (List ℕ) E) → S → X → Type 0) → (E → Bool)
+    → BodyType S → X
     → Option (Result (List ℕ) E) → BodyType S → X → Type 0
 BodyGives gives ends (Bytes (Some bytes)) x told b y = (told ≡ Some (Ok bytes)) × (b ≡ Bytes None) × (y ≡ x)
 BodyGives gives ends (Bytes None) x told b y = (told ≡ None) × (b ≡ Bytes None) × (y ≡ x)
@@ -22,7 +23,8 @@ BodyGives gives ends (Stream a) x told Empty y = ⊥
 BodyGives gives ends Empty x told b y = (told ≡ None) × (b ≡ Empty) × (y ≡ x)
 
 -- all that a body has still to give, where it is told
-abbrev pub body_tells : {S X E : Type 0} → (S → X → Option (Left (List ℕ) E)) → BodyType S → X → Option (Left (List ℕ) E)
+abbrev pub body_tells : {S X E : Type 0} → (S → X → Option (Left (List ℕ) E)) → BodyType S → X
+    → Option (Left (List ℕ) E)
 body_tells tells (Bytes (Some bytes)) x = Some (record { items = bytes ∷ []; fault = None })
 body_tells tells (Bytes None) x = Some nothing_left
 body_tells tells (Stream a) x = stream_tells tells a x

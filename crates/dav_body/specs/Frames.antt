@@ -19,8 +19,11 @@ framed (Err e) = Err e
 -- what may come from source, each piece as one data frame
 abbrev pub Framed : {A E : Type 0} → Runs (Result A E) → Runs (Result (Frame A) E)
 Framed {A} {E} source frames last =
-    (items : List (Result A E)) × (end : Option (Result A E)) × source items end × (frames ≡ map framed items) × (last ≡ option_map framed end)
+    (items : List (Result A E)) × (end : Option (Result A E)) × source items end × (frames ≡ map framed items)
+    × (last ≡ option_map framed end)
 
 -- one poll of a body gives this answer, its piece as one data frame
-abbrev pub FrameGives : {B X A E : Type 0} → (B → X → Option (Result A E) → B → X → Type 0) → B → X → B → X → Option (Result (Frame A) E) → Type 0
-FrameGives {A = A} {E} gives b x c y answer = (told : Option (Result A E)) × gives b x told c y × (answer ≡ option_map framed told)
+abbrev pub FrameGives : {B X A E : Type 0} → (B → X → Option (Result A E) → B → X → Type 0) → B → X → B → X
+    → Option (Result (Frame A) E) → Type 0
+FrameGives {A = A} {E} gives b x c y answer = (told : Option (Result A E)) × gives b x told c y
+    × (answer ≡ option_map framed told)

@@ -15,5 +15,6 @@ abbrev pub Reads : BodyState → Unit {0} → Option (Result (List ℕ) Failed) 
 Reads s x told t y = GivesPiece s (read_of told) t
 
 -- One poll of a reader and of whether it has ended: a call of the reader, and None for good after None or an error.
-abbrev pub ReadsUntil : BodyState × Bool → Unit {0} → Option (Result (List ℕ) Failed) → BodyState × Bool → Unit {0} → Type 0
+abbrev pub ReadsUntil : BodyState × Bool → Unit {0} → Option (Result (List ℕ) Failed) → BodyState × Bool → Unit {0}
+    → Type 0
 ReadsUntil s x told t y = GivesUntil Reads (λ error. true) s.1 s.0 x told t.0 y t.1

@@ -37,12 +37,14 @@ IfGoesOn ends None P = Unit {0}
 IfGoesOn ends (Some (Ok item)) P = Unit {0}
 IfGoesOn ends (Some (Err e)) P = ends e ≡ false → P
 
--- The first item is given, and the others stay; at their end the end comes, or the error in its place. Any other error is
--- not the end, and all stays.
+-- The first item is given, and the others stay; at their end the end comes, or the error in its place. Any other error
+-- is not the end, and all stays.
 abbrev pub IsNextOf : {I E : Type 0} → (E → Bool) → Left I E → Option (Result I E) → Option (Left I E) → Type 0
-IsNextOf {I} ends left (Some (Ok item)) after = (rest : List I) × (left.items ≡ item ∷ rest) × (after ≡ Some (record { items = rest; fault = left.fault }))
+IsNextOf {I} ends left (Some (Ok item)) after = (rest : List I) × (left.items ≡ item ∷ rest)
+    × (after ≡ Some (record { items = rest; fault = left.fault }))
 IsNextOf ends left None after = (left.items ≡ []) × (left.fault ≡ None)
-IsNextOf ends left (Some (Err e)) after = ((left.items ≡ []) × (left.fault ≡ Some e) × (ends e ≡ true)) ⊎ ((ends e ≡ false) × (after ≡ Some left))
+IsNextOf ends left (Some (Err e)) after = ((left.items ≡ []) × (left.fault ≡ Some e) × (ends e ≡ true))
+    ⊎ ((ends e ≡ false) × (after ≡ Some left))
 
 -- the same, where it was told what is still to come
 abbrev pub IsNext : {I E : Type 0} → (E → Bool) → Option (Left I E) → Option (Result I E) → Option (Left I E) → Type 0

@@ -43,8 +43,8 @@ pub trait Remember {
         ensures may { (dir : Names) (time : Time) (names : List Name) → may_seal self.old dir time names
             → may_seal self.new dir time names };
 
-    /// Whether the name is known to be absent from the directory, as the disk has it now. To be asked of names that begin
-    /// with `._`, since no others are sealed.
+    /// Whether the name is known to be absent from the directory, as the disk has it now. To be asked of names that
+    /// begin with `._`, since no others are sealed.
     fn negative<D: Disk>(
         &mut self,
         alloc: Global,

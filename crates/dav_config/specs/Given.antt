@@ -45,9 +45,11 @@ file_of Empty = None
 abbrev pub EndsBody : {F : Type 0} → (F → ℕ) → DiskState → BodyType (GetBody F) → DiskState → Type 0
 EndsBody handle s body t = Closes handle s (file_of body) t
 
-module _ {F D : Type 0} (handle : F → ℕ) (seen : F → DiskState → Option Seen) (state : D → DiskState) (loan : D → Option GName) where
+module _ {F D : Type 0} (handle : F → ℕ) (seen : F → DiskState → Option Seen) (state : D → DiskState)
+    (loan : D → Option GName) where
   -- what a poll of a body with the disk gives
-  abbrev pub PollGives : BodyType (GetBody F) → D → Option (Result (List ℕ) BodyFault) → BodyType (GetBody F) → D → Type 0
+  abbrev pub PollGives : BodyType (GetBody F) → D → Option (Result (List ℕ) BodyFault) → BodyType (GetBody F) → D
+      → Type 0
   PollGives = BodyGives (λ b d told c e. StepGives handle seen (state d) b told (state e) c × (loan e ≡ loan d)) ends_of
 
   -- A body was collected with the disk, and ended.
@@ -73,7 +75,8 @@ module _ {S C F L E : Type 0} (served : Served S C F L E) where
   StaysWith asking None old new = Stays served asking old new
   StaysWith asking (Some given) old new = Ends asking given × (new ≡ old)
 
-module _ {S C F L E D : Type 0} (served : Served S C F L E) (state : D → DiskState) (loan : D → Option GName) (inside : S → D) where
+module _ {S C F L E D : Type 0} (served : Served S C F L E) (state : D → DiskState) (loan : D → Option GName)
+    (inside : S → D) where
   -- An answer's body was collected with the store's disk, and the answer made of it.
   pub record Gathers (answered : Responded F) (s : S) (r : Responded F) (t : S) : Type 0 where
     pub all : Result (List ℕ) BodyFault
@@ -81,7 +84,8 @@ module _ {S C F L E D : Type 0} (served : Served S C F L E) (state : D → DiskS
     pub becomes : IsCollected (head_of answered) all r
 
   -- A request was answered over the store that is given with it, and the answer gathered.
-  pub record HandlesGiven {B : Type 0} (reader : ReaderGhosts B) (asking : Asking C) (given : S) (body : B) (r : Responded F) : Type 0 where
+  pub record HandlesGiven {B : Type 0} (reader : ReaderGhosts B) (asking : Asking C) (given : S) (body : B)
+      (r : Responded F) : Type 0 where
     pub answered : Responded F
     pub between : S
     pub after : S
@@ -89,9 +93,11 @@ module _ {S C F L E D : Type 0} (served : Served S C F L E) (state : D → DiskS
     pub gathers : Gathers answered between r after
     pub ends : EndsAs served asking given after
     -- Gathering makes 500 of another status only where the disk's count rose.
-    pub failed : (head_of r).status ≡ 500 → ((head_of answered).status ≡ 500) ⊎ Rose (served.view.state between).faults (served.view.state after).faults
+    pub failed : (head_of r).status ≡ 500 → ((head_of answered).status ≡ 500)
+        ⊎ Rose (served.view.state between).faults (served.view.state after).faults
 
   -- A request was answered by a configuration's store, or else by the handler's own.
-  abbrev pub HandlesWith : {B : Type 0} → ReaderGhosts B → Asking C → Option S → Option S → B → Responded F → Option S → Type 0
+  abbrev pub HandlesWith : {B : Type 0} → ReaderGhosts B → Asking C → Option S → Option S → B → Responded F → Option S
+      → Type 0
   HandlesWith reader asking None old body r new = HandlesAll served reader asking old body r new
   HandlesWith reader asking (Some given) old body r new = HandlesGiven reader asking given body r × (new ≡ old)

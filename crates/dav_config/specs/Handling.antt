@@ -47,7 +47,8 @@ pub record Served (S C F L E : Type 0) : Type 1 where
   pub void : S → Bool
   pub with_now : S → Moment → S
 
-abbrev pub the_served : {S C D M F L E : Type 0} → StoreGhosts S C D M F L E → DiskGhosts D → FileGhosts F D M → EntryGhosts E D M → Served S C F L E
+abbrev pub the_served : {S C D M F L E : Type 0} → StoreGhosts S C D M F L E → DiskGhosts D → FileGhosts F D M
+    → EntryGhosts E D M → Served S C F L E
 the_served store disk file entry = record {
   view = the_view store disk file;
   lists = the_listings store entry;
@@ -107,7 +108,8 @@ ReadsBehind (Writes method path) old bulk new = new ≡ old
 ReadsBehind (At method path) old bulk new = ReadsUnless (takes_much method) old bulk new
 
 -- What the gates make of a request, by what its reader gave of its body.
-pub record IsTarget {C : Type 0} (asking : Asking C) (stored : Bool) (old : BodyState) (target : Target) (new : BodyState) : Type 0 where
+pub record IsTarget {C : Type 0} (asking : Asking C) (stored : Bool) (old : BodyState) (target : Target)
+    (new : BodyState) : Type 0 where
   pub bulk : Bulk
   pub reads : ReadsBehind (admitted asking.settings stored asking.head) old bulk new
   pub gated : target ≡ gates asking.settings stored asking.head bulk
@@ -123,7 +125,8 @@ module _ {S C F L E : Type 0} (served : Served S C F L E) where
     pub heard : Heard served.view served.lists q c s given t
     -- and for what the store shows
     pub right : (looked opened : WebPath → Result Standing FsError) (listed : WebPath → Result (List Member) FsError)
-        → ShowsFor served.view served.lists s c q looked opened listed → IsRightFor served.view q looked opened listed s given t
+        → ShowsFor served.view served.lists s c q looked opened listed
+        → IsRightFor served.view q looked opened listed s given t
     -- nothing is open that wasn't, but the body's file
     pub life : OpenOnlyHeld served.view s given t
     pub most : HasMost (read_size_of q.settings.read_buf_size) given
@@ -156,22 +159,27 @@ module _ {S C F L E : Type 0} (served : Served S C F L E) where
     pub was : old.store ≡ Some before
     pub is : new.store ≡ Some after
     pub moment : SetsMoment before asking.now
-    pub writes : WritesOver served.view served.lists served.writes asking.credentials o old.body (served.with_now before asking.now) r after new.body
+    pub writes : WritesOver served.view served.lists served.writes asking.credentials o old.body
+        (served.with_now before asking.now) r after new.body
 
-  -- The gates' refusal, or what OPTIONS is told, with the store and the reader as they were; or the answer of a GET or HEAD
-  -- over the store; or that of a request that writes, which may read the body.
+  -- The gates' refusal, or what OPTIONS is told, with the store and the reader as they were; or the answer of a GET or
+  -- HEAD over the store; or that of a request that writes, which may read the body.
   abbrev pub AnswersTo : Target → Asking C → Sides S → Responded F → Sides S → Type 0
   AnswersTo (Refused status close) asking old r new = IsBare (refusal asking.head.headers status close) r × (new ≡ old)
-  AnswersTo Methods asking old r new = IsBare (allowing asking.settings.allow (not (is_stored served.void old.store))) r × (new ≡ old)
-  AnswersTo (At method path) asking old r new = Passes (query asking.settings asking.head.headers method path) asking old.store r new.store × (new.body ≡ old.body)
-  AnswersTo (Writes method path) asking old r new = Performs (order asking.settings.prefix method path asking.head.headers) asking old r new
+  AnswersTo Methods asking old r new = IsBare (allowing asking.settings.allow
+      (not (is_stored served.void old.store))) r × (new ≡ old)
+  AnswersTo (At method path) asking old r new = Passes
+      (query asking.settings asking.head.headers method path) asking old.store r new.store × (new.body ≡ old.body)
+  AnswersTo (Writes method path) asking old r new = Performs
+      (order asking.settings.prefix method path asking.head.headers) asking old r new
 
   -- Nothing is left open, and nothing changed, unless the request writes; there is a store where there was one.
   abbrev pub Stays : Asking C → Option S → Option S → Type 0
   Stays asking None None = Unit {0}
   Stays asking None (Some t) = ⊥
   Stays asking (Some s) None = ⊥
-  Stays asking (Some s) (Some t) = KeepsUnless (asks_to_write asking.head) (served.view.state s) (served.view.state t) × (served.view.loan t ≡ served.view.loan s)
+  Stays asking (Some s) (Some t) = KeepsUnless (asks_to_write asking.head) (served.view.state s) (served.view.state t)
+      × (served.view.loan t ≡ served.view.loan s)
 
   -- the disk of a store met a fault
   abbrev pub RoseIn : Option S → Option S → Type 0
@@ -179,14 +187,17 @@ module _ {S C F L E : Type 0} (served : Served S C F L E) where
   RoseIn (Some s) None = ⊥
   RoseIn (Some s) (Some t) = Rose (served.view.state s).faults (served.view.state t).faults
 
-  -- Why a request is answered 500. The gates refuse it so where its reader met a fault, and so does a method that reads it.
+  -- Why a request is answered 500. The gates refuse it so where its reader met a fault, and so does a method that reads
+  -- it.
   abbrev pub FailsFor : Target → Asking C → Sides S → Sides S → Type 0
   FailsFor (Refused status close) asking old new = Rose old.body.faults new.body.faults
   FailsFor Methods asking old new = ⊥
-  FailsFor (At method path) asking old new = FailsOver served.view served.lists (query asking.settings asking.head.headers method path) asking.credentials
+  FailsFor (At method path) asking old new = FailsOver served.view served.lists
+      (query asking.settings asking.head.headers method path) asking.credentials
       (λ s. served.with_now s asking.now) old.store new.store
   FailsFor (Writes method path) asking old new = Rose old.body.faults new.body.faults
-      ⊎ RefusedIn served.view served.lists served.writes asking.credentials (λ s. served.with_now s asking.now) old.store new.store
+      ⊎ RefusedIn served.view served.lists served.writes asking.credentials
+      (λ s. served.with_now s asking.now) old.store new.store
 
   -- A request was answered.
   pub record Handles (asking : Asking C) (old : Sides S) (r : Responded F) (new : Sides S) : Type 0 where
@@ -201,4 +212,5 @@ module _ {S C F L E : Type 0} (served : Served S C F L E) where
   -- The reader was consumed with the request. What is behind it is left as by a reader that stands on the same loan.
   abbrev pub HandlesAll : {B : Type 0} → ReaderGhosts B → Asking C → Option S → B → Responded F → Option S → Type 0
   HandlesAll {B} reader asking old body r new = (after : B) × (reader.loan after ≡ reader.loan body)
-      × Handles asking (record { store = old; body = reader.state body }) r (record { store = new; body = reader.state after })
+      × Handles asking (record { store = old; body = reader.state body }) r
+      (record { store = new; body = reader.state after })

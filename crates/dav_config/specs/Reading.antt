@@ -15,10 +15,11 @@ seen_as Broken = broken
 -- A reader gave pieces that have so many bytes together.
 pub data Gave (s : BodyState) : ℕ → BodyState → Type 0 where
   nothing : Gave s 0 s
-  more : (n : ℕ) (piece : List ℕ) (m t : BodyState) → Gave s n m → GivesPiece m (Ok (Some piece)) t → Gave s (n + length piece) t
+  more : (n : ℕ) (piece : List ℕ) (m t : BodyState) → Gave s n m → GivesPiece m (Ok (Some piece)) t
+      → Gave s (n + length piece) t
 
--- What came after so many bytes: the end; or a failure; or nothing, since more had come than a method takes that doesn't store
--- its body.
+-- What came after so many bytes: the end; or a failure; or nothing, since more had come than a method takes that
+-- doesn't store its body.
 abbrev pub StopsAs : Bulk → ℕ → BodyState → BodyState → Type 0
 StopsAs none n m t = (n ≡ 0) × GivesPiece m (Ok None) t
 StopsAs some n m t = (0 < n) × (n ≤ 65536) × GivesPiece m (Ok None) t

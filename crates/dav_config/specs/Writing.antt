@@ -97,7 +97,8 @@ module _ {S C F L E : Type 0} (view : View S C F) (lists : Listings S C L E) (wr
     looks : (path : WebPath) → view.looks m c path (Err GeneralFailure) n → RefusesOne m n
     looks_at_link : (path : WebPath) → view.looks_at_link m c path (Err GeneralFailure) n → RefusesOne m n
     opens : (path : WebPath) (how : OpenOptions) → view.opens m c path how (Err GeneralFailure) n → RefusesOne m n
-    writes_file : (f g : F) (bytes : List ℕ) → WritesFile view writes m f bytes (Err GeneralFailure) n g → RefusesOne m n
+    writes_file : (f g : F) (bytes : List ℕ) → WritesFile view writes m f bytes (Err GeneralFailure) n g
+        → RefusesOne m n
     makes_dir : (path : WebPath) → view.makes_dir m c path (Err GeneralFailure) n → RefusesOne m n
     removes_dir : (path : WebPath) → view.removes_dir m c path (Err GeneralFailure) n → RefusesOne m n
     removes_file : (path : WebPath) → view.removes_file m c path (Err GeneralFailure) n → RefusesOne m n

@@ -216,7 +216,8 @@ impl<S, C> DavConfig<S, C> {
         config
     }
 
-    /// Its settings, with each of the new ones that is set in their place. A new prefix that is empty counts as not set.
+    /// Its settings, with each of the new ones that is set in their place. A new prefix that is empty counts as not
+    /// set.
     pub fn merge(&self, new: &Settings) -> Result<Settings, NoMemory>
         ensures { IfOk result (λ settings. settings ≡ the_merged self.now.settings new.now) }
     {

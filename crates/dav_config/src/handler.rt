@@ -77,7 +77,8 @@ impl<S, C> DavHandler<S, C> {
         self.locks
     }
 
-    /// Lends the store, so that the body of an answer can be polled with its disk. None exactly where there is no store.
+    /// Lends the store, so that the body of an answer can be polled with its disk. None exactly where there is no
+    /// store.
     pub fn store(&mut self) -> Option<&mut S>
         ensures* writes_back { sem 𝓛 (LendsStore S.row C.row self.entry result) }
         ensures value { option_copied_mut result ≡ self.old.store }
@@ -101,7 +102,8 @@ impl<S: GuardedFileSystem<C>, C> DavHandler<S, C> {
         requires { IfSome self.old.store S.admits }
         ensures done { IfOk result (λ r. HandlesAll
             (the_served S.GuardedFileSystem S.Disk.Disk S.File.DavFile S.Entry.DavDirEntry) B.BodyReader
-            (asking (record self.old.settings { principal = Some principal.now }) (head_of req) credentials now) self.old.store (body_of req) r self.new.store) }
+            (asking (record self.old.settings { principal = Some principal.now })
+            (head_of req) credentials now) self.old.store (body_of req) r self.new.store) }
         ensures may { IfOk result (λ r. IfSome self.new.store (λ s. MayPoll
             (λ b d. IsHeld S.File.handle S.File.seen (S.Disk.state d) b) (inner_of r) (S.inside s))) }
         ensures memory { OnErr result (Stays
@@ -132,17 +134,18 @@ impl<S: GuardedFileSystem<()>> DavHandler<S, ()> {
     /// 65,536 bytes came, but that of a PUT or PATCH isn't read there; then forms that are not built. A request that
     /// passes is a GET or HEAD (RFC 9110, sections 9.3.1 and 9.3.2), and is answered by what stands at its path; or it
     /// writes: a PUT (section 9.3.4), whose body goes from its reader into the file as it comes, a DELETE (section
-    /// 9.3.5), a MKCOL (RFC 4918, section 9.3), a COPY or a MOVE (sections 9.8 and 9.9), whose destination is read under
-    /// the prefix of the settings, a MKCALENDAR (RFC 4791, section 5.3.1) or a MKADDRESSBOOK, and its answer has no body.
+    /// 9.3.5), a MKCOL (RFC 4918, section 9.3), a COPY or a MOVE (sections 9.8 and 9.9), whose destination is read
+    /// under the prefix of the settings, a MKCALENDAR (RFC 4791, section 5.3.1) or a MKADDRESSBOOK, and its answer has
+    /// no body.
     ///
     /// The body of the answer is polled with the disk that the store's `disk` lends (`store`). It may have a file open,
     /// which it closes with its last piece; a body that is given up is to be ended (`AsyncStream::into_steps`,
     /// `GetBody::close`).
     ///
-    /// `done`: a refusal of the gates, with the store as it was; or the answer of `handle_get` over the store; or that of
-    /// the method that writes, by its table. `may`: the body may be polled with the store's disk. `memory`: where memory
-    /// is refused, nothing is left open, and what stands is as it was, unless the request's method writes: then what was
-    /// written before stays.
+    /// `done`: a refusal of the gates, with the store as it was; or the answer of `handle_get` over the store; or that
+    /// of the method that writes, by its table. `may`: the body may be polled with the store's disk. `memory`: where
+    /// memory is refused, nothing is left open, and what stands is as it was, unless the request's method writes: then
+    /// what was written before stays.
     pub fn handle<B: BodyReader + Drop>(
         &mut self,
         req: Request<B>,
@@ -194,8 +197,8 @@ impl<S: GuardedFileSystem<()>> DavHandler<S, ()> {
     /// has all bytes of the body, which were collected, or no body where there are none. Where the body broke, the
     /// answer is 500. The handler's own settings stay.
     ///
-    /// `done`: the answer of `handle` over the handler's store; or over the one that was given, with its body collected,
-    /// and then the handler's is as it was and nothing of the given one is left open. `memory`: likewise.
+    /// `done`: the answer of `handle` over the handler's store; or over the one that was given, with its body
+    /// collected, and then the handler's is as it was and nothing of the given one is left open. `memory`: likewise.
     pub fn handle_with<B: BodyReader + Drop>(
         &mut self,
         config: DavConfig<S, ()>,

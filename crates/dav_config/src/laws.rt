@@ -32,9 +32,9 @@ impl<S, C> DavInner<S, C> {
     }
 }
 
-/// Over a store that refuses a look, an opening and a listing with NotFound or Forbidden where nothing failed, a request
-/// is answered 500 only where the reader of its body or the disk of the store met a fault. Of a request that writes the
-/// store is asked besides that each of its calls fails only by a fault (`RefusesUsually`).
+/// Over a store that refuses a look, an opening and a listing with NotFound or Forbidden where nothing failed, a
+/// request is answered 500 only where the reader of its body or the disk of the store met a fault. Of a request that
+/// writes the store is asked besides that each of its calls fails only by a fault (`RefusesUsually`).
 pub fn failures_are_faults<S: GuardedFileSystem<C>, C>()
     ensures { RefusesFew (the_view S.GuardedFileSystem S.Disk.Disk S.File.DavFile)
         (the_listings S.GuardedFileSystem S.Entry.DavDirEntry)

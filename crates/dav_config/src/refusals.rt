@@ -132,8 +132,8 @@ fn is_uncached(fields: &HeaderMap, status: u16) -> bool
     status == 404 && is_from_microsoft(fields)
 }
 
-/// What a request with these fields is refused with: a status, and the connection closes where `close` is set. A 404 to a
-/// client by Microsoft is not to be kept.
+/// What a request with these fields is refused with: a status, and the connection closes where `close` is set. A 404 to
+/// a client by Microsoft is not to be kept.
 pub fn refused(
     alloc: Global,
     fields: &HeaderMap,

@@ -32,8 +32,8 @@ abbrev pub place_from : List Row → Names → Names → Result (Option Row) Dis
 place_from tree at [] = Ok (row_at tree at)
 place_from tree at (name ∷ names) = through (row_at tree at) (place_from tree (at ++ name ∷ []) names)
 
--- What stands at a path, or nothing; or what every call on the path is refused with: the first place before its last name
--- that is no directory decides.
+-- What stands at a path, or nothing; or what every call on the path is refused with: the first place before its last
+-- name that is no directory decides.
 abbrev pub place : List Row → Names → Result (Option Row) DiskError
 place tree path = place_from tree [] path
 
@@ -79,7 +79,8 @@ taking_file tree path = found_then taking_file_row (look tree path)
 abbrev pub moving_over : List Row → Row → Names → Option Row → Allowed
 moving_over tree row to None = Ok (Some (moves row.path to))
 moving_over tree row to (Some there) = cond (is_dir row.kind)
-    (cond (is_dir there.kind) (cond (is_leaf there.path tree) (Ok (Some (moves row.path to))) (Err NotEmpty)) (Err NotDir))
+    (cond (is_dir there.kind) (cond (is_leaf there.path tree) (Ok (Some (moves row.path to))) (Err NotEmpty))
+    (Err NotDir))
     (cond (is_dir there.kind) (Err IsDir) (Ok (Some (moves row.path to))))
 
 -- The root isn't moved, nor is anything moved to it or into itself; onto itself it stays.

@@ -19,7 +19,8 @@ use Rattle.dav_core.specs.World.{World, bytes_of, put}
 abbrev pub tick : FileTime → Option FileTime
 tick t = cond (nat_lt (t.nanos + 1000) 1000000000)
     (Some (record { secs = t.secs; nanos = t.nanos + 1000 }))
-    (cond (int_lt t.secs (pos 9223372036854775807)) (Some (record { secs = t.secs +ℤ pos 1; nanos = (t.nanos + 1000) - 1000000000 })) None)
+    (cond (int_lt t.secs (pos 9223372036854775807))
+    (Some (record { secs = t.secs +ℤ pos 1; nanos = (t.nanos + 1000) - 1000000000 })) None)
 
 -- the row of a path with another time
 abbrev pub timed_row : Names → FileTime → Row → Row
@@ -56,7 +57,10 @@ added path kind w = cond (nat_lt w.greatest greatest) (added_at path kind (tick 
 -- the newest number's bytes, with the time of the world
 abbrev pub stored_in : List ℕ → Option World → Option World
 stored_in bytes None = None
-stored_in bytes (Some w) = Some (record w { files = put w.greatest (Some (record { bytes = bytes; time = w.latest })) w.files })
+stored_in bytes (Some w) = Some (record w {
+  files = put w.greatest
+      (Some (record { bytes = bytes; time = w.latest })) w.files;
+})
 
 -- what is made, or where it can't be the world as it was
 abbrev pub made_or : World → Option World → World
@@ -67,7 +71,8 @@ abbrev pub dir_added : World → Names → World
 dir_added w path = cond (is_free_in w.tree path) (made_or w (then_touched (parent_of path) (added path Dir w))) w
 
 abbrev pub file_added : World → Names → List ℕ → World
-file_added w path bytes = cond (is_free_in w.tree path) (made_or w (then_touched (parent_of path) (stored_in bytes (added path File w)))) w
+file_added w path bytes = cond (is_free_in w.tree path)
+    (made_or w (then_touched (parent_of path) (stored_in bytes (added path File w)))) w
 
 -- the bytes made so long: shortened, or lengthened with zeros
 abbrev pub resized : ℕ → List ℕ → List ℕ
@@ -109,7 +114,8 @@ moved_row from to row = cond (is_front from row.path) (record row { path = to ++
 abbrev pub is_leaf : Names → List Row → Bool
 is_leaf path tree = list_all (λ row. not (is_front path row.path) || same_names path row.path) tree
 
--- what may stand where something is moved to: nothing, a file under a file, a directory without members under a directory
+-- what may stand where something is moved to: nothing, a file under a file, a directory without members under a
+-- directory
 abbrev pub yields : Kind → Option Row → List Row → Bool
 yields kind None tree = true
 yields Dir (Some there) tree = is_dir there.kind && is_leaf there.path tree
@@ -117,11 +123,14 @@ yields File (Some there) tree = not (is_dir there.kind)
 yields Link (Some there) tree = not (is_dir there.kind)
 
 abbrev pub renames_to : World → Row → Names → Bool
-renames_to w row to = not (length row.path == 0) && (not (length to == 0) && (not (is_front row.path to) && (has_dir w.tree (parent_of to) && yields row.kind (row_at w.tree to) w.tree)))
+renames_to w row to = not (length row.path == 0)
+    && (not (length to == 0) && (not (is_front row.path to)
+    && (has_dir w.tree (parent_of to) && yields row.kind (row_at w.tree to) w.tree)))
 
 -- from's parent first, then to's, or once if they are one
 abbrev pub parents_touched : Names → Names → World → Option World
-parents_touched from to w = cond (same_names (parent_of from) (parent_of to)) (touched (parent_of from) w) (then_touched (parent_of to) (touched (parent_of from) w))
+parents_touched from to w = cond (same_names (parent_of from) (parent_of to)) (touched (parent_of from) w)
+    (then_touched (parent_of to) (touched (parent_of from) w))
 
 abbrev pub renamed_found : Result Row DiskError → Names → World → World
 renamed_found (Err e) to w = w

@@ -26,12 +26,18 @@ row part type = record { part = part; type = type }
 
 abbrev pub types : List Row
 types =
-    row (codes "txt") (codes "text/plain") ∷ row (codes "html") (codes "text/html") ∷ row (codes "htm") (codes "text/html")
-    ∷ row (codes "css") (codes "text/css") ∷ row (codes "js") (codes "text/javascript") ∷ row (codes "json") (codes "application/json")
-    ∷ row (codes "xml") (codes "text/xml") ∷ row (codes "csv") (codes "text/csv") ∷ row (codes "md") (codes "text/markdown")
-    ∷ row (codes "ics") (codes "text/calendar") ∷ row (codes "vcf") (codes "text/vcard") ∷ row (codes "pdf") (codes "application/pdf")
-    ∷ row (codes "png") (codes "image/png") ∷ row (codes "jpg") (codes "image/jpeg") ∷ row (codes "jpeg") (codes "image/jpeg")
-    ∷ row (codes "gif") (codes "image/gif") ∷ row (codes "svg") (codes "image/svg+xml") ∷ row (codes "mp3") (codes "audio/mpeg")
+    row (codes "txt") (codes "text/plain") ∷ row (codes "html") (codes "text/html")
+    ∷ row (codes "htm") (codes "text/html")
+    ∷ row (codes "css") (codes "text/css") ∷ row (codes "js") (codes "text/javascript")
+    ∷ row (codes "json") (codes "application/json")
+    ∷ row (codes "xml") (codes "text/xml") ∷ row (codes "csv") (codes "text/csv")
+    ∷ row (codes "md") (codes "text/markdown")
+    ∷ row (codes "ics") (codes "text/calendar") ∷ row (codes "vcf") (codes "text/vcard")
+    ∷ row (codes "pdf") (codes "application/pdf")
+    ∷ row (codes "png") (codes "image/png") ∷ row (codes "jpg") (codes "image/jpeg")
+    ∷ row (codes "jpeg") (codes "image/jpeg")
+    ∷ row (codes "gif") (codes "image/gif") ∷ row (codes "svg") (codes "image/svg+xml")
+    ∷ row (codes "mp3") (codes "audio/mpeg")
     ∷ row (codes "mp4") (codes "video/mp4") ∷ row (codes "zip") (codes "application/zip")
     ∷ []
 

@@ -79,8 +79,8 @@ MayRefuseMeta NotDir = Unit {0}
 MayRefuseMeta Failed = Unit {0}
 MayRefuseMeta e = ⊥
 
--- The way on which no link may stand: the whole path where a link at its end is followed, and else what comes before its
--- last name.
+-- The way on which no link may stand: the whole path where a link at its end is followed, and else what comes before
+-- its last name.
 abbrev pub way_to : Bool → Names → Names
 way_to true path = path
 way_to false path = parent_of path
@@ -111,8 +111,10 @@ with_opens w opens = record w { opens = opens }
 
 -- What is opened is what stands at the path, at its first byte. Also behind a link it is a file that somebody holds.
 abbrev pub OpenedIn : Names → Result Handle DiskError → Option Kind → World → World → Type 0
-OpenedIn path (Ok h) kind v w = (number : ℕ) × (w ≡ with_opens v (put h.0 (Some (at_start number)) v.opens)) × Holds v number
-    × (is_linked v.tree path ≡ false → (row : Row) × (look v.tree path ≡ Ok row) × (row.number ≡ number) × (kind ≡ Some row.kind))
+OpenedIn path (Ok h) kind v w = (number : ℕ) × (w ≡ with_opens v (put h.0 (Some (at_start number)) v.opens))
+    × Holds v number
+    × (is_linked v.tree path ≡ false → (row : Row) × (look v.tree path ≡ Ok row) × (row.number ≡ number)
+    × (kind ≡ Some row.kind))
 OpenedIn path (Err e) kind v w = (w ≡ v) × (is_linked v.tree path ≡ false → Refused e (look v.tree path))
 
 -- the kind of what a live handle has open
@@ -125,7 +127,8 @@ kind_opened (Ok h) s = kind_at s h.0
 kind_opened (Err e) s = None
 
 abbrev pub LiveAfterOpen : OpenOptions → Result Handle DiskError → (ℕ → Option Live) → (ℕ → Option Live) → Type 0
-LiveAfterOpen how (Ok h) old new = (kind : Kind) × (old h.0 ≡ None) × (new ≡ put h.0 (Some (record { kind = kind; how = how })) old)
+LiveAfterOpen how (Ok h) old new = (kind : Kind) × (old h.0 ≡ None)
+    × (new ≡ put h.0 (Some (record { kind = kind; how = how })) old)
 LiveAfterOpen how (Err e) old new = new ≡ old
 
 -- an opening that may change what stands there, or make it
@@ -142,8 +145,8 @@ MayRefuseOpen may NotEmpty = ⊥
 MayRefuseOpen true e = Unit {0}
 MayRefuseOpen false e = ⊥
 
--- The handle has what stands at the path open, at its first byte, after the edit that opening makes there; all else that
--- is open stays. Nothing more is said where a link stands on the way.
+-- The handle has what stands at the path open, at its first byte, after the edit that opening makes there; all else
+-- that is open stays. Nothing more is said where a link stands on the way.
 abbrev pub OpenedOver : Names → OpenOptions → Result Handle DiskError → Option Kind → World → World → Type 0
 OpenedOver path how (Ok h) kind v w = (number : ℕ) × (w.opens ≡ put h.0 (Some (at_start number)) v.opens)
     × (w.listings ≡ v.listings) × Holds w number
@@ -157,14 +160,16 @@ OpenedBy false path how result kind v w = OpenedIn path result kind v w
 OpenedBy true path how result kind v w = OpenedOver path how result kind v w
 
 -- A file or directory is opened.
-pub record Opens (old : DiskState) (path : Names) (how : OpenOptions) (result : Result Handle DiskError) (new : DiskState) : Type 0 where
+pub record Opens (old : DiskState) (path : Names) (how : OpenOptions) (result : Result Handle DiskError)
+    (new : DiskState) : Type 0 where
   pub asks : Asks result old new
   pub only : IfErr result (MayRefuseOpen (may_change how))
   pub live : LiveAfterOpen how result old.live new.live
   pub told : Both old.told new.told (OpenedBy (may_change how) path how result (kind_opened result new))
 
 abbrev pub FileMetaIn : ℕ → Result Meta DiskError → World → Type 0
-FileMetaIn h (Ok meta) w = (o : OpenFile) × (w.opens h ≡ Some o) × (meta.number ≡ o.number) × (meta.len ≡ length (bytes_of w o.number))
+FileMetaIn h (Ok meta) w = (o : OpenFile) × (w.opens h ≡ Some o) × (meta.number ≡ o.number)
+    × (meta.len ≡ length (bytes_of w o.number))
     × (is_file meta.kind ≡ true → meta.modified ≡ time_of w o.number)
 FileMetaIn h (Err e) w = Unit {0}
 
@@ -195,8 +200,10 @@ abbrev pub rest_of : World → OpenFile → List ℕ
 rest_of w o = drop o.place (bytes_of w o.number)
 
 abbrev pub ReadIn : Bool → ℕ → List ℕ → Result ℕ DiskError → World → World → Type 0
-ReadIn whole h buffer (Ok n) v w = (o : OpenFile) × (v.opens h ≡ Some o) × (n ≤ length (rest_of v o)) × (take n buffer ≡ take n (rest_of v o))
-    × (n ≡ 0 → rest_of v o ≡ []) × (whole ≡ true → n ≡ min (length buffer) (length (rest_of v o))) × (w ≡ placed v h o (o.place + n))
+ReadIn whole h buffer (Ok n) v w = (o : OpenFile) × (v.opens h ≡ Some o) × (n ≤ length (rest_of v o))
+    × (take n buffer ≡ take n (rest_of v o))
+    × (n ≡ 0 → rest_of v o ≡ []) × (whole ≡ true → n ≡ min (length buffer) (length (rest_of v o)))
+    × (w ≡ placed v h o (o.place + n))
 ReadIn whole h buffer (Err e) v w = w ≡ v
 
 -- a regular file that was opened for reading
@@ -209,7 +216,8 @@ MayRefuseRead IsDir = Unit {0}
 MayRefuseRead Failed = Unit {0}
 MayRefuseRead e = ⊥
 
-pub record Reads (old : DiskState) (h : ℕ) (buffer : List ℕ) (result : Result ℕ DiskError) (new : DiskState) : Type 0 where
+pub record Reads (old : DiskState) (h : ℕ) (buffer : List ℕ) (result : Result ℕ DiskError) (new : DiskState)
+    : Type 0 where
   pub asks : Asks result old new
   pub within : IfOk result (λ n. n ≤ length buffer)
   pub only : IfErr result MayRefuseRead

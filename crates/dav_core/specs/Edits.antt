@@ -29,8 +29,8 @@ pub record SameOpens (v w : World) : Type 0 where
   pub opens : w.opens ≡ v.opens
   pub listings : w.listings ≡ v.listings
 
--- `m` is what an edit makes of `v`, and `w` is `m`, where numbers and times may be used up beside. Of a file that somebody
--- holds in `w`, and that was held in one of the two, bytes and time are those of `m`.
+-- `m` is what an edit makes of `v`, and `w` is `m`, where numbers and times may be used up beside. Of a file that
+-- somebody holds in `w`, and that was held in one of the two, bytes and time are those of `m`.
 pub record Becomes (v m w : World) : Type 0 where
   pub tree : w.tree ≡ m.tree
   pub files : (number : ℕ) → Holds w number → (Holds v number ⊎ Holds m number) × (w.files number ≡ m.files number)

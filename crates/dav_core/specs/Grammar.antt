@@ -70,8 +70,8 @@ kept_if (suc ups) kept = Err ForbiddenPath
 abbrev pub kept_of : Names → Result Names ParseError
 kept_of segments = kept_if (left_of segments).ups (left_of segments).kept
 
--- The same, told from the left: an empty segment and `.` are dropped; `..` drops the last segment kept, and where none is
--- left it is ForbiddenPath (the law `segments_are_kept`).
+-- The same, told from the left: an empty segment and `.` are dropped; `..` drops the last segment kept, and where none
+-- is left it is ForbiddenPath (the law `segments_are_kept`).
 abbrev pub without_last : Names → Result Names ParseError
 without_last [] = Err ForbiddenPath
 without_last (segment ∷ kept) = Ok (parent_of (segment ∷ kept))
@@ -90,7 +90,8 @@ decoded segment = name_of (percent_decode segment)
 
 abbrev pub all_decoded : Names → Result Names ParseError
 all_decoded [] = Ok []
-all_decoded (segment ∷ more) = and_then (decoded segment) (λ name. and_then (all_decoded more) (λ names. Ok (name ∷ names)))
+all_decoded (segment ∷ more) = and_then (decoded segment)
+    (λ name. and_then (all_decoded more) (λ names. Ok (name ∷ names)))
 
 -- the names that segments say, without regard to the prefix
 abbrev pub names_in : Names → Result Names ParseError
@@ -113,12 +114,17 @@ has_slash segments names = ends (last_name segments) || length names == 0
 
 abbrev pub placed : Names → Names → Names → Result WebPath ParseError
 placed segments prefix all =
-    and_then (below prefix all) (λ names. Ok (record { prefix = prefix; names = names; slash = has_slash segments names }))
+    and_then (below prefix all) (λ names. Ok (record {
+      prefix = prefix;
+      names = names;
+      slash = has_slash segments names;
+    }))
 
 -- the path that a text gives under a prefix
 abbrev pub parsed : List ℕ → List ℕ → Result WebPath ParseError
 parsed text prefix =
-    and_then (readable (before_query text)) (λ cut. and_then (names_in (segments cut)) (placed (segments cut) (prefix_names prefix)))
+    and_then (readable (before_query text)) (λ cut. and_then (names_in (segments cut))
+    (placed (segments cut) (prefix_names prefix)))
 
 -- a prefix as a server has it: nothing, or a text that begins with a slash and has plain names
 abbrev pub fits_prefix : List ℕ → Bool

@@ -10,8 +10,10 @@ use Rattle.dav_core.specs.declared.tree.Kind.{Kind}
 use Rattle.dav_core.specs.declared.tree.Kind.TheVariants.{Dir, File, Link}
 use Rattle.dav_core.specs.Info.{Info, said, is_in_years, known_time, known, whole_secs, natural, micros, hex, tag_at, tag_of, runs, info_of, IsInYears, AreInYears}
 
-or_unknown : (b : Bool) (time shown : FileTime) → is_in_years time.secs ≡ b → (if b then Some time else None) ≡ Some shown → is_in_years shown.secs ≡ true
-or_unknown true time shown in_years e = let same : time ≡ shown = cc in ap (λ (t : FileTime). is_in_years t.secs) (sym same) ∙ in_years
+or_unknown : (b : Bool) (time shown : FileTime) → is_in_years time.secs ≡ b → (if b then Some time else None)
+    ≡ Some shown → is_in_years shown.secs ≡ true
+or_unknown true time shown in_years e = let same : time ≡ shown = cc in ap (λ (t : FileTime). is_in_years t.secs)
+    (sym same) ∙ in_years
 or_unknown false time shown in_years e = cc
 
 known_in_years : (time : Option FileTime) → IsInYears (known time)
@@ -20,7 +22,8 @@ known_in_years (Some time) shown e = or_unknown (is_in_years time.secs) time sho
 
 whole_in_years : (time : Option FileTime) → IsInYears time → IsInYears (whole_secs time)
 whole_in_years None known shown e = cc
-whole_in_years (Some time) known shown e = let same : record time { nanos = 0 } ≡ shown = cc in ap (λ (t : FileTime). is_in_years t.secs) (sym same) ∙ known time refl
+whole_in_years (Some time) known shown e = let same : record time { nanos = 0 } ≡ shown = cc
+    in ap (λ (t : FileTime). is_in_years t.secs) (sym same) ∙ known time refl
 
 -- those of a disk's metadata do
 pub info_in_years : (m : Meta) → AreInYears (info_of m)

@@ -66,7 +66,8 @@ pub record Lists (old : DiskState) (path : Names) (result : Result Lister DiskEr
 
 -- The first of the names to come is given; None comes where none is left. A refused call gives none, and loses none.
 abbrev pub NextIn : ℕ → Result (Option (List ℕ)) DiskError → World → World → Type 0
-NextIn l (Ok (Some name)) v w = (rest : Names) × (v.listings l ≡ Some (name ∷ rest)) × (w ≡ with_listings v (put l (Some rest) v.listings))
+NextIn l (Ok (Some name)) v w = (rest : Names) × (v.listings l ≡ Some (name ∷ rest))
+    × (w ≡ with_listings v (put l (Some rest) v.listings))
 NextIn l (Ok None) v w = (v.listings l ≡ Some []) × (w ≡ v)
 NextIn l (Err e) v w = w ≡ v
 
@@ -85,7 +86,8 @@ MayRefuseNext e = ⊥
 abbrev pub IsNamed : Result (Option (List ℕ)) DiskError → Type 0
 IsNamed result = IfOk result (λ found. IfSome found (λ name. is_plain name ≡ true))
 
-pub record ListsOn (old : DiskState) (l : ℕ) (result : Result (Option (List ℕ)) DiskError) (new : DiskState) : Type 0 where
+pub record ListsOn (old : DiskState) (l : ℕ) (result : Result (Option (List ℕ)) DiskError) (new : DiskState)
+    : Type 0 where
   pub counted : IsCounted result old new
   pub only : IfErr result MayRefuseNext
   pub plain : IsNamed result

@@ -31,8 +31,11 @@ more_fits b text p q = both_fit (is_tag_byte b) (list_all is_tag_byte text) p q
 onto_fits : (k n : ℕ) (text : List ℕ) → fits text → fits (digits_onto k 16 false n text)
 onto_fits zero n text p = p
 onto_fits (suc k) n text p =
-    let more : fits (digit_glyph false (n % 16) ∷ text) = more_fits (digit_glyph false (n % 16)) text (glyph_fits (n % 16) (omega arith)) p in
-    either_fits (n / 16 == 0) (digit_glyph false (n % 16) ∷ text) (digits_onto k 16 false (n / 16) (digit_glyph false (n % 16) ∷ text)) more (onto_fits k (n / 16) (digit_glyph false (n % 16) ∷ text) more)
+    let more : fits (digit_glyph false (n % 16) ∷ text) = more_fits (digit_glyph false (n % 16)) text
+    (glyph_fits (n % 16) (omega arith)) p in
+    either_fits (n / 16 == 0) (digit_glyph false (n % 16) ∷ text)
+    (digits_onto k 16 false (n / 16) (digit_glyph false (n % 16) ∷ text)) more
+    (onto_fits k (n / 16) (digit_glyph false (n % 16) ∷ text) more)
 
 hex_fits : (n : ℕ) → fits (hex n)
 unfolding digits

@@ -24,7 +24,8 @@ marked weak text = option_map (λ tag. record { weak = weak; tag = tag }) text
 
 -- the tag that a text is
 abbrev pub tag_of : List ℕ → Option ETag
-tag_of text = if bytes_eq (take 2 text) (codes "W/") then marked true (unquoted (drop 2 text)) else marked false (unquoted text)
+tag_of text = if bytes_eq (take 2 text) (codes "W/") then marked true (unquoted (drop 2 text))
+    else marked false (unquoted text)
 
 -- a quote opens, and the next one closes
 abbrev pub after_byte : Bool → ℕ → Bool
@@ -33,7 +34,8 @@ after_byte quoted b = if b == 34 then not quoted else quoted
 -- the texts between the commas that don't stand between quotes
 abbrev pub members : Bool → List ℕ → List (List ℕ)
 members quoted [] = [] ∷ []
-members quoted (b ∷ bytes) = if b == 44 && not quoted then [] ∷ members false bytes else onto_first b (members (after_byte quoted b) bytes)
+members quoted (b ∷ bytes) = if b == 44 && not quoted then [] ∷ members false bytes
+    else onto_first b (members (after_byte quoted b) bytes)
 
 -- what a member without blanks says: nothing, or a tag
 abbrev pub said_in : List ℕ → Option (Option ETag)

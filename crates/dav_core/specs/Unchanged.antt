@@ -1,5 +1,5 @@
--- What calls keep of a disk: those that write nothing the worlds but for the open files, and every live handle but one's
--- own; and a write to an open file all but bytes and times.
+-- What calls keep of a disk: those that write nothing the worlds but for the open files, and every live handle but
+-- one's own; and a write to an open file all but bytes and times.
 use Rattle.std.specs.Prelude.{◌≡◌, ◌≢◌, ◌≤◌, ◌+◌, ◌==◌, ◌⊎◌, ℕ, List, Bool, true, false, IsTrue, Option, None, Some, Result, Ok, Err}
 use Rattle.std.proofs.Common.{refl, sym, ap, ◌∙◌, arith}
 use Rattle.std.proofs.lemmas.Bool.Decides.{nat_tests}

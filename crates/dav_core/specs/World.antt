@@ -21,7 +21,8 @@ pub record OpenFile : Type 0 where
 
 pub record World : Type 0 where
   pub tree : List Row
-  -- The files by their numbers, which are never given again. One that was removed stays as long as it is open, and may stay.
+  -- The files by their numbers, which are never given again. One that was removed stays as long as it is open, and may
+  -- stay.
   pub files : ℕ → Option Stored
   -- the open files by their handles
   pub opens : ℕ → Option OpenFile
@@ -66,7 +67,8 @@ pub record SameHeld (v w : World) : Type 0 where
   pub same : w ≡ record v { files = w.files }
   pub files : (number : ℕ) → Holds w number → w.files number ≡ v.files number
 
--- The same but for which files and listings are open. What somebody holds was held before, and has its bytes and its time.
+-- The same but for which files and listings are open. What somebody holds was held before, and has its bytes and its
+-- time.
 pub record SameBesidesOpens (v w : World) : Type 0 where
   pub tree : w.tree ≡ v.tree
   pub files : (number : ℕ) → Holds w number → Holds v number × (w.files number ≡ v.files number)
@@ -85,7 +87,8 @@ pub record IsGiven (greatest : ℕ) (latest : FileTime) (number : ℕ) (time : F
   pub past : NotAfter time latest
 
 -- The numbers and times of rows and of stored files are given ones, and the numbers of open files.
-pub record AreGiven (tree : List Row) (stored : ℕ → Option Stored) (open_at : ℕ → Option OpenFile) (greatest : ℕ) (latest : FileTime)
+pub record AreGiven (tree : List Row) (stored : ℕ → Option Stored) (open_at : ℕ → Option OpenFile) (greatest : ℕ)
+    (latest : FileTime)
     : Type 0 where
   pub rows : All (λ row. IsGiven greatest latest row.number row.time) tree
   pub files : (n : ℕ) (f : Stored) → stored n ≡ Some f → IsGiven greatest latest n f.time

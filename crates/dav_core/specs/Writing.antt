@@ -22,7 +22,8 @@ DoesIn may allowed (Err e) v w = Refused e allowed × LeftBy may allowed v w
 
 -- What the calls that name paths have in common: a refusal is one of theirs, what is open stays, and the told world is
 -- what the call makes of it.
-pub record Does (may : DiskError → Type 0) (In : World → World → Type 0) (old : DiskState) (result : Result Unit DiskError) (new : DiskState) : Type 0 where
+pub record Does (may : DiskError → Type 0) (In : World → World → Type 0) (old : DiskState)
+    (result : Result Unit DiskError) (new : DiskState) : Type 0 where
   pub asks : Asks result old new
   pub only : IfErr result may
   pub live : new.live ≡ old.live
@@ -69,7 +70,8 @@ RemovesFile old path result new = Does MayRefuseTakeFile
 -- Where it met a fault, what it moves may have been moved.
 abbrev pub Renames : DiskState → Names → Names → Result Unit DiskError → DiskState → Type 0
 Renames old from to result new = Does MayRefuseMove
-    (λ v w. is_linked v.tree from ≡ false → is_linked v.tree to ≡ false → DoesIn true (moving v.tree from to) result v w)
+    (λ v w. is_linked v.tree from ≡ false → is_linked v.tree to ≡ false
+    → DoesIn true (moving v.tree from to) result v w)
     old result new
 
 -- Where it met a fault, a front of the bytes may stand there.
@@ -115,7 +117,8 @@ MayRefuseWrite Failed = Unit {0}
 MayRefuseWrite NoMemory = Unit {0}
 MayRefuseWrite e = ⊥
 
-pub record Writes (old : DiskState) (h : ℕ) (from : List ℕ) (result : Result ℕ DiskError) (new : DiskState) : Type 0 where
+pub record Writes (old : DiskState) (h : ℕ) (from : List ℕ) (result : Result ℕ DiskError) (new : DiskState)
+    : Type 0 where
   pub asks : Asks result old new
   pub within : IfOk result (λ n. (0 < n) × (n ≤ length from))
   pub only : IfErr result MayRefuseWrite

@@ -120,7 +120,10 @@ impl DavPath {
     /// Adds a plain name, and drops the final slash. Where memory is refused, nothing changes.
     pub fn push_segment(&mut self, name: &str) -> Result<(), NoMemory>
         requires { is_plain name.now ≡ true }
-        ensures ok { OnOk result (self.new ≡ record self.old { names = self.old.names ++ name.now ∷ []; slash = false }) }
+        ensures ok { OnOk result (self.new ≡ record self.old {
+          names = self.old.names ++ name.now ∷ [];
+          slash = false;
+        }) }
         ensures err { OnErr result (self.new ≡ self.old) }
     {
         let mut names = copied(self.alloc, self.names.as_slice())?;
@@ -186,6 +189,7 @@ impl DavPath {
         }
     }
 
+    /// A copy, with memory of its own.
     pub fn try_clone(&self) -> Result<Self, NoMemory>
         ensures { IfOk result (λ copy. copy ≡ self.now) }
     {

@@ -29,9 +29,9 @@ pub trait Disk {
         ensures done { LinkMetas (state self.old) path.now result (state self.new) }
         ensures loan { loan self.new ≡ loan self.old };
 
-    /// Opens what stands at a path, at its first byte. With `create` or `create_new` a file is made where nothing stands,
-    /// open to everybody where `public` is set; with `create_new` nothing may stand there. With `truncate` and `write` a
-    /// file that stands there is emptied.
+    /// Opens what stands at a path, at its first byte. With `create` or `create_new` a file is made where nothing
+    /// stands, open to everybody where `public` is set; with `create_new` nothing may stand there. With `truncate` and
+    /// `write` a file that stands there is emptied.
     fn open(&mut self, path: &FsPath, how: OpenOptions, public: bool) -> Result<Handle, DiskError>
         ensures done { Opens (state self.old) path.now how result (state self.new) }
         ensures loan { loan self.new ≡ loan self.old };
@@ -56,8 +56,8 @@ pub trait Disk {
         ensures done { Reads (state self.old) file.0 into.new result (state self.new) }
         ensures loan { loan self.new ≡ loan self.old };
 
-    /// Writes bytes at an open file's place, or at its end where it was opened to append, and answers how many, at least
-    /// one. Zeros fill a gap before its place. A refused write may have written a front.
+    /// Writes bytes at an open file's place, or at its end where it was opened to append, and answers how many, at
+    /// least one. Zeros fill a gap before its place. A refused write may have written a front.
     fn write(&mut self, file: Handle, from: &[u8]) -> Result<usize, DiskError>
         requires live { IsSome ((state self.old).live file.0) }
         requires some { 0 < length from.now }
@@ -102,8 +102,8 @@ pub trait Disk {
         ensures done { RemovesFile (state self.old) path.now result (state self.new) }
         ensures loan { loan self.new ≡ loan self.old };
 
-    /// Moves what stands at a path to another, with all below it: a file in place of a file, a directory in place of one
-    /// without members, or where nothing stands. A rename that met a fault may have been made.
+    /// Moves what stands at a path to another, with all below it: a file in place of a file, a directory in place of
+    /// one without members, or where nothing stands. A rename that met a fault may have been made.
     fn rename(&mut self, from: &FsPath, to: &FsPath) -> Result<(), DiskError>
         ensures done { Renames (state self.old) from.now to.now result (state self.new) }
         ensures loan { loan self.new ≡ loan self.old };

@@ -121,7 +121,8 @@ fn keep<'a>(kept: &mut Vec<&'a [u8]>, segment: &'a [u8]) -> Result<(), ParseErro
 fn kept_of<'a>(alloc: Global, segments: &[&'a [u8]]) -> Result<Vec<&'a [u8]>, ParseError>
     ensures ok { IfOk result (λ kept. grammar.kept_of (map (λ s. s.now) segments.now) ≡ Ok
         (map (λ s. s.now) kept.items)) }
-    ensures err { IfErr result (λ e. e ≢ ParseError.NoMemory → grammar.kept_of (map (λ s. s.now) segments.now) ≡ Err e) }
+    ensures err { IfErr result (λ e. e ≢ ParseError.NoMemory → grammar.kept_of (map (λ s. s.now) segments.now)
+        ≡ Err e) }
 {
     let mut kept = Vec::new(alloc);
     for segment in segments {
@@ -171,7 +172,8 @@ fn decoded(alloc: Global, segment: &[u8]) -> Result<Text, ParseError>
 // The names that kept segments say.
 fn all_decoded(alloc: Global, kept: &[&[u8]]) -> Result<Vec<Text>, ParseError>
     ensures ok { IfOk result (λ names. grammar.all_decoded (map (λ s. s.now) kept.now) ≡ Ok names.items) }
-    ensures err { IfErr result (λ e. e ≢ ParseError.NoMemory → grammar.all_decoded (map (λ s. s.now) kept.now) ≡ Err e) }
+    ensures err { IfErr result (λ e. e ≢ ParseError.NoMemory → grammar.all_decoded (map (λ s. s.now) kept.now)
+        ≡ Err e) }
 {
     let mut names = Vec::new(alloc);
     for segment in kept {
@@ -183,7 +185,8 @@ fn all_decoded(alloc: Global, kept: &[&[u8]]) -> Result<Vec<Text>, ParseError>
 // The names that segments say, without regard to the prefix.
 pub fn names_in(alloc: Global, segments: &[&[u8]]) -> Result<Vec<Text>, ParseError>
     ensures ok { IfOk result (λ names. grammar.names_in (map (λ s. s.now) segments.now) ≡ Ok names.items) }
-    ensures err { IfErr result (λ e. e ≢ ParseError.NoMemory → grammar.names_in (map (λ s. s.now) segments.now) ≡ Err e) }
+    ensures err { IfErr result (λ e. e ≢ ParseError.NoMemory → grammar.names_in (map (λ s. s.now) segments.now)
+        ≡ Err e) }
     ensures plain { IfOk result (λ names. all_plain names.items ≡ true) }
 {
     let kept = match kept_of(alloc, segments) {

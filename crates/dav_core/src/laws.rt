@@ -35,8 +35,8 @@ pub fn paths_stay_paths()
     ensures slash { (path : WebPath) → IsPath path → IsPath (record path { slash = true }) }
 {}
 
-/// A link is parsed back to its path: `from_str_and_prefix` of what `as_url_string` writes, under the same prefix, is the
-/// path again.
+/// A link is parsed back to its path: `from_str_and_prefix` of what `as_url_string` writes, under the same prefix, is
+/// the path again.
 pub fn links_parse_back()
     ensures { (path : WebPath) (prefix : List ℕ) → IsPath path → prefix_names prefix ≡ path.prefix
         → parsed (link_of (shown path)) prefix ≡ Ok path }

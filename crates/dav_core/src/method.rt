@@ -85,30 +85,35 @@ pub struct DavMethodSet {
 }
 
 impl DavMethodSet {
+    /// The set without a method.
     pub fn none() -> DavMethodSet
         ensures { (m : AnyMethod) → is_in result m ≡ false }
     {
         DavMethodSet { has: [false; 16] }
     }
 
+    /// The set of all methods.
     pub fn all() -> DavMethodSet
         ensures { (m : AnyMethod) → is_in result m ≡ true }
     {
         DavMethodSet { has: [true; 16] }
     }
 
+    /// Puts a method into the set. One that is in it stays.
     pub fn add(&mut self, m: DavMethod)
         ensures { (x : AnyMethod) → is_in self.new x ≡ (same_method x m || is_in self.old x) }
     {
         self.has[m.place()] = true;
     }
 
+    /// Takes a method out of the set, where it is in it.
     pub fn remove(&mut self, m: DavMethod)
         ensures { (x : AnyMethod) → is_in self.new x ≡ (not (same_method x m) && is_in self.old x) }
     {
         self.has[m.place()] = false;
     }
 
+    /// Whether a method is in the set.
     pub fn contains(&self, m: DavMethod) -> bool
         ensures { result ≡ is_in self.now m }
     {

@@ -40,6 +40,7 @@ impl FsPath {
         names.iter().all(|name| is_plain(name.as_slice()))
     }
 
+    /// A path of these names, from the root downwards. Each is to be a plain name, as `fits` tells.
     pub fn new(names: Vec<Text>) -> Self
         requires { all_plain names.items ≡ true }
         ensures { result ≡ names.items }
@@ -71,6 +72,7 @@ impl FsPath {
         Ok(FsPath::new(names))
     }
 
+    /// A copy, with memory of its own.
     pub fn try_clone(&self) -> Result<Self, NoMemory>
         ensures copy { IfOk result (λ copy. copy ≡ self.now) }
         ensures plain { all_plain self.now ≡ true }

@@ -25,6 +25,7 @@ pub struct Row {
 }
 
 impl Row {
+    /// A copy, with memory of its own.
     pub fn try_clone(&self) -> Result<Self, NoMemory>
         ensures { IfOk result (λ copy. copy ≡ self.now) }
     {
@@ -127,6 +128,7 @@ impl Tree {
         is_apart(rows)
     }
 
+    /// A tree of these rows, which are to be those of a tree, as `fits` tells.
     pub fn new(rows: Vec<Row>) -> Self
         requires { is_tree rows.items ≡ true }
         ensures { result ≡ rows.items }
@@ -134,6 +136,7 @@ impl Tree {
         Tree { rows }
     }
 
+    /// The rows, in their order.
     pub fn as_slice(&self) -> &[Row]
         ensures value { result.now ≡ self.now }
         ensures tree { is_tree self.now ≡ true }
@@ -141,6 +144,7 @@ impl Tree {
         self.rows.as_slice()
     }
 
+    /// A copy, with memory of its own.
     pub fn try_clone(&self) -> Result<Self, NoMemory>
         ensures { IfOk result (λ copy. copy ≡ self.now) }
     {

@@ -108,14 +108,6 @@ path_test dir at name added =
 
 -- ---- an index of rows
 
--- no rows
-pub none_indexed : (p : Places) → ((dir : Names) (name : List ℕ) → place_in p dir name ≡ None) → (rows : List Row) → rows ≡ [] → Indexes p rows
-none_indexed p none rows e = record { places = λ dir name. none dir name ∙ sym (ap (place_of (dir ++ name ∷ [])) e) }
-
--- the same places
-pub kept_indexed : (p q : Places) (old new : List Row) → Indexes p old → IsKept p q → new ≡ old → Indexes q new
-kept_indexed p q old new h kept e = record { places = λ dir name. kept dir name ∙ h.places dir name ∙ sym (ap (place_of (dir ++ name ∷ [])) e) }
-
 -- a row that is appended, where its path is a name in a directory
 pub row_indexed : (p q : Places) (old new : List Row) (row : Row) (at : Names) (added : List ℕ) (n : ℕ) → Indexes p old → IsAdded at added n p q → row.path ≡ at ++ added ∷ [] → n ≡ length old
     → new ≡ old ++ row ∷ [] → Indexes q new

@@ -108,7 +108,8 @@ impl Drawn {
 
     // A file with these bytes at a free path under a directory.
     pub fn add_file(&mut self, path: &FsPath, bytes: &[u8]) -> Result<(), NoMemory>
-        ensures { OnOk result ((w : World) → drawn_in self.new w ≡ file_added (drawn_in self.old w) path.now bytes.now) }
+        ensures { OnOk result ((w : World) → drawn_in self.new w
+            ≡ file_added (drawn_in self.old w) path.now bytes.now) }
     {
         if !is_free(&self.rows, path.as_slice()) || self.greatest == u64::MAX {
             return Ok(());
@@ -158,7 +159,8 @@ impl Drawn {
 
     // What stands at a path goes, with all below it.
     fn remove(&mut self, path: &FsPath) -> Result<(), NoMemory>
-        ensures { OnOk result ((w : World) → drawn_in self.new w ≡ removed_found (found (drawn_in self.old w).tree path.now)
+        ensures { OnOk result ((w : World) → drawn_in self.new w
+            ≡ removed_found (found (drawn_in self.old w).tree path.now)
             (drawn_in self.old w)) }
     {
         let names = path.as_slice();
@@ -195,9 +197,11 @@ impl Drawn {
         self.latest = time;
     }
 
-    // The rows of a path are moved to another in place of what stands there, and the directory that they leave gets a time.
+    // The rows of a path are moved to another in place of what stands there, and the directory that they leave gets a
+    // time.
     fn place(&mut self, from: &[Text], to: &FsPath, time: FileTime) -> Result<(), NoMemory>
-        ensures { OnOk result ((w : World) → drawn_in self.new w ≡ placed_at (drawn_in self.old w) from.now to.now time) }
+        ensures { OnOk result ((w : World) → drawn_in self.new w
+            ≡ placed_at (drawn_in self.old w) from.now to.now time) }
     {
         let alloc: Global = self.rows.allocator();
         let kept = rows_without(alloc, self.rows.as_slice(), to.as_slice())?;

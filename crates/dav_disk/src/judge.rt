@@ -61,7 +61,8 @@ pub fn may_take_file(rows: &IndexedRows, path: &[Text]) -> Result<(), DiskError>
 // Whether something of this kind may go in place of what stands where it is moved to.
 fn may_replace(rows: &IndexedRows, row: &Row, there: &Row) -> Result<(), DiskError>
     ensures { MatchResult result
-        (λ x. (to : List (List ℕ)) → moving_over rows.now row.now to (Some there.now) ≡ Ok (Some (moves row.now.path to)))
+        (λ x. (to : List (List ℕ)) → moving_over rows.now row.now to (Some there.now)
+        ≡ Ok (Some (moves row.now.path to)))
         (λ e. (to : List (List ℕ)) → moving_over rows.now row.now to (Some there.now) ≡ Err e) }
 {
     if row.kind != Kind::Dir {

@@ -66,8 +66,8 @@ impl MemDisk {
         })
     }
 
-    /// Whether a row of this number and time may be set at a path, as `add_dir` and `add_file` need it: the path is free
-    /// under a directory, the number is new and below 2^63, and the time is before the year 10000.
+    /// Whether a row of this number and time may be set at a path, as `add_dir` and `add_file` need it: the path is
+    /// free under a directory, the number is new and below 2^63, and the time is before the year 10000.
     pub fn can_add(&self, path: &FsPath, number: u64, time: FileTime) -> bool
         ensures { result ≡ the_can_add (mem_world self.now) path.now number time }
     {

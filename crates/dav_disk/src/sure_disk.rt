@@ -8,8 +8,8 @@ use dav_core::{Change, Disk, DiskError, FileTime, FsPath, Handle, Lister, Meta, 
 use dav_io::{NoMemory, Text};
 use std::alloc::Global;
 
-/// A disk in memory that tells its world. Its reads are whole. It fails only in a call that needs a next number or a next
-/// tick where none is left.
+/// A disk in memory that tells its world. Its reads are whole. It fails only in a call that needs a next number or a
+/// next tick where none is left.
 #[derive(Drop)]
 pub struct SureDisk {
     memory: Memory,
@@ -39,8 +39,8 @@ impl SureDisk {
         })
     }
 
-    /// Whether a row of this number and time may be set at a path, as `add_dir` and `add_file` need it: the path is free
-    /// under a directory, the number is new and below 2^63, and the time is before the year 10000.
+    /// Whether a row of this number and time may be set at a path, as `add_dir` and `add_file` need it: the path is
+    /// free under a directory, the number is new and below 2^63, and the time is before the year 10000.
     pub fn can_add(&self, path: &FsPath, number: u64, time: FileTime) -> bool
         ensures { result ≡ the_can_add (sure_world self.now) path.now number time }
     {
@@ -313,7 +313,8 @@ impl Disk for SureDisk {
         self.memory.turn()
     }
 
-    ghost world = { λ d w e. told_world (sure_world d) w d.memory.tree d.memory.plain d.memory.stored d.memory.given e };
+    ghost world = { λ d w e. told_world (sure_world d) w d.memory.tree d.memory.plain d.memory.stored d.memory.given
+        e };
 
     ghost tells_live = { λ d. told_live d.memory d.met d.asked true };
 }

@@ -47,7 +47,8 @@ pub fn place<'a>(rows: &'a IndexedRows, path: &[Text]) -> Result<Option<&'a Row>
 
 // The row at a path, or what a call on it is refused with.
 pub fn look<'a>(rows: &'a IndexedRows, path: &[Text]) -> Result<&'a Row, DiskError>
-    ensures found { MatchResult result (λ r. found rows.now path.now ≡ Ok r.now) (λ e. found rows.now path.now ≡ Err e) }
+    ensures found { MatchResult result (λ r. found rows.now path.now ≡ Ok r.now)
+        (λ e. found rows.now path.now ≡ Err e) }
     ensures path { IfOk result (λ r. r.now.path ≡ path.now) }
 {
     match place(rows, path) {

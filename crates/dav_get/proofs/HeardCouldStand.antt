@@ -313,34 +313,3 @@ module _ {S C F L E : Type 0} (view : View S C F) (lists : Listings S C L E) (q 
         plain = inl refl;
         right = inr (failed_looked view q (Ok (stood_of there)) (shown_alike (Ok (stood_of there)) nothing none_listed) _ failed, rose_through _ _ _ _ (omega arith) rose counts);
       }
-
-  heard_by : (few : RefusesFew view lists) (b : Bool) (there : Standing) (other : Result Standing FsError) (c : C) → is_well_known q.settings q.method q.path ≡ b
-      → Shows view s c q.path (Ok there) other → Heard view lists q c s result t → IsRightThere there
-  heard_by few false there other c plain shows h =
-      let (m, look, keeps, hears) = h.hears plain in
-      let right = subst (λ b. IsPlacedOr q (cond b known (due_looked (shown_heard h.looked h.opened h.listed) q (looked_of h.looked))) Rises (reply_at {F = F} q.fields (or_zero h.number) result)) plain h.right in
-      let found = look_there few there h.looked c h.number h.opened h.listed m (shows.looks_there s m h.looked here look) h.looked_had h.opened_had h.listed_had keeps.counts right hears in
-      record {
-        opened = found.opened;
-        listed = found.listed;
-        number = h.number;
-        could = found.could;
-        plain = found.plain;
-        right = subst (λ b. IsForDue (cond b known (due_looked (shown_alike (Ok (stood_of there)) found.opened found.listed) q (Ok (stood_of there)))) (or_zero h.number)) (sym plain) found.right;
-        file = h.file;
-      }
-  heard_by few true there other c known_page shows h =
-      let right = subst (λ b. IsPlacedOr q (cond b known (due_looked (shown_heard h.looked h.opened h.listed) q (looked_of h.looked))) Rises (reply_at {F = F} q.fields (or_zero h.number) result)) known_page h.right in
-      record {
-        opened = nothing;
-        listed = none_listed;
-        number = h.number;
-        could = inl refl;
-        plain = inl refl;
-        right = subst (λ b. IsForDue (cond b known (due_looked (shown_alike (Ok (stood_of there)) nothing none_listed) q (Ok (stood_of there)))) (or_zero h.number)) (sym known_page) (placed q known Rises _ right);
-        file = h.file;
-      }
-
-  -- Where the store shows what stands at the path, the answer is right for that and for something that could be opened.
-  pub heard_there : RefusesFew view lists → (there : Standing) (other : Result Standing FsError) (c : C) → Shows view s c q.path (Ok there) other → Heard view lists q c s result t → IsRightThere there
-  heard_there few there other c shows h = heard_by few (is_well_known q.settings q.method q.path) there other c refl shows h

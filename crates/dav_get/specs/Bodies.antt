@@ -148,7 +148,8 @@ pub record IsPolled {F : Type 0} (handle : F → ℕ) (seen : F → DiskState �
     (answer : Answer) (t : DiskState) (c : GetBody F) : Type 0 where
   pub does : Polls handle seen s b answer t c
   pub right : (told : Option World) (parts : List Part) → StandsIn seen s told b.file → HasParts seen s parts b
-      → (rest : List Part) × HasParts seen t rest c × PollsParts told s.whole b.most (Rose s.faults t.faults) parts answer rest
+      → (rest : List Part) × HasParts seen t rest c
+      × PollsParts told s.whole b.most (Rose s.faults t.faults) parts answer rest
 
 -- the text that stands first
 abbrev pub text_of : List BodyPart → List ℕ

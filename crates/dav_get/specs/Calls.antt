@@ -19,15 +19,19 @@ abbrev pub AsksToOpen : {F : Type 0} → Result F FsError → DiskState → Disk
 AsksToOpen (Ok file) s t = AsksOnce s t
 AsksToOpen (Err e) s t = AsksAtMostOnce s t
 
--- Where this holds of the store, which a look leaves, the store asks its disk once to look at a path, unless memory is refused,
--- and at most once to open it; where it refuses a listing, at most once.
-pub record AsksByOne {S C F L E : Type 0} (view : View S C F) (lists : Listings S C L E) (holds : S → Bool) : Type 0 where
+-- Where this holds of the store, which a look leaves, the store asks its disk once to look at a path, unless memory is
+-- refused, and at most once to open it; where it refuses a listing, at most once.
+pub record AsksByOne {S C F L E : Type 0} (view : View S C F) (lists : Listings S C L E) (holds : S → Bool)
+    : Type 0 where
   pub looks : (s t : S) (c : C) (path : WebPath) (r : Result Info FsError) → holds s ≡ true → view.looks s c path r t
       → AsksToGive r (view.state s) (view.state t)
-  pub stays : (s t : S) (c : C) (path : WebPath) (r : Result Info FsError) → holds s ≡ true → view.looks s c path r t → holds t ≡ true
-  pub opens : (s t : S) (c : C) (path : WebPath) (o : Result F FsError) → holds s ≡ true → view.opens s c path reading o t
+  pub stays : (s t : S) (c : C) (path : WebPath) (r : Result Info FsError) → holds s ≡ true → view.looks s c path r t
+      → holds t ≡ true
+  pub opens : (s t : S) (c : C) (path : WebPath) (o : Result F FsError) → holds s ≡ true
+      → view.opens s c path reading o t
       → AsksToOpen o (view.state s) (view.state t)
-  pub refuses_list : (s t : S) (c : C) (path : WebPath) (e : FsError) → holds s ≡ true → lists.lists s c path Data (Err e) t
+  pub refuses_list : (s t : S) (c : C) (path : WebPath) (e : FsError) → holds s ≡ true
+      → lists.lists s c path Data (Err e) t
       → AsksAtMostOnce (view.state s) (view.state t)
 
 -- the status of an answer

@@ -108,8 +108,8 @@ module _ {S C F L E : Type 0} (view : View S C F) (lists : Listings S C L E) (q 
   HearsLook (Ok info) c number s opened listed t = HearsCourse (course q info.kind) c number s opened listed t
 
   -- What a look at the path answered, and what opening or listing it led to: an open file, members, or a call that was
-  -- refused. The answer is right for it. (A fault is the store's refusal with 500 here.) The page of a well-known server is given without a
-  -- look.
+  -- refused. The answer is right for it. (A fault is the store's refusal with 500 here.) The page of a well-known
+  -- server is given without a look.
   pub record Heard (c : C) (s : S) (result : Given F) (t : S) : Type 0 where
     pub looked : Result Info FsError
     pub opened : Result Stood FsError
@@ -121,7 +121,8 @@ module _ {S C F L E : Type 0} (view : View S C F) (lists : Listings S C L E) (q 
     pub looked_had : WasHad looked
     pub opened_had : WasHad opened
     pub listed_had : WasHad listed
-    pub right : IsPlacedOr q (due (shown_heard looked opened listed) q) (Rose (view.state s).faults (view.state t).faults)
+    pub right : IsPlacedOr q (due (shown_heard looked opened listed) q)
+        (Rose (view.state s).faults (view.state t).faults)
         (reply_at q.fields (or_zero number) result)
     pub file : IsOfNumber view number t result
 

@@ -13,7 +13,11 @@ use Rattle.dav_get.specs.Table.{Given}
 
 -- What is answered to a request with these fields, with slices of the file of this number. An error is a refusal.
 abbrev pub reply_at : {F : Type 0} → Fields → ℕ → Given F → Reply
-reply_at fields number (Ok r) = record { status = r.0.status; fields = r.0.fields; parts = parts_of number (left_of r.1) }
+reply_at fields number (Ok r) = record {
+  status = r.0.status;
+  fields = r.0.fields;
+  parts = parts_of number (left_of r.1);
+}
 reply_at fields number (Err e) = refusal fields (status_of e) (closes e)
 
 -- the number of an open file, where it is told

@@ -198,10 +198,10 @@ fn method_for(head: bool) -> DavMethod
     DavMethod::Get
 }
 
-/// Lists the directory at the path, and gives its page: status 200, its type, and to a GET the texts of the page, of the
-/// members whose metadata the store gives, up to the end of the listing or a fault. Where `head` is set, no entry is read
-/// and no text given. The listing is ended, and nothing is left open. An error is 405 with a close where the settings
-/// permit no page, or the store's refusal.
+/// Lists the directory at the path, and gives its page: status 200, its type, and to a GET the texts of the page, of
+/// the members whose metadata the store gives, up to the end of the listing or a fault. Where `head` is set, no entry
+/// is read and no text given. The listing is ended, and nothing is left open. An error is 405 with a close where the
+/// settings permit no page, or the store's refusal.
 ///
 /// `table` tells which call of the store gave the answer. `page` says that the texts, joined, are a page of this
 /// directory whose rows are those of some members with plain names, in order, whatever the store says.

@@ -267,8 +267,9 @@ impl<F> GetBody<F> {
         Ok(room)
     }
 
-    /// The next piece, as `poll_piece` gives it, in memory of its own, as an answer. It takes no memory: a piece of a file
-    /// is given in the body's buffer, in whose place the room stands from then on, and a text is copied into the room.
+    /// The next piece, as `poll_piece` gives it, in memory of its own, as an answer. It takes no memory: a piece of a
+    /// file is given in the body's buffer, in whose place the room stands from then on, and a text is copied into the
+    /// room.
     pub fn take_piece<D: Disk>(&mut self, disk: &mut D, room: Vec<u8>) -> Answer
     where
         F: DavFile<D>,

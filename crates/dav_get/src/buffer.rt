@@ -15,8 +15,8 @@ pub struct ReadBuffer {
 }
 
 impl ReadBuffer {
-    /// Room for pieces of at most `read_size` bytes of a file, and of at most 4,096 zeros. It is no longer than the longest
-    /// slice, which has `longest` bytes.
+    /// Room for pieces of at most `read_size` bytes of a file, and of at most 4,096 zeros. It is no longer than the
+    /// longest slice, which has `longest` bytes.
     pub fn new(alloc: Global, read_size: usize, longest: u64) -> Result<Self, NoMemory>
         requires { 0 < read_size }
         ensures { IfOk result (λ buffer. (buffer.most ≡ read_size) × (vec_len buffer.bytes ≡ min longest (max read_size

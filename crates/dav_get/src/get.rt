@@ -475,8 +475,8 @@ fn is_well_known(asked: &Asked<'_>) -> bool
 /// several, and the body that gives them. A directory whose path has no final slash is answered with that address;
 /// under one with a slash its index file stands for it, where one is set. An error is the store's refusal, 405 for what
 /// is neither a directory nor a regular file, 404 for an index file whose name isn't plain, or 405 with a close for a
-/// directory of which no page is permitted. Where one is, it is given. A file that was opened is closed again, or held by
-/// the body; a listing is ended.
+/// directory of which no page is permitted. Where one is, it is given. A file that was opened is closed again, or held
+/// by the body; a listing is ended.
 ///
 /// `table` tells which call of the store gave the answer. `framed` says that its field `content-length` is the length
 /// of the body, and that a HEAD and 304 have none. `sound` says that no part of the body is empty, and that 204 has
@@ -504,7 +504,8 @@ pub fn handle_get<S: GuardedFileSystem<C>, C>(
         (the_listings S.GuardedFileSystem S.Entry.DavDirEntry)
         (query settings.now fields.now method path.now) credentials.now fs.old result fs.new }
     ensures right { (looked opened : WebPath → Result Standing FsError)
-        (listed : WebPath → Result (List Member) FsError) → ShowsFor (the_view S.GuardedFileSystem S.Disk.Disk S.File.DavFile)
+        (listed : WebPath → Result (List Member) FsError)
+        → ShowsFor (the_view S.GuardedFileSystem S.Disk.Disk S.File.DavFile)
         (the_listings S.GuardedFileSystem S.Entry.DavDirEntry) fs.old credentials.now
         (query settings.now fields.now method path.now) looked opened listed
         → (result ≡ Err DavError.NoMemory) ⊎ IsRightFor (the_view S.GuardedFileSystem S.Disk.Disk S.File.DavFile)

@@ -57,10 +57,6 @@ use Rattle.dav_handler.proofs.Frames.{no_slices, texts_any}
 reply_refused : (t : DiskState) (fields : Fields) (status : ℕ) (close : Bool) (found : Found) → IsAlone (refusal fields status close) found → reply_of t found ≡ refusal fields status close
 reply_refused t fields status close found is = rw (is.status, is.fields, is.body) refl
 
--- what OPTIONS is told likewise
-reply_told : (t : DiskState) (allow : Option DavMethodSet) (found : Found) → IsAlone (allowing allow false) found → reply_of t found ≡ allowing allow false
-reply_told t allow found is = rw (is.status, is.fields, is.body) refl
-
 -- nothing was asked
 pub stays_same : (o : Over) → Stays o o
 stays_same o = record { rules = refl; learns = learns_same o.disk.told o.by.knows o.by.knows refl }
@@ -78,16 +74,6 @@ pub stays_write : (settings : Settings) (v w : Ways) (m n : MemoryState) (s t : 
     → Stays (record { by = record { rules = rules_with settings v; knows = knowledge_of m }; disk = s }) (record { by = record { rules = rules_with settings w; knows = knowledge_of n }; disk = t })
 stays_write settings v w m n s t same learns = stays_read settings v w m n s t same (nothing_learned s.told m n learns)
 
--- OPTIONS asks nothing.
-pub methods_answers : (o : Over) (said : Said) (result : Result Found NoMemory) → IfOk result (IsAlone (allowing o.by.rules.settings.allow false))
-    → Finds o said Methods result o
-methods_answers o said (Err x) is = record { stays = stays_same o; keeps = open_same o.disk; makes = λ e. leaves_same o.disk; asks = refl }
-methods_answers o said (Ok found) is = record {
-  stays = stays_same o;
-  holds = subst (λ b. HoldsOnly (read_size_of o.by.rules.settings.read_buf_size) o.disk b o.disk) (sym is.body) (open_same o.disk);
-  makes = leaves_same o.disk;
-  right = reply_told o.disk o.by.rules.settings.allow found is;
-  asks = refl;
 }
 
 -- What the gates refuse.

@@ -90,7 +90,8 @@ ClosesBody None s t = t ≡ s
 ClosesBody (Some b) s t = Closes handle_of s b.file t
 
 -- A body of the table was polled.
-pub record PollsBody (bodies : ℕ → Option Body) (k : ℕ) (s : DiskState) (answer : Answer) (t : DiskState) (after : ℕ → Option Body) : Type 0 where
+pub record PollsBody (bodies : ℕ → Option Body) (k : ℕ) (s : DiskState) (answer : Answer) (t : DiskState)
+    (after : ℕ → Option Body) : Type 0 where
   pub before : Body
   pub now : Body
   pub there : bodies k ≡ Some before

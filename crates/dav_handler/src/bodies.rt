@@ -13,8 +13,8 @@ use dav_store::DavFileSystem;
 use std::alloc::{AllocFailed, Global};
 use std::collections::BTreeMap;
 
-/// The bodies that are open, by the numbers of their replies. That of reply 0 stands beside the map, so that a player of
-/// one request takes no memory for it.
+/// The bodies that are open, by the numbers of their replies. That of reply 0 stands beside the map, so that a player
+/// of one request takes no memory for it.
 #[derive(Drop)]
 pub struct Bodies {
     pub first: Option<GetBody<LocalFsFile>>,
@@ -91,7 +91,8 @@ pub fn end_body<D: Disk, R: RememberAny>(bodies: &mut Bodies, store: &mut LocalF
     }
 }
 
-/// Polls the body of a number. Its piece is given in the room that was made ready for it, or for which that one stands in.
+/// Polls the body of a number. Its piece is given in the room that was made ready for it, or for which that one stands
+/// in.
 #[tactic(auto, unfolding(crate::specs::Held::body_at))]
 pub fn poll_body<D: Disk, R: RememberAny>(
     bodies: &mut Bodies,

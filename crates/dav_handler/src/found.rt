@@ -142,7 +142,8 @@ fn change<D: Disk, R: RememberAny>(
 ) -> Result<Outcome, DavError>
     ensures table { Changes (the_view ⟦<LocalFs<D, R> as GuardedFileSystem<()>>⟧ D.Disk ⟦<LocalFsFile as DavFile<D>>⟧)
         (the_listings ⟦<LocalFs<D, R> as GuardedFileSystem<()>>⟧ ⟦<LocalFsDirEntry as DavDirEntry<D>>⟧)
-        ⟦<LocalFsFile as DavFile<D>>⟧.writes tt method prefix.now path.now fields.now body.now store.old result store.new }
+        ⟦<LocalFsFile as DavFile<D>>⟧.writes tt method prefix.now path.now fields.now body.now store.old result
+        store.new }
     ensures keeps { KeepsOpen (D.state store.old.disk) (D.state store.new.disk) }
     ensures loan { D.loan store.new.disk ≡ D.loan store.old.disk }
 {

@@ -20,7 +20,8 @@ use http::Request;
 use std::alloc::Global;
 use std::mem;
 
-/// Answers steps over a disk. It numbers its replies from 0, and keeps the body of each reply of which something is left.
+/// Answers steps over a disk. It numbers its replies from 0, and keeps the body of each reply of which something is
+/// left.
 pub struct Player<D: Disk, R: RememberAny> {
     alloc: Global,
     settings: Settings,
@@ -54,8 +55,11 @@ impl<D: Disk, R: RememberAny> Player<D, R> {
     // A player over a store, by these settings.
     fn over(alloc: Global, settings: Settings, store: LocalFs<D, R>) -> Self
         ensures loan { D.loan result.store.disk ≡ D.loan store.disk }
-        ensures stage { stage_of result ≡ record
-            { at = D.state store.disk; playing = playing_by (by_store R.state settings store) 0 (λ _. []) (λ _. None) } }
+        ensures stage { stage_of result ≡ record {
+          at = D.state store.disk;
+          playing = playing_by (by_store R.state settings store) 0 (λ _. [])
+              (λ _. None);
+        } }
     {
         Player {
             alloc,

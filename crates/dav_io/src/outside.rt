@@ -41,8 +41,8 @@ impl<S: Sink> Sink for &mut S {
     }
 }
 
-/// Gives bytes, in their order, to one who shows what was written before. It may be asked only where that suffices: a client
-/// that waits for an answer isn't asked for more.
+/// Gives bytes, in their order, to one who shows what was written before. It may be asked only where that suffices: a
+/// client that waits for an answer isn't asked for more.
 pub trait Client<K: Sink> {
     /// The bytes left, where the client tells them, and the count of faults.
     ghost stream: { Self → Stream };

@@ -108,9 +108,6 @@ walks_recalled p q names at found recalls is = walks (subst (λ f. Recalls p nam
       rows = recalls.rows;
     }
 
-pub walks_forgotten : (p q : Place) (names : Names) (e : FsError) → Recalls p names (Err e) q → Walks p names (Err e) q
-walks_forgotten p q names e recalls = let is : e ≡ FsError.NoMemory = error_of e recalls.starved.0 in rw is (walk_starved p q names recalls.keeps recalls.rows)
-
 pub walks_unknown : (p m q : Place) (names : Names) (found : Option Names) (r : Result Names FsError) → Recalls p names (Ok found) m → found ≡ None → Walks m names r q → Walks p names r q
 walks_unknown p m q names found r recalls is walks = walks_after p m q names r recalls.keeps recalls.rows walks
 
@@ -131,9 +128,6 @@ saves_unknown p m q names found r recalls is walks = λ nothing other held.
       room = omega (arith, nothing.room, walks.keeps.keeps.counts);
     } in
     let (same, once) = recalls.saved so_far other held in none_some other (sym is ∙ same)
-
-pub saves_forgotten : (p q : Place) (names : Names) (e : FsError) → Recalls p names (Err e) q → SavesCalls p names (Err e) q
-saves_forgotten p q names e recalls = λ nothing other held. inr (ap (λ x. Err x) (error_of e recalls.starved.0), recalls.starved.1)
 
 -- ---- as it stands
 
@@ -158,34 +152,14 @@ walk_copied p t names m (Ok at) metas keeps same starved = walk_whole p t names 
 walk_copied p t names m (Err e) metas keeps same starved =
     let is : e ≡ FsError.NoMemory = error_of e starved in rw is (walk_starved p (record p { disk = t }) names (place_disk p t keeps) (rows_same p (record p { disk = t }) refl))
 
-pub walk_failed : (p : Place) (t : DiskState) (names : Names) → Keeps p.disk t → Rose p.disk.faults t.faults → Walks p names (Err FsError.GeneralFailure) (record p { disk = t })
-walk_failed p t names keeps rose =
-    record { keeps = place_disk p t keeps; refused = inl (refl, rose); alike = tt; told = tt; first = tt; rows = rows_same p (record p { disk = t }) refl }
-
 pub walks_missing : (p q : Place) (t : DiskState) (names : Names) (r : Result Names FsError) → Keeps p.disk t → Walks (record p { disk = t }) names r q → Walks p names r q
 walks_missing p q t names r keeps walks = walks_after p (record p { disk = t }) q names r (place_disk p t keeps) (rows_same p (record p { disk = t }) refl) walks
 
--- the root is where it is
-root_walks : (p : Place) (at : Names) → at ≡ [] → Walks p [] (Ok at) p
-root_walks p at is = record {
-  keeps = place_same p;
-  refused = tt;
-  alike = ap fold_path is;
-  told = λ w told tree. ([], refl, λ clear. is);
-  first = λ e tree. ok_error e.row e.error (sym e.stands ∙ ap (look e.world.tree) is ∙ e.missing);
-  rows = rows_same p p refl;
 }
 
 no_names : (names : Names) → length names ≡ 0 → names ≡ []
 no_names [] e = refl
 no_names (x ∷ names) e = absurd (omega arith)
-
-pub walk_root : (p : Place) (names others : Names) (r : Result Names FsError) → length others ≡ 0 → others ≡ names → IfOk r (λ at. at ≡ names) → OnErr r (r ≡ Err FsError.NoMemory) → Walks p names r p
-walk_root p names others r none same copy starved = by_root names (sym same ∙ no_names others none) r copy starved
-  where
-    by_root : (names : Names) → names ≡ [] → (r : Result Names FsError) → IfOk r (λ at. at ≡ names) → OnErr r (r ≡ Err FsError.NoMemory) → Walks p names r p
-    by_root names root (Ok at) copy starved = rw root (root_walks p at (copy ∙ root))
-    by_root names root (Err e) copy starved = let is : e ≡ FsError.NoMemory = error_of e starved in rw is (walk_starved p p names (place_same p) (rows_same p p refl))
 
 -- ---- the directory above
 
@@ -197,16 +171,6 @@ parent_root p dir others none same = record {
   stood = λ w told is clear. (let here = root_clear w.tree (tree_parts w.tree is) in (here.row, ap (look w.tree) (sym same ∙ no_names others none) ∙ here.stands));
   rows = rows_same p p refl;
 }
-
-pub parent_recalled : (p q : Place) (dir at : Names) (found : Option Names) → Recalls p dir (Ok found) q → found ≡ Some at → FindsParent p dir (Ok (Some at)) q
-parent_recalled p q dir at found recalls is = finds (subst (λ f. Recalls p dir (Ok f) q) is recalls)
-  where
-    finds : Recalls p dir (Ok (Some at)) q → FindsParent p dir (Ok (Some at)) q
-    finds recalls = record { keeps = recalls.keeps; refused = tt; alike = recalls.alike; stood = recalls.stood; rows = recalls.rows }
-
-pub parent_forgotten : (p q : Place) (dir : Names) (e : FsError) → Recalls p dir (Err e) q → FindsParent p dir (Err e) q
-parent_forgotten p q dir e recalls =
-    record { keeps = recalls.keeps; refused = inr (ap (λ x. Err x) (error_of e recalls.starved.0)); alike = tt; stood = tt; rows = recalls.rows }
 
 stands_on : (p m : Place) (at : Names) → KeepsPlace p m → StandsAt m.disk at → StandsAt p.disk at
 stands_on p m at keeps stands = λ w told is clear.
@@ -310,30 +274,6 @@ takes_forgotten p q t dir name at found e worlds steps is remembers = takes (sub
       rows = λ stands. rows_on p t at q steps.keeps remembers.keeps (taken_stands p t dir name at worlds steps stands) remembers.rows;
     }
 
-pub takes_none : (p : Place) (t : DiskState) (dir : Names) (name : Name) (at : Names) (found : Option Names) → ((w : World) → p.disk.told ≡ Some w → IsWorld w)
-    → Steps p.disk dir name (Ok found) t → found ≡ None → at ≡ dir ++ name ∷ [] → TakesMember p dir name (Ok at) (record p { disk = t })
-takes_none p t dir name at found worlds steps is place = takes (subst (λ f. Steps p.disk dir name (Ok f) t) is steps)
-  where
-    takes : Steps p.disk dir name (Ok None) t → TakesMember p dir name (Ok at) (record p { disk = t })
-    takes steps = record {
-      keeps = place_disk p t steps.keeps;
-      refused = tt;
-      alike = (name, place, refl);
-      told = λ w told tree here. inr (place, steps.told w told (worlds w told) here);
-      rows = λ stands. rows_same p (record p { disk = t }) refl;
-    }
-
-pub takes_starved : (p : Place) (t : DiskState) (dir : Names) (name : Name) → Keeps p.disk t → TakesMember p dir name (Err FsError.NoMemory) (record p { disk = t })
-takes_starved p t dir name keeps =
-    record { keeps = place_disk p t keeps; refused = inr refl; alike = tt; told = tt; rows = λ stands. rows_same p (record p { disk = t }) refl }
-
-pub takes_refused : (p : Place) (t : DiskState) (dir : Names) (name : Name) (e : FsError) → Steps p.disk dir name (Err e) t → TakesMember p dir name (Err e) (record p { disk = t })
-takes_refused p t dir name e steps = record {
-  keeps = place_disk p t steps.keeps;
-  refused = spoiled_after p p (record p { disk = t }) e (place_same p) steps.refused;
-  alike = tt;
-  told = tt;
-  rows = λ stands. rows_same p (record p { disk = t }) refl;
 }
 
 folds_below : (names above dir : Names) (name : Name) (at : Names) → names ≡ above ++ name ∷ [] → fold_path dir ≡ fold_path above → IsAlikeIn dir name at → fold_path at ≡ fold_path names
@@ -388,24 +328,11 @@ member_walks p m q names asked above dir name found r path same finds is takes =
           | inr (place, lone) ↦ absurd (nothing_below e.world.tree dir name [] e.row (tree_parts e.world.tree is) lone (ap (look e.world.tree) (sym place) ∙ e.stands))
         ]
 
--- Its directory was refused, or wasn't found.
-pub walks_unparented : (p m : Place) (names above : Names) (e : FsError) → FindsParent p above (Err e) m → Walks p names (Err e) m
-walks_unparented p m names above e finds =
-    record { keeps = finds.keeps; refused = spoiled_after p p m e (place_same p) finds.refused; alike = tt; told = tt; first = tt; rows = finds.rows }
-
 pub walks_lost : (p m q : Place) (names above : Names) (found : Option Names) (r : Result Names FsError) → FindsParent p above (Ok found) m → found ≡ None → Walks m names r q → Walks p names r q
 walks_lost p m q names above found r finds is walks = walks_after p m q names r finds.keeps finds.rows walks
 
 -- ---- a step of a walk
 
-pub steps_on : (p m : Place) (t : DiskState) (at : Names) (name : Name) (r : Result (Option Names) FsError) → ((w : World) → m.disk.told ≡ Some w → IsWorld w) → KeepsPlace p m
-    → (StandsIn p.disk at → RemembersIn p m) → Steps m.disk at name r t → StepsOn p at name r (record m { disk = t })
-steps_on p m t at name (Err e) worlds keeps rows steps = record {
-  keeps = place_then p m (record m { disk = t }) keeps (place_disk m t steps.keeps);
-  refused = spoiled_after p m (record m { disk = t }) e keeps steps.refused;
-  alike = tt;
-  told = tt;
-  rows = λ stands. rows_then p m (record m { disk = t }) keeps (rows stands) (rows_same m (record m { disk = t }) refl);
 }
 steps_on p m t at name (Ok found) worlds keeps rows steps = record {
   keeps = place_then p m (record m { disk = t }) keeps (place_disk m t steps.keeps);
@@ -417,23 +344,7 @@ steps_on p m t at name (Ok found) worlds keeps rows steps = record {
   rows = λ stands. rows_then p m (record m { disk = t }) keeps (rows stands) (rows_same m (record m { disk = t }) refl);
 }
 
-pub steps_forgotten : (p q : Place) (at : Names) (name : Name) (e : FsError) → Remembers p at (Err e) q → StepsOn p at name (Err e) q
-steps_forgotten p q at name e remembers =
-    record { keeps = remembers.keeps; refused = inr (ap (λ x. Err x) (error_of e remembers.starved)); alike = tt; told = tt; rows = remembers.rows }
-
 -- ---- what is saved and kept
-
-pub saves_alone : (p q : Place) (names file : Names) (r : Result Names FsError) → p.ways.alone ≡ Some file → SavesWork p names r q
-saves_alone p q names file r alone = λ folds none. none_some file (sym none ∙ alone)
-
-pub saves_plain : (p q : Place) (names : Names) (r : Result Names FsError) → p.ways.folds ≡ false → SavesWork p names r q
-saves_plain p q names r plain = λ folds none. never p.ways.folds folds plain
-
-pub keeps_alone : (p q : Place) (names file : Names) (r : Result Names FsError) → p.ways.alone ≡ Some file → KeepsWork p names r q
-keeps_alone p q names file r alone = λ folds none. none_some file (sym none ∙ alone)
-
-pub keeps_plain : (p q : Place) (names : Names) (r : Result Names FsError) → p.ways.folds ≡ false → KeepsWork p names r q
-keeps_plain p q names r plain = λ folds none. never p.ways.folds folds plain
 
 told_then : (old new : Option PathCache) (c : PathCache) (P : PathCache → Type 0) → is_some new ≡ is_some old → old ≡ Some c → IfSome new P → (d : PathCache) × (new ≡ Some d) × P d
 told_then old None c P tells told first = never_some (tells ∙ ap is_some told)

@@ -68,10 +68,6 @@ pub resolves_plain : (p : Place) (names : Names) (r : Result Names FsError) → 
 resolves_plain p names r alone folds copy starved =
     known_by p names names r (ap (λ a. is_some a || not p.ways.folds) alone ∙ ap not folds) (sym (ap (λ a. or_walk a names) alone)) copy starved
 
-pub resolves_alone : (p : Place) (names file : Names) (r : Result Names FsError) → p.ways.alone ≡ Some file → IfOk r (λ at. at ≡ file) → OnErr r (r ≡ Err FsError.NoMemory) → Resolves p names r p
-resolves_alone p names file r alone copy starved =
-    known_by p names file r (ap (λ a. is_some a || not p.ways.folds) alone) (sym (ap (λ a. or_walk a names) alone)) copy starved
-
 not_known : (ways : Ways) → ways.alone ≡ None → ways.folds ≡ true → is_known ways ≡ true → ⊥
 not_known ways alone folds known = no_false (sym known ∙ ap (λ a. is_some a || not ways.folds) alone ∙ ap not folds)
   where

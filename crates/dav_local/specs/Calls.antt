@@ -35,23 +35,28 @@ abbrev pub Refuses : {T : Type 0} → FsError → Place → Result T FsError →
 Refuses e p result q = (result ≡ Err e) × (q ≡ p)
 
 -- A call that is forbidden is refused, with nothing asked.
-pub record Unless {T : Type 0} (shut : Bool) (p : Place) (call : Place → Result T FsError → Place → Type 0) (result : Result T FsError) (q : Place) : Type 0 where
+pub record Unless {T : Type 0} (shut : Bool) (p : Place) (call : Place → Result T FsError → Place → Type 0)
+    (result : Result T FsError) (q : Place) : Type 0 where
   pub forbidden : shut ≡ true → Refuses Forbidden p result q
   pub asked : shut ≡ false → call p result q
 
 -- What follows where a path was found. Where it was not, that is the answer.
-abbrev pub AfterFound : {T : Type 0} → Result Names FsError → Place → (Names → Place → Result T FsError → Place → Type 0) → Result T FsError → Place → Type 0
+abbrev pub AfterFound : {T : Type 0} → Result Names FsError → Place
+    → (Names → Place → Result T FsError → Place → Type 0) → Result T FsError → Place → Type 0
 AfterFound (Err e) m call result q = (result ≡ Err e) × (q ≡ m)
 AfterFound (Ok at) m call result q = call at m result q
 
 -- A path is found, and a call follows at the place found.
-abbrev pub Finds : {T : Type 0} → Place → Names → (Names → Place → Result T FsError → Place → Type 0) → Result T FsError → Place → Type 0
+abbrev pub Finds : {T : Type 0} → Place → Names → (Names → Place → Result T FsError → Place → Type 0)
+    → Result T FsError → Place → Type 0
 Finds p names call result q = (found : Result Names FsError) × (m : Place) × Resolves p names found m
     × AfterFound found m call result q
 
 -- one call of the disk, and what is answered by what it answers
-abbrev pub Asks : {A T : Type 0} → (DiskState → Result A DiskError → DiskState → Type 0) → (Result A DiskError → Result T FsError) → Place → Result T FsError → Place → Type 0
-Asks call says p result q = (answer : Result _ DiskError) × (t : DiskState) × call p.disk answer t × (result ≡ says answer) × (q ≡ record p { disk = t })
+abbrev pub Asks : {A T : Type 0} → (DiskState → Result A DiskError → DiskState → Type 0)
+    → (Result A DiskError → Result T FsError) → Place → Result T FsError → Place → Type 0
+Asks call says p result q = (answer : Result _ DiskError) × (t : DiskState) × call p.disk answer t
+    × (result ≡ says answer) × (q ≡ record p { disk = t })
 
 -- ---- whether a path is called absent
 
@@ -72,16 +77,19 @@ pub record TellsAbsent (p : Place) (at : Names) (result : Result Bool NoMemory) 
 abbrev pub AfterAbsent : Result Bool NoMemory → Bool → Bool → Names → Place → Result Info FsError → Place → Type 0
 AfterAbsent (Err e) follows slash at p result q = Refuses fs.NoMemory p result q
 AfterAbsent (Ok true) follows slash at p result q = Refuses NotFound p result q
-AfterAbsent (Ok false) follows slash at p result q = Asks (λ s answer t. MetasBy follows s at answer t) (looked_as slash) p result q
+AfterAbsent (Ok false) follows slash at p result q = Asks (λ s answer t. MetasBy follows s at answer t)
+    (looked_as slash) p result q
 
 -- a look at the place found, where `follows` says so with a link followed
 abbrev pub LooksAt : Bool → Bool → Names → Place → Result Info FsError → Place → Type 0
-LooksAt follows slash at p result q = (absent : Result Bool NoMemory) × (m : Place) × TellsAbsent p at absent m × AfterAbsent absent follows slash at m result q
+LooksAt follows slash at p result q = (absent : Result Bool NoMemory) × (m : Place) × TellsAbsent p at absent m
+    × AfterAbsent absent follows slash at m result q
 
 -- The two files that clients of macOS look for are empty, and nothing is asked.
 pub record Looks (follows : Bool) (p : Place) (path : WebPath) (result : Result Info FsError) (q : Place) : Type 0 where
   pub empty : is_virtual (rules_of p.ways) path ≡ true → (result ≡ Ok empty_info) × (q ≡ p)
-  pub asked : is_virtual (rules_of p.ways) path ≡ false → Finds p path.names (LooksAt follows (has_slash p.ways.alone path)) result q
+  pub asked : is_virtual (rules_of p.ways) path ≡ false
+      → Finds p path.names (LooksAt follows (has_slash p.ways.alone path)) result q
 
 -- ---- the other calls
 
@@ -102,19 +110,22 @@ AsksToMake p path result q = Unless (is_forbidden (rules_of p.ways) path) p
     (λ p. Finds p path.names (λ at. Asks (λ s answer t. CreatesDir s at answer t) done_by)) result q
 
 abbrev pub AsksToTakeDir : Place → WebPath → Result Unit FsError → Place → Type 0
-AsksToTakeDir p path result q = Finds p path.names (λ at. Asks (λ s answer t. RemovesDir s at answer t) done_by) result q
+AsksToTakeDir p path result q = Finds p path.names
+    (λ at. Asks (λ s answer t. RemovesDir s at answer t) done_by) result q
 
 abbrev pub AsksToTakeFile : Place → WebPath → Result Unit FsError → Place → Type 0
 AsksToTakeFile p path result q = Unless (is_shut p.ways path) p
     (λ p. Finds p path.names (λ at. Asks (λ s answer t. RemovesFile s at answer t) done_by)) result q
 
 -- two paths are found, one after the other, and a call follows at both places
-abbrev pub FindsBoth : Place → WebPath → WebPath → (Names → Names → Place → Result Unit FsError → Place → Type 0) → Result Unit FsError → Place → Type 0
+abbrev pub FindsBoth : Place → WebPath → WebPath → (Names → Names → Place → Result Unit FsError → Place → Type 0)
+    → Result Unit FsError → Place → Type 0
 FindsBoth p from to call result q = Unless (is_forbidden (rules_of p.ways) from || is_forbidden (rules_of p.ways) to) p
     (λ p. Finds p from.names (λ at m. Finds m to.names (call at))) result q
 
 abbrev pub AsksToCopy : Place → WebPath → WebPath → Result Unit FsError → Place → Type 0
-AsksToCopy p from to result q = FindsBoth p from to (λ at into. Asks (λ s answer t. Copies s at into answer t) done_by) result q
+AsksToCopy p from to result q = FindsBoth p from to
+    (λ at into. Asks (λ s answer t. Copies s at into answer t) done_by) result q
 
 -- whether a look found a directory
 abbrev pub found_dir : Result Meta DiskError → Bool
@@ -129,7 +140,8 @@ MovesAgain true at into s result t = (removal : Result Unit DiskError) × (m : D
     × (again : Result Unit DiskError) × Renames m at into again t × (result ≡ done_by again)
 
 abbrev pub AfterMove : Result Unit DiskError → Names → Names → DiskState → Result Unit FsError → DiskState → Type 0
-AfterMove (Err NotDir) at into s result t = (look : Result Meta DiskError) × (m : DiskState) × Metas s at look m × MovesAgain (found_dir look) at into m result t
+AfterMove (Err NotDir) at into s result t = (look : Result Meta DiskError) × (m : DiskState) × Metas s at look m
+    × MovesAgain (found_dir look) at into m result t
 AfterMove answer at into s result t = (result ≡ done_by answer) × (t ≡ s)
 
 abbrev pub MovesAt : Names → Names → Place → Result Unit FsError → Place → Type 0
@@ -144,11 +156,13 @@ AsksToMove p from to result q = FindsBoth p from to MovesAt result q
 -- A directory is made where nothing stands.
 abbrev pub AfterMissing : Result Meta DiskError → Names → DiskState → Result Unit FsError → DiskState → Type 0
 AfterMissing (Ok m) at s result t = (result ≡ Ok tt) × (t ≡ s)
-AfterMissing (Err disk.NotFound) at s result t = (answer : Result Unit DiskError) × CreatesDir s at answer t × (result ≡ done_by answer)
+AfterMissing (Err disk.NotFound) at s result t = (answer : Result Unit DiskError) × CreatesDir s at answer t
+    × (result ≡ done_by answer)
 AfterMissing (Err e) at s result t = (result ≡ Err (fs_error_of e)) × (t ≡ s)
 
 abbrev pub MakesMissing : Names → DiskState → Result Unit FsError → DiskState → Type 0
-MakesMissing at s result t = (answer : Result Meta DiskError) × (m : DiskState) × Metas s at answer m × AfterMissing answer at m result t
+MakesMissing at s result t = (answer : Result Meta DiskError) × (m : DiskState) × Metas s at answer m
+    × AfterMissing answer at m result t
 
 abbrev pub MakesMissingAt : Names → Place → Result Unit FsError → Place → Type 0
 MakesMissingAt at p result q = (t : DiskState) × MakesMissing at p.disk result t × (q ≡ record p { disk = t })
@@ -162,4 +176,5 @@ AfterFirst (Err e) p result q = (result ≡ Err e) × (q ≡ p)
 AfterFirst (Ok x) p result q = MakesOne (codes "addressbooks") p result q
 
 abbrev pub MakesDefaults : Place → Result Unit FsError → Place → Type 0
-MakesDefaults p result q = (first : Result Unit FsError) × (m : Place) × MakesOne (codes "calendars") p first m × AfterFirst first m result q
+MakesDefaults p result q = (first : Result Unit FsError) × (m : Place) × MakesOne (codes "calendars") p first m
+    × AfterFirst first m result q

@@ -17,4 +17,5 @@ said_info answer = info_in local_info answer
 
 abbrev pub Says : EntryMeta → DiskState → Result Info FsError → DiskState → Type 0
 Says (Read answer) s result t = (result ≡ said_info answer) × (t ≡ s)
-Says (At path) s result t = (answer : Result Meta DiskError) × Metas s path answer t × (result ≡ said_info (said_by answer))
+Says (At path) s result t = (answer : Result Meta DiskError) × Metas s path answer t
+    × (result ≡ said_info (said_by answer))

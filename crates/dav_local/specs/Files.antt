@@ -47,7 +47,8 @@ sought place (Ok x) = Ok place
 sought place (Err e) = Err (fs_error_of e)
 
 abbrev pub AsksSeek : DiskState → ℕ → ℕ → Result ℕ FsError → DiskState → Type 0
-AsksSeek s h place result t = (answer : Result Unit DiskError) × Seeks s h place answer t × (result ≡ sought place answer)
+AsksSeek s h place result t = (answer : Result Unit DiskError) × Seeks s h place answer t
+    × (result ≡ sought place answer)
 
 abbrev pub counted : Result ℕ DiskError → Result ℕ FsError
 counted (Ok n) = Ok n

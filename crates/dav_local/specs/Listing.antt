@@ -20,8 +20,8 @@ use Rattle.dav_local.specs.declared.entry.EntryMeta.TheVariants.{Read, At}
 use Rattle.dav_local.specs.declared.entry.LocalFsDirEntry.{LocalFsDirEntry}
 use Rattle.dav_local.specs.Files.{said_by}
 
--- A listing as contracts see it: the disk's lister, the path of the directory, what is read of each entry, the entries that
--- were read and are to be given, what is answered once behind them, and whether the disk is asked no more.
+-- A listing as contracts see it: the disk's lister, the path of the directory, what is read of each entry, the entries
+-- that were read and are to be given, what is answered once behind them, and whether the disk is asked no more.
 pub record ListingState : Type 0 where
   pub lister : Lister
   pub path : Names
@@ -31,17 +31,26 @@ pub record ListingState : Type 0 where
   pub over : Bool
 
 abbrev pub dir_of : Names → ReadDirMeta → Result Lister DiskError → Result ListingState FsError
-dir_of path wanted (Ok l) = Ok (record { lister = l; path = path; wanted = wanted; batch = []; refused = None; over = false })
+dir_of path wanted (Ok l) = Ok (record {
+  lister = l;
+  path = path;
+  wanted = wanted;
+  batch = [];
+  refused = None;
+  over = false;
+})
 dir_of path wanted (Err e) = Err (fs_error_of e)
 
 abbrev pub Begins : DiskState → Names → ReadDirMeta → Result ListingState FsError → DiskState → Type 0
-Begins s path wanted result t = (answer : Result Lister DiskError) × Lists s path answer t × (result ≡ dir_of path wanted answer)
+Begins s path wanted result t = (answer : Result Lister DiskError) × Lists s path answer t
+    × (result ≡ dir_of path wanted answer)
 
 -- ---- an entry
 
 -- What the disk said at this path was read, where `follows` says so with a link followed.
 abbrev pub WasRead : Bool → EntryMeta → DiskState → Names → DiskState → Type 0
-WasRead follows (Read answer) s path t = (said : Result Meta DiskError) × MetasBy follows s path said t × (answer ≡ said_by said)
+WasRead follows (Read answer) s path t = (said : Result Meta DiskError) × MetasBy follows s path said t
+    × (answer ≡ said_by said)
 WasRead follows (At place) s path t = ⊥
 
 -- It is to be asked at this path, and nothing was read.
@@ -68,14 +77,16 @@ with_given d (Err e) = record d { refused = Some e }
 
 -- After a name comes its entry. A fault ends the listing, and so does its end; want of memory leaves it.
 abbrev pub AfterName : Result (Option (List ℕ)) DiskError → DiskState → ListingState → DiskState → ListingState → Type 0
-AfterName (Ok (Some name)) s d t e = (given : Result LocalFsDirEntry FsError) × GivesEntry name d.path d.wanted s given t × (e ≡ with_given d given)
+AfterName (Ok (Some name)) s d t e = (given : Result LocalFsDirEntry FsError)
+    × GivesEntry name d.path d.wanted s given t × (e ≡ with_given d given)
 AfterName (Ok None) s d t e = (t ≡ s) × (e ≡ record d { over = true })
 AfterName (Err NoMemory) s d t e = (t ≡ s) × (e ≡ record d { refused = Some fs.NoMemory })
 AfterName (Err f) s d t e = (t ≡ s) × (e ≡ record d { refused = Some (fs_error_of f); over = true })
 
 -- One name is asked of the disk.
 abbrev pub ReadsOne : DiskState → ListingState → DiskState → ListingState → Type 0
-ReadsOne s d t e = (answer : Result (Option (List ℕ)) DiskError) × (m : DiskState) × ListsOn s d.lister.0 answer m × AfterName answer m d t e
+ReadsOne s d t e = (answer : Result (Option (List ℕ)) DiskError) × (m : DiskState) × ListsOn s d.lister.0 answer m
+    × AfterName answer m d t e
 
 -- nothing more is read for a batch
 abbrev pub is_ended : ListingState → Bool
@@ -85,7 +96,8 @@ is_ended d = d.over || is_some d.refused
 pub data Fills : ℕ → DiskState → ListingState → DiskState → ListingState → Type 0 where
   full : (s : DiskState) (d : ListingState) → Fills 0 s d s d
   ended : (n : ℕ) (s : DiskState) (d : ListingState) → is_ended d ≡ true → Fills n s d s d
-  more : (n : ℕ) (s m t : DiskState) (d e f : ListingState) → is_ended d ≡ false → ReadsOne s d m e → Fills n m e t f → Fills (suc n) s d t f
+  more : (n : ℕ) (s m t : DiskState) (d e f : ListingState) → is_ended d ≡ false → ReadsOne s d m e → Fills n m e t f
+      → Fills (suc n) s d t f
 
 -- Where no entry is left to be given, 256 names are read.
 abbrev pub Refills : List LocalFsDirEntry → DiskState → ListingState → DiskState → ListingState → Type 0
@@ -93,12 +105,14 @@ Refills [] s d t e = Fills 256 s d t e
 Refills (entry ∷ batch) s d t e = (t ≡ s) × (e ≡ d)
 
 -- The first entry of a batch is given; behind the last what was refused, once; and then None.
-abbrev pub Gives : List LocalFsDirEntry → Option FsError → ListingState → Result (Option LocalFsDirEntry) FsError → ListingState → Type 0
+abbrev pub Gives : List LocalFsDirEntry → Option FsError → ListingState → Result (Option LocalFsDirEntry) FsError
+    → ListingState → Type 0
 Gives (entry ∷ batch) refused d result e = (result ≡ Ok (Some entry)) × (e ≡ record d { batch = batch })
 Gives [] (Some f) d result e = (result ≡ Err f) × (e ≡ record d { refused = None })
 Gives [] None d result e = (result ≡ Ok None) × (e ≡ d)
 
-abbrev pub NextEntry : DiskState → ListingState → Result (Option LocalFsDirEntry) FsError → DiskState → ListingState → Type 0
+abbrev pub NextEntry : DiskState → ListingState → Result (Option LocalFsDirEntry) FsError → DiskState → ListingState
+    → Type 0
 NextEntry s d result t e = (f : ListingState) × Refills d.batch s d t f × Gives f.batch f.refused f result e
 
 -- It gives nothing more, and asks the disk no more.

@@ -36,20 +36,30 @@ knowledge_of memory = record { names = memory.knows; is_open = memory.is_open }
 
 -- the empty file that clients of macOS look for
 abbrev pub empty_standing : Standing
-empty_standing = record { number = 0; kind = File; len = 0; modified = empty_info.modified; tag = None; bytes = []; redirect = None }
+empty_standing = record {
+  number = 0;
+  kind = File;
+  len = 0;
+  modified = empty_info.modified;
+  tag = None;
+  bytes = [];
+  redirect = None;
+}
 
 -- what a look finds for a path that is found at `end`
 abbrev pub looked_by : Ways → World → Names → Bool → WebPath → Result Standing FsError
 looked_by ways w end denies path = cond (is_virtual (rules_of ways) path) (Ok empty_standing)
-    (cond ((ways.macos && is_localized end) || denies) (Err NotFound) (found w (has_slash ways.alone path) (look w.tree end)))
+    (cond ((ways.macos && is_localized end) || denies) (Err NotFound)
+    (found w (has_slash ways.alone path) (look w.tree end)))
 
 -- what is opened for reading
 abbrev pub opened_by : Ways → World → Names → WebPath → Result Standing FsError
 opened_by ways w end path = cond (is_shut ways path) (Err Forbidden) (found w false (look w.tree end))
 
--- A look over a told world: a loose walk of the path ends at a place, and where no link stands on the way it answers what
--- stands there by the rules, or was spoiled by a fault or want of memory.
-pub record LooksByRules (ways : Ways) (k : Knowledge) (w : World) (path : WebPath) (s : DiskState) (result : Result Info FsError) (t : DiskState) : Type 0 where
+-- A look over a told world: a loose walk of the path ends at a place, and where no link stands on the way it answers
+-- what stands there by the rules, or was spoiled by a fault or want of memory.
+pub record LooksByRules (ways : Ways) (k : Knowledge) (w : World) (path : WebPath) (s : DiskState)
+    (result : Result Info FsError) (t : DiskState) : Type 0 where
   pub end : Names
   pub loosely : EndsLoosely ways.alone ways.folds w.tree path.names end
   pub denies : Bool
@@ -57,19 +67,33 @@ pub record LooksByRules (ways : Ways) (k : Knowledge) (w : World) (path : WebPat
   pub shows : is_linked w.tree end ≡ false → LooksThere (looked_by ways w end denies path) result ⊎ Spoiled s result t
 
 -- an opening for reading likewise
-pub record OpensByRules (ways : Ways) (w : World) (path : WebPath) (s : DiskState) (result : Result LocalFsFile FsError) (t : DiskState) : Type 0 where
+pub record OpensByRules (ways : Ways) (w : World) (path : WebPath) (s : DiskState)
+    (result : Result LocalFsFile FsError) (t : DiskState) : Type 0 where
   pub end : Names
   pub loosely : EndsLoosely ways.alone ways.folds w.tree path.names end
-  pub shows : is_linked w.tree end ≡ false → OpensThere seen_by (opened_by ways w end path) result t ⊎ Spoiled s result t
+  pub shows : is_linked w.tree end ≡ false → OpensThere seen_by (opened_by ways w end path) result t
+      ⊎ Spoiled s result t
 
 -- ---- the same by the definitions of the rules
 
 -- paths that are found at one place
 abbrev pub found_at : Names → Bool → Finding
-found_at end denies = record { looks = λ names. end; opens = λ names. end; lists = λ names. end; denies = λ path. denies }
+found_at end denies = record {
+  looks = λ names. end;
+  opens = λ names. end;
+  lists = λ names. end;
+  denies = λ path. denies;
+}
 
 abbrev pub stood_of : Standing → Stood
-stood_of there = record { kind = there.kind; number = there.number; len = there.len; modified = there.modified; tag = there.tag; address = there.redirect }
+stood_of there = record {
+  kind = there.kind;
+  number = there.number;
+  len = there.len;
+  modified = there.modified;
+  tag = there.tag;
+  address = there.redirect;
+}
 
 abbrev pub as_stood : Result Standing FsError → Result Stood FsError
 as_stood (Ok there) = Ok (stood_of there)
@@ -89,7 +113,8 @@ finding_of rules w looked opened listed denies = record {
 }
 
 -- A listing that is begun likewise: of a directory that stands where the path is found.
-pub record ListsByRules (ways : Ways) (w : World) (path : WebPath) (s : DiskState) (result : Result LocalFsReadDir FsError) (t : DiskState) : Type 0 where
+pub record ListsByRules (ways : Ways) (w : World) (path : WebPath) (s : DiskState)
+    (result : Result LocalFsReadDir FsError) (t : DiskState) : Type 0 where
   pub end : Names
   pub loosely : EndsLoosely ways.alone ways.folds w.tree path.names end
   pub shows : is_linked w.tree end ≡ false → BeginsThere (listed_in w end) result ⊎ Spoiled s result t
@@ -110,7 +135,8 @@ EndsBy from all answers (Err e) now = WhyRefused from now e
 -- ---- one store that shows all of it
 
 -- By a finding what the rules show, and where a link is met what was heard.
-abbrev pub shown_where : Rules → World → Finding → Result Stood FsError → Result Stood FsError → Result (List Member) FsError → Shown
+abbrev pub shown_where : Rules → World → Finding → Result Stood FsError → Result Stood FsError
+    → Result (List Member) FsError → Shown
 shown_where rules w f looked opened listed = record {
   looked = λ path. cond (is_linked w.tree (f.looks path.names)) looked (looked_at rules w f path);
   opened = λ path. cond (is_linked w.tree (f.opens path.names)) opened (opened_at rules w f path);

@@ -42,7 +42,10 @@ found w slash (Err e) = Err (fs_error_of e)
 
 -- an open file of this kind, as the world has it
 abbrev pub seen_in : World → Kind → OpenFile → Seen
-seen_in w kind o = record { stands = standing_as kind o.number (time_of w o.number) (bytes_of w o.number); place = o.place }
+seen_in w kind o = record {
+  stands = standing_as kind o.number (time_of w o.number) (bytes_of w o.number);
+  place = o.place;
+}
 
 abbrev pub seen_with : Option World → Option Live → ℕ → Option Seen
 seen_with None live h = None

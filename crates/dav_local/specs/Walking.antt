@@ -38,13 +38,15 @@ Sought names folded (Some name) = IsAmong name names
 Sought names folded None = list_any (λ x. bytes_eq (fold_name x) folded) names ≡ false
 
 -- The names that a listing has to come are read up to one with this folding.
-pub record Searches (s : DiskState) (l : ℕ) (folded : Name) (result : Result (Option Name) FsError) (t : DiskState) : Type 0 where
+pub record Searches (s : DiskState) (l : ℕ) (folded : Name) (result : Result (Option Name) FsError) (t : DiskState)
+    : Type 0 where
   pub keeps : KeepsButLister (Some l) s t
   pub live : IsSome (t.listers l)
   pub refused : OnErr result (Spoiled s result t)
   pub plain : IfOk result (λ found. IfSome found (λ name. is_plain name ≡ true))
   pub alike : IfOk result (λ found. IfSome found (λ name. fold_name name ≡ folded))
-  pub told : IfOk result (λ found. (w : World) (names : Names) → s.told ≡ Some w → w.listings l ≡ Some names → Sought names folded found)
+  pub told : IfOk result (λ found. (w : World) (names : Names) → s.told ≡ Some w → w.listings l ≡ Some names
+      → Sought names folded found)
 
 -- A directory that stands there, with no link on the way or at it.
 pub record IsClearAt (tree : List Row) (at : Names) : Type 0 where
@@ -55,14 +57,17 @@ pub record IsClearAt (tree : List Row) (at : Names) : Type 0 where
 -- Of the names in a directory one has this folding, or none has, also where it is no directory.
 abbrev pub SoughtIn : List Row → Names → Name → Option Name → Type 0
 SoughtIn tree at folded (Some name) = (row : Row) × IsOf row tree × (row.path ≡ at ++ name ∷ [])
-SoughtIn tree at folded None = (row : Row) (name : Name) → IsOf row tree → row.path ≡ at ++ name ∷ [] → fold_name name ≡ folded → ⊥
+SoughtIn tree at folded None = (row : Row) (name : Name) → IsOf row tree → row.path ≡ at ++ name ∷ [] → fold_name name
+    ≡ folded → ⊥
 
-pub record SearchesIn (s : DiskState) (at : Names) (folded : Name) (result : Result (Option Name) FsError) (t : DiskState) : Type 0 where
+pub record SearchesIn (s : DiskState) (at : Names) (folded : Name) (result : Result (Option Name) FsError)
+    (t : DiskState) : Type 0 where
   pub keeps : Keeps s t
   pub refused : OnErr result (Spoiled s result t)
   pub plain : IfOk result (λ found. IfSome found (λ name. is_plain name ≡ true))
   pub alike : IfOk result (λ found. IfSome found (λ name. fold_name name ≡ folded))
-  pub told : IfOk result (λ found. (w : World) → s.told ≡ Some w → IsWorld w → IsClearAt w.tree at → SoughtIn w.tree at folded found)
+  pub told : IfOk result (λ found. (w : World) → s.told ≡ Some w → IsWorld w → IsClearAt w.tree at
+      → SoughtIn w.tree at folded found)
 
 -- The row of a name in a directory, or of one that folds alike; none where neither stands.
 abbrev pub StepsTo : List Row → Names → Name → Option Names → Type 0
@@ -73,11 +78,13 @@ StepsTo tree at name None = list_any (is_alike true at name) tree ≡ false
 abbrev pub IsAlikeIn : Names → Name → Names → Type 0
 IsAlikeIn at name next = (x : Name) × (next ≡ at ++ x ∷ []) × (fold_name x ≡ fold_name name)
 
-pub record Steps (s : DiskState) (at : Names) (name : Name) (result : Result (Option Names) FsError) (t : DiskState) : Type 0 where
+pub record Steps (s : DiskState) (at : Names) (name : Name) (result : Result (Option Names) FsError) (t : DiskState)
+    : Type 0 where
   pub keeps : Keeps s t
   pub refused : OnErr result (Spoiled s result t)
   pub alike : IfOk result (λ found. IfSome found (λ next. IsAlikeIn at name next))
-  pub told : IfOk result (λ found. (w : World) → s.told ≡ Some w → IsWorld w → IsClearAt w.tree at → StepsTo w.tree at name found)
+  pub told : IfOk result (λ found. (w : World) → s.told ≡ Some w → IsWorld w → IsClearAt w.tree at
+      → StepsTo w.tree at name found)
 
 -- ---- steps that ask the memory, too
 
@@ -156,10 +163,11 @@ pub record TakesMember (p : Place) (dir : Names) (name : Name) (result : Result 
       → TakesIn w.tree dir name at q.memory)
   pub rows : StandsIn p.disk dir → RemembersIn p q
 
--- A walk came to a place with these names to go: however it goes on from there, it does so from the root. Or it came behind a
--- link, where nothing is said.
+-- A walk came to a place with these names to go: however it goes on from there, it does so from the root. Or it came
+-- behind a link, where nothing is said.
 abbrev pub Comes : List Row → Names → Names → Names → Type 0
-Comes tree names at rest = (IsClearAt tree at × ((end : Names) → IsLoose true tree at rest end → IsLoose true tree [] names end))
+Comes tree names at rest = (IsClearAt tree at
+    × ((end : Names) → IsLoose true tree at rest end → IsLoose true tree [] names end))
     ⊎ ((end : Names) × IsLoose true tree [] names end × (is_linked tree end ≡ true))
 
 -- a loose walk ends at this place, or behind a link

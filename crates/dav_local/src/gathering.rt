@@ -14,16 +14,17 @@ use dav_core::{Disk, FsError, FsPath, Lister};
 use dav_io::NoMemory;
 use dav_store::ReadDirMeta;
 
-/// A listing of a local store. Names are read in batches of at most 256, with their metadata where it is asked for, and a
-/// fault ends it. Where the rules for macOS hold, it gathers the names that begin with `._`, and the store's memory is
-/// sealed with them at its end.
+/// A listing of a local store. Names are read in batches of at most 256, with their metadata where it is asked for, and
+/// a fault ends it. Where the rules for macOS hold, it gathers the names that begin with `._`, and the store's memory
+/// is sealed with them at its end.
 #[derive(Drop)]
 pub struct LocalFsReadDir {
     reading: Reading,
     builder: Option<DUCacheBuilder>,
 }
 
-// Whether a listing gathers names. One that is read before a removal or a copy doesn't: what it lists is about to change.
+// Whether a listing gathers names. One that is read before a removal or a copy doesn't: what it lists is about to
+// change.
 fn gathers(macos: bool, wanted: ReadDirMeta) -> bool
     ensures { result ≡ the_gathers macos wanted }
 {

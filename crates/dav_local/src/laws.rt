@@ -99,8 +99,8 @@ pub fn answers_are_of_one_finding()
         → MayFind rules k w.tree (finding_of rules w looked opened listed denies) }
 {}
 
-/// So there is something that a store may show by the rules, and that is what was heard of those three paths: at each what
-/// the rules show where it was found, and where a link is met what was heard.
+/// So there is something that a store may show by the rules, and that is what was heard of those three paths: at each
+/// what the rules show where it was found, and where a link is met what was heard.
 pub fn answers_may_be_shown()
     ensures may { (rules : Rules) (k : Knowledge) (w : World) (f : Finding) (looked opened : Result Stood FsError)
         (listed : Result (List Member) FsError) → MayFind rules k w.tree f

@@ -16,8 +16,8 @@ use std::marker::Model;
 // How many names are read at a time.
 const BATCH: u32 = 256;
 
-// A listing of a disk, of which the names are read in batches of at most 256, with their metadata where it is asked for.
-// A fault ends it.
+// A listing of a disk, of which the names are read in batches of at most 256, with their metadata where it is asked
+// for. A fault ends it.
 #[derive(Drop)]
 pub struct Reading {
     lister: Lister,

@@ -31,6 +31,3 @@ module _ {S C : Type 0} (view : View S C LocalFsFile) (lists : Listings S C Loca
       let (now, gives) = local.goes_on s t d e r on in
       let (given, m, f, first, follows) = gives in
       after_ways d.builder given now (record (at s) { disk = m }) (record d { reading = f }) r (at t) e follows
-
-  pub lent_ways : (s t : S) → view.lends s t → ways t ≡ ways s
-  lent_ways s t lent = ap (λ (x : Place). x.ways) (local.lends s t lent)

@@ -36,7 +36,8 @@ pub record IsKnownAbsent (p : Place) (path : Names) : Type 0 where
 
 -- The disk is asked once, and nothing is found; or memory was wanting before it was asked.
 abbrev pub DeniedAtOnce : Place → Result Info FsError → Place → Type 0
-DeniedAtOnce p result q = ((result ≡ Err NotFound) × AsksOnce p.disk q.disk) ⊎ ((result ≡ Err NoMemory) × (q.disk ≡ p.disk))
+DeniedAtOnce p result q = ((result ≡ Err NotFound) × AsksOnce p.disk q.disk)
+    ⊎ ((result ≡ Err NoMemory) × (q.disk ≡ p.disk))
 
 -- what is gathered after these answers
 abbrev pub gathered : List Answered → BuilderState → BuilderState
@@ -51,4 +52,5 @@ IsWhole Starved = ⊥
 
 -- The memory was sealed with what was gathered, for this time of its directory.
 abbrev pub SealedWith : MemoryState → BuilderState → FileTime → Moment → MemoryState → Type 0
-SealedWith old b time now new = (result : Sealed) × IsWhole result × SealsIn old (dir_key b.dir) time b.names now result new
+SealedWith old b time now new = (result : Sealed) × IsWhole result
+    × SealsIn old (dir_key b.dir) time b.names now result new

@@ -1,4 +1,5 @@
-//! What the local store promises GET, HEAD, the methods that write and reports, as laws about its definitions. The calls do
+// What the local store promises GET, HEAD, the methods that write and reports, as laws about its definitions. The calls
+// do
 //! nothing.
 #![tactic(auto)]
 
@@ -57,8 +58,8 @@ pub fn calls_are_local<D: Disk, R: RememberAny>(_fs: &LocalFs<D, R>)
         ⟦<LocalFsFile as DavFile<D>>⟧.writes (λ s. s.ways) (λ s. R.state s.memory) }
 {}
 
-/// The local store refuses few things, and fails only where its disk met a fault. Of a listing this counts from where it
-/// was begun.
+/// The local store refuses few things, and fails only where its disk met a fault. Of a listing this counts from where
+/// it was begun.
 pub fn local_stores_refuse_few<D: Disk, R: RememberAny>(_fs: &LocalFs<D, R>)
     ensures { RefusesUsually (the_view ⟦<LocalFs<D, R> as GuardedFileSystem<()>>⟧ D.Disk ⟦<LocalFsFile as DavFile<D>>⟧)
         (the_listings ⟦<LocalFs<D, R> as GuardedFileSystem<()>>⟧ ⟦<LocalFsDirEntry as DavDirEntry<D>>⟧)
@@ -85,7 +86,8 @@ pub fn reads_are_right<D: Disk, R: RememberAny>(_fs: &LocalFs<D, R>)
         → OpenOnlyHeld (the_view ⟦<LocalFs<D, R> as GuardedFileSystem<()>>⟧ D.Disk ⟦<LocalFsFile as DavFile<D>>⟧)
         _fs.now result t
         → Heard (the_view ⟦<LocalFs<D, R> as GuardedFileSystem<()>>⟧ D.Disk ⟦<LocalFsFile as DavFile<D>>⟧)
-        (the_listings ⟦<LocalFs<D, R> as GuardedFileSystem<()>>⟧ ⟦<LocalFsDirEntry as DavDirEntry<D>>⟧) q tt _fs.now result t
+        (the_listings ⟦<LocalFs<D, R> as GuardedFileSystem<()>>⟧ ⟦<LocalFsDirEntry as DavDirEntry<D>>⟧) q tt _fs.now
+        result t
         → ((number : Option ℕ)
         → IsOfNumber (the_view ⟦<LocalFs<D, R> as GuardedFileSystem<()>>⟧ D.Disk ⟦<LocalFsFile as DavFile<D>>⟧) number t
         result → reply_at q.fields (or_zero number) result ≡ reply)
@@ -95,8 +97,8 @@ pub fn reads_are_right<D: Disk, R: RememberAny>(_fs: &LocalFs<D, R>)
     calls_are_local(_fs)
 }
 
-/// Where names don't fold and the rules for macOS don't hold, the local store asks its disk once to look, and at most once
-/// to open.
+/// Where names don't fold and the rules for macOS don't hold, the local store asks its disk once to look, and at most
+/// once to open.
 pub fn local_stores_ask_once<D: Disk, R: RememberAny>(_fs: &LocalFs<D, R>)
     ensures { AsksByOne (the_view ⟦<LocalFs<D, R> as GuardedFileSystem<()>>⟧ D.Disk ⟦<LocalFsFile as DavFile<D>>⟧)
         (the_listings ⟦<LocalFs<D, R> as GuardedFileSystem<()>>⟧ ⟦<LocalFsDirEntry as DavDirEntry<D>>⟧)
@@ -105,10 +107,11 @@ pub fn local_stores_ask_once<D: Disk, R: RememberAny>(_fs: &LocalFs<D, R>)
     calls_are_local(_fs)
 }
 
-/// Calls that write nothing leave how a local store finds paths, and what its memory knows after them it knew before, or
-/// the told world has it.
+/// Calls that write nothing leave how a local store finds paths, and what its memory knows after them it knew before,
+/// or the told world has it.
 pub fn reads_learn_what_stands<D: Disk, R: RememberAny>(_fs: &LocalFs<D, R>)
-    ensures { (t : LocalFs D R) → LeadsOn (the_view ⟦<LocalFs<D, R> as GuardedFileSystem<()>>⟧ D.Disk ⟦<LocalFsFile as DavFile<D>>⟧)
+    ensures { (t : LocalFs D R) → LeadsOn (the_view ⟦<LocalFs<D, R> as GuardedFileSystem<()>>⟧ D.Disk
+        ⟦<LocalFsFile as DavFile<D>>⟧)
         (the_listings ⟦<LocalFs<D, R> as GuardedFileSystem<()>>⟧ ⟦<LocalFsDirEntry as DavDirEntry<D>>⟧) tt _fs.now t
         → (t.ways ≡ _fs.now.ways) × Learns (D.state _fs.now.disk).told (knowledge_of (R.state _fs.now.memory))
         (knowledge_of (R.state t.memory)) }
@@ -116,8 +119,9 @@ pub fn reads_learn_what_stands<D: Disk, R: RememberAny>(_fs: &LocalFs<D, R>)
     calls_are_local(_fs)
 }
 
-/// A look at a name that begins with `._`, where the rules for macOS hold and names don't fold, costs one call of the disk
-/// where the memory knows the name to be absent and the disk refuses nothing. It finds nothing then, or memory was wanting.
+/// A look at a name that begins with `._`, where the rules for macOS hold and names don't fold, costs one call of the
+/// disk where the memory knows the name to be absent and the disk refuses nothing. It finds nothing then, or memory was
+/// wanting.
 pub fn absent_names_cost_one_look<D: Disk, R: RememberAny>(_fs: &LocalFs<D, R>, _path: &DavPath)
     ensures { (result : Result Info FsError) (t : LocalFs D R)
         → ⟦<LocalFs<D, R> as DavFileSystem>⟧.looks _fs.now _path.now result t
@@ -130,8 +134,8 @@ pub fn absent_names_cost_one_look<D: Disk, R: RememberAny>(_fs: &LocalFs<D, R>, 
     calls_are_local(_fs)
 }
 
-/// A listing that gathers names gathers each that it gives. Where its directory had a known time before it and has it at
-/// its end, nothing was refused, and no fault was noted, the memory is sealed with what was gathered.
+/// A listing that gathers names gathers each that it gives. Where its directory had a known time before it and has it
+/// at its end, nothing was refused, and no fault was noted, the memory is sealed with what was gathered.
 pub fn whole_listings_are_sealed<D: Disk, R: RememberAny>(_fs: &LocalFs<D, R>)
     ensures gathers { (n o : LocalFs D R) (l k : LocalFsReadDir) (answers : List Answered) (b : BuilderState)
         → l.builder ≡ Some b
@@ -148,10 +152,11 @@ pub fn whole_listings_are_sealed<D: Disk, R: RememberAny>(_fs: &LocalFs<D, R>)
     calls_are_local(_fs)
 }
 
-/// Calls that read and write, whatever they answered, leave how a local store finds paths, and what its memory knows after
-/// them it knew before: what is listed on the way is about to change, and isn't remembered.
+/// Calls that read and write, whatever they answered, leave how a local store finds paths, and what its memory knows
+/// after them it knew before: what is listed on the way is about to change, and isn't remembered.
 pub fn calls_teach_nothing<D: Disk, R: RememberAny>(_fs: &LocalFs<D, R>)
-    ensures { (t : LocalFs D R) → Reached (the_view ⟦<LocalFs<D, R> as GuardedFileSystem<()>>⟧ D.Disk ⟦<LocalFsFile as DavFile<D>>⟧)
+    ensures { (t : LocalFs D R) → Reached (the_view ⟦<LocalFs<D, R> as GuardedFileSystem<()>>⟧ D.Disk
+        ⟦<LocalFsFile as DavFile<D>>⟧)
         (the_listings ⟦<LocalFs<D, R> as GuardedFileSystem<()>>⟧ ⟦<LocalFsDirEntry as DavDirEntry<D>>⟧)
         ⟦<LocalFsFile as DavFile<D>>⟧.writes tt _fs.now t
         → (t.ways ≡ _fs.now.ways) × LearnsNothing (R.state _fs.now.memory) (R.state t.memory) }
@@ -159,9 +164,9 @@ pub fn calls_teach_nothing<D: Disk, R: RememberAny>(_fs: &LocalFs<D, R>)
     calls_are_local(_fs)
 }
 
-/// Where the disk tells its world and each path is meant as it is written, the local store shows what stands in the world:
-/// what is opened at each path on the way to which no link stands, also after looks, openings for reading, calls of open
-/// files and listings; and the members of a directory, where no link stands on the way to it or at one of them.
+/// Where the disk tells its world and each path is meant as it is written, the local store shows what stands in the
+/// world: what is opened at each path on the way to which no link stands, also after looks, openings for reading, calls
+/// of open files and listings; and the members of a directory, where no link stands on the way to it or at one of them.
 pub fn local_stores_show_the_tree<D: Disk, R: RememberAny>(_fs: &LocalFs<D, R>)
     ensures opened { (w : World) (path : WebPath) → (D.state _fs.now.disk).told ≡ Some w → _fs.now.ways ≡ plain_ways
         → is_linked w.tree path.names ≡ false

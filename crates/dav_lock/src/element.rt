@@ -37,8 +37,8 @@ pub struct Nodes {
 }
 
 impl Drop for Nodes {
-    // The nodes in an element join those that wait, so how deep a tree nests takes no stack. Where memory for them is refused,
-    // they are let go by themselves.
+    // The nodes in an element join those that wait, so how deep a tree nests takes no stack. Where memory for them is
+    // refused, they are let go by themselves.
     #[cycle(drops)]
     fn drop(self) {
         let mut waiting = self.into_vec();

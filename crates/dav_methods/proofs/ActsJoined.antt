@@ -54,12 +54,6 @@ FillsNone (halts l ∷ acts) = FillsNone acts
 FillsNone (does (fills number bytes) ∷ acts) = ⊥
 FillsNone (does e ∷ acts) = FillsNone acts
 
-rest_none : (e : Edit) (acts : List Act) → FillsNone (does e ∷ acts) → FillsNone acts
-rest_none (makes path kind bytes) acts none = none
-rest_none (fills number bytes) acts none = absurd none
-rest_none (takes path) acts none = none
-rest_none (moves from to) acts none = none
-
 pub none_join : (a b : List Act) → FillsNone a → FillsNone b → FillsNone (a ++ b)
 none_join [] b none more = more
 none_join (halts l ∷ a) b none more = none_join a b none more

@@ -117,11 +117,6 @@ put_match fields x found finds =
     match_three (refused_but_missing found) (fails_when (is_dir_there found) 405) (unmet Put fields found) (refused_there x) (when (is_dir_found x) 405) (plan_unmet Put fields x)
     (missing_match x found finds) (when_match (is_dir_there found) (is_dir_found x) 405 (dir_found x found finds)) (unmet_match Put fields x found finds)
 
-pub delete_match : (fields : Fields) (x : Result Stood FsError) (found : Result Info FsError) → Finds x found
-    → Matches (may_delete fields found) (first (plan_refused x ∷ plan_unmet Delete fields x ∷ []))
-delete_match fields x found finds =
-    match_two (refused found) (unmet Delete fields found) (plan_refused x) (plan_unmet Delete fields x) (refused_match x found finds) (unmet_match Delete fields x found finds)
-
 not_same : (a b : Bool) → a ≡ b → not a ≡ not b
 not_same a b e = ap not e
 

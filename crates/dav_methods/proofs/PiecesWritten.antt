@@ -74,20 +74,4 @@ module _ {S C F : Type 0} (view : View S C F) (writes : Writes F) where
         short = taken.1;
       }
 
-  pub end_pouring : (s m t : S) (f g h : F) (b k n : BodyState) (total : ℕ) (r : Line) → SoFar s f b total m g k → Stops view writes total m g k r t h n
-      → Pours view writes s f b r t h n
-  end_pouring s m t f g h b k n total r far stops = record {
-    bytes = far.bytes;
-    place = m;
-    file = g;
-    reader = k;
-    poured = far.poured;
-    short = subst (λ x. x < most_bytes) far.count far.short;
-    stops = subst (λ x. Stops view writes x m g k r t h n) far.count stops;
   }
-
-  -- A piece was refused.
-  pub piece_refused : (s m t : S) (f g h : F) (b k n : BodyState) (total : ℕ) (e : DavError) (piece bytes : List ℕ) → SoFar s f b total m g k
-      → GivesPiece k (Ok (Some piece)) n → bytes ≡ piece → TakesPiece view writes total m g bytes (Err e) t h → Pours view writes s f b (Err e) t h n
-  piece_refused s m t f g h b k n total e piece bytes far gives same takes =
-      end_pouring s m t f g h b k n total (Err e) far (inr (piece, gives, subst (λ p. RefusesPiece view writes total m g p e t h) same takes))

@@ -1,4 +1,5 @@
--- What the methods that write may answer over a store that refuses few things, in any run: a failure only where a fault was met.
+-- What the methods that write may answer over a store that refuses few things, in any run: a failure only where a fault
+-- was met.
 use Rattle.std.specs.Prelude.{◌≡◌, ◌≤◌, ◌⊎◌, ℕ, Bool, true, false, List, Option, Some, Result, Ok, Err}
 use Rattle.dav_io.specs.Counts.{Rose}
 use Rattle.dav_core.specs.declared.error.FsError.{FsError}
@@ -45,29 +46,42 @@ module _ {S C F L E : Type 0} (view : View S C F) (lists : Listings S C L E) (wr
   -- Each call of the store, of its files and of its listings ends so.
   pub record RefusesUsually : Type 0 where
     pub looks : (s t : S) (path : WebPath) (r : Result Info FsError) → view.looks s c path r t → UsualIn s r t
-    pub looks_at_link : (s t : S) (path : WebPath) (r : Result Info FsError) → view.looks_at_link s c path r t → UsualIn s r t
-    pub opens : (s t : S) (path : WebPath) (how : OpenOptions) (r : Result F FsError) → view.opens s c path how r t → UsualIn s r t
-    pub writes_file : (s t : S) (f g : F) (bytes : List ℕ) (r : Result Unit FsError) → WritesFile view writes s f bytes r t g → UsualIn s r t
+    pub looks_at_link : (s t : S) (path : WebPath) (r : Result Info FsError) → view.looks_at_link s c path r t
+        → UsualIn s r t
+    pub opens : (s t : S) (path : WebPath) (how : OpenOptions) (r : Result F FsError) → view.opens s c path how r t
+        → UsualIn s r t
+    pub writes_file : (s t : S) (f g : F) (bytes : List ℕ) (r : Result Unit FsError)
+        → WritesFile view writes s f bytes r t g → UsualIn s r t
     pub makes_dir : (s t : S) (path : WebPath) (r : Result Unit FsError) → view.makes_dir s c path r t → UsualIn s r t
-    pub removes_dir : (s t : S) (path : WebPath) (r : Result Unit FsError) → view.removes_dir s c path r t → UsualIn s r t
-    pub removes_file : (s t : S) (path : WebPath) (r : Result Unit FsError) → view.removes_file s c path r t → UsualIn s r t
+    pub removes_dir : (s t : S) (path : WebPath) (r : Result Unit FsError) → view.removes_dir s c path r t
+        → UsualIn s r t
+    pub removes_file : (s t : S) (path : WebPath) (r : Result Unit FsError) → view.removes_file s c path r t
+        → UsualIn s r t
     pub renames : (s t : S) (from to : WebPath) (r : Result Unit FsError) → view.renames s c from to r t → UsualIn s r t
     pub copies : (s t : S) (from to : WebPath) (r : Result Unit FsError) → view.copies s c from to r t → UsualIn s r t
-    pub begins : (s t : S) (path : WebPath) (how : ReadDirMeta) (r : Result L FsError) → lists.lists s c path how r t → UsualIn s r t
-    -- What a listing gives, and what an entry of it tells, ends so by what was met since the listing was begun: a store may read
-    -- ahead, and tell a fault later.
-    pub goes_on : (b n s t : S) (path : WebPath) (how : ReadDirMeta) (first l k : L) (answers : List Answered) (r : Result (Option E) FsError)
-        → lists.lists b c path how (Ok first) n → Walked view lists n first answers s l → lists.lists_on s l r t k → UsualIn b r t
-    pub says : (b n s m t : S) (path : WebPath) (how : ReadDirMeta) (first l k : L) (answers : List Answered) (e : E) (r : Result Info FsError)
-        → lists.lists b c path how (Ok first) n → Walked view lists n first answers s l → lists.lists_on s l (Ok (Some e)) m k
+    pub begins : (s t : S) (path : WebPath) (how : ReadDirMeta) (r : Result L FsError) → lists.lists s c path how r t
+        → UsualIn s r t
+    -- What a listing gives, and what an entry of it tells, ends so by what was met since the listing was begun: a store
+    -- may read ahead, and tell a fault later.
+    pub goes_on : (b n s t : S) (path : WebPath) (how : ReadDirMeta) (first l k : L) (answers : List Answered)
+        (r : Result (Option E) FsError)
+        → lists.lists b c path how (Ok first) n → Walked view lists n first answers s l → lists.lists_on s l r t k
+        → UsualIn b r t
+    pub says : (b n s m t : S) (path : WebPath) (how : ReadDirMeta) (first l k : L) (answers : List Answered) (e : E)
+        (r : Result Info FsError)
+        → lists.lists b c path how (Ok first) n → Walked view lists n first answers s l
+        → lists.lists_on s l (Ok (Some e)) m k
         → lists.says e (view.state m) r (view.state t) → UsualIn b r t
-    pub goes_counts : (s t : S) (l k : L) (r : Result (Option E) FsError) → lists.lists_on s l r t k → (view.state s).faults ≤ (view.state t).faults
-    pub says_counts : (s t : S) (e : E) (r : Result Info FsError) → lists.says e (view.state s) r (view.state t) → (view.state s).faults ≤ (view.state t).faults
+    pub goes_counts : (s t : S) (l k : L) (r : Result (Option E) FsError) → lists.lists_on s l r t k
+        → (view.state s).faults ≤ (view.state t).faults
+    pub says_counts : (s t : S) (e : E) (r : Result Info FsError) → lists.says e (view.state s) r (view.state t)
+        → (view.state s).faults ≤ (view.state t).faults
     pub ends : (s t : S) (l : L) → lists.ends_list s l t → (view.state s).faults ≤ (view.state t).faults
 
 -- ---- answers
 
--- Done, or a refusal with a status of the list, where memory wasn't refused; 500 comes only where the count of faults rose.
+-- Done, or a refusal with a status of the list, where memory wasn't refused; 500 comes only where the count of faults
+-- rose.
 abbrev pub IsAnswer : Type 0 → Given → Type 0
 IsAnswer rose (Ok outcome) = (outcome ≡ made) ⊎ (outcome ≡ silent)
 IsAnswer rose (Err e) = (lacks_memory e ≡ true)

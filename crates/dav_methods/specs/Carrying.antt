@@ -1,5 +1,5 @@
--- COPY and MOVE over the calls of any store (RFC 4918, sections 9.8 and 9.9): what stands at a path is copied to the destination
--- or moved there, in place of what stands there.
+-- COPY and MOVE over the calls of any store (RFC 4918, sections 9.8 and 9.9): what stands at a path is copied to the
+-- destination or moved there, in place of what stands there.
 use Rattle.std.specs.Prelude.{◌≡◌, ◌&&◌, ℕ, List, [], ◌∷◌, Bool, true, false, not, Result, Ok, Err}
 use Rattle.dav_core.specs.declared.dav_error.DavError.{DavError}
 use Rattle.dav_core.specs.declared.error.FsError.{FsError}
@@ -26,7 +26,8 @@ may_leave folds from to found = first_of (refused found ∷ fails_when (overlap 
 
 -- What was found at the destination lets it go on.
 abbrev pub may_take_place : Bool → Result Info FsError → Line
-may_take_place replaces there = first_of (refused_but_missing there ∷ fails_when (is_there there && not replaces) 412 ∷ [])
+may_take_place replaces there = first_of (refused_but_missing there ∷ fails_when (is_there there && not replaces) 412
+    ∷ [])
 
 -- what goes from the source, by what was found there
 abbrev pub transfer : WebPath → Asked → Result Info FsError → Transfer
@@ -39,12 +40,16 @@ module _ {S C F L E : Type 0} (view : View S C F) (lists : Listings S C L E) (c 
 
   -- the last act, by whether it is a MOVE
   abbrev pub Goes : Bool → Asked → Transfer → Outcome → Run S
-  Goes true asked x outcome s r t = (moved : Result Unit FsError) × view.renames s c x.from x.to moved t × (r ≡ answered outcome moved)
-  Goes false asked x outcome s r t = (all : Line) × Copies view lists c asked.alone (x ∷ []) s all t × (r ≡ unless all outcome)
+  Goes true asked x outcome s r t = (moved : Result Unit FsError) × view.renames s c x.from x.to moved t
+      × (r ≡ answered outcome moved)
+  Goes false asked x outcome s r t = (all : Line) × Copies view lists c asked.alone (x ∷ []) s all t
+      × (r ≡ unless all outcome)
 
-  -- What stands at the destination, which may be a directory, is removed with all below it, and then the last act is done.
+  -- What stands at the destination, which may be a directory, is removed with all below it, and then the last act is
+  -- done.
   abbrev pub Replaces : Asked → Transfer → Bool → Run S
-  Replaces asked x dir s r t = (gone : Line) × (m : S) × Removes view lists c (Whole asked.to dir ∷ []) s gone m × Unless gone (Goes asked.moving asked x silent) m r t
+  Replaces asked x dir s r t = (gone : Line) × (m : S) × Removes view lists c (Whole asked.to dir ∷ []) s gone m
+      × Unless gone (Goes asked.moving asked x silent) m r t
 
   -- the same where what stands at the destination was looked at
   abbrev pub TakesPlace : Asked → Transfer → Result Info FsError → Run S
@@ -68,7 +73,8 @@ module _ {S C F L E : Type 0} (view : View S C F) (lists : Listings S C L E) (c 
 
   -- The fields are read under a prefix.
   abbrev pub CopyMoves : Bool → List ℕ → WebPath → Fields → Run S
-  CopyMoves moving prefix path fields s r t = (asked : Result Asked DavError) × Asks moving prefix fields asked × Carries path fields asked s r t
+  CopyMoves moving prefix path fields s r t = (asked : Result Asked DavError) × Asks moving prefix fields asked
+      × Carries path fields asked s r t
 
   abbrev pub CopiesTo : List ℕ → WebPath → Fields → Run S
   CopiesTo prefix path fields = Next (CopyMoves false prefix path fields)

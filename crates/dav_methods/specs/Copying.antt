@@ -1,4 +1,5 @@
--- How what stands at a path is copied over the calls of any store (RFC 4918, section 9.8.3): a directory before its members.
+-- How what stands at a path is copied over the calls of any store (RFC 4918, section 9.8.3): a directory before its
+-- members.
 use Rattle.std.specs.Prelude.{◌≡◌, ◌⊎◌, ◌++◌, List, [], ◌∷◌, map, Bool, true, false, Result, Ok, Err}
 use Rattle.dav_core.specs.declared.dav_error.DavError.{DavError}
 use Rattle.dav_core.specs.declared.dav_error.DavError.TheVariants.{NoMemory, Status}
@@ -32,8 +33,10 @@ Does S = List Transfer → S → Line → S → List Transfer → Type 0
 module _ {S C F L E : Type 0} (view : View S C F) (lists : Listings S C L E) (c : C) where
   -- The members of a directory come before the work, unless they aren't read, or no memory is left for them.
   abbrev pub ReadsInto : Transfer → Does S
-  ReadsInto x works s (Ok y) t rest = (members : List Child) × HasMembers view lists s c x.from members t × (rest ≡ transfers_in x.to members works)
-  ReadsInto x works s (Err e) t rest = ((refusal : FsError) × HasNoMembers view lists s c x.from refusal t × (e ≡ of_fs refusal))
+  ReadsInto x works s (Ok y) t rest = (members : List Child) × HasMembers view lists s c x.from members t
+      × (rest ≡ transfers_in x.to members works)
+  ReadsInto x works s (Err e) t rest = ((refusal : FsError) × HasNoMembers view lists s c x.from refusal t
+      × (e ≡ of_fs refusal))
       ⊎ ((members : List Child) × HasMembers view lists s c x.from members t × (e ≡ NoMemory))
 
 -- `alone` is whether a directory goes without its members.
@@ -50,12 +53,14 @@ module _ {S C F L E : Type 0} (view : View S C F) (lists : Listings S C L E) (c 
   -- A directory is made, by whether it is too deep.
   abbrev pub CopiesDir : Bool → Transfer → Does S
   CopiesDir true x works s r t rest = (t ≡ s) × (r ≡ Err (Status 403))
-  CopiesDir false x works s r t rest = (made : Result Unit FsError) × (m : S) × view.makes_dir s c x.to made m × AfterMaking made x works m r t rest
+  CopiesDir false x works s r t rest = (made : Result Unit FsError) × (m : S) × view.makes_dir s c x.to made m
+      × AfterMaking made x works m r t rest
 
   -- by whether a directory is copied
   abbrev pub CopiesBy : Bool → Transfer → Does S
   CopiesBy true x works s r t rest = CopiesDir (is_deep x.from) x works s r t rest
-  CopiesBy false x works s r t rest = (copied : Result Unit FsError) × view.copies s c x.from x.to copied t × (r ≡ line_of copied) × (rest ≡ works)
+  CopiesBy false x works s r t rest = (copied : Result Unit FsError) × view.copies s c x.from x.to copied t
+      × (r ≡ line_of copied) × (rest ≡ works)
 
   -- the first of the work is done
   abbrev pub CopiesOne : Transfer → Does S
@@ -65,5 +70,7 @@ module _ {S C F L E : Type 0} (view : View S C F) (lists : Listings S C L E) (c 
   pub data Copies : List Transfer → S → Line → S → Type 0 where
     done : (s : S) → Copies [] s (Ok tt) s
     short : (works : List Transfer) (s : S) → Copies works s (Err NoMemory) s
-    goes : (x : Transfer) (works rest : List Transfer) (s m t : S) (r : Line) → CopiesOne x works s (Ok tt) m rest → Copies rest m r t → Copies (x ∷ works) s r t
-    stops : (x : Transfer) (works rest : List Transfer) (s t : S) (e : DavError) → CopiesOne x works s (Err e) t rest → Copies (x ∷ works) s (Err e) t
+    goes : (x : Transfer) (works rest : List Transfer) (s m t : S) (r : Line) → CopiesOne x works s (Ok tt) m rest
+        → Copies rest m r t → Copies (x ∷ works) s r t
+    stops : (x : Transfer) (works rest : List Transfer) (s t : S) (e : DavError) → CopiesOne x works s (Err e) t rest
+        → Copies (x ∷ works) s (Err e) t

@@ -1,5 +1,5 @@
--- A store that stands over a told disk by rules: what each of its calls does to the told world. Where a link stands on the way to a
--- path nothing is said.
+-- A store that stands over a told disk by rules: what each of its calls does to the told world. Where a link stands on
+-- the way to a path nothing is said.
 use Rattle.std.specs.Prelude.{◌≤◌, ◌≡◌, ◌⊎◌, ◌+◌, ℕ, List, [], map, take, length, Bool, true, false, Option, None, Some, Result, Ok, Err}
 use Rattle.std.specs.List.{filter}
 use Rattle.dav_io.specs.Counts.{Rose}
@@ -40,9 +40,14 @@ use Rattle.dav_methods.specs.Reading.{HasMembers, HasNoMembers, child_named}
 
 -- what is answered, or want of memory
 abbrev pub answer_or : Fields → Given → Result Reply Wanting → Type 0
-answer_or fields (Ok outcome) (Ok reply) = reply ≡ record { status = outcome.status; fields = outcome.fields; parts = [] }
+answer_or fields (Ok outcome) (Ok reply) = reply ≡ record {
+  status = outcome.status;
+  fields = outcome.fields;
+  parts = [];
+}
 answer_or fields (Ok outcome) (Err e) = ⊥
-answer_or fields (Err error) (Ok reply) = (lacks_memory error ≡ false) × (reply ≡ refusal fields (status_of error) (closes error))
+answer_or fields (Err error) (Ok reply) = (lacks_memory error ≡ false)
+    × (reply ≡ refusal fields (status_of error) (closes error))
 answer_or fields (Err error) (Err e) = lacks_memory error ≡ true
 
 -- ---- what a call finds
@@ -79,15 +84,23 @@ module _ {S C F L E : Type 0} (view : View S C F) (lists : Listings S C L E) (wr
   pub data Reached (s : S) : S → Type 0 where
     here : Reached s s
     looks : (m n : S) (path : WebPath) (r : Result Info FsError) → Reached s m → view.looks m c path r n → Reached s n
-    looks_at_link : (m n : S) (path : WebPath) (r : Result Info FsError) → Reached s m → view.looks_at_link m c path r n → Reached s n
-    opens : (m n : S) (path : WebPath) (how : OpenOptions) (r : Result F FsError) → Reached s m → view.opens m c path how r n → Reached s n
-    writes_file : (m n : S) (f g : F) (bytes : List ℕ) (r : Result Unit FsError) → Reached s m → WritesFile view writes m f bytes r n g → Reached s n
+    looks_at_link : (m n : S) (path : WebPath) (r : Result Info FsError) → Reached s m
+        → view.looks_at_link m c path r n → Reached s n
+    opens : (m n : S) (path : WebPath) (how : OpenOptions) (r : Result F FsError) → Reached s m
+        → view.opens m c path how r n → Reached s n
+    writes_file : (m n : S) (f g : F) (bytes : List ℕ) (r : Result Unit FsError) → Reached s m
+        → WritesFile view writes m f bytes r n g → Reached s n
     ends_file : (m n : S) (f : F) → Reached s m → Closes view m f n → Reached s n
-    makes_dir : (m n : S) (path : WebPath) (r : Result Unit FsError) → Reached s m → view.makes_dir m c path r n → Reached s n
-    removes_dir : (m n : S) (path : WebPath) (r : Result Unit FsError) → Reached s m → view.removes_dir m c path r n → Reached s n
-    removes_file : (m n : S) (path : WebPath) (r : Result Unit FsError) → Reached s m → view.removes_file m c path r n → Reached s n
-    renames : (m n : S) (from to : WebPath) (r : Result Unit FsError) → Reached s m → view.renames m c from to r n → Reached s n
-    copies : (m n : S) (from to : WebPath) (r : Result Unit FsError) → Reached s m → view.copies m c from to r n → Reached s n
+    makes_dir : (m n : S) (path : WebPath) (r : Result Unit FsError) → Reached s m → view.makes_dir m c path r n
+        → Reached s n
+    removes_dir : (m n : S) (path : WebPath) (r : Result Unit FsError) → Reached s m → view.removes_dir m c path r n
+        → Reached s n
+    removes_file : (m n : S) (path : WebPath) (r : Result Unit FsError) → Reached s m → view.removes_file m c path r n
+        → Reached s n
+    renames : (m n : S) (from to : WebPath) (r : Result Unit FsError) → Reached s m → view.renames m c from to r n
+        → Reached s n
+    copies : (m n : S) (from to : WebPath) (r : Result Unit FsError) → Reached s m → view.copies m c from to r n
+        → Reached s n
     unlisted : (m n : S) (path : WebPath) (e : FsError) → Reached s m → lists.lists m c path DataSymlink (Err e) n
         → Reached s n
     listed : (m n : S) (path : WebPath) → Reached s m → ListedThrough view lists DataSymlink m c path n → Reached s n
@@ -95,19 +108,23 @@ module _ {S C F L E : Type 0} (view : View S C F) (lists : Listings S C L E) (wr
   -- A look changes nothing, and finds what stands there, or was spoiled.
   abbrev pub LooksBy : Rules → WebPath → S → Result Info FsError → S → World → World → Type 0
   LooksBy rules path m r n v w = SameBesidesOpens v w
-      × (is_linked v.tree (resolved rules v.tree path.names) ≡ false → Finds (stands rules v path) r ⊎ Spoiled (view.state m) r (view.state n))
+      × (is_linked v.tree (resolved rules v.tree path.names) ≡ false → Finds (stands rules v path) r
+      ⊎ Spoiled (view.state m) r (view.state n))
 
-  -- A call that changes what stands does what is allowed; or the tree calls for its refusal; or a fault or want of memory was
-  -- met, which may leave a part.
+  -- A call that changes what stands does what is allowed; or the tree calls for its refusal; or a fault or want of
+  -- memory was met, which may leave a part.
   abbrev pub Calls : Allowed → S → Result Unit FsError → S → World → World → Type 0
   Calls allowed m (Ok x) n v w = (edit : Option Edit) × (allowed ≡ Ok edit) × EditedBy edit v w
   Calls allowed m (Err e) n v w = (CallsFor allowed e × SameBesidesOpens v w)
       ⊎ (Spoiled {T = Unit} (view.state m) (Err e) (view.state n) × LeftBy true allowed v w)
 
-  -- What was opened is open at its first byte, in a world in which the edit was made, and is of the kind that stands there.
+  -- What was opened is open at its first byte, in a world in which the edit was made, and is of the kind that stands
+  -- there.
   abbrev pub OpensBy : Rules → WebPath → S → Result F FsError → S → World → World → Type 0
-  OpensBy rules path m (Ok f) n v w = (edit : Option Edit) × (row : Row) × (putting rules v path ≡ Ok edit) × EditedBy edit v w
-      × (row_at w.tree (resolved rules v.tree path.names) ≡ Some row) × (w.opens (view.handle f) ≡ Some (at_start row.number))
+  OpensBy rules path m (Ok f) n v w = (edit : Option Edit) × (row : Row) × (putting rules v path ≡ Ok edit)
+      × EditedBy edit v w
+      × (row_at w.tree (resolved rules v.tree path.names) ≡ Some row)
+      × (w.opens (view.handle f) ≡ Some (at_start row.number))
       × (kind_at (view.state n) (view.handle f) ≡ Some row.kind)
   OpensBy rules path m (Err e) n v w = SameBesidesOpens v w
       × (CallsFor (putting rules v path) e ⊎ Spoiled {T = F} (view.state m) (Err e) (view.state n))
@@ -116,17 +133,19 @@ module _ {S C F L E : Type 0} (view : View S C F) (lists : Listings S C L E) (wr
   abbrev pub WritesBy : ℕ → List ℕ → Result Unit FsError → OpenFile → World → World → Type 0
   WritesBy h bytes (Ok x) o v w = Edited (fills o.number (written o.place bytes (bytes_of v o.number))) v w
       × (w.opens h ≡ Some (record o { place = o.place + length bytes }))
-  WritesBy h bytes (Err e) o v w = (n : ℕ) × Edited (fills o.number (written o.place (take n bytes) (bytes_of v o.number))) v w
+  WritesBy h bytes (Err e) o v w = (n : ℕ) × Edited
+      (fills o.number (written o.place (take n bytes) (bytes_of v o.number))) v w
 
-  -- A directory is listed to its end: its members are those of the tree. It fails to be listed only by a fault or want of
-  -- memory.
+  -- A directory is listed to its end: its members are those of the tree. It fails to be listed only by a fault or want
+  -- of memory.
   abbrev pub ListsBy : Rules → WebPath → List Child → World → World → Type 0
   ListsBy rules path members v w = SameBesidesOpens v w × (is_clear v.tree (resolved rules v.tree path.names) ≡ true
       → members ≡ children_in v.tree (resolved rules v.tree path.names) path)
 
   abbrev pub FailsToList : Rules → WebPath → S → FsError → S → World → World → Type 0
   FailsToList rules path m e n v w = SameBesidesOpens v w × (is_clear v.tree (resolved rules v.tree path.names) ≡ true
-      → has_dir v.tree (resolved rules v.tree path.names) ≡ true → Spoiled {T = Unit} (view.state m) (Err e) (view.state n))
+      → has_dir v.tree (resolved rules v.tree path.names) ≡ true → Spoiled {T = Unit} (view.state m) (Err e)
+      (view.state n))
 
   -- From here on each call does to the told world what the rules say.
   pub record Follows (rules : Rules) (s : S) : Type 0 where
@@ -138,15 +157,18 @@ module _ {S C F L E : Type 0} (view : View S C F) (lists : Listings S C L E) (wr
     pub trees : (n : S) (w : World) → Reached s n → (view.state n).told ≡ Some w → IsWorld w
     pub looks : (m n : S) (path : WebPath) (r : Result Info FsError) → Reached s m → view.looks m c path r n
         → Told m n (LooksBy rules path m r n)
-    pub looks_at_link : (m n : S) (path : WebPath) (r : Result Info FsError) → Reached s m → view.looks_at_link m c path r n
+    pub looks_at_link : (m n : S) (path : WebPath) (r : Result Info FsError) → Reached s m
+        → view.looks_at_link m c path r n
         → Told m n (LooksBy rules path m r n)
     pub makes_dir : (m n : S) (path : WebPath) (r : Result Unit FsError) → Reached s m → view.makes_dir m c path r n
-        → Told m n (λ v w. is_linked v.tree (resolved rules v.tree path.names) ≡ false → Calls (making rules v path) m r n v w)
+        → Told m n (λ v w. is_linked v.tree (resolved rules v.tree path.names) ≡ false
+        → Calls (making rules v path) m r n v w)
     pub removes_dir : (m n : S) (path : WebPath) (r : Result Unit FsError) → Reached s m → view.removes_dir m c path r n
         → Told m n (λ v w. is_linked v.tree (resolved rules v.tree path.names) ≡ false
         → Calls (taking_dir v.tree (resolved rules v.tree path.names)) m r n v w)
     -- (a path without a final slash)
-    pub removes_file : (m n : S) (path : WebPath) (r : Result Unit FsError) → Reached s m → view.removes_file m c path r n
+    pub removes_file : (m n : S) (path : WebPath) (r : Result Unit FsError) → Reached s m
+        → view.removes_file m c path r n
         → Told m n (λ v w. path.slash ≡ false → is_linked v.tree (resolved rules v.tree path.names) ≡ false
         → Calls (taking_file v.tree (resolved rules v.tree path.names)) m r n v w)
     -- (where nothing stands at the destination: a store may make two edits of a move that replaces)
@@ -163,11 +185,13 @@ module _ {S C F L E : Type 0} (view : View S C F) (lists : Listings S C L E) (wr
         → path.slash ≡ false
         → Told m n (λ v w. is_linked v.tree (resolved rules v.tree path.names) ≡ false → OpensBy rules path m r n v w)
     -- (a file that isn't opened to append, and whose place isn't behind its end)
-    pub writes_file : (m n : S) (f g : F) (bytes : List ℕ) (r : Result Unit FsError) → Reached s m → WritesFile view writes m f bytes r n g
+    pub writes_file : (m n : S) (f g : F) (bytes : List ℕ) (r : Result Unit FsError) → Reached s m
+        → WritesFile view writes m f bytes r n g
         → appends ((view.state m).live (view.handle f)) ≡ false
         → Told m n (λ v w. (o : OpenFile) → v.opens (view.handle f) ≡ Some o → o.place ≤ length (bytes_of v o.number)
         → WritesBy (view.handle f) bytes r o v w)
-    pub members : (m n : S) (path : WebPath) (members : List Child) → Reached s m → HasMembers view lists m c path members n
+    pub members : (m n : S) (path : WebPath) (members : List Child) → Reached s m
+        → HasMembers view lists m c path members n
         → Told m n (ListsBy rules path members)
     pub no_members : (m n : S) (path : WebPath) (e : FsError) → Reached s m → HasNoMembers view lists m c path e n
         → Told m n (FailsToList rules path m e n)

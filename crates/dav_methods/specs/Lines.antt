@@ -105,11 +105,13 @@ found_or_failed (Err e) = Ok tt
 
 -- What was found lets a MKCOL go on.
 abbrev pub may_make : Fields → Result Info FsError → Line
-may_make fields found = first_of (fails_when (is_there found) 405 ∷ refused_but_missing found ∷ unmet MkCol fields found ∷ [])
+may_make fields found = first_of (fails_when (is_there found) 405 ∷ refused_but_missing found
+    ∷ unmet MkCol fields found ∷ [])
 
 -- What was found lets a PUT go on.
 abbrev pub may_put : Fields → Result Info FsError → Line
-may_put fields found = first_of (refused_but_missing found ∷ fails_when (is_dir_there found) 405 ∷ unmet Put fields found ∷ [])
+may_put fields found = first_of (refused_but_missing found ∷ fails_when (is_dir_there found) 405
+    ∷ unmet Put fields found ∷ [])
 
 -- What was found lets a DELETE go on.
 abbrev pub may_delete : Fields → Result Info FsError → Line

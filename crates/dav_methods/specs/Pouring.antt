@@ -30,9 +30,11 @@ module _ {S C F : Type 0} (view : View S C F) where
 
 module _ {S C F : Type 0} (view : View S C F) (writes : Writes F) where
   -- Bytes are written to a file, on the disk inside.
-  pub record WritesFile (s : S) (file : F) (from : List ℕ) (result : Result Unit FsError) (t : S) (after : F) : Type 0 where
+  pub record WritesFile (s : S) (file : F) (from : List ℕ) (result : Result Unit FsError) (t : S) (after : F)
+      : Type 0 where
     pub done : writes file (view.state s) from result after (view.state t)
-    pub told : FileWrites (view.state s) (view.handle file) (seen_in view s file) from result (view.state t) (seen_in view t after)
+    pub told : FileWrites (view.state s) (view.handle file) (seen_in view s file) from result (view.state t)
+        (seen_in view t after)
     pub handle : view.handle after ≡ view.handle file
     pub lent : Lent view s t
 
@@ -43,7 +45,8 @@ module _ {S C F : Type 0} (view : View S C F) (writes : Writes F) where
 
   -- A piece is written after so many bytes; or refused.
   abbrev pub TakesPiece : ℕ → S → F → List ℕ → Result ℕ DavError → S → F → Type 0
-  TakesPiece total s f piece (Ok sum) t h = (sum ≡ total + length piece) × (sum < most_bytes) × WritesFile s f piece (Ok tt) t h
+  TakesPiece total s f piece (Ok sum) t h = (sum ≡ total + length piece) × (sum < most_bytes)
+      × WritesFile s f piece (Ok tt) t h
   TakesPiece total s f piece (Err e) t h = RefusesPiece total s f piece e t h
 
   -- Pieces that the reader gave were written, each as it came: these bytes in all.

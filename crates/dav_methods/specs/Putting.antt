@@ -29,7 +29,8 @@ module _ {S C F : Type 0} (view : View S C F) (c : C) where
 
 module _ {S C F : Type 0} (view : View S C F) (writes : Writes F) (c : C) where
   -- The body went into a file that was opened, and the file was closed. The reader is `b` before and `n` after.
-  pub record PoursInto (f : F) (outcome : Outcome) (b : BodyState) (s : S) (r : Given) (t : S) (n : BodyState) : Type 0 where
+  pub record PoursInto (f : F) (outcome : Outcome) (b : BodyState) (s : S) (r : Given) (t : S) (n : BodyState)
+      : Type 0 where
     pub ended : Line
     pub full : S
     pub file : F
@@ -49,7 +50,8 @@ module _ {S C F : Type 0} (view : View S C F) (writes : Writes F) (c : C) where
       × AfterOpening opened outcome b m r t n
 
   abbrev pub Puts : WebPath → Fields → BodyState → S → Given → S → BodyState → Type 0
-  Puts path fields b s r t n = (may : Given) × (m : S) × MayPut view c path fields s may m × AfterChecks may path b m r t n
+  Puts path fields b s r t n = (may : Given) × (m : S) × MayPut view c path fields s may m
+      × AfterChecks may path b m r t n
 
   -- ---- a body that is in memory
 
@@ -74,4 +76,5 @@ module _ {S C F : Type 0} (view : View S C F) (writes : Writes F) (c : C) where
       × AfterOpeningWhole opened outcome bytes m r t
 
   abbrev pub PutsWhole : WebPath → Fields → List ℕ → Run S
-  PutsWhole path fields bytes s r t = (may : Given) × (m : S) × MayPut view c path fields s may m × AfterChecksWhole may path bytes m r t
+  PutsWhole path fields bytes s r t = (may : Given) × (m : S) × MayPut view c path fields s may m
+      × AfterChecksWhole may path bytes m r t

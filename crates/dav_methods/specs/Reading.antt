@@ -58,8 +58,10 @@ module _ {S C F L E : Type 0} (view : View S C F) (lists : Listings S C L E) whe
   -- The listing, or an entry that was asked for its metadata, was refused; or memory was, behind some entries.
   abbrev pub ReadRefused : S → L → FsError → S → L → Type 0
   ReadRefused s l e t over = ((e ≡ NoMemory) × (answers : List Answered) × Walked view lists s l answers t over)
-      ⊎ (((answers : List Answered) × (place : S) × (left : L) × Walked view lists s l answers place left × AllSaid answers × lists.lists_on place left (Err e) t over)
-      ⊎ ((answers : List Answered) × (name : List ℕ) × AllSaid answers × Walked view lists s l (answers ++ record { name = name; meta = Err e } ∷ []) t over))
+      ⊎ (((answers : List Answered) × (place : S) × (left : L) × Walked view lists s l answers place left
+      × AllSaid answers × lists.lists_on place left (Err e) t over)
+      ⊎ ((answers : List Answered) × (name : List ℕ) × AllSaid answers
+      × Walked view lists s l (answers ++ record { name = name; meta = Err e } ∷ []) t over))
 
   -- The directory at a path was listed to its end, which told of these members.
   pub record Listed (s : S) (c : C) (path : WebPath) (members : List Child) (t : S) : Type 0 where
@@ -78,8 +80,8 @@ module _ {S C F L E : Type 0} (view : View S C F) (lists : Listings S C L E) whe
     pub each_once : IsPermutation listed members
     pub in_order : IsSortedByKey (λ m. m.name) (slice_cmp nat_cmp) members
 
-  -- The members were listed, and memory to order them was refused; or the listing was refused, at once or further on, where it
-  -- was ended.
+  -- The members were listed, and memory to order them was refused; or the listing was refused, at once or further on,
+  -- where it was ended.
   abbrev pub MembersUnread : S → C → WebPath → FsError → S → Type 0
   MembersUnread s c path e t = ((e ≡ NoMemory) × (listed : List Child) × Listed s c path listed t)
       ⊎ (lists.lists s c path DataSymlink (Err e) t

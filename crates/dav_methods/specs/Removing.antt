@@ -1,5 +1,5 @@
--- DELETE over the calls of any store (RFC 9110, section 9.3.5, and RFC 4918, section 9.6): what stands at a path is removed, a
--- directory's members before it.
+-- DELETE over the calls of any store (RFC 9110, section 9.3.5, and RFC 4918, section 9.6): what stands at a path is
+-- removed, a directory's members before it.
 use Rattle.std.specs.Prelude.{◌≡◌, ◌⊎◌, ◌++◌, nat_lt, List, [], ◌∷◌, map, length, Bool, true, false, Result, Ok, Err}
 use Rattle.dav_core.specs.declared.dav_error.DavError.{DavError}
 use Rattle.dav_core.specs.declared.dav_error.DavError.TheVariants.{NoMemory, Status}
@@ -41,14 +41,18 @@ module _ {S C F L E : Type 0} (view : View S C F) (lists : Listings S C L E) (c 
   -- A directory isn't walked into: it is too deep, its members weren't read, or no memory was left for them.
   abbrev pub RefusesDir : WebPath → S → DavError → S → Type 0
   RefusesDir path s e t = ((is_deep path ≡ true) × (e ≡ Status 403) × (t ≡ s))
-      ⊎ (((is_deep path ≡ false) × (refusal : FsError) × HasNoMembers view lists s c path refusal t × (e ≡ of_fs refusal))
+      ⊎ (((is_deep path ≡ false) × (refusal : FsError) × HasNoMembers view lists s c path refusal t
+      × (e ≡ of_fs refusal))
       ⊎ ((is_deep path ≡ false) × (members : List Child) × HasMembers view lists s c path members t × (e ≡ NoMemory)))
 
   -- the first of the work is done: in place of a directory come its members, and it itself once it has lost them
   abbrev pub RemovesOne : Work → List Work → S → Line → S → List Work → Type 0
-  RemovesOne (Whole path false) works s r t rest = (gone : Result Unit FsError) × view.removes_file s c path gone t × (r ≡ line_of gone) × (rest ≡ works)
-  RemovesOne (Emptied path) works s r t rest = (gone : Result Unit FsError) × view.removes_dir s c path gone t × (r ≡ line_of gone) × (rest ≡ works)
-  RemovesOne (Whole path true) works s (Ok x) t rest = (is_deep path ≡ false) × (members : List Child) × HasMembers view lists s c path members t
+  RemovesOne (Whole path false) works s r t rest = (gone : Result Unit FsError) × view.removes_file s c path gone t
+      × (r ≡ line_of gone) × (rest ≡ works)
+  RemovesOne (Emptied path) works s r t rest = (gone : Result Unit FsError) × view.removes_dir s c path gone t
+      × (r ≡ line_of gone) × (rest ≡ works)
+  RemovesOne (Whole path true) works s (Ok x) t rest = (is_deep path ≡ false) × (members : List Child)
+      × HasMembers view lists s c path members t
       × (rest ≡ works_in path members works)
   RemovesOne (Whole path true) works s (Err e) t rest = RefusesDir path s e t
 
@@ -56,12 +60,15 @@ module _ {S C F L E : Type 0} (view : View S C F) (lists : Listings S C L E) (c 
   pub data Removes : List Work → S → Line → S → Type 0 where
     done : (s : S) → Removes [] s (Ok tt) s
     short : (works : List Work) (s : S) → Removes works s (Err NoMemory) s
-    goes : (work : Work) (works rest : List Work) (s m t : S) (r : Line) → RemovesOne work works s (Ok tt) m rest → Removes rest m r t → Removes (work ∷ works) s r t
-    stops : (work : Work) (works rest : List Work) (s t : S) (e : DavError) → RemovesOne work works s (Err e) t rest → Removes (work ∷ works) s (Err e) t
+    goes : (work : Work) (works rest : List Work) (s m t : S) (r : Line) → RemovesOne work works s (Ok tt) m rest
+        → Removes rest m r t → Removes (work ∷ works) s r t
+    stops : (work : Work) (works rest : List Work) (s t : S) (e : DavError) → RemovesOne work works s (Err e) t rest
+        → Removes (work ∷ works) s (Err e) t
 
   -- A look at a path, links not followed, and what follows by what it found.
   abbrev pub LooksAtLink : WebPath → (Result Info FsError → Run S) → Run S
-  LooksAtLink path run s r t = (found : Result Info FsError) × (m : S) × view.looks_at_link s c path found m × Next (run found) m r t
+  LooksAtLink path run s r t = (found : Result Info FsError) × (m : S) × view.looks_at_link s c path found m
+      × Next (run found) m r t
 
   -- What stands at a path is removed, with all below it.
   abbrev pub RemovesAll : WebPath → Bool → Run S

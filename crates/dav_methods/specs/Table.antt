@@ -1,6 +1,6 @@
--- The tables of the methods that write, over the calls of any store: which calls are made one after the other, and what is
--- answered by the answer of each. Here are the words in which they are written, and the tables of the methods that make a
--- directory.
+-- The tables of the methods that write, over the calls of any store: which calls are made one after the other, and what
+-- is answered by the answer of each. Here are the words in which they are written, and the tables of the methods that
+-- make a directory.
 use Rattle.std.specs.Prelude.{◌≡◌, ◌⊎◌, Result, Ok, Err}
 use Rattle.dav_core.specs.declared.dav_error.DavError.TheVariants.{NoMemory}
 use Rattle.dav_core.specs.declared.error.FsError.{FsError}
@@ -44,7 +44,8 @@ module _ {S C F : Type 0} (view : View S C F) (c : C) where
 
   -- A directory is made at a path, and what follows by the answer.
   abbrev pub MakesDir : WebPath → (Result Unit FsError → Run S) → Run S
-  MakesDir path run s r t = (answer : Result Unit FsError) × (m : S) × view.makes_dir s c path answer m × run answer m r t
+  MakesDir path run s r t = (answer : Result Unit FsError) × (m : S) × view.makes_dir s c path answer m
+      × run answer m r t
 
   -- The last act: a directory is made.
   abbrev pub EndsMade : WebPath → Run S

@@ -1,5 +1,5 @@
--- How much work is left at most, by which a walk ends over any store: a directory weighs more than so many members as memory has
--- room for, and it itself once it has lost them.
+-- How much work is left at most, by which a walk ends over any store: a directory weighs more than so many members as
+-- memory has room for, and it itself once it has lost them.
 use Rattle.std.specs.Prelude.{◌+◌, ◌-◌, ◌*◌, ◌^◌, ℕ, zero, suc, List, [], ◌∷◌, map, length, true, false}
 use Rattle.dav_core.specs.DavPath.{WebPath}
 use Rattle.dav_methods.specs.declared.transfer.Transfer.{Transfer}

@@ -229,10 +229,10 @@ fn carry<S: GuardedFileSystem<C>, C>(
 /// that goes. `prefix` is the one under which `path` was read; the destination is read under it, and its host is passed
 /// over.
 ///
-/// Errors, in this order: 400 where Destination is missing, or is neither a path nor a URI with a scheme; the refusal of
-/// its path; 400 where Overwrite is neither `T` nor `F`, and where Depth is neither `infinity` nor `0`; and then, no
-/// call of the store having been made before, a refused look at the source; 403 where one of both paths lies inside
-/// the other, or they are one, by folded names where the store folds them; 409 where no directory stands above the
+/// Errors, in this order: 400 where Destination is missing, or is neither a path nor a URI with a scheme; the refusal
+/// of its path; 400 where Overwrite is neither `T` nor `F`, and where Depth is neither `infinity` nor `0`; and then, no
+/// call of the store having been made before, a refused look at the source; 403 where one of both paths lies inside the
+/// other, or they are one, by folded names where the store folds them; 409 where no directory stands above the
 /// destination, or the refusal of a look there that failed; 412 where a precondition isn't met by the source; a refused
 /// look at the destination, unless nothing stands there; 412 where something does and Overwrite is `F`; and then, what
 /// was done staying done, the first refusal of a listing, of a member's metadata, of a removal, a making or a copy, and

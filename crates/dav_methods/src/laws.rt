@@ -72,7 +72,8 @@ pub fn writes_follow_their_plans<S: GuardedFileSystem<C>, C>()
 
 /// The calls that a request that writes makes lead to the store that is left, whatever is answered.
 pub fn writes_lead_on<S: GuardedFileSystem<C>, C>()
-    ensures { (c : C) (s t : S) (method : DavMethod) (prefix : List ℕ) (path : WebPath) (fields : Fields) (body : List ℕ)
+    ensures { (c : C) (s t : S) (method : DavMethod) (prefix : List ℕ) (path : WebPath) (fields : Fields)
+        (body : List ℕ)
         → (r : Given) → Changes (the_view S.GuardedFileSystem S.Disk.Disk S.File.DavFile)
         (the_listings S.GuardedFileSystem S.Entry.DavDirEntry) S.File.writes c method prefix path fields body s r t
         → Reached (the_view S.GuardedFileSystem S.Disk.Disk S.File.DavFile)

@@ -122,8 +122,8 @@ fn make_unless_there<S: GuardedFileSystem<C>, C>(
 /// Answers a MKCALENDAR (RFC 4791, section 5.3.1) over any store: 201 where a directory was made. No field counts.
 ///
 /// Errors, in this order: 405 where something stands at the path, and the connection closes; a look there that failed;
-/// the refusal of the making, also where nothing stands above; and want of memory. `table` tells which call of the store
-/// gave the answer.
+/// the refusal of the making, also where nothing stands above; and want of memory. `table` tells which call of the
+/// store gave the answer.
 pub fn mkcalendar<S: GuardedFileSystem<C>, C>(
     alloc: Global,
     fs: &mut S,

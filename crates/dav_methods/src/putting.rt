@@ -118,12 +118,12 @@ fn put_body<S: GuardedFileSystem<C>, C, B: BodyReader>(
 /// Answers a PUT (RFC 9110, section 9.3.4, and RFC 4918, section 9.7) over any store: 201 where nothing stood at the
 /// path, 204 where a file did. The reader gave its last piece before; each piece is written as it comes.
 ///
-/// Errors, in this order: 405 where a slash ends the path; 409 where no directory stands above, or the refusal of a look
-/// there that failed; a refused look at the path, unless nothing stands; 405 where a directory stands; 412 where a
+/// Errors, in this order: 405 where a slash ends the path; 409 where no directory stands above, or the refusal of a
+/// look there that failed; a refused look at the path, unless nothing stands; 405 where a directory stands; 412 where a
 /// precondition isn't met; the refusal of the opening; and then, the file holding the pieces that were written, `Body`
-/// where the reader failed, 413 where it gave 2^60 bytes, and the refusal of a writing. Want of memory comes only before
-/// the opening, or from the store. Up to the opening the reader is as it was. `table` tells which call of the store and
-/// the reader gave the answer.
+/// where the reader failed, 413 where it gave 2^60 bytes, and the refusal of a writing. Want of memory comes only
+/// before the opening, or from the store. Up to the opening the reader is as it was. `table` tells which call of the
+/// store and the reader gave the answer.
 pub fn put<S: GuardedFileSystem<C>, C, B: BodyReader>(
     alloc: Global,
     fs: &mut S,
@@ -172,8 +172,8 @@ fn put_bytes<S: GuardedFileSystem<C>, C>(
 
 /// Answers a PUT as `put` does, where the whole body is in memory: it is written in one call.
 ///
-/// Errors, in this order: 405 where a slash ends the path; 409 where no directory stands above, or the refusal of a look
-/// there that failed; a refused look at the path, unless nothing stands; 405 where a directory stands; 412 where a
+/// Errors, in this order: 405 where a slash ends the path; 409 where no directory stands above, or the refusal of a
+/// look there that failed; a refused look at the path, unless nothing stands; 405 where a directory stands; 412 where a
 /// precondition isn't met; the refusal of the opening; and then, the file holding a front of the bytes, the refusal of
 /// the writing. Want of memory comes only before the opening, or from the store. `table` tells which call of the store
 /// gave the answer.

@@ -61,7 +61,8 @@ fn words_of(
     void: bool,
     methods: &[DavMethod],
 ) -> Result<Vec<&'static str>, NoMemory>
-    ensures { IfOk result (λ words. map (λ word. word.now) words.items ≡ map the_word_of (filter (the_is_told allow void) methods.now)) }
+    ensures { IfOk result (λ words. map (λ word. word.now) words.items
+        ≡ map the_word_of (filter (the_is_told allow void) methods.now)) }
 {
     let mut words = Vec::new(alloc);
     for method in methods {
@@ -114,9 +115,9 @@ fn add(alloc: Global, fields: &mut Vec<Field>, name: &str, value: &[u8]) -> Resu
     Ok(())
 }
 
-/// What OPTIONS is answered with: 200, and the methods that are answered among those that are allowed (RFC 9110, section
-/// 9.3.7; RFC 4918, section 10.1). `void` is whether there is no store: then OPTIONS alone is told, where it is allowed.
-/// It asks no disk.
+/// What OPTIONS is answered with: 200, and the methods that are answered among those that are allowed (RFC 9110,
+/// section 9.3.7; RFC 4918, section 10.1). `void` is whether there is no store: then OPTIONS alone is told, where it is
+/// allowed. It asks no disk.
 pub fn options(alloc: Global, allow: Option<DavMethodSet>, void: bool) -> Result<Outcome, NoMemory>
     ensures status { IfOk result (λ outcome. outcome.status ≡ (allowing allow void).status) }
     ensures fields { IfOk result (λ outcome. outcome.fields ≡ (allowing allow void).fields) }

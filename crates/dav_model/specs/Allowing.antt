@@ -18,7 +18,8 @@ word_of method = get_or (map (λ row. row.word) words) (place method) []
 
 -- Without a store OPTIONS alone is answered, where it is allowed.
 abbrev pub is_told : Option DavMethodSet → Bool → DavMethod → Bool
-is_told allow void method = cond (void && in_allowed allow Options) (same_method method Options) (in_allowed allow method)
+is_told allow void method = cond (void && in_allowed allow Options) (same_method method Options)
+    (in_allowed allow method)
 
 abbrev pub words_told : Option DavMethodSet → Bool → List (List ℕ)
 words_told allow void = map word_of (filter (is_told allow void) answered)

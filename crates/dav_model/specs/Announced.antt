@@ -15,8 +15,8 @@ abbrev pub value_of : List ℕ → List Field → Option (List ℕ)
 value_of name [] = None
 value_of name (field ∷ fields) = cond (bytes_eq field.name name) (Some field.value) (value_of name fields)
 
--- Whether `content-length` speaks of the body that is sent. To a HEAD, and with 304, no body is sent, and it speaks of the one
--- that a GET would have (RFC 9110, section 8.6).
+-- Whether `content-length` speaks of the body that is sent. To a HEAD, and with 304, no body is sent, and it speaks of
+-- the one that a GET would have (RFC 9110, section 8.6).
 abbrev pub length_is_own : Target → ℕ → Bool
 length_is_own (At method path) status = is_get method && not (status == 304)
 length_is_own Methods answered = true
@@ -24,7 +24,8 @@ length_is_own (Writes method path) answered = true
 length_is_own (Refused status close) answered = true
 
 abbrev pub IsFramedBy : Bool → Reply → Type 0
-IsFramedBy true reply = (value : List ℕ) → value_of (codes "content-length") reply.fields ≡ Some value → value ≡ decimal (bytes_left reply.parts)
+IsFramedBy true reply = (value : List ℕ) → value_of (codes "content-length") reply.fields ≡ Some value
+    → value ≡ decimal (bytes_left reply.parts)
 IsFramedBy false reply = reply.parts ≡ []
 
 -- Where a reply has `content-length`, that is the number of bytes of its body. A HEAD and 304 have no body.
@@ -45,7 +46,8 @@ pub record IsPoll (left : List Part) (answer : Answer) (rest : List Part) : Type
   pub after : ℕ
   pub polls : Polls told whole most (Rose before after) left answer rest
 
--- A body was polled to its end without a break, and gave these pieces. Between two polls anything may happen to the files.
+-- A body was polled to its end without a break, and gave these pieces. Between two polls anything may happen to the
+-- files.
 abbrev pub PolledToEnd : List Part → List (List ℕ) → Type 0
 PolledToEnd left [] = (rest : List Part) × IsPoll left End rest
 PolledToEnd left (piece ∷ pieces) = (rest : List Part) × IsPoll left (Piece piece) rest × PolledToEnd rest pieces

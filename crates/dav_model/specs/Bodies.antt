@@ -34,13 +34,15 @@ standing_from w number start = drop start (bytes_of w number)
 -- whole; or zeros where no byte stands. `most` is the size of the read buffer.
 abbrev pub PieceOf : Bool → ℕ → List ℕ → ℕ → List ℕ → Type 0
 PieceOf whole most [] count piece = piece ≡ replicate (min count zeros_size) 0
-PieceOf whole most (b ∷ bytes) count piece = (0 < length piece) × (length piece ≤ min count most) × (piece ≡ take (length piece) (b ∷ bytes))
+PieceOf whole most (b ∷ bytes) count piece = (0 < length piece) × (length piece ≤ min count most)
+    × (piece ≡ take (length piece) (b ∷ bytes))
     × (IsTrue whole → length piece ≡ min (min count most) (length (b ∷ bytes)))
 
 -- The first part gives this piece, and leaves those parts. The piece's bytes are those of the world, where it is told.
 abbrev pub Gives : Option World → Bool → ℕ → Part → List Part → List ℕ → List Part → Type 0
 Gives told whole most (text bytes) parts piece rest = (piece ≡ bytes) × (rest ≡ parts)
-Gives told whole most (slice number start count) parts piece rest = (0 < length piece) × (length piece ≤ count) × (rest ≡ moved number start count (length piece) parts)
+Gives told whole most (slice number start count) parts piece rest = (0 < length piece) × (length piece ≤ count)
+    × (rest ≡ moved number start count (length piece) parts)
     × ((w : World) → told ≡ Some w → PieceOf whole most (standing_from w number start) count piece)
 
 -- A text doesn't break. A slice breaks only where there is a cause.
@@ -48,11 +50,12 @@ abbrev pub Breaks : Part → Type 0 → Type 0
 Breaks (text bytes) cause = ⊥
 Breaks (slice number start count) cause = cause
 
--- A poll of a body with these parts left gives this answer, and leaves those. Where it breaks, nothing is left. The cause
--- of a break is that the count of faults rose.
+-- A poll of a body with these parts left gives this answer, and leaves those. Where it breaks, nothing is left. The
+-- cause of a break is that the count of faults rose.
 abbrev pub Polls : Option World → Bool → ℕ → Type 0 → List Part → Answer → List Part → Type 0
 Polls told whole most cause [] answer rest = (answer ≡ End) × (rest ≡ [])
-Polls told whole most cause (part ∷ parts) answer rest = ((piece : List ℕ) × (answer ≡ Piece piece) × Gives told whole most part parts piece rest)
+Polls told whole most cause (part ∷ parts) answer rest = ((piece : List ℕ) × (answer ≡ Piece piece)
+    × Gives told whole most part parts piece rest)
     ⊎ ((answer ≡ Broken) × (rest ≡ []) × Breaks part cause)
 
 -- how many bytes a body has left

@@ -25,8 +25,8 @@ abbrev pub MovesAndReads : Bool → ℕ → ℕ → Type 0
 MovesAndReads true before after = after ≡ one_more (one_more before)
 MovesAndReads false before after = (after ≡ one_more before) ⊎ (after ≡ one_more (one_more before))
 
--- How many calls the next bytes of a slice ask: one where the file stands at the slice, and two where it has to be moved
--- there. Where no bytes came, the second may not have been asked.
+-- How many calls the next bytes of a slice ask: one where the file stands at the slice, and two where it has to be
+-- moved there. Where no bytes came, the second may not have been asked.
 pub record AsksToRead (place start : ℕ) (came : Bool) (before after : ℕ) : Type 0 where
   pub here : place ≡ start → after ≡ one_more before
   pub there : place ≢ start → MovesAndReads came before after
@@ -41,13 +41,15 @@ pub record AsksSlice (told : Option World) (held : Option ℕ) (start : ℕ) (ca
   -- over any disk
   pub few : (after ≡ one_more before) ⊎ (after ≡ one_more (one_more before))
   -- the file stands at a place of the told world
-  pub by_place : (w : World) → told ≡ Some w → (place : ℕ) × (place_held w held ≡ Some place) × AsksToRead place start came before after
+  pub by_place : (w : World) → told ≡ Some w → (place : ℕ) × (place_held w held ≡ Some place)
+      × AsksToRead place start came before after
 
 -- A poll asks nothing where a text is given or nothing is left. (The end of a body's file isn't counted.)
 abbrev pub AsksToPoll : Option World → Option ℕ → List Part → Answer → ℕ → ℕ → Type 0
 AsksToPoll told held [] answer before after = after ≡ before
 AsksToPoll told held (text bytes ∷ parts) answer before after = after ≡ before
-AsksToPoll told held (slice number start count ∷ parts) answer before after = AsksSlice told held start (is_piece answer) before after
+AsksToPoll told held (slice number start count ∷ parts) answer before after = AsksSlice told held start
+    (is_piece answer) before after
 
 -- ---- requests
 
@@ -55,8 +57,9 @@ AsksToPoll told held (slice number start count ∷ parts) answer before after = 
 abbrev pub more_by : ℕ → ℕ → ℕ
 more_by calls before = min (before + calls) greatest
 
--- The calls of a GET or HEAD that gives no page of a directory, by the status of its answer: a look, and then at most an opening, the metadata of what was
--- opened, its address where clients may be sent there, and a move to the first part.
+-- The calls of a GET or HEAD that gives no page of a directory, by the status of its answer: a look, and then at most
+-- an opening, the metadata of what was opened, its address where clients may be sent there, and a move to the first
+-- part.
 pub record AsksToGet (redirects : Bool) (status before after : ℕ) : Type 0 where
   pub calls : ℕ
   pub are : after ≡ more_by calls before
@@ -82,20 +85,23 @@ AsksUnlessPage false redirects status before after = AsksToGet redirects status 
 -- The page of a well-known server is given without a call.
 abbrev pub AsksUnlessKnown : Bool → Bool → ℕ → List Field → ℕ → ℕ → Type 0
 AsksUnlessKnown true redirects status fields before after = after ≡ before
-AsksUnlessKnown false redirects status fields before after = AsksUnlessPage (is_of_page fields) redirects status before after
+AsksUnlessKnown false redirects status fields before after = AsksUnlessPage
+    (is_of_page fields) redirects status before after
 
--- A request that a gate refuses, and OPTIONS, ask nothing. How often a request that writes asks isn't said. Of a store that finds names that fold alike, or has the rules of macOS, nothing
--- is said.
+-- A request that a gate refuses, and OPTIONS, ask nothing. How often a request that writes asks isn't said. Of a store
+-- that finds names that fold alike, or has the rules of macOS, nothing is said.
 abbrev pub AsksToReply : Target → Rules → ℕ → List Field → ℕ → ℕ → Type 0
 AsksToReply (Refused gate close) rules status fields before after = after ≡ before
 AsksToReply Methods rules status fields before after = after ≡ before
 AsksToReply (Writes method path) rules status fields before after = before ≤ after
 AsksToReply (At method path) rules status fields before after = rules.folds ≡ false → rules.macos ≡ false
-    → AsksUnlessKnown (is_well_known rules.settings method path) (is_set rules.settings.redirect) status fields before after
+    → AsksUnlessKnown (is_well_known rules.settings method path)
+    (is_set rules.settings.redirect) status fields before after
 
 -- ---- want of memory
 
--- A request that was refused memory: a gate asks nothing, nor does OPTIONS. Of a request that asked the store nothing more is said.
+-- A request that was refused memory: a gate asks nothing, nor does OPTIONS. Of a request that asked the store nothing
+-- more is said.
 abbrev pub AsksAtGate : Target → ℕ → ℕ → Type 0
 AsksAtGate (Refused gate close) before after = after ≡ before
 AsksAtGate Methods before after = after ≡ before

@@ -1,5 +1,5 @@
--- The tables of COPY and MOVE over a world (RFC 4918, sections 9.8 and 9.9): the line that refuses a request, or the changes that
--- it makes, in their order. What stands at the destination goes first.
+-- The tables of COPY and MOVE over a world (RFC 4918, sections 9.8 and 9.9): the line that refuses a request, or the
+-- changes that it makes, in their order. What stands at the destination goes first.
 use Rattle.std.specs.Prelude.{◌&&◌, ◌||◌, ◌++◌, ℕ, List, [], ◌∷◌, map, drop, Bool, true, false, cond, not, length, Option, None, Some, Result, Ok, Err}
 use Rattle.std.specs.List.{filter}
 use Rattle.dav_core.specs.declared.dav_error.DavError.{DavError}
@@ -59,7 +59,8 @@ act_of (Err e) = halts (line (fs_status (fs_error_of e))) ∷ []
 -- Where the destination is found is judged in the tree without what stood there: so the name asked for is made.
 abbrev pub move_acts : Rules → World → WebPath → WebPath → List Act
 move_acts rules w path to = unless (when (is_forbidden rules path || is_forbidden rules to) 403)
-    (act_of (moving (cleared rules w to) (resolved rules w.tree path.names) (resolved rules (cleared rules w to) to.names)))
+    (act_of (moving (cleared rules w to) (resolved rules w.tree path.names)
+    (resolved rules (cleared rules w to) to.names)))
 
 -- ---- COPY
 
@@ -89,7 +90,8 @@ copied_rows false at tree = walk dir_first at tree
 
 -- (What a look finds may be a file that the tree hasn't.)
 abbrev pub copy_acts : Rules → World → WebPath → WebPath → Bool → List Act
-copy_acts rules w path to alone = unless (when (is_forbidden rules path && not (is_dir_found (stands rules w path))) 403)
+copy_acts rules w path to alone = unless (when
+    (is_forbidden rules path && not (is_dir_found (stands rules w path))) 403)
     (map (copy_act rules w path to (resolved rules w.tree path.names) (resolved rules (cleared rules w to) to.names))
     (copied_rows alone (resolved rules w.tree path.names) w.tree))
 

@@ -98,12 +98,14 @@ repeated method (Some list) date stands tag time =
 repeated method None (Some date) stands tag time = if reads method && is_unmodified time date then Some 304 else None
 repeated method None None stands tag time = None
 
--- The status that the preconditions give in place of the method's own answer: of fields, and of whether something stands,
--- its tag and the time of its last change.
+-- The status that the preconditions give in place of the method's own answer: of fields, and of whether something
+-- stands, its tag and the time of its last change.
 abbrev pub condition : DavMethod → Fields → Bool → Option ETag → Option FileTime → Option ℕ
 condition method fields stands tag time =
-    if is_refused (list_in fields (codes "if-match")) (date_in fields (codes "if-unmodified-since")) stands tag time then Some 412
-    else repeated method (list_in fields (codes "if-none-match")) (date_in fields (codes "if-modified-since")) stands tag time
+    if is_refused (list_in fields (codes "if-match")) (date_in fields (codes "if-unmodified-since")) stands tag time
+    then Some 412
+    else repeated method (list_in fields (codes "if-none-match"))
+    (date_in fields (codes "if-modified-since")) stands tag time
 
 -- the strong tag of a text
 abbrev pub strong : Option (List ℕ) → Option ETag
@@ -114,8 +116,8 @@ abbrev pub condition_of : DavMethod → Fields → Option Info → Option ℕ
 condition_of method fields None = condition method fields false None None
 condition_of method fields (Some info) = condition method fields true (strong info.tag) info.modified
 
--- Section 13.1.5: a tag is to be equal strongly, a date is to be that of the last change in whole seconds. Whether that date is a
--- strong validator (section 8.8.2.2) isn't asked.
+-- Section 13.1.5: a tag is to be equal strongly, a date is to be that of the last change in whole seconds. Whether that
+-- date is a strong validator (section 8.8.2.2) isn't asked.
 abbrev pub range_matches : IfRange → Option ETag → Option FileTime → Bool
 range_matches (Tag wanted) None time = false
 range_matches (Tag wanted) (Some tag) time = equal_strongly wanted tag
@@ -130,6 +132,7 @@ abbrev pub heard : Option (List ℕ) → Option ETag → Option FileTime → Boo
 heard None tag time = true
 heard (Some value) tag time = is_fresh (if_range_of value) tag time
 
--- Whether ranges are heard: without a field `if-range`, and where its first value matches. One that isn't readable doesn't.
+-- Whether ranges are heard: without a field `if-range`, and where its first value matches. One that isn't readable
+-- doesn't.
 abbrev pub ranges_are_heard : Fields → Option ETag → Option FileTime → Bool
 ranges_are_heard fields tag time = heard (first_bytes fields (codes "if-range")) tag time

@@ -1,5 +1,5 @@
--- What a COPY or a MOVE asks for by its fields Destination, Overwrite and Depth (RFC 4918, sections 10.3, 10.6 and 10.2). The
--- first field of each name counts.
+-- What a COPY or a MOVE asks for by its fields Destination, Overwrite and Depth (RFC 4918, sections 10.3, 10.6 and
+-- 10.2). The first field of each name counts.
 use Rattle.std.specs.Prelude.{◌≡◌, ◌⊎◌, ◌&&◌, ℕ, Bool, true, false, not, List, codes, Option, None, Some, IsSome, Result, Ok, Err, if◌then◌else◌}
 use Rattle.std.specs.Str.{bytes_eq}
 use Rattle.http_uri.specs.Uri.{Spells, uri_path, uri_scheme}
@@ -26,7 +26,8 @@ IsNoAddress text = (uri : Target) → Spells text uri → uri_scheme uri ≡ Non
 
 -- The text is a URI with a scheme, of which the path counts alone; else it is refused.
 abbrev pub IsAddress : List ℕ → List ℕ → Result WebPath DavError → Type 0
-IsAddress prefix text to = ((uri : Target) × Spells text uri × IsSome (uri_scheme uri) × (to ≡ path_or_refusal (parsed (uri_path uri) prefix)))
+IsAddress prefix text to = ((uri : Target) × Spells text uri × IsSome (uri_scheme uri)
+    × (to ≡ path_or_refusal (parsed (uri_path uri) prefix)))
     ⊎ (IsNoAddress text × (to ≡ Err (Status 400)))
 
 -- A text that begins with a slash is a path as it stands.
@@ -44,12 +45,14 @@ IsDestination prefix (Some text) to = IsPlace (begins_with_slash text) prefix te
 -- whether what stands at the destination may go
 abbrev pub overwrite_of : Option (List ℕ) → Option Bool
 overwrite_of None = Some true
-overwrite_of (Some text) = if bytes_eq text (codes "T") then Some true else (if bytes_eq text (codes "F") then Some false else None)
+overwrite_of (Some text) = if bytes_eq text (codes "T") then Some true
+    else (if bytes_eq text (codes "F") then Some false else None)
 
 -- Whether a directory goes without its members. It never does where it is moved.
 abbrev pub depth_of : Bool → Option (List ℕ) → Option Bool
 depth_of moving None = Some false
-depth_of moving (Some text) = if bytes_eq text (codes "infinity") then Some false else (if not moving && bytes_eq text (codes "0") then Some true else None)
+depth_of moving (Some text) = if bytes_eq text (codes "infinity") then Some false
+    else (if not moving && bytes_eq text (codes "0") then Some true else None)
 
 -- ---- all three, in this order
 
@@ -57,9 +60,12 @@ abbrev pub asked_by : Bool → Result WebPath DavError → Option Bool → Optio
 asked_by moving (Err e) replaces alone = Err e
 asked_by moving (Ok to) None alone = Err (Status 400)
 asked_by moving (Ok to) (Some replaces) None = Err (Status 400)
-asked_by moving (Ok to) (Some replaces) (Some alone) = Ok (record { moving = moving; to = to; replaces = replaces; alone = alone })
+asked_by moving (Ok to) (Some replaces) (Some alone) =
+    Ok (record { moving = moving; to = to; replaces = replaces; alone = alone })
 
 -- The fields ask for this, or are refused.
 abbrev pub Asks : Bool → List ℕ → Fields → Result Asked DavError → Type 0
-Asks moving prefix fields asked = (to : Result WebPath DavError) × IsDestination prefix (first_bytes fields (codes "destination")) to
-    × (asked ≡ asked_by moving to (overwrite_of (first_bytes fields (codes "overwrite"))) (depth_of moving (first_bytes fields (codes "depth"))))
+Asks moving prefix fields asked = (to : Result WebPath DavError)
+    × IsDestination prefix (first_bytes fields (codes "destination")) to
+    × (asked ≡ asked_by moving to (overwrite_of (first_bytes fields (codes "overwrite")))
+    (depth_of moving (first_bytes fields (codes "depth"))))

@@ -29,8 +29,8 @@ pub record Query : Type 0 where
 
 -- ---- what is done about what stands at a path
 
--- What is done where something was found: an error answer, and whether the connection closes; the client is sent to the same
--- path with a final slash; a file is opened, by the path that names it; or the directory is listed.
+-- What is done where something was found: an error answer, and whether the connection closes; the client is sent to the
+-- same path with a final slash; a file is opened, by the path that names it; or the directory is listed.
 pub data Course : Type 0 where
   refusing : ℕ → Bool → Course
   directing : Course
@@ -142,7 +142,8 @@ IsSpoiled q known reply = ⊥
 IsSpoiled q (refused status close) reply = reply ≡ failure
 IsSpoiled q (to_slash path) reply = reply ≡ failure
 IsSpoiled q (file path stood) reply = (reply ≡ failure) ⊎ IsUnplaced q path stood reply
-IsSpoiled q (page dir members) reply = (reply ≡ failure) ⊎ IsIndexReply (is_get q.method) dir (AreRowsOfSome dir members) reply
+IsSpoiled q (page dir members) reply = (reply ≡ failure)
+    ⊎ IsIndexReply (is_get q.method) dir (AreRowsOfSome dir members) reply
 
 -- The right reply to a GET or HEAD over what is shown, or what may stand in its place where a fault was met.
 abbrev pub IsRight : Query → Shown → Type 0 → Reply → Type 0

@@ -119,7 +119,14 @@ is_localized names = is_named (codes ".localized") (last_name names)
 
 -- an empty file of 959652000 s
 abbrev pub empty_file : Stood
-empty_file = record { kind = File; number = 0; len = 0; modified = Some (record { secs = pos 959652000; nanos = 0 }); tag = None; address = None }
+empty_file = record {
+  kind = File;
+  number = 0;
+  len = 0;
+  modified = Some (record { secs = pos 959652000; nanos = 0 });
+  tag = None;
+  address = None;
+}
 
 -- Whether a final slash is looked at: not where every path names one file.
 abbrev pub has_slash : Option Names → WebPath → Bool
@@ -165,10 +172,11 @@ shown_in rules w = shown_by rules w (exactly rules w.tree)
 
 -- ---- links
 
--- Where a link stands on the way to a path or at it (`is_linked`) nothing is said of it. Of a listing nothing is said where one
--- stands in the directory, too.
+-- Where a link stands on the way to a path or at it (`is_linked`) nothing is said of it. Of a listing nothing is said
+-- where one stands in the directory, too.
 abbrev pub is_clear : List Row → Names → Bool
-is_clear tree dir = not (is_linked tree dir) && list_all (λ row. not (is_linked tree row.path)) (filter (stands_in dir) tree)
+is_clear tree dir = not (is_linked tree dir) && list_all (λ row. not (is_linked tree row.path))
+    (filter (stands_in dir) tree)
 
 -- What a store may show of a world in any run: by some finding, where no link is met.
 pub record MayShowOf (rules : Rules) (k : Knowledge) (w : World) (shown : Shown) : Type 0 where

@@ -46,7 +46,8 @@ with_path method (Err fault) = Refused (path_status fault) false
 
 abbrev pub with_method : Settings → Bool → Parts → Result DavMethod DavError → Target
 with_method settings stored head (Err e) = Refused 501 true
-with_method settings stored head (Ok method) = cond (is_allowed stored settings.allow method) (with_path method (parsed (uri_path head.uri) settings.prefix)) (Refused 405 true)
+with_method settings stored head (Ok method) = cond (is_allowed stored settings.allow method)
+    (with_path method (parsed (uri_path head.uri) settings.prefix)) (Refused 405 true)
 
 abbrev pub admitted : Settings → Bool → Parts → Target
 admitted settings stored head = with_method settings stored head (method_of head.method)
@@ -69,8 +70,8 @@ of_body method some = unless (takes_some method) 415 false
 of_body method much = cond (takes_much method) None (Some (Refused 413 false))
 of_body method broken = Some (Refused 500 false)
 
--- Gates 7 and 8, of the head again: a form that isn't built. Some methods aren't, nor is the field `if`, nor a PUT of a part of
--- a file.
+-- Gates 7 and 8, of the head again: a form that isn't built. Some methods aren't, nor is the field `if`, nor a PUT of a
+-- part of a file.
 abbrev pub has_field : Fields → List ℕ → Bool
 has_field fields name = is_some (get fields name)
 
@@ -88,7 +89,8 @@ or_refused (Some refused) other target = refused
 
 -- what a request asks for that passed the gates
 abbrev pub asked : DavMethod → WebPath → Target
-asked method path = cond (same_method method Options) Methods (cond (writes method) (Writes method path) (At method path))
+asked method path = cond (same_method method Options) Methods
+    (cond (writes method) (Writes method path) (At method path))
 
 abbrev pub weighed : Fields → Bulk → Target → Target
 weighed fields bulk (Refused status close) = Refused status close

@@ -45,13 +45,16 @@ closing close = cond close (field (codes "connection") (codes "close") ∷ []) [
 
 -- What tells caches to keep nothing stands before the field of the connection, and behind the length.
 abbrev pub uncached_first : Bool → List Field
-uncached_first uncached = cond uncached (field (codes "cache-control") (codes "no-store, no-cache, must-revalidate") ∷ []) []
+uncached_first uncached = cond uncached (field (codes "cache-control") (codes "no-store, no-cache, must-revalidate")
+    ∷ []) []
 
 abbrev pub uncached_last : Bool → List Field
-uncached_last uncached = cond uncached (field (codes "expires") (codes "0") ∷ field (codes "pragma") (codes "no-cache") ∷ field (codes "vary") (codes "*") ∷ []) []
+uncached_last uncached = cond uncached (field (codes "expires") (codes "0") ∷ field (codes "pragma") (codes "no-cache")
+    ∷ field (codes "vary") (codes "*") ∷ []) []
 
 abbrev pub refused_fields : Bool → Bool → List Field
-refused_fields uncached close = uncached_first uncached ++ (closing close ++ field (codes "content-length") (codes "0") ∷ uncached_last uncached)
+refused_fields uncached close = uncached_first uncached ++ (closing close ++ field (codes "content-length") (codes "0")
+    ∷ uncached_last uncached)
 
 -- A refusal has no body.
 abbrev pub refused_with : Bool → ℕ → Bool → Reply
@@ -93,14 +96,16 @@ sent_ranges Whole = All
 sent_ranges Unsatisfiable = Unsatisfied
 sent_ranges (Parts parts) = sent_parts_of parts
 
--- A precondition that fails decides; after it, or where If-Range turns them off, ranges don't count (RFC 9110, section 13.2.2).
+-- A precondition that fails decides; after it, or where If-Range turns them off, ranges don't count (RFC 9110, section
+-- 13.2.2).
 abbrev pub sent_by : Option ℕ → Bool → Option (List ℕ) → ℕ → Sent
 sent_by (Some status) on range len = Alone status
 sent_by None false range len = All
 sent_by None true range len = sent_ranges (ranges range len)
 
 abbrev pub sent_of : DavMethod → Fields → Stood → Sent
-sent_of method fields stood = sent_by (condition method fields true (strong stood.tag) stood.modified) (ranges_are_heard fields (strong stood.tag) stood.modified)
+sent_of method fields stood = sent_by (condition method fields true (strong stood.tag) stood.modified)
+    (ranges_are_heard fields (strong stood.tag) stood.modified)
     (first_bytes fields (codes "range")) stood.len
 
 abbrev pub sent_status : Sent → ℕ
@@ -110,8 +115,8 @@ sent_status Unsatisfied = 416
 sent_status (One part) = 206
 sent_status (Several parts) = 206
 
--- The number of the field `content-length`. It is that of the slice, or of the whole file, where the method is HEAD, the
--- status is 304 or a body follows; several slices have none.
+-- The number of the field `content-length`. It is that of the slice, or of the whole file, where the method is HEAD,
+-- the status is 304 or a body follows; several slices have none.
 abbrev pub sent_length : Bool → ℕ → Sent → Option ℕ
 sent_length gives len All = Some len
 sent_length gives len (Alone status) = Some (cond (gives && not (status == 304)) 0 len)
@@ -121,7 +126,8 @@ sent_length gives len (Several parts) = None
 
 -- the first and the last byte of a slice, and the length of the file (RFC 9110, section 14.4)
 abbrev pub span_text : ℕ → Slice → List ℕ
-span_text len part = decimal part.start ++ (codes "-" ++ (decimal (part.start + part.count - 1) ++ (codes "/" ++ decimal len)))
+span_text len part = decimal part.start ++ (codes "-"
+    ++ (decimal (part.start + part.count - 1) ++ (codes "/" ++ decimal len)))
 
 abbrev pub sent_range : ℕ → Sent → Option (List ℕ)
 sent_range len All = None
@@ -139,7 +145,8 @@ sent_type type (Several parts) = codes "multipart/byteranges; boundary=BOUNDARY"
 
 -- the text before a slice of several
 abbrev pub part_head : List ℕ → ℕ → Slice → List ℕ
-part_head type len part = codes "\n--BOUNDARY\nContent-Range: bytes " ++ (span_text len part ++ (codes "\nContent-Type: " ++ (type ++ codes "\n\n")))
+part_head type len part = codes "\n--BOUNDARY\nContent-Range: bytes "
+    ++ (span_text len part ++ (codes "\nContent-Type: " ++ (type ++ codes "\n\n")))
 
 abbrev pub last_boundary : List ℕ
 last_boundary = codes "\n--BOUNDARY--\n"
@@ -192,7 +199,9 @@ IsSent method path stood sent reply = (date : Option (List ℕ)) × IsDate stood
     × (reply ≡ sent_reply (is_get method) (type_of_last (last_name path.names)) stood date sent)
 
 abbrev pub redirected_fields : List ℕ → Option (List ℕ) → Option (List ℕ) → List Field
-redirected_fields address tag date = field (codes "content-length") (codes "0") ∷ (field_where (codes "etag") (quoted_where tag) ++ (field_where (codes "last-modified") date ++ field (codes "location") address ∷ []))
+redirected_fields address tag date = field (codes "content-length") (codes "0")
+    ∷ (field_where (codes "etag") (quoted_where tag)
+    ++ (field_where (codes "last-modified") date ++ field (codes "location") address ∷ []))
 
 -- the client is sent to another address
 abbrev pub redirected : List ℕ → Option (List ℕ) → Option (List ℕ) → Reply
@@ -214,15 +223,23 @@ abbrev pub address_of : Settings → Stood → Option (List ℕ)
 address_of settings stood = cond (is_set settings.redirect) stood.address None
 
 abbrev pub IsFileHead : Option (List ℕ) → DavMethod → Fields → WebPath → Stood → Reply → Type 0
-IsFileHead (Some address) method fields path stood reply = (date : Option (List ℕ)) × IsDate stood.modified date × (reply ≡ redirected address stood.tag date)
+IsFileHead (Some address) method fields path stood reply = (date : Option (List ℕ)) × IsDate stood.modified date
+    × (reply ≡ redirected address stood.tag date)
 IsFileHead None method fields path stood reply = IsSent method path stood (sent_of method fields stood) reply
 
 -- the page that clients of a well-known server look for: it is there whatever stands in the tree
 abbrev pub is_well_known : Settings → DavMethod → WebPath → Bool
-is_well_known settings method path = is_get method && (not (is_set settings.autoindex) && (path.slash && same_names path.names (codes "remote.php" ∷ codes "webdav" ∷ [])))
+is_well_known settings method path = is_get method
+    && (not (is_set settings.autoindex) && (path.slash && same_names path.names (codes "remote.php" ∷ codes "webdav"
+    ∷ [])))
 
 abbrev pub well_known : Reply
-well_known = record { status = 200; fields = field (codes "accept-ranges") (codes "bytes") ∷ field (codes "content-length") (codes "0") ∷ []; parts = [] }
+well_known = record {
+  status = 200;
+  fields = field (codes "accept-ranges") (codes "bytes")
+      ∷ field (codes "content-length") (codes "0") ∷ [];
+  parts = [];
+}
 
 -- a row of a world, as far as an answer speaks of it
 abbrev pub stood_in : World → Row → Stood

@@ -16,4 +16,5 @@ told_apart false names = names
 
 -- Two paths are one, or one lies inside the other.
 abbrev pub overlap : Bool → Names → Names → Bool
-overlap folds one other = is_front (told_apart folds one) (told_apart folds other) || is_front (told_apart folds other) (told_apart folds one)
+overlap folds one other = is_front (told_apart folds one) (told_apart folds other) || is_front (told_apart folds other)
+    (told_apart folds one)

@@ -1,6 +1,6 @@
--- The tables of the methods that write, over a world: the line that refuses a request, or the changes that it makes, in their
--- order (RFC 9110, sections 9.3.4 and 9.3.5, and RFC 4918, sections 9.3, 9.6 and 9.7). In each table the first line that fits
--- decides.
+-- The tables of the methods that write, over a world: the line that refuses a request, or the changes that it makes, in
+-- their order (RFC 9110, sections 9.3.4 and 9.3.5, and RFC 4918, sections 9.3, 9.6 and 9.7). In each table the first
+-- line that fits decides.
 use Rattle.std.specs.Prelude.{◌&&◌, ◌||◌, ℕ, nat_lt, List, [], ◌∷◌, map, Bool, true, false, cond, not, length, Option, None, Some, Result, Ok, Err}
 use Rattle.std.specs.List.{list_all, list_any}
 use Rattle.dav_core.specs.declared.error.FsError.{FsError}
@@ -226,8 +226,8 @@ delete_plan rules w ask = record {
 
 -- ---- all of them
 
--- The plan of a method. (Only methods that write are asked for theirs. COPY and MOVE have plans of their own, by what their fields
--- ask for.)
+-- The plan of a method. (Only methods that write are asked for theirs. COPY and MOVE have plans of their own, by what
+-- their fields ask for.)
 abbrev pub plan_as : DavMethod → Rules → World → Ask → Plan
 plan_as Put rules w ask = put_plan rules w ask
 plan_as MkCol rules w ask = mkcol_plan rules w ask
@@ -243,8 +243,8 @@ plan rules w ask = plan_as ask.method rules w ask
 abbrev pub has_link_below : List Row → Names → Bool
 has_link_below tree path = not (list_all (λ (row : Row). not (is_link row.kind && is_front path row.path)) tree)
 
--- The request meets a link: on the way to its path, at it, or below it where all below it goes. Of such a request nothing is
--- said.
+-- The request meets a link: on the way to its path, at it, or below it where all below it goes. Of such a request
+-- nothing is said.
 abbrev pub meets_link : DavMethod → List Row → Names → Bool
 meets_link Delete tree path = is_linked tree path || has_link_below tree path
 meets_link other tree path = is_linked tree path

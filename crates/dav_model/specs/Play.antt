@@ -75,8 +75,8 @@ Lets (Some h) (Some g) old new = (g ≡ h) × (new ≡ old)
 abbrev pub with_body : ℕ → List Part → Option ℕ → Playing → Playing
 with_body body parts file p = record p { left = put body parts p.left; held = put body file p.held }
 
--- A body has these parts left now. As long as a slice is left it holds a file, and none where nothing is left; where only
--- texts are left, as a last boundary, it may.
+-- A body has these parts left now. As long as a slice is left it holds a file, and none where nothing is left; where
+-- only texts are left, as a last boundary, it may.
 pub record Gets (body : ℕ) (parts : List Part) (p : Playing) (q : Playing) : Type 0 where
   pub file : Option ℕ
   pub is : q ≡ with_body body parts file p
@@ -97,8 +97,8 @@ AreFull p = (body : ℕ) → NoneEmpty (p.left body)
 
 -- ---- replies
 
--- A GET or HEAD. In every run the reply is right for something that the store could show, and over a told world for what a
--- loose walk finds there. (In a valid run, where no link is met, that is what the rules show: a law.)
+-- A GET or HEAD. In every run the reply is right for something that the store could show, and over a told world for
+-- what a loose walk finds there. (In a valid run, where no link is met, that is what the rules show: a law.)
 pub record Reads (rules : Rules) (k : Knowledge) (s t : Point) (q : Query) (reply : Reply) : Type 0 where
   pub shown : Shown
   pub could : CouldShow shown
@@ -132,7 +132,8 @@ pub record Polled (p : Playing) (s t : Point) (body : ℕ) (answer : Answer) (q 
   pub goes : Goes s t
   pub leaves : Leaves s t
   pub rest : List Part
-  pub gives : Polls s.told s.whole (read_size_of p.rules.settings.read_buf_size) (Rose s.faults t.faults) (p.left body) answer rest
+  pub gives : Polls s.told s.whole (read_size_of p.rules.settings.read_buf_size) (Rose s.faults t.faults)
+      (p.left body) answer rest
   pub gets : Gets body rest p q
   pub live : Lets (p.held body) gets.file s.live t.live
   -- how many calls of the disk it asks
@@ -153,12 +154,14 @@ Turned s t = Both s.told t.told (λ v w. SameBesidesOpens (turned v) w)
 abbrev pub Stands : Playing → Point → Point → Step → Answer → Playing → Type 0
 Stands p s t (Request request now) answer q = Answered p s t request answer q
 Stands p s t (Poll body) answer q = Polled p s t body answer q
-Stands p s t (Abandon body) answer q = Quiet answer s t × Leaves s t × Lets (p.held body) None s.live t.live × Gets body [] p q
-Stands p s t (Purge now) answer q = (answer ≡ Done) × (t ≡ s) × ((k : Knowledge) × (q ≡ record p { knows = k }) × Forgets p.knows k)
+Stands p s t (Abandon body) answer q = Quiet answer s t × Leaves s t × Lets (p.held body) None s.live t.live
+    × Gets body [] p q
+Stands p s t (Purge now) answer q = (answer ≡ Done) × (t ≡ s)
+    × ((k : Knowledge) × (q ≡ record p { knows = k }) × Forgets p.knows k)
 Stands p s t Turn answer q = Quiet answer s t × Turned s t × (t.live ≡ s.live) × (q ≡ p)
 
--- What a step asked that was refused memory: nothing where it is no request, as a poll's memory is taken before the disk is
--- asked.
+-- What a step asked that was refused memory: nothing where it is no request, as a poll's memory is taken before the
+-- disk is asked.
 abbrev pub AsksUnanswered : Rules → Step → ℕ → ℕ → Type 0
 AsksUnanswered rules (Request request now) before after = AsksAtGate (target_of rules request) before after
 AsksUnanswered rules (Poll body) before after = after ≡ before
@@ -166,10 +169,11 @@ AsksUnanswered rules (Abandon body) before after = after ≡ before
 AsksUnanswered rules (Purge now) before after = after ≡ before
 AsksUnanswered rules Turn before after = after ≡ before
 
--- What a step makes of the told world that was refused memory: nothing, unless it is a request that writes, which may have been
--- broken off on its way.
+-- What a step makes of the told world that was refused memory: nothing, unless it is a request that writes, which may
+-- have been broken off on its way.
 abbrev pub MakesUnanswered : Rules → Step → NoMemory → Point → Point → Type 0
-MakesUnanswered rules (Request request now) e s t = Makes (target_of rules request) rules (fields_of request) (body_of request) (Err e) s t
+MakesUnanswered rules (Request request now) e s t = Makes (target_of rules request) rules (fields_of request)
+    (body_of request) (Err e) s t
 MakesUnanswered rules (Poll body) e s t = Leaves s t
 MakesUnanswered rules (Abandon body) e s t = Leaves s t
 MakesUnanswered rules (Purge now) e s t = Leaves s t
@@ -191,7 +195,8 @@ pub record Refuses (p : Playing) (s t : Point) (step : Step) (q : Playing) : Typ
 -- The answers to the steps along a trail.
 abbrev pub Plays : Playing → Point → List Move → Playing → Type 0
 Plays p s [] q = q ≡ p
-Plays p s (move ∷ moves) q = (m : Playing) × Stands p s move.to move.step move.answer m × StaysOpen move.to m × Plays m move.to moves q
+Plays p s (move ∷ moves) q = (m : Playing) × Stands p s move.to move.step move.answer m × StaysOpen move.to m
+    × Plays m move.to moves q
 
 -- a player over its disk at a moment
 pub record Stage : Type 0 where
@@ -205,7 +210,8 @@ Ends (Err e) (step ∷ steps) m b = Refuses m.playing m.at b.at step b.playing
 Ends result rest m b = ⊥
 
 -- The answers that were added stand to this trail, from entry to exit.
-pub record Played (trail : List Move) (a : Stage) (steps : List Step) (old new : List Answer) (result : Result Unit NoMemory) (b : Stage) : Type 0 where
+pub record Played (trail : List Move) (a : Stage) (steps : List Step) (old new : List Answer)
+    (result : Result Unit NoMemory) (b : Stage) : Type 0 where
   pub rest : List Step
   pub player : Playing
   pub steps_are : steps ≡ steps_of trail ++ rest
@@ -228,14 +234,14 @@ pub record Learned (points : List Point) (k l : Knowledge) : Type 0 where
 
 -- ---- the headline
 
--- No link is met on the way to the path or at it, nor to the index file where one may stand for it. Where the directory at
--- the path may be listed, none stands in it.
+-- No link is met on the way to the path or at it, nor to the index file where one may stand for it. Where the directory
+-- at the path may be listed, none stands in it.
 pub record MeetsNoLink (rules : Rules) (w : World) (q : Query) : Type 0 where
   pub paths : OfItsPaths q (λ path. is_linked w.tree (resolved rules w.tree path.names) ≡ false)
   pub members : course q Dir ≡ listing → is_clear w.tree (resolved rules w.tree q.path.names) ≡ true
 
--- The reply to a GET or HEAD is the one right answer for what the tree has where the rules find the path, as if there were no
--- memory; or what may stand in its place where the count of faults rose.
+-- The reply to a GET or HEAD is the one right answer for what the tree has where the rules find the path, as if there
+-- were no memory; or what may stand in its place where the count of faults rose.
 abbrev pub IsOfTree : Rules → Point → Point → Query → Reply → Type 0
 IsOfTree rules s t q reply = (w : World) → s.told ≡ Some w → MeetsNoLink rules w q
     → IsRight q (shown_in rules w) (Rose s.faults t.faults) reply
@@ -244,11 +250,14 @@ abbrev pub RepliesByTree : Target → Rules → Point → Point → Fields → R
 RepliesByTree (Refused status close) rules s t fields reply = reply ≡ refusal fields status close
 RepliesByTree Methods rules s t fields reply = reply ≡ allowing rules.settings.allow false
 RepliesByTree (Writes method path) rules s t fields reply = IsWriteReply fields (Rose s.faults t.faults) reply
-RepliesByTree (At method path) rules s t fields reply = IsOfTree rules s t (query rules.settings fields method path) reply
+RepliesByTree (At method path) rules s t fields reply = IsOfTree rules s t
+    (query rules.settings fields method path) reply
 
 -- The same of a step that was answered, if it is a request.
-abbrev pub StepByTree : (p : Playing) (s t : Point) (step : Step) (answer : Answer) (q : Playing) → Stands p s t step answer q → Type 0
-StepByTree p s t (Request request now) answer q st = RepliesByTree (target_of p.rules request) p.rules s t (fields_of request) st.reply
+abbrev pub StepByTree : (p : Playing) (s t : Point) (step : Step) (answer : Answer) (q : Playing)
+    → Stands p s t step answer q → Type 0
+StepByTree p s t (Request request now) answer q st = RepliesByTree (target_of p.rules request) p.rules s t
+    (fields_of request) st.reply
 StepByTree p s t (Poll body) answer q st = Unit {0}
 StepByTree p s t (Abandon body) answer q st = Unit {0}
 StepByTree p s t (Purge now) answer q st = Unit {0}
@@ -257,14 +266,18 @@ StepByTree p s t Turn answer q st = Unit {0}
 -- Each reply along a trail is that of the tree before its step.
 abbrev pub EachByTree : (p : Playing) (s : Point) (moves : List Move) (q : Playing) → Plays p s moves q → Type 0
 EachByTree p s [] q plays = Unit {0}
-EachByTree p s (move ∷ moves) q (m, st, held, plays) = StepByTree p s move.to move.step move.answer m st × EachByTree m move.to moves q plays
+EachByTree p s (move ∷ moves) q (m, st, held, plays) = StepByTree p s move.to move.step move.answer m st
+    × EachByTree m move.to moves q plays
 
 -- All points of a run, its first among them.
 abbrev pub points_from : Stage → List Move → List Point
 points_from a trail = a.at ∷ points_of trail
 
--- The clause of `play`: one trail, of which all of it speaks. In a valid run each reply is that of the tree before its step.
-pub record PlayedOn (a : Stage) (steps : List Step) (old new : List Answer) (result : Result Unit NoMemory) (b : Stage) : Type 0 where
+-- The clause of `play`: one trail, of which all of it speaks. In a valid run each reply is that of the tree before its
+-- step.
+pub record PlayedOn (a : Stage) (steps : List Step) (old new : List Answer) (result : Result Unit NoMemory) (b : Stage)
+    : Type 0 where
   pub trail : List Move
   pub played : Played trail a steps old new result b
-  pub headline : Valid a.playing.rules a.playing.knows (points_from a trail) → EachByTree a.playing a.at trail played.player played.answered
+  pub headline : Valid a.playing.rules a.playing.knows (points_from a trail)
+      → EachByTree a.playing a.at trail played.player played.answered

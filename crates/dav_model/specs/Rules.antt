@@ -21,8 +21,8 @@ pub record Rules : Type 0 where
 abbrev pub plain_rules : Settings → Rules
 plain_rules settings = record { settings = settings; folds = false; macos = false; alone = None }
 
--- What a memory knows: which names that begin with `._` a directory path has at a time. Where it is open, it may call any
--- such name absent.
+-- What a memory knows: which names that begin with `._` a directory path has at a time. Where it is open, it may call
+-- any such name absent.
 pub record Knowledge : Type 0 where
   pub names : Names → FileTime → Option (Name → Bool)
   pub is_open : Names → FileTime → Bool

@@ -10,9 +10,9 @@ use Rattle.dav_core.specs.Tags.{HasTagBytes}
 use Rattle.dav_page.specs.Listed.{HasPlainName}
 use Rattle.dav_model.specs.Head.{Stood}
 
--- What a look at a path gives, what opening it for reading gives, and what a listing of it gives. These are functions apart:
--- a name may be looked at and forbidden to open, and a store that finds names by a memory may find two of its calls at two
--- places.
+-- What a look at a path gives, what opening it for reading gives, and what a listing of it gives. These are functions
+-- apart: a name may be looked at and forbidden to open, and a store that finds names by a memory may find two of its
+-- calls at two places.
 pub record Shown : Type 0 where
   pub looked : WebPath → Result Stood FsError
   pub opened : WebPath → Result Stood FsError
@@ -21,8 +21,8 @@ pub record Shown : Type 0 where
 abbrev pub is_printable : ℕ → Bool
 is_printable b = nat_le 32 b && nat_le b 126
 
--- What could stand anywhere: a tag has the bytes of a tag, a time can be shown, and an address that a client is sent to in
--- its place is printable ASCII.
+-- What could stand anywhere: a tag has the bytes of a tag, a time can be shown, and an address that a client is sent to
+-- in its place is printable ASCII.
 pub record CouldStand (stood : Stood) : Type 0 where
   pub tag : HasTagBytes stood.tag
   pub modified : IsInYears stood.modified

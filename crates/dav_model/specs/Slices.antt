@@ -22,11 +22,12 @@ is_readable value = list_all is_text_byte value && begins_with_unit value
 abbrev pub pieces : List ℕ → List (List ℕ)
 pieces value = slice_split (λ b. b == 44) (drop 6 value)
 
--- Step 3. A bound is open where nothing stands. Another is a number below 2^64 in decimal digits, before which a plus may
--- stand; or else it is refused.
+-- Step 3. A bound is open where nothing stands. Another is a number below 2^64 in decimal digits, before which a plus
+-- may stand; or else it is refused.
 abbrev pub number : List ℕ → Option ℕ
 number digits =
-    if not (length digits == 0) && (all_ascii_digits digits && nat_lt (digits_value 10 digits) (2 ^ 64)) then Some (digits_value 10 digits) else None
+    if not (length digits == 0) && (all_ascii_digits digits && nat_lt (digits_value 10 digits) (2 ^ 64))
+    then Some (digits_value 10 digits) else None
 
 abbrev pub bound : List ℕ → Option (Option ℕ)
 bound [] = Some None
@@ -42,8 +43,8 @@ both None last = None
 both (Some first) None = None
 both (Some first) (Some last) = Some (record { first = first; last = last })
 
--- The bounds of a piece stand at both sides of its first dash. A piece without a dash is dropped, and one with a bound that
--- is refused.
+-- The bounds of a piece stand at both sides of its first dash. A piece without a dash is dropped, and one with a bound
+-- that is refused.
 abbrev pub cut_at : Option ℕ → List ℕ → Option Bounds
 cut_at None piece = None
 cut_at (Some dash) piece = both (bound (take dash piece)) (bound (drop (dash + 1) piece))
@@ -55,14 +56,15 @@ bounds_in piece = cut_at (position (λ b. b == 45) piece) piece
 abbrev pub from_end : ℕ → Option ℕ → Option ℕ → Option Bounds
 from_end len (Some first) last = Some (record { first = Some first; last = last })
 from_end len None None = Some (record { first = None; last = None })
-from_end len None (Some count) = if nat_le count len then Some (record { first = Some (len - count); last = None }) else None
+from_end len None (Some count) = if nat_le count len then Some (record { first = Some (len - count); last = None })
+    else None
 
 -- what a piece asks for, without the spaces and tabs around it, unless it is dropped
 abbrev pub kept : ℕ → List ℕ → Option Bounds
 kept len piece = option_and_then (λ b. from_end len b.first b.last) (bounds_in (trimmed piece))
 
--- Step 5. A piece is valid where both bounds stand and the last is no less than the first, or where the end is open and the
--- start is at most the length.
+-- Step 5. A piece is valid where both bounds stand and the last is no less than the first, or where the end is open and
+-- the start is at most the length.
 abbrev pub is_valid : ℕ → Option ℕ → Option ℕ → Bool
 is_valid len None last = false
 is_valid len (Some first) None = nat_le first len
@@ -77,7 +79,10 @@ end_of len (Some last) = min (last + 1) len
 abbrev pub slice_between : ℕ → Option ℕ → Option ℕ → Option Slice
 slice_between len None last = None
 slice_between len (Some first) last =
-    if is_valid len (Some first) last && nat_lt first len then Some (record { start = first; count = end_of len last - first }) else None
+    if is_valid len (Some first) last && nat_lt first len then Some (record {
+      start = first;
+      count = end_of len last - first;
+    }) else None
 
 abbrev pub slice_of : ℕ → Bounds → Option Slice
 slice_of len bounds = slice_between len bounds.first bounds.last
@@ -97,7 +102,8 @@ answer (Some []) = Whole
 answer (Some (slice ∷ more)) = Parts (slice ∷ more)
 
 abbrev pub ranges_in : ℕ → List ℕ → Ranges
-ranges_in len value = if is_readable value then answer (all_slices len (filter_map (kept len) (pieces value))) else Whole
+ranges_in len value = if is_readable value then answer (all_slices len (filter_map (kept len) (pieces value)))
+    else Whole
 
 -- what the value of the first field `range` asks of a file of this length
 abbrev pub ranges : Option (List ℕ) → ℕ → Ranges

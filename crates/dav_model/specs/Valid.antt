@@ -1,5 +1,5 @@
--- Valid runs: what is assumed of the worlds of a trail, and of what the memory knows at entry. (That no link is met is asked
--- beside it, of the path that an answer looks at.)
+-- Valid runs: what is assumed of the worlds of a trail, and of what the memory knows at entry. (That no link is met is
+-- asked beside it, of the path that an answer looks at.)
 use Rattle.std.specs.Prelude.{◌≡◌, ◌⊎◌, ◌&&◌, List, [], ◌∷◌, Bool, true, false, not, is_some, Some}
 use Rattle.std.specs.List.{AllByRecursion, list_all}
 use Rattle.dav_core.specs.declared.time.FileTime.{FileTime}

@@ -20,7 +20,8 @@ gate_statuses = 400 ∷ 403 ∷ 404 ∷ 405 ∷ 413 ∷ 415 ∷ 501 ∷ []
 
 -- the statuses of all replies; 500 comes only where the disk failed
 abbrev pub reply_statuses : List ℕ
-reply_statuses = 200 ∷ 201 ∷ 204 ∷ 206 ∷ 302 ∷ 304 ∷ 400 ∷ 403 ∷ 404 ∷ 405 ∷ 409 ∷ 412 ∷ 413 ∷ 415 ∷ 416 ∷ 500 ∷ 501 ∷ []
+reply_statuses = 200 ∷ 201 ∷ 204 ∷ 206 ∷ 302 ∷ 304 ∷ 400 ∷ 403 ∷ 404 ∷ 405 ∷ 409 ∷ 412 ∷ 413 ∷ 415 ∷ 416 ∷ 500 ∷ 501
+    ∷ []
 
 abbrev pub is_among : ℕ → List ℕ → Bool
 is_among n ns = list_any (λ m. m == n) ns
@@ -29,12 +30,13 @@ is_among n ns = list_any (λ m. m == n) ns
 abbrev pub reply_names : List (List ℕ)
 reply_names =
     codes "accept-ranges" ∷ codes "allow" ∷ codes "cache-control" ∷ codes "connection" ∷ codes "content-length"
-    ∷ codes "content-range" ∷ codes "content-type" ∷ codes "dav" ∷ codes "etag" ∷ codes "expires" ∷ codes "last-modified"
+    ∷ codes "content-range" ∷ codes "content-type" ∷ codes "dav" ∷ codes "etag" ∷ codes "expires"
+    ∷ codes "last-modified"
     ∷ codes "location" ∷ codes "ms-author-via" ∷ codes "pragma" ∷ codes "vary"
     ∷ []
 
--- The name of a field is a token and its value a field value (RFC 9110, sections 5.1 and 5.5), so neither has a byte that
--- ends a line. A field `connection` says `close`.
+-- The name of a field is a token and its value a field value (RFC 9110, sections 5.1 and 5.5), so neither has a byte
+-- that ends a line. A field `connection` says `close`.
 pub record IsReplyField (field : Field) : Type 0 where
   pub known : Contains reply_names field.name
   pub name : IsToken field.name

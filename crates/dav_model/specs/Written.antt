@@ -67,8 +67,8 @@ PartOf (halts l ∷ acts) v w = SameBesidesOpens v w
 PartOf (does e ∷ acts) v w = SameBesidesOpens v w
     ⊎ (((part : Edit) × IsPart e part × Edited part v w) ⊎ ((m : World) × Edited e v m × PartOf acts m w))
 
--- It is answered by its plan; where the count of faults rose it may have failed on the way, and where memory was refused it
--- was broken off on the way.
+-- It is answered by its plan; where the count of faults rose it may have failed on the way, and where memory was
+-- refused it was broken off on the way.
 abbrev pub EndsAs : Fields → Plan → Result Reply NoMemory → Type 0 → World → World → Type 0
 EndsAs fields plan (Ok reply) rose v w = ByActs fields plan.acts plan.done reply v w
     ⊎ ((reply ≡ failure) × rose × PartOf plan.acts v w)
@@ -84,12 +84,13 @@ abbrev pub MakesIn : Rules → Ask → Result Reply NoMemory → Type 0 → Worl
 MakesIn rules ask result rose v w = meets_link ask.method v.tree (resolved rules v.tree ask.path.names) ≡ false
     → EndsAs ask.fields (plan rules v ask) result rose v w
 
--- The fields of a COPY or a MOVE ask for something, and what it makes of a told world is what it asked for, where it meets no
--- link.
+-- The fields of a COPY or a MOVE ask for something, and what it makes of a told world is what it asked for, where it
+-- meets no link.
 abbrev pub CarriesBy : Rules → Bool → Ask → Result Reply NoMemory → Type 0 → World → World → Type 0
 CarriesBy rules moving ask result rose v w = (asked : Result Asked DavError)
     × Asks moving rules.settings.prefix ask.fields asked
-    × (carries_link rules v.tree ask.path asked ≡ false → EndsAs ask.fields (carry_plan rules v ask asked) result rose v w)
+    × (carries_link rules v.tree ask.path asked ≡ false
+    → EndsAs ask.fields (carry_plan rules v ask asked) result rose v w)
 
 -- (Memory may be refused before its fields were read.)
 abbrev pub CarriesIn : Rules → Bool → Ask → Result Reply NoMemory → Type 0 → World → World → Type 0
@@ -102,8 +103,8 @@ MakesAs Copy rules ask = CarriesIn rules false ask
 MakesAs Move rules ask = CarriesIn rules true ask
 MakesAs other rules ask = MakesIn rules ask
 
--- Only a request that writes changes what stands. Of a store that finds names that fold alike, has the rules of macOS, or
--- serves one file alone, nothing is said.
+-- Only a request that writes changes what stands. Of a store that finds names that fold alike, has the rules of macOS,
+-- or serves one file alone, nothing is said.
 abbrev pub Makes : Target → Rules → Fields → List ℕ → Result Reply NoMemory → Point → Point → Type 0
 Makes (Writes method path) rules fields body result s t = rules.folds ≡ false → rules.macos ≡ false → rules.alone ≡ None
     → Both s.told t.told (MakesAs method rules (ask_of method path fields body) result (Rose s.faults t.faults))

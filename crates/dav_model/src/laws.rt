@@ -23,8 +23,8 @@ ghost use Rattle.dav_model.specs.Valid.{Valid};
 ghost use Rattle.dav_model.specs.WellFormed.{IsWellFormed, IsWellFormedAnswer, gate_statuses, is_among, right_statuses};
 
 /// Joining: two runs, the second from the stage that the first leaves, are one run of the joined steps along the joined
-/// trail, whether the second's answers are a list of their own or go on from those of the first. The first had no want of
-/// memory.
+/// trail, whether the second's answers are a list of their own or go on from those of the first. The first had no want
+/// of memory.
 pub fn runs_join()
     ensures goes_on { (xs ys : List Move) (a m b : Stage) (steps more : List Step) (old mid new : List Answer)
         (result : Result Unit NoMemory)
@@ -36,8 +36,8 @@ pub fn runs_join()
         → Played (xs ++ ys) a (steps ++ more) old (new ++ added) result b }
 {}
 
-/// Reading changes no file: steps of which none is a turn of the outside, or a request that writes, leave the tree, the bytes
-/// and the script. GET, HEAD and OPTIONS are no such requests.
+/// Reading changes no file: steps of which none is a turn of the outside, or a request that writes, leave the tree, the
+/// bytes and the script. GET, HEAD and OPTIONS are no such requests.
 pub fn reading_changes_no_file()
     ensures { (p q : Playing) (s : Point) (moves : List Move)
         → AllByRecursion (λ move. step_leaves p.rules move.step ≡ true) moves
@@ -61,8 +61,8 @@ pub fn what_is_known_was_told()
 {}
 
 /// A body that is polled to its end without a break has exactly the number of bytes that the value of the reply's field
-/// `content-length` says, whatever happens to the file between the polls. To a HEAD, and with 304, nothing is given, and the
-/// field speaks of a body that isn't sent (RFC 9110, section 8.6).
+/// `content-length` says, whatever happens to the file between the polls. To a HEAD, and with 304, nothing is given,
+/// and the field speaks of a body that isn't sent (RFC 9110, section 8.6).
 pub fn bodies_have_the_announced_length()
     ensures length { (target : Target) (reply : Reply) (value : List ℕ) (pieces : List (List ℕ))
         → IsFramed target reply → length_is_own target reply.status ≡ true
@@ -73,9 +73,9 @@ pub fn bodies_have_the_announced_length()
         → pieces ≡ [] }
 {}
 
-/// Of each right reply, and of what may stand in its place: `content-length` is the length of its body, no part of the body
-/// is empty, and 500 comes only where a fault was met, over what a disk's store could show. A refusal of any method, known
-/// or unknown, has no body, and announces so.
+/// Of each right reply, and of what may stand in its place: `content-length` is the length of its body, no part of the
+/// body is empty, and 500 comes only where a fault was met, over what a disk's store could show. A refusal of any
+/// method, known or unknown, has no body, and announces so.
 pub fn right_replies_are_framed()
     ensures framed { (q : Query) (shown : Shown) (before after : ℕ) (reply : Reply)
         → IsRight q shown (Rose before after) reply → IsFramed (At q.method q.path) reply }
@@ -88,13 +88,13 @@ pub fn right_replies_are_framed()
         × (value_of (codes "content-length") (refusal fields status close).fields ≡ Some (codes "0")) }
 {}
 
-/// Each reply is well-formed: its status is one of a list, the names of its fields ascend and none stands twice, each name is
-/// a token and each value a field value, so that none of them ends a line. So no type, tag, time or address that a store
-/// tells splits an answer.
+/// Each reply is well-formed: its status is one of a list, the names of its fields ascend and none stands twice, each
+/// name is a token and each value a field value, so that none of them ends a line. So no type, tag, time or address
+/// that a store tells splits an answer.
 ///
-/// `run`: each reply that the clause of `play` adds, in every run, over a disk that tells its world or doesn't. `right`:
-/// each that is right over what a disk's store could show, or stands in its place; `status`: its list, and that 500 comes
-/// only where a fault was met. `refused`: what the gates refuse, and its list.
+/// `run`: each reply that the clause of `play` adds, in every run, over a disk that tells its world or doesn't.
+/// `right`: each that is right over what a disk's store could show, or stands in its place; `status`: its list, and
+/// that 500 comes only where a fault was met. `refused`: what the gates refuse, and its list.
 pub fn right_replies_are_well_formed()
     ensures right { (q : Query) (shown : Shown) (before after : ℕ) (reply : Reply)
         → CouldShow shown → IsRight q shown (Rose before after) reply → IsWellFormed reply.status reply.fields }
@@ -110,8 +110,9 @@ pub fn right_replies_are_well_formed()
 {}
 
 /// Two requests that differ by their method alone: where the GET is rightly answered by a reply, the HEAD is rightly
-/// answered by the same reply without its body (RFC 9110, section 9.3.2). Apart stand 412 and 416, at which `content-length`
-/// is that of the whole file for a HEAD, and 0 for a GET, and the one page that is there for GET alone.
+/// answered by the same reply without its body (RFC 9110, section 9.3.2). Apart stand 412 and 416, at which
+/// `content-length` is that of the whole file for a HEAD, and 0 for a GET, and the one page that is there for GET
+/// alone.
 pub fn heads_are_gets_without_bodies()
     ensures { (shown : Shown) (settings : Settings) (fields : Fields) (path : WebPath) (reply : Reply)
         → is_well_known settings Get path ≡ false

@@ -15,8 +15,8 @@ pub struct Settings {
     /// Who asks.
     pub principal: Option<Text>,
     pub hide_symlinks: Option<bool>,
-    /// Whether a directory is answered with a page of its entries. Where it isn't set, it is where PROPFIND is among the
-    /// methods of `allow`.
+    /// Whether a directory is answered with a page of its entries. Where it isn't set, it is where PROPFIND is among
+    /// the methods of `allow`.
     pub autoindex: Option<bool>,
     /// The name of the file that stands for its directory. Under a name that isn't plain none stands.
     pub indexfile: Option<Text>,

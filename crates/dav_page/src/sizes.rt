@@ -63,8 +63,8 @@ fn in_bytes(alloc: Global, size: u64) -> Result<Text, NoMemory>
     Ok(Text::new(format!(in alloc; "{size} B")?))
 }
 
-/// A size in bytes as index pages show it: from 1024 to below 2^60 in the greatest of KiB, MiB, GiB, TiB and PiB that isn't
-/// above it, with up to two digits behind a point; else in bytes.
+/// A size in bytes as index pages show it: from 1024 to below 2^60 in the greatest of KiB, MiB, GiB, TiB and PiB that
+/// isn't above it, with up to two digits behind a point; else in bytes.
 pub fn display_size(alloc: Global, size: u64) -> Result<Text, NoMemory>
     ensures value { IfOk result (λ text. text ≡ shown_size size) }
     ensures form { IfOk result IsAmount }

@@ -120,8 +120,8 @@ struct Open<'a> {
     behind: &'a [XmlNode],
 }
 
-/// The filters of components with those in them, or nothing where one is at fault. A loop reads them, so how deep they nest
-/// costs memory and no stack.
+/// The filters of components with those in them, or nothing where one is at fault. A loop reads them, so how deep they
+/// nest costs memory and no stack.
 fn read_components(alloc: Global, children: &Nodes) -> Result<Option<ComponentFilters>, NoMemory>
     ensures { IfOk result (λ read. read ≡ component_filters children.now) }
 {

@@ -21,8 +21,8 @@ use std::alloc::Global;
 ///
 /// A query lists the directory at `path`, and reads its members in order of their names' bytes. A multiget reads what
 /// its links lead to, as paths under `prefix`; a link that gives no record is missing, as it is written. A resource is
-/// read to the length that its metadata gives, and is closed again; it gives a record where it is a calendar object that
-/// the filter of the query matches. What can't be opened or read is passed over.
+/// read to the length that its metadata gives, and is closed again; it gives a record where it is a calendar object
+/// that the filter of the query matches. What can't be opened or read is passed over.
 ///
 /// `table` tells which calls of the store gave the report; `shown` says that it is right for what the store shows
 /// wherever it looks, or for what may stand in its place where a fault was met.

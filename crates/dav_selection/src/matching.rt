@@ -12,8 +12,8 @@ use dav_report::caldav::ComponentFilter;
 use dav_report::carddav::PropertyFilter;
 use std::alloc::Global;
 
-/// Whether a filter of components matches the text of a calendar object: there is no filter, it has no name, or the text
-/// has `BEGIN:` directly followed by the name. (What the filter has inside isn't looked at.)
+/// Whether a filter of components matches the text of a calendar object: there is no filter, it has no name, or the
+/// text has `BEGIN:` directly followed by the name. (What the filter has inside isn't looked at.)
 pub fn calendar_matches(
     alloc: Global,
     filter: &Option<ComponentFilter>,

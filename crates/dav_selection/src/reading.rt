@@ -28,7 +28,8 @@ fn read_piece<S: GuardedFileSystem<C>, C>(
     requires live { IsSome ((S.Disk.state (S.inside fs.old)).live (S.File.handle file.old)) }
     requires some { 0 < left }
     requires room { 0 < length buffer.old }
-    ensures touches { Touches (the_view S.GuardedFileSystem S.Disk.Disk S.File.DavFile) fs.old file.old fs.new file.new }
+    ensures touches { Touches (the_view S.GuardedFileSystem S.Disk.Disk S.File.DavFile) fs.old file.old fs.new
+        file.new }
     ensures refused { can_read ((S.Disk.state (S.inside fs.old)).live (S.File.handle file.old)) ≡ true
         → OnErr result (Spoiled (S.Disk.state (S.inside fs.old)) result (S.Disk.state (S.inside fs.new))) }
     ensures within { IfOk result (λ n. n ≤ left) }

@@ -1,4 +1,4 @@
-//! Reports over a local store. Where its disk tells its world and each path is meant as it is written, they are those of
+// Reports over a local store. Where its disk tells its world and each path is meant as it is written, they are those of
 //! its tree.
 ghost use Rattle.std.specs.Prelude.{◌≡◌, ◌⊎◌, Err, Some};
 ghost use Rattle.dav_io.specs.Counts.{Rose};
@@ -34,8 +34,8 @@ pub fn shows_the_tree<D: Disk, R: RememberAny>(_fs: &LocalFs<D, R>, _path: &DavP
     local_stores_show_the_tree(_fs);
 }
 
-/// `calendar_report` over a local store: where its disk tells its world, each path is meant as it is written and no link
-/// is met, the report of what stands in that world, or may stand in its place where a fault was met.
+/// `calendar_report` over a local store: where its disk tells its world, each path is meant as it is written and no
+/// link is met, the report of what stands in that world, or may stand in its place where a fault was met.
 pub fn local_calendar_report<D: Disk, R: RememberAny>(
     alloc: Global,
     root: &Element,

@@ -73,7 +73,8 @@ pub(crate) fn add_wanted(
     resource: Resource,
     records: &mut Vec<Record>,
 ) -> Result<bool, NoMemory>
-    ensures records { OnOk result (records.new.items ≡ records.old.items ++ given (taken wanted.entry) path (Ok resource)) }
+    ensures records { OnOk result (records.new.items ≡ records.old.items ++ given (taken wanted.entry) path
+        (Ok resource)) }
     ensures taken { IfOk result (λ added. added ≡ is_some (taken wanted.entry resource.content)) }
 {
     let Some(text) = wanted.take(alloc, resource.content.as_slice())? else {

@@ -51,15 +51,18 @@ IsShort piece = length piece < 16 ^ 16
 
 -- The body, as it is written in chunks, is read back as the bytes of the pieces, whatever follows.
 abbrev pub IsReadBack : Exchange → Type 0
-IsReadBack x = (behind : List ℕ) → HasBody (flat_map (written (framing_of x)) x.pieces ++ (ending (framing_of x) ++ behind)) (concat x.pieces) behind
+IsReadBack x = (behind : List ℕ) → HasBody (flat_map (written (framing_of x)) x.pieces
+    ++ (ending (framing_of x) ++ behind)) (concat x.pieces) behind
 
--- The bytes of the body are as many as the answer announces, and all that stands behind the head. There are none where the
--- field speaks of a body that isn't sent, and nothing stands behind the head of an answer to which no body is expected. No
--- piece is empty, and chunks are read back.
+-- The bytes of the body are as many as the answer announces, and all that stands behind the head. There are none where
+-- the field speaks of a body that isn't sent, and nothing stands behind the head of an answer to which no body is
+-- expected. No piece is empty, and chunks are read back.
 pub record GivesAnnounced (rules : Rules) (x : Exchange) : Type 0 where
-  pub counted : length_is_own (target_of rules x.request) x.status ≡ true → (value : List ℕ) → Announces x value → value ≡ decimal (length (concat x.pieces))
+  pub counted : length_is_own (target_of rules x.request) x.status ≡ true → (value : List ℕ) → Announces x value
+      → value ≡ decimal (length (concat x.pieces))
   pub none : length_is_own (target_of rules x.request) x.status ≡ false → x.pieces ≡ []
-  pub written : (value : List ℕ) → Announces x value → wire_of x ≡ head_text x.status x.fields x.closing Raw ++ concat x.pieces
+  pub written : (value : List ℕ) → Announces x value → wire_of x ≡ head_text x.status x.fields x.closing Raw
+      ++ concat x.pieces
   pub bodiless : IsBodiless x → IsHeadAlone x
   pub full : All IsNonempty x.pieces
   pub chunked : framing_of x ≡ Chunked → All IsShort x.pieces → IsReadBack x

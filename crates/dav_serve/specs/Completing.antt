@@ -20,7 +20,9 @@ pub record Faultless (before after : Outside) : Type 0 where
 
 -- The last of these requests closes: no exchanges that answer them from here on leave the connection open.
 abbrev pub Closes : Setup → Point → List Message → Type 0
-Closes setup s messages = (xs : List Exchange) (last : Stage) → Chain setup.rules (ready setup.rules setup.knows s) xs last → Alike setup messages xs → AllByRecursion IsOpen xs → ⊥
+Closes setup s messages = (xs : List Exchange) (last : Stage)
+    → Chain setup.rules (ready setup.rules setup.knows s) xs last → Alike setup messages xs → AllByRecursion IsOpen xs
+    → ⊥
 
 -- None of these requests closes: exchanges that answer the first of them leave the connection open.
 abbrev pub StayOpen : Setup → Point → List Message → Type 0
@@ -62,7 +64,10 @@ IsStopped status = (status ≡ 3) ⊎ ((status ≡ 4) ⊎ ((status ≡ 5) ⊎ (s
 -- The status by the bytes of the input, where the source tells them. With no fault, and below 2^60 bytes, nothing stops
 -- a run.
 pub record StatusIs (setup : Setup) (before after : Outside) (status : ℕ) : Type 0 where
-  pub valid : (bytes : List ℕ) → before.source.bytes ≡ Some bytes → IsValid setup before.disk bytes → (status ≡ 0) ⊎ IsStopped status
+  pub valid : (bytes : List ℕ) → before.source.bytes ≡ Some bytes → IsValid setup before.disk bytes → (status ≡ 0)
+      ⊎ IsStopped status
   pub left : (bytes : List ℕ) → before.source.bytes ≡ Some bytes → IsLeft bytes → (status ≡ 0) ⊎ IsStopped status
-  pub invalid : (bytes : List ℕ) → before.source.bytes ≡ Some bytes → IsInvalid setup before.disk bytes → (status ≡ 6) ⊎ IsStopped status
-  pub goes_on : (bytes : List ℕ) → before.source.bytes ≡ Some bytes → length bytes < 2 ^ 60 → Faultless before after → IsStopped status → ⊥
+  pub invalid : (bytes : List ℕ) → before.source.bytes ≡ Some bytes → IsInvalid setup before.disk bytes → (status ≡ 6)
+      ⊎ IsStopped status
+  pub goes_on : (bytes : List ℕ) → before.source.bytes ≡ Some bytes → length bytes < 2 ^ 60 → Faultless before after
+      → IsStopped status → ⊥

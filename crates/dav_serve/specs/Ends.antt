@@ -49,7 +49,8 @@ pub record IsAnswerTo (parts : Parts) (body : List ℕ) (now : Moment) (x : Exch
 -- The exchange has got so far: it has these pieces, and its bytes are sent or wait behind those that waited before.
 pub record Begun (x : Exchange) (a b : Work) : Type 0 where
   pub pieces : List (List ℕ)
-  pub played : PlayedOn a.stage (begun_steps (with_pieces x pieces)) (begun_answers (with_pieces x pieces)) (Ok tt) b.stage
+  pub played : PlayedOn a.stage (begun_steps (with_pieces x pieces)) (begun_answers (with_pieces x pieces))
+      (Ok tt) b.stage
   pub sent : Sends a.outlet (begun_wire_of (with_pieces x pieces)) b.outlet
 
 -- An exchange was made.

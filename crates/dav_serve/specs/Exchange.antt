@@ -85,8 +85,8 @@ fresh rules knows = record { rules = rules; replies = 0; left = λ _. []; held =
 abbrev pub IsShown : Option Moment → Moment → Type 0
 IsShown shown now = (shown ≡ Some now) ⊎ (shown ≡ None)
 
--- The exchange is that of this message: its request is what the head says, with the body behind it, at the moment that the
--- clock shows.
+-- The exchange is that of this message: its request is what the head says, with the body behind it, at the moment that
+-- the clock shows.
 pub record IsOf (shown : Option Moment) (message : Message) (x : Exchange) : Type 0 where
   pub parts : IsRead message.head (head_of x.request)
   pub body : body_of x.request ≡ message.body
@@ -96,7 +96,15 @@ pub record IsOf (shown : Option Moment) (message : Message) (x : Exchange) : Typ
 -- an exchange that has no pieces yet
 abbrev pub exchange_of : Asked → Moment → Bool → ℕ → List Field → ℕ → Exchange
 exchange_of request now closing status fields body =
-    record { request = request; now = now; closing = closing; status = status; fields = fields; body = body; pieces = [] }
+    record {
+      request = request;
+      now = now;
+      closing = closing;
+      status = status;
+      fields = fields;
+      body = body;
+      pieces = [];
+    }
 
 -- the same exchange with these pieces
 abbrev pub with_pieces : Exchange → List (List ℕ) → Exchange

@@ -12,9 +12,10 @@ use Rattle.dav_serve.specs.Exchange.{Exchange, begun_wire_of, framing_of}
 abbrev pub fields_written : Exchange → List Field
 fields_written x = written_fields x.closing (framing_of x) x.fields
 
--- One response head stands at the front of the answer, whatever follows: exactly its status and its fields are read there,
--- and behind it stand the pieces of its body. The names of its fields ascend, and none stands twice.
+-- One response head stands at the front of the answer, whatever follows: exactly its status and its fields are read
+-- there, and behind it stand the pieces of its body. The names of its fields ascend, and none stands twice.
 pub record HasHead (x : Exchange) : Type 0 where
   pub reply : IsWellFormed x.status x.fields
-  pub read : (behind : List ℕ) → ReadsAnswer (begun_wire_of x ++ behind) x.status (fields_written x) (flat_map (written (framing_of x)) x.pieces ++ behind)
+  pub read : (behind : List ℕ) → ReadsAnswer (begun_wire_of x ++ behind) x.status (fields_written x)
+      (flat_map (written (framing_of x)) x.pieces ++ behind)
   pub ascend : Ascend (fields_written x)

@@ -47,8 +47,8 @@ knows_in state (Some memory) = knowledge_of (state memory)
 abbrev pub ready : Rules → Knowledge → Point → Stage
 ready rules knows s = stage_at s (fresh rules knows)
 
--- The exchanges were played one after the other, each by a new player over the disk and the memory that the one before it
--- left.
+-- The exchanges were played one after the other, each by a new player over the disk and the memory that the one before
+-- it left.
 abbrev pub Chain : Rules → Stage → List Exchange → Stage → Type 0
 Chain rules a [] b = b ≡ a
 Chain rules a (x ∷ xs) b = (m : Stage) × PlayedOn a (steps_of x) (answers_of x) (Ok tt) m
@@ -67,7 +67,8 @@ IsOpen x = is_closed x ≡ false
 -- All exchanges were open, or all but the last.
 abbrev pub Follow : Bool → List Exchange → Type 0
 Follow false xs = AllByRecursion IsOpen xs
-Follow true xs = (ys : List Exchange) × (y : Exchange) × (xs ≡ ys ++ y ∷ []) × AllByRecursion IsOpen ys × (is_closed y ≡ true)
+Follow true xs = (ys : List Exchange) × (y : Exchange) × (xs ≡ ys ++ y ∷ []) × AllByRecursion IsOpen ys
+    × (is_closed y ≡ true)
 
 -- the bytes of all answers
 abbrev pub wires : List Exchange → List ℕ
@@ -75,7 +76,8 @@ wires xs = flat_map wire_of xs
 
 -- The requests at the front of the input, each with its body, were answered by these exchanges. `held` is what was
 -- taken from the source behind them, and `last` is the stage at which the next request would be played.
-pub record Serving (setup : Setup) (closed : Bool) (before : Outside) (source : Stream) (held : List ℕ) (exchanges : List Exchange) (last : Stage) : Type 0 where
+pub record Serving (setup : Setup) (closed : Bool) (before : Outside) (source : Stream) (held : List ℕ)
+    (exchanges : List Exchange) (last : Stage) : Type 0 where
   pub messages : List Message
   pub played : Chain setup.rules (ready setup.rules setup.knows before.disk) exchanges last
   pub alike : Alike setup messages exchanges
@@ -135,8 +137,8 @@ pub record ServedClosing (setup : Setup) (before after : Outside) : Type 0 where
   pub serving : Serving setup true before after.source held exchanges (ready setup.rules knows after.disk)
   pub sent : SentAll before.sink after.sink (wires exchanges)
 
--- Behind the requests that were answered stands what no request can be, and 400 was written for it, or 413 where its body
--- is too large.
+-- Behind the requests that were answered stands what no request can be, and 400 was written for it, or 413 where its
+-- body is too large.
 pub record ServedRefusing (setup : Setup) (before after : Outside) : Type 0 where
   pub held : List ℕ
   pub exchanges : List Exchange
@@ -195,16 +197,19 @@ pub record ServedBroken (setup : Setup) (before after : Outside) : Type 0 where
   pub broken : Exchange
   pub faces : Faces setup held broken
   pub player : Playing
-  pub played : PlayedOn place (steps_of broken) (begun_answers broken ++ Done ∷ Broken ∷ []) (Ok tt) (stage_at after.disk player)
+  pub played : PlayedOn place (steps_of broken) (begun_answers broken ++ Done ∷ Broken ∷ []) (Ok tt)
+      (stage_at after.disk player)
   pub sent : SentAll before.sink after.sink (wires exchanges ++ begun_wire_of broken)
 
 -- What the run came to behind the exchanges that were played, and the bytes of it. `refused` says that what no request
 -- can be stands there, and why.
-pub data Partway (setup : Setup) (refused : Flaw → Type 0) (held : List ℕ) (place : Stage) (bytes : List ℕ) (t : Point) : Type 0 where
+pub data Partway (setup : Setup) (refused : Flaw → Type 0) (held : List ℕ) (place : Stage) (bytes : List ℕ) (t : Point)
+    : Type 0 where
   -- nothing
   nothing : bytes ≡ [] → t ≡ place.at → Partway setup refused held place bytes t
   -- the answer to what no request can be
-  refusal : (flaw : Flaw) → bytes ≡ refusal_text flaw → t ≡ place.at → refused flaw → Partway setup refused held place bytes t
+  refusal : (flaw : Flaw) → bytes ≡ refusal_text flaw → t ≡ place.at → refused flaw
+      → Partway setup refused held place bytes t
   -- some of the exchange of the request that stands there
   exchange : Reached (Faces setup held) place bytes t → Partway setup refused held place bytes t
 
@@ -214,7 +219,8 @@ pub record Halfway (setup : Setup) (before after : Outside) (exchanges : List Ex
   pub held : List ℕ
   pub place : Stage
   pub serving : Serving setup closed before after.source held exchanges place
-  pub partway : Partway setup (λ flaw. LeftIs (IsRefusedBy flaw) before.source after.source held) held place bytes after.disk
+  pub partway : Partway setup (λ flaw. LeftIs (IsRefusedBy flaw) before.source after.source held) held place bytes
+      after.disk
   pub behind : closed ≡ true → bytes ≡ []
 
 -- The sink failed, or memory was refused: a front of the bytes is written.
@@ -260,4 +266,5 @@ ServeEnds setup before after status = (end : Ending) × (status ≡ status_of en
 
 -- All that waited was given to the sink, and the end stands; or the sink failed.
 abbrev pub Finishes : Ending → Outlet → Stream → Ending → Type 0
-Finishes wanted a new end = ((end ≡ wanted) × Sent a.sink new a.waiting []) ⊎ ((end ≡ SinkFailed) × SentFront a.sink new a.waiting × Rose a.sink.faults new.faults)
+Finishes wanted a new end = ((end ≡ wanted) × Sent a.sink new a.waiting [])
+    ⊎ ((end ≡ SinkFailed) × SentFront a.sink new a.waiting × Rose a.sink.faults new.faults)

@@ -13,8 +13,8 @@ use Rattle.dav_wire.specs.Writing.{Pushes, Sent, SentFront}
 abbrev pub stage_at : Point → Playing → Stage
 stage_at s p = record { at = s; playing = p }
 
--- Steps were played along a trail from one stage to another, with these answers. In a valid run each reply is that of the
--- tree before its step.
+-- Steps were played along a trail from one stage to another, with these answers. In a valid run each reply is that of
+-- the tree before its step.
 pub record PlayedOn (a : Stage) (steps : List Step) (answers : List Answer) (result : Result Unit NoMemory)
     (b : Stage) : Type 0 where
   pub trail : List Move

@@ -15,7 +15,8 @@ use Rattle.dav_serve.specs.declared.words.Options.{Options}
 -- A number up to the most, written in decimal digits without sign and leading zeros.
 abbrev pub number_said : ℕ → List ℕ → Option ℕ
 number_said most word =
-    if nat_le (digits_value 10 word) most && bytes_eq word (decimal (digits_value 10 word)) then Some (digits_value 10 word) else None
+    if nat_le (digits_value 10 word) most && bytes_eq word (decimal (digits_value 10 word))
+    then Some (digits_value 10 word) else None
 
 -- a number of bytes, from 0 to 1,048,576
 abbrev pub size_said : List ℕ → Option ℕ
@@ -69,7 +70,8 @@ abbrev pub with_index : Rules → List ℕ → Option Rules
 with_index r name = once r.settings.indexfile (record r { settings = record r.settings { indexfile = Some name } })
 
 abbrev pub with_buffer : Rules → ℕ → Option Rules
-with_buffer r size = once r.settings.read_buf_size (record r { settings = record r.settings { read_buf_size = Some size } })
+with_buffer r size = once r.settings.read_buf_size
+    (record r { settings = record r.settings { read_buf_size = Some size } })
 
 -- no prefix was set where it is empty
 abbrev pub once_more : {B : Type 0} → List ℕ → B → Option B
@@ -88,7 +90,8 @@ with_value r option value =
 
 -- Whether a word is an option by itself.
 abbrev pub is_switch : List ℕ → Bool
-is_switch word = bytes_eq word (codes "--autoindex") || (bytes_eq word (codes "--fold") || bytes_eq word (codes "--macos"))
+is_switch word = bytes_eq word (codes "--autoindex")
+    || (bytes_eq word (codes "--fold") || bytes_eq word (codes "--macos"))
 
 -- What such an option sets besides.
 abbrev pub with_switch : Rules → List ℕ → Option Rules
@@ -102,7 +105,8 @@ abbrev pub options_set : Rules → Option (List ℕ) → List (List ℕ) → Opt
 options_set r None [] = Some r
 options_set r (Some option) [] = None
 options_set r None (word ∷ words) =
-    if is_switch word then option_and_then (λ t. options_set t None words) (with_switch r word) else options_set r (Some word) words
+    if is_switch word then option_and_then (λ t. options_set t None words) (with_switch r word)
+    else options_set r (Some word) words
 options_set r (Some option) (word ∷ words) = option_and_then (λ t. options_set t None words) (with_value r option word)
 
 abbrev pub pages_where : Bool → Option Bool
@@ -129,8 +133,8 @@ rules_said (root ∷ verb ∷ options) =
     then options_set (plain_rules nothing_set) None (map string_bytes options) else None
 rules_said words = None
 
--- The number that the words say of a large input: `ROOT bench SEED`, with a root that isn't empty and a number from 0 to
--- 399. None where they say something else.
+-- The number that the words say of a large input: `ROOT bench SEED`, with a root that isn't empty and a number from 0
+-- to 399. None where they say something else.
 abbrev pub seed_said : {A : Type 0} → List (String A) → Option ℕ
 seed_said (root ∷ verb ∷ seed ∷ []) =
     if not (length (string_bytes root) == 0) && bytes_eq (string_bytes verb) (codes "bench")

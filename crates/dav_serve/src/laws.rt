@@ -30,7 +30,8 @@ ghost use Rattle.dav_serve.specs.Stages.{Outside, PlayedOn};
 /// with 304, it speaks of a body that isn't sent, and there are no pieces (RFC 9110, section 8.6).
 pub fn answers_have_the_announced_length()
     ensures length { (a b : Stage) (x : Exchange) (value : List ℕ) → PlayedOn a (steps_of x) (answers_of x) (Ok tt) b
-        → length_is_own (target_of a.playing.rules x.request) x.status ≡ true → Announces x value → value ≡ decimal (bytes_in x.pieces) }
+        → length_is_own (target_of a.playing.rules x.request) x.status ≡ true → Announces x value
+        → value ≡ decimal (bytes_in x.pieces) }
     ensures none { (a b : Stage) (x : Exchange) → PlayedOn a (steps_of x) (answers_of x) (Ok tt) b
         → length_is_own (target_of a.playing.rules x.request) x.status ≡ false → x.pieces ≡ [] }
     ensures written { (x : Exchange) (value : List ℕ) → Announces x value
@@ -38,58 +39,65 @@ pub fn answers_have_the_announced_length()
     ensures counted { (x : Exchange) → bytes_in x.pieces ≡ length (concat x.pieces) }
 {}
 
-/// A body that broke has fewer bytes than are announced, so that a client sees that it isn't whole, and takes nothing of it
-/// for another answer. None breaks where the field speaks of a body that isn't sent.
+/// A body that broke has fewer bytes than are announced, so that a client sees that it isn't whole, and takes nothing
+/// of it for another answer. None breaks where the field speaks of a body that isn't sent.
 pub fn broken_answers_are_no_longer()
-    ensures shorter { (a b : Stage) (x : Exchange) (value : List ℕ) → PlayedOn a (steps_of x) (begun_answers x ++ Done ∷ Broken ∷ []) (Ok tt) b
-        → length_is_own (target_of a.playing.rules x.request) x.status ≡ true → Announces x value → AnnouncesMore value (bytes_in x.pieces) }
-    ensures never { (a b : Stage) (x : Exchange) → PlayedOn a (steps_of x) (begun_answers x ++ Done ∷ Broken ∷ []) (Ok tt) b
+    ensures shorter { (a b : Stage) (x : Exchange) (value : List ℕ)
+        → PlayedOn a (steps_of x) (begun_answers x ++ Done ∷ Broken ∷ []) (Ok tt) b
+        → length_is_own (target_of a.playing.rules x.request) x.status ≡ true → Announces x value
+        → AnnouncesMore value (bytes_in x.pieces) }
+    ensures never { (a b : Stage) (x : Exchange) → PlayedOn a (steps_of x) (begun_answers x ++ Done ∷ Broken ∷ [])
+        (Ok tt) b
         → length_is_own (target_of a.playing.rules x.request) x.status ≡ false → ⊥ }
 {}
 
-/// The body of an answer in chunks, as it is written, is read back as the bytes of its pieces, whatever follows, and one
-/// that isn't in chunks is these bytes. No piece is empty, whether the disk tells or not, and whatever comes behind the
-/// pieces (`full`): an empty chunk would end the body.
+/// The body of an answer in chunks, as it is written, is read back as the bytes of its pieces, whatever follows, and
+/// one that isn't in chunks is these bytes. No piece is empty, whether the disk tells or not, and whatever comes behind
+/// the pieces (`full`): an empty chunk would end the body.
 ///
 /// That a piece is short holds of all that stands in memory.
 pub fn answers_in_chunks_are_read_back()
     ensures chunked { (a b : Stage) (x : Exchange) (behind : List ℕ) → PlayedOn a (steps_of x) (answers_of x) (Ok tt) b
         → framing_of x ≡ Chunked → All IsShort x.pieces
-        → HasBody (flat_map (written (framing_of x)) x.pieces ++ (ending (framing_of x) ++ behind)) (concat x.pieces) behind }
-    ensures full { (a b : Stage) (x : Exchange) (last : Answer) → PlayedOn a (steps_of x) (begun_answers x ++ Done ∷ last ∷ []) (Ok tt) b
+        → HasBody (flat_map (written (framing_of x)) x.pieces ++ (ending (framing_of x) ++ behind))
+        (concat x.pieces) behind }
+    ensures full { (a b : Stage) (x : Exchange) (last : Answer)
+        → PlayedOn a (steps_of x) (begun_answers x ++ Done ∷ last ∷ []) (Ok tt) b
         → All IsNonempty x.pieces }
     ensures raw { (x : Exchange) (behind : List ℕ) → framing_of x ≡ Raw
         → flat_map (written (framing_of x)) x.pieces ++ (ending (framing_of x) ++ behind) ≡ concat x.pieces ++ behind }
 {}
 
-/// Each answer tells its end: a client expects no body, or it is in chunks, or it says its length, or the version is 1.0
-/// and the connection closes behind it (RFC 9112, section 6.3). The answer to a HEAD, and one with 204 or 304, is its head
-/// alone.
+/// Each answer tells its end: a client expects no body, or it is in chunks, or it says its length, or the version is
+/// 1.0 and the connection closes behind it (RFC 9112, section 6.3). The answer to a HEAD, and one with 204 or 304, is
+/// its head alone.
 pub fn framed_answers_end()
     ensures tells { (shown : Option Moment) (message : Message) (x : Exchange) → IsOf shown message x → TellsEnd x }
     ensures alone { (a b : Stage) (x : Exchange) → PlayedOn a (steps_of x) (answers_of x) (Ok tt) b
         → IsBodiless x → IsHeadAlone x }
 {}
 
-/// All exchanges that a run answered give what they announce, and tell their end. None has an empty piece, and bodies in
-/// chunks are read back.
+/// All exchanges that a run answered give what they announce, and tell their end. None has an empty piece, and bodies
+/// in chunks are read back.
 pub fn served_answers_give_what_they_announce()
-    ensures { (setup : Setup) (closed : Bool) (before : Outside) (source : Stream) (held : List ℕ) (xs : List Exchange) (last : Stage)
+    ensures { (setup : Setup) (closed : Bool) (before : Outside) (source : Stream) (held : List ℕ) (xs : List Exchange)
+        (last : Stage)
         → Serving setup closed before source held xs last → AllByRecursion (GivesAnnounced setup.rules) xs }
 {}
 
-/// In a valid run each reply to a GET or HEAD of all its exchanges is that of the tree before its step, as if there were no
-/// memory: what is known at an exchange was known at first, or a world of those before it has it.
+/// In a valid run each reply to a GET or HEAD of all its exchanges is that of the tree before its step, as if there
+/// were no memory: what is known at an exchange was known at first, or a world of those before it has it.
 pub fn served_answers_are_those_of_the_tree()
-    ensures { (setup : Setup) (closed : Bool) (before : Outside) (source : Stream) (held : List ℕ) (xs : List Exchange) (last : Stage)
+    ensures { (setup : Setup) (closed : Bool) (before : Outside) (source : Stream) (held : List ℕ) (xs : List Exchange)
+        (last : Stage)
         (v : Serving setup closed before source held xs last)
         → Valid setup.rules setup.knows (before.disk
         ∷ points_of (moves_of setup.rules (ready setup.rules setup.knows before.disk) xs last v.played))
         → AllByTree setup.rules (ready setup.rules setup.knows before.disk) xs last v.played }
 {}
 
-/// A purge changes no later answer to a GET or HEAD: it leaves the player as it was but for what its memory knows, and in a
-/// valid run each later reply is that of the tree before its step, which no memory decides.
+/// A purge changes no later answer to a GET or HEAD: it leaves the player as it was but for what its memory knows, and
+/// in a valid run each later reply is that of the tree before its step, which no memory decides.
 pub fn purges_change_no_answer()
     ensures { (p q r : Playing) (s t : Point) (now : Moment) (answer : Answer) (moves : List Move)
         → Stands p s t (Purge now) answer q → Valid p.rules p.knows (s ∷ points_of moves)
@@ -97,15 +105,17 @@ pub fn purges_change_no_answer()
         → (t ≡ s) × (q ≡ record p { knows = q.knows }) × EachByTree q t moves r plays }
 {}
 
-/// The head of each answer that a run writes is read back as one response head, whatever follows: with exactly its status
-/// and its fields, in order and none of them twice, and behind it stands its body (`served`). The same holds of an answer
-/// whose body breaks, or behind whose reply memory is refused (`begun`), and of the refusals of what is no request
-/// (`refusal`) and of a body that is too large (`large`). So nothing that a disk tells splits an answer or brings a field
-/// into it; by `answer_heads_are_one` of `dav_wire` nothing else is read there.
+/// The head of each answer that a run writes is read back as one response head, whatever follows: with exactly its
+/// status and its fields, in order and none of them twice, and behind it stands its body (`served`). The same holds of
+/// an answer whose body breaks, or behind whose reply memory is refused (`begun`), and of the refusals of what is no
+/// request (`refusal`) and of a body that is too large (`large`). So nothing that a disk tells splits an answer or
+/// brings a field into it; by `answer_heads_are_one` of `dav_wire` nothing else is read there.
 pub fn heads_are_read_back()
-    ensures served { (setup : Setup) (closed : Bool) (before : Outside) (source : Stream) (held : List ℕ) (xs : List Exchange) (last : Stage)
+    ensures served { (setup : Setup) (closed : Bool) (before : Outside) (source : Stream) (held : List ℕ)
+        (xs : List Exchange) (last : Stage)
         → Serving setup closed before source held xs last → AllByRecursion HasHead xs }
-    ensures begun { (a b : Stage) (x : Exchange) (steps : List Step) (behind : List Answer) (result : Result Unit NoMemory)
+    ensures begun { (a b : Stage) (x : Exchange) (steps : List Step) (behind : List Answer)
+        (result : Result Unit NoMemory)
         → PlayedOn a steps (begun_answers x ++ behind) result b → HasHead x }
     ensures refusal { (behind : List ℕ) → ReadsAnswer (bad_request_text ++ behind) 400
         (close_field ∷ record { name = codes "content-length"; value = codes "0" } ∷ []) behind }
@@ -113,8 +123,9 @@ pub fn heads_are_read_back()
         (close_field ∷ record { name = codes "content-length"; value = codes "0" } ∷ []) behind }
 {}
 
-/// A client that waits for its answer isn't asked meanwhile: where a whole request was taken, and nothing was written, not
-/// all is served that may be. So a client may be one that is asked only where something was written since its first request.
+/// A client that waits for its answer isn't asked meanwhile: where a whole request was taken, and nothing was written,
+/// not all is served that may be. So a client may be one that is asked only where something was written since its first
+/// request.
 pub fn an_owed_answer_is_not_so_far()
     ensures { (setup : Setup) (before now : Outside) → Owes before now → ServedSoFar setup before now → ⊥ }
 {}

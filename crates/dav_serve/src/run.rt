@@ -66,16 +66,16 @@ fn bench_remembering<K: Sink>(alloc: Global, seed: u32, sink: &mut K) -> Result<
     }
 }
 
-/// Runs the program over these words, which stand behind its name, and answers its status: 0 where the input was read to
-/// its end, or to a request whose answer closes; 2 where the words are not understood, and then nothing is read or
+/// Runs the program over these words, which stand behind its name, and answers its status: 0 where the input was read
+/// to its end, or to a request whose answer closes; 2 where the words are not understood, and then nothing is read or
 /// written; 3, 4 and 5 where the source, the sink or the disk failed; 6 where the input has no valid request at its
 /// place; 7 where 2^60 bytes were taken.
 ///
 /// For the settings that the words say, what the sink gets is told for each status (`serves`) and for want of memory
 /// (`memory`), and the status by the input where no fault ends the run (`complete`). The client is asked for more only
 /// where all whole requests that came are answered and all answers are written (`waits`); a source may always be asked.
-/// Where the words say a large input, it is played, what was counted over it is written, and the status is 0, or 4 where
-/// the sink failed (`benches`); nothing is read, and the disk isn't asked.
+/// Where the words say a large input, it is played, what was counted over it is written, and the status is 0, or 4
+/// where the sink failed (`benches`); nothing is read, and the disk isn't asked.
 pub fn run<S: Client<K>, K: Sink, D: Disk, C: Clock>(
     alloc: Global,
     words: &[String],

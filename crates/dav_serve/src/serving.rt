@@ -28,8 +28,8 @@ struct Held {
     spare: Spare,
 }
 
-// A player over the disk from its root on and a memory, by these settings, whose store finds names as the options say. It
-// gave no reply yet.
+// A player over the disk from its root on and a memory, by these settings, whose store finds names as the options say.
+// It gave no reply yet.
 fn player_over<D: Disk + Drop, R: RememberAny + Drop>(
     alloc: Global,
     disk: D,
@@ -49,8 +49,8 @@ fn player_over<D: Disk + Drop, R: RememberAny + Drop>(
     Player::new(handler)
 }
 
-// Answers a request by a player of its own over the disk and the memory, so that no count of replies ever runs out. What
-// held its fields goes back to the input.
+// Answers a request by a player of its own over the disk and the memory, so that no count of replies ever runs out.
+// What held its fields goes back to the input.
 fn answer<K: Sink, D: Disk, R: RememberAny + Drop>(
     alloc: Global,
     options: &Options<'_>,
@@ -178,9 +178,9 @@ fn answer_all<S: Client<K>, K: Sink, D: Disk, R: RememberAny + Drop, C: Clock>(
     }
 }
 
-/// Reads requests from a client and writes their answers to a sink, until the input ends, an answer closes, or something
-/// fails. It answers how it ended. The client is asked only where all requests that came whole are answered and written.
-/// What was remembered at one request is known at the next.
+/// Reads requests from a client and writes their answers to a sink, until the input ends, an answer closes, or
+/// something fails. It answers how it ended. The client is asked only where all requests that came whole are answered
+/// and written. What was remembered at one request is known at the next.
 pub fn serve<S: Client<K>, K: Sink, D: Disk, R: RememberAny + Drop, C: Clock>(
     alloc: Global,
     options: &Options<'_>,

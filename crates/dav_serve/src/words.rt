@@ -79,8 +79,8 @@ pub fn options_said(words: &[String]) -> Option<Options<'_>>
     }
 }
 
-/// The number that the words behind the program's name say of a large input, which are `ROOT bench SEED` with a root that
-/// isn't empty. None where they say something else.
+/// The number that the words behind the program's name say of a large input, which are `ROOT bench SEED` with a root
+/// that isn't empty. None where they say something else.
 pub fn seed_said(words: &[String]) -> Option<u32>
     ensures said { result ≡ the_seed_said words.now }
     ensures few { IfSome result (λ seed. seed ≤ 399) }
@@ -213,7 +213,8 @@ fn with_index<'a>(options: &Options<'a>, name: &'a str) -> Option<Options<'a>>
 
 // A size of the read buffer besides, where none was said before.
 fn with_buffer<'a>(options: &Options<'a>, word: &str) -> Option<Options<'a>>
-    ensures { option_map set_by result ≡ option_and_then (the_with_buffer (set_by options.now)) (the_size_said word.now) }
+    ensures { option_map set_by result ≡ option_and_then (the_with_buffer (set_by options.now))
+        (the_size_said word.now) }
 {
     let size = size_said(word)?;
     if options.bufsize.is_some() {
@@ -227,7 +228,8 @@ fn with_buffer<'a>(options: &Options<'a>, word: &str) -> Option<Options<'a>>
 
 // A prefix besides, where none was said before.
 fn with_prefix<'a>(options: &Options<'a>, prefix: &'a str) -> Option<Options<'a>>
-    ensures { option_map set_by result ≡ option_and_then (the_with_prefix (set_by options.now)) (prefix_said prefix.now) }
+    ensures { option_map set_by result ≡ option_and_then (the_with_prefix (set_by options.now))
+        (prefix_said prefix.now) }
 {
     if !is_prefix(prefix) {
         return None;

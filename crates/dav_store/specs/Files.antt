@@ -43,7 +43,8 @@ AsksToGive (Err NoMemory) s t = AsksAtMostOnce s t
 AsksToGive result s t = AsksOnce s t
 
 -- The metadata of the file as it is now.
-pub record FileSays (s : DiskState) (h : ℕ) (seen : Option Seen) (result : Result Info FsError) (t : DiskState) (after : Option Seen) : Type 0 where
+pub record FileSays (s : DiskState) (h : ℕ) (seen : Option Seen) (result : Result Info FsError) (t : DiskState)
+    (after : Option Seen) : Type 0 where
   pub keeps : Keeps s t
   pub asked : AsksOnce s t
   pub same : after ≡ seen
@@ -56,7 +57,8 @@ abbrev pub SeeksIn : ℕ → Result ℕ FsError → Seen → Seen → Type 0
 SeeksIn place (Ok n) f g = g ≡ record f { place = place }
 SeeksIn place (Err e) f g = g ≡ f
 
-pub record FileSeeks (s : DiskState) (h : ℕ) (seen : Option Seen) (place : ℕ) (result : Result ℕ FsError) (t : DiskState) (after : Option Seen) : Type 0 where
+pub record FileSeeks (s : DiskState) (h : ℕ) (seen : Option Seen) (place : ℕ) (result : Result ℕ FsError)
+    (t : DiskState) (after : Option Seen) : Type 0 where
   pub keeps : KeepsBut h s t
   pub asked : AsksOnce s t
   pub live : t.live h ≡ s.live h
@@ -74,11 +76,13 @@ moved_by n f = record f { place = f.place + n }
 -- Bytes from its place on went to the front of the buffer. None came only where none stands there. A whole read gives
 -- all that stand there and fit.
 abbrev pub ReadsIn : Bool → List ℕ → Result ℕ FsError → Seen → Seen → Type 0
-ReadsIn whole buffer (Ok n) f g = (n ≤ length (rest_of f)) × (take n buffer ≡ take n (rest_of f)) × (n ≡ 0 → rest_of f ≡ [])
+ReadsIn whole buffer (Ok n) f g = (n ≤ length (rest_of f)) × (take n buffer ≡ take n (rest_of f))
+    × (n ≡ 0 → rest_of f ≡ [])
     × (whole ≡ true → n ≡ min (length buffer) (length (rest_of f))) × (g ≡ moved_by n f)
 ReadsIn whole buffer (Err e) f g = g ≡ f
 
-pub record FileReads (s : DiskState) (h : ℕ) (seen : Option Seen) (buffer : List ℕ) (result : Result ℕ FsError) (t : DiskState) (after : Option Seen) : Type 0 where
+pub record FileReads (s : DiskState) (h : ℕ) (seen : Option Seen) (buffer : List ℕ) (result : Result ℕ FsError)
+    (t : DiskState) (after : Option Seen) : Type 0 where
   pub keeps : KeepsBut h s t
   pub asked : AsksOnce s t
   pub live : t.live h ≡ s.live h
@@ -93,7 +97,8 @@ GivesIn whole count (Ok bytes) f g = (bytes ≡ take (length bytes) (rest_of f))
 GivesIn whole count (Err NoMemory) f g = (n : ℕ) × (n ≤ length (rest_of f)) × (n ≤ count) × (g ≡ moved_by n f)
 GivesIn whole count (Err e) f g = g ≡ f
 
-pub record FileGives (s : DiskState) (h : ℕ) (seen : Option Seen) (count : ℕ) (result : Result (List ℕ) FsError) (t : DiskState) (after : Option Seen) : Type 0 where
+pub record FileGives (s : DiskState) (h : ℕ) (seen : Option Seen) (count : ℕ) (result : Result (List ℕ) FsError)
+    (t : DiskState) (after : Option Seen) : Type 0 where
   pub keeps : KeepsBut h s t
   pub asked : AsksToGive result s t
   pub live : t.live h ≡ s.live h
@@ -110,7 +115,8 @@ abbrev pub Redirects : DiskState → Result (Option (List ℕ)) FsError → Disk
 Redirects s (Ok address) t f = address ≡ f.stands.redirect
 Redirects s (Err e) t f = Spoiled {T = Option (List ℕ)} s (Err e) t
 
-pub record FileRedirects (s : DiskState) (seen : Option Seen) (result : Result (Option (List ℕ)) FsError) (t : DiskState) (after : Option Seen) : Type 0 where
+pub record FileRedirects (s : DiskState) (seen : Option Seen) (result : Result (Option (List ℕ)) FsError)
+    (t : DiskState) (after : Option Seen) : Type 0 where
   pub keeps : Keeps s t
   pub asked : AsksAtMostOnce s t
   pub same : after ≡ seen
@@ -119,7 +125,8 @@ pub record FileRedirects (s : DiskState) (seen : Option Seen) (result : Result (
   pub told : IfSome seen (Redirects s result t)
 
 -- Nothing is left to write out.
-pub record FileFlushes (s : DiskState) (seen : Option Seen) (result : Result Unit FsError) (t : DiskState) (after : Option Seen) : Type 0 where
+pub record FileFlushes (s : DiskState) (seen : Option Seen) (result : Result Unit FsError) (t : DiskState)
+    (after : Option Seen) : Type 0 where
   pub done : result ≡ Ok tt
   pub disk : t ≡ s
   pub same : after ≡ seen
@@ -140,9 +147,11 @@ pub record IsWritten (place : ℕ) (from : List ℕ) (f g : Seen) : Type 0 where
 -- A refused write may have written a front.
 abbrev pub WritesIn : Option Live → List ℕ → Result Unit FsError → Seen → Seen → Type 0
 WritesIn l from (Ok x) f g = (from ≡ [] → g ≡ f) × (0 < length from → IsWritten (write_place l f) from f g)
-WritesIn l from (Err e) f g = (g ≡ f) ⊎ ((n : ℕ) × (0 < n) × (n ≤ length from) × IsWritten (write_place l f) (take n from) f g)
+WritesIn l from (Err e) f g = (g ≡ f) ⊎ ((n : ℕ) × (0 < n) × (n ≤ length from)
+    × IsWritten (write_place l f) (take n from) f g)
 
-pub record FileWrites (s : DiskState) (h : ℕ) (seen : Option Seen) (from : List ℕ) (result : Result Unit FsError) (t : DiskState) (after : Option Seen) : Type 0 where
+pub record FileWrites (s : DiskState) (h : ℕ) (seen : Option Seen) (from : List ℕ) (result : Result Unit FsError)
+    (t : DiskState) (after : Option Seen) : Type 0 where
   pub keeps : KeepsOpenBut h s t
   pub live : t.live h ≡ s.live h
   -- of the world only bytes and times

@@ -8,8 +8,8 @@ use Rattle.dav_core.specs.Unchanged.{Keeps, KeepsBut, SameListing, SameOpen}
 use Rattle.dav_core.specs.Options.{reading}
 use Rattle.dav_store.specs.Standing.{Seen}
 
--- The same handles and listers are live, every open file has its number and its place, and every open listing its names to
--- come. What stands may differ.
+-- The same handles and listers are live, every open file has its number and its place, and every open listing its names
+-- to come. What stands may differ.
 pub record KeepsOpen (s t : DiskState) : Type 0 where
   pub counts : s.faults ≤ t.faults
   pub asked : s.asked ≤ t.asked
@@ -43,6 +43,7 @@ pub record IsUnopened (how : OpenOptions) (s t : DiskState) : Type 0 where
   pub others : KeepsOpen s t
   pub kept : how ≡ reading → Keeps s t
 
-abbrev pub OpensOne : {F : Type 0} → (F → ℕ) → (F → DiskState → Option Seen) → OpenOptions → DiskState → Result F FsError → DiskState → Type 0
+abbrev pub OpensOne : {F : Type 0} → (F → ℕ) → (F → DiskState → Option Seen) → OpenOptions → DiskState
+    → Result F FsError → DiskState → Type 0
 OpensOne handle seen how s (Ok file) t = IsOpened how s (handle file) (seen file t) t
 OpensOne handle seen how s (Err e) t = IsUnopened how s t

@@ -68,5 +68,7 @@ kind_said test (Ok info) = Ok (test info.kind)
 kind_said test (Err e) = Err e
 
 -- What an entry answers of its kind is what its metadata would say.
-abbrev pub SaysKind : {E : Type 0} → (E → DiskState → Result Info FsError → DiskState → Type 0) → (Kind → Bool) → E → DiskState → Result Bool FsError → DiskState → Type 0
-SaysKind says test entry s result t = (said : Result Info FsError) × says entry s said t × (result ≡ kind_said test said)
+abbrev pub SaysKind : {E : Type 0} → (E → DiskState → Result Info FsError → DiskState → Type 0) → (Kind → Bool) → E
+    → DiskState → Result Bool FsError → DiskState → Type 0
+SaysKind says test entry s result t = (said : Result Info FsError) × says entry s said t
+    × (result ≡ kind_said test said)

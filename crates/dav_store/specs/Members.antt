@@ -69,7 +69,8 @@ Stops (Err e) = e ≢ NoMemory
 
 -- Members that were read where a store shows these, or a refusal. Members are missing only where the count rose.
 abbrev pub ReadsThere : Result (List Member) FsError → ℕ → List Member → ℕ → Type 0
-ReadsThere (Ok all) from members now = (missing : List Member) × IsPermutation all (members ++ missing) × ((missing ≡ []) ⊎ Rose from now)
+ReadsThere (Ok all) from members now = (missing : List Member) × IsPermutation all (members ++ missing)
+    × ((missing ≡ []) ⊎ Rose from now)
 ReadsThere (Err e) from members now = ⊥
 
 abbrev pub RefusesThere : Result (List Member) FsError → DiskState → FsError → DiskState → Type 0
@@ -81,7 +82,8 @@ module _ {S C F L E : Type 0} (view : View S C F) (lists : Listings S C L E) whe
   pub data Walked (s : S) (l : L) : List Answered → S → L → Type 0 where
     begun : Walked s l [] s l
     goes : (answers : List Answered) (m n o : S) (k j : L) (e : E) (r : Result Info FsError) → Walked s l answers m k
-        → lists.lists_on m k (Ok (Some e)) n j → lists.says e (view.state n) r (view.state o) → view.lends n o → Keeps (view.state n) (view.state o)
+        → lists.lists_on m k (Ok (Some e)) n j → lists.says e (view.state n) r (view.state o) → view.lends n o
+        → Keeps (view.state n) (view.state o)
         → Walked s l (answers ++ record { name = lists.called e; meta = r } ∷ []) o j
 
   -- A listing was asked on to its end, whatever it gave on the way.
@@ -122,8 +124,8 @@ module _ {S C F L E : Type 0} (view : View S C F) (lists : Listings S C L E) whe
     pub walks : WalksOut begin listing members after over
     pub ended : lists.ends_list after over t
 
-  -- None comes where all were given, and an error of want of memory, or of a fault that was met since the count of the first
-  -- store: a store may read ahead, and tell a fault later.
+  -- None comes where all were given, and an error of want of memory, or of a fault that was met since the count of the
+  -- first store: a store may read ahead, and tell a fault later.
   abbrev pub EndsThere : List Member → List Answered → Result (Option E) FsError → S → S → Type 0
   EndsThere all answers (Ok None) s t = length answers ≡ length all
   EndsThere all answers (Ok (Some entry)) s t = Unit {0}
@@ -131,8 +133,12 @@ module _ {S C F L E : Type 0} (view : View S C F) (lists : Listings S C L E) whe
 
   -- The store shows these members of the directory at a path, now and after looks.
   pub record ShowsMembers (s : S) (c : C) (path : WebPath) (found : Result (List Member) FsError) : Type 0 where
-    pub begins : (m n : S) (r : Result L FsError) → Looked view s c m → lists.lists m c path Data r n → BeginsThere found r ⊎ Spoiled (view.state m) r (view.state n)
-    pub walks : (all : List Member) → found ≡ Ok all → (m n o : S) (l k : L) (answers : List Answered) → Looked view s c m → lists.lists m c path Data (Ok l) n
+    pub begins : (m n : S) (r : Result L FsError) → Looked view s c m → lists.lists m c path Data r n
+        → BeginsThere found r ⊎ Spoiled (view.state m) r (view.state n)
+    pub walks : (all : List Member) → found ≡ Ok all → (m n o : S) (l k : L) (answers : List Answered)
+        → Looked view s c m → lists.lists m c path Data (Ok l) n
         → Walked n l answers o k → AreOf all (view.state m).faults (view.state o).faults answers
-    pub ends : (all : List Member) → found ≡ Ok all → (m n o p : S) (l k j : L) (answers : List Answered) (r : Result (Option E) FsError) → Looked view s c m
-        → lists.lists m c path Data (Ok l) n → Walked n l answers o k → lists.lists_on o k r p j → EndsThere all answers r m p
+    pub ends : (all : List Member) → found ≡ Ok all → (m n o p : S) (l k j : L) (answers : List Answered)
+        (r : Result (Option E) FsError) → Looked view s c m
+        → lists.lists m c path Data (Ok l) n → Walked n l answers o k → lists.lists_on o k r p j
+        → EndsThere all answers r m p

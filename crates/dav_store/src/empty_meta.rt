@@ -5,8 +5,8 @@ use dav_core::{DavMetaData, DavPath, FileTime, FsError};
 use dav_io::{NoMemory, Text};
 use std::alloc::Global;
 
-/// An empty file that was made and changed 959,652,000 seconds after 1970. Nothing else is known of it: it has no entity
-/// tag, and lies in no calendar and no address book.
+/// An empty file that was made and changed 959,652,000 seconds after 1970. Nothing else is known of it: it has no
+/// entity tag, and lies in no calendar and no address book.
 #[derive(Clone, Copy, Debug)]
 pub struct EmptyMetaData;
 

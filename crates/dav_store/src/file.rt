@@ -98,7 +98,8 @@ pub trait DavFile<D: Disk> {
         ensures handle { handle self.new ≡ handle self.old }
         ensures loan { D.loan disk.new ≡ D.loan disk.old };
 
-    /// The address to which it sends a client, where it has one: a text of printable ASCII. It asks the disk at most once.
+    /// The address to which it sends a client, where it has one: a text of printable ASCII. It asks the disk at most
+    /// once.
     fn redirect_url(&mut self, alloc: Global, disk: &mut D) -> Result<Option<Text>, FsError>
         requires { IsSome ((D.state disk.old).live (handle self.old)) }
         ensures done { FileRedirects (D.state disk.old) (seen self.old (D.state disk.old)) result (D.state disk.new)

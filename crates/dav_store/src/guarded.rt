@@ -60,9 +60,9 @@ pub trait GuardedFileSystem<C> {
     /// How many answers a listing has to come, by what the disk has of its lister.
     ghost to_come: { Self.Dir → Option ℕ → ℕ };
 
-    /// Whether the store may remember what a listing gives now. It speaks of its memory and of the tree, where a
-    /// memory knows names of a directory at a time: all that only reads keeps it, and so does all that gives a directory
-    /// with other names a new time.
+    /// Whether the store may remember what a listing gives now. It speaks of its memory and of the tree, where a memory
+    /// knows names of a directory at a time: all that only reads keeps it, and so does all that gives a directory with
+    /// other names a new time.
     ghost admits: { Self → Type 0 } = { λ _. Unit {0} };
 
     /// What the beginning of a listing may answer.
@@ -213,8 +213,8 @@ pub trait GuardedFileSystem<C> {
         → Both (Self.Disk.state (inside s)).told (Self.Disk.state d).told SameBesidesOpens
         → admits s → admits (with_disk s d) };
 
-    /// A disk put inside whose told world has the same things at the same places, each with its time or a new one, keeps
-    /// what the store may remember: a write to a file leaves such a world.
+    /// A disk put inside whose told world has the same things at the same places, each with its time or a new one,
+    /// keeps what the store may remember: a write to a file leaves such a world.
     ghost admits_written: { (s : Self) (d : Self.Disk)
         → Both (Self.Disk.state (inside s)).told (Self.Disk.state d).told SameBesidesFiles
         → admits s → admits (with_disk s d) };

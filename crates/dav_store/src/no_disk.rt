@@ -10,8 +10,8 @@ use dav_core::{Disk, DiskError, FsPath, Handle, Lister, Meta, OpenOptions};
 use dav_io::{NoMemory, Text};
 use std::alloc::Global;
 
-/// A disk that has nothing, not even a root. A call on a path is refused with `NotFound`. No handle and no lister is ever
-/// live; a call on one is a fault, and counted.
+/// A disk that has nothing, not even a root. A call on a path is refused with `NotFound`. No handle and no lister is
+/// ever live; a call on one is a fault, and counted.
 #[derive(Clone, Copy, Debug)]
 pub struct NoDisk {
     faults: u64,

@@ -17,9 +17,9 @@ use crate::reading::fill_flushing;
 use dav_io::{Client, Octets, Sink};
 use std::alloc::Global;
 
-/// Reads the body behind a head, by what the head announces, and passes it (RFC 9112, sections 6 and 7.1): first what is
-/// held, and then what the client gives, a call at a time. Before the client is asked, all that is held for the sink is
-/// given to it. The memory grows with what came, never with what was announced.
+/// Reads the body behind a head, by what the head announces, and passes it (RFC 9112, sections 6 and 7.1): first what
+/// is held, and then what the client gives, a call at a time. Before the client is asked, all that is held for the sink
+/// is given to it. The memory grows with what came, never with what was announced.
 pub fn read_body<S: Client<K>, K: Sink>(
     alloc: Global,
     announced: Announced,

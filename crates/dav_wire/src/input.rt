@@ -109,7 +109,8 @@ impl Input {
         }
     }
 
-    /// Takes more bytes, in one call of a client that may be asked now, and answers how many. 0 is the end of the input.
+    /// Takes more bytes, in one call of a client that may be asked now, and answers how many. 0 is the end of the
+    /// input.
     pub fn fill_after<S: Client<K>, K: Sink>(
         &mut self,
         source: &mut S,

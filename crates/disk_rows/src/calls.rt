@@ -9,7 +9,8 @@
 //!     cp PATH PATH            copies a file
 //!     open PATH HOW WORD..    opens a file, does what the words say, and closes it
 //!
-//! HOW is a letter for each option: `r`, `w`, `a` (append), `t` (truncate), `c` (create), `n` (create_new); or `-` for none.
+// HOW is a letter for each option: `r`, `w`, `a` (append), `t` (truncate), `c` (create), `n` (create_new); or `-` for
+// none.
 //! A word is `write:BYTES`, `read:COUNT`, `seek:PLACE`, `meta`, or a call with `,` in place of its blanks.
 ghost use Rattle.std.specs.Prelude.{◌≡◌, IsSome};
 
