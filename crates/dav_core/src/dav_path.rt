@@ -126,11 +126,17 @@ impl DavPath {
         }) }
         ensures err { OnErr result (self.new ≡ self.old) }
     {
-        let mut names = copied(self.alloc, self.names.as_slice())?;
-        names.push(Text::copy(self.alloc, name)?)?;
-        self.names = FsPath::new(names);
+        self.names.push(name)?;
         self.slash = false;
         Ok(())
+    }
+
+    /// Takes the last name away, and ends with a slash then. The root stays.
+    pub fn pop_segment(&mut self)
+        ensures { self.new ≡ record self.old { names = parent_of self.old.names; slash = true } }
+    {
+        self.names.pop();
+        self.slash = true;
     }
 
     /// The path without its last name, with a final slash. The root's is the root.

@@ -1,11 +1,11 @@
-ghost use Rattle.std.specs.Prelude.{◌≡◌, ◌↔◌, ◌++◌, ◌∷◌, [], ◌==◌, IfOk, IsTrue, true, nat_eq};
+ghost use Rattle.std.specs.Prelude.{◌≡◌, ◌↔◌, ◌++◌, ◌∷◌, [], ◌==◌, IfOk, IsTrue, OnErr, OnOk, true, nat_eq};
 ghost use Rattle.std.specs.Hash as fed;
 ghost use Rattle.std.specs.Hash.{items_Alike};
 ghost use Rattle.std.specs.Cmp.Lexicographic.{pointwise, lists_equiv, nat_list_eq_equiv};
 ghost use Rattle.std.specs.Cmp.{partial_equiv_from_equiv};
 ghost use Rattle.std.specs.Cmp.Rules.{hashing};
 ghost use Rattle.std.proofs.Common.{rules};
-ghost use Rattle.dav_core.specs.Path.{all_plain, is_plain as is_plain_name};
+ghost use Rattle.dav_core.specs.Path.{all_plain, is_plain as is_plain_name, parent_of};
 
 use crate::names::copied;
 use crate::plain_name::is_plain;
@@ -70,6 +70,25 @@ impl FsPath {
         let mut names = copied(alloc, self.as_slice())?;
         names.push(Text::copy(alloc, name)?)?;
         Ok(FsPath::new(names))
+    }
+
+    /// Adds a plain name behind the others. Where memory is refused, nothing changes.
+    pub fn push(&mut self, name: &str) -> Result<(), NoMemory>
+        requires { is_plain_name name.now ≡ true }
+        ensures ok { OnOk result (self.new ≡ self.old ++ name.now ∷ []) }
+        ensures err { OnErr result (self.new ≡ self.old) }
+    {
+        let name = Text::copy(self.allocator(), name)?;
+        self.names.push(name)?;
+        Ok(())
+    }
+
+    /// Takes the last name away, where there is one.
+    pub fn pop(&mut self)
+        ensures { self.new ≡ parent_of self.old }
+    {
+        let kept = self.names.len().saturating_sub(1);
+        self.names.truncate(kept);
     }
 
     /// A copy, with memory of its own.
