@@ -18,9 +18,9 @@ answer_in (LentPiece piece) = Piece piece.now
 answer_in LentEnd = End
 answer_in LentBroken = Broken
 
--- The body ends as one that was polled with this answer.
-abbrev pub EndsPolled : (F : RattleType) → (F.Denot → ℕ) → (F.Denot → DiskState → Option Seen) → DiskState → DiskState
-    → MutBor (GetBody F.Denot) → GetBody F.Denot → Polled → Fml
-EndsPolled F handle seen s t entry before result =
-    follows_so (the_row F) (the_row F) entry.ghost_name none (λ _ _. ⊤)
-    (λ after. IsPolled handle seen s before (answer_in result) t after)
+module _ (F : RattleType) (handle : F.Denot → ℕ) (seen : F.Denot → DiskState → Option Seen) where
+  -- The body ends as one that was polled with this answer.
+  abbrev pub EndsPolled : DiskState → DiskState → MutBor (GetBody F.Denot) → GetBody F.Denot → Polled → Fml
+  EndsPolled s t entry before result =
+      follows_so (the_row F) (the_row F) entry.ghost_name none (λ _ _. ⊤)
+      (λ after. IsPolled handle seen s before (answer_in result) t after)

@@ -124,8 +124,9 @@ Exchanges Is a Closed b = Whole Is true a b
 Exchanges Is a SinkFailed b = SinkStopped Is a b.outlet b.stage.at
 Exchanges Is a BrokeOff b = BrokenOff Is a b
 
--- One request was answered by a player of its own, over a memory that knows this afterwards.
-abbrev pub Answers : Parts → List ℕ → Moment → Work → Ended → Outlet → Point → Knowledge → Type 0
-Answers parts body now a ended b t knows =
-    (q : Playing) × (q.knows ≡ knows)
-    × Exchanges (IsAnswerTo parts body now) a ended (record { outlet = b; stage = stage_at t q })
+module _ (parts : Parts) (body : List ℕ) (now : Moment) where
+  -- One request was answered by a player of its own, over a memory that knows this afterwards.
+  abbrev pub Answers : Work → Ended → Outlet → Point → Knowledge → Type 0
+  Answers a ended b t knows =
+      (q : Playing) × (q.knows ≡ knows)
+      × Exchanges (IsAnswerTo parts body now) a ended (record { outlet = b; stage = stage_at t q })

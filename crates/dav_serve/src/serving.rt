@@ -20,9 +20,11 @@ use dav_wire::{Flaw, Input, Output, ReadError, refusal_text};
 use http::Request;
 use std::alloc::Global;
 
-// What was taken from the source and not yet read, what waits for the sink, and memory for the next answer.
+// What was taken from the source and not yet read, what waits for the sink, and memory for the next answer; and what
+// memory is taken from.
 #[derive(Drop)]
 struct Held {
+    alloc: Global,
     input: Input,
     output: Output,
     spare: Spare,
@@ -52,7 +54,6 @@ fn player_over<D: Disk + Drop, R: RememberAny + Drop>(
 // Answers a request by a player of its own over the disk and the memory, so that no count of replies ever runs out.
 // What held its fields goes back to the input.
 fn answer<K: Sink, D: Disk, R: RememberAny + Drop>(
-    alloc: Global,
     options: &Options<'_>,
     disk: &mut D,
     memory: &mut Option<R>,
@@ -76,14 +77,14 @@ fn answer<K: Sink, D: Disk, R: RememberAny + Drop>(
     let manner = manner_of(&message.parts);
     let Message { parts, body } = message;
     let request = Request::from_parts(parts, body);
-    let settings = match options.settings(alloc) {
+    let settings = match options.settings(held.alloc) {
         Ok(settings) => settings,
         Err(error) => return Err(error),
     };
     let Some(known) = memory.take() else {
         unreachable!("there is a memory");
     };
-    let mut player = player_over(alloc, &mut *disk, known, settings, options);
+    let mut player = player_over(held.alloc, &mut *disk, known, settings, options);
     let ended = exchange(
         &mut held.spare,
         &mut player,
@@ -124,7 +125,6 @@ fn refuse<K: Sink>(output: &mut Output, sink: &mut K, flaw: Flaw) -> Ending
 // leave together: what waits for the sink is given to it before the client is asked again, and at the end. Where memory
 // is refused, it waits still.
 fn answer_all<S: Client<K>, K: Sink, D: Disk, R: RememberAny + Drop, C: Clock>(
-    alloc: Global,
     options: &Options<'_>,
     held: &mut Held,
     source: &mut S,
@@ -152,10 +152,10 @@ fn answer_all<S: Client<K>, K: Sink, D: Disk, R: RememberAny + Drop, C: Clock>(
 {
     let mut memory = Some(first);
     'requests: loop {
-        match next_message(alloc, &mut held.input, source, &mut held.output, sink) {
+        match next_message(held.alloc, &mut held.input, source, &mut held.output, sink) {
             Ok(Next::Whole(message)) => {
                 let now = clock.now();
-                match answer(alloc, options, disk, &mut memory, held, sink, now, message) {
+                match answer(options, disk, &mut memory, held, sink, now, message) {
                     Ok(Ended::Open) => {}
                     Ok(Ended::Closed) => return Ok(finish(&mut held.output, sink, Ending::Closed)),
                     Ok(Ended::SinkFailed) => return Ok(Ending::SinkFailed),
@@ -213,11 +213,12 @@ pub fn serve<S: Client<K>, K: Sink, D: Disk, R: RememberAny + Drop, C: Clock>(
         Err(error) => return Err(error),
     };
     let mut held = Held {
+        alloc,
         input,
         output,
         spare: Spare::new(alloc),
     };
-    match answer_all(alloc, options, &mut held, source, sink, disk, memory, clock) {
+    match answer_all(options, &mut held, source, sink, disk, memory, clock) {
         Ok(ending) => Ok(ending),
         Err(error) => {
             // What was answered before is written also where memory is refused.
