@@ -1,13 +1,13 @@
 //! Polls bodies: a row a line on standard input, and an answer a line on standard output.
 //!
-// steps COUNT END POLLS   what polls give of a body over steps: COUNT digits, the greatest first, and then the end or,
-//!                             where END is `breaks`, a break
+//!     steps COUNT END POLLS   what polls give of a body over steps: COUNT digits, the greatest first, and then the end
+//!                             or, where END is `breaks`, a break
 //!     collect COUNT END       all pieces of such a body joined, and how many steps were made
 //!     frames COUNT END POLLS  the frames of such a body, one after the other
 //!     bytes TEXT              what four polls give of a body of bytes; also `str`, `string` and `empty`
 //!     slot FIRST SECOND       what is left of two numbers that are sent into a slot
-// reader CALLS            the first frame of a reader that was called so often; its second call fails, and those behind
-//!                             its fourth are at its end
+//!     reader CALLS            the first frame of a reader that was called so often; its second call fails, and those
+//!                             behind its fourth are at its end
 //!     lent CALLS              two pieces of such a reader that is lent, and the next one of the reader itself
 //!     #                       is written as it stands
 #![tactic(auto)]

@@ -1,6 +1,5 @@
-// Calls by words: of a memory and of a listing, over a disk in memory. The disk has the directory `/d` alone, of the
-// time
-//! 1 s. Moments are in milliseconds.
+//! Calls by words: of a memory and of a listing, over a disk in memory. The disk has the directory `/d` alone, of the
+//! time 1 s. Moments are in milliseconds.
 
 use crate::tell_path;
 use crate::words::{RowError, moment, number, path};

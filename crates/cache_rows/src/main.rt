@@ -1,5 +1,5 @@
-// Plays rows of events over the core of the caches, and rows of calls over the caches, and prints what is told, a row a
-// line.
+//! Plays rows of events over the core of the caches, and rows of calls over the caches, and prints what is told, a row
+//! a line.
 //!
 //! A row is words with blanks between them. The first is `CALLERS:PATHS:DOTS`, the number of callers and the capacities
 //! of the two caches. Each other word is an event, as `words.rt` reads it. The tree at the start is the root alone.

@@ -1,5 +1,5 @@
-// Judges preconditions, If-Range and values of Range: a row a line on standard input, and an answer a line on standard
-// output.
+//! Judges preconditions, If-Range and values of Range: a row a line on standard input, and an answer a line on standard
+//! output.
 //!
 //! Cells stand between `|`, and the values of fields are percent-encoded.
 //!

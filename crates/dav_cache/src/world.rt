@@ -91,10 +91,8 @@ impl World {
     }
 
     fn ask(&mut self, caller: u32, dir: &FsPath, name: &Text) -> Result<Told, NoMemory>
-        ensures state { OnOk result (self.new
-            ≡ (core.ask self.old caller dir.now name.now (slice_get self.old.places caller)).0) }
-        ensures told { IfOk result (λ told. told
-            ≡ (core.ask self.old caller dir.now name.now (slice_get self.old.places caller)).1) }
+        ensures done { IfOk result (λ told. (self.new, told)
+            ≡ core.ask self.old caller dir.now name.now (slice_get self.old.places caller)) }
         ensures err { OnErr result (self.new ≡ self.old) }
     {
         match self.places.get(caller as usize) {
@@ -111,8 +109,8 @@ impl World {
     }
 
     fn peek(&mut self, caller: u32) -> Result<Told, NoMemory>
-        ensures state { OnOk result (self.new ≡ (core.peek self.old caller (slice_get self.old.places caller)).0) }
-        ensures told { IfOk result (λ told. told ≡ (core.peek self.old caller (slice_get self.old.places caller)).1) }
+        ensures done { IfOk result (λ told. (self.new, told)
+            ≡ core.peek self.old caller (slice_get self.old.places caller)) }
         ensures err { OnErr result (self.new ≡ self.old) }
     {
         match self.places.get(caller as usize) {
@@ -140,10 +138,8 @@ impl World {
     }
 
     fn check(&mut self, caller: u32, refused: bool) -> Result<Told, NoMemory>
-        ensures state { OnOk result (self.new
-            ≡ (core.check self.old caller refused (slice_get self.old.places caller)).0) }
-        ensures told { IfOk result (λ told. told
-            ≡ (core.check self.old caller refused (slice_get self.old.places caller)).1) }
+        ensures done { IfOk result (λ told. (self.new, told)
+            ≡ core.check self.old caller refused (slice_get self.old.places caller)) }
         ensures err { OnErr result (self.new ≡ self.old) }
     {
         match self.places.get(caller as usize) {
@@ -175,9 +171,8 @@ impl World {
     }
 
     fn conclude(&mut self, caller: u32) -> Result<Told, NoMemory>
-        ensures state { OnOk result (self.new ≡ (core.conclude self.old caller (slice_get self.old.places caller)).0) }
-        ensures told { IfOk result (λ told. told
-            ≡ (core.conclude self.old caller (slice_get self.old.places caller)).1) }
+        ensures done { IfOk result (λ told. (self.new, told)
+            ≡ core.conclude self.old caller (slice_get self.old.places caller)) }
         ensures err { OnErr result (self.new ≡ self.old) }
     {
         match self.places.get(caller as usize) {
@@ -200,9 +195,8 @@ impl World {
     }
 
     fn drop_dir(&mut self, caller: u32) -> Result<Told, NoMemory>
-        ensures state { OnOk result (self.new ≡ (core.drop_dir self.old caller (slice_get self.old.places caller)).0) }
-        ensures told { IfOk result (λ told. told
-            ≡ (core.drop_dir self.old caller (slice_get self.old.places caller)).1) }
+        ensures done { IfOk result (λ told. (self.new, told)
+            ≡ core.drop_dir self.old caller (slice_get self.old.places caller)) }
         ensures err { OnErr result (self.new ≡ self.old) }
     {
         match self.places.get(caller as usize) {
@@ -217,10 +211,8 @@ impl World {
     }
 
     fn begin(&mut self, caller: u32, dir: &FsPath) -> Result<Told, NoMemory>
-        ensures state { OnOk result (self.new
-            ≡ (core.begin self.old caller dir.now (slice_get self.old.places caller)).0) }
-        ensures told { IfOk result (λ told. told
-            ≡ (core.begin self.old caller dir.now (slice_get self.old.places caller)).1) }
+        ensures done { IfOk result (λ told. (self.new, told)
+            ≡ core.begin self.old caller dir.now (slice_get self.old.places caller)) }
         ensures err { OnErr result (self.new ≡ self.old) }
     {
         match self.places.get(caller as usize) {
@@ -236,10 +228,8 @@ impl World {
     }
 
     fn before(&mut self, caller: u32, refused: bool) -> Result<Told, NoMemory>
-        ensures state { OnOk result (self.new
-            ≡ (core.before self.old caller refused (slice_get self.old.places caller)).0) }
-        ensures told { IfOk result (λ told. told
-            ≡ (core.before self.old caller refused (slice_get self.old.places caller)).1) }
+        ensures done { IfOk result (λ told. (self.new, told)
+            ≡ core.before self.old caller refused (slice_get self.old.places caller)) }
         ensures err { OnErr result (self.new ≡ self.old) }
     {
         match self.places.get(caller as usize) {
@@ -262,10 +252,8 @@ impl World {
     }
 
     fn find(&mut self, caller: u32, path: &FsPath) -> Result<Told, NoMemory>
-        ensures state { OnOk result (self.new
-            ≡ (core.find self.old caller path.now (slice_get self.old.places caller)).0) }
-        ensures told { IfOk result (λ told. told
-            ≡ (core.find self.old caller path.now (slice_get self.old.places caller)).1) }
+        ensures done { IfOk result (λ told. (self.new, told)
+            ≡ core.find self.old caller path.now (slice_get self.old.places caller)) }
         ensures err { OnErr result (self.new ≡ self.old) }
     {
         match self.places.get(caller as usize) {
@@ -281,10 +269,8 @@ impl World {
     }
 
     fn probe(&mut self, caller: u32, refused: bool) -> Result<Told, NoMemory>
-        ensures state { OnOk result (self.new
-            ≡ (core.probe self.old caller refused (slice_get self.old.places caller)).0) }
-        ensures told { IfOk result (λ told. told
-            ≡ (core.probe self.old caller refused (slice_get self.old.places caller)).1) }
+        ensures done { IfOk result (λ told. (self.new, told)
+            ≡ core.probe self.old caller refused (slice_get self.old.places caller)) }
         ensures err { OnErr result (self.new ≡ self.old) }
     {
         match self.places.get(caller as usize) {
@@ -306,10 +292,8 @@ impl World {
     }
 
     fn list_next(&mut self, caller: u32, refused: bool) -> Result<Told, NoMemory>
-        ensures state { OnOk result (self.new
-            ≡ (core.list_next self.old caller refused (slice_get self.old.places caller)).0) }
-        ensures told { IfOk result (λ told. told
-            ≡ (core.list_next self.old caller refused (slice_get self.old.places caller)).1) }
+        ensures done { IfOk result (λ told. (self.new, told)
+            ≡ core.list_next self.old caller refused (slice_get self.old.places caller)) }
         ensures err { OnErr result (self.new ≡ self.old) }
     {
         match self.places.get(caller as usize) {
@@ -330,10 +314,8 @@ impl World {
     }
 
     fn after(&mut self, caller: u32, refused: bool) -> Result<Told, NoMemory>
-        ensures state { OnOk result (self.new
-            ≡ (core.after self.old caller refused (slice_get self.old.places caller)).0) }
-        ensures told { IfOk result (λ told. told
-            ≡ (core.after self.old caller refused (slice_get self.old.places caller)).1) }
+        ensures done { IfOk result (λ told. (self.new, told)
+            ≡ core.after self.old caller refused (slice_get self.old.places caller)) }
         ensures err { OnErr result (self.new ≡ self.old) }
     {
         match self.places.get(caller as usize) {
@@ -351,10 +333,8 @@ impl World {
     }
 
     fn seal(&mut self, caller: u32, now: Moment, room: u64) -> Result<Told, NoMemory>
-        ensures state { OnOk result (self.new
-            ≡ (core.seal self.old caller now room (slice_get self.old.places caller)).0) }
-        ensures told { IfOk result (λ told. told
-            ≡ (core.seal self.old caller now room (slice_get self.old.places caller)).1) }
+        ensures done { IfOk result (λ told. (self.new, told)
+            ≡ core.seal self.old caller now room (slice_get self.old.places caller)) }
         ensures err { OnErr result (self.new ≡ self.old) }
     {
         match self.places.get(caller as usize) {
@@ -376,8 +356,8 @@ impl World {
     }
 
     fn get(&mut self, caller: u32) -> Result<Told, NoMemory>
-        ensures state { OnOk result (self.new ≡ (core.get self.old caller (slice_get self.old.places caller)).0) }
-        ensures told { IfOk result (λ told. told ≡ (core.get self.old caller (slice_get self.old.places caller)).1) }
+        ensures done { IfOk result (λ told. (self.new, told)
+            ≡ core.get self.old caller (slice_get self.old.places caller)) }
         ensures err { OnErr result (self.new ≡ self.old) }
     {
         match self.places.get(caller as usize) {
@@ -404,8 +384,8 @@ impl World {
     }
 
     fn drop(&mut self, caller: u32) -> Result<Told, NoMemory>
-        ensures state { OnOk result (self.new ≡ (core.drop self.old caller (slice_get self.old.places caller)).0) }
-        ensures told { IfOk result (λ told. told ≡ (core.drop self.old caller (slice_get self.old.places caller)).1) }
+        ensures done { IfOk result (λ told. (self.new, told)
+            ≡ core.drop self.old caller (slice_get self.old.places caller)) }
         ensures err { OnErr result (self.new ≡ self.old) }
     {
         match self.places.get(caller as usize) {
@@ -420,10 +400,8 @@ impl World {
     }
 
     fn insert(&mut self, caller: u32, path: &FsPath, now: Moment) -> Result<Told, NoMemory>
-        ensures state { OnOk result (self.new
-            ≡ (core.insert self.old caller path.now now (slice_get self.old.places caller)).0) }
-        ensures told { IfOk result (λ told. told
-            ≡ (core.insert self.old caller path.now now (slice_get self.old.places caller)).1) }
+        ensures done { IfOk result (λ told. (self.new, told)
+            ≡ core.insert self.old caller path.now now (slice_get self.old.places caller)) }
         ensures err { OnErr result (self.new ≡ self.old) }
     {
         match self.places.get(caller as usize) {

@@ -71,6 +71,10 @@ module _ {F : Type 0} (handle : F → ℕ) (seen : F → DiskState → Option Se
   OpensUnless writes s None t = KeepsUnless writes s t
   OpensUnless writes s (Some h) t = OpensOnly handle s (Some h) t
 
+  opens_unless : (writes : Bool) (s t : DiskState) (file : Option (OpenAt F)) → OpensOnly handle s file t → OpensUnless writes s file t
+  opens_unless writes s t None keeps = kept_unless writes s t keeps
+  opens_unless writes s t (Some h) opens = opens
+
   pub closed_unless : (writes : Bool) (s m t : DiskState) (file : Option (OpenAt F)) → OpensUnless writes s file m → TouchesOwn handle seen m file t None
       → KeepsUnless writes s t
   closed_unless writes s m t None keeps same = subst (KeepsUnless writes s) (sym same) keeps
@@ -174,7 +178,64 @@ module _ {S C F L E : Type 0} (served : Served S C F L E) where
     pub opens : OpensFor asking given r after
     pub loan : served.view.loan after ≡ served.view.loan given
 
+  given_opens : (fields : Fields) (given : Given F) (r : Responded F) (s t : S) → OpenOnlyHeld served.view s given t → Responds fields given r
+      → OpensOnly served.view.handle (served.view.state s) (file_of (inner_of r)) (served.view.state t)
+  given_opens fields (Ok given) r s t life responds =
+      subst (λ (inner : BodyType (GetBody F)). OpensOnly served.view.handle (served.view.state s) (file_of inner) (served.view.state t)) (sym responds.body) life.1
+  given_opens fields (Err e) r s t life bare =
+      subst (λ (inner : BodyType (GetBody F)). OpensOnly served.view.handle (served.view.state s) (file_of inner) (served.view.state t)) (sym bare.body) life
+
+  -- without a body
+  bare_opens : (asking : Asking C) (given after : S) (r : Responded F) → inner_of r ≡ Empty
+      → KeepsUnless (asks_to_write asking.head) (served.view.state given) (served.view.state after) → OpensFor asking given r after
+  bare_opens asking given after r none keeps =
+      subst (λ (inner : BodyType (GetBody F)). OpensUnless served.view.handle served.view.seen (asks_to_write asking.head) (served.view.state given) (file_of inner) (served.view.state after))
+      (sym none) keeps
+
+  -- and with the store as it was
+  same_opens : (asking : Asking C) (given : S) (r : Responded F) (old new : Sides S) → old.store ≡ Some given → inner_of r ≡ Empty → new ≡ old
+      → Opened asking given r new.store
+  same_opens asking given r old new was none same = record {
+    after = given;
+    is = ap (λ (x : Sides S). x.store) same ∙ was;
+    opens = bare_opens asking given given r none (kept_unless (asks_to_write asking.head) (served.view.state given) (served.view.state given) (keeps_same (served.view.state given)));
+    loan = refl;
   }
+
+  passes_opens : (q : Query) (asking : Asking C) (given : S) (r : Responded F) (old new : Option S) → old ≡ Some given → Passes served q asking old r new
+      → Opened asking given r new
+  passes_opens q asking given r old new was passes =
+      let e = passes.was in
+      let same : passes.before ≡ given = cc in record {
+        after = passes.after;
+        is = passes.is;
+        opens = opens_unless served.view.handle served.view.seen (asks_to_write asking.head) (served.view.state given) (served.view.state passes.after) (file_of (inner_of r))
+            (subst (λ (x : DiskState). OpensOnly served.view.handle x (file_of (inner_of r)) (served.view.state passes.after)) (passes.moment.state ∙ ap served.view.state same)
+            (given_opens q.fields passes.gives.given r (served.with_now passes.before asking.now) passes.after passes.gives.gives.life passes.gives.responds));
+        loan = passes.gives.gives.loan ∙ (passes.moment.loan ∙ ap served.view.loan same);
+      }
+
+  performs_opens : (o : Order) (asking : Asking C) (given : S) (r : Responded F) (old new : Sides S) → asks_to_write asking.head ≡ true → old.store ≡ Some given
+      → Performs served o asking old r new → Opened asking given r new.store
+  performs_opens o asking given r old new writes was performs =
+      let e = performs.was in
+      let same : performs.before ≡ given = cc in record {
+        after = performs.after;
+        is = performs.is;
+        opens = bare_opens asking given performs.after r (told_empty o.fields performs.writes.given r performs.writes.tells)
+            (open_unless (asks_to_write asking.head) (served.view.state given) (served.view.state performs.after) writes
+            (subst (λ (x : DiskState). KeepsOpen x (served.view.state performs.after)) (performs.moment.state ∙ ap served.view.state same) performs.writes.keeps));
+        loan = performs.writes.loan ∙ (performs.moment.loan ∙ ap served.view.loan same);
+      }
+
+  answer_opens : (target : Target) (asking : Asking C) (given : S) (r : Responded F) (old new : Sides S) → IsWritten target asking.head → old.store ≡ Some given
+      → AnswersTo served target asking old r new → Opened asking given r new.store
+  answer_opens (Refused status close) asking given r old new writes was answers = same_opens asking given r old new was answers.0.body answers.1
+  answer_opens Methods asking given r old new writes was answers = same_opens asking given r old new was answers.0.body answers.1
+  answer_opens (At method path) asking given r old new writes was answers =
+      passes_opens (query asking.settings asking.head.headers method path) asking given r old.store new.store was answers.0
+  answer_opens (Writes method path) asking given r old new writes was performs =
+      performs_opens (order asking.settings.prefix method path asking.head.headers) asking given r old new writes.1 was performs
 
   pub handled_opens : {B : Type 0} (reader : ReaderGhosts B) (asking : Asking C) (given : S) (body : B) (r : Responded F) (new : Option S)
       → HandlesAll served reader asking (Some given) body r new → Opened asking given r new

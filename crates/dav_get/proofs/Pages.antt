@@ -112,6 +112,25 @@ page_sound true dir members b (texts, index, left, none) =
     ap (list_all is_part) left ∙ texts_sound texts (subst (AllByRecursion IsNonempty) (sym index.pieces) (pieces_full index.reads.texts))
 page_sound false dir members b (left, none) = ap (list_all is_part) left
 
+page_room : {F : Type 0} (gives : Bool) (dir : WebPath) (members : List Member) (b : GetBody F) → IsPageBody gives dir members b
+    → list_all (has_room b.most (length b.buffer.items)) (left_of b) ≡ true
+page_room true dir members b (texts, index, left, none) = ap (list_all (has_room b.most (length b.buffer.items))) left ∙ texts_room b.most (length b.buffer.items) texts
+page_room false dir members b (left, none) = ap (list_all (has_room b.most (length b.buffer.items))) left
+
+page_held : {F : Type 0} (handle : F → ℕ) (seen : F → DiskState → Option Seen) (s : DiskState) (gives : Bool) (dir : WebPath) (members : List Member) (b : GetBody F)
+    → IsPageBody gives dir members b → IsHeld handle seen s b
+page_held handle seen s gives dir members b body =
+    let whole = page_whole gives dir members b body in
+    let none = page_file gives dir members b body in
+    record {
+      parts = page_sound gives dir members b body;
+      needs = λ e. absurd (true≢false (sym e ∙ whole));
+      over = λ e. ap is_some none;
+      some = λ e. absurd (true≢false (sym e ∙ whole));
+      room = page_room gives dir members b body;
+      file = λ h is. absurd (no_file b.file h none is);
+    }
+
 -- A page leaves nothing open.
 pub page_life : {S C F : Type 0} (view : View S C F) (q : Query) (members : List Member) (s : S) (result : Given F) (t : S) → GivesPage q members result
     → Keeps (view.state s) (view.state t) → OpenOnlyHeld view s result t

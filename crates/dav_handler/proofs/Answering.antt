@@ -74,8 +74,6 @@ pub stays_write : (settings : Settings) (v w : Ways) (m n : MemoryState) (s t : 
     → Stays (record { by = record { rules = rules_with settings v; knows = knowledge_of m }; disk = s }) (record { by = record { rules = rules_with settings w; knows = knowledge_of n }; disk = t })
 stays_write settings v w m n s t same learns = stays_read settings v w m n s t same (nothing_learned s.told m n learns)
 
-}
-
 -- What the gates refuse.
 pub gate_answers : (o : Over) (said : Said) (status : ℕ) (close : Bool) (result : Result Found NoMemory) → IfOk result (IsAlone (refusal said.fields status close))
     → Finds o said (Refused status close) result o

@@ -155,8 +155,6 @@ walk_copied p t names m (Err e) metas keeps same starved =
 pub walks_missing : (p q : Place) (t : DiskState) (names : Names) (r : Result Names FsError) → Keeps p.disk t → Walks (record p { disk = t }) names r q → Walks p names r q
 walks_missing p q t names r keeps walks = walks_after p (record p { disk = t }) q names r (place_disk p t keeps) (rows_same p (record p { disk = t }) refl) walks
 
-}
-
 no_names : (names : Names) → length names ≡ 0 → names ≡ []
 no_names [] e = refl
 no_names (x ∷ names) e = absurd (omega arith)
@@ -274,8 +272,6 @@ takes_forgotten p q t dir name at found e worlds steps is remembers = takes (sub
       rows = λ stands. rows_on p t at q steps.keeps remembers.keeps (taken_stands p t dir name at worlds steps stands) remembers.rows;
     }
 
-}
-
 folds_below : (names above dir : Names) (name : Name) (at : Names) → names ≡ above ++ name ∷ [] → fold_path dir ≡ fold_path above → IsAlikeIn dir name at → fold_path at ≡ fold_path names
 folds_below names above dir name at path folds alike =
     alike_folds dir name at alike ∙ map-append fold_name dir (name ∷ []) ∙ ap (λ z. z ++ fold_name name ∷ []) folds ∙ sym (map-append fold_name above (name ∷ [])) ∙ ap fold_path (sym path)
@@ -332,17 +328,6 @@ pub walks_lost : (p m q : Place) (names above : Names) (found : Option Names) (r
 walks_lost p m q names above found r finds is walks = walks_after p m q names r finds.keeps finds.rows walks
 
 -- ---- a step of a walk
-
-}
-steps_on p m t at name (Ok found) worlds keeps rows steps = record {
-  keeps = place_then p m (record m { disk = t }) keeps (place_disk m t steps.keeps);
-  refused = tt;
-  alike = steps.alike;
-  told = λ w told is here.
-      let (v, now, tree) = same_tree p m w keeps told in
-      subst (λ z. StepsTo z at name found) tree (steps.told v now (worlds v now) (subst (λ z. IsClearAt z at) (sym tree) here));
-  rows = λ stands. rows_then p m (record m { disk = t }) keeps (rows stands) (rows_same m (record m { disk = t }) refl);
-}
 
 -- ---- what is saved and kept
 

@@ -1,6 +1,5 @@
-// What the local store promises GET, HEAD, the methods that write and reports, as laws about its definitions. The calls
-// do
-//! nothing.
+//! What the local store promises GET, HEAD, the methods that write and reports, as laws about its definitions. The
+//! calls do nothing.
 #![tactic(auto)]
 
 ghost use Rattle.std.specs.Prelude.{◌≡◌, ℕ, List, false, true, None, Ok, Option, Result, Some};

@@ -73,5 +73,3 @@ module _ {S C F : Type 0} (view : View S C F) (writes : Writes F) where
         count = omega (arith, taken.0, far.count, length-append far.bytes piece);
         short = taken.1;
       }
-
-  }

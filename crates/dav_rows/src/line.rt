@@ -1,6 +1,5 @@
-// A line of output. It remembers that memory was refused, or that a row isn't understood. So what adds to it has
-// nothing
-//! to answer, and what owns a disk, a store or a tree meanwhile has no way out beside its end.
+//! A line of output. It remembers that memory was refused, or that a row isn't understood. So what adds to it has
+//! nothing to answer, and what owns a disk, a store or a tree meanwhile has no way out beside its end.
 use percent_encoding::{AsciiSet, percent_encode};
 use std::alloc::{AllocError, Global};
 use std::fmt::Display;

@@ -1,6 +1,5 @@
-// Rows of words, and texts in words. `\n` is a line feed, `\r` a carriage return, `\t` a tab, `\_` a blank, and a
-// backslash before any other
-//! character is that character. A word has cells with `|` between them.
+//! Rows of words, and texts in words. `\n` is a line feed, `\r` a carriage return, `\t` a tab, `\_` a blank, and a
+//! backslash before any other character is that character. A word has cells with `|` between them.
 
 use dav_io::{NoMemory, Text};
 use std::alloc::Global;

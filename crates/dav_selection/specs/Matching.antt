@@ -24,13 +24,18 @@ folded text = encode_utf8_all (default_case_fold (chars text))
 abbrev pub some_value : (List ℕ → Bool) → List ℕ → Bool
 some_value test text = list_any (λ line. option_map_or test (value_of line) false) (lines text)
 
+-- whether a value has the part at this end
+abbrev pub has_at : Side → List ℕ → List ℕ → Bool
+has_at Front part value = starts_with nat_eq value part
+has_at Back part value = ends_with nat_eq value part
+
 -- how the text is compared with the part that is looked for; by default it contains the part
 abbrev pub passes : Option (List ℕ) → List ℕ → List ℕ → Bool
 passes None part text = has part text
 passes (Some kind) part text =
     if bytes_eq kind (codes "equals") then has (colon ∷ part) text
-    else (if bytes_eq kind (codes "starts-with") then some_value (λ value. starts_with nat_eq value part) text
-    else (if bytes_eq kind (codes "ends-with") then some_value (λ value. ends_with nat_eq value part) text
+    else (if bytes_eq kind (codes "starts-with") then some_value (has_at Front part) text
+    else (if bytes_eq kind (codes "ends-with") then some_value (has_at Back part) text
     else has part text))
 
 abbrev pub negated : Bool → Bool → Bool

@@ -31,3 +31,9 @@ abbrev pub IsOf : WebPath → Selection → Type 0
 IsOf dir (queries q) = q.dir ≡ dir
 IsOf dir (follows asked) = Unit {0}
 IsOf dir (refuses e) = Unit {0}
+
+-- Where a disk told its world, each path is meant as it is written and no link is met, the report of the selection is
+-- right for what stands in that world, or may stand in its place where a fault was met; or memory was wanting.
+abbrev pub TellsTheTree : Option World → Ways → Selection → Type 0 → Result Report ReportError → Type 0
+TellsTheTree told ways q fault result = (w : World) → told ≡ Some w → ways ≡ plain_ways → MeetsNoLink w q
+    → IsRight q (stock_of w) fault result ⊎ (result ≡ Err NoMemory)

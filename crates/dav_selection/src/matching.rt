@@ -1,9 +1,8 @@
 //! Which texts a filter matches.
-ghost use Rattle.std.specs.Prelude.{◌≡◌, IfOk, Some, false, nat_eq, option_copied};
-ghost use Rattle.std.specs.List.{ends_with, starts_with};
+ghost use Rattle.std.specs.Prelude.{◌≡◌, IfOk, Some, false, option_copied};
 ghost use Rattle.std.specs.Option.{option_map_or};
 ghost use Rattle.dav_report.specs.Lines.{value_of as the_value_of};
-ghost use Rattle.dav_selection.specs.Matching.{address_passes, calendar_passes, passes as the_passes, some_value, text_passes};
+ghost use Rattle.dav_selection.specs.Matching.{address_passes, calendar_passes, has_at as the_has_at, passes as the_passes, some_value, text_passes};
 
 use crate::texts::{defining, folded, has, joined};
 use dav_io::{NoMemory, Text};
@@ -31,44 +30,40 @@ pub fn calendar_matches(
     Ok(has(text.as_str(), begins.as_str()))
 }
 
-/// Whether on some line a value stands behind the first colon that begins with the part.
-fn some_begins(text: &str, part: &str) -> bool
-    ensures { result ≡ some_value (λ value. starts_with nat_eq value part.now) text.now }
+// At which end of a value a part is looked for.
+#[derive(Clone, Copy)]
+enum Side {
+    Front,
+    Back,
+}
+
+// Whether the value has the part at this end.
+fn has_at(side: Side, value: &str, part: &str) -> bool
+    ensures { result ≡ the_has_at side part.now value.now }
+{
+    match side {
+        Side::Front => value.as_bytes().starts_with(part.as_bytes()),
+        Side::Back => value.as_bytes().ends_with(part.as_bytes()),
+    }
+}
+
+// Whether on some line a value stands behind the first colon that has the part at this end.
+fn some_has(side: Side, text: &str, part: &str) -> bool
+    ensures { result ≡ some_value (the_has_at side part.now) text.now }
 {
     for line in text.lines() {
-        if value_begins(line, part) {
+        if value_has(side, line, part) {
             return true;
         }
     }
     false
 }
 
-/// Whether on some line a value stands behind the first colon that ends with the part.
-fn some_ends(text: &str, part: &str) -> bool
-    ensures { result ≡ some_value (λ value. ends_with nat_eq value part.now) text.now }
-{
-    for line in text.lines() {
-        if value_ends(line, part) {
-            return true;
-        }
-    }
-    false
-}
-
-fn value_begins(line: &str, part: &str) -> bool
-    ensures { result ≡ option_map_or (λ value. starts_with nat_eq value part.now) (the_value_of line.now) false }
+fn value_has(side: Side, line: &str, part: &str) -> bool
+    ensures { result ≡ option_map_or (the_has_at side part.now) (the_value_of line.now) false }
 {
     match value_of(line) {
-        Some(value) => value.as_bytes().starts_with(part.as_bytes()),
-        None => false,
-    }
-}
-
-fn value_ends(line: &str, part: &str) -> bool
-    ensures { result ≡ option_map_or (λ value. ends_with nat_eq value part.now) (the_value_of line.now) false }
-{
-    match value_of(line) {
-        Some(value) => value.as_bytes().ends_with(part.as_bytes()),
+        Some(value) => has_at(side, value, part),
         None => false,
     }
 }
@@ -95,10 +90,10 @@ fn passes(alloc: Global, kind: &Option<Text>, part: &str, text: &str) -> Result<
         return Ok(has(text, value.as_str()));
     }
     if kind.as_str() == "starts-with" {
-        return Ok(some_begins(text, part));
+        return Ok(some_has(Side::Front, text, part));
     }
     if kind.as_str() == "ends-with" {
-        return Ok(some_ends(text, part));
+        return Ok(some_has(Side::Back, text, part));
     }
     Ok(has(text, part))
 }

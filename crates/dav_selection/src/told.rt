@@ -1,5 +1,5 @@
-// Reports over a local store. Where its disk tells its world and each path is meant as it is written, they are those of
-//! its tree.
+//! Reports over a local store. Where its disk tells its world and each path is meant as it is written, they are those
+//! of its tree.
 ghost use Rattle.std.specs.Prelude.{◌≡◌, ◌⊎◌, Err, Some};
 ghost use Rattle.dav_io.specs.Counts.{Rose};
 ghost use Rattle.dav_core.specs.Unchanged.{Keeps};
@@ -43,10 +43,9 @@ pub fn local_calendar_report<D: Disk, R: RememberAny>(
     prefix: &str,
     fs: &mut LocalFs<D, R>,
 ) -> Result<Report, ReportError>
-    ensures tree { (w : World) → (D.state fs.old.disk).told ≡ Some w → fs.old.ways ≡ plain_ways
-        → MeetsNoLink w (calendar_selection path.now prefix.now (calendars_asked root.now))
-        → IsRight (calendar_selection path.now prefix.now (calendars_asked root.now)) (stock_of w)
-        (Rose (D.state fs.old.disk).faults (D.state fs.new.disk).faults) result ⊎ (result ≡ Err ReportError.NoMemory) }
+    ensures tree { TellsTheTree (D.state fs.old.disk).told fs.old.ways
+        (calendar_selection path.now prefix.now (calendars_asked root.now))
+        (Rose (D.state fs.old.disk).faults (D.state fs.new.disk).faults) result }
     ensures keeps { Keeps (D.state fs.old.disk) (D.state fs.new.disk) }
     ensures loan { D.loan fs.new.disk ≡ D.loan fs.old.disk }
 {
@@ -62,10 +61,9 @@ pub fn local_addressbook_report<D: Disk, R: RememberAny>(
     prefix: &str,
     fs: &mut LocalFs<D, R>,
 ) -> Result<Report, ReportError>
-    ensures tree { (w : World) → (D.state fs.old.disk).told ≡ Some w → fs.old.ways ≡ plain_ways
-        → MeetsNoLink w (address_selection path.now prefix.now (cards_asked root.now))
-        → IsRight (address_selection path.now prefix.now (cards_asked root.now)) (stock_of w)
-        (Rose (D.state fs.old.disk).faults (D.state fs.new.disk).faults) result ⊎ (result ≡ Err ReportError.NoMemory) }
+    ensures tree { TellsTheTree (D.state fs.old.disk).told fs.old.ways
+        (address_selection path.now prefix.now (cards_asked root.now))
+        (Rose (D.state fs.old.disk).faults (D.state fs.new.disk).faults) result }
     ensures keeps { Keeps (D.state fs.old.disk) (D.state fs.new.disk) }
     ensures loan { D.loan fs.new.disk ≡ D.loan fs.old.disk }
 {

@@ -1,6 +1,5 @@
-// Serving: the exchanges of a connection, the loop over its requests, and `run`, all that the program does over the
-// outside
-//! that it is handed.
+//! Serving: the exchanges of a connection, the loop over its requests, and `run`, all that the program does over the
+//! outside that it is handed.
 #![tactic(auto)]
 
 mod asking;

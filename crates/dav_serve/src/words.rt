@@ -1,8 +1,8 @@
 // The words of the command line.
-ghost use Rattle.std.specs.Prelude.{◌≡◌, ◌≤◌, IfOk, IfSome, None, map, option_map, string_bytes};
+ghost use Rattle.std.specs.Prelude.{◌≡◌, ◌≤◌, IfOk, IfSome, None, Some, cond, map, option_map, string_bytes};
 ghost use Rattle.dav_model.specs.Unset.{nothing_set};
 ghost use Rattle.std.specs.List.{list_all};
-ghost use Rattle.dav_serve.specs.Words.{has_names as the_has_names, is_name as the_is_name, is_prefix as the_is_prefix, is_prefix_byte as the_is_prefix_byte, is_switch as the_is_switch, number_said as the_number_said, options_set, prefix_said, rules_said, seed_said as the_seed_said, set_by, settings_by, size_said as the_size_said, with_buffer as the_with_buffer, with_fold as the_with_fold, with_index as the_with_index, with_macos as the_with_macos, with_pages as the_with_pages, with_prefix as the_with_prefix, with_switch as the_with_switch, with_value as the_with_value};
+ghost use Rattle.dav_serve.specs.Words.{has_names as the_has_names, is_name as the_is_name, is_prefix as the_is_prefix, is_prefix_byte as the_is_prefix_byte, is_switch as the_is_switch, number_said as the_number_said, options_set, prefix_said, rules_said, seed_said as the_seed_said, set_by, settings_by, size_said as the_size_said, with_buffer as the_with_buffer, with_index as the_with_index, with_prefix as the_with_prefix, with_switch as the_with_switch, with_value as the_with_value};
 ghost use Rattle.std.specs.Option.{option_and_then};
 ghost use Rattle.dav_serve.specs.Words.{name_said};
 
@@ -127,56 +127,31 @@ fn is_switch(word: &str) -> bool
     word == "--autoindex" || word == "--fold" || word == "--macos"
 }
 
+// What is set besides, where it wasn't asked for before.
+fn once<'a>(was: bool, more: Options<'a>) -> Option<Options<'a>>
+    ensures { result ≡ cond was None (Some more) }
+{
+    if was {
+        return None;
+    }
+    Some(more)
+}
+
 // What an option by itself sets besides.
 fn with_switch<'a>(options: &Options<'a>, word: &str) -> Option<Options<'a>>
     ensures { option_map set_by result ≡ the_with_switch (set_by options.now) word.now }
 {
+    let mut more = *options;
     if word == "--autoindex" {
-        return with_pages(options);
+        more.autoindex = true;
+        return once(options.autoindex, more);
     }
     if word == "--fold" {
-        return with_fold(options);
+        more.fold = true;
+        return once(options.fold, more);
     }
-    with_macos(options)
-}
-
-// Names that fold besides, where they weren't asked for before.
-fn with_fold<'a>(options: &Options<'a>) -> Option<Options<'a>>
-    ensures { option_map set_by result ≡ the_with_fold (set_by options.now) }
-{
-    if options.fold {
-        return None;
-    }
-    Some(Options {
-        fold: true,
-        ..*options
-    })
-}
-
-// The rules for clients of macOS besides, where they weren't asked for before.
-fn with_macos<'a>(options: &Options<'a>) -> Option<Options<'a>>
-    ensures { option_map set_by result ≡ the_with_macos (set_by options.now) }
-{
-    if options.macos {
-        return None;
-    }
-    Some(Options {
-        macos: true,
-        ..*options
-    })
-}
-
-// Index pages besides, where they weren't asked for before.
-fn with_pages<'a>(options: &Options<'a>) -> Option<Options<'a>>
-    ensures { option_map set_by result ≡ the_with_pages (set_by options.now) }
-{
-    if options.autoindex {
-        return None;
-    }
-    Some(Options {
-        autoindex: true,
-        ..*options
-    })
+    more.macos = true;
+    once(options.macos, more)
 }
 
 // What an option sets besides, by the value behind it.

@@ -1,6 +1,5 @@
-// Stores: what stands at the paths of a server, its open files, and the body of a request. A store's calls are
-// relations
-//! of the store itself, so what is proved over the traits holds of every store.
+//! Stores: what stands at the paths of a server, its open files, and the body of a request. A store's calls are
+//! relations of the store itself, so what is proved over the traits holds of every store.
 #![tactic(auto)]
 
 mod body_reader;

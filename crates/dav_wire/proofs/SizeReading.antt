@@ -92,6 +92,17 @@ never_none x behind much more size rest has =
     none [] text after some all e = absurd (omega arith)
     none (c ∷ number) text after some all e = let same : x ≡ c = cc in no_digit x much (subst IsDigit (sym same) all.0)
 
+-- only digits are no line with a size
+pub none_in_digits : (digits : List ℕ) → AllDigits 16 digits → HasNoSize digits
+none_in_digits digits all size rest has =
+    let whole = subst (λ (x : List ℕ). HasSize x size rest) (sym (append-nil digits)) has in
+    let fits = digits_fit digits [] size rest all whole in
+    let size_now = ap (length {A = ℕ}) whole.whole in
+    let left = length-append digits [] in
+    let right = length-append whole.number (whole.extension ++ (line_end ++ rest)) in
+    let behind = length-append whole.extension (line_end ++ rest) in
+    omega arith
+
 -- the digits in front of another byte are the size, and behind them stand its extension and the end of the line
 shape : (digits : List ℕ) (x : ℕ) (behind : List ℕ) (size : ℕ) (rest : List ℕ) → AllDigits 16 digits → 16 ≤ digit_value x
     → (has : HasSize (digits ++ x ∷ behind) size rest) → has.extension ++ (line_end ++ rest) ≡ x ∷ behind
@@ -117,6 +128,15 @@ extension_fits bytes (b ∷ other) rest behind all is e =
     let later : bytes ++ behind ≡ other ++ 13 ∷ 10 ∷ rest = cc in
     let fits = front_fits IsWithinLine bytes other behind 13 (10 ∷ rest) (within_each bytes all) no_return later in
     omega (arith, fits, is.1)
+
+extension_none : (bytes other rest : List ℕ) → All IsWithinLine bytes → IsExtension other → other ++ (line_end ++ rest) ≡ 59 ∷ bytes → ⊥
+extension_none bytes [] rest all is e = let no : ◌≡◌ {A = ℕ} 13 59 = cc in absurd (omega (arith, no))
+extension_none bytes (b ∷ other) rest all is e =
+    let later : bytes ≡ other ++ 13 ∷ 10 ∷ rest = cc in
+    let fits = front_fits IsWithinLine bytes other [] 13 (10 ∷ rest) (within_each bytes all) no_return (append-nil bytes ∙ later) in
+    let sizes = ap (length {A = ℕ}) later in
+    let right = length-append other (13 ∷ 10 ∷ rest) in
+    omega arith
 
 extension_one : (bytes other rest : List ℕ) (y : ℕ) (behind : List ℕ) → All IsWithinLine bytes → (IsWithinLine y → ⊥) → IsExtension other
     → other ++ (line_end ++ rest) ≡ 59 ∷ (bytes ++ y ∷ behind) → line_end ++ rest ≡ y ∷ behind
@@ -208,6 +228,28 @@ never_line_end digits behind len all begins ends within none more size rest has 
           let empty : drop len behind ≡ [] = drop_all len behind over in
           none line_end [] (ap (λ x. x ++ line_end) empty)
     ]
+
+no_size_yet : (digits behind : List ℕ) (len : ℕ) → AllDigits 16 digits → Begins behind → EndsExtension behind len → len ≤ length behind
+    → length (drop len behind) < 2 → HasNoSize (digits ++ behind)
+no_size_yet digits behind len all begins ends within few size rest has =
+    let tail = tail_of digits behind size rest all begins has in
+    elim (cases_lt len (length behind)) [
+      | inl inside ↦
+          let same = decides behind [] len tail.0 rest ends inside tail.1 (tail.2 ∙ sym (append-nil behind)) ∙ append-nil (drop len behind) in
+          let sizes = ap (length {A = ℕ}) same in
+          absurd (omega arith)
+      | inr over ↦ over_none behind len tail.0 rest ends within over begins.0 tail.1 tail.2
+    ]
+  where
+    over_none : (behind : List ℕ) (len : ℕ) (other rest : List ℕ) → EndsExtension behind len → len ≤ length behind → length behind ≤ len
+        → 0 < length behind
+        → IsExtension other → other ++ (line_end ++ rest) ≡ behind → ⊥
+    over_none behind len other rest (inl (none, first)) within over some is e = absurd (omega arith)
+    over_none behind len other rest (inr long) within over some is e =
+        let body : List ℕ = take (len - 1) (drop 1 behind) in
+        let whole : other ++ (line_end ++ rest) ≡ 59 ∷ body =
+        e ∙ long_shape behind len long ∙ ap (λ x. 59 ∷ x) (ap (λ x. body ++ x) (drop_all len behind over) ∙ append-nil body) in
+        extension_none body other rest long.all is whole
 
 -- the parts of a line whose end stands there, with these bytes more
 line_with : (digits behind more after : List ℕ) (len : ℕ) → IsSize digits (digits_value 16 digits) → EndsExtension behind len → len ≤ 257

@@ -1,6 +1,5 @@
-// The program: it serves a folder to the requests on standard input, and writes the answers to standard output, or
-// plays
-//! a large input of its own, and writes what was counted.
+//! The program: it serves a folder to the requests on standard input, and writes the answers to standard output, or
+//! plays a large input of its own, and writes what was counted.
 #![tactic(auto)]
 
 use dav_host::{HostDisk, StdSink, StdSource, SystemClock};

@@ -9,9 +9,8 @@
 //!     cp PATH PATH            copies a file
 //!     open PATH HOW WORD..    opens a file, does what the words say, and closes it
 //!
-// HOW is a letter for each option: `r`, `w`, `a` (append), `t` (truncate), `c` (create), `n` (create_new); or `-` for
-// none.
-//! A word is `write:BYTES`, `read:COUNT`, `seek:PLACE`, `meta`, or a call with `,` in place of its blanks.
+//! HOW is a letter for each option: `r`, `w`, `a` (append), `t` (truncate), `c` (create), `n` (create_new); or `-` for
+//! none. A word is `write:BYTES`, `read:COUNT`, `seek:PLACE`, `meta`, or a call with `,` in place of its blanks.
 ghost use Rattle.std.specs.Prelude.{◌≡◌, IsSome};
 
 use crate::cells::{bytes_of, number, path_of, show};

@@ -1,11 +1,10 @@
 //! Makes calls on disks in memory: a row a line on standard input, and an answer a line on standard output.
 //!
-// A row is parts with ` | ` between them. The first says which disk: `mem` may fail, `sure` has no schedule of faults.
-// The parts behind it set what stands there (`scene.rt`) or are calls (`calls.rt`); each call's answer stands before a
-// `|`.
-//! The last words tell what stands on the disk then, path by path in the order of bytes: kind, number, time and, of a
-// file, its bytes; and how many calls were asked and how many failed. A row that begins with `#` is written as it
-// stands.
+//! A row is parts with ` | ` between them. The first says which disk: `mem` may fail, `sure` has no schedule of faults.
+//! The parts behind it set what stands there (`scene.rt`) or are calls (`calls.rt`); each call's answer stands before a
+//! `|`. The last words tell what stands on the disk then, path by path in the order of bytes: kind, number, time and,
+//! of a file, its bytes; and how many calls were asked and how many failed. A row that begins with `#` is written as it
+//! stands.
 #![tactic(auto)]
 
 mod calls;

@@ -1,20 +1,18 @@
 //! Puts requests to a handler over a disk in memory: a row a line on standard input, and the answers a line on standard
 //! output.
 //!
-// On the disk stand the file `/f.txt` (number 26, 1 s, `0123456789`) and the directory `/d` (number 27, 2 s). A row is
-// parts
-//! with `|` between them. The first names a form and settings: `handle`, `guarded`, `stream`, `with`, `stream_with`, or
-// `none` and `none_with` for a handler without a store; behind it settings as `NAME=VALUE` (`settings.rt`). Behind a
-// word `;` stand those of the configuration that is given with each request. A word `store` among them gives it a disk
-// of its own, with the file `/f.txt` (number 36, 3 s, `abcde`), whose calls of the numbers in words `!CALL` fail. Each
-// other part is a request to the same handler: its method, its target, and fields as `NAME:VALUE`. A word `=COUNT` is a
-// body of so many bytes in pieces of at most 30,000; `!CALL` lets the reader fail at that call; a last word `left`
-// gives the answer's body
-//! up without a poll.
+//! On the disk stand the file `/f.txt` (number 26, 1 s, `0123456789`) and the directory `/d` (number 27, 2 s). A row is
+//! parts with `|` between them. The first names a form and settings: `handle`, `guarded`, `stream`, `with`,
+//! `stream_with`, or `none` and `none_with` for a handler without a store; behind it settings as `NAME=VALUE`
+//! (`settings.rt`). Behind a word `;` stand those of the configuration that is given with each request. A word `store`
+//! among them gives it a disk of its own, with the file `/f.txt` (number 36, 3 s, `abcde`), whose calls of the numbers
+//! in words `!CALL` fail. Each other part is a request to the same handler: its method, its target, and fields as
+//! `NAME:VALUE`. A word `=COUNT` is a body of so many bytes in pieces of at most 30,000; `!CALL` lets the reader fail
+//! at that call; a last word `left` gives the answer's body up without a poll.
 //!
-// An answer is a status, its fields, and the bytes of its body. A row `merge` has settings in its two parts, and is
-// answered with those that are set once the second ones are put over the first. A row that begins with `#` is written
-// as it stands.
+//! An answer is a status, its fields, and the bytes of its body. A row `merge` has settings in its two parts, and is
+//! answered with those that are set once the second ones are put over the first. A row that begins with `#` is written
+//! as it stands.
 #![tactic(auto)]
 
 ghost use Rattle.std.specs.Prelude.{◌≡◌, IfOk, IfSome};

@@ -1,6 +1,5 @@
-// Asks the machine: a row a line on standard input, and an answer a line on standard output. Rows are answered in
-// order,
-//! below the folder that the program runs in, so a row may look for what a row before it made.
+//! Asks the machine: a row a line on standard input, and an answer a line on standard output. Rows are answered in
+//! order, below the folder that the program runs in, so a row may look for what a row before it made.
 //!
 //!     folder PATH             makes a folder, and those that it stands in
 //!     file PATH TEXT          writes a file
@@ -13,15 +12,13 @@
 //!     clock                   whether the clock shows a moment behind the year 2020, and no earlier one afterwards
 //!     #                       is written as it stands
 //!
-// A disk's calls are `look PATH`, which tells what stands at a path; `link PATH`, which tells the same without
-// following
-//! a link at its end; `read PATH PLACE`, which opens a file and reads at
-// most four bytes; `list PATH`, which tells the first two names of a folder; `turn`; and those that change what stands:
-//! `write PATH HOW PLACE TEXT`, which opens a file as letters say and writes a text (`r` and `w` read and write, `a`
-// append, `t` truncate, `c` create, `n` create_new, `-` none), `make PATH` and `clear PATH` of folders, `remove PATH`
-// of a file, `rename PATH PATH`, `copy PATH PATH`. What each answers stands before a `|`, and behind them how many
-// calls met
-//! a fault. A name `COUNT*NAME` is so many copies of a name.
+//! A disk's calls are `look PATH`, which tells what stands at a path; `link PATH`, which tells the same without
+//! following a link at its end; `read PATH PLACE`, which opens a file and reads at most four bytes; `list PATH`, which
+//! tells the first two names of a folder; `turn`; and those that change what stands: `write PATH HOW PLACE TEXT`, which
+//! opens a file as letters say and writes a text (`r` and `w` read and write, `a` append, `t` truncate, `c` create, `n`
+//! create_new, `-` none), `make PATH` and `clear PATH` of folders, `remove PATH` of a file, `rename PATH PATH`, `copy
+//! PATH PATH`. What each answers stands before a `|`, and behind them how many calls met a fault. A name `COUNT*NAME`
+//! is so many copies of a name.
 #![tactic(auto)]
 
 mod calls;

@@ -1,12 +1,10 @@
-// Calls of the local store over a disk in memory: a row a line on standard input, and an answer a line on standard
-// output.
+//! Calls of the local store over a disk in memory: a row a line on standard input, and an answer a line on standard
+//! output.
 //!
-// A row is parts with ` | ` between them. The first says how paths are found: `plain`, `fold` or `macos`, `both` for
-// the
-//! last two, or `alone` and the path of the one file. The parts behind it set what stands there and what is remembered
-// (`scene.rt`), and then make calls (`calls.rt`); each call's answer stands before a `|`. The last word is how many
-// calls
-//! the disk was asked. A row that begins with `#` is written as it stands.
+//! A row is parts with ` | ` between them. The first says how paths are found: `plain`, `fold` or `macos`, `both` for
+//! the last two, or `alone` and the path of the one file. The parts behind it set what stands there and what is
+//! remembered (`scene.rt`), and then make calls (`calls.rt`); each call's answer stands before a `|`. The last word is
+//! how many calls the disk was asked. A row that begins with `#` is written as it stands.
 #![tactic(auto)]
 
 mod calls;

@@ -4,8 +4,8 @@
 //!     file PATH NUMBER SECONDS BYTES   a file
 //!     fail CALL..                      the calls of these numbers fail
 //!     sealed PATH NAME..               the memory knows these names of a directory, as of its time now: two calls
-// room PATHS NAMES                 so many paths are remembered, and so many directories and names together; without
-//!                                      it 16 and 16
+//!     room PATHS NAMES                 so many paths are remembered, and so many directories and names together;
+//!                                      without it 16 and 16
 //!
 //! What the disk doesn't take isn't set.
 use anyhow::{Result, bail};

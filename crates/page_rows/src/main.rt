@@ -3,18 +3,17 @@
 //! A row is a word, a blank and cells with a blank between them. In a page and in a member's name each `%XX` is a byte.
 //!
 //!     size NUMBER                 what `display_size` shows of so many bytes
-// read PAGE                   `none`, or `=` and the rows of the page behind each other with `;` between them: path,
-//!                                 name, date and size with a blank between them, of which blanks, `;` and `%` are
-//!                                 written as `%XX`
+//!     read PAGE                   `none`, or `=` and the rows of the page behind each other with `;` between them:
+//!                                 path, name, date and size with a blank between them, of which blanks, `;` and `%`
+//!                                 are written as `%XX`
 //!     heading PREFIX PATH         what `display_path` shows of a path
 //!     page PREFIX PATH MEMBERS    the texts of the page of a directory, with a blank between them, written so as well
 //!     back PREFIX PATH MEMBERS    what `read` says of these texts joined
 //!     #                           is written as it stands
 //!
-// A prefix is `-` where there is none. Members have `;` between them and are `-` where there are none; each is its kind
-// (`d`, `f` or `l`), its length, its time in seconds since 1970 or `-`, and its name, with `,` between them. Where
-// there
-//! is no such path the answer is `no path`, and where a name isn't plain `no member`.
+//! A prefix is `-` where there is none. Members have `;` between them and are `-` where there are none; each is its
+//! kind (`d`, `f` or `l`), its length, its time in seconds since 1970 or `-`, and its name, with `,` between them.
+//! Where there is no such path the answer is `no path`, and where a name isn't plain `no member`.
 #![tactic(auto)]
 
 use anyhow::Result;

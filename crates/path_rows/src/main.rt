@@ -8,7 +8,8 @@
 //!     child|PREFIX|TEXT     its text with a final slash, then that path with the name `b` added
 //!     home|TEXT             whether it lies in a calendar, and whether in an address book
 //!     prefix|TEXT           whether a server may have this prefix
-// long|COUNT|TEXT       of a slash and so many copies of a text: the number of names, and the length of the last one
+//!     long|COUNT|TEXT       of a slash and so many copies of a text: the number of names, and the length of the last
+//!                           one
 //!
 //! and what `values.rt` reads. A path is told by the number of its names, `=` and the last one, its text, its link, its
 //! content type and its parent's text; a fault by its status.

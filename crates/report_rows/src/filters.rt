@@ -1,9 +1,8 @@
 //! Reports and their filters in words.
 //!
 //! A filter of a component is `{NAME`, then what it asks, then `}`; one of a property has `[` and `]`, and one of a
-// parameter `(` and `)`. It may ask `absent`, `within|START|END`, and `is|TEXT|COLLATION|TYPE` or its negation
-// `isnt|..`,
-//! where a minus sign stands for what isn't given.
+//! parameter `(` and `)`. It may ask `absent`, `within|START|END`, and `is|TEXT|COLLATION|TYPE` or its negation
+//! `isnt|..`, where a minus sign stands for what isn't given.
 
 use crate::texts::tell_maybe;
 use dav_io::NoMemory;

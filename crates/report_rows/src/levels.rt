@@ -1,6 +1,6 @@
-// How deep trees and filters nest, for rows whose trees would be too long to print: `copy-levels TREE` tells it of a
-// copy of the tree, and `filter-levels TREE` of the filter in a copy of the calendar report. Each counts along the
-// first child.
+//! How deep trees and filters nest, for rows whose trees would be too long to print: `copy-levels TREE` tells it of a
+//! copy of the tree, and `filter-levels TREE` of the filter in a copy of the calendar report. Each counts along the
+//! first child.
 
 use crate::trees;
 use dav_lock::Element;

@@ -1,7 +1,6 @@
-// Locks as `FakeLs` gives them: `lock SECONDS NANOSECONDS DEPTH SCOPE NOW` and `refresh TOKEN`. A lease of `-` seconds
-// is none, a depth of `I` is deep, a scope of `S` is shared, and the moment is in nanoseconds. `let-go PATH TOKEN`
-// prints what
-//! the other calls answer.
+//! Locks as `FakeLs` gives them: `lock SECONDS NANOSECONDS DEPTH SCOPE NOW` and `refresh TOKEN`. A lease of `-` seconds
+//! is none, a depth of `I` is deep, a scope of `S` is shared, and the moment is in nanoseconds. `let-go PATH TOKEN`
+//! prints what the other calls answer.
 
 use dav_core::DavPath;
 use dav_io::Moment;

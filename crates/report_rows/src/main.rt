@@ -1,6 +1,5 @@
-// Calls what reads and makes the elements of calendars, address books and locks, and prints what each call answers, a
-// row
-//! a line.
+//! Calls what reads and makes the elements of calendars, address books and locks, and prints what each call answers, a
+//! row a line.
 //!
 //! A row is a call, and words behind it, with blanks between them. `trees.rt` says how words make an element tree, and
 //! `dav_rows` how a word writes a text.

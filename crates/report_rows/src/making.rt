@@ -4,9 +4,8 @@
 //!   `calendar-type`, `inbox-type` and `outbox-type` print what they make.
 //! - `is-collection TREE..` asks whether the trees have the type of a calendar.
 //! - `copy TREE`, `text TEXT TREE`, `ns PREFIX URI TREE` and `push NAME TREE` print the tree that they answer.
-// - `children TREE` prints the names of the elements, as each of the three calls gives them, and `attribute NAME TREE`
-// the
-//!   value that each of the two calls finds.
+//! - `children TREE` prints the names of the elements, as each of the three calls gives them, and `attribute NAME TREE`
+//!   the value that each of the two calls finds.
 
 use crate::texts::tell_whether;
 use crate::trees::{read, root, tell_tree};

@@ -1,9 +1,9 @@
-// Runs the program over objects in memory: a row a line on standard input, and what came of it a line on standard
-// output.
+//! Runs the program over objects in memory: a row a line on standard input, and what came of it a line on standard
+//! output.
 //!
-// A row is parts with `|` between them, and says what differs from a run over the words `folder serve`, an empty input,
-// and streams that move all bytes in a call and never fail. The disk has the files `f.txt` of ten digits and `e.txt` of
-// none.
+//! A row is parts with `|` between them, and says what differs from a run over the words `folder serve`, an empty
+//! input, and streams that move all bytes in a call and never fail. The disk has the files `f.txt` of ten digits and
+//! `e.txt` of none.
 //!
 //!     words WORD,..        the words behind the program's name; `words` alone for none
 //!     in TEXT              the input
@@ -18,10 +18,10 @@
 //!     listings             behind the rest stands how many listings the disk was asked for
 //!     rooms                the run is made with each smaller room as well
 //!
-// In a text each `%XX` is a byte, `N*TEXT` is so many copies of a text, and `^` stands between texts that are joined.
-// The answer is the status, whether the disk was asked, and what was written, where a byte that comes ten times or more
-// in a row
-//! is written as its number of times and once between braces. A row that begins with `#` is written as it stands.
+//! In a text each `%XX` is a byte, `N*TEXT` is so many copies of a text, and `^` stands between texts that are joined.
+//! The answer is the status, whether the disk was asked, and what was written, where a byte that comes ten times or
+//! more in a row is written as its number of times and once between braces. A row that begins with `#` is written as it
+//! stands.
 #![tactic(auto)]
 
 mod cells;

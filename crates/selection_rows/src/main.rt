@@ -1,19 +1,16 @@
-// Puts calendar and address book requests to a local store over a disk in memory, whose names don't fold: a row a line
-// on
-//! standard input, and what it selects a line on standard output.
+//! Puts calendar and address book requests to a local store over a disk in memory, whose names don't fold: a row a line
+//! on standard input, and what it selects a line on standard output.
 //!
-//! A row is words with blanks between them; `dav_rows` says how a word writes a text. `new` empties the disk.
-// `dir PATH NUMBER` and `file PATH NUMBER TEXT` add to it, `raw PATH NUMBER TEXT` with a byte for each character below
-// 256, and `long PATH NUMBER COUNT TEXT END` with a text so many times and an end behind it. `fail CALL` lets the disk
-// fail at
+//! A row is words with blanks between them; `dav_rows` says how a word writes a text. `new` empties the disk. `dir PATH
+//! NUMBER` and `file PATH NUMBER TEXT` add to it, `raw PATH NUMBER TEXT` with a byte for each character below 256, and
+//! `long PATH NUMBER COUNT TEXT END` with a text so many times and an end behind it. `fail CALL` lets the disk fail at
 //! that call of the next request, and `short LENGTH..` gives no more bytes than these at its reads. `cut PATH LENGTH`,
 //! `rename PATH PATH` and `remove PATH` are turns of the outside. (It has none within a request, as no call of a report
 //! makes one: no row changes a resource between its metadata and its bytes.)
 //!
 //! A request is `calendar PATH PREFIX TREE` or `cards PATH PREFIX TREE`, its tree as `trees.rt` has it; a prefix `-` is
-// empty. It is answered with path, entity tag and text of each record, and what is missing; or with its error. How
-// often
-//! the disk was asked comes last.
+//! empty. It is answered with path, entity tag and text of each record, and what is missing; or with its error. How
+//! often the disk was asked comes last.
 #![tactic(auto)]
 
 mod disks;

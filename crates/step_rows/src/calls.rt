@@ -1,8 +1,8 @@
 //! Calls of a disk, one after the other.
 //!
 //!     meta PATH            what stands at a path: its kind, number, length and time
-// open PATH WORD..     opens a file, makes the calls of the words, and closes it: `meta`, `seek:PLACE`, `read:ROOM`,
-//!                          and `turn`, a turn of the outside
+//!     open PATH WORD..     opens a file, makes the calls of the words, and closes it: `meta`, `seek:PLACE`,
+//!                          `read:ROOM`, and `turn`, a turn of the outside
 //!     list PATH            the names of a directory, to the end of the listing
 //!     turn                 a turn of the outside
 //!

@@ -1,6 +1,5 @@
-// Texts of words. In a text each `%XX` is a byte, `N*TEXT` is so many copies of a text, and `^` stands between texts
-// that
-//! are joined. A path is its names, each behind a slash; the root is a slash alone.
+//! Texts of words. In a text each `%XX` is a byte, `N*TEXT` is so many copies of a text, and `^` stands between texts
+//! that are joined. A path is its names, each behind a slash; the root is a slash alone.
 use dav_core::{FileTime, FsPath};
 use dav_io::{Moment, Text};
 use dav_rows::Line;

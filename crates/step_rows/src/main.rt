@@ -1,18 +1,15 @@
 //! Plays steps over a disk in memory: a row a line on standard input, and the answers a line on standard output.
 //!
-// A row is parts with `|` between them, and a part is words with blanks between them. The parts in front say what
-// stands
-//! on the disk and how it behaves, and the parts behind them are steps, as `scene.rt` and `steps.rt` read them.
+//! A row is parts with `|` between them, and a part is words with blanks between them. The parts in front say what
+//! stands on the disk and how it behaves, and the parts behind them are steps, as `scene.rt` and `steps.rt` read them.
 //!
-// Some rows have a first part of one word. At `collect` the body of one request is collected as a stream
-// (`streams.rt`).
-//! At `disk` and `sure` the parts are calls of a disk (`calls.rt`), and at `store` they are calls of a local store
-//! (`stores.rt`). A row that begins with `#` is written as it stands.
+//! Some rows have a first part of one word. At `collect` the body of one request is collected as a stream
+//! (`streams.rt`). At `disk` and `sure` the parts are calls of a disk (`calls.rt`), and at `store` they are calls of a
+//! local store (`stores.rt`). A row that begins with `#` is written as it stands.
 //!
-// Answers have `|` between them: a reply with its status, the number of its body and its fields; a piece with its
-// bytes; `end`, `broken` or `done`. The last words say how many calls the disk was asked, unless names fold or the row
-// asks for
-//! no count, and how many of them failed. A row that isn't understood has no answer.
+//! Answers have `|` between them: a reply with its status, the number of its body and its fields; a piece with its
+//! bytes; `end`, `broken` or `done`. The last words say how many calls the disk was asked, unless names fold or the row
+//! asks for no count, and how many of them failed. A row that isn't understood has no answer.
 #![tactic(auto)]
 
 mod answers;

@@ -10,7 +10,8 @@
 //!     read PATH PLACE         four bytes from a place on, and the file's length
 //!     give PATH COUNT         so many bytes at once, where the file sends a client, and a writing of nothing
 //!     write PATH BYTES        writes bytes twice, as a slice and as a buffer
-// list PATH WORD          the entries of a listing to its end, each with its metadata; WORD is `data`, `link` or `none`
+//!     list PATH WORD          the entries of a listing to its end, each with its metadata; WORD is `data`, `link` or
+//!                             `none`
 //!     members PATH            how many members are read, and each with kind, length and time
 //!     rest PATH               the calls that change what stands, of the path and onto itself
 //!

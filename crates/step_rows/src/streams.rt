@@ -1,6 +1,5 @@
-// A body as a stream: a row `collect` sets a disk, and its last part is the GET whose body is collected. The answer is
-// the
-//! status, and all bytes of the body or why there are none; `over` says that nothing comes behind the end.
+//! A body as a stream: a row `collect` sets a disk, and its last part is the GET whose body is collected. The answer is
+//! the status, and all bytes of the body or why there are none; `over` says that nothing comes behind the end.
 ghost use Rattle.std.specs.Prelude.{IfSome};
 ghost use Rattle.dav_disk.specs.Failing.{mem_state};
 ghost use Rattle.dav_get.specs.Bodies.{IsHeld};

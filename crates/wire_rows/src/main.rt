@@ -1,23 +1,24 @@
-// Reads heads of requests, and writes heads and bodies of answers: a row a line on standard input, and an answer a line
-//! on standard output.
+//! Reads heads of requests, and writes heads and bodies of answers: a row a line on standard input, and an answer a
+//! line on standard output.
 //!
-// A row is a word and cells, with a blank between them. In a cell each `%XX` is a byte, and `N*TEXT` is so many copies
-// of
-//! a text.
+//! A row is a word and cells, with a blank between them. In a cell each `%XX` is a byte, and `N*TEXT` is so many copies
+//! of a text.
 //!
-// input MOST,CALL.. CELL..                  the requests of the bytes, which come so many a call, and how they end; the
-//!                                               calls of the numbers fail
-// messages MOST,CALL.. CELL..               as `input`: method and path of each request, and the bytes of its body; and
-//!                                               how they end, with 400 or 413 where a body is refused
+//!     input MOST,CALL.. CELL..                  the requests of the bytes, which come so many a call, and how they
+//!                                               end; the calls of the numbers fail
+//!     messages MOST,CALL.. CELL..               as `input`: method and path of each request, and the bytes of its
+//!                                               body; and how they end, with 400 or 413 where a body is refused
 //!     head STATUS ENDS FRAMING NAME:VALUE..     the head of an answer; ENDS is `closes` or `stays`
 //!     framing TAKES STATUS NAME:VALUE..         how the body of an answer is written; TAKES is `chunks` or `plain`
 //!     body FRAMING CELL..                       the bytes of a body of these pieces; FRAMING is `chunked` or `raw`
 //!     refusal                                   what answers a request that can't be read
 //!     large                                     what answers a request whose body is too long
 //!     says NAME:VALUE..                         whether an answer says itself that it closes
-// room ROOM MOST FRAMING CELL..             as `body`, into so much room by so many bytes a call, and whether all went
+//!     room ROOM MOST FRAMING CELL..             as `body`, into so much room by so many bytes a call, and whether all
+//!                                               went
 //!     push ROOM MOST CELL..                     what reaches such a sink of these bytes
-// asked MOST CELL..                         what reaches a sink before the source is asked; four bytes wait each time
+//!     asked MOST CELL..                         what reaches a sink before the source is asked; four bytes wait each
+//!                                               time
 //!     source MOST,CALL.. BYTES                  what a source gives (`outside.rt`, also for the rows below)
 //!     sink MOST,CALL.. ROOM
 //!     clock MOMENT MOMENT
