@@ -1,8 +1,7 @@
 -- Of the laws on what a head announces.
 use Rattle.std.proofs.Common.{Bool, true, false, refl, sym, ap, subst, ◌∙◌, inl, inr, arith}
 use Rattle.dav_io.specs.Counts.{Rose}
-use Rattle.std.specs.Prelude.{Option, Some, None, ◌⊎◌, ◌≡◌, ◌≤◌, ◌+◌, ◌-◌, ◌==◌, ◌&&◌, not, ℕ, List, [], ◌∷◌, ◌++◌, length, cond, codes, decimal}
-use Rattle.std.specs.Option.{option_map}
+use Rattle.std.specs.Prelude.{Option, Some, None, ◌⊎◌, ◌≡◌, ◌≤◌, ◌+◌, ◌-◌, ◌==◌, ◌&&◌, not, ℕ, List, [], ◌∷◌, length, cond, codes}
 use Rattle.std.proofs.lemmas.Bool.{eqb-true}
 use Rattle.dav_core.specs.DavPath.{WebPath, last_name, type_of_last}
 use Rattle.dav_core.specs.World.{World}
@@ -18,7 +17,7 @@ use Rattle.dav_model.specs.declared.sent.Sent.TheVariants.{All, Alone, Unsatisfi
 use Rattle.dav_model.specs.Announced.{PolledToEnd, bytes_in, bare}
 use Rattle.dav_model.specs.Bodies.{Part, bytes_left, text, slice, Polls}
 use Rattle.dav_model.specs.Conditions.{Fields, condition, repeated, is_refused, list_in, date_in, first_bytes, ranges_are_heard, strong}
-use Rattle.dav_model.specs.Head.{Reply, Stood, IsSent, field, field_where, quoted_where, sent_by, sent_length, sent_of, sent_range, sent_ranges, sent_reply, sent_status, sent_type}
+use Rattle.dav_model.specs.Head.{Reply, Stood, IsSent, announced_fields, sent_by, sent_length, sent_of, sent_ranges, sent_reply, sent_status}
 use Rattle.dav_model.specs.Slices.{ranges}
 
 moved_left : (b : Bool) (number start count n : ℕ) (parts : List Part) → ((count - n == 0) ≡ b) → n ≤ count
@@ -138,11 +137,7 @@ sent_same fields stood = ap (λ z. sent_by (cond (is_refused (list_in fields (co
 abbrev headed : List ℕ → Stood → Option (List ℕ) → Sent → Option ℕ → Reply
 headed type stood date sent announced = record {
   status = sent_status sent;
-  fields = field (codes "accept-ranges") (codes "bytes")
-      ∷ (field_where (codes "content-length") (option_map decimal announced)
-      ++ (field_where (codes "content-range") (sent_range stood.len sent)
-      ++ (field (codes "content-type") (sent_type type sent)
-      ∷ (field_where (codes "etag") (quoted_where stood.tag) ++ field_where (codes "last-modified") date))));
+  fields = announced_fields type stood.len stood.tag date sent announced;
   parts = [];
 }
 

@@ -21,7 +21,7 @@ use Rattle.dav_model.specs.declared.answer.Answer.{Answer}
 use Rattle.dav_model.specs.Bodies.{Polls}
 use Rattle.dav_model.specs.Sizes.{read_size_of}
 use Rattle.dav_model.specs.Folds.{Name, has_name}
-use Rattle.dav_model.specs.Rules.{Rules, Knowledge, Learns, Forgets, WasKnown, HasNames, ShowsNames, SameDots}
+use Rattle.dav_model.specs.Rules.{Rules, Knowledge, Learns, Forgets, WasKnown, ShowsNames, SameDots}
 use Rattle.dav_model.specs.Head.{Reply}
 use Rattle.dav_model.specs.Plans.{Act, Ask, does, halts, plan}
 use Rattle.http.specs.Request.{body_of}

@@ -174,13 +174,17 @@ abbrev pub sent_parts : Bool → List ℕ → ℕ → ℕ → Sent → List Part
 sent_parts gives type number len sent = cond gives (given_parts type number len sent) []
 
 -- the fields of a file's answer, in the order of their names
-abbrev pub sent_fields : Bool → List ℕ → ℕ → Option (List ℕ) → Option (List ℕ) → Sent → List Field
-sent_fields gives type len tag date sent =
+abbrev pub announced_fields : List ℕ → ℕ → Option (List ℕ) → Option (List ℕ) → Sent → Option ℕ → List Field
+announced_fields type len tag date sent announced =
     field (codes "accept-ranges") (codes "bytes")
-    ∷ (field_where (codes "content-length") (option_map decimal (sent_length gives len sent))
+    ∷ (field_where (codes "content-length") (option_map decimal announced)
     ++ (field_where (codes "content-range") (sent_range len sent)
     ++ (field (codes "content-type") (sent_type type sent)
     ∷ (field_where (codes "etag") (quoted_where tag) ++ field_where (codes "last-modified") date))))
+
+-- the same, with the length that is announced of what is sent
+abbrev pub sent_fields : Bool → List ℕ → ℕ → Option (List ℕ) → Option (List ℕ) → Sent → List Field
+sent_fields gives type len tag date sent = announced_fields type len tag date sent (sent_length gives len sent)
 
 -- a file's answer; `date` is the text of its time, and `gives` whether a body may follow
 abbrev pub sent_reply : Bool → List ℕ → Stood → Option (List ℕ) → Sent → Reply
