@@ -9,7 +9,7 @@ ghost use Rattle.dav_core.specs.Methods.{same_method};
 ghost use Rattle.dav_core.specs.declared.method.DavMethod.TheVariants.{Options};
 ghost use Rattle.dav_core.specs.Statuses.{path_status as the_path_status};
 ghost use Rattle.dav_model.specs.Conditions.{reads as the_reads, writes as the_writes};
-ghost use Rattle.dav_model.specs.Gates.{admitted as the_admitted, asked as the_asked, has_field as the_has_field, in_allowed, is_allowed as the_is_allowed, is_built as the_is_built, is_partial as the_is_partial, of_body as the_of_body, takes_much as the_takes_much, takes_some as the_takes_some, weighed as the_weighed, with_path as the_with_path};
+ghost use Rattle.dav_model.specs.Gates.{admitted as the_admitted, asked as the_asked, has_field as the_has_field, is_allowed as the_is_allowed, is_built as the_is_built, is_partial as the_is_partial, of_body as the_of_body, takes_much as the_takes_much, takes_some as the_takes_some, weighed as the_weighed, with_path as the_with_path};
 ghost use Rattle.dav_model.specs.declared.target.Target.TheVariants.{Refused};
 ghost use Rattle.dav_config.specs.Names.{is_short as the_is_short};
 ghost use Rattle.dav_config.specs.Reading.{seen_as};
@@ -17,6 +17,7 @@ ghost use Rattle.dav_config.specs.Reading.{seen_as};
 use crate::bulk::BodyBulk;
 use dav_core::{DavMethod, DavMethodSet, DavPath, ParseError, dav_method};
 use dav_io::NoMemory;
+use dav_methods::{is_among, reads};
 use dav_model::{Settings, Target};
 use http::header::HeaderName;
 use http::{HeaderMap, Request, Uri};
@@ -51,16 +52,6 @@ fn has_if(fields: &HeaderMap) -> bool
         return false;
     }
     fields.get("if").is_some()
-}
-
-// Whether a method reads.
-fn reads(method: DavMethod) -> bool
-    ensures { result ≡ the_reads method }
-{
-    match method {
-        DavMethod::Get | DavMethod::Head => true,
-        _ => false,
-    }
 }
 
 /// Whether a method writes. Of those that do these are built.
@@ -158,21 +149,11 @@ fn of_body(method: DavMethod, bulk: BodyBulk) -> Option<Target>
     }
 }
 
-// Whether a method is among those that are set; without a set each is.
-fn is_among(allow: &Option<DavMethodSet>, method: DavMethod) -> bool
-    ensures { result ≡ in_allowed allow.now method }
-{
-    match allow {
-        None => true,
-        Some(set) => set.contains(method),
-    }
-}
-
 // Whether a method is answered. Without a store OPTIONS alone is.
 fn is_allowed(stored: bool, allow: &Option<DavMethodSet>, method: DavMethod) -> bool
     ensures { result ≡ the_is_allowed stored allow.now method }
 {
-    if !is_among(allow, method) {
+    if !is_among(*allow, method) {
         return false;
     }
     if stored {
