@@ -1,22 +1,23 @@
--- A call of `get` or `negative` is a row of its caller's events, over a disk that tells the tree and that nobody changes meanwhile.
+-- A call of `get`, `get_open` or `negative` is a row of its caller's events, over a disk that tells the tree and that nobody changes meanwhile.
 use Rattle.std.proofs.Common.{◌≡◌, ℕ, zero, suc, Bool, true, false, not, ◌&&◌, List, [], ◌∷◌, ◌++◌, Option, Some, None, Result, Ok, Err, is_ok, option_map, is_some, if◌then◌else◌, slice_get, slice_set, refl, sym, ap, ap₂, subst, ◌∙◌, inl, inr, append_assoc}
 use Rattle.std.specs.Map.{lookup}
 use Rattle.dav_core.specs.declared.handle.Meta.{Meta}
 use Rattle.dav_core.specs.declared.handle.DiskError.{DiskError}
 use Rattle.dav_core.specs.declared.tree.Row.{Row}
 use Rattle.dav_core.specs.declared.tree.Kind.{Kind}
-use Rattle.dav_core.specs.Disk.{DiskState, Metas}
+use Rattle.dav_core.specs.Disk.{DiskState, Metas, OpenedIn, kind_opened}
+use Rattle.dav_io.specs.Told.{Both}
 use Rattle.dav_core.specs.World.{World}
 use Rattle.dav_core.specs.Tree.{row_at, is_dir, is_linked, standing, below, below_kind, look_from, look}
 use Rattle.dav_core.specs.declared.tree.Kind.TheVariants.{Dir, File, Link}
 use Rattle.dav_cache.specs.Trees.{Name, Names, FileTime, Tree, same_path, has_row, time_of_row, fold_path}
 use Rattle.dav_cache.specs.Entries.{Paths, PathEntry, PathCache, DuEntry, DotCache, without, promoted, dir_key, same_key, concludes, is_time}
-use Rattle.dav_cache.specs.Calls.{Looks, Denies, probed, found_by, has_time, dropped}
+use Rattle.dav_cache.specs.Calls.{LooksBy, Seeing, Opening, Denies, probed, found_by, has_time, dropped}
 use Rattle.dav_cache.specs.Core.{State, Place, Turn, goes, time_told, ask, peeked, peek, check, conclude, drop_dir, find, got, get, probe, drop, turn, step, run}
 use Rattle.dav_cache.specs.declared.event.Event.TheVariants.{Ask, Peek, Check, Conclude, DropDir, Find, Get, Probe, Drop}
 use Rattle.dav_cache.specs.declared.place.Place.TheVariants.{Idle, Asked, Peeked, Passed, Failed, Finding, Got, Missed}
 use Rattle.dav_cache.specs.declared.event.Told.TheVariants.{Nothing, Absent, Path}
-use Rattle.dav_cache.specs.Transparency.{GetIsEvents, NegativeIsEvents, GetsAreEvents, NegativesAreEvents}
+use Rattle.dav_cache.specs.Transparency.{GetIsEvents, NegativeIsEvents, LookUpsAreEvents, GetsAreEvents, OpensAreEvents, NegativesAreEvents}
 use Rattle.dav_cache.proofs.Keys.{path_decides}
 use Rattle.dav_cache.proofs.Invariant.{get-set_same}
 
@@ -46,6 +47,11 @@ walk_is tree at (name ∷ names) row e =
 
 look_is : (tree : Tree) (path : Names) (row : Row) → look tree path ≡ Ok row → row_at tree path ≡ Some row
 look_is tree path row e = walk_is tree [] path row e
+
+-- Where such a call of the disk is answered, something stands at its path, if no link stands on the way.
+abbrev StandsWhere : {A : Type 0} → (DiskState → Names → Result A DiskError → DiskState → Type 0) → Type 0
+StandsWhere call = (before after : DiskState) (w : World) (path : Names) (x : _) → before.told ≡ Some w → is_linked w.tree path ≡ false
+    → call before path (Ok x) after → (row : Row) × (look w.tree path ≡ Ok row)
 
 -- ---- places
 
@@ -133,17 +139,17 @@ module _ (s : State) (c : ℕ) (idle : slice_get s.places c ≡ Some Idle) where
           ap₂ (λ (ps : List Place) (l : Paths). let t : State = record s { paths = l; places = ps } in t) (again-3 (Finding path) (Got path e.path) (Missed path)) (without-front (fold_path path) e s.paths)
 
     -- the answer of the disk, over its tree
-    module _ (before after : DiskState) (w : World) (tells : before.told ≡ Some w) (tree : w.tree ≡ s.tree) (free : (e : PathEntry) → lookup (same_path (fold_path path)) s.paths ≡ Some e → is_linked w.tree e.path ≡ false) where
-      there : (p : Names) (meta : Meta) → is_linked w.tree p ≡ false → Metas before p (Ok meta) after → has_row s.tree p ≡ true
-      there p meta no_link metas =
-          let (row, found, known) = metas.told w tells no_link in
+    module _ {A : Type 0} (call : DiskState → Names → Result A DiskError → DiskState → Type 0) (stands : StandsWhere call) (before after : DiskState) (w : World) (tells : before.told ≡ Some w) (tree : w.tree ≡ s.tree) (free : (e : PathEntry) → lookup (same_path (fold_path path)) s.paths ≡ Some e → is_linked w.tree e.path ≡ false) where
+      there : (p : Names) (x : A) → is_linked w.tree p ≡ false → call before p (Ok x) after → has_row s.tree p ≡ true
+      there p x no_link called =
+          let (row, found) = stands before after w p x tells no_link called in
           ap is_some (ap (λ (t : Tree). row_at t p) (sym tree) ∙ look_is w.tree p row found)
 
-      by_answer : (e : PathEntry) → lookup (same_path (fold_path path)) s.paths ≡ Some e → (answer : Result Meta DiskError)
-          → Metas before e.path answer after
+      by_answer : (e : PathEntry) → lookup (same_path (fold_path path)) s.paths ≡ Some e → (answer : Result A DiskError)
+          → call before e.path answer after
           → GetIsEvents s c path (option_map (λ f. f.0) (found_by e.path answer)) (probed (is_ok answer) (fold_path path) e s.paths)
-      by_answer e is (Ok meta) metas =
-          let all = hit e is (there e.path meta (free e is) metas) in
+      by_answer e is (Ok x) called =
+          let all = hit e is (there e.path x (free e is) called) in
           record {
             events = Find c path ∷ Get c ∷ [];
             last = Probe c false;
@@ -151,7 +157,7 @@ module _ (s : State) (c : ℕ) (idle : slice_get s.places c ≡ Some Idle) where
             tells = ap (λ (t : Turn). t.1) all;
             leaves = ap (λ (t : Turn). t.0) all ∙ hit-leaves e is;
           }
-      by_answer e is (Err error) metas = record {
+      by_answer e is (Err error) called = record {
         events = Find c path ∷ Get c ∷ Probe c true ∷ [];
         last = Drop c;
         row = inr (true, inr refl);
@@ -159,8 +165,8 @@ module _ (s : State) (c : ℕ) (idle : slice_get s.places c ≡ Some Idle) where
         leaves = ap (λ (t : Turn). t.0) (drops e is) ∙ drop-leaves e is;
       }
 
-      gets-by : (o : Option PathEntry) → lookup (same_path (fold_path path)) s.paths ≡ o → (found : Option (Names × Meta)) (new : PathCache)
-          → Looks o (record { entries = s.paths; size = s.paths_size }) path before found new after
+      gets-by : (o : Option PathEntry) → lookup (same_path (fold_path path)) s.paths ≡ o → (found : Option (Names × A)) (new : PathCache)
+          → LooksBy call o (record { entries = s.paths; size = s.paths_size }) path before found new after
           → GetIsEvents s c path (option_map (λ f. f.0) found) new.entries
       gets-by None is found new (none, same, asked) =
           let all = gets ∙ ap found-at is in
@@ -168,18 +174,38 @@ module _ (s : State) (c : ℕ) (idle : slice_get s.places c ≡ Some Idle) where
             events = Find c path ∷ [];
             last = Get c;
             row = inl refl;
-            tells = ap (λ (t : Turn). t.1) all ∙ ap (λ (f : Option (Names × Meta)). Path (option_map (λ g. g.0) f)) (sym none);
+            tells = ap (λ (t : Turn). t.1) all ∙ ap (λ (f : Option (Names × A)). Path (option_map (λ g. g.0) f)) (sym none);
             leaves =
                 ap (λ (t : Turn). t.0) all ∙ ap (λ (ps : List Place). let t : State = record s { places = ps } in t) (again (Finding path))
                 ∙ ap (λ (k : PathCache). let t : State = record s { paths = k.entries } in t) (sym same);
           }
-      gets-by (Some e) is found new (answer, metas, tells_, left) =
-          subst (λ (f : Option (Names × Meta)). GetIsEvents s c path (option_map (λ g. g.0) f) new.entries) (sym tells_)
-          (subst (λ (k : PathCache). GetIsEvents s c path (option_map (λ g. g.0) (found_by e.path answer)) k.entries) (sym left) (by_answer e is answer metas))
+      gets-by (Some e) is found new (answer, called, tells_, left) =
+          subst (λ (f : Option (Names × A)). GetIsEvents s c path (option_map (λ g. g.0) f) new.entries) (sym tells_)
+          (subst (λ (k : PathCache). GetIsEvents s c path (option_map (λ g. g.0) (found_by e.path answer)) k.entries) (sym left) (by_answer e is answer called))
+
+looks_are_events : {A : Type 0} (call : DiskState → Names → Result A DiskError → DiskState → Type 0) → StandsWhere call → LookUpsAreEvents call
+looks_are_events call stands s c path before after w found new idle tells tree free looks =
+    gets-by s c idle path call stands before after w tells tree free (lookup (same_path (fold_path path)) s.paths) refl found new looks
+
+seen_stands : StandsWhere Seeing
+seen_stands before after w path meta told no_link metas = let (row, found, known) = metas.told w told no_link in (row, found)
 
 pub gets_are_events : GetsAreEvents
-gets_are_events s c path before after w found new idle tells tree free looks =
-    gets-by s c idle path before after w tells tree free (lookup (same_path (fold_path path)) s.paths) refl found new looks
+gets_are_events = looks_are_events Seeing seen_stands
+
+opened_stands : StandsWhere Opening
+opened_stands before after w path handle told no_link opens = by_told before.told after.told told opens.told
+  where
+    by_told : (a b : Option World) → a ≡ Some w → Both a b (OpenedIn path (Ok handle) (kind_opened (Ok handle) after)) → (row : Row) × (look w.tree path ≡ Ok row)
+    by_told None b is both = cc
+    by_told (Some v) None is both = absurd both
+    by_told (Some v) (Some x) is (number, opened, holds, stands) =
+        let same : v ≡ w = cc in
+        let (row, found, numbered, kind) = stands (ap (λ (u : World). is_linked u.tree path) same ∙ no_link) in
+        (row, ap (λ (u : World). look u.tree path) (sym same) ∙ found)
+
+pub opens_are_events : OpensAreEvents
+opens_are_events = looks_are_events Opening opened_stands
 
 -- ---- asking whether a name is absent
 

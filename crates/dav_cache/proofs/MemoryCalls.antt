@@ -13,8 +13,8 @@ use Rattle.dav_cache.specs.declared.du_cache.Sealed.{Sealed}
 use Rattle.dav_cache.specs.declared.du_cache.Sealed.TheVariants.{Done, Last, NoMemory}
 use Rattle.dav_cache.specs.Trees.{Name, Names, FileTime, same_name, same_path, fold_path}
 use Rattle.dav_cache.specs.Entries.{DuKey, DuEntry, Dots, Listed, PathEntry, PathCache, DotCache, AreCounted, Falling, without, put, purged, inserted, is_old_dot, is_old_path, dir_key, name_key, same_key, stands, concludes, is_time, put_name, put_dir, put_names, sealed}
-use Rattle.dav_cache.specs.Calls.{Looks, Denies, Seals, has_time, dropped, sealed_within}
-use Rattle.dav_cache.specs.Memory.{OwnedState, memory_of, known_at, known_by, WasKnown, LearnsNothing, AsksMeta, Denied, Gets, Inserts, Negates, SealsIn, Purges}
+use Rattle.dav_cache.specs.Calls.{LooksBy, Denies, Seals, has_time, dropped, sealed_within}
+use Rattle.dav_cache.specs.Memory.{OwnedState, memory_of, known_at, known_by, WasKnown, LearnsNothing, AsksMeta, AsksOnceBy, Denied, GetsBy, Inserts, Negates, SealsIn, Purges}
 use Rattle.dav_cache.proofs.Keys.{time_decides, time_tells, path_tells, dir≢name, same_dir}
 use Rattle.dav_cache.proofs.Lists.{lookup-without_same, lookup-take, purged-take}
 use Rattle.dav_cache.proofs.Dots.{IsApart, dir≢, name≢, lookup-away, lookup-past, stands-take, falling-without, Sealing, sealing-put_dir, sealing-put_name, sealing-put_names, or-false}
@@ -167,21 +167,29 @@ same_dots old new is d = subst (λ (c : DotCache). SameFor d old.dots.entries c.
 
 -- ---- the calls
 
-looks-asks : (o : Option PathEntry) (a : PathCache) (path : Names) (s : DiskState) (found : Option (Names × Meta)) (b : PathCache) (t : DiskState)
-    → Looks o a path s found b t
-    → AsksMeta s t × IfSome found (λ f. Metas s f.0 (Ok f.1) t)
-looks-asks None a path s found b t (none, same, after) = (inl after, subst (λ w. IfSome w (λ f. Metas s f.0 (Ok f.1) t)) (sym none) tt)
-looks-asks (Some e) a path s found b t (Ok meta, metas, is, left) =
-    (inr (e.path, Ok meta, metas), subst (λ w. IfSome w (λ f. Metas s f.0 (Ok f.1) t)) (sym is) metas)
-looks-asks (Some e) a path s found b t (Err error, metas, is, left) =
-    (inr (e.path, Err error, metas), subst (λ w. IfSome w (λ f. Metas s f.0 (Ok f.1) t)) (sym is) tt)
+module _ {A : Type 0} (call : DiskState → Names → Result A DiskError → DiskState → Type 0) where
+  -- the answer of a call stood at its path
+  abbrev Stood : DiskState → DiskState → Option (Names × A) → Type 0
+  Stood s t found = IfSome found (λ f. call s f.0 (Ok f.1) t)
 
-pub owned_gets : (old new : OwnedState) (path : Names) (s : DiskState) (found : Option (Names × Meta)) (t : DiskState)
-    → Looks (lookup (same_path (fold_path path)) old.paths.entries) old.paths path s found new.paths t
-    → IfSome found (λ f. fold_path f.0 ≡ fold_path path) → new.dots ≡ old.dots → Gets (memory_of old) path s found (memory_of new) t
-owned_gets old new path s found t looks folds dots =
-    let asks = looks-asks (lookup (same_path (fold_path path)) old.paths.entries) old.paths path s found new.paths t looks in
-    record { asks = asks.0; stood = asks.1; folds = folds; paths = looks; dots = ap Some dots; learns = learns old new (same_dots old new dots) }
+  -- where none was found the call was refused, or not made
+  abbrev Missed : DiskState → DiskState → Option (Names × A) → Type 0
+  Missed s t found = found ≡ None → (t ≡ s) ⊎ ((path : Names) × (error : DiskError) × call s path (Err error) t)
+
+  looks-asks : (o : Option PathEntry) (a : PathCache) (path : Names) (s : DiskState) (found : Option (Names × A)) (b : PathCache) (t : DiskState)
+      → LooksBy call o a path s found b t → AsksOnceBy call s t × Stood s t found × Missed s t found
+  looks-asks None a path s found b t (none, same, after) = (inl after, subst (Stood s t) (sym none) tt, λ e. inl after)
+  looks-asks (Some e) a path s found b t (Ok answer, called, is, left) =
+      (inr (e.path, Ok answer, called), subst (Stood s t) (sym is) called, λ none. let some : None ≡ Some (e.path, answer) = sym none ∙ is in absurd cc)
+  looks-asks (Some e) a path s found b t (Err error, called, is, left) =
+      (inr (e.path, Err error, called), subst (Stood s t) (sym is) tt, λ none. inr (e.path, error, called))
+
+  pub owned_gets : (old new : OwnedState) (path : Names) (s : DiskState) (found : Option (Names × A)) (t : DiskState)
+      → LooksBy call (lookup (same_path (fold_path path)) old.paths.entries) old.paths path s found new.paths t
+      → IfSome found (λ f. fold_path f.0 ≡ fold_path path) → new.dots ≡ old.dots → GetsBy call (memory_of old) path s found (memory_of new) t
+  owned_gets old new path s found t looks folds dots =
+      let asks = looks-asks (lookup (same_path (fold_path path)) old.paths.entries) old.paths path s found new.paths t looks in
+      record { asks = asks.0; stood = asks.1; refused = asks.2; folds = folds; paths = looks; dots = ap Some dots; learns = learns old new (same_dots old new dots) }
 
 pub owned_inserts : (old new : OwnedState) (path : Names) (now : Moment)
     → new.paths ≡ record old.paths { entries = inserted old.paths.size path now old.paths.entries } → new.dots ≡ old.dots

@@ -1,8 +1,10 @@
--- What the calls that ask a disk leave. Where an entry stands the disk is asked exactly one `meta`, and else nothing.
+-- What the calls that ask a disk leave. Where an entry stands the disk is asked exactly one call, and else nothing.
 use Rattle.std.specs.Prelude.{◌≡◌, ◌<◌, ◌≤◌, ◌+◌, ◌&&◌, ℕ, Bool, true, false, List, length, Option, Some, None, Result, Ok, Err, is_ok, if◌then◌else◌}
+use Rattle.dav_core.specs.declared.handle.Handle.{Handle}
 use Rattle.dav_core.specs.declared.handle.Meta.{Meta}
 use Rattle.dav_core.specs.declared.handle.DiskError.{DiskError}
-use Rattle.dav_core.specs.Disk.{DiskState, Metas}
+use Rattle.dav_core.specs.Disk.{DiskState, Metas, Opens}
+use Rattle.dav_core.specs.Options.{reading}
 use Rattle.dav_core.specs.Tree.{is_dir}
 use Rattle.dav_io.specs.Counts.{greatest}
 use Rattle.dav_io.specs.declared.clock.Moment.{Moment}
@@ -16,18 +18,31 @@ abbrev pub probed : Bool → Names → PathEntry → Paths → Paths
 probed true key e entries = promoted key (Some e) entries
 probed false key e entries = without (same_path key) entries
 
--- the path and what was said of it
-abbrev pub found_by : Names → Result Meta DiskError → Option (Names × Meta)
-found_by path (Ok meta) = Some (path, meta)
+-- the path and what was answered there
+abbrev pub found_by : {A : Type 0} → Names → Result A DiskError → Option (Names × A)
+found_by path (Ok answer) = Some (path, answer)
 found_by path (Err e) = None
 
--- a look-up of a path whose entry is given
+-- a look-up of a path whose entry is given, by a call of the disk at the entry's path
+abbrev pub LooksBy : {A : Type 0} → (DiskState → Names → Result A DiskError → DiskState → Type 0) → Option PathEntry
+    → PathCache → Names → DiskState → Option (Names × A) → PathCache → DiskState → Type 0
+LooksBy call None old asked before found new after = (found ≡ None) × (new ≡ old) × (after ≡ before)
+LooksBy call (Some e) old asked before found new after =
+    (answer : Result _ DiskError) × call before e.path answer after × (found ≡ found_by e.path answer)
+    × (new ≡ record old { entries = probed (is_ok answer) (fold_path asked) e old.entries })
+
+-- what stands at a path
+abbrev pub Seeing : DiskState → Names → Result Meta DiskError → DiskState → Type 0
+Seeing before path answer after = Metas before path answer after
+
+-- an opening of a path for reading
+abbrev pub Opening : DiskState → Names → Result Handle DiskError → DiskState → Type 0
+Opening before path answer after = Opens before path reading answer after
+
+-- a look-up by what stands there
 abbrev pub Looks : Option PathEntry → PathCache → Names → DiskState → Option (Names × Meta) → PathCache → DiskState
     → Type 0
-Looks None old asked before found new after = (found ≡ None) × (new ≡ old) × (after ≡ before)
-Looks (Some e) old asked before found new after =
-    (answer : Result Meta DiskError) × Metas before e.path answer after × (found ≡ found_by e.path answer)
-    × (new ≡ record old { entries = probed (is_ok answer) (fold_path asked) e old.entries })
+Looks entry old asked before found new after = LooksBy Seeing entry old asked before found new after
 
 -- ---- whether a name is absent
 

@@ -1,9 +1,10 @@
 -- What a store remembers between its calls, as contracts see it.
-use Rattle.std.specs.Prelude.{◌≡◌, ◌⊎◌, Bool, true, false, IsTrue, List, Option, Some, None, IfSome, Result, Ok, if◌then◌else◌}
+use Rattle.std.specs.Prelude.{◌≡◌, ◌⊎◌, Bool, true, false, IsTrue, List, Option, Some, None, IfSome, Result, Ok, Err, if◌then◌else◌}
 use Rattle.std.specs.List.{list_any}
 use Rattle.std.specs.Map.{lookup}
 use Rattle.dav_io.specs.Told.{Both}
 use Rattle.dav_io.specs.declared.clock.Moment.{Moment}
+use Rattle.dav_core.specs.declared.handle.Handle.{Handle}
 use Rattle.dav_core.specs.declared.handle.Meta.{Meta}
 use Rattle.dav_core.specs.declared.handle.DiskError.{DiskError}
 use Rattle.dav_core.specs.Disk.{DiskState, Metas}
@@ -11,7 +12,7 @@ use Rattle.dav_core.specs.Tree.{is_dir}
 use Rattle.dav_cache.specs.declared.du_cache.Sealed.{Sealed}
 use Rattle.dav_cache.specs.Trees.{Name, Names, FileTime, same_name, same_time, same_path, fold_path}
 use Rattle.dav_cache.specs.Entries.{Dots, DuKey, DuEntry, PathCache, DotCache, inserted, purged, is_old_path, is_old_dot, dir_key, name_key, same_key, stands}
-use Rattle.dav_cache.specs.Calls.{Looks, Denies, Seals}
+use Rattle.dav_cache.specs.Calls.{LooksBy, Seeing, Opening, Denies, Seals}
 
 -- what is known of a directory at a time: which names that begin with `._` it has
 abbrev pub Known : Type 0
@@ -45,21 +46,38 @@ MayDeny m dir time name =
 
 -- ---- the calls
 
+-- the disk was asked at most one such call, and nothing else
+abbrev pub AsksOnceBy : {A : Type 0} → (DiskState → Names → Result A DiskError → DiskState → Type 0) → DiskState
+    → DiskState → Type 0
+AsksOnceBy call before after =
+    (after ≡ before) ⊎ ((path : Names) × (answer : Result _ DiskError) × call before path answer after)
+
 -- the disk was asked at most one `meta`, and nothing else
 abbrev pub AsksMeta : DiskState → DiskState → Type 0
-AsksMeta before after =
-    (after ≡ before) ⊎ ((path : Names) × (answer : Result Meta DiskError) × Metas before path answer after)
+AsksMeta before after = AsksOnceBy Seeing before after
 
--- A path is found only where something stood there in this call, and it folds like the one asked.
-pub record Gets (old : MemoryState) (path : Names) (before : DiskState) (found : Option (Names × Meta))
-    (new : MemoryState) (after : DiskState) : Type 0 where
-  pub asks : AsksMeta before after
-  pub stood : IfSome found (λ f. Metas before f.0 (Ok f.1) after)
+-- A path is looked up by a call of the disk. It is found only where the disk answered that call there, and it folds
+-- like the one asked. Where none is found, the disk wasn't asked, or refused it.
+pub record GetsBy {A : Type 0} (call : DiskState → Names → Result A DiskError → DiskState → Type 0) (old : MemoryState)
+    (path : Names) (before : DiskState) (found : Option (Names × A)) (new : MemoryState) (after : DiskState)
+    : Type 0 where
+  pub asks : AsksOnceBy call before after
+  pub stood : IfSome found (λ f. call before f.0 (Ok f.1) after)
+  pub refused : found ≡ None
+      → (after ≡ before) ⊎ ((path : Names) × (error : DiskError) × call before path (Err error) after)
   pub folds : IfSome found (λ f. fold_path f.0 ≡ fold_path path)
   pub paths : Both old.paths new.paths
-      (λ a b. Looks (lookup (same_path (fold_path path)) a.entries) a path before found b after)
+      (λ a b. LooksBy call (lookup (same_path (fold_path path)) a.entries) a path before found b after)
   pub dots : new.dots ≡ old.dots
   pub learns : LearnsNothing old new
+
+-- by what stands there
+abbrev pub Gets : MemoryState → Names → DiskState → Option (Names × Meta) → MemoryState → DiskState → Type 0
+Gets old path before found new after = GetsBy Seeing old path before found new after
+
+-- by an opening for reading
+abbrev pub GetsOpen : MemoryState → Names → DiskState → Option (Names × Handle) → MemoryState → DiskState → Type 0
+GetsOpen old path before found new after = GetsBy Opening old path before found new after
 
 pub record Inserts (old : MemoryState) (path : Names) (now : Moment) (new : MemoryState) : Type 0 where
   pub paths : Both old.paths new.paths (λ a b. b ≡ record a { entries = inserted a.size path now a.entries })

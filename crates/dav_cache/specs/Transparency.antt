@@ -1,10 +1,10 @@
 -- What the caches promise over every list of events.
-use Rattle.std.specs.Prelude.{◌≡◌, ◌↔◌, ◌⊎◌, ℕ, ◌<◌, ◌≤◌, ◌-◌, ◌^◌, ◌==◌, not, ◌&&◌, ◌||◌, if◌then◌else◌, Bool, true, false, IsTrue, List, [], ◌∷◌, ◌++◌, Option, option_map, Some, slice_get, Contains, take, length}
+use Rattle.std.specs.Prelude.{◌≡◌, ◌↔◌, ◌⊎◌, ℕ, ◌<◌, ◌≤◌, ◌-◌, ◌^◌, ◌==◌, not, ◌&&◌, ◌||◌, if◌then◌else◌, Bool, true, false, IsTrue, List, [], ◌∷◌, ◌++◌, Option, option_map, Some, Result, slice_get, Contains, take, length}
 use Rattle.std.specs.Map.{lookup}
 use Rattle.std.specs.List.{list_any}
 use Rattle.std.specs.Option.{option_map_or}
 use Rattle.dav_io.specs.declared.clock.Moment.{Moment}
-use Rattle.dav_core.specs.declared.handle.Meta.{Meta}
+use Rattle.dav_core.specs.declared.handle.DiskError.{DiskError}
 use Rattle.dav_core.specs.Disk.{DiskState}
 use Rattle.dav_core.specs.World.{World}
 use Rattle.dav_core.specs.Tree.{is_linked}
@@ -12,7 +12,7 @@ use Rattle.dav_cache.specs.Trees.{Name, Names, FileTime, Tree, is_dot, is_after,
 pub use Rattle.dav_cache.specs.Entries.{AllBelow, Falling, AllFolded}
 use Rattle.dav_cache.specs.Entries.{Dots, Paths, AreCounted, PathEntry, PathCache, DotCache, DuKey, DuEntry, dir_key, name_key, same_key, stands}
 use Rattle.dav_cache.specs.Core.{Event, State, Place, Told, Listing, settled, start, step, told, run}
-use Rattle.dav_cache.specs.Calls.{Looks, Denies}
+use Rattle.dav_cache.specs.Calls.{LooksBy, Seeing, Opening, Denies}
 use Rattle.dav_cache.specs.declared.event.Event.TheVariants.{Ask, Peek, Check, Conclude, DropDir, Begin, Before, ListNext, After, Seal, Find, Get, Probe, Drop, Insert, Purge, Change}
 use Rattle.dav_cache.specs.declared.place.Place.TheVariants.{Idle, Asked, Peeked, Passed, Failed, Begun, Lists, Ended, Finding, Got, Missed}
 use Rattle.dav_cache.specs.declared.event.Told.TheVariants.{Nothing, Absent, Path, Misplaced}
@@ -399,17 +399,24 @@ pub record NegativeIsEvents (s : State) (caller : ℕ) (dir : Names) (name : Nam
   pub tells : told (run s events) last ≡ Absent absent
   pub leaves : step (run s events) last ≡ record s { dots = dots }
 
--- A call of `get` over a disk that tells the tree of the world is the caller's events Find, Get, Probe and Drop in a
+-- A look-up by a call of a disk that tells the tree of the world is the caller's events Find, Get, Probe and Drop in a
 -- row.
-abbrev pub GetsAreEvents : Type 0
-GetsAreEvents =
+abbrev pub LookUpsAreEvents : {A : Type 0} → (DiskState → Names → Result A DiskError → DiskState → Type 0) → Type 0
+LookUpsAreEvents call =
     (s : State) (caller : ℕ) (path : Names) (before after : DiskState) (w : World)
-    (found : Option (Names × Meta)) (new : PathCache)
+    (found : Option (Names × _)) (new : PathCache)
     → slice_get s.places caller ≡ Some Idle → before.told ≡ Some w → w.tree ≡ s.tree
     → ((e : PathEntry) → lookup (same_path (fold_path path)) s.paths ≡ Some e → is_linked w.tree e.path ≡ false)
-    → Looks (lookup (same_path (fold_path path)) s.paths) (record { entries = s.paths; size = s.paths_size }) path
+    → LooksBy call (lookup (same_path (fold_path path)) s.paths) (record { entries = s.paths; size = s.paths_size }) path
     before found new after
     → GetIsEvents s caller path (option_map (λ f. f.0) found) new.entries
+
+-- Such calls are `get`, and `get_open`, of which the opening is the Probe.
+abbrev pub GetsAreEvents : Type 0
+GetsAreEvents = LookUpsAreEvents Seeing
+
+abbrev pub OpensAreEvents : Type 0
+OpensAreEvents = LookUpsAreEvents Opening
 
 -- And a call of `negative` is its Ask, Peek, Check and Conclude or DropDir.
 abbrev pub NegativesAreEvents : Type 0

@@ -1,14 +1,15 @@
-ghost use Rattle.std.specs.Prelude.{◌≡◌, ◌↔◌, ◌<◌, ◌-◌, [], length, take, Option, Some, None, option_map, false, IfOk, IfSome, IsTrue, OnOk, OnErr};
+ghost use Rattle.std.specs.Prelude.{◌≡◌, ◌↔◌, ◌<◌, ◌-◌, [], length, take, Option, Some, None, option_map, false, is_ok, IfOk, IfSome, IsTrue, OnOk, OnErr};
 ghost use Rattle.std.specs.Option.{option_map_or};
 ghost use Rattle.std.specs.Map.{lookup};
 ghost use Rattle.lru.specs.LruCache.{last_entry};
 ghost use Rattle.dav_cache.specs.Trees.{same_path, fold_path};
 ghost use Rattle.dav_cache.specs.Entries as entries;
-ghost use Rattle.dav_cache.specs.Calls.{Looks};
+ghost use Rattle.dav_cache.specs.Entries.{PathEntry};
+ghost use Rattle.dav_cache.specs.Calls.{Looks, LooksBy, Opening, found_by, probed};
 
 use crate::valid::no_key_stands_twice;
 use crate::{FoldedPath, fold};
-use dav_core::{Disk, FsPath, Meta};
+use dav_core::{Disk, DiskError, FsPath, Handle, Meta, OpenOptions};
 use dav_io::{Moment, NoMemory};
 use lru::LruCache;
 use std::alloc::Global;
@@ -94,20 +95,31 @@ impl Cache {
         ensures unasked { OnErr result (D.state disk.new ≡ D.state disk.old) }
         ensures loan { D.loan disk.new ≡ D.loan disk.old }
     {
-        let key = fold(self.allocator(), path)?;
-        let Some(found) = self.path_of(&key)? else {
+        let Some((key, place)) = self.place_of(path)? else {
             return Ok(None);
         };
-        match disk.meta(&found) {
-            Ok(meta) => {
-                self.promote(&key);
-                Ok(Some((found, meta)))
-            }
-            Err(_) => {
-                self.remove(&key);
-                Ok(None)
-            }
-        }
+        let answer = disk.meta(&place);
+        Ok(self.settle(&key, place, answer))
+    }
+
+    /// Looks a path up as `get` does, by an opening for reading of what stands at the entry's path.
+    pub fn get_open<D: Disk>(
+        &mut self,
+        path: &FsPath,
+        disk: &mut D,
+    ) -> Result<Option<(FsPath, Handle)>, NoMemory>
+        ensures looked { IfOk result (λ found. LooksBy Opening (lookup (same_path (fold_path path.now)) self.old.entries)
+            self.old path.now (D.state disk.old) found self.new (D.state disk.new)) }
+        ensures folds { IfOk result (λ found. IfSome found (λ f. fold_path f.0 ≡ fold_path path.now)) }
+        ensures err { OnErr result (self.new ≡ self.old) }
+        ensures unasked { OnErr result (D.state disk.new ≡ D.state disk.old) }
+        ensures loan { D.loan disk.new ≡ D.loan disk.old }
+    {
+        let Some((key, place)) = self.place_of(path)? else {
+            return Ok(None);
+        };
+        let answer = disk.open(&place, OpenOptions::read(), false);
+        Ok(self.settle(&key, place, answer))
     }
 
     /// Removes the last entry as long as it is 900 s old. A moment is in nanoseconds.
@@ -121,6 +133,42 @@ impl Cache {
 
     fn allocator(&self) -> Global {
         *self.entries.allocator()
+    }
+
+    // The folded path and the path that its entry tells.
+    fn place_of(&self, path: &FsPath) -> Result<Option<(FoldedPath, FsPath)>, NoMemory>
+        ensures value { IfOk result (λ found. found ≡ option_map (λ e. (fold_path path.now, e.path))
+            (lookup (same_path (fold_path path.now)) self.now.entries)) }
+        ensures folds { IfOk result (λ found. IfSome found (λ f. fold_path f.1 ≡ fold_path path.now)) }
+    {
+        let key = fold(self.allocator(), path)?;
+        match self.path_of(&key)? {
+            Some(place) => Ok(Some((key, place))),
+            None => Ok(None),
+        }
+    }
+
+    // What was found by what the disk answered at the entry's path. The entry comes to the front, or goes.
+    fn settle<A>(
+        &mut self,
+        key: &FoldedPath,
+        place: FsPath,
+        answer: Result<A, DiskError>,
+    ) -> Option<(FsPath, A)>
+        ensures found { result ≡ found_by place answer }
+        ensures entries { (e : PathEntry) → lookup (same_path key.now) self.old.entries ≡ Some e
+            → self.new ≡ record self.old { entries = probed (is_ok answer) key.now e self.old.entries } }
+    {
+        match answer {
+            Ok(answer) => {
+                self.promote(key);
+                Some((place, answer))
+            }
+            Err(_) => {
+                self.remove(key);
+                None
+            }
+        }
     }
 
     /// The path that the key's entry tells.

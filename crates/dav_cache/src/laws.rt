@@ -3,7 +3,7 @@
 ghost use Rattle.std.specs.Prelude.{◌≡◌, ℕ, List, All, IsUtf8};
 ghost use Rattle.dav_cache.specs.Trees.{Tree as rows, fold_name, fold_path};
 ghost use Rattle.dav_cache.specs.Core.{Event, State, start};
-ghost use Rattle.dav_cache.specs.Transparency.{AbsentOnlyWhereAbsent, PathOnlyWhereThere, EntriesAreSound, ListingsAreRight, FactsAreKept, PeeksAreHeld, ChecksAreHeld, ListedStand, NeverBack, NoReturn, CanBeMet, GetsAreEvents, NegativesAreEvents, IsMisplacedExactly};
+ghost use Rattle.dav_cache.specs.Transparency.{AbsentOnlyWhereAbsent, PathOnlyWhereThere, EntriesAreSound, ListingsAreRight, FactsAreKept, PeeksAreHeld, ChecksAreHeld, ListedStand, NeverBack, NoReturn, CanBeMet, GetsAreEvents, OpensAreEvents, NegativesAreEvents, IsMisplacedExactly};
 
 /// Folding what is folded changes nothing, of texts and of paths whose names are texts.
 pub fn folding()
@@ -34,10 +34,11 @@ pub fn listed_names_stand()
     ensures { (tree : rows) (callers paths dots : ℕ) → ListedStand (start tree callers paths dots) }
 {}
 
-/// A call of `get` or of `negative` over a disk that tells the tree, and that nobody changes meanwhile, is a row of its
+/// A call of `get`, of `get_open` or of `negative` over a disk that tells the tree, and that nobody changes meanwhile, is a row of its
 /// caller's events.
 pub fn calls_are_events()
     ensures gets { GetsAreEvents }
+    ensures opens { OpensAreEvents }
     ensures negatives { NegativesAreEvents }
 {}
 

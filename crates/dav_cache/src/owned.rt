@@ -2,7 +2,7 @@ ghost use Rattle.std.specs.Prelude.{◌≡◌, ◌<◌, [], IfOk};
 ghost use Rattle.dav_cache.specs.Memory.{memory_of};
 
 use crate::{Cache, DuCache, DuKey, Remember, RememberAny, Sealed};
-use dav_core::{Disk, FileTime, FsPath, Meta};
+use dav_core::{Disk, FileTime, FsPath, Handle, Meta};
 use dav_io::{Moment, NoMemory, Text};
 use std::alloc::Global;
 use std::marker::Model;
@@ -65,6 +65,15 @@ impl Remember for Owned {
         disk: &mut D,
     ) -> Result<Option<(FsPath, Meta)>, NoMemory> {
         self.paths.get(path, disk)
+    }
+
+    fn get_open<D: Disk>(
+        &mut self,
+        _alloc: Global,
+        path: &FsPath,
+        disk: &mut D,
+    ) -> Result<Option<(FsPath, Handle)>, NoMemory> {
+        self.paths.get_open(path, disk)
     }
 
     fn insert(&mut self, _alloc: Global, path: &FsPath, now: Moment) -> Result<(), NoMemory> {

@@ -6,7 +6,7 @@ ghost use Rattle.dav_cache.specs.Memory as memory;
 ghost use Rattle.dav_cache.specs.Memory.{MemoryState};
 
 use crate::{DuKey, Sealed};
-use dav_core::{Disk, FileTime, FsPath, Meta};
+use dav_core::{Disk, FileTime, FsPath, Handle, Meta};
 use dav_io::{Moment, NoMemory, Text};
 use std::alloc::Global;
 
@@ -29,6 +29,21 @@ pub trait Remember {
         disk: &mut D,
     ) -> Result<Option<(FsPath, Meta)>, NoMemory>
         ensures done { IfOk result (λ found. memory.Gets (state self.old) path.now (D.state disk.old) found
+            (state self.new) (D.state disk.new)) }
+        ensures err { OnErr result (self.new ≡ self.old) }
+        ensures unasked { OnErr result (D.state disk.new ≡ D.state disk.old) }
+        ensures loan { D.loan disk.new ≡ D.loan disk.old }
+        ensures may { (dir : Names) (time : Time) (names : List Name) → may_seal self.old dir time names
+            → may_seal self.new dir time names };
+
+    /// Looks a path up as `get` does, and opens for reading what stands where it was found.
+    fn get_open<D: Disk>(
+        &mut self,
+        alloc: Global,
+        path: &FsPath,
+        disk: &mut D,
+    ) -> Result<Option<(FsPath, Handle)>, NoMemory>
+        ensures done { IfOk result (λ found. memory.GetsOpen (state self.old) path.now (D.state disk.old) found
             (state self.new) (D.state disk.new)) }
         ensures err { OnErr result (self.new ≡ self.old) }
         ensures unasked { OnErr result (D.state disk.new ≡ D.state disk.old) }
@@ -106,6 +121,18 @@ impl Remember for Forget {
         _path: &FsPath,
         _disk: &mut D,
     ) -> Result<Option<(FsPath, Meta)>, NoMemory>
+        ensures nothing { result ≡ Ok None }
+        ensures unasked { _disk.new ≡ _disk.old }
+    {
+        Ok(None)
+    }
+
+    fn get_open<D: Disk>(
+        &mut self,
+        _alloc: Global,
+        _path: &FsPath,
+        _disk: &mut D,
+    ) -> Result<Option<(FsPath, Handle)>, NoMemory>
         ensures nothing { result ≡ Ok None }
         ensures unasked { _disk.new ≡ _disk.old }
     {

@@ -1,4 +1,5 @@
 use Rattle.std.proofs.Common.{refl, subst, IfOk}
+use Rattle.dav_cache.specs.Calls.{Seeing}
 use Rattle.dav_cache.specs.Memory.{OwnedState, Gets, memory_of}
 use Rattle.dav_cache.proofs.MemoryCalls.{if_both, owned_gets}
 use Rattle.dav_cache.proofs.owned.OwnedRemember.get.Goals as goal
@@ -8,4 +9,4 @@ returns-clause-done g c =
     let old : OwnedState = record { paths = c.self.inside.paths; dots = c.self.inside.dots } in
     let new : OwnedState = record { paths = c.get.new.self; dots = c.self.inside.dots } in
     subst (λ (o : OwnedState). IfOk c.get.result (λ found. Gets (memory_of o) c.args.path.now (g.D.Disk.state c.args.disk.now) found (memory_of new) (g.D.Disk.state c.get.new.disk))) c.self.view_is
-    (if_both c.get.result _ _ _ (λ found looks folds. owned_gets old new c.args.path.now (g.D.Disk.state c.args.disk.now) found (g.D.Disk.state c.get.new.disk) looks folds refl) c.get.ensures.looked c.get.ensures.folds)
+    (if_both c.get.result _ _ _ (λ found looks folds. owned_gets Seeing old new c.args.path.now (g.D.Disk.state c.args.disk.now) found (g.D.Disk.state c.get.new.disk) looks folds refl) c.get.ensures.looked c.get.ensures.folds)
