@@ -34,8 +34,8 @@ pub fn listed_names_stand()
     ensures { (tree : rows) (callers paths dots : ℕ) → ListedStand (start tree callers paths dots) }
 {}
 
-/// A call of `get`, of `get_open` or of `negative` over a disk that tells the tree, and that nobody changes meanwhile, is a row of its
-/// caller's events.
+/// A call of `get`, of `get_open` or of `negative` over a disk that tells the tree, and that nobody changes meanwhile,
+/// is a row of its caller's events.
 pub fn calls_are_events()
     ensures gets { GetsAreEvents }
     ensures opens { OpensAreEvents }
