@@ -107,11 +107,3 @@ pub list_order : (k n : Known) (path : Names) (result : Result Lister DiskError)
 list_order k n path (Ok l) (names, directory, order, free, e) =
     subst (λ (o : Option Names). IfSome o AreSorted) (sym (ap (λ (n : Known). n.world.listings l.0) e ∙ put_same l.0 (Some names) k.world.listings)) order.sorted
 list_order k n path (Err e) lists = tt
-
-is_some_length : (o : Option Names) → IsSome (option_map length o) → IsSome o
-is_some_length None h = h
-is_some_length (Some names) h = refl
-
--- a live lister has names to come, or none
-pub still_lists : (k : Known) (l : ℕ) → IsSome (lengths k.world.listings l) → IsSome (k.world.listings l)
-still_lists k l h = is_some_length (k.world.listings l) h

@@ -22,7 +22,8 @@ use Rattle.dav_core.specs.World.{IsPlain, ArePlain}
 use Rattle.dav_core.specs.Tree.{is_free, is_apart, is_tree}
 use Rattle.dav_core.specs.Listing.{stands_in, name_of, names_in, or_empty}
 use Rattle.dav_disk.specs.declared.places.Places.{Places}
-use Rattle.dav_disk.specs.Places.{place_of, place_in, Indexes, has_name, IsEachOnce}
+use Rattle.dav_disk.specs.Members.{has_name, IsEachOnce, AreNamesOf, members_of}
+use Rattle.dav_disk.specs.Places.{place_of, place_in, Indexes}
 use Rattle.dav_disk.proofs.Added.{both}
 use Rattle.dav_disk.proofs.Trees.{same_yes, same_refl, not_both, free_at, parts_of, In}
 
@@ -243,13 +244,12 @@ placed_row (r ∷ rows) path e = by (placed_row rows path) (same_names path r.pa
     by h false (Some i) t p e = let s = h (ap is_some p) in (s.0, inr s.1, s.2)
 
 -- the names of an index are those of the rows
-pub index_lists : (p : Places) (rows : List Row) (dir : Names) (names : Names) → is_tree rows ≡ true → Indexes p rows → IsEachOnce names
-    → ((name : List ℕ) → has_name names name ≡ is_some (place_in p dir name)) → IsPermutation (names_in rows dir) names
-index_lists p rows dir names tree index once all =
-    same_once (names_in rows dir) names (names_once dir rows (parts_of rows tree).apart) (once_from names once)
+pub index_lists : (p : Places) (rows : List Row) (dir : Names) (names : Names) → is_tree rows ≡ true → Indexes p rows → AreNamesOf (members_of p.dirs dir) names → IsPermutation (names_in rows dir) names
+index_lists p rows dir names tree index listed =
+    same_once (names_in rows dir) names (names_once dir rows (parts_of rows tree).apart) (once_from names listed.0)
     (λ x a. let (row, i, path) = row_among dir rows x a in
-    has_among x names (all x ∙ ap is_some (index.places dir x) ∙ row_placed rows (dir ++ x ∷ []) row i path))
-    (λ x a. let (row, i, path) = placed_row rows (dir ++ x ∷ []) (ap is_some (sym (index.places dir x)) ∙ sym (all x) ∙ among_has x names a) in
+    has_among x names (listed.2 x ∙ ap is_some (index.places dir x) ∙ row_placed rows (dir ++ x ∷ []) row i path))
+    (λ x a. let (row, i, path) = placed_row rows (dir ++ x ∷ []) (ap is_some (sym (index.places dir x)) ∙ sym (listed.2 x) ∙ among_has x names a) in
     among_row dir rows x row i path)
 
 -- ---- plain names

@@ -1,5 +1,6 @@
 -- Places of names in directories, after one is added.
-use Rattle.std.proofs.Common.{◌≡◌, ◌+◌, get_or, arith, ◌&&◌, ◌||◌, ℕ, List, [], ◌∷◌, Bool, true, false, cond, Option, None, Some, IsSome, refl, sym, ap, ◌∙◌}
+use Rattle.std.proofs.Common.{◌≡◌, ◌+◌, get_or, arith, ◌&&◌, ◌||◌, ℕ, List, [], ◌∷◌, Bool, true, false, cond, Option, None, Some, IsSome, refl, sym, ap, subst, ◌∙◌}
+use Rattle.std.specs.Global.{Vec}
 use Rattle.std.specs.Option.{option_or, is_some}
 use Rattle.std.specs.Ordering.{nat_cmp, is_eq, is_lt, ordering_reverse}
 use Rattle.std.specs.declared.cmp.Ordering.{Ordering}
@@ -14,7 +15,7 @@ use Rattle.std.specs.Map.{keys_of, lookup, KeepsOthers, IsKeyTest, AreApart}
 use Rattle.std.specs.BTreeMap.{BTreeMap, get_by, UpdatesBy, Updates, is_at, keys, IsOrdered}
 use Rattle.std.proofs.lemmas.Map.Keys.{IsDistinct-from_sorted, Less-from_sorted}
 use Rattle.dav_core.specs.Path.{Names, same_names}
-use Rattle.dav_disk.specs.Places.{member_in, has_name, IsEachOnce}
+use Rattle.dav_disk.specs.Members.{member_in, members_of, has_name, IsEachOnce, AreNamesOf}
 use Rattle.dav_disk.proofs.Trees.{same_yes}
 
 names_test : (a b : Names) → is_eq (slice_cmp (slice_cmp nat_cmp) a b) ≡ same_names a b
@@ -138,7 +139,7 @@ pub has_still : (f : Names → List ℕ → Option ℕ) (at : Names) (added : Li
 has_still f at added place some dir name = still_by f at dir added name place (same_names at dir) (bytes_eq added name) refl refl some
 
 -- the names of members stand once each
-pub keys_once : (m : Members) → IsOrdered (slice_cmp nat_cmp) m → IsEachOnce (keys m)
+keys_once : (m : Members) → IsOrdered (slice_cmp nat_cmp) m → IsEachOnce (keys m)
 keys_once m ordered = IsDistinct-from_sorted (slice_cmp nat_cmp) (keys m) ordered
 
 not_back : (o : Ordering) → ordering_reverse o ≡ Less → is_lt o ≡ false
@@ -147,12 +148,12 @@ not_back Equal e = cc
 not_back Greater e = refl
 
 -- and they are in order
-pub keys_sorted : (m : Members) → IsOrdered (slice_cmp nat_cmp) m → AreSorted (keys m)
+keys_sorted : (m : Members) → IsOrdered (slice_cmp nat_cmp) m → AreSorted (keys m)
 keys_sorted m ordered = λ k d _ lt.
     not_back (slice_cmp nat_cmp (get_or (keys m) (k + 1) d) (get_or (keys m) k d))
     (sym (nat_list_cmp_total.antisymm (get_or (keys m) k d) (get_or (keys m) (k + 1) d)) ∙ Less-from_sorted (slice_cmp nat_cmp) (keys m) k (k + 1) d ordered (omega arith) lt)
 
-pub none_once : IsEachOnce []
+none_once : IsEachOnce []
 unfolding IsDistinct
 none_once = tt
 
@@ -170,5 +171,18 @@ found_any test (e ∷ es) = found_by (test e.0) e.1 (lookup test es) (list_any t
     found_by false i o any h = h
 
 -- they are the names that have a place
-pub keys_all : (m : Members) (there : Option Members) (name : List ℕ) → Some m ≡ there → has_name (keys m) name ≡ is_some (member_in there name)
+keys_all : (m : Members) (there : Option Members) (name : List ℕ) → Some m ≡ there → has_name (keys m) name ≡ is_some (member_in there name)
 keys_all m there name e = found_any (is_at (slice_cmp nat_cmp name)) m.entries ∙ ap (λ (o : Option Members). is_some (member_in o name)) e
+
+-- so they are the names of the directory that has these members
+pub keys_named : (m : Members) (there : Option Members) (names : Names) → IsOrdered (slice_cmp nat_cmp) m → Some m ≡ there → names ≡ keys m → AreNamesOf there names
+keys_named m there names ordered e same = rw same (keys_once m ordered, keys_sorted m ordered, λ name. keys_all m there name e)
+
+-- a directory without members has no names
+pub none_named : (there : Option Members) (names : Names) → there ≡ None → names ≡ [] → AreNamesOf there names
+none_named there names e same = rw (e, same) (none_once, (λ k d _ lt. absurd (omega arith)), λ name. refl)
+
+-- names that were listed at an equal path
+pub named_still : (dirs : BTreeMap (Vec (List ℕ)) Members) (at dir names given : Names) → AreNamesOf (members_of dirs at) names → at ≡ dir → given ≡ names → AreNamesOf (members_of dirs dir) given
+named_still dirs at dir names given named here same =
+    subst (λ (p : Names). AreNamesOf (members_of dirs p) given) here (subst (λ (ns : Names). AreNamesOf (members_of dirs at) ns) (sym same) named)

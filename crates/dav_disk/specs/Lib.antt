@@ -1,3 +1,4 @@
+pub mod Members
 pub mod Places
 pub mod Files
 pub mod Listings

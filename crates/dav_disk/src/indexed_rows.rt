@@ -1,6 +1,7 @@
 // Rows in their order, which are found by their paths.
 ghost use Rattle.std.specs.Prelude.{◌≡◌, ◌++◌, ◌∷◌, [], map, option_map, IfOk, OnOk, OnErr, true};
 ghost use Rattle.std.specs.List.Sorted.{IsPermutation};
+ghost use Rattle.std.specs.Rc.{rc_value};
 ghost use Rattle.dav_core.specs.Changes.{timed_row, without};
 ghost use Rattle.dav_core.specs.Edits.{timed_number};
 ghost use Rattle.dav_core.specs.Listing.{names_in as the_names_in};
@@ -14,6 +15,7 @@ use dav_core::{FileTime, Row};
 use dav_io::{NoMemory, Text};
 use std::alloc::Global;
 use std::marker::Model;
+use std::rc::Rc;
 
 // Rows with the places at which they stand. A contract sees the rows.
 #[derive(Drop)]
@@ -128,10 +130,11 @@ impl IndexedRows {
     }
 
     // The names in a directory, in order of their bytes.
-    pub fn names_in(&self, alloc: Global, dir: &[Text]) -> Result<Vec<Text>, NoMemory>
-        requires { is_tree self.now ≡ true }
-        ensures each { IfOk result (λ v. IsPermutation (the_names_in self.now dir.now) v.items) }
-        ensures sorted { IfOk result (λ v. AreSorted v.items) }
+    pub fn names_in(&mut self, alloc: Global, dir: &[Text]) -> Result<Rc<Vec<Text>>, NoMemory>
+        requires { is_tree self.old ≡ true }
+        ensures each { IfOk result (λ names. IsPermutation (the_names_in self.old dir.now) (rc_value names).items) }
+        ensures sorted { IfOk result (λ names. AreSorted (rc_value names).items) }
+        ensures rows { self.new ≡ self.old }
     {
         Ok(self.places.names(alloc, dir)?)
     }

@@ -1,25 +1,45 @@
 // An open listing of a disk in memory.
-ghost use Rattle.std.specs.Prelude.{◌≡◌, ◌++◌, [], None, Some, IfSome, IfNone, true, option_to_list};
+ghost use Rattle.std.specs.Prelude.{◌≡◌, ◌++◌, ◌<◌, ◌^◌, [], None, Some, IfOk, IfSome, IfNone, OnErr, length, true, option_to_list};
 ghost use Rattle.std.specs.List.{AllPass};
+ghost use Rattle.std.specs.Rc.{rc_value};
 ghost use Rattle.dav_core.specs.Path.{is_plain};
 
-use dav_io::Text;
-use std::collections::VecDeque;
+use dav_io::{NoMemory, Text};
+use std::rc::Rc;
 
-// An open listing: the names that it has still to give.
+// An open listing: the names that stood in its directory when it began, which it may share with others, and how many
+// of them were given.
 #[derive(Drop)]
 pub struct Listing {
-    pub names: VecDeque<Text>,
-    ghost plain: { AllPass is_plain names.items },
+    names: Rc<Vec<Text>>,
+    given: usize,
+    ghost plain: { AllPass is_plain (rc_value names).items },
 }
 
 impl Listing {
-    // Takes the first of the names to come, if there is one.
-    pub fn take(&mut self) -> Option<Text>
-        ensures items { self.old.names.items ≡ option_to_list result ++ self.new.names.items }
-        ensures plain { IfSome result (λ name. is_plain name ≡ true) }
-        ensures none { IfNone result (self.new.names.items ≡ []) }
+    ghost use Rattle.dav_disk.specs.Listings.{names_left};
+
+    // These names are to come.
+    pub fn new(names: Rc<Vec<Text>>) -> Self
+        requires { AllPass is_plain (rc_value names).items }
+        ensures { names_left result ≡ (rc_value names).items }
     {
-        self.names.pop_front()
+        Listing { names, given: 0 }
+    }
+
+    // Takes the first of the names to come, if there is one. Where memory is refused none is taken.
+    pub fn take(&mut self) -> Result<Option<Text>, NoMemory>
+        ensures items { IfOk result (λ found. names_left self.old ≡ option_to_list found ++ names_left self.new) }
+        ensures plain { IfOk result (λ found. IfSome found (λ name. is_plain name ≡ true)) }
+        ensures none { IfOk result (λ found. IfNone found (names_left self.new ≡ [])) }
+        ensures err { OnErr result (names_left self.new ≡ names_left self.old) }
+    {
+        let names = self.names.as_slice();
+        if self.given >= names.len() {
+            return Ok(None);
+        }
+        let name = names[self.given].try_clone()?;
+        self.given += 1;
+        Ok(Some(name))
     }
 }

@@ -332,7 +332,10 @@ impl Disk for MemDisk {
         if self.faults.next() {
             return Err(DiskError::Failed);
         }
-        Ok(self.memory.list_next(at))
+        match self.memory.list_next(at) {
+            Ok(found) => Ok(found),
+            Err(NoMemory) => Err(DiskError::NoMemory),
+        }
     }
 
     fn end_list(&mut self, at: Lister)

@@ -192,7 +192,7 @@ impl Memory {
             return Err(DiskError::NoMemory);
         };
         let alloc: Global = self.rows.allocator();
-        let Ok(listing) = listing_of(alloc, &self.rows, path.as_slice()) else {
+        let Ok(listing) = listing_of(alloc, &mut self.rows, path.as_slice()) else {
             return Err(DiskError::NoMemory);
         };
         match self.listings.insert(lister, listing) {
@@ -201,11 +201,12 @@ impl Memory {
         }
     }
 
-    // The next name of a listing, if there is one.
-    pub fn list_next(&mut self, at: Lister) -> Option<Text>
+    // The next name of a listing, if there is one. Where memory is refused it is still to come.
+    pub fn list_next(&mut self, at: Lister) -> Result<Option<Text>, NoMemory>
         requires { IsSome ((known_of self.old).world.listings at.0) }
-        ensures next { NextAt (known_of self.old) at.0 result (known_of self.new) }
-        ensures plain { IfSome result (λ name. is_plain name ≡ true) }
+        ensures next { IfOk result (λ found. NextAt (known_of self.old) at.0 found (known_of self.new)) }
+        ensures plain { IfOk result (λ found. IfSome found (λ name. is_plain name ≡ true)) }
+        ensures err { OnErr result (known_of self.new ≡ known_of self.old) }
     {
         take_name(&mut self.listings, at.0)
     }

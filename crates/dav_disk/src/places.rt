@@ -1,19 +1,32 @@
 // The places of rows, by their paths.
-ghost use Rattle.std.specs.Prelude.{◌≡◌, ℕ, List, None, IfOk, OnOk, OnErr, is_some};
+ghost use Rattle.std.specs.Prelude.{◌≡◌, ℕ, List, None, IfOk, OnOk, OnErr};
+ghost use Rattle.std.specs.Option.{ForSome};
 ghost use Rattle.std.specs.BTreeMap.{keys, IsOrdered};
 ghost use Rattle.std.specs.Cmp.Lexicographic.{slice_cmp};
 ghost use Rattle.std.specs.Ordering.{nat_cmp};
-ghost use Rattle.dav_disk.specs.Listings.{AreSorted};
-ghost use Rattle.dav_disk.specs.Places.{place_in, has_name, IsAdded, IsKept, IsEachOnce};
+ghost use Rattle.std.specs.Rc.{rc_value};
+ghost use Rattle.std.proofs.Props.{props};
+ghost use Rattle.dav_disk.specs.Members.{AreNamesIn};
 
 use dav_io::{NoMemory, Text};
 use std::alloc::Global;
 use std::collections::BTreeMap;
+use std::rc::Rc;
 
-// For each directory, the places of its members by their names.
+// The names in the directory that was listed last, in order of their bytes.
+#[derive(Drop)]
+struct Listed {
+    dir: Vec<Text>,
+    names: Rc<Vec<Text>>,
+}
+
+// For each directory, the places of its members by their names. What was listed last is kept until a name gets a place,
+// so that one who lists a directory again and again copies its names once.
 #[derive(Drop)]
 pub struct Places {
     dirs: BTreeMap<Vec<Text>, BTreeMap<Text, usize>>,
+    listed: Option<Listed>,
+    ghost last: { ForSome listed (λ l. AreNamesIn dirs l.dir.items (rc_value l.names).items) } by { Prim.hlevel props },
 }
 
 // A copy of names.
@@ -40,12 +53,15 @@ fn names_of(alloc: Global, members: &BTreeMap<Text, usize>) -> Result<Vec<Text>,
 }
 
 impl Places {
+    ghost use Rattle.dav_disk.specs.Places.{place_in, IsAdded, IsKept};
+
     // No place.
     pub fn new(alloc: Global) -> Self
         ensures { (dir : List (List ℕ)) (name : List ℕ) → place_in result dir name ≡ None }
     {
         Places {
             dirs: BTreeMap::new(alloc),
+            listed: None,
         }
     }
 
@@ -72,6 +88,7 @@ impl Places {
         ensures err { OnErr result (IsKept self.old self.new) }
     {
         let name = name.try_clone()?;
+        self.listed = None;
         if let Some(members) = self.dirs.get_mut(dir) {
             members.insert(name, place)?;
             return Ok(());
@@ -99,16 +116,31 @@ impl Places {
         self.put(alloc, dir, name, place)
     }
 
-    // The names that have a place in a directory, in order of their bytes.
-    pub fn names(&self, alloc: Global, dir: &[Text]) -> Result<Vec<Text>, NoMemory>
-        ensures once { IfOk result (λ v. IsEachOnce v.items) }
-        ensures sorted { IfOk result (λ v. AreSorted v.items) }
-        ensures all { IfOk result (λ v. (name : List ℕ)
-            → has_name v.items name ≡ is_some (place_in self.now dir.now name)) }
+    // A copy of the names that have a place in a directory.
+    fn copied_names(&self, alloc: Global, dir: &[Text]) -> Result<Vec<Text>, NoMemory>
+        ensures { IfOk result (λ v. AreNamesIn self.now.dirs dir.now v.items) }
     {
         match self.dirs.get(dir) {
             Some(members) => Ok(names_of(alloc, members)?),
             None => Ok(Vec::new(alloc)),
         }
+    }
+
+    // The names that have a place in a directory, in order of their bytes.
+    pub fn names(&mut self, alloc: Global, dir: &[Text]) -> Result<Rc<Vec<Text>>, NoMemory>
+        ensures names { IfOk result (λ names. AreNamesIn self.old.dirs dir.now (rc_value names).items) }
+        ensures kept { self.new.dirs ≡ self.old.dirs }
+    {
+        if let Some(listed) = &self.listed {
+            if listed.dir.as_slice() == dir {
+                return Ok(listed.names.clone()?);
+            }
+        }
+        let names = Rc::new(alloc, self.copied_names(alloc, dir)?)?;
+        self.listed = Some(Listed {
+            dir: copied(alloc, dir)?,
+            names: names.clone()?,
+        });
+        Ok(names)
     }
 }

@@ -228,7 +228,10 @@ impl Disk for SureDisk {
         ensures listings { listings_of self.new ≡ listings_of self.old }
     {
         self.asked = self.asked.saturating_add(1);
-        Ok(self.memory.list_next(at))
+        match self.memory.list_next(at) {
+            Ok(found) => Ok(found),
+            Err(NoMemory) => Err(DiskError::NoMemory),
+        }
     }
 
     fn end_list(&mut self, at: Lister)

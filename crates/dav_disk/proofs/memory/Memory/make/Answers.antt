@@ -10,8 +10,8 @@ use Rattle.dav_disk.proofs.Turned.{good_of, kept_of, knows}
 use Rattle.dav_disk.proofs.GivenStay.{changed_given}
 use Rattle.dav_disk.proofs.memory.Memory.make.Goals as goal
 
-pub invariant_of-self-2 : goal.invariant_of-self-2
-invariant_of-self-2 c =
+pub invariant_of-self-3 : goal.invariant_of-self-3
+invariant_of-self-3 c =
     let old : World = (known_of c.args.self.now).world in
     let v : World = drawn_in c.change.new.self old in
     let drawn = on_fine c.change.result _ c.is_err.result c.is_err.ensures.value c.if-is_err.false c.change.ensures in

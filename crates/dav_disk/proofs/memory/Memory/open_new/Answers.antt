@@ -33,8 +33,8 @@ returns c =
       opened_put v _ _ c.in-Some.handle _ (updates_put c.in-Some.handle c.args.self.now.opens c.insert.new.self _ updates),
     )
 
-pub invariant_of-self-2 : goal.invariant_of-self-2
-invariant_of-self-2 c =
+pub invariant_of-self-3 : goal.invariant_of-self-3
+invariant_of-self-3 c =
     let old : World = (known_of c.args.self.now).world in
     let v : World = drawn_in c.add_file.new.self old in
     let drawn = on_fine c.add_file.result _ c.is_err.result c.is_err.ensures.value c.if-is_err.false c.add_file.ensures in

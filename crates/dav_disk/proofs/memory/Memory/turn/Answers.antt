@@ -8,8 +8,8 @@ use Rattle.dav_disk.proofs.Turned.{turn_made, turned_good, good_of, kept_of, som
 use Rattle.dav_disk.proofs.GivenStay.{turned_given}
 use Rattle.dav_disk.proofs.memory.Memory.turn.Goals as goal
 
-pub invariant_of-self-2 : goal.invariant_of-self-2
-invariant_of-self-2 c =
+pub invariant_of-self-3 : goal.invariant_of-self-3
+invariant_of-self-3 c =
     let old : World = (known_of c.args.self.now).world in
     let w : World = record old { script = c.remove.new.self.items } in
     let len : 0 < vec_len c.args.self.now.script = some_batch c.is_empty.result _ c.is_empty.ensures c.if-is_empty.false in
