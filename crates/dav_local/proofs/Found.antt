@@ -29,7 +29,7 @@ never b e f = cc
 -- ---- where a walk ends
 
 -- What stands and folds alike is where a loose walk ends, or it ends behind a link.
-alike_ends : (tree : List Row) (names at : Names) → IsTree tree → fold_path at ≡ fold_path names → (is_linked tree at ≡ false → (row : Row) × (look tree at ≡ Ok row)) → EndsAt tree names at
+pub alike_ends : (tree : List Row) (names at : Names) → IsTree tree → fold_path at ≡ fold_path names → (is_linked tree at ≡ false → (row : Row) × (look tree at ≡ Ok row)) → EndsAt tree names at
 alike_ends tree names at is folds stands = by_link (is_linked tree at) refl
   where
     by_link : (b : Bool) → is_linked tree at ≡ b → EndsAt tree names at
@@ -326,8 +326,6 @@ member_walks p m q names asked above dir name found r path same finds is takes =
 
 pub walks_lost : (p m q : Place) (names above : Names) (found : Option Names) (r : Result Names FsError) → FindsParent p above (Ok found) m → found ≡ None → Walks m names r q → Walks p names r q
 walks_lost p m q names above found r finds is walks = walks_after p m q names r finds.keeps finds.rows walks
-
--- ---- a step of a walk
 
 -- ---- what is saved and kept
 

@@ -11,6 +11,8 @@ pub mod Coming
 pub mod Recalling
 pub mod Found
 pub mod Resolved
+pub mod Opened
+pub mod Seen
 pub mod Keeping
 pub mod Filling
 pub mod Framing

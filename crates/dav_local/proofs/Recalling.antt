@@ -17,10 +17,10 @@ use Rattle.dav_core.specs.Tree.{is_linked, look}
 use Rattle.dav_core.specs.Unchanged.{Keeps}
 use Rattle.dav_core.proofs.UnchangedLemmas.{keeps_same}
 use Rattle.dav_store.specs.Files.{AsksOnce}
-use Rattle.dav_cache.specs.Calls.{Looks}
+use Rattle.dav_cache.specs.Calls.{Looks, LooksBy, Seeing}
 use Rattle.dav_cache.specs.declared.cache.PathEntry.{PathEntry}
 use Rattle.dav_cache.specs.Entries.{PathCache, Paths, inserted, without}
-use Rattle.dav_cache.specs.Memory.{Gets, Inserts, LearnsNothing, MemoryState}
+use Rattle.dav_cache.specs.Memory.{Gets, GetsBy, Inserts, LearnsNothing, MemoryState}
 use Rattle.dav_cache.specs.Trees.{same_path, fold_name as kept_name, fold_path as kept_path}
 use Rattle.dav_model.specs.Folds.{fold_path}
 use Rattle.dav_local.specs.Places.{Place}
@@ -30,11 +30,11 @@ use Rattle.dav_local.proofs.Keeping.{asked_keeps}
 use Rattle.dav_local.proofs.Memories.{learns_none, rows_same}
 
 -- a memory folds as the rules do
-same_folds : (path : Names) → kept_path path ≡ fold_path path
+pub same_folds : (path : Names) → kept_path path ≡ fold_path path
 unfolding kept_path kept_name
 same_folds path = refl
 
-both_tell : {A : Type 0} (a b : Option A) (P : A → A → Type 0) → Both a b P → is_some b ≡ is_some a
+pub both_tell : {A : Type 0} (a b : Option A) (P : A → A → Type 0) → Both a b P → is_some b ≡ is_some a
 both_tell None None P both = refl
 both_tell None (Some y) P both = absurd both
 both_tell (Some x) None P both = absurd both
@@ -42,24 +42,25 @@ both_tell (Some x) (Some y) P both = refl
 
 -- ---- a path is looked up
 
-abbrev path_of : Option (Names × Meta) → Option Names
+abbrev path_of : {A : Type 0} → Option (Names × A) → Option Names
 path_of None = None
 path_of (Some f) = Some f.0
 
--- What is found is the first entry then.
-looked_first : (o : Option PathEntry) (a b : PathCache) (names : Names) (s t : DiskState) (f : Names × Meta) → Looks o a names s (Some f) b t → IsFirst names f.0 b.entries
-looked_first None a b names s t f (none, same, unasked) = cc
-looked_first (Some e) a b names s t f (Ok meta, metas, is, new) =
-    let place : e.path ≡ f.0 = (let same : ◌≡◌ {A = Option Names} (Some f.0) (Some e.path) = ap path_of is in cc) in
-    subst (λ (c : PathCache). IsFirst names f.0 c.entries) (sym new) (same_folds names, place)
-looked_first (Some e) a b names s t f (Err error, metas, is, new) = cc
+module _ {A : Type 0} (call : DiskState → Names → Result A DiskError → DiskState → Type 0) where
+  -- What is found is the first entry then.
+  looked_first : (o : Option PathEntry) (a b : PathCache) (names : Names) (s t : DiskState) (f : Names × A) → LooksBy call o a names s (Some f) b t → IsFirst names f.0 b.entries
+  looked_first None a b names s t f (none, same, unasked) = cc
+  looked_first (Some e) a b names s t f (Ok answer, called, is, new) =
+      let place : e.path ≡ f.0 = (let same : ◌≡◌ {A = Option Names} (Some f.0) (Some e.path) = ap path_of is in cc) in
+      subst (λ (c : PathCache). IsFirst names f.0 c.entries) (sym new) (same_folds names, place)
+  looked_first (Some e) a b names s t f (Err error, called, is, new) = cc
 
-got_first : (old new : Option PathCache) (names : Names) (s t : DiskState) (f : Names × Meta)
-    → Both old new (λ a b. Looks (lookup (same_path (kept_path names)) a.entries) a names s (Some f) b t) → IfSome new (λ c. IsFirst names f.0 c.entries)
-got_first None None names s t f both = tt
-got_first None (Some b) names s t f both = absurd both
-got_first (Some a) None names s t f both = absurd both
-got_first (Some a) (Some b) names s t f both = looked_first (lookup (same_path (kept_path names)) a.entries) a b names s t f both
+  pub got_first : (old new : Option PathCache) (names : Names) (s t : DiskState) (f : Names × A)
+      → Both old new (λ a b. LooksBy call (lookup (same_path (kept_path names)) a.entries) a names s (Some f) b t) → IfSome new (λ c. IsFirst names f.0 c.entries)
+  got_first None None names s t f both = tt
+  got_first None (Some b) names s t f both = absurd both
+  got_first (Some a) None names s t f both = absurd both
+  got_first (Some a) (Some b) names s t f both = looked_first (lookup (same_path (kept_path names)) a.entries) a b names s t f both
 
 pub no_rise : (a b : ℕ) → RefusedNothing a b → Rose a b → ⊥
 no_rise a b nothing (inl lt) = absurd (omega (arith, nothing.same, lt))
@@ -105,24 +106,25 @@ path_found test key (f ∷ es) e is all = by_key (λ later. path_found test key 
     by_key on true same = here same
     by_key on false later = on later
 
-looked_paths : (test : Names → Bool) (o : Option PathEntry) (a b : PathCache) (names : Names) (s t : DiskState) (found : Option (Names × Meta)) → Looks o a names s found b t
-    → ((e : PathEntry) → o ≡ Some e → test e.path ≡ true) → AllPaths test a.entries → AllPaths test b.entries
-looked_paths test None a b names s t found (none, same, unasked) holds all = subst (λ (c : PathCache). AllPaths test c.entries) (sym same) all
-looked_paths test (Some e) a b names s t found (Ok meta, metas, is, new) holds all =
-    subst (λ (c : PathCache). AllPaths test c.entries) (sym new) (holds e refl, paths_without test (same_path (kept_path names)) a.entries all)
-looked_paths test (Some e) a b names s t found (Err error, metas, is, new) holds all =
-    subst (λ (c : PathCache). AllPaths test c.entries) (sym new) (paths_without test (same_path (kept_path names)) a.entries all)
+module _ {A : Type 0} (call : DiskState → Names → Result A DiskError → DiskState → Type 0) where
+  looked_paths : (test : Names → Bool) (o : Option PathEntry) (a b : PathCache) (names : Names) (s t : DiskState) (found : Option (Names × A)) → LooksBy call o a names s found b t
+      → ((e : PathEntry) → o ≡ Some e → test e.path ≡ true) → AllPaths test a.entries → AllPaths test b.entries
+  looked_paths test None a b names s t found (none, same, unasked) holds all = subst (λ (c : PathCache). AllPaths test c.entries) (sym same) all
+  looked_paths test (Some e) a b names s t found (Ok answer, called, is, new) holds all =
+      subst (λ (c : PathCache). AllPaths test c.entries) (sym new) (holds e refl, paths_without test (same_path (kept_path names)) a.entries all)
+  looked_paths test (Some e) a b names s t found (Err error, called, is, new) holds all =
+      subst (λ (c : PathCache). AllPaths test c.entries) (sym new) (paths_without test (same_path (kept_path names)) a.entries all)
 
-got_paths : (test : Names → Bool) (old new : Option PathCache) (names : Names) (s t : DiskState) (found : Option (Names × Meta))
-    → Both old new (λ a b. Looks (lookup (same_path (kept_path names)) a.entries) a names s found b t) → IfSome old (λ c. AllPaths test c.entries) → IfSome new (λ c. AllPaths test c.entries)
-got_paths test None None names s t found both all = tt
-got_paths test None (Some b) names s t found both all = absurd both
-got_paths test (Some a) None names s t found both all = absurd both
-got_paths test (Some a) (Some b) names s t found both all =
-    looked_paths test (lookup (same_path (kept_path names)) a.entries) a b names s t found both (λ e is. path_found test (same_path (kept_path names)) a.entries e is all) all
+  got_paths : (test : Names → Bool) (old new : Option PathCache) (names : Names) (s t : DiskState) (found : Option (Names × A))
+      → Both old new (λ a b. LooksBy call (lookup (same_path (kept_path names)) a.entries) a names s found b t) → IfSome old (λ c. AllPaths test c.entries) → IfSome new (λ c. AllPaths test c.entries)
+  got_paths test None None names s t found both all = tt
+  got_paths test None (Some b) names s t found both all = absurd both
+  got_paths test (Some a) None names s t found both all = absurd both
+  got_paths test (Some a) (Some b) names s t found both all =
+      looked_paths test (lookup (same_path (kept_path names)) a.entries) a b names s t found both (λ e is. path_found test (same_path (kept_path names)) a.entries e is all) all
 
-got_rows : (p q : Place) (names : Names) (found : Option (Names × Meta)) → Gets p.memory names p.disk found q.memory q.disk → RemembersIn p q
-got_rows p q names found gets = λ w test told is links stands all. got_paths test p.memory.paths q.memory.paths names p.disk q.disk found gets.paths all
+  pub got_rows : (p q : Place) (names : Names) (found : Option (Names × A)) → GetsBy call p.memory names p.disk found q.memory q.disk → RemembersIn p q
+  got_rows p q names found gets = λ w test told is links stands all. got_paths test p.memory.paths q.memory.paths names p.disk q.disk found gets.paths all
 
 -- What is remembered is found, with one call of the disk.
 got_held : (p : Place) (names at : Names) (found : Option (Names × Meta)) (m : MemoryState) (t : DiskState) → Gets p.memory names p.disk found m t → RefusedNothing p.disk.faults t.faults
@@ -159,9 +161,9 @@ recalls_found p q names at meta found ways gets is = recalls (subst (λ f. Gets 
       starved = tt;
       alike = sym (same_folds at) ∙ gets.folds ∙ same_folds names;
       stood = λ w told is clear. (let (row, stands, same) = gets.stood.told w told clear in (row, stands));
-      first = got_first p.memory.paths q.memory.paths names p.disk q.disk (at, meta) gets.paths;
+      first = got_first Seeing p.memory.paths q.memory.paths names p.disk q.disk (at, meta) gets.paths;
       saved = λ nothing other held. got_held p names other (Some (at, meta)) q.memory q.disk gets nothing held;
-      rows = got_rows p q names (Some (at, meta)) gets;
+      rows = got_rows Seeing p q names (Some (at, meta)) gets;
     }
 
 pub recalls_none : (p q : Place) (names : Names) (found : Option (Names × Meta)) → q.ways ≡ p.ways → Gets p.memory names p.disk found q.memory q.disk → found ≡ None → Recalls p names (Ok None) q
@@ -175,7 +177,7 @@ recalls_none p q names found ways gets is = recalls (subst (λ f. Gets p.memory 
       stood = tt;
       first = tt;
       saved = λ nothing other held. got_held p names other None q.memory q.disk gets nothing held;
-      rows = got_rows p q names None gets;
+      rows = got_rows Seeing p q names None gets;
     }
 
 place_as : (p q : Place) → q.ways ≡ p.ways → q.memory ≡ p.memory → q.disk ≡ p.disk → KeepsPlace p q

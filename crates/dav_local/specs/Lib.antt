@@ -12,4 +12,5 @@ pub mod Walking
 pub mod Listing
 pub mod Gathering
 pub mod Calls
+pub mod Seeing
 pub mod Shown

@@ -183,3 +183,18 @@ pub record Walks (p : Place) (names : Names) (result : Result Names FsError) (q 
   pub first : IfOk result (λ at. (e : StandsElsewhere p names at) → is_tree e.world.tree ≡ true
       → HasFirst names at q.memory)
   pub rows : RemembersIn p q
+
+-- Nothing changed but the cache of paths, in which no more than what stands is remembered anew: the path is still to be
+-- found.
+pub record Misses (p q : Place) : Type 0 where
+  pub keeps : KeepsPlace p q
+  pub rows : RemembersIn p q
+
+-- The memory is asked where a path was found, by a call of the disk at the place that it has. What the disk answers is
+-- the answer of that call, made where the path was found before it, without the disk.
+abbrev pub RecallsBy : {A : Type 0} → (DiskState → Names → Result A DiskError → DiskState → Type 0) → Place → Names
+    → Result (Option (Names × A)) FsError → Place → Type 0
+RecallsBy call p names (Ok (Some f)) q = Walks p names (Ok f.0) (record q { disk = p.disk })
+    × call p.disk f.0 (Ok f.1) q.disk
+RecallsBy call p names (Ok None) q = Misses p q
+RecallsBy call p names (Err e) q = Walks p names (Err e) q

@@ -206,7 +206,7 @@ impl<D: Disk, R: Remember> LocalFs<D, R> {
     }
 
     // Looks at a place that was found.
-    fn look_at(
+    pub(crate) fn look_at(
         &mut self,
         at: &FsPath,
         follows: bool,
@@ -237,6 +237,9 @@ impl<D: Disk, R: Remember> LocalFs<D, R> {
             return Ok(LocalFsMetaData::Empty);
         }
         let slash = self.ways.has_slash(path);
+        if follows && !self.ways.is_known() {
+            return self.look_alike(path.names(), slash);
+        }
         match self.resolve(path) {
             Ok(at) => self.look_at(&at, follows, slash),
             Err(error) => Err(error),

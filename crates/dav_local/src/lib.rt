@@ -11,6 +11,7 @@ pub mod laws;
 mod listing;
 mod lists;
 mod meta;
+mod seeing;
 mod steps;
 mod store;
 mod walk;

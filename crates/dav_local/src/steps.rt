@@ -54,7 +54,7 @@ impl<D: Disk, R: Remember> LocalFs<D, R> {
     }
 
     // Finds a path that the memory hasn't.
-    fn find_on_disk(&mut self, path: &FsPath) -> Result<FsPath, FsError>
+    pub(crate) fn find_on_disk(&mut self, path: &FsPath) -> Result<FsPath, FsError>
         ensures done { Walks (place_of D.state R.state self.old) path.now result (place_of D.state R.state self.new) }
         ensures stays { Stays self.old self.new }
         ensures loan { D.loan self.new.disk ≡ D.loan self.old.disk }
@@ -68,7 +68,7 @@ impl<D: Disk, R: Remember> LocalFs<D, R> {
 
     // Finds a path that doesn't stand as it is asked: in the directory above it, or else from the root on. The root is
     // where it is.
-    fn find_elsewhere(&mut self, path: &FsPath) -> Result<FsPath, FsError>
+    pub(crate) fn find_elsewhere(&mut self, path: &FsPath) -> Result<FsPath, FsError>
         ensures done { Walks (place_of D.state R.state self.old) path.now result (place_of D.state R.state self.new) }
         ensures stays { Stays self.old self.new }
         ensures loan { D.loan self.new.disk ≡ D.loan self.old.disk }

@@ -102,6 +102,9 @@ impl<D: Disk, R: RememberAny> DavFileSystem for LocalFs<D, R> {
         if self.is_shut(path) {
             return Err(FsError::Forbidden);
         }
+        if options == OpenOptions::read() && !self.ways.is_known() {
+            return self.open_alike(path.names());
+        }
         match self.resolve(path) {
             Ok(at) => open_at(&mut self.disk, &at, options, self.public),
             Err(error) => Err(error),

@@ -4,7 +4,8 @@ ghost use Rattle.dav_core.specs.Listing.{or_empty};
 ghost use Rattle.dav_core.specs.Path.{same_names};
 ghost use Rattle.dav_model.specs.Folds.{is_dot};
 ghost use Rattle.dav_model.specs.Finding as finding;
-ghost use Rattle.dav_local.specs.Ways.{rules_of};
+ghost use Rattle.dav_local.specs.Seeing.{is_judged as the_is_judged};
+ghost use Rattle.dav_local.specs.Ways.{is_known as the_is_known, rules_of};
 
 use dav_core::{DavPath, FsPath};
 
@@ -34,6 +35,20 @@ impl Ways {
         ensures { result ≡ finding.is_forbidden (rules_of self.now) path.now }
     {
         self.is_virtual(path) || (self.macos && is_localized(path.names()))
+    }
+
+    /// Whether a path is found without the disk: where every path names one file, and where no name folds.
+    pub(crate) fn is_known(&self) -> bool
+        ensures { result ≡ the_is_known self.now }
+    {
+        self.alone.is_some() || !self.folds
+    }
+
+    /// Whether the rules for clients of macOS say of a place that was found whether it is absent, or the memory does.
+    pub(crate) fn is_judged(&self, at: &FsPath) -> bool
+        ensures { result ≡ the_is_judged self.now at.now }
+    {
+        self.macos && (is_dot_name(at) || is_localized(at))
     }
 
     /// Whether a final slash of the path is looked at: not where every path names one file.

@@ -1,5 +1,16 @@
+use Rattle.std.proofs.Common.{◌≡◌, false, sym, arith}
+use Rattle.dav_model.specs.Finding.{is_virtual}
+use Rattle.dav_local.specs.Ways.{is_known, rules_of}
 use Rattle.dav_core.proofs.UnchangedLemmas.{keeps_then}
+use Rattle.dav_local.proofs.Seen.{look_asked}
 use Rattle.dav_local.proofs.fs.LocalFs.look.Goals as goal
 
 pub returns-in-Ok-clause-keeps : goal.returns-in-Ok-clause-keeps
 returns-in-Ok-clause-keeps g c = keeps_then _ _ _ c.in-Ok.ensures.done.keeps c.look_at.ensures.keeps
+
+pub returns-then-not-is_known-clause-done : goal.returns-then-not-is_known-clause-done
+returns-then-not-is_known-clause-done g c =
+    let real : is_virtual (rules_of c.args.self.now.ways) c.args.path.now ≡ false = cc (c.if-is_virtual.ensures, c.is_virtual.ensures) in
+    let known : is_known c.args.self.now.ways ≡ false = cc (c.if-not-is_known.ensures, c.is_known.ensures) in
+    look_asked _ _ _ c.names.result.now c.has_slash-slash.result c.args.follows _ (λ w told. g.met.D.Disk.world c.args.self.now.disk w told) c.if-follows.true real known c.names.ensures.value
+    c.has_slash-slash.ensures c.look_alike.ensures.done

@@ -1,0 +1,274 @@
+-- The call by which a path is found is the call that is asked for there.
+use Rattle.std.proofs.Common.{◌≡◌, ◌&&◌, ◌||◌, ◌⊎◌, inl, inr, Bool, true, false, not, Option, None, Some, Result, Ok, Err, refl, sym, ap, subst, ◌∙◌}
+use Rattle.std.specs.Map.{lookup}
+use Rattle.std.specs.Option.{is_some}
+use Rattle.dav_io.specs.Counts.{Rose}
+use Rattle.dav_io.proofs.ToldLemmas.{told_after}
+use Rattle.dav_core.specs.declared.error.FsError.{FsError}
+use Rattle.dav_core.specs.declared.handle.DiskError.{DiskError}
+use Rattle.dav_core.specs.declared.handle.DiskError.TheVariants.{Failed}
+use Rattle.dav_core.specs.declared.handle.Handle.{Handle}
+use Rattle.dav_core.specs.declared.handle.Meta.{Meta}
+use Rattle.dav_core.specs.declared.handle.OpenOptions.{OpenOptions}
+use Rattle.dav_core.specs.DavPath.{WebPath, last_name}
+use Rattle.dav_core.specs.Disk.{DiskState, Metas, OpenedIn, Opens, kind_opened}
+use Rattle.dav_core.specs.Info.{Info}
+use Rattle.dav_core.specs.Listing.{or_empty}
+use Rattle.dav_core.specs.Options.{reading}
+use Rattle.dav_core.specs.Path.{Names}
+use Rattle.dav_core.specs.Unchanged.{Keeps}
+use Rattle.dav_core.specs.World.{IsWorld, World}
+use Rattle.dav_core.proofs.UnchangedLemmas.{keeps_same}
+use Rattle.dav_store.specs.Frames.{OpensOne}
+use Rattle.dav_cache.specs.Calls.{LooksBy, Opening, Seeing}
+use Rattle.dav_cache.specs.Memory.{Gets, GetsBy, GetsOpen}
+use Rattle.dav_cache.specs.Trees.{same_path, fold_path as kept_path}
+use Rattle.dav_model.specs.Finding.{has_slash, is_localized, is_virtual}
+use Rattle.dav_model.specs.Folds.{fold_path, is_dot}
+use Rattle.dav_local.specs.Calls.{Finds, IsOpening, Looks, LooksAt, TellsAbsent, is_shut}
+use Rattle.dav_local.specs.declared.file.LocalFsFile.{LocalFsFile}
+use Rattle.dav_local.specs.Files.{filed, seen_by}
+use Rattle.dav_local.specs.Places.{Place}
+use Rattle.dav_local.specs.Seeing.{AnswersSeen, FindsAlike, OpensAt, OpensThere, is_judged}
+use Rattle.dav_local.specs.Walking.{Misses, RecallsBy, StandsAt, Walks}
+use Rattle.dav_local.specs.Ways.{is_known, rules_of}
+use Rattle.dav_local.proofs.Coming.{walk_starved}
+use Rattle.dav_local.proofs.Framing.{keeps_open, opens_after}
+use Rattle.dav_local.proofs.Found.{alike_ends, walk_copied, walks_after}
+use Rattle.dav_local.proofs.Keeping.{metas_keep}
+use Rattle.dav_local.proofs.Memories.{place_disk, rows_same}
+use Rattle.dav_local.proofs.Opened.{opened_one, unopened_keeps}
+use Rattle.dav_local.proofs.Recalling.{both_tell, got_first, got_rows, recalls_starved, same_folds}
+use Rattle.dav_local.proofs.Resolved.{resolves_walked}
+use Rattle.dav_local.proofs.Rows.{tree_parts}
+
+-- ---- before the call by which a path was found, and after it
+
+-- What was found by a call was found before it, with the disk as it was.
+walks_before : (p q : Place) (names at : Names) → Walks p names (Ok at) q → Walks p names (Ok at) (record q { disk = p.disk })
+walks_before p q names at walks = record {
+  keeps = record { ways = walks.keeps.ways; keeps = keeps_same p.disk; learns = walks.keeps.learns; dots = walks.keeps.dots; tells = walks.keeps.tells };
+  refused = tt;
+  alike = walks.alike;
+  told = walks.told;
+  first = walks.first;
+  rows = walks.rows;
+}
+
+walks_asked : (p q : Place) (names at : Names) → Walks p names (Ok at) (record q { disk = p.disk }) → Keeps p.disk q.disk → Walks p names (Ok at) q
+walks_asked p q names at walks keeps = record {
+  keeps = record { ways = walks.keeps.ways; keeps = keeps; learns = walks.keeps.learns; dots = walks.keeps.dots; tells = walks.keeps.tells };
+  refused = tt;
+  alike = walks.alike;
+  told = walks.told;
+  first = walks.first;
+  rows = walks.rows;
+}
+
+-- ---- what the memory has
+
+-- What is found by a call was found before it.
+got_walks : {A : Type 0} (call : DiskState → Names → Result A DiskError → DiskState → Type 0) (p q : Place) (names : Names) (f : Names × A) → q.ways ≡ p.ways
+    → GetsBy call p.memory names p.disk (Some f) q.memory q.disk → StandsAt p.disk f.0 → Walks p names (Ok f.0) (record q { disk = p.disk })
+got_walks call p q names f ways gets stands = record {
+  keeps = record {
+    ways = ways;
+    keeps = keeps_same p.disk;
+    learns = gets.learns;
+    dots = gets.dots;
+    tells = both_tell p.memory.paths q.memory.paths (λ a b. LooksBy call (lookup (same_path (kept_path names)) a.entries) a names p.disk (Some f) b q.disk) gets.paths;
+  };
+  refused = tt;
+  alike = alike;
+  told = λ w told is. alike_ends w.tree names f.0 (tree_parts w.tree is) alike (λ clear. stands w told is clear);
+  first = λ e is. got_first call p.memory.paths q.memory.paths names p.disk q.disk f gets.paths;
+  rows = got_rows call p q names (Some f) gets;
+}
+  where
+    alike : fold_path f.0 ≡ fold_path names
+    alike = sym (same_folds f.0) ∙ gets.folds ∙ same_folds names
+
+got_misses : {A : Type 0} (call : DiskState → Names → Result A DiskError → DiskState → Type 0) → ((s t : DiskState) (path : Names) (e : DiskError) → call s path (Err e) t → Keeps s t)
+    → (p q : Place) (names : Names) → q.ways ≡ p.ways → GetsBy call p.memory names p.disk None q.memory q.disk → Misses p q
+got_misses call refused p q names ways gets = record {
+  keeps = record {
+    ways = ways;
+    keeps = by_call (gets.refused refl);
+    learns = gets.learns;
+    dots = gets.dots;
+    tells = both_tell p.memory.paths q.memory.paths (λ a b. LooksBy call (lookup (same_path (kept_path names)) a.entries) a names p.disk None b q.disk) gets.paths;
+  };
+  rows = got_rows call p q names None gets;
+}
+  where
+    by_call : (q.disk ≡ p.disk) ⊎ ((path : Names) × (e : DiskError) × call p.disk path (Err e) q.disk) → Keeps p.disk q.disk
+    by_call (inl same) = subst (Keeps p.disk) (sym same) (keeps_same p.disk)
+    by_call (inr (path, e, called)) = refused p.disk q.disk path e called
+
+pub recalls_seen : (p q : Place) (names : Names) (found : Option (Names × Meta)) → q.ways ≡ p.ways → Gets p.memory names p.disk found q.memory q.disk → RecallsBy Seeing p names (Ok found) q
+recalls_seen p q names None ways gets = got_misses Seeing (λ s t path e metas. metas_keep true s path (Err e) t metas) p q names ways gets
+recalls_seen p q names (Some f) ways gets =
+    (got_walks Seeing p q names f ways gets (λ w told is clear. let (row, stands, same) = gets.stood.told w told clear in (row, stands)), gets.stood)
+
+opened_stands : (s : DiskState) (path : Names) (h : Handle) (t : DiskState) → Opens s path reading (Ok h) t → StandsAt s path
+opened_stands s path h t opens = λ w told is clear.
+    let (v, now, opened) = told_after s.told t.told (OpenedIn path (Ok h) (kind_opened (Ok h) t)) w opens.told told in
+    let (number, changed, held, stands) = opened in
+    let (row, there, numbered, kind) = stands clear in (row, there)
+
+pub recalls_opened : (p q : Place) (names : Names) (found : Option (Names × Handle)) → q.ways ≡ p.ways → GetsOpen p.memory names p.disk found q.memory q.disk
+    → RecallsBy Opening p names (Ok found) q × OpensThere p.disk (Ok found) q.disk
+recalls_opened p q names None ways gets =
+    let misses = got_misses Opening (λ s t path e opens. unopened_keeps s path e t opens) p q names ways gets in (misses, misses.keeps.keeps)
+recalls_opened p q names (Some f) ways gets =
+    ((got_walks Opening p q names f ways gets (opened_stands p.disk f.0 f.1 q.disk gets.stood), gets.stood), opened_one p.disk f.0 f.1 q.disk gets.stood)
+
+pub recalls_nothing : (p q : Place) (names : Names) → q.ways ≡ p.ways → q.memory ≡ p.memory → q.disk ≡ p.disk → Walks p names (Err FsError.NoMemory) q
+recalls_nothing p q names ways memory disk =
+    let recalls = recalls_starved p q names ways memory disk in walk_starved p q names recalls.keeps recalls.rows
+
+-- ---- a call after a path was found by folding
+
+pub finds_missed : {T : Type 0} (p m q : Place) (names : Names) (call : Names → Place → Result T FsError → Place → Type 0) (r : Result T FsError) → Misses p m → FindsAlike m names call r q
+    → FindsAlike p names call r q
+finds_missed p m q names call r misses (found, n, walks, after) = (found, n, walks_after p m n names found misses.keeps misses.rows walks, after)
+
+pub finds_absent : {T : Type 0} (p q : Place) (t : DiskState) (names : Names) (call : Names → Place → Result T FsError → Place → Type 0) (r : Result T FsError) → Keeps p.disk t
+    → FindsAlike (record p { disk = t }) names call r q → FindsAlike p names call r q
+finds_absent p q t names call r keeps finds =
+    finds_missed p (record p { disk = t }) q names call r (record { keeps = place_disk p t keeps; rows = rows_same p (record p { disk = t }) refl }) finds
+
+pub finds_failed : {T : Type 0} (p : Place) (t : DiskState) (names : Names) (call : Names → Place → Result T FsError → Place → Type 0) → Keeps p.disk t → Rose p.disk.faults t.faults
+    → FindsAlike p names call (Err FsError.GeneralFailure) (record p { disk = t })
+finds_failed p t names call keeps rose = (
+  Err FsError.GeneralFailure,
+  record p { disk = t },
+  record { keeps = place_disk p t keeps; refused = inl (refl, rose); alike = tt; told = tt; first = tt; rows = rows_same p (record p { disk = t }) refl },
+  (refl, refl),
+)
+
+no_known : (a b : Bool) → (a || not b) ≡ false → (a ≡ false) × (b ≡ true)
+no_known true b e = cc
+no_known false true e = (refl, refl)
+no_known false false e = cc
+
+none_is : {A : Type 0} (o : Option A) → is_some o ≡ false → o ≡ None
+none_is None e = refl
+none_is (Some x) e = cc
+
+-- A path that isn't known is found by folding.
+pub finds_walked : {T : Type 0} (p q : Place) (names : Names) (call : Names → Place → Result T FsError → Place → Type 0) (r : Result T FsError) → ((w : World) → p.disk.told ≡ Some w → IsWorld w)
+    → is_known p.ways ≡ false → FindsAlike p names call r q → Finds p names call r q
+finds_walked p q names call r worlds known (found, m, walks, after) =
+    let (alone, folds) = no_known (is_some p.ways.alone) p.ways.folds known in
+    (found, m, resolves_walked p m names found worlds (none_is p.ways.alone alone) folds walks, after)
+
+-- ---- looks
+
+not_judged : (a b c : Bool) → (a && (b || c)) ≡ false → ((a && b) ≡ false) × ((a && c) ≡ false)
+not_judged true true c e = cc
+not_judged true false c e = (refl, e)
+not_judged false b c e = (refl, refl)
+
+no_both : {A : Type 0} (b : Bool) → b ≡ true → b ≡ false → A
+no_both b e f = cc
+
+tells_present : (p : Place) (at : Names) → is_judged p.ways at ≡ false → TellsAbsent p at (Ok false) p
+tells_present p at e =
+    let (plain, here) = not_judged p.ways.macos (is_dot (or_empty (last_name at))) (is_localized at) e in
+    record { ways = refl; plain = λ asks. (refl, ap (λ b. Ok b) (sym here)); dots = λ asks. no_both (p.ways.macos && is_dot (or_empty (last_name at))) asks plain; starved = tt }
+
+-- What a look found by which the path was found is its answer.
+pub look_found : (p m q : Place) (names at : Names) (meta : Meta) (slash : Bool) (r : Result Info FsError) → Walks p names (Ok at) (record m { disk = p.disk }) → Metas p.disk at (Ok meta) m.disk
+    → AnswersSeen at meta slash m r q → FindsAlike p names (LooksAt true slash) r q
+look_found p m q names at meta slash r walks metas answers = by_judged (is_judged m.ways at) refl
+  where
+    by_judged : (b : Bool) → is_judged m.ways at ≡ b → FindsAlike p names (LooksAt true slash) r q
+    by_judged true e = (Ok at, m, walks_asked p m names at walks (metas_keep true p.disk at (Ok meta) m.disk metas), answers.judged e)
+    by_judged false e =
+        let (is, same) = answers.seen e in
+        let before : Place = record m { disk = p.disk } in
+        (Ok at, before, walks, (Ok false, before, tells_present before at e, (Ok meta, m.disk, metas, is, same)))
+
+pub look_here : (p q : Place) (t : DiskState) (names : Names) (meta : Meta) (slash : Bool) (r : Result Info FsError) → Metas p.disk names (Ok meta) t → Keeps p.disk t
+    → AnswersSeen names meta slash (record p { disk = t }) r q → FindsAlike p names (LooksAt true slash) r q
+look_here p q t names meta slash r metas keeps answers =
+    let walks = walk_copied p t names meta (Ok names) metas keeps refl tt in
+    look_found p (record p { disk = t }) q names names meta slash r (walks_before p (record p { disk = t }) names names walks) metas answers
+
+-- ---- openings
+
+-- The opening by which the path was found is the one that was asked for.
+pub open_found : (p m : Place) (names : Names) (f : Names × Handle) → RecallsBy Opening p names (Ok (Some f)) m → FindsAlike p names (OpensAt reading) (Ok (record { handle = f.1 })) m
+open_found p m names f (walks, opens) = (Ok f.0, record m { disk = p.disk }, walks, (Ok f.1, m.disk, opens, refl, refl))
+
+-- ---- by what the steps answer
+
+pub finds_there : {T : Type 0} (p m q : Place) (names at : Names) (call : Names → Place → Result T FsError → Place → Type 0) (r : Result T FsError) → Walks p names (Ok at) m → call at m r q
+    → FindsAlike p names call r q
+finds_there p m q names at call r walks called = (Ok at, m, walks, called)
+
+pub finds_refused : {T : Type 0} (p q : Place) (names : Names) (call : Names → Place → Result T FsError → Place → Type 0) (e : FsError) → Walks p names (Err e) q → FindsAlike p names call (Err e) q
+finds_refused p q names call e walks = (Err e, q, walks, (refl, refl))
+
+pub finds_unknown : {A T : Type 0} (asks : DiskState → Names → Result A DiskError → DiskState → Type 0) (p m q : Place) (names : Names) (call : Names → Place → Result T FsError → Place → Type 0)
+    (found : Option (Names × A)) (r : Result T FsError) → RecallsBy asks p names (Ok found) m → found ≡ None → FindsAlike m names call r q → FindsAlike p names call r q
+finds_unknown asks p m q names call found r recalls is finds = finds_missed p m q names call r (subst (λ f. RecallsBy asks p names (Ok f) m) is recalls) finds
+
+pub look_failed : {T : Type 0} (p : Place) (t : DiskState) (names : Names) (call : Names → Place → Result T FsError → Place → Type 0) (e : DiskError) → Metas p.disk names (Err e) t → Keeps p.disk t
+    → e ≡ Failed → FindsAlike p names call (Err FsError.GeneralFailure) (record p { disk = t })
+look_failed p t names call e metas keeps is = finds_failed p t names call keeps (metas.asks.rose (ap (λ x. Err x) is))
+
+pub look_recalled : (p m q : Place) (names at : Names) (meta : Meta) (slash : Bool) (found : Option (Names × Meta)) (r : Result Info FsError) → RecallsBy Seeing p names (Ok found) m
+    → found ≡ Some (at, meta) → AnswersSeen at meta slash m r q → FindsAlike p names (LooksAt true slash) r q
+look_recalled p m q names at meta slash found r recalls is answers =
+    let (walks, metas) = subst (λ f. RecallsBy Seeing p names (Ok f) m) is recalls in look_found p m q names at meta slash r walks metas answers
+
+pub open_recalled : (p m : Place) (names at : Names) (h : Handle) (found : Option (Names × Handle)) → RecallsBy Opening p names (Ok found) m → found ≡ Some (at, h)
+    → FindsAlike p names (OpensAt reading) (Ok (record { handle = h })) m
+open_recalled p m names at h found recalls is = open_found p m names (at, h) (subst (λ f. RecallsBy Opening p names (Ok f) m) is recalls)
+
+-- ---- openings, by what the steps answer
+
+pub open_there : (p m : Place) (t : DiskState) (names at : Names) (how : OpenOptions) (r : Result LocalFsFile FsError) → Walks p names (Ok at) m → how ≡ reading
+    → (answer : Result Handle DiskError) × Opens m.disk at how answer t × (r ≡ filed answer) → FindsAlike p names (OpensAt reading) r (record m { disk = t })
+open_there p m t names at how r walks is (answer, opens, said) =
+    (Ok at, m, walks, (answer, t, subst (λ o. Opens m.disk at o answer t) is opens, said, refl))
+
+pub opened_recalled : (s t : DiskState) (at : Names) (h : Handle) (found : Option (Names × Handle)) → OpensThere s (Ok found) t → found ≡ Some (at, h)
+    → OpensOne (λ (f : LocalFsFile). f.handle.0) seen_by reading s (Ok (record { handle = h })) t
+opened_recalled s t at h found opens is = subst (λ f. OpensThere s (Ok f) t) is opens
+
+pub opened_unknown : (s m t : DiskState) (found : Option (Names × Handle)) (r : Result LocalFsFile FsError) → OpensThere s (Ok found) m → found ≡ None
+    → OpensOne (λ (f : LocalFsFile). f.handle.0) seen_by reading m r t → OpensOne (λ (f : LocalFsFile). f.handle.0) seen_by reading s r t
+opened_unknown s m t found r opens is one = opens_after (λ (f : LocalFsFile). f.handle.0) seen_by reading s m t r (subst (λ f. OpensThere s (Ok f) m) is opens) one
+
+pub opened_there : (s m t : DiskState) (how : OpenOptions) (r : Result LocalFsFile FsError) → Keeps s m → how ≡ reading → OpensOne (λ (f : LocalFsFile). f.handle.0) seen_by how m r t
+    → OpensOne (λ (f : LocalFsFile). f.handle.0) seen_by reading s r t
+opened_there s m t how r keeps is one =
+    opens_after (λ (f : LocalFsFile). f.handle.0) seen_by reading s m t r keeps (subst (λ o. OpensOne (λ (f : LocalFsFile). f.handle.0) seen_by o m r t) is one)
+
+pub opened_nothing : (s t : DiskState) (e : FsError) → Keeps s t → OpensOne (λ (f : LocalFsFile). f.handle.0) seen_by reading s (Err e) t
+opened_nothing s t e keeps = record { others = keeps_open s t keeps; kept = λ is. keeps }
+
+-- ---- the calls of the store
+
+pub look_asked : (p q : Place) (path : WebPath) (names : Names) (slash follows : Bool) (r : Result Info FsError) → ((w : World) → p.disk.told ≡ Some w → IsWorld w) → follows ≡ true
+    → is_virtual (rules_of p.ways) path ≡ false → is_known p.ways ≡ false → names ≡ path.names → slash ≡ has_slash p.ways.alone path → FindsAlike p names (LooksAt true slash) r q
+    → Looks follows p path r q
+look_asked p q path names slash follows r worlds is real known same slashed finds =
+    subst (λ f. Looks f p path r q) (sym is) (record {
+      empty = λ e. no_both (is_virtual (rules_of p.ways) path) e real;
+      asked = λ e.
+          subst (λ s. Finds p path.names (LooksAt true s) r q) slashed
+          (subst (λ n. Finds p n (LooksAt true slash) r q) same (finds_walked p q names (LooksAt true slash) r worlds known finds));
+    })
+
+pub open_asked : (p q : Place) (path : WebPath) (names : Names) (how : OpenOptions) (r : Result LocalFsFile FsError) → ((w : World) → p.disk.told ≡ Some w → IsWorld w)
+    → is_shut p.ways path ≡ false → how ≡ reading → is_known p.ways ≡ false → names ≡ path.names → FindsAlike p names (OpensAt reading) r q → IsOpening p path how r q
+open_asked p q path names how r worlds shut is known same finds = record {
+  forbidden = λ e. no_both (is_shut p.ways path) e shut;
+  asked = λ e.
+      subst (λ o. Finds p path.names (OpensAt o) r q) (sym is)
+      (subst (λ n. Finds p n (OpensAt reading) r q) same (finds_walked p q names (OpensAt reading) r worlds known finds));
+}

@@ -1,0 +1,17 @@
+use Rattle.dav_core.specs.Options.{reading}
+use Rattle.dav_cache.specs.Calls.{Opening}
+use Rattle.dav_local.specs.Seeing.{OpensAt}
+use Rattle.dav_local.proofs.Seen.{finds_unknown, open_recalled, opened_recalled, opened_unknown}
+use Rattle.dav_local.proofs.fs.LocalFs.open_alike.Goals as goal
+
+pub returns-in-Ok-Some-clause-done : goal.returns-in-Ok-Some-clause-done
+returns-in-Ok-Some-clause-done g c = open_recalled _ _ _ c.in-Ok-Some.field-0-0-0 c.in-Ok-Some.handle c.in-Ok-Some.field-0 c.in-Ok-Some.ensures.done c.in-Ok-Some.field-0-is
+
+pub returns-in-Ok-Some-clause-one : goal.returns-in-Ok-Some-clause-one
+returns-in-Ok-Some-clause-one g c = opened_recalled _ _ c.in-Ok-Some.field-0-0-0 c.in-Ok-Some.handle c.in-Ok-Some.field-0 c.in-Ok-Some.ensures.one c.in-Ok-Some.field-0-is
+
+pub returns-in-Ok-None-clause-done : goal.returns-in-Ok-None-clause-done
+returns-in-Ok-None-clause-done g c = finds_unknown Opening _ _ _ _ (OpensAt reading) c.in-Ok-None.field-0 _ c.in-Ok-None.ensures.done c.in-Ok-None.field-0-is c.open_on_disk.ensures.done
+
+pub returns-in-Ok-None-clause-one : goal.returns-in-Ok-None-clause-one
+returns-in-Ok-None-clause-one g c = opened_unknown _ _ _ c.in-Ok-None.field-0 _ c.in-Ok-None.ensures.one c.in-Ok-None.field-0-is c.open_on_disk.ensures.one
