@@ -7,7 +7,9 @@ mod PiecesWritten
 mod FilePut
 mod MembersRead
 mod Lighter
-mod WorkDone
+mod Walking
+mod WalkRemoves
+mod WalkCopies
 mod LineRows
 pub mod AnswersListed
 pub mod EditsJoined
@@ -37,7 +39,6 @@ pub mod CopyActs
 pub mod RemovalsListed
 mod Addresses
 mod Overlaps
-mod CopyDone
 mod Leaving
 mod CarryRows
 pub mod CopiesListed

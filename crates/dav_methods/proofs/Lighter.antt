@@ -75,6 +75,12 @@ weight_in (m ∷ members) works =
 deeper : (n : ℕ) → nat_lt 65536 n ≡ false → 65537 - n ≡ suc (65536 - n)
 deeper n near = grind (arith, nat_tests)
 
+-- A directory that isn't too deep weighs more than it itself does without its members.
+pub wide : (path : WebPath) → is_deep path ≡ false → 2 ≤ weight_of (Whole path true)
+wide path near =
+    let own : width (depth_left path) ≡ 2 ^ 65 * below path = ap width (deeper (length path.names) near) in
+    omega (arith, own, some_width (65536 - length path.names))
+
 -- A directory that isn't too deep weighs more than its members and it itself.
 pub lighter_in : (path : WebPath) (answers : List Answered) (listed members : List Child) (works : List Work) → is_deep path ≡ false → listed ≡ children_said path answers
     → IsPermutation listed members → length members < 2 ^ 64 → weight (works_in path members works) < weight (Whole path true ∷ works)

@@ -5,7 +5,6 @@ use Rattle.dav_core.specs.declared.dav_error.DavError.{DavError}
 use Rattle.dav_core.specs.declared.dav_error.DavError.TheVariants.{NoMemory, Status}
 use Rattle.dav_core.specs.declared.error.FsError.{FsError}
 use Rattle.dav_core.specs.DavPath.{WebPath}
-use Rattle.dav_core.specs.Path.{Names}
 use Rattle.dav_core.specs.Statuses.{of_fs}
 use Rattle.dav_store.specs.View.{View, Listings}
 use Rattle.dav_methods.specs.declared.child.Child.{Child}
@@ -13,10 +12,6 @@ use Rattle.dav_methods.specs.declared.transfer.Transfer.{Transfer}
 use Rattle.dav_methods.specs.Lines.{Line}
 use Rattle.dav_methods.specs.Reading.{HasMembers, HasNoMembers, child_named}
 use Rattle.dav_methods.specs.Removing.{is_deep, line_of}
-
--- A member's path ends with its name.
-abbrev pub IsNamed : Child → Type 0
-IsNamed m = (front : Names) × (m.path.names ≡ front ++ m.name ∷ [])
 
 -- A member keeps its name below another directory.
 abbrev pub transfer_of : WebPath → Child → Transfer

@@ -7,6 +7,7 @@ pub mod Putting
 pub mod Reading
 pub mod Removing
 pub mod Weights
+pub mod Walking
 pub mod Answers
 pub mod Follows
 pub mod Changing

@@ -1,8 +1,7 @@
 -- How much work is left at most, by which a walk ends over any store: a directory weighs more than so many members as
--- memory has room for, and it itself once it has lost them.
-use Rattle.std.specs.Prelude.{◌+◌, ◌-◌, ◌*◌, ◌^◌, ℕ, zero, suc, List, [], ◌∷◌, map, length, true, false}
+-- memory has room for, and it itself once it has lost them. What a walk that copies has left weighs the same.
+use Rattle.std.specs.Prelude.{◌+◌, ◌-◌, ◌*◌, ◌^◌, ℕ, zero, suc, List, [], ◌∷◌, length, true, false}
 use Rattle.dav_core.specs.DavPath.{WebPath}
-use Rattle.dav_methods.specs.declared.transfer.Transfer.{Transfer}
 use Rattle.dav_methods.specs.declared.work.Work.{Work}
 use Rattle.dav_methods.specs.declared.work.Work.TheVariants.{Emptied, Whole}
 
@@ -22,7 +21,3 @@ weight_of (Emptied path) = 1
 abbrev pub weight : List Work → ℕ
 weight [] = 0
 weight (work ∷ works) = weight_of work + weight works
-
--- Copies that are left weigh what their sources would.
-abbrev pub load : List Transfer → ℕ
-load works = weight (map (λ x. Whole x.from x.dir) works)

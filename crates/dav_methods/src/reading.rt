@@ -1,60 +1,37 @@
 // The members of a directory, for the methods that walk. Nothing is passed over.
-ghost use Rattle.std.specs.Prelude.{◌≡◌, ◌++◌, ◌∷◌, [], Result, MatchResult, IfOk, OnOk, true};
+ghost use Rattle.std.specs.Prelude.{◌≡◌, ◌++◌, ◌∷◌, [], Result, MatchResult, OnOk, true};
 ghost use Rattle.std.specs.List.Sorted.{IsPermutation, IsSortedByKey};
 ghost use Rattle.std.specs.Cmp.Lexicographic.{slice_cmp};
 ghost use Rattle.std.specs.Ordering.{nat_cmp};
 ghost use Rattle.dav_core.specs.declared.error.FsError.{FsError};
+ghost use Rattle.dav_core.specs.DavPath.{WebPath};
 ghost use Rattle.dav_core.specs.Info.{Info};
 ghost use Rattle.dav_core.specs.Path.{is_plain};
 ghost use Rattle.dav_core.specs.Unchanged.{Keeps};
 ghost use Rattle.dav_store.specs.Listings.{HasLister, KeepsButLister};
 ghost use Rattle.dav_store.specs.View.{the_listings, the_view};
-ghost use Rattle.dav_methods.specs.Reading.{AddsChild, HasMembers, HasNoMembers, Listed, ReadRefused, ReadsAll, child_named};
+ghost use Rattle.dav_methods.specs.Reading.{AddsChild, HasMembers, HasNoMembers, Listed, ReadRefused, ReadsAll};
+ghost use Rattle.dav_methods.specs.Walking.{members_at};
 
-use crate::child::Child;
+use crate::member::Member;
+use crate::name::Name;
 use dav_core::{DavMetaData, DavPath, FsError};
-use dav_io::{NoMemory, Text};
+use dav_io::NoMemory;
 use dav_store::{DavDirEntry, GuardedFileSystem, ReadDirMeta, entry_metadata};
 use std::alloc::Global;
 
-// The path of the member of this name, which is plain.
-pub fn member_path(path: &DavPath, name: &str, dir: bool) -> Result<DavPath, NoMemory>
-    requires { is_plain name.now ≡ true }
-    ensures { IfOk result (λ below. below ≡ (child_named path.now name.now dir).path) }
-{
-    let mut below = path.try_clone()?;
-    below.push_segment(name)?;
-    if dir {
-        below.add_slash();
-    }
-    Ok(below)
-}
-
-// The member of this name, which is plain.
-fn child(alloc: Global, path: &DavPath, name: &str, dir: bool) -> Result<Child, NoMemory>
-    requires { is_plain name.now ≡ true }
-    ensures { IfOk result (λ c. c ≡ child_named path.now name.now dir) }
-{
-    Ok(Child {
-        name: Text::copy(alloc, name)?,
-        path: member_path(path, name, dir)?,
-        dir,
-    })
-}
-
-// Adds the member of this name.
-fn push_child(
+// Adds the member of this name, which is plain.
+fn push_member(
     alloc: Global,
-    path: &DavPath,
     name: &str,
     dir: bool,
-    members: &mut Vec<Child>,
+    members: &mut Vec<Member>,
 ) -> Result<(), NoMemory>
     requires { is_plain name.now ≡ true }
-    ensures { OnOk result (members.new.items ≡ members.old.items ++ child_named path.now name.now dir ∷ []) }
+    ensures { OnOk result (members.new.items ≡ members.old.items ++ record { name = name.now; dir = dir } ∷ []) }
 {
-    let child = child(alloc, path, name, dir)?;
-    members.push(child)?;
+    let name = Name::copy(alloc, name)?;
+    members.push(Member { name, dir })?;
     Ok(())
 }
 
@@ -62,21 +39,21 @@ fn push_child(
 fn add_child<S: GuardedFileSystem<C>, C>(
     alloc: Global,
     fs: &mut S,
-    path: &DavPath,
     entry: &S::Entry,
-    members: &mut Vec<Child>,
+    members: &mut Vec<Member>,
 ) -> Result<(), FsError>
     requires admits { S.admits fs.old }
     ensures told { (said : Result Info FsError)
         × S.Entry.says entry.now (S.Disk.state (S.inside fs.old)) said (S.Disk.state (S.inside fs.new))
-        × AddsChild path.now (S.Entry.called entry.now) said members.old.items result members.new.items }
+        × ((path : WebPath) → AddsChild path (S.Entry.called entry.now) said (members_at path members.old.items) result
+        (members_at path members.new.items)) }
     ensures store { fs.new ≡ S.with_disk fs.old (S.inside fs.new) }
     ensures keeps { Keeps (S.Disk.state (S.inside fs.old)) (S.Disk.state (S.inside fs.new)) }
     ensures admits { S.admits fs.new }
     ensures loan { S.Disk.loan (S.inside fs.new) ≡ S.Disk.loan (S.inside fs.old) }
 {
     match entry_metadata::<S, C>(fs, entry) {
-        Ok(meta) => match push_child(alloc, path, entry.name(), meta.is_dir(), members) {
+        Ok(meta) => match push_member(alloc, entry.name(), meta.is_dir(), members) {
             Ok(()) => Ok(()),
             Err(_) => Err(FsError::NoMemory),
         },
@@ -88,14 +65,14 @@ fn add_child<S: GuardedFileSystem<C>, C>(
 fn read_to_end<S: GuardedFileSystem<C>, C>(
     alloc: Global,
     fs: &mut S,
-    path: &DavPath,
     dir: &mut S::Dir,
-) -> Result<Vec<Child>, FsError>
+) -> Result<Vec<Member>, FsError>
     requires live { HasLister (S.Disk.state (S.inside fs.old)) (S.lister dir.old) }
     requires admits { S.admits fs.old }
-    ensures reads { MatchResult result
+    ensures reads { (path : WebPath) → MatchResult result
         (λ members. ReadsAll (the_view S.GuardedFileSystem S.Disk.Disk S.File.DavFile)
-        (the_listings S.GuardedFileSystem S.Entry.DavDirEntry) fs.old dir.old path.now members.items fs.new dir.new)
+        (the_listings S.GuardedFileSystem S.Entry.DavDirEntry) fs.old dir.old path (members_at path members.items)
+        fs.new dir.new)
         (λ e. ReadRefused (the_view S.GuardedFileSystem S.Disk.Disk S.File.DavFile)
         (the_listings S.GuardedFileSystem S.Entry.DavDirEntry) fs.old dir.old e fs.new dir.new) }
     ensures live { HasLister (S.Disk.state (S.inside fs.new)) (S.lister dir.new) }
@@ -110,7 +87,7 @@ fn read_to_end<S: GuardedFileSystem<C>, C>(
         match fs.next_entry(dir) {
             Ok(None) => return Ok(members),
             Ok(Some(entry)) => {
-                match add_child::<S, C>(alloc, fs, path, &entry, &mut members) {
+                match add_child::<S, C>(alloc, fs, &entry, &mut members) {
                     Ok(()) => {}
                     Err(refusal) => return Err(refusal),
                 }
@@ -126,11 +103,12 @@ fn read_listing<S: GuardedFileSystem<C>, C>(
     fs: &mut S,
     credentials: &C,
     path: &DavPath,
-) -> Result<Vec<Child>, FsError>
+) -> Result<Vec<Member>, FsError>
     requires admits { S.admits fs.old }
     ensures read { MatchResult result
         (λ members. Listed (the_view S.GuardedFileSystem S.Disk.Disk S.File.DavFile)
-        (the_listings S.GuardedFileSystem S.Entry.DavDirEntry) fs.old credentials.now path.now members.items fs.new)
+        (the_listings S.GuardedFileSystem S.Entry.DavDirEntry) fs.old credentials.now path.now
+        (members_at path.now members.items) fs.new)
         (λ e. HasNoMembers (the_view S.GuardedFileSystem S.Disk.Disk S.File.DavFile)
         (the_listings S.GuardedFileSystem S.Entry.DavDirEntry) fs.old credentials.now path.now e fs.new) }
     ensures keeps { Keeps (S.Disk.state (S.inside fs.old)) (S.Disk.state (S.inside fs.new)) }
@@ -141,31 +119,32 @@ fn read_listing<S: GuardedFileSystem<C>, C>(
         Ok(dir) => dir,
         Err(refusal) => return Err(refusal),
     };
-    let read = read_to_end(alloc, fs, path, &mut dir);
+    let read = read_to_end(alloc, fs, &mut dir);
     fs.end_dir(dir);
     read
 }
 
 // Brings members into the order of their names.
-fn sort(members: &mut Vec<Child>) -> Result<(), NoMemory>
+fn sort(members: &mut Vec<Member>) -> Result<(), NoMemory>
     ensures each_once { OnOk result (IsPermutation members.old.items members.new.items) }
     ensures in_order { OnOk result (IsSortedByKey (λ m. m.name) (slice_cmp nat_cmp) members.new.items) }
 {
-    members.sort_by(|one, other| one.name.cmp(&other.name))?;
+    members.sort_by(|one, other| one.name.as_text().cmp(other.name.as_text()))?;
     Ok(())
 }
 
 // The members of the directory at a path, in the order of their names, by bytes.
-pub fn read_children<S: GuardedFileSystem<C>, C>(
+pub fn read_members<S: GuardedFileSystem<C>, C>(
     alloc: Global,
     fs: &mut S,
     credentials: &C,
     path: &DavPath,
-) -> Result<Vec<Child>, FsError>
+) -> Result<Vec<Member>, FsError>
     requires admits { S.admits fs.old }
     ensures read { MatchResult result
         (λ members. HasMembers (the_view S.GuardedFileSystem S.Disk.Disk S.File.DavFile)
-        (the_listings S.GuardedFileSystem S.Entry.DavDirEntry) fs.old credentials.now path.now members.items fs.new)
+        (the_listings S.GuardedFileSystem S.Entry.DavDirEntry) fs.old credentials.now path.now
+        (members_at path.now members.items) fs.new)
         (λ e. HasNoMembers (the_view S.GuardedFileSystem S.Disk.Disk S.File.DavFile)
         (the_listings S.GuardedFileSystem S.Entry.DavDirEntry) fs.old credentials.now path.now e fs.new) }
     ensures keeps { Keeps (S.Disk.state (S.inside fs.old)) (S.Disk.state (S.inside fs.new)) }

@@ -1,20 +1,21 @@
 //! DELETE: what stands at a path is removed, a directory's members before it.
-ghost use Rattle.std.specs.Prelude.{◌≡◌, ◌<◌, ◌∷◌, [], true, Ok, IfOk, OnOk, Result};
+ghost use Rattle.std.specs.Prelude.{◌≡◌, ◌<◌, ◌∷◌, [], List, true, Ok, Result};
 ghost use Rattle.dav_core.specs.declared.error.FsError.{FsError};
 ghost use Rattle.dav_store.specs.Frames.{KeepsOpen};
 ghost use Rattle.dav_store.specs.View.{the_listings, the_view};
-ghost use Rattle.dav_methods.specs.Removing.{Deletes, Removes, RemovesAll, RemovesOne, is_deep as the_is_deep, is_root as the_is_root, line_of as the_line_of, works_in};
+ghost use Rattle.dav_methods.specs.Removing.{Deletes, Removes, RemovesAll, is_deep as the_is_deep, is_root as the_is_root, line_of as the_line_of};
 ghost use Rattle.dav_methods.specs.Table.{Next, Unless};
-ghost use Rattle.dav_methods.specs.declared.work.Work.TheVariants.{Whole};
+ghost use Rattle.dav_methods.specs.Walking.{OpensPending, RemovesOn, works_at};
 ghost use Rattle.dav_methods.specs.Weights.{weight};
+ghost use Rattle.dav_methods.specs.declared.pending.Pending.TheVariants.{Below};
+ghost use Rattle.dav_methods.specs.declared.work.Work.{Work};
+ghost use Rattle.dav_methods.specs.declared.work.Work.TheVariants.{Emptied, Whole};
 
-use crate::child::Child;
 use crate::lines::may_delete_it;
+use crate::member::Member;
 use crate::outcomes::{answer, silent};
-use crate::reading::read_children;
-use crate::work::Work;
+use crate::pending::{Pending, go_down, read_pending};
 use dav_core::{DavError, DavMetaData, DavPath, FsError};
-use dav_io::NoMemory;
 use dav_model::Outcome;
 use dav_store::GuardedFileSystem;
 use http::{HeaderMap, StatusCode};
@@ -41,58 +42,26 @@ pub fn is_deep(path: &DavPath) -> bool
     path.names().as_slice().len() > MOST_NAMES
 }
 
-// Puts the members of a directory, and it itself behind them, before the work.
-fn push_members(
-    path: DavPath,
-    members: Vec<Child>,
-    works: &mut VecDeque<Work>,
-) -> Result<(), NoMemory>
-    ensures { OnOk result (works.new.items ≡ works_in path members.items works.old.items) }
-{
-    let mut members = members;
-    works.push_front(Work::Emptied(path))?;
-    'members: while let Some(member) = members.pop() {
-        let Child {
-            name: _name,
-            path,
-            dir,
-        } = member;
-        works.push_front(Work::Whole(path, dir))?;
-    }
-    Ok(())
-}
-
-// Puts the members of a directory before the work.
+// Puts the members of a directory before what is pending.
 fn open_dir<S: GuardedFileSystem<C>, C>(
     alloc: Global,
     fs: &mut S,
     credentials: &C,
-    path: DavPath,
-    works: &mut VecDeque<Work>,
+    path: &DavPath,
+    works: &mut VecDeque<Pending>,
 ) -> Result<(), DavError>
     requires admits { S.admits fs.old }
-    ensures removes { RemovesOne (the_view S.GuardedFileSystem S.Disk.Disk S.File.DavFile)
-        (the_listings S.GuardedFileSystem S.Entry.DavDirEntry) credentials.now (Whole path true) works.old.items
-        fs.old result fs.new works.new.items }
-    ensures lighter { result ≡ Ok tt → weight works.new.items < weight (Whole path true ∷ works.old.items) }
+    ensures opens { OpensPending (the_view S.GuardedFileSystem S.Disk.Disk S.File.DavFile)
+        (the_listings S.GuardedFileSystem S.Entry.DavDirEntry) credentials.now path.now works.old.items fs.old
+        result fs.new works.new.items }
     ensures keeps { KeepsOpen (S.Disk.state (S.inside fs.old)) (S.Disk.state (S.inside fs.new)) }
     ensures admits { S.admits fs.new }
     ensures loan { S.Disk.loan (S.inside fs.new) ≡ S.Disk.loan (S.inside fs.old) }
 {
-    if is_deep(&path) {
+    if is_deep(path) {
         return Err(DavError::Status(StatusCode::FORBIDDEN));
     }
-    let members = match read_children(alloc, fs, credentials, &path) {
-        Ok(members) => members,
-        Err(refusal) => return Err(DavError::from(refusal)),
-    };
-    if works.reserve(members.as_slice().len()).is_err() {
-        return Err(DavError::NoMemory);
-    }
-    let Ok(()) = push_members(path, members, works) else {
-        return Err(DavError::NoMemory);
-    };
-    Ok(())
+    read_pending(alloc, fs, credentials, path, works)
 }
 
 // Removes what stands at a path and is no directory.
@@ -127,37 +96,129 @@ fn remove_dir<S: GuardedFileSystem<C>, C>(
     line_of(fs.remove_dir(path, credentials))
 }
 
-// Does the first of the work.
+// Goes down to a member: a file is removed there, and of a directory the members come before what is pending.
+fn remove_member<S: GuardedFileSystem<C>, C>(
+    alloc: Global,
+    fs: &mut S,
+    credentials: &C,
+    path: &mut DavPath,
+    member: &Member,
+    works: &mut VecDeque<Pending>,
+) -> Result<(), DavError>
+    requires admits { S.admits fs.old }
+    requires slash { path.old.slash ≡ true }
+    ensures removes { (last : List Work) → RemovesOn (the_view S.GuardedFileSystem S.Disk.Disk S.File.DavFile)
+        (the_listings S.GuardedFileSystem S.Entry.DavDirEntry) credentials.now
+        (works_at path.old (Below member.now ∷ works.old.items) last) fs.old result fs.new
+        (works_at path.new works.new.items last) }
+    ensures slash { result ≡ Ok tt → path.new.slash ≡ true }
+    ensures lighter { result ≡ Ok tt → weight (works_at path.new works.new.items [])
+        < weight (works_at path.old (Below member.now ∷ works.old.items) []) }
+    ensures keeps { KeepsOpen (S.Disk.state (S.inside fs.old)) (S.Disk.state (S.inside fs.new)) }
+    ensures admits { S.admits fs.new }
+    ensures loan { S.Disk.loan (S.inside fs.new) ≡ S.Disk.loan (S.inside fs.old) }
+{
+    let Ok(()) = go_down(path, member) else {
+        return Err(DavError::NoMemory);
+    };
+    if !member.dir {
+        let gone = remove_file(fs, credentials, path);
+        path.pop_segment();
+        return gone;
+    }
+    let Ok(()) = works.push_front(Pending::Up) else {
+        return Err(DavError::NoMemory);
+    };
+    open_dir(alloc, fs, credentials, path, works)
+}
+
+// Does the first of what is pending.
 fn remove_one<S: GuardedFileSystem<C>, C>(
     alloc: Global,
     fs: &mut S,
     credentials: &C,
-    work: Work,
-    works: &mut VecDeque<Work>,
+    path: &mut DavPath,
+    work: Pending,
+    works: &mut VecDeque<Pending>,
 ) -> Result<(), DavError>
     requires admits { S.admits fs.old }
-    ensures removes { RemovesOne (the_view S.GuardedFileSystem S.Disk.Disk S.File.DavFile)
-        (the_listings S.GuardedFileSystem S.Entry.DavDirEntry) credentials.now work works.old.items fs.old result
-        fs.new works.new.items }
-    ensures lighter { result ≡ Ok tt → weight works.new.items < weight (work ∷ works.old.items) }
+    requires slash { path.old.slash ≡ true }
+    ensures removes { (last : List Work) → RemovesOn (the_view S.GuardedFileSystem S.Disk.Disk S.File.DavFile)
+        (the_listings S.GuardedFileSystem S.Entry.DavDirEntry) credentials.now
+        (works_at path.old (work ∷ works.old.items) last) fs.old result fs.new
+        (works_at path.new works.new.items last) }
+    ensures slash { result ≡ Ok tt → path.new.slash ≡ true }
+    ensures lighter { result ≡ Ok tt → weight (works_at path.new works.new.items [])
+        < weight (works_at path.old (work ∷ works.old.items) []) }
     ensures keeps { KeepsOpen (S.Disk.state (S.inside fs.old)) (S.Disk.state (S.inside fs.new)) }
     ensures admits { S.admits fs.new }
     ensures loan { S.Disk.loan (S.inside fs.new) ≡ S.Disk.loan (S.inside fs.old) }
 {
     match work {
-        Work::Whole(path, true) => open_dir(alloc, fs, credentials, path, works),
-        Work::Whole(path, false) => remove_file(fs, credentials, &path),
-        Work::Emptied(path) => remove_dir(fs, credentials, &path),
+        Pending::Below(member) => remove_member(alloc, fs, credentials, path, &member, works),
+        Pending::Up => {
+            let gone = remove_dir(fs, credentials, path);
+            path.pop_segment();
+            gone
+        }
     }
 }
 
-// The work of removing what stands at a path.
-fn first_work(alloc: Global, path: &DavPath, dir: bool) -> Result<VecDeque<Work>, NoMemory>
-    ensures { IfOk result (λ works. works.items ≡ Whole path.now dir ∷ []) }
+// Does all that is pending.
+fn remove_pending<S: GuardedFileSystem<C>, C>(
+    alloc: Global,
+    fs: &mut S,
+    credentials: &C,
+    path: DavPath,
+    works: VecDeque<Pending>,
+) -> Result<(), DavError>
+    requires admits { S.admits fs.old }
+    requires slash { path.slash ≡ true }
+    ensures removes { (last : List Work) → RemovesOn (the_view S.GuardedFileSystem S.Disk.Disk S.File.DavFile)
+        (the_listings S.GuardedFileSystem S.Entry.DavDirEntry) credentials.now
+        (works_at path works.items last) fs.old result fs.new last }
+    ensures keeps { KeepsOpen (S.Disk.state (S.inside fs.old)) (S.Disk.state (S.inside fs.new)) }
+    ensures admits { S.admits fs.new }
+    ensures loan { S.Disk.loan (S.inside fs.new) ≡ S.Disk.loan (S.inside fs.old) }
 {
+    let mut path = path;
+    let mut works = works;
+    'works: loop {
+        match works.pop_front() {
+            Some(work) => match remove_one(alloc, fs, credentials, &mut path, work, &mut works) {
+                Ok(()) => {}
+                Err(error) => return Err(error),
+            },
+            None => return Ok(()),
+        }
+    }
+}
+
+// Removes all that stands below a directory. The path of the walk ends with a slash, as each directory's has that it
+// comes to; the one that it begins with may have none.
+fn empty_dir<S: GuardedFileSystem<C>, C>(
+    alloc: Global,
+    fs: &mut S,
+    credentials: &C,
+    path: &DavPath,
+) -> Result<(), DavError>
+    requires admits { S.admits fs.old }
+    ensures removes { RemovesOn (the_view S.GuardedFileSystem S.Disk.Disk S.File.DavFile)
+        (the_listings S.GuardedFileSystem S.Entry.DavDirEntry) credentials.now (Whole path.now true ∷ []) fs.old
+        result fs.new (Emptied path.now ∷ []) }
+    ensures keeps { KeepsOpen (S.Disk.state (S.inside fs.old)) (S.Disk.state (S.inside fs.new)) }
+    ensures admits { S.admits fs.new }
+    ensures loan { S.Disk.loan (S.inside fs.new) ≡ S.Disk.loan (S.inside fs.old) }
+{
+    let Ok(mut below) = path.try_clone() else {
+        return Err(DavError::NoMemory);
+    };
+    below.add_slash();
     let mut works = VecDeque::new(alloc);
-    works.push_front(Work::Whole(path.try_clone()?, dir))?;
-    Ok(works)
+    match open_dir(alloc, fs, credentials, path, &mut works) {
+        Ok(()) => remove_pending(alloc, fs, credentials, below, works),
+        Err(error) => Err(error),
+    }
 }
 
 // Removes what stands at a path, a directory with all below it.
@@ -176,17 +237,12 @@ pub fn remove_all<S: GuardedFileSystem<C>, C>(
     ensures admits { S.admits fs.new }
     ensures loan { S.Disk.loan (S.inside fs.new) ≡ S.Disk.loan (S.inside fs.old) }
 {
-    let Ok(mut works) = first_work(alloc, path, dir) else {
-        return Err(DavError::NoMemory);
-    };
-    'works: loop {
-        match works.pop_front() {
-            Some(work) => match remove_one(alloc, fs, credentials, work, &mut works) {
-                Ok(()) => {}
-                Err(error) => return Err(error),
-            },
-            None => return Ok(()),
-        }
+    if !dir {
+        return remove_file(fs, credentials, path);
+    }
+    match empty_dir(alloc, fs, credentials, path) {
+        Ok(()) => remove_dir(fs, credentials, path),
+        Err(error) => Err(error),
     }
 }
 

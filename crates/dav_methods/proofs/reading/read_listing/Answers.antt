@@ -2,6 +2,7 @@ use Rattle.std.proofs.Common.{inl, inr, subst}
 use Rattle.dav_store.specs.Listings.{EndsList}
 use Rattle.dav_store.specs.View.{the_listings, the_view}
 use Rattle.dav_store.proofs.Walking.{walk_leaves}
+use Rattle.dav_methods.specs.Walking.{members_at}
 use Rattle.dav_methods.proofs.MembersRead.{listed_by}
 use Rattle.dav_methods.proofs.reading.read_listing.Goals as goal
 
@@ -20,7 +21,7 @@ returns-clause-read g c =
     let ended = subst (λ own. EndsList (g.S.Disk.Disk.state (g.S.GuardedFileSystem.inside c.read_to_end-read.new.fs)) own
     (g.S.Disk.Disk.state (g.S.GuardedFileSystem.inside c.end_dir.new.self)))
     c.read_to_end-read.ensures.lister c.end_dir.ensures.ends in
-    listed_by (the_view g.S.GuardedFileSystem g.S.Disk.Disk g.S.File.DavFile) (the_listings g.S.GuardedFileSystem g.S.Entry.DavDirEntry) (λ members. members.items) c.args.fs.now
+    listed_by (the_view g.S.GuardedFileSystem g.S.Disk.Disk g.S.File.DavFile) (the_listings g.S.GuardedFileSystem g.S.Entry.DavDirEntry) (λ members. members_at c.args.path.now members.items) c.args.fs.now
     c.read_dir.new.self c.read_to_end-read.new.fs c.end_dir.new.self c.args.credentials.now c.args.path.now c.in-Ok.dir c.read_to_end-read.new.dir c.read_to_end-read.result
-    c.in-Ok.ensures.done c.read_to_end-read.ensures.reads c.end_dir.ensures.done
+    c.in-Ok.ensures.done (c.read_to_end-read.ensures.reads c.args.path.now) c.end_dir.ensures.done
     (walk_leaves (g.S.GuardedFileSystem.lister c.in-Ok.dir) _ _ _ _ c.in-Ok.ensures.one c.read_to_end-read.ensures.keeps ended)

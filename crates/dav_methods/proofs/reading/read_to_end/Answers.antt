@@ -1,8 +1,9 @@
-use Rattle.std.proofs.Common.{[], ◌++◌, ◌∷◌, refl, ◌∙◌}
+use Rattle.std.proofs.Common.{[], ◌++◌, ◌∷◌, ap, inl, inr, refl, ◌∙◌}
 use Rattle.dav_store.specs.Members.{begun, goes}
 use Rattle.dav_store.specs.View.{the_listings, the_view}
 use Rattle.dav_store.proofs.Reading.{lister_kept, step_keeps}
 use Rattle.dav_store.proofs.Walking.{walk_same}
+use Rattle.dav_methods.specs.Walking.{members_at}
 use Rattle.dav_methods.proofs.MembersRead.{entry_refused, none_told, told_then}
 use Rattle.dav_methods.proofs.reading.read_to_end.Goals as goal
 
@@ -13,7 +14,7 @@ entries-init g c = record {
   lister = refl;
   keeps = walk_same _ _;
   loan = refl;
-  walk = ([], begun, none_told c.args.path.now _ c.new-members.ensures.items);
+  walk = ([], begun, λ path. none_told path (members_at path c.new-members.result.items) (ap (members_at path) c.new-members.ensures.items));
 }
 
 pub entries-preserved : goal.entries-preserved
@@ -34,20 +35,26 @@ entries-preserved g c =
         answers ++ record { name = name; meta = r } ∷ [],
         goes answers c.entries.fs c.next_entry.new.self c.add_child.new.fs c.entries.dir c.next_entry.new.dir c.in-Ok-Some.entry r before.walk.1
             (rw c.in-Ok-Some.field-0-is at c.in-Ok-Some.ensures.done) added.told.1 added.store added.keeps,
-        told_then c.args.path.now answers name r c.entries.members.items c.add_child.new.members.items before.walk.2 added.told.2,
+        λ path. told_then path answers name r (members_at path c.entries.members.items) (members_at path c.add_child.new.members.items) (before.walk.2 path) (added.told.2 path),
       );
     }
 
+pub returns-in-Err-clause-reads : goal.returns-in-Err-clause-reads
+returns-in-Err-clause-reads g c = λ path.
+    let before = c.entries.invariant in
+    inr (inl (before.walk.0, c.entries.fs, c.entries.dir, before.walk.1, (before.walk.2 path).said, c.in-Err.ensures.done))
+
 pub returns-in-Err-add_child-clause-reads : goal.returns-in-Err-add_child-clause-reads
-returns-in-Err-add_child-clause-reads g c =
+returns-in-Err-add_child-clause-reads g c = λ path.
     let before = c.entries.invariant in
     let told = c.in-Err-add_child.ensures.told in
     let name = g.S.Entry.DavDirEntry.called c.in-Ok-Some.entry in
     entry_refused (the_view g.S.GuardedFileSystem g.S.Disk.Disk g.S.File.DavFile) (the_listings g.S.GuardedFileSystem g.S.Entry.DavDirEntry) c.args.fs.now c.add_child.new.fs
-    c.args.dir.now c.next_entry.new.dir c.args.path.now before.walk.0 name told.0 c.entries.members.items c.add_child.new.members.items c.in-Err-add_child.refusal before.walk.2
+    c.args.dir.now c.next_entry.new.dir path before.walk.0 name told.0 (members_at path c.entries.members.items) (members_at path c.add_child.new.members.items)
+    c.in-Err-add_child.refusal (before.walk.2 path)
     (goes before.walk.0 c.entries.fs c.next_entry.new.self c.add_child.new.fs c.entries.dir c.next_entry.new.dir c.in-Ok-Some.entry told.0 before.walk.1
     (rw c.in-Ok-Some.field-0-is at c.in-Ok-Some.ensures.done) told.1 c.in-Err-add_child.ensures.store c.in-Err-add_child.ensures.keeps)
-    told.2
+    (told.2 path)
 
 pub returns-in-Err-add_child-clause-keeps : goal.returns-in-Err-add_child-clause-keeps
 returns-in-Err-add_child-clause-keeps g c =

@@ -1,7 +1,9 @@
 use Rattle.std.proofs.Common.{◌≡◌, List}
+use Rattle.dav_core.specs.DavPath.{WebPath}
 use Rattle.dav_store.specs.Listings.{HasLister, KeepsButLister, left_of}
 use Rattle.dav_store.specs.Members.{Answered, Walked}
 use Rattle.dav_store.specs.View.{the_listings, the_view}
+use Rattle.dav_methods.specs.Walking.{members_at}
 use Rattle.dav_methods.proofs.MembersRead.{ToldSoFar}
 use Rattle.dav_methods.proofs.reading.read_to_end.Given as goal
 
@@ -14,7 +16,7 @@ invariant-entries g l = record {
       (g.S.Disk.Disk.state (g.S.GuardedFileSystem.inside l.fs));
   loan : g.S.Disk.Disk.loan (g.S.GuardedFileSystem.inside l.fs) ≡ g.S.Disk.Disk.loan (g.S.GuardedFileSystem.inside l.initial.fs);
   walk : (answers : List Answered) × Walked (the_view g.S.GuardedFileSystem g.S.Disk.Disk g.S.File.DavFile) (the_listings g.S.GuardedFileSystem g.S.Entry.DavDirEntry)
-      l.initial.fs l.initial.dir answers l.fs l.dir × ToldSoFar l.path answers l.members.items;
+      l.initial.fs l.initial.dir answers l.fs l.dir × ((path : WebPath) → ToldSoFar path answers (members_at path l.members.items));
 }
 
 abbrev pub decreases-entries : goal.decreases-entries
