@@ -407,8 +407,8 @@ LookUpsAreEvents call =
     (found : Option (Names × _)) (new : PathCache)
     → slice_get s.places caller ≡ Some Idle → before.told ≡ Some w → w.tree ≡ s.tree
     → ((e : PathEntry) → lookup (same_path (fold_path path)) s.paths ≡ Some e → is_linked w.tree e.path ≡ false)
-    → LooksBy call (lookup (same_path (fold_path path)) s.paths) (record { entries = s.paths; size = s.paths_size }) path
-    before found new after
+    → LooksBy call (lookup (same_path (fold_path path)) s.paths)
+    (record { entries = s.paths; size = s.paths_size }) path before found new after
     → GetIsEvents s caller path (option_map (λ f. f.0) found) new.entries
 
 -- Such calls are `get`, and `get_open`, of which the opening is the Probe.

@@ -108,7 +108,8 @@ impl Cache {
         path: &FsPath,
         disk: &mut D,
     ) -> Result<Option<(FsPath, Handle)>, NoMemory>
-        ensures looked { IfOk result (λ found. LooksBy Opening (lookup (same_path (fold_path path.now)) self.old.entries)
+        ensures looked { IfOk result (λ found. LooksBy Opening
+            (lookup (same_path (fold_path path.now)) self.old.entries)
             self.old path.now (D.state disk.old) found self.new (D.state disk.new)) }
         ensures folds { IfOk result (λ found. IfSome found (λ f. fold_path f.0 ≡ fold_path path.now)) }
         ensures err { OnErr result (self.new ≡ self.old) }

@@ -61,9 +61,12 @@ EndsGathering b now p d result q e = (sealed : Result Unit Starved) × (c : Buil
     × Finishes (λ m. m) b.finished (site_of b p) now sealed (site_of c q)
     × (q.ways ≡ p.ways) × (result ≡ at_end sealed) × (e ≡ record d { builder = Some c })
 
+-- how a listing goes on by a moment, with what is answered
+abbrev pub ListingStep : Type 1
+ListingStep = Moment → Place → LocalFsReadDir → Result (Option LocalFsDirEntry) FsError → Place → LocalFsReadDir → Type 0
+
 -- what follows an answer of the disk's listing
-abbrev pub AfterNext : Option BuilderState → Result (Option LocalFsDirEntry) FsError → Moment → Place → LocalFsReadDir
-    → Result (Option LocalFsDirEntry) FsError → Place → LocalFsReadDir → Type 0
+abbrev pub AfterNext : Option BuilderState → Result (Option LocalFsDirEntry) FsError → ListingStep
 AfterNext None given now p d result q e = (result ≡ given) × (q ≡ p) × (e ≡ d)
 AfterNext (Some b) (Ok (Some entry)) now p d result q e = (q ≡ p) × Gathers b entry d result e
 AfterNext (Some b) (Ok None) now p d result q e = EndsGathering b now p d result q e

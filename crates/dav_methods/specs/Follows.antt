@@ -198,13 +198,17 @@ module _ {S C F L E : Type 0} (view : View S C F) (lists : Listings S C L E) (wr
 
   -- ---- what a method over such a store makes of its world
 
+  -- a store before and after what it is answered with, and its told world before and after
+  abbrev pub Turn : Type 1
+  Turn = S → Given → S → World → World → Type 0
+
   -- What is answered to a request, and what it makes of the told world, is what its plan says, where it meets no link.
-  abbrev pub RightIn : Rules → Ask → S → Given → S → World → World → Type 0
+  abbrev pub RightIn : Rules → Ask → Turn
   RightIn rules ask s r t v w = (result : Result Reply Wanting) → answer_or ask.fields r result
       → meets_link ask.method v.tree (resolved rules v.tree ask.path.names) ≡ false
       → EndsAs ask.fields (plan rules v ask) result (Rose (view.state s).faults (view.state t).faults) v w
 
   -- the same of a COPY or a MOVE, whose plan is by what its fields ask for
-  abbrev pub CarriedIn : Rules → Bool → Ask → S → Given → S → World → World → Type 0
+  abbrev pub CarriedIn : Rules → Bool → Ask → Turn
   CarriedIn rules moves ask s r t v w = (result : Result Reply Wanting) → answer_or ask.fields r result
       → CarriesIn rules moves ask result (Rose (view.state s).faults (view.state t).faults) v w

@@ -55,8 +55,12 @@ module _ {S C F : Type 0} (view : View S C F) (writes : Writes F) where
     goes : (bytes piece : List ℕ) (m n : S) (g h : F) (k j : BodyState) → Poured s f b bytes m g k
         → GivesPiece k (Ok (Some piece)) j → WritesFile m g piece (Ok tt) n h → Poured s f b (bytes ++ piece) n h j
 
+  -- how a file and a reader go on, in a store, with a line of the table at the end
+  abbrev pub Flow : Type 1
+  Flow = S → F → BodyState → Line → S → F → BodyState → Type 0
+
   -- What came after so many bytes: the end of the body, a fault of the reader, or a piece that was refused.
-  abbrev pub Stops : ℕ → S → F → BodyState → Line → S → F → BodyState → Type 0
+  abbrev pub Stops : ℕ → Flow
   Stops total s f b (Ok x) t h n = GivesPiece b (Ok None) n × (t ≡ s) × (h ≡ f)
   Stops total s f b (Err e) t h n = ((failed : Failed) × GivesPiece b (Err failed) n × (e ≡ Body) × (t ≡ s) × (h ≡ f))
       ⊎ ((piece : List ℕ) × GivesPiece b (Ok (Some piece)) n × RefusesPiece total s f piece e t h)
