@@ -53,6 +53,9 @@ module _ {S C F L E : Type 0} (view : View S C F) (lists : Listings S C L E) (q 
       → IsHead q d (reply_at {F = F} q.fields (or_zero number) result) ⊎ (IsSpoiled q d (reply_at {F = F} q.fields (or_zero number) result) × Risen) → Fits d
   fits_at d number named is = subst (λ r. IsHead q d r ⊎ (IsSpoiled q d r × Risen)) (same number named) is
 
+  settled_fits : (d : Due) (k : ℕ) → Settled view q s result t life k d → Fits d
+  settled_fits d k settled = fits_at d (Some k) settled.named settled.right
+
   -- what was heard to be due
   pub heard_fits : (d : Due) (number : Option ℕ) → IsOfNumber view number t result → Heard d number → Fits d
   heard_fits d number named is = fits_at d number named (placed q d Risen (reply_at {F = F} q.fields (or_zero number) result) is)
