@@ -116,6 +116,11 @@ refuses_from T e s m t le (inl could) = inl could
 refuses_from T e s m t le (inr (inl (is, rose))) = inr (inl (is, rose_from s.faults m.faults t.faults le rose))
 refuses_from T e s m t le (inr (inr none)) = inr (inr none)
 
+-- what a path that wasn't found is refused with
+unfound : (T : Type 0) (e f : FsError) (s m t : DiskState) → e ≡ f → t ≡ m → Spoiled {T = Names} s (Err f) m → Refuses T e s t
+unfound T e f s m t is same (inl (general, rose)) = inr (inl (cc, subst (λ (x : DiskState). Rose s.faults x.faults) (sym same) rose))
+unfound T e f s m t is same (inr none) = inr (inr cc)
+
 finds_refuse : (T : Type 0) (p q : Place) (names : Names) (call : Names → Place → Result T FsError → Place → Type 0) (e : FsError)
     → ((at : Names) (k : Place) → call at k (Err e) q → Refuses T e k.disk q.disk) → Finds p names call (Err e) q → Refuses T e p.disk q.disk
 finds_refuse T p q names call e each (Err f, m, resolves, (is, ends)) =

@@ -29,6 +29,12 @@ answer_of request parts body now closing comes x is = record {
   asks = subst (λ z. ClosesAfter parts z) (sym is.closing_is) comes.asks;
 }
 
+exchanges_as : (Is As : Exchange → Type 0) (a : Work) (ended : Ended) (b : Work) → ((x : Exchange) → Is x → As x) → Exchanges Is a ended b → Exchanges As a ended b
+exchanges_as Is As a Open b f e = record { exchange = e.exchange; is = f e.exchange e.is; closed_is = e.closed_is; played = e.played; sent = e.sent }
+exchanges_as Is As a Closed b f e = record { exchange = e.exchange; is = f e.exchange e.is; closed_is = e.closed_is; played = e.played; sent = e.sent }
+exchanges_as Is As a SinkFailed b f e = record { bytes = e.bytes; reached = reached_as Is As f e.reached; sent = e.sent; rose = e.rose }
+exchanges_as Is As a BrokeOff b f e = record { exchange = e.exchange; is = f e.exchange e.is; played = e.played; sent = e.sent; rose = e.rose }
+
 -- one request was answered by a player of its own
 pub answered : {request : Asked} {parts : Parts} {body : List ℕ} {closing : _} (now : Moment) (made start : Stage) (outlet : Outlet) (b : Work) (t : Point) (knows : Knowledge) (result : Result Ended NoMemory)
     → Comes request parts body closing → made ≡ start → b.stage.at ≡ t → b.stage.playing.knows ≡ knows → IfOk result (λ ended. Exchanges (IsAt request now closing) (record { outlet = outlet; stage = made }) ended b)
