@@ -25,3 +25,4 @@ pub mod Binding
 pub mod Fitting
 pub mod Standing
 pub mod Premises
+mod AsciiFolding

@@ -61,11 +61,14 @@ impl Hash for FoldedPath {
     }
 }
 
-/// Folds a name by Unicode's default full case folding.
+/// Folds a name by Unicode's default full case folding. Of ASCII that is lower case, byte by byte.
 #[tactic(auto, unfolding(crate::specs::Trees::fold_name))]
 pub fn fold_text(alloc: Global, name: &Text) -> Result<Text, NoMemory>
     ensures { IfOk result (λ folded. folded ≡ fold_name name.now) }
 {
+    if name.as_str().is_ascii() {
+        return Ok(Text::new(name.as_str().to_ascii_lowercase(alloc)?));
+    }
     Ok(Text::new(default_case_fold_str(alloc, name.as_str())?))
 }
 
