@@ -10,6 +10,8 @@ use Rattle.dav_report.specs.Lines.{colon, value_of}
 use Rattle.dav_report.specs.declared.caldav.component_filter.ComponentFilter.{ComponentFilter}
 use Rattle.dav_report.specs.declared.carddav.property_filter.PropertyFilter.{PropertyFilter}
 use Rattle.dav_report.specs.declared.filters.TextMatch.{TextMatch}
+use Rattle.dav_selection.specs.declared.matching.Side.{Side}
+use Rattle.dav_selection.specs.declared.matching.Side.TheVariants.{Back, Front}
 
 -- the part stands somewhere in the text
 abbrev pub has : List ℕ → List ℕ → Bool

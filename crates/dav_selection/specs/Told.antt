@@ -1,5 +1,5 @@
 -- What stands in a told world, as a report finds it.
-use Rattle.std.specs.Prelude.{◌≡◌, All, false, Result, Ok, Err}
+use Rattle.std.specs.Prelude.{◌≡◌, ◌⊎◌, All, false, Option, Some, Result, Ok, Err}
 use Rattle.dav_core.specs.declared.parse_error.ParseError.{ParseError}
 use Rattle.dav_core.specs.DavPath.{WebPath}
 use Rattle.dav_core.specs.Grammar.{parsed}
@@ -7,9 +7,13 @@ use Rattle.dav_core.specs.Tree.{is_linked}
 use Rattle.dav_core.specs.World.{World}
 use Rattle.dav_model.specs.Finding.{listed_in}
 use Rattle.dav_local.specs.Standing.{HasNoLinks}
-use Rattle.dav_local_laws.specs.Simple.{opened}
+use Rattle.dav_local.specs.declared.ways.Ways.{Ways}
+use Rattle.dav_local_laws.specs.Simple.{opened, plain_ways}
+use Rattle.dav_report.specs.declared.answer.Report.{Report}
+use Rattle.dav_report.specs.declared.error.ReportError.{ReportError}
+use Rattle.dav_report.specs.declared.error.ReportError.TheVariants.{NoMemory}
 use Rattle.dav_selection.specs.Selection.{Selection, queries, follows, refuses}
-use Rattle.dav_selection.specs.Shown.{Stock}
+use Rattle.dav_selection.specs.Shown.{IsRight, Stock}
 
 -- the members of the world's directories, and what is opened at its paths
 abbrev pub stock_of : World → Stock

@@ -1,6 +1,6 @@
 //! Reports over a local store. Where its disk tells its world and each path is meant as it is written, they are those
 //! of its tree.
-ghost use Rattle.std.specs.Prelude.{◌≡◌, ◌⊎◌, Err, Some};
+ghost use Rattle.std.specs.Prelude.{◌≡◌, Some};
 ghost use Rattle.dav_io.specs.Counts.{Rose};
 ghost use Rattle.dav_core.specs.Unchanged.{Keeps};
 ghost use Rattle.dav_core.specs.World.{World};
@@ -9,8 +9,8 @@ ghost use Rattle.dav_local_laws.specs.Simple.{plain_ways};
 ghost use Rattle.dav_report.specs.AddressBooks.{address_report as cards_asked};
 ghost use Rattle.dav_report.specs.Calendars.{calendar_report as calendars_asked};
 ghost use Rattle.dav_selection.specs.Selection.{Selection, address_selection, calendar_selection};
-ghost use Rattle.dav_selection.specs.Shown.{IsRight, ShowsFor};
-ghost use Rattle.dav_selection.specs.Told.{IsOf, MeetsNoLink, stock_of};
+ghost use Rattle.dav_selection.specs.Shown.{ShowsFor};
+ghost use Rattle.dav_selection.specs.Told.{IsOf, MeetsNoLink, TellsTheTree, stock_of};
 
 use crate::{addressbook_report, calendar_report};
 use dav_cache::RememberAny;

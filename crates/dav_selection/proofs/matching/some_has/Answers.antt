@@ -1,4 +1,4 @@
-use Rattle.std.proofs.Common.{ℕ, List, Bool, length, drop, sym, ap, ◌∙◌, false, nat_eq, arith}
+use Rattle.std.proofs.Common.{ℕ, List, Bool, length, drop, sym, ap, ◌∙◌, false, arith}
 use Rattle.std.proofs.lemmas.Iterator.Splits.{YieldsList-from_lines}
 use Rattle.std.proofs.lemmas.Iterator.Consumers.{YieldsList-turn, YieldsList-end}
 use Rattle.std.proofs.lemmas.List.{at_drop_all, length_push}
