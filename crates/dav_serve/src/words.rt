@@ -129,7 +129,7 @@ fn is_switch(word: &str) -> bool
 
 // What is set besides, where it wasn't asked for before.
 fn once<'a>(was: bool, more: Options<'a>) -> Option<Options<'a>>
-    ensures { result ≡ cond was None (Some more) }
+    ensures { result ≡ cond was None (Some more.entry) }
 {
     if was {
         return None;
