@@ -11,7 +11,7 @@ use Rattle.dav_core.specs.Path.{Names}
 use Rattle.dav_core.specs.World.{Stored, World, bytes_of, bytes_or_none, put}
 use Rattle.dav_disk.specs.declared.sure_disk.SureDisk.{SureDisk}
 use Rattle.dav_disk.specs.Calls.{state_of}
-use Rattle.dav_disk.specs.Room.{HasRoom}
+use Rattle.dav_disk.specs.Memory.{HasRoom}
 use Rattle.dav_disk.specs.Rows.{at_second, can_add, first_world, later_of, second_past, with_dir, with_file}
 use Rattle.dav_disk.specs.Sure.{sure_state, sure_world}
 use Rattle.dav_bench.specs.Names.{dir_path, file_path}

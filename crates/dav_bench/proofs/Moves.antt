@@ -6,7 +6,7 @@ use Rattle.dav_model.specs.declared.answer.Answer.{Answer}
 use Rattle.dav_model.specs.declared.step.Step.{Step}
 use Rattle.dav_model.specs.declared.step.Step.TheVariants.{Request, Poll, Abandon, Purge, Turn}
 use Rattle.dav_model.specs.Play.{Answered, EachByTree, Ends, Played, PlayedOn, Playing, Plays, Polled, Replies, RepliesByTree, Stage, Stands, StaysOpen, StepByTree, points_from}
-use Rattle.dav_model.specs.Requests.{Asked, fields_of}
+use Rattle.dav_model.specs.Conditions.{Asked, fields_of}
 use Rattle.dav_model.specs.Trail.{Move, Point, answers_of, last_of, steps_of, target_of}
 use Rattle.dav_model.specs.Valid.{Valid}
 use Rattle.dav_bench.specs.Asking.{steps_for}

@@ -12,20 +12,19 @@ use Rattle.dav_core.specs.declared.tree.Row.{Row}
 use Rattle.dav_core.specs.declared.time.FileTime.{FileTime}
 use Rattle.dav_core.specs.Tree.{is_linked}
 use Rattle.dav_core.specs.World.{Holds, SameBesidesOpens, World, bytes_of, bytes_or_none, is_numbered, put}
-use Rattle.dav_disk.specs.Room.{HasRoom}
+use Rattle.dav_disk.specs.Memory.{HasRoom}
 use Rattle.dav_model.specs.declared.answer.Answer.{Answer}
 use Rattle.dav_model.specs.declared.answer.Answer.TheVariants.{Reply as Replied, Piece, End, Broken}
 use Rattle.dav_model.specs.declared.target.Target.{Target}
 use Rattle.dav_model.specs.declared.target.Target.TheVariants.{At}
 use Rattle.http.specs.Request.{body_of}
-use Rattle.dav_model.specs.Bodies.{Breaks, Gives, Part, PieceOf, Polls, moved, slice, standing_from}
+use Rattle.dav_model.specs.Bodies.{Breaks, Gives, Part, PieceOf, Polls, moved, slice, standing_from, read_size_of}
 use Rattle.dav_model.specs.Due.{IsRight, query}
 use Rattle.dav_model.specs.Finding.{shown_in}
 use Rattle.dav_model.specs.Head.{Reply}
 use Rattle.dav_model.specs.Play.{Answered, Gets, MeetsNoLink, PlayedOn, Playing, Polled, RepliesByTree, Stage}
-use Rattle.dav_model.specs.Requests.{Asked, fields_of}
+use Rattle.dav_model.specs.Conditions.{Asked, fields_of}
 use Rattle.dav_model.specs.Rules.{Rules}
-use Rattle.dav_model.specs.Sizes.{read_size_of}
 use Rattle.dav_model.specs.Trail.{Goes, Leaves, Point, target_of}
 use Rattle.dav_model.specs.Unset.{nothing_set}
 use Rattle.dav_model.specs.Valid.{Occurs, Twinless, Valid, no_twins}

@@ -6,7 +6,7 @@ use Rattle.dav_io.specs.declared.failure.NoMemory.{NoMemory}
 use Rattle.dav_io.proofs.ToldLemmas.{both_map, both_same}
 use Rattle.dav_core.specs.World.{World}
 use Rattle.dav_disk.specs.declared.sure_disk.SureDisk.{SureDisk}
-use Rattle.dav_disk.specs.Room.{HasRoom}
+use Rattle.dav_disk.specs.Memory.{HasRoom}
 use Rattle.dav_disk.specs.Sure.{sure_state, sure_world}
 use Rattle.dav_bench.specs.declared.counting.Counts.{Counts}
 use Rattle.dav_bench.specs.Counting.{added, nothing_counted, totals_of}

@@ -14,9 +14,8 @@ use Rattle.dav_core.specs.Path.{all_plain, is_plain, parts_names}
 use Rattle.dav_core.proofs.Back.{parsed_back}
 use Rattle.dav_model.specs.declared.target.Target.{Target}
 use Rattle.dav_model.specs.declared.target.Target.TheVariants.{At}
-use Rattle.dav_model.specs.Conditions.{Fields}
+use Rattle.dav_model.specs.Conditions.{Fields, Asked, fields_of}
 use Rattle.dav_model.specs.Gates.{admitted, bulk_of, gates, weighed, with_method, with_path}
-use Rattle.dav_model.specs.Requests.{Asked, fields_of}
 use Rattle.dav_model.specs.Rules.{Rules}
 use Rattle.dav_model.specs.Trail.{target_of}
 use Rattle.dav_model.specs.Unset.{nothing_set}

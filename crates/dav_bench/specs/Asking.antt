@@ -4,11 +4,11 @@ use Rattle.http.specs.Request.{head_of, body_of}
 use Rattle.http_uri.specs.Uri.{uri_path}
 use Rattle.dav_io.specs.declared.clock.Moment.{Moment}
 use Rattle.dav_core.specs.World.{World}
-use Rattle.dav_disk.specs.Room.{HasRoom}
+use Rattle.dav_disk.specs.Memory.{HasRoom}
 use Rattle.dav_model.specs.declared.step.Step.{Step}
 use Rattle.dav_model.specs.declared.step.Step.TheVariants.{Request, Poll}
 use Rattle.dav_model.specs.Play.{Stage}
-use Rattle.dav_model.specs.Requests.{Asked, fields_of}
+use Rattle.dav_model.specs.Conditions.{Asked, fields_of}
 use Rattle.dav_model.specs.Rules.{Rules}
 use Rattle.dav_model.specs.Unset.{nothing_set}
 use Rattle.dav_bench.specs.Names.{target}

@@ -4,7 +4,7 @@ use Rattle.dav_core.specs.declared.handle.Handle.{Handle}
 use Rattle.dav_core.specs.declared.handle.Meta.{Meta}
 use Rattle.dav_core.specs.declared.handle.DiskError.{DiskError}
 use Rattle.dav_core.specs.Disk.{DiskState, Metas, Opens}
-use Rattle.dav_core.specs.Options.{reading}
+use Rattle.dav_core.specs.Writing.{reading}
 use Rattle.dav_core.specs.Tree.{is_dir}
 use Rattle.dav_io.specs.Counts.{greatest}
 use Rattle.dav_io.specs.declared.clock.Moment.{Moment}

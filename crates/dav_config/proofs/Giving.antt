@@ -15,7 +15,7 @@ use Rattle.dav_model.specs.declared.target.Target.TheVariants.{At}
 use Rattle.dav_model.specs.Announced.{HasSoundBody, IsFramed}
 use Rattle.dav_model.specs.Due.{Query}
 use Rattle.dav_model.specs.Head.{refusal}
-use Rattle.dav_model.specs.Sizes.{read_size_of}
+use Rattle.dav_model.specs.Bodies.{read_size_of}
 use Rattle.dav_store.specs.Standing.{Standing}
 use Rattle.dav_get.specs.declared.open_at.OpenAt.{OpenAt}
 use Rattle.dav_get.specs.Bodies.{Closes}

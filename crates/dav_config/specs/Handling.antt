@@ -17,7 +17,7 @@ use Rattle.dav_model.specs.Conditions.{writes as is_writing}
 use Rattle.dav_model.specs.Due.{Query, query}
 use Rattle.dav_model.specs.Gates.{Bulk, none, admitted, gates, takes_much}
 use Rattle.dav_model.specs.Head.{refusal}
-use Rattle.dav_model.specs.Sizes.{read_size_of}
+use Rattle.dav_model.specs.Bodies.{read_size_of}
 use Rattle.dav_store.specs.declared.body_reader.BodyReader.{Ghosts as ReaderGhosts}
 use Rattle.dav_store.specs.declared.entry.DavDirEntry.{Ghosts as EntryGhosts}
 use Rattle.dav_store.specs.declared.file.DavFile.{Ghosts as FileGhosts}
@@ -35,6 +35,8 @@ use Rattle.dav_config.specs.Failing.{FailsOver}
 use Rattle.dav_config.specs.Reading.{ReadsBulk}
 use Rattle.dav_config.specs.Responses.{IsBare, Responded, Responds}
 use Rattle.dav_config.specs.Writing.{KeepsUnless, Order, RefusedIn, WritesOver, asks_to_write, order}
+use Rattle.http.specs.Request.{head_of as asked_head}
+use Rattle.dav_config.specs.declared.asked.Asked.{Asked}
 
 -- ---- a store's meanings in one value
 
@@ -214,3 +216,13 @@ module _ {S C F L E : Type 0} (served : Served S C F L E) where
   HandlesAll {B} reader asking old body r new = (after : B) × (reader.loan after ≡ reader.loan body)
       × Handles asking (record { store = old; body = reader.state body }) r
       (record { store = new; body = reader.state after })
+
+-- ---- what is asked of a handler, behind its references
+
+abbrev pub asking_of : {C : Type 0} → Asked C → Asking C
+asking_of asked = record {
+  settings = asked.settings.now;
+  head = asked_head asked.head.now;
+  credentials = asked.credentials.now;
+  now = asked.now;
+}

@@ -1,10 +1,8 @@
 pub mod Merging
 pub mod Lending
-pub mod Names
 pub mod Reading
 pub mod Responses
 pub mod Failing
 pub mod Writing
 pub mod Handling
 pub mod Given
-pub mod Asked

@@ -9,8 +9,7 @@ ghost use Rattle.dav_model.specs.Due.{query};
 ghost use Rattle.dav_model.specs.Head.{refusal as the_refusal};
 ghost use Rattle.dav_body.specs.declared.body.BodyType.TheVariants.{Empty};
 ghost use Rattle.dav_get.specs.Bodies.{Closes, IsHeld};
-ghost use Rattle.dav_config.specs.Asked.{asking_of};
-ghost use Rattle.dav_config.specs.Handling.{AnswersTo, GivesOver, IsAt, IsWritten, SetsMoment, Stays, is_stored as the_is_stored, the_served};
+ghost use Rattle.dav_config.specs.Handling.{AnswersTo, GivesOver, IsAt, IsWritten, SetsMoment, Stays, is_stored as the_is_stored, the_served, asking_of};
 ghost use Rattle.dav_config.specs.Responses.{Gave, IsBare, SaysHead, inner_of};
 
 use crate::asked::Asked;

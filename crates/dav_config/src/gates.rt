@@ -11,8 +11,7 @@ ghost use Rattle.dav_core.specs.Statuses.{path_status as the_path_status};
 ghost use Rattle.dav_model.specs.Conditions.{reads as the_reads, writes as the_writes};
 ghost use Rattle.dav_model.specs.Gates.{admitted as the_admitted, asked as the_asked, has_field as the_has_field, is_allowed as the_is_allowed, is_built as the_is_built, is_partial as the_is_partial, of_body as the_of_body, takes_much as the_takes_much, takes_some as the_takes_some, weighed as the_weighed, with_path as the_with_path};
 ghost use Rattle.dav_model.specs.declared.target.Target.TheVariants.{Refused};
-ghost use Rattle.dav_config.specs.Names.{is_short as the_is_short};
-ghost use Rattle.dav_config.specs.Reading.{seen_as};
+ghost use Rattle.dav_config.specs.Reading.{seen_as, is_short as the_is_short};
 
 use crate::bulk::BodyBulk;
 use dav_core::{DavMethod, DavMethodSet, DavPath, ParseError, dav_method};

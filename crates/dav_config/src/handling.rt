@@ -1,7 +1,6 @@
 // A request over a store: its gates, its body, and its answer.
 ghost use Rattle.std.specs.Prelude.{◌≡◌, IfOk, IfSome, OnErr};
-ghost use Rattle.dav_config.specs.Asked.{asking_of};
-ghost use Rattle.dav_config.specs.Handling.{Handles, HandlesAll, IsTarget, ReadsUnless, Stays, asking, the_served};
+ghost use Rattle.dav_config.specs.Handling.{Handles, HandlesAll, IsTarget, ReadsUnless, Stays, asking, the_served, asking_of};
 ghost use Rattle.dav_config.specs.Reading.{seen_as};
 ghost use Rattle.dav_model.specs.Gates.{takes_much as the_takes_much};
 ghost use Rattle.dav_config.specs.Responses.{inner_of};

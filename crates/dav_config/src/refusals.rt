@@ -1,47 +1,17 @@
 // What a request is refused with.
 ghost use Rattle.std.specs.Prelude.{◌≡◌, ◌++◌, ◌∷◌, [], IfOk, OnOk, Some, false, true};
 ghost use Rattle.dav_core.specs.Statuses.{closes, lacks_memory as the_lacks_memory, status_of};
-ghost use Rattle.dav_io.specs.FieldNames.{spelled};
+ghost use Rattle.dav_io.specs.Texts.{spelled};
 ghost use Rattle.dav_model.specs.Clients.{is_from_microsoft as the_is_from_microsoft, is_microsoft as the_is_microsoft};
 ghost use Rattle.dav_model.specs.Head.{closing, field, is_uncached as the_is_uncached, refusal as the_refusal, refused_fields as the_refused_fields, uncached_first, uncached_last};
 ghost use Rattle.dav_config.specs.Responses.{IsHeadOf};
 
 use dav_core::{DavError, FsError, ParseError};
-use dav_io::{Field, FieldName, Fields, NoMemory, Octets, Text};
+use dav_io::{Field, FieldName, Fields, NoMemory, Text, add_field};
 use dav_model::Outcome;
 use http::header::USER_AGENT;
 use http::{HeaderMap, HeaderValue};
 use std::alloc::Global;
-
-// Adds a field of a known name.
-fn add(
-    alloc: Global,
-    fields: &mut Vec<Field>,
-    name: FieldName,
-    value: &[u8],
-) -> Result<(), NoMemory>
-    ensures { OnOk result (fields.new.items ≡ fields.old.items ++ field (spelled name) value.now ∷ []) }
-{
-    let name = Text::known(name);
-    let value = Octets::new(Vec::from_slice(alloc, value)?);
-    fields.push(Field { name, value })?;
-    Ok(())
-}
-
-// Adds a field of another name.
-fn add_other(
-    alloc: Global,
-    fields: &mut Vec<Field>,
-    name: &str,
-    value: &[u8],
-) -> Result<(), NoMemory>
-    ensures { OnOk result (fields.new.items ≡ fields.old.items ++ field name.now value.now ∷ []) }
-{
-    let name = Text::copy(alloc, name)?;
-    let value = Octets::new(Vec::from_slice(alloc, value)?);
-    fields.push(Field { name, value })?;
-    Ok(())
-}
 
 // Adds what stands first in a refusal that no cache may keep.
 fn add_uncached_first(
@@ -52,10 +22,9 @@ fn add_uncached_first(
     ensures { OnOk result (fields.new.items ≡ fields.old.items ++ uncached_first uncached) }
 {
     if uncached {
-        return add_other(
-            alloc,
+        return add_field(
             fields,
-            "cache-control",
+            Text::copy(alloc, "cache-control")?,
             b"no-store, no-cache, must-revalidate",
         );
     }
@@ -67,9 +36,9 @@ fn add_uncached_first(
 fn add_last(alloc: Global, fields: &mut Vec<Field>) -> Result<(), NoMemory>
     ensures { OnOk result (fields.new.items ≡ fields.old.items ++ uncached_last true) }
 {
-    add_other(alloc, fields, "expires", b"0")?;
-    add_other(alloc, fields, "pragma", b"no-cache")?;
-    add_other(alloc, fields, "vary", b"*")?;
+    add_field(fields, Text::copy(alloc, "expires")?, b"0")?;
+    add_field(fields, Text::copy(alloc, "pragma")?, b"no-cache")?;
+    add_field(fields, Text::copy(alloc, "vary")?, b"*")?;
     Ok(())
 }
 
@@ -83,11 +52,11 @@ fn add_uncached_last(alloc: Global, fields: &mut Vec<Field>, uncached: bool) -> 
 }
 
 // Adds the field of a connection that closes.
-fn add_closing(alloc: Global, fields: &mut Vec<Field>, close: bool) -> Result<(), NoMemory>
+fn add_closing(fields: &mut Vec<Field>, close: bool) -> Result<(), NoMemory>
     ensures { OnOk result (fields.new.items ≡ fields.old.items ++ closing close) }
 {
     if close {
-        return add(alloc, fields, FieldName::Connection, b"close");
+        return add_field(fields, Text::known(FieldName::Connection), b"close");
     }
     Ok(())
 }
@@ -99,8 +68,8 @@ fn refused_fields(alloc: Global, uncached: bool, close: bool) -> Result<Vec<Fiel
 {
     let mut fields = Vec::new(alloc);
     add_uncached_first(alloc, &mut fields, uncached)?;
-    add_closing(alloc, &mut fields, close)?;
-    add(alloc, &mut fields, FieldName::ContentLength, b"0")?;
+    add_closing(&mut fields, close)?;
+    add_field(&mut fields, Text::known(FieldName::ContentLength), b"0")?;
     add_uncached_last(alloc, &mut fields, uncached)?;
     Ok(fields)
 }

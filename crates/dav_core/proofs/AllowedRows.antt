@@ -5,12 +5,11 @@ use Rattle.dav_core.specs.declared.tree.Kind.{Kind}
 use Rattle.dav_core.specs.declared.tree.Kind.TheVariants.{Dir, File}
 use Rattle.dav_core.specs.declared.handle.OpenOptions.{OpenOptions}
 use Rattle.dav_core.specs.declared.handle.DiskError.TheVariants.{NotFound, Exists, NotDir, IsDir, NotEmpty}
-use Rattle.dav_core.specs.Options.{reading}
 use Rattle.dav_core.specs.Path.{Names}
 use Rattle.dav_core.specs.World.{World, put}
 use Rattle.dav_core.specs.Edits.{makes, fills, takes, moves}
 use Rattle.dav_core.specs.Allowed.{copying, making_dir, moving, opening, place, taking_dir, taking_file}
-use Rattle.dav_core.specs.Writing.{written}
+use Rattle.dav_core.specs.Writing.{written, reading}
 
 abbrev at : Names → Kind → ℕ → Row
 at path kind number = record { path = path; kind = kind; number = number; time = record { secs = pos 0; nanos = 0 } }

@@ -6,7 +6,7 @@ use Rattle.std.specs.Fmt.{digit_glyph, digits_onto, digits}
 use Rattle.std.specs.Borrow.{Bor}
 use Rattle.std.proofs.lemmas.Grind.{common_steps, drop-set_at}
 use Rattle.std.proofs.Math.Nat.{pow-suc}
-use Rattle.dav_core.specs.Ends.{EndsOtherwise}
+use Rattle.dav_core.specs.Grammar.{EndsOtherwise}
 use Rattle.dav_core.specs.Info.{hex}
 
 abbrev spell : ℕ → ℕ → List ℕ → List ℕ

@@ -20,3 +20,4 @@ pub mod AllowedRows
 pub mod PlaceLemmas
 pub mod TimesLemmas
 pub mod FilesLemmas
+pub mod Untold

@@ -5,8 +5,7 @@ use mathlib.Core.Path.{fun_ext}
 use Rattle.std.specs.BTreeMap.{BTreeMap, WritesThrough, get_by, UpdatesBy, is_at}
 use Rattle.std.specs.Ordering.{nat_cmp}
 use Rattle.std.specs.Option.{option_map}
-use Rattle.dav_core.specs.World.{put}
-use Rattle.dav_core.specs.Tables.{at_key}
+use Rattle.dav_core.specs.World.{put, at_key}
 use Rattle.dav_core.proofs.UnchangedLemmas.{equal_keys}
 
 -- the tests of a map and of `put` agree

@@ -50,6 +50,10 @@ stays b =
 abbrev pub link_byte : ℕ → List ℕ
 link_byte b = if stays b then (b ∷ []) else percent_encode_byte b
 
+-- a printable ASCII character
+abbrev pub is_printable : ℕ → Bool
+is_printable b = nat_le 32 b && nat_le b 126
+
 abbrev pub link_of : List ℕ → List ℕ
 link_of bytes = flat_map link_byte bytes
 

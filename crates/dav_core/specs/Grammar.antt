@@ -1,6 +1,6 @@
 -- The grammar of a request's path, step by step. The first fault decides, and within a step segments are taken from the
 -- left.
-use Rattle.std.specs.Prelude.{◌==◌, ◌||◌, ◌&&◌, ◌++◌, ℕ, zero, suc, nat_le, Bool, false, not, List, [], ◌∷◌, length, drop, codes, Option, None, Some, Result, Ok, Err, if◌then◌else◌}
+use Rattle.std.specs.Prelude.{◌==◌, ◌||◌, ◌&&◌, ◌++◌, ℕ, zero, suc, nat_le, Bool, false, not, List, [], ◌∷◌, length, drop, codes, Option, None, Some, Result, Ok, Err, if◌then◌else◌, ◌≢◌}
 use Rattle.std.specs.List.{before_first, filter, list_all, slice_split}
 use Rattle.std.specs.Str.{bytes_eq, is_utf8}
 use Rattle.percent_encoding.specs.Percent.{percent_decode}
@@ -129,3 +129,9 @@ parsed text prefix =
 -- a prefix as a server has it: nothing, or a text that begins with a slash and has plain names
 abbrev pub fits_prefix : List ℕ → Bool
 fits_prefix prefix = is_empty prefix || (begins_with_slash prefix && all_plain (prefix_names prefix))
+
+-- ---- the ends of texts
+
+-- the first text doesn't end with the second
+abbrev pub EndsOtherwise : List ℕ → List ℕ → Type 0
+EndsOtherwise text end = (front : List ℕ) → text ≢ front ++ end

@@ -4,17 +4,14 @@ pub mod World
 pub mod Changes
 pub mod Edits
 pub mod Allowed
-pub mod Options
 pub mod Errors
 pub mod Disk
-pub mod Tables
 pub mod Writing
 pub mod Listing
 pub mod Unchanged
 pub mod DavPath
 pub mod Info
 pub mod Members
-pub mod Ends
 pub mod ContentTypes
 pub mod Grammar
 pub mod Methods
@@ -25,4 +22,3 @@ pub mod TagReading
 pub mod Commas
 pub mod InfoInYears
 pub mod TagBytes
-pub mod Untold

@@ -8,6 +8,8 @@ use Rattle.dav_core.specs.declared.time.FileTime.{FileTime}
 use Rattle.dav_core.specs.declared.change.Change.{Change}
 use Rattle.dav_core.specs.Path.{Names, all_plain}
 use Rattle.dav_core.specs.Tree.{is_tree}
+use Rattle.std.specs.BTreeMap.{BTreeMap, get_by}
+use Rattle.std.specs.Ordering.{nat_cmp}
 
 -- the bytes of a file, and the time of its last change
 pub record Stored : Type 0 where
@@ -110,3 +112,9 @@ pub record IsWorld (w : World) : Type 0 where
   pub stored : (k : ℕ) (d : Row) → k < length w.tree → (slice_index_or w.tree k d).kind ≡ File
       → time_of w (slice_index_or w.tree k d).number ≡ Some (slice_index_or w.tree k d).time
   pub given : AreGiven w.tree w.files w.opens w.greatest w.latest
+
+-- ---- a map of std by numbers, seen as a function
+
+-- a map as a function
+abbrev pub at_key : {X : Type 0} → BTreeMap ℕ X → ℕ → Option X
+at_key m n = get_by (nat_cmp n) m

@@ -9,6 +9,7 @@ use Rattle.dav_core.specs.World.{World, OpenFile, SameBesidesOpens, put, bytes_o
 use Rattle.dav_core.specs.Disk.{Live, DiskState, Asks, Refused}
 use Rattle.dav_core.specs.Edits.{Edit, fills, Edited, EditedBy, IsPart, SameOpens}
 use Rattle.dav_core.specs.Allowed.{Allowed, making_dir, taking_dir, taking_file, moving, copying}
+use Rattle.dav_core.specs.declared.handle.OpenOptions.{OpenOptions}
 
 -- What a refused call may leave: the world as it was, and where `may` says so a part of its edit.
 abbrev pub LeftBy : Bool → Allowed → World → World → Type 0
@@ -126,3 +127,9 @@ pub record Writes (old : DiskState) (h : ℕ) (from : List ℕ) (result : Result
   pub refused : can_write (old.live h) ≡ true → OnErr result ((result ≡ Err Failed) ⊎ (result ≡ Err NoMemory))
   pub live : new.live ≡ old.live
   pub told : Both old.told new.told (WrittenIn (old.live h) h from result)
+
+-- ---- how files are opened
+
+-- for reading alone
+abbrev pub reading : OpenOptions
+reading = record { read = true; write = false; append = false; truncate = false; create = false; create_new = false }

@@ -4,7 +4,7 @@ ghost use Rattle.dav_core.specs.DavPath.{WebPath, ends_well, last_name, link_of 
 ghost use Rattle.dav_core.specs.Grammar.{fits_prefix, parsed};
 ghost use Rattle.dav_core.specs.Path.{all_plain, is_plain, parent_of};
 
-use crate::names::{copied, push_shown};
+use crate::names::{copied_names, push_shown};
 use crate::url::link_of;
 use crate::{FsPath, ParseError, content_type, parsing, prefix};
 use dav_io::{NoMemory, Text};
@@ -144,7 +144,7 @@ impl DavPath {
         ensures { IfOk result (λ path. path ≡ record self.now { names = parent_of self.now.names; slash = true }) }
     {
         let names = self.names.as_slice();
-        let kept = copied(self.alloc, &names[..names.len().saturating_sub(1)])?;
+        let kept = copied_names(self.alloc, &names[..names.len().saturating_sub(1)])?;
         Ok(DavPath {
             alloc: self.alloc,
             prefix: self.prefix.try_clone()?,

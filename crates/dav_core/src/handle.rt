@@ -1,5 +1,5 @@
 ghost use Rattle.std.specs.Prelude.{◌≡◌};
-ghost use Rattle.dav_core.specs.Options.{reading};
+ghost use Rattle.dav_core.specs.Writing.{reading};
 
 use crate::{FileTime, Kind};
 use thiserror::Error;

@@ -6,8 +6,8 @@ ghost use Rattle.dav_core.specs.DavPath.{slashed};
 use dav_io::{NoMemory, Text};
 use std::alloc::Global;
 
-// A copy of names.
-pub fn copied(alloc: Global, names: &[Text]) -> Result<Vec<Text>, NoMemory>
+/// A copy of names, with memory of its own.
+pub fn copied_names(alloc: Global, names: &[Text]) -> Result<Vec<Text>, NoMemory>
     ensures { IfOk result (λ copy. copy.items ≡ names.now) }
 {
     let mut copy = Vec::new(alloc);

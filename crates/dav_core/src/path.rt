@@ -7,7 +7,7 @@ ghost use Rattle.std.specs.Cmp.Rules.{hashing};
 ghost use Rattle.std.proofs.Common.{rules};
 ghost use Rattle.dav_core.specs.Path.{all_plain, is_plain as is_plain_name, parent_of};
 
-use crate::names::copied;
+use crate::names::copied_names;
 use crate::plain_name::is_plain;
 use dav_io::{NoMemory, Text};
 use std::alloc::Global;
@@ -67,7 +67,7 @@ impl FsPath {
         ensures { IfOk result (λ path. path ≡ self.now ++ name.now ∷ []) }
     {
         let alloc = self.allocator();
-        let mut names = copied(alloc, self.as_slice())?;
+        let mut names = copied_names(alloc, self.as_slice())?;
         names.push(Text::copy(alloc, name)?)?;
         Ok(FsPath::new(names))
     }
@@ -96,12 +96,8 @@ impl FsPath {
         ensures copy { IfOk result (λ copy. copy ≡ self.now) }
         ensures plain { all_plain self.now ≡ true }
     {
-        let alloc: Global = *self.names.allocator();
-        let mut copy = Vec::new(alloc);
-        for name in self.as_slice() {
-            copy.push(name.try_clone()?)?;
-        }
-        Ok(FsPath { names: copy })
+        let names = copied_names(self.allocator(), self.as_slice())?;
+        Ok(FsPath { names })
     }
 }
 

@@ -1,7 +1,7 @@
 // The text of the entity tag of a disk's metadata: written where memory is had, compared where none is.
 ghost use Rattle.std.specs.Prelude.{◌≡◌, ◌↔◌, ◌++◌, ◌<◌, ◌≤◌, true, false, IfOk, IsTrue, MatchOption, OnOk, codes, drop, length};
 ghost use Rattle.std.specs.Fmt.{digit_glyph};
-ghost use Rattle.dav_core.specs.Ends.{EndsOtherwise};
+ghost use Rattle.dav_core.specs.Grammar.{EndsOtherwise};
 ghost use Rattle.dav_core.specs.Info.{hex, micros as the_micros, tag_at, is_in_years};
 
 use crate::{FileTime, Kind, Meta};

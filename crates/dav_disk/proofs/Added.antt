@@ -13,11 +13,10 @@ use Rattle.dav_core.specs.declared.time.FileTime.{FileTime}
 use Rattle.dav_core.specs.Path.{Names, same_names, parent_of}
 use Rattle.dav_core.specs.Tree.{row_at, is_dir, is_dir_row, has_dir, is_placed, is_free, is_apart, is_tree}
 use Rattle.dav_core.specs.Changes.{is_free_in}
-use Rattle.dav_core.specs.World.{World, Stored, put}
+use Rattle.dav_core.specs.World.{World, Stored, put, at_key}
 use Rattle.dav_core.proofs.UnchangedLemmas.{equal_keys, put_other, put_same}
 use Rattle.std.specs.BTreeMap.{BTreeMap, Updates, UpdatesBy}
 use Rattle.std.specs.Ordering.{nat_cmp}
-use Rattle.dav_core.specs.Tables.{at_key}
 use Rattle.dav_core.proofs.TablesLemmas.{updates_put, put_map, value_put}
 use Rattle.dav_disk.specs.declared.tables.StoredFile.{StoredFile}
 use Rattle.dav_disk.specs.Files.{IsStored, AreStored, stored_of, stored_at}

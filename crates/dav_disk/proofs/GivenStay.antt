@@ -16,7 +16,7 @@ use Rattle.dav_core.specs.declared.change.Change.TheVariants.{AddDir, AddFile, C
 use Rattle.dav_core.specs.declared.handle.DiskError.{DiskError}
 use Rattle.dav_core.specs.Path.{Names, same_names, parent_of, is_front}
 use Rattle.dav_core.specs.Tree.{look}
-use Rattle.dav_core.specs.World.{World, Stored, OpenFile, NotAfter, IsGiven, AreGiven, put}
+use Rattle.dav_core.specs.World.{World, Stored, OpenFile, NotAfter, IsGiven, AreGiven, put, at_key}
 use Rattle.dav_core.proofs.TimesLemmas.{not_after_itself, not_after_then}
 use Rattle.dav_core.proofs.UnchangedLemmas.{equal_keys}
 use Rattle.dav_core.specs.Changes.{tick, timed_row, touched_at, touched, then_touched, is_free_in, added_at, added, stored_in, made_or, dir_added, file_added, cut_at_time, cut_kind, cut_found, without, removed_found, moved_row, renames_to, parents_touched, renamed_found, changed, all_changed, turned, turned_by}
@@ -24,7 +24,6 @@ use Rattle.dav_disk.specs.declared.tables.Opened.{Opened}
 use Rattle.std.specs.BTreeMap.{BTreeMap, Updates, IsUnchanged, is_at}
 use Rattle.std.specs.Map.{lookup}
 use Rattle.std.specs.Ordering.{nat_cmp}
-use Rattle.dav_core.specs.Tables.{at_key}
 use Rattle.dav_core.proofs.TablesLemmas.{updates_put}
 use Rattle.dav_disk.specs.declared.tables.StoredFile.{StoredFile}
 use Rattle.dav_disk.specs.Files.{AreStored, open_of, open_at, stored_of, stored_at}

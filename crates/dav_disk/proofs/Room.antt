@@ -24,7 +24,7 @@ use Rattle.dav_core.specs.Allowed.{Allowed}
 use Rattle.dav_core.specs.Writing.{appends, write_place, written}
 use Rattle.dav_disk.specs.Calls.{Known}
 use Rattle.dav_disk.specs.Making.{edited, edited_by, filled_at, is_spent, MakesAt, OpensAs, WritesAt}
-use Rattle.dav_disk.specs.Room.{HasRoom}
+use Rattle.dav_disk.specs.Memory.{HasRoom}
 
 -- ---- what a world used up
 

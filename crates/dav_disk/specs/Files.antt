@@ -5,9 +5,8 @@ use Rattle.std.specs.BTreeMap.{BTreeMap}
 use Rattle.dav_core.specs.declared.handle.Meta.{Meta}
 use Rattle.dav_core.specs.declared.tree.Row.{Row}
 use Rattle.dav_core.specs.declared.tree.Kind.TheVariants.{File}
-use Rattle.dav_core.specs.World.{Stored, OpenFile}
+use Rattle.dav_core.specs.World.{Stored, OpenFile, at_key}
 use Rattle.dav_core.specs.Disk.{Live}
-use Rattle.dav_core.specs.Tables.{at_key}
 use Rattle.dav_disk.specs.declared.tables.StoredFile.{StoredFile}
 use Rattle.dav_disk.specs.declared.tables.Opened.{Opened}
 

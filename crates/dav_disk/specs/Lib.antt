@@ -8,8 +8,6 @@ pub mod Memory
 pub mod Worlds
 pub mod Lengths
 pub mod Failing
-pub mod Room
 pub mod Sure
-pub mod Drawn
 pub mod Moves
 pub mod Making

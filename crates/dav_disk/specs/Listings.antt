@@ -7,8 +7,7 @@ use Rattle.std.specs.List.Sorted.{IsPermutation, IsSorted}
 use Rattle.std.specs.BTreeMap.{BTreeMap}
 use Rattle.std.specs.Rc.{rc_value}
 use Rattle.dav_core.specs.Path.{Names}
-use Rattle.dav_core.specs.World.{put}
-use Rattle.dav_core.specs.Tables.{at_key}
+use Rattle.dav_core.specs.World.{put, at_key}
 use Rattle.dav_disk.specs.declared.listing.Listing.{Listing}
 
 -- the names that are still to come

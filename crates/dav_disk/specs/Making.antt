@@ -22,6 +22,8 @@ use Rattle.dav_core.specs.Writing.{can_write, appends, write_place, written}
 use Rattle.dav_disk.specs.Calls.{Known, with_place}
 use Rattle.dav_disk.specs.declared.judge.Copying.{Copying}
 use Rattle.dav_disk.specs.declared.judge.Copying.TheVariants.{Stays, Makes, Fills}
+use Rattle.dav_disk.specs.Files.{stored_at}
+use Rattle.dav_disk.specs.declared.drawn.Drawn.{Drawn}
 
 -- a file's bytes with a tick as its time
 abbrev pub filled_at : ℕ → List ℕ → Option FileTime → World → Option World
@@ -168,3 +170,8 @@ copies_from (Ok row) to there = copies_to row to there
 
 abbrev pub copies : List Row → Names → Names → Result Copying DiskError
 copies tree from to = copies_from (look tree from) to (place tree to)
+
+-- ---- a world's rows and files, as a batch of changes is made on them
+
+abbrev pub drawn_in : Drawn → World → World
+drawn_in d w = record w { tree = d.rows; files = stored_at d.files; greatest = d.greatest; latest = d.latest }

@@ -2,9 +2,8 @@
 use Rattle.std.specs.Prelude.{◌≡◌, ℕ, length, Bool, Option, None, Some, true, refl}
 use Rattle.std.specs.Option.{option_map, is_some}
 use Rattle.dav_core.specs.Tree.{is_tree}
-use Rattle.dav_core.specs.World.{World, IsWorld, AreGiven, ArePlain}
+use Rattle.dav_core.specs.World.{World, IsWorld, AreGiven, ArePlain, at_key}
 use Rattle.dav_core.specs.Disk.{TellsLive}
-use Rattle.dav_core.specs.Tables.{at_key}
 use Rattle.dav_disk.specs.Files.{AreStored, open_of, live_of}
 use Rattle.dav_disk.specs.Listings.{listing_at}
 use Rattle.dav_disk.specs.Calls.{state_of}

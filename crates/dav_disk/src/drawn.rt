@@ -53,7 +53,7 @@ fn resize(
 }
 
 impl Drawn {
-    ghost use Rattle.dav_disk.specs.Drawn.{drawn_in};
+    ghost use Rattle.dav_disk.specs.Making.{drawn_in};
 
     // A copy of a disk's rows and files.
     pub fn copy(

@@ -1,6 +1,6 @@
 //! What is known of the disks at any moment, as laws. The calls do nothing.
 ghost use Rattle.std.specs.Prelude.{◌≡◌};
-ghost use Rattle.dav_disk.specs.Room.{HasRoom};
+ghost use Rattle.dav_disk.specs.Memory.{HasRoom};
 ghost use Rattle.dav_disk.specs.Sure.{sure_state, sure_world};
 
 use crate::SureDisk;

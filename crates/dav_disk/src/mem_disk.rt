@@ -1,10 +1,10 @@
 ghost use Rattle.std.specs.Prelude.{◌≡◌, ◌<◌, ◌≤◌, ◌++◌, ◌∷◌, [], ℕ, All, None, Some, IfOk, IfSome, IsSome, OnOk, OnErr, true, length, drop};
 ghost use Rattle.dav_disk.specs.Lengths.{first_of, GivesMost, UsesLength};
 
-use crate::faults::{Faults, is_fault, noted};
+use crate::faults::{is_fault, noted};
 use crate::memory::Memory;
 use dav_core::{Change, Disk, DiskError, FileTime, FsPath, Handle, Lister, Meta, OpenOptions};
-use dav_io::{NoMemory, Text};
+use dav_io::{Faults, NoMemory, Text};
 use std::alloc::Global;
 
 /// A disk in memory that tells its world. It fails at the calls of the numbers given, and its next reads give no more
@@ -56,11 +56,7 @@ impl MemDisk {
         let memory = Memory::new(alloc)?;
         Ok(MemDisk {
             memory,
-            faults: Faults {
-                fail: Vec::new(alloc),
-                asked: 0,
-                met: 0,
-            },
+            faults: Faults::new(Vec::new(alloc)),
             lens: Vec::new(alloc),
             listings: 0,
         })

@@ -14,13 +14,14 @@ use crate::listings::{listing_of, take_name};
 use crate::paths::{parent_of, tick};
 use crate::rows::{can_be_set, has_number, is_free, later_of, second_past};
 use crate::tables::{
-    Opened, StoredFile, bytes_at, can_be_written, copy_from, free_key, is_stored, open_file,
-    set_place, store_file, time_at,
+    Opened, StoredFile, bytes_at, can_be_written, copy_from, is_stored, open_file, set_place,
+    store_file, time_at,
 };
 use crate::tree::look;
 use crate::writing::{spliced, written_end};
 use dav_core::{
     Batch, Change, DiskError, FileTime, FsPath, Handle, Kind, Lister, Meta, OpenOptions, Row,
+    free_key,
 };
 use dav_io::{NoMemory, Octets, Text};
 use std::alloc::Global;

@@ -8,6 +8,7 @@ ghost use Rattle.std.specs.Rc.{rc_value};
 ghost use Rattle.std.proofs.Props.{props};
 ghost use Rattle.dav_disk.specs.Members.{AreNamesIn};
 
+use dav_core::copied_names;
 use dav_io::{NoMemory, Text};
 use std::alloc::Global;
 use std::collections::BTreeMap;
@@ -27,17 +28,6 @@ pub struct Places {
     dirs: BTreeMap<Vec<Text>, BTreeMap<Text, usize>>,
     listed: Option<Listed>,
     ghost last: { ForSome listed (λ l. AreNamesIn dirs l.dir.items (rc_value l.names).items) } by { Prim.hlevel props },
-}
-
-// A copy of names.
-fn copied(alloc: Global, names: &[Text]) -> Result<Vec<Text>, NoMemory>
-    ensures { IfOk result (λ copy. copy.items ≡ names.now) }
-{
-    let mut copy = Vec::new(alloc);
-    for name in names {
-        copy.push(name.try_clone()?)?;
-    }
-    Ok(copy)
 }
 
 // The names of members, in order of their bytes.
@@ -95,7 +85,7 @@ impl Places {
         }
         let mut members = BTreeMap::new(alloc);
         members.insert(name, place)?;
-        self.dirs.insert(copied(alloc, dir)?, members)?;
+        self.dirs.insert(copied_names(alloc, dir)?, members)?;
         Ok(())
     }
 
@@ -138,7 +128,7 @@ impl Places {
         }
         let names = Rc::new(alloc, self.copied_names(alloc, dir)?)?;
         self.listed = Some(Listed {
-            dir: copied(alloc, dir)?,
+            dir: copied_names(alloc, dir)?,
             names: names.clone()?,
         });
         Ok(names)

@@ -1,6 +1,5 @@
 ghost use Rattle.std.specs.Prelude.{◌≡◌, ◌<◌, length, None, Some, IfOk, IsSome, OnOk, OnErr, true};
-ghost use Rattle.dav_disk.specs.Memory.{known_of as known_to};
-ghost use Rattle.dav_disk.specs.Room.{HasRoom};
+ghost use Rattle.dav_disk.specs.Memory.{known_of as known_to, HasRoom};
 
 use crate::faults::{is_fault, noted};
 use crate::memory::Memory;

@@ -1,7 +1,6 @@
 // The tables of a disk in memory: files by their numbers, open files by their handles.
 ghost use Rattle.std.specs.Prelude.{◌≡◌, ◌≤◌, ◌<◌, ◌+◌, ◌^◌, ℕ, [], None, Some, Option, IsSome, IfSome, IfNone, OnOk, OnErr, length, take, drop, min, true, is_some, option_map};
-ghost use Rattle.dav_core.specs.World.{put, bytes_or_none};
-ghost use Rattle.dav_core.specs.Tables.{at_key};
+ghost use Rattle.dav_core.specs.World.{put, bytes_or_none, at_key};
 ghost use Rattle.dav_disk.specs.Files.{stored_at, live_at, live_of};
 ghost use Rattle.dav_core.specs.Writing.{can_write};
 
@@ -82,19 +81,6 @@ pub fn can_be_written(opened: Opened) -> bool
     ensures { result ≡ can_write (Some (live_of opened)) }
 {
     opened.kind == Kind::File && (opened.how.write || opened.how.append)
-}
-
-// The least key that a table doesn't have, or none where it has all.
-pub fn free_key<V>(table: &BTreeMap<u32, V>) -> Option<u32>
-    ensures free { IfSome result (λ key. at_key table.now key ≡ None) }
-    ensures full { IfNone result ((key : ℕ) → key < 2 ^ 32 → IsSome (at_key table.now key)) }
-{
-    for key in 0..=u32::MAX {
-        if !table.contains_key(&key) {
-            return Some(key);
-        }
-    }
-    None
 }
 
 // Stores a file under a number. Where memory is refused the files stay.

@@ -16,8 +16,7 @@ use Rattle.dav_get.specs.declared.part.BodyPart.TheVariants.{Text, Slice as Slic
 use Rattle.dav_get.specs.declared.open_at.OpenAt.{OpenAt}
 use Rattle.dav_get.specs.declared.body.GetBody.{GetBody}
 use Rattle.dav_get.specs.OpenFiles.{IsPieceOf}
-use Rattle.dav_get.specs.Parts.{parts_of}
-use Rattle.dav_get.specs.Bodies.{left_of, is_slice, IsHeld, Takes, TouchesOwn, HasNumber, StandsIn, Polls, IsPolled}
+use Rattle.dav_get.specs.Bodies.{left_of, is_slice, IsHeld, Takes, TouchesOwn, HasNumber, StandsIn, Polls, IsPolled, parts_of}
 
 passed_parts : (b : Bool) (number : ℕ) (part : Slice) (n : ℕ) (parts : List BodyPart) → (part.count - n == 0) ≡ b
     → parts_of number (cond b parts (SliceOf (record { start = part.start + n; count = part.count - n }) ∷ parts))

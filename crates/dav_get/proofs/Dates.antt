@@ -2,7 +2,7 @@
 use Rattle.std.proofs.Common.{◌≡◌, List, ℕ, Option, None, Some, Ok, subst, sym}
 use Rattle.dav_core.specs.declared.time.FileTime.{FileTime}
 use Rattle.dav_core.specs.Info.{said}
-use Rattle.dav_model.specs.Times.{IsDate}
+use Rattle.dav_model.specs.Head.{IsDate}
 
 pub said_some : (o : Option FileTime) (time : FileTime) → Ok time ≡ said o → o ≡ Some time
 said_some None time e = cc

@@ -8,7 +8,7 @@ use Rattle.dav_core.specs.Tree.{is_file}
 use Rattle.dav_io.specs.Told.{Both}
 use Rattle.dav_core.specs.Unchanged.{Keeps, KeepsBut, SameBesidesOpens}
 use Rattle.dav_core.proofs.UnchangedLemmas.{keeps_but, keeps_then, but_then, closed_again}
-use Rattle.dav_core.specs.Options.{reading}
+use Rattle.dav_core.specs.Writing.{reading}
 use Rattle.dav_store.specs.Frames.{IsOpened}
 use Rattle.dav_store.specs.View.{View}
 use Rattle.dav_get.specs.declared.open_at.OpenAt.{OpenAt}

@@ -24,7 +24,7 @@ use Rattle.dav_model.proofs.Framing.{directed_framed, framed_redirect, framed_we
 use Rattle.dav_model.proofs.Nonempty.{HasSlices, index_sound, sent_has, sent_sound, sound_empty}
 use Rattle.dav_get.specs.declared.open_at.OpenAt.{OpenAt}
 use Rattle.dav_get.specs.Heard.{stood_heard}
-use Rattle.dav_get.specs.Parts.{parts_of}
+use Rattle.dav_get.specs.Bodies.{parts_of}
 use Rattle.dav_get.specs.Right.{reply_at}
 use Rattle.dav_get.specs.Table.{AfterListing, AfterLook, AfterMeta, AfterOpen, AfterRedirect, Answer, ByCourse, ByFile, ByRedirect, ByWellKnown, Gets, Given, IfMoved, IsEmpty, Sends, SendsFile, asked_at, first_place, outcome_of, refused_as, sent_after, sent_for, stood_by}
 use Rattle.dav_get.proofs.Pages.{page_given}

@@ -5,8 +5,7 @@ use Rattle.std.proofs.lemmas.List.{take-append-le}
 use Rattle.dav_io.proofs.ToldLemmas.{both_map, told_after, told_before}
 use Rattle.dav_core.specs.Disk.{DiskState, can_read}
 use Rattle.dav_model.specs.declared.ranges.Slice.{Slice}
-use Rattle.dav_model.specs.Bodies.{PieceOf}
-use Rattle.dav_model.specs.Sizes.{zeros_size}
+use Rattle.dav_model.specs.Bodies.{PieceOf, zeros_size}
 use Rattle.dav_store.specs.Files.{FileReads, ReadsIn}
 use Rattle.dav_store.specs.Standing.{Seen}
 use Rattle.dav_get.specs.declared.open_at.OpenAt.{OpenAt}

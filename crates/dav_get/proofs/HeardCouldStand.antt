@@ -5,12 +5,12 @@ use Rattle.dav_io.specs.Counts.{Rose}
 use Rattle.dav_core.specs.declared.error.FsError.{FsError}
 use Rattle.dav_core.specs.declared.error.FsError.TheVariants as fs
 use Rattle.dav_core.specs.declared.member.Member.{Member}
-use Rattle.dav_core.specs.DavPath.{WebPath}
+use Rattle.dav_core.specs.DavPath.{WebPath, is_printable}
 use Rattle.dav_core.specs.Errors.{CouldRefuse}
 use Rattle.dav_core.specs.Unchanged.{Keeps}
 use Rattle.dav_page.specs.Listed.{HasPlainName}
 use Rattle.dav_core.specs.Info.{Info}
-use Rattle.dav_core.specs.Options.{reading}
+use Rattle.dav_core.specs.Writing.{reading}
 use Rattle.dav_core.specs.Statuses.{fs_status}
 use Rattle.dav_core.specs.Tree.{is_file}
 use Rattle.dav_store.specs.Files.{Spoiled}
@@ -20,7 +20,7 @@ use Rattle.dav_store.specs.Standing.{Standing}
 use Rattle.dav_store.specs.View.{View, Listings, Says as SaysOf}
 use Rattle.dav_model.specs.Due.{Course, Due, Query, IsHead, IsRight, IsSpoiled, course, directing, due_course, due_listed, due_looked, due_opened, failure, known, listing, opening, page, refused, refusing, to_slash, file as sends}
 use Rattle.dav_model.specs.Head.{Reply, Stood, is_get, is_set, is_well_known, refusal}
-use Rattle.dav_model.specs.Shown.{Could, CouldStand, is_printable}
+use Rattle.dav_model.specs.Shown.{Could, CouldStand}
 use Rattle.dav_get.specs.Heard.{Heard, HearsAddress, HearsCourse, HearsFile, HearsLook, HearsMeta, IsPlacedOr, IsUnplacedOf, IsRightForSome, RefusesFew, WasHad, looked_of, looked_stood, shown_alike, shown_heard, stood_heard}
 use Rattle.dav_get.specs.Right.{IsOfNumber, or_zero, reply_at}
 use Rattle.dav_get.specs.Table.{CouldSay, Given, IsListing, asked_at}

@@ -8,7 +8,7 @@ use Rattle.dav_core.specs.declared.error.FsError.TheVariants as fs
 use Rattle.dav_core.specs.declared.member.Member.{Member}
 use Rattle.dav_core.specs.DavPath.{WebPath}
 use Rattle.dav_core.specs.Info.{Info}
-use Rattle.dav_core.specs.Options.{reading}
+use Rattle.dav_core.specs.Writing.{reading}
 use Rattle.dav_core.specs.Statuses.{fs_status}
 use Rattle.dav_core.specs.Unchanged.{Keeps}
 use Rattle.dav_page.specs.Listed.{AreRows, HasPlainName}

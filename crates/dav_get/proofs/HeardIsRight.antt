@@ -12,7 +12,7 @@ use Rattle.dav_page.specs.Listed.{AreRows}
 use Rattle.dav_core.specs.declared.tree.Kind.{Kind}
 use Rattle.dav_core.specs.declared.tree.Kind.TheVariants.{Dir, File, Link}
 use Rattle.dav_core.specs.Info.{Info}
-use Rattle.dav_core.specs.Options.{reading}
+use Rattle.dav_core.specs.Writing.{reading}
 use Rattle.dav_core.specs.Statuses.{fs_status}
 use Rattle.dav_core.specs.DavPath.{WebPath}
 use Rattle.dav_core.specs.Tree.{is_file}
@@ -29,10 +29,9 @@ use Rattle.dav_model.specs.Head.{IsFileHead, Reply, Stood, address_of, directed,
 use Rattle.dav_model.specs.Shown.{Shown}
 use Rattle.dav_get.specs.declared.open_at.OpenAt.{OpenAt}
 use Rattle.dav_get.specs.declared.part.BodyPart.{BodyPart}
-use Rattle.dav_get.specs.Bodies.{left_of}
+use Rattle.dav_get.specs.Bodies.{left_of, parts_of}
 use Rattle.dav_get.specs.Heard.{Heard, HearsAddress, HearsCourse, HearsFile, HearsLook, HearsMeta, IsPlacedOr, WasHad, looked_of, shown_heard, stood_heard}
 use Rattle.dav_get.specs.Lives.{OpenOnlyHeld}
-use Rattle.dav_get.specs.Parts.{parts_of}
 use Rattle.dav_get.specs.Right.{IsOfNumber, number_told, or_zero, reply_at}
 use Rattle.dav_get.specs.Table.{Given, IsListing, ReadsMembers, asked_at}
 use Rattle.dav_get.specs.Told.{IsRightFor, ShowsFor, found_as, number_by, number_for, number_in, number_looked, shown_as, stood_of}

@@ -23,9 +23,8 @@ use Rattle.dav_get.specs.declared.body.GetBody.{GetBody}
 use Rattle.dav_get.specs.declared.open_at.OpenAt.{OpenAt}
 use Rattle.dav_get.specs.declared.part.BodyPart.{BodyPart}
 use Rattle.dav_get.specs.declared.part.BodyPart.TheVariants.{Text, Slice as SliceOf}
-use Rattle.dav_get.specs.Bodies.{IsHeld, has_room, is_part, is_slice, left_of}
+use Rattle.dav_get.specs.Bodies.{IsHeld, has_room, is_part, is_slice, left_of, parts_of}
 use Rattle.dav_get.specs.Lives.{HasMost, OpenOnlyHeld, OpensOnly}
-use Rattle.dav_get.specs.Parts.{parts_of}
 use Rattle.dav_get.specs.Right.{IsOfNumber, reply_at}
 use Rattle.dav_get.specs.Table.{Answer, Given, GivesPage, IsPageBody}
 

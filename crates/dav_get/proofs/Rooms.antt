@@ -4,7 +4,7 @@ use Rattle.std.specs.Prelude.{IfOk}
 use Rattle.std.specs.List.{list_all}
 use Rattle.std.proofs.lemmas.Bool.Decides.{nat_tests}
 use Rattle.dav_io.specs.declared.failure.NoMemory.{NoMemory}
-use Rattle.dav_model.specs.Sizes.{zeros_size}
+use Rattle.dav_model.specs.Bodies.{zeros_size}
 use Rattle.dav_model.specs.declared.ranges.Slice.{Slice}
 use Rattle.dav_get.specs.declared.buffer.ReadBuffer.{ReadBuffer}
 use Rattle.dav_get.specs.declared.part.BodyPart.{BodyPart}

@@ -16,9 +16,8 @@ use Rattle.dav_model.specs.Head.{IsSent, is_get, sent_parts, sent_status}
 use Rattle.dav_get.specs.declared.body.GetBody.{GetBody}
 use Rattle.dav_get.specs.declared.open_at.OpenAt.{OpenAt}
 use Rattle.dav_get.specs.declared.part.BodyPart.{BodyPart}
-use Rattle.dav_get.specs.Bodies.{left_of}
+use Rattle.dav_get.specs.Bodies.{left_of, parts_of}
 use Rattle.dav_get.specs.Heard.{stood_heard}
-use Rattle.dav_get.specs.Parts.{parts_of}
 use Rattle.dav_get.specs.Right.{IsOfNumber, number_told, or_zero, reply_at}
 use Rattle.dav_get.specs.Table.{Answer, Holds, IfMoved, Sends, SendsFrom, first_place, sent_after, sent_for, type_of}
 

@@ -8,7 +8,7 @@ use Rattle.dav_model.specs.Bodies.{Part}
 use Rattle.dav_model.specs.Head.{last_boundary, several_parts, two_parts}
 use Rattle.dav_get.specs.declared.part.BodyPart.{BodyPart}
 use Rattle.dav_get.specs.declared.part.BodyPart.TheVariants.{Text}
-use Rattle.dav_get.specs.Parts.{parts_of}
+use Rattle.dav_get.specs.Bodies.{parts_of}
 
 one_of : (f : Slice → List Part) (x : Slice) → flat_map f (x ∷ []) ≡ f x
 one_of f x = append-nil (f x)

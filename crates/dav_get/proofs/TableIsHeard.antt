@@ -12,7 +12,7 @@ use Rattle.dav_core.specs.declared.handle.OpenOptions.{OpenOptions}
 use Rattle.dav_core.specs.DavPath.{WebPath}
 use Rattle.dav_core.specs.Disk.{Live, can_read}
 use Rattle.dav_core.specs.Info.{Info}
-use Rattle.dav_core.specs.Options.{reading}
+use Rattle.dav_core.specs.Writing.{reading}
 use Rattle.dav_core.specs.Statuses.{of_fs, status_of, closes, fs_status}
 use Rattle.dav_core.specs.Tree.{is_file}
 use Rattle.dav_core.specs.Unchanged.{Keeps}
@@ -24,7 +24,7 @@ use Rattle.dav_model.specs.Due.{Course, Due, Query, IsHead, course, directing, d
 use Rattle.dav_model.specs.Head.{IsFileHead, Reply, Stood, address_of, directed, is_get, is_set, is_well_known, redirected, refusal}
 use Rattle.dav_model.specs.Shown.{Shown}
 use Rattle.dav_get.specs.Heard.{Heard, HearsAddress, HearsCourse, HearsFile, HearsMeta, IsPlacedOr, WasHad, shown_heard, stood_heard}
-use Rattle.dav_get.specs.Parts.{parts_of}
+use Rattle.dav_get.specs.Bodies.{parts_of}
 use Rattle.dav_get.specs.Right.{IsOfNumber, number_told, or_zero, reply_at}
 use Rattle.dav_get.specs.Table.{AfterListing, AfterLook, AfterMeta, AfterOpen, AfterRedirect, ByCourse, ByFile, ByRedirect, ByWellKnown, CouldSay, Gets, Given, IsListing, Redirects, SendsAway, SendsFile, asked_at, refused_as}
 use Rattle.dav_get.proofs.Pages.{page_given, page_numbers}

@@ -1,5 +1,5 @@
 -- What a body has left, and what a poll of it does.
-use Rattle.std.specs.Prelude.{◌≡◌, ◌≤◌, ◌<◌, ◌+◌, ◌-◌, ◌==◌, ◌⊎◌, ◌^◌, ◌&&◌, ℕ, nat_lt, nat_le, List, [], ◌∷◌, length, take, drop, min, max, cond, Bool, true, false, is_some, Option, None, Some}
+use Rattle.std.specs.Prelude.{◌≡◌, ◌≤◌, ◌<◌, ◌+◌, ◌-◌, ◌==◌, ◌⊎◌, ◌^◌, ◌&&◌, ℕ, nat_lt, nat_le, List, [], ◌∷◌, length, take, drop, min, max, cond, Bool, true, false, is_some, Option, None, Some, map}
 use Rattle.std.specs.List.{list_all, list_any}
 use Rattle.dav_io.specs.Counts.{Rose}
 use Rattle.dav_core.specs.Disk.{DiskState}
@@ -8,9 +8,8 @@ use Rattle.dav_core.specs.World.{World, bytes_of}
 use Rattle.dav_model.specs.declared.ranges.Slice.{Slice}
 use Rattle.dav_model.specs.declared.answer.Answer.{Answer}
 use Rattle.dav_model.specs.declared.answer.Answer.TheVariants.{Piece, End, Broken}
-use Rattle.dav_model.specs.Bodies.{Part, Polls as PollsParts}
+use Rattle.dav_model.specs.Bodies.{Part, Polls as PollsParts, text as as_text, slice as as_slice, zeros_size}
 use Rattle.dav_model.specs.Calls.{AsksToRead, is_piece}
-use Rattle.dav_model.specs.Sizes.{zeros_size}
 use Rattle.dav_store.specs.Standing.{Seen}
 use Rattle.dav_store.specs.Files.{FileCloses}
 use Rattle.dav_get.specs.declared.part.BodyPart.{BodyPart}
@@ -20,7 +19,13 @@ use Rattle.dav_get.specs.declared.body.GetBody.{GetBody}
 use Rattle.dav_get.specs.declared.body.Given.{Given}
 use Rattle.dav_get.specs.declared.body.Given.TheVariants.{Text as GivenText, Read as GivenRead, End as GivenEnd, Broken as GivenBroken}
 use Rattle.dav_get.specs.OpenFiles.{IsAt, SameStands, IsPieceOf}
-use Rattle.dav_get.specs.Parts.{parts_of}
+
+abbrev pub part_of : ℕ → BodyPart → Part
+part_of number (Text bytes) = as_text bytes
+part_of number (SliceOf part) = as_slice number part.start part.count
+
+abbrev pub parts_of : ℕ → List BodyPart → List Part
+parts_of number parts = map (part_of number) parts
 
 -- the parts that are left
 abbrev pub left_of : {F : Type 0} → GetBody F → List BodyPart

@@ -5,7 +5,7 @@ use Rattle.dav_core.specs.declared.error.FsError.{FsError}
 use Rattle.dav_core.specs.DavPath.{WebPath}
 use Rattle.dav_core.specs.Disk.{DiskState}
 use Rattle.dav_core.specs.Info.{Info}
-use Rattle.dav_core.specs.Options.{reading}
+use Rattle.dav_core.specs.Writing.{reading}
 use Rattle.dav_core.specs.Statuses.{closes, status_of}
 use Rattle.dav_store.specs.Files.{AsksAtMostOnce, AsksOnce, AsksToGive}
 use Rattle.dav_store.specs.declared.entry.ReadDirMeta.TheVariants.{Data}

@@ -1,5 +1,3 @@
-pub mod Within
-pub mod Parts
 pub mod OpenFiles
 pub mod Bodies
 pub mod BodySteps
@@ -11,4 +9,3 @@ pub mod Prepared
 pub mod Right
 pub mod Heard
 pub mod Told
-pub mod Asked

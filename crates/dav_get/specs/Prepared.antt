@@ -1,6 +1,6 @@
 -- What is made ready before a file is given.
 use Rattle.std.specs.Prelude.{◌≡◌, ◌⊎◌, ℕ, List, [], ◌∷◌, true, vec_len, max}
-use Rattle.std.specs.List.{list_all}
+use Rattle.std.specs.List.{list_all, AllByRecursion}
 use Rattle.dav_core.specs.declared.method.DavMethod.{DavMethod}
 use Rattle.dav_core.specs.DavPath.{WebPath}
 use Rattle.dav_core.specs.Info.{Info}
@@ -11,6 +11,8 @@ use Rattle.dav_get.specs.declared.part.BodyPart.TheVariants.{Text, Slice as Slic
 use Rattle.dav_get.specs.declared.prepared.Prepared.{Prepared}
 use Rattle.dav_get.specs.Bodies.{is_part, has_room}
 use Rattle.dav_get.specs.Table.{IsOutcome, ArePartsOf}
+use Rattle.dav_model.specs.Slices.{IsWithin}
+use Rattle.dav_model.specs.declared.sent.Sent.TheVariants.{All, Alone, Unsatisfied, One, Several}
 
 -- the most bytes of a slice
 abbrev pub longest : List BodyPart → ℕ
@@ -29,3 +31,13 @@ pub record IsPrepared (size : ℕ) (method : DavMethod) (path : WebPath) (info :
   pub outcome_is : IsOutcome method path info sent p.outcome
   pub are : ArePartsOf method path info sent p.parts.items
   pub ready : AreReady size p.parts.items p.buffer
+
+-- ---- slices that lie in a file
+
+-- what is sent of a file of this length is there
+abbrev pub IsSentOf : ℕ → Sent → Type 0
+IsSentOf len All = Unit {0}
+IsSentOf len (Alone status) = Unit {0}
+IsSentOf len Unsatisfied = Unit {0}
+IsSentOf len (One part) = IsWithin len part
+IsSentOf len (Several parts) = AllByRecursion (IsWithin len) parts

@@ -7,8 +7,7 @@ use Rattle.dav_model.specs.Head.{Reply, refusal}
 use Rattle.dav_store.specs.Standing.{Seen}
 use Rattle.dav_store.specs.View.{View, seen_in}
 use Rattle.dav_get.specs.declared.open_at.OpenAt.{OpenAt}
-use Rattle.dav_get.specs.Bodies.{left_of}
-use Rattle.dav_get.specs.Parts.{parts_of}
+use Rattle.dav_get.specs.Bodies.{left_of, parts_of}
 use Rattle.dav_get.specs.Table.{Given}
 
 -- What is answered to a request with these fields, with slices of the file of this number. An error is a refusal.

@@ -10,7 +10,7 @@ use Rattle.dav_core.specs.declared.method.DavMethod.{DavMethod}
 use Rattle.dav_core.specs.declared.method.DavMethod.TheVariants.{Get, Head}
 use Rattle.dav_core.specs.DavPath.{WebPath, last_name, type_of_last}
 use Rattle.dav_core.specs.Info.{Info, AreInYears}
-use Rattle.dav_core.specs.Options.{reading}
+use Rattle.dav_core.specs.Writing.{reading}
 use Rattle.dav_core.specs.Statuses.{of_fs}
 use Rattle.dav_core.specs.Tags.{HasTagBytes}
 use Rattle.dav_core.specs.Tree.{is_file}
@@ -26,16 +26,15 @@ use Rattle.dav_model.specs.declared.outcome.Outcome.{Outcome}
 use Rattle.dav_model.specs.declared.ranges.Slice.{Slice}
 use Rattle.dav_model.specs.declared.sent.Sent.{Sent}
 use Rattle.dav_model.specs.declared.sent.Sent.TheVariants.{All, Alone, Unsatisfied, One, Several}
-use Rattle.dav_model.specs.Due.{Course, Query, course, directing, listing, opening, refusing}
-use Rattle.dav_model.specs.Head.{Reply, Stood, directed, is_get, is_set, is_well_known, redirected_fields, sent_fields, sent_of, sent_parts, sent_status, well_known}
+use Rattle.dav_model.specs.Due.{Course, Query, course, directing, listing, opening, refusing, query}
+use Rattle.dav_model.specs.Head.{Reply, Stood, directed, is_get, is_set, is_well_known, redirected_fields, sent_fields, sent_of, sent_parts, sent_status, well_known, IsDate}
 use Rattle.dav_model.specs.Indexes.{page_fields}
-use Rattle.dav_model.specs.Times.{IsDate}
 use Rattle.dav_get.specs.declared.body.GetBody.{GetBody}
 use Rattle.dav_get.specs.declared.open_at.OpenAt.{OpenAt}
 use Rattle.dav_get.specs.declared.part.BodyPart.{BodyPart}
 use Rattle.dav_get.specs.declared.part.BodyPart.TheVariants.{Text}
-use Rattle.dav_get.specs.Bodies.{left_of}
-use Rattle.dav_get.specs.Parts.{parts_of}
+use Rattle.dav_get.specs.Bodies.{left_of, parts_of}
+use Rattle.dav_get.specs.declared.asked.Asked.{Asked}
 
 -- a status with its fields, and a body
 abbrev pub Answer : Type 0 → Type 0
@@ -274,3 +273,8 @@ module _ {S C F L E : Type 0} (view : View S C F) (lists : Listings S C L E) whe
   -- A GET or HEAD. (Want of memory is answered beside the table.)
   abbrev pub Gets : Query → C → S → Given F → S → Type 0
   Gets q c s result t = ByWellKnown (is_well_known q.settings q.method q.path) q c s result t
+
+-- ---- what is asked, as the table speaks of it
+
+abbrev pub asked_of : Asked → Query
+asked_of asked = query asked.settings.now asked.fields.now asked.method asked.path.now

@@ -5,25 +5,23 @@ ghost use Rattle.dav_core.specs.Unchanged.{Keeps};
 ghost use Rattle.dav_model.specs.Due.{page_course, query};
 ghost use Rattle.dav_model.specs.Head.{is_get as the_is_get};
 ghost use Rattle.dav_model.specs.Indexes.{IsIndexReply, page_fields as the_page_fields};
-ghost use Rattle.dav_model.specs.Sizes.{read_size_of};
+ghost use Rattle.dav_model.specs.Bodies.{read_size_of};
 ghost use Rattle.dav_page.specs.Listed.{AreSound, HasPlainName};
 ghost use Rattle.dav_store.specs.Leads.{LeadsOn};
 ghost use Rattle.dav_store.specs.View.{the_listings, the_view};
 ghost use Rattle.dav_get.specs.declared.part.BodyPart.TheVariants.{Text as TextPart};
-ghost use Rattle.dav_get.specs.Asked.{asked_of};
 ghost use Rattle.dav_get.specs.Lives.{HasMost, OpenOnlyHeld};
 ghost use Rattle.dav_get.specs.Right.{reply_at};
-ghost use Rattle.dav_get.specs.Table.{ByCourse, GivesPage, IsListing, IsPageBody, Lists, method_for as the_method_for, page_outcome};
+ghost use Rattle.dav_get.specs.Table.{ByCourse, GivesPage, IsListing, IsPageBody, Lists, method_for as the_method_for, page_outcome, asked_of};
 
 use crate::asked::Asked;
 use crate::body::GetBody;
 use crate::buffer::ReadBuffer;
 use crate::directories::may_list;
-use crate::headers::add;
 use crate::part::BodyPart;
 use crate::prepared::is_get;
 use dav_core::{DavError, DavMethod, DavPath, FsError, Member};
-use dav_io::{FieldName, Fields, NoMemory, Octets, Text};
+use dav_io::{FieldName, Fields, NoMemory, Octets, Text, add_field};
 use dav_model::{Outcome, Settings};
 use dav_page::index_page;
 use dav_store::{GuardedFileSystem, ReadDirMeta, read_members};
@@ -71,10 +69,9 @@ fn page_fields(alloc: Global) -> Result<Fields, NoMemory>
     ensures { IfOk result (λ fields. fields ≡ the_page_fields) }
 {
     let mut fields = Vec::new(alloc);
-    add(
-        alloc,
+    add_field(
         &mut fields,
-        FieldName::ContentType,
+        Text::known(FieldName::ContentType),
         b"text/html; charset=utf-8",
     )?;
     Ok(Fields::new(fields))

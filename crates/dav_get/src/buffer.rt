@@ -1,5 +1,5 @@
 ghost use Rattle.std.specs.Prelude.{◌≡◌, ◌<◌, IfOk, max, min, vec_len};
-ghost use Rattle.dav_model.specs.Sizes.{zeros_size};
+ghost use Rattle.dav_model.specs.Bodies.{zeros_size};
 
 use dav_io::NoMemory;
 use std::alloc::Global;

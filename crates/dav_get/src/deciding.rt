@@ -4,7 +4,7 @@ ghost use Rattle.dav_model.specs.Conditions.{ranges_are_heard as ranges_heard, s
 ghost use Rattle.dav_model.specs.Head.{sent_of, sent_ranges};
 ghost use Rattle.dav_model.specs.Slices.{AreWithin};
 ghost use Rattle.dav_get.specs.Table.{stood_by, first_place as the_first_place};
-ghost use Rattle.dav_get.specs.Within.{IsSentOf};
+ghost use Rattle.dav_get.specs.Prepared.{IsSentOf};
 
 use crate::ranges::slices;
 use dav_core::{DavMetaData, DavMethod, ETag, FileTime};

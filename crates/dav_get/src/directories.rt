@@ -6,9 +6,8 @@ ghost use Rattle.dav_model.specs.Due.{has_propfind as the_has_propfind, index_pa
 ghost use Rattle.dav_model.specs.Head.{with_slash as the_with_slash};
 ghost use Rattle.dav_get.specs.Table.{directed_outcome};
 
-use crate::headers::add;
 use dav_core::{DavMethod, DavMethodSet, DavPath};
-use dav_io::{FieldName, Fields, NoMemory, Text};
+use dav_io::{FieldName, Fields, NoMemory, Text, add_field};
 use dav_model::{Outcome, Settings};
 use std::alloc::Global;
 
@@ -38,8 +37,12 @@ pub(crate) fn directed(alloc: Global, path: &DavPath) -> Result<Outcome, NoMemor
 {
     let link = link_with_slash(path)?;
     let mut fields = Vec::new(alloc);
-    add(alloc, &mut fields, FieldName::ContentLength, b"0")?;
-    add(alloc, &mut fields, FieldName::Location, link.as_slice())?;
+    add_field(&mut fields, Text::known(FieldName::ContentLength), b"0")?;
+    add_field(
+        &mut fields,
+        Text::known(FieldName::Location),
+        link.as_slice(),
+    )?;
     Ok(Outcome {
         status: 302,
         fields: Fields::new(fields),

@@ -1,15 +1,14 @@
 // The header fields of answers.
 ghost use Rattle.std.specs.Prelude.{◌≡◌, ◌<◌, [], ◌++◌, ◌∷◌, List, ℕ, true, Option, None, Some, IfOk, OnOk, codes, decimal};
-ghost use Rattle.dav_io.specs.FieldNames.{spelled};
+ghost use Rattle.dav_io.specs.Texts.{spelled};
 ghost use Rattle.dav_model.specs.Slices.{IsWithin};
-ghost use Rattle.dav_get.specs.Within.{IsSentOf};
+ghost use Rattle.dav_get.specs.Prepared.{IsSentOf};
 ghost use Rattle.std.specs.Option.{option_map};
 ghost use Rattle.dav_core.specs.Info.{is_in_years, natural};
-ghost use Rattle.dav_model.specs.Times.{IsDate};
-ghost use Rattle.dav_model.specs.Head.{field, field_where, quoted_where, sent_fields as the_sent_fields, sent_length as the_sent_length, sent_range as the_sent_range, sent_type as the_sent_type, span_text, redirected_fields as the_redirected_fields, well_known};
+ghost use Rattle.dav_model.specs.Head.{field, field_where, quoted_where, sent_fields as the_sent_fields, sent_length as the_sent_length, sent_range as the_sent_range, sent_type as the_sent_type, span_text, redirected_fields as the_redirected_fields, well_known, IsDate};
 
 use dav_core::{DavMetaData, FileTime};
-use dav_io::{Field, FieldName, Fields, NoMemory, Octets, Text};
+use dav_io::{Field, FieldName, Fields, NoMemory, Octets, Text, add_field};
 use dav_model::{Sent, Slice};
 use httpdate::HttpDate;
 use itoa::Buffer;
@@ -31,19 +30,6 @@ fn push(fields: &mut Vec<Field>, name: FieldName, value: Octets) -> Result<(), N
     let name = Text::known(name);
     fields.push(Field { name, value })?;
     Ok(())
-}
-
-/// Adds a field whose value is copied.
-pub(crate) fn add(
-    alloc: Global,
-    fields: &mut Vec<Field>,
-    name: FieldName,
-    value: &[u8],
-) -> Result<(), NoMemory>
-    ensures { OnOk result (fields.new.items ≡ fields.old.items ++ field (spelled name) value.now ∷ []) }
-{
-    let value = Octets::new(Vec::from_slice(alloc, value)?);
-    push(fields, name, value)
 }
 
 // The entity tag between its quotes, where there is one.
@@ -91,18 +77,14 @@ fn date_of(time: FileTime) -> [u8; 29]
 }
 
 // Adds the time of the last change, where it is known.
-fn add_date<M: DavMetaData>(
-    alloc: Global,
-    fields: &mut Vec<Field>,
-    meta: &M,
-) -> Result<(), NoMemory>
+fn add_date<M: DavMetaData>(fields: &mut Vec<Field>, meta: &M) -> Result<(), NoMemory>
     ensures { OnOk result ((date : Option (List ℕ)) × IsDate (M.info meta.now).modified date
         × (fields.new.items ≡ fields.old.items ++ field_where (codes "last-modified") date)) }
 {
     match meta.modified() {
         Ok(time) => {
             let date = date_of(time);
-            add(alloc, fields, FieldName::LastModified, &date)?;
+            add_field(fields, Text::known(FieldName::LastModified), &date)?;
             Ok(())
         }
         Err(_) => Ok(()),
@@ -133,13 +115,7 @@ fn sent_length(gives: bool, len: u64, sent: &Sent) -> Option<u64>
 }
 
 // Adds `content-length`, where it stands.
-fn add_length(
-    alloc: Global,
-    fields: &mut Vec<Field>,
-    gives: bool,
-    len: u64,
-    sent: &Sent,
-) -> Result<(), NoMemory>
+fn add_length(fields: &mut Vec<Field>, gives: bool, len: u64, sent: &Sent) -> Result<(), NoMemory>
     ensures { OnOk result (fields.new.items ≡ fields.old.items ++ field_where (codes "content-length")
         (option_map decimal (the_sent_length gives len sent.now))) }
 {
@@ -147,10 +123,9 @@ fn add_length(
         return Ok(());
     };
     let mut text = Buffer::new();
-    add(
-        alloc,
+    add_field(
         fields,
-        FieldName::ContentLength,
+        Text::known(FieldName::ContentLength),
         text.format(number).as_bytes(),
     )
 }
@@ -222,13 +197,17 @@ pub(crate) fn sent_fields<M: DavMetaData>(
 {
     let len = meta.len();
     let mut fields = Vec::with_capacity(alloc, MOST_FIELDS)?;
-    add(alloc, &mut fields, FieldName::AcceptRanges, b"bytes")?;
-    add_length(alloc, &mut fields, gives, len, sent)?;
+    add_field(&mut fields, Text::known(FieldName::AcceptRanges), b"bytes")?;
+    add_length(&mut fields, gives, len, sent)?;
     add_range(alloc, &mut fields, len, sent)?;
     let kind = sent_type(kind, sent);
-    add(alloc, &mut fields, FieldName::ContentType, kind.as_bytes())?;
+    add_field(
+        &mut fields,
+        Text::known(FieldName::ContentType),
+        kind.as_bytes(),
+    )?;
     add_tag(alloc, &mut fields, meta)?;
-    add_date(alloc, &mut fields, meta)?;
+    add_date(&mut fields, meta)?;
     Ok(Fields::new(fields))
 }
 
@@ -242,10 +221,14 @@ pub(crate) fn redirected_fields<M: DavMetaData>(
         × (fields ≡ the_redirected_fields address.now (M.info meta.now).tag date)) }
 {
     let mut fields = Vec::new(alloc);
-    add(alloc, &mut fields, FieldName::ContentLength, b"0")?;
+    add_field(&mut fields, Text::known(FieldName::ContentLength), b"0")?;
     add_tag(alloc, &mut fields, meta)?;
-    add_date(alloc, &mut fields, meta)?;
-    add(alloc, &mut fields, FieldName::Location, address.as_slice())?;
+    add_date(&mut fields, meta)?;
+    add_field(
+        &mut fields,
+        Text::known(FieldName::Location),
+        address.as_slice(),
+    )?;
     Ok(Fields::new(fields))
 }
 
@@ -254,7 +237,7 @@ pub(crate) fn well_known_fields(alloc: Global) -> Result<Fields, NoMemory>
     ensures { IfOk result (λ fields. fields ≡ well_known.fields) }
 {
     let mut fields = Vec::new(alloc);
-    add(alloc, &mut fields, FieldName::AcceptRanges, b"bytes")?;
-    add(alloc, &mut fields, FieldName::ContentLength, b"0")?;
+    add_field(&mut fields, Text::known(FieldName::AcceptRanges), b"bytes")?;
+    add_field(&mut fields, Text::known(FieldName::ContentLength), b"0")?;
     Ok(Fields::new(fields))
 }

@@ -1,11 +1,10 @@
 // The parts of a file's answer.
 ghost use Rattle.std.specs.Prelude.{◌≡◌, ◌≤◌, ◌<◌, ◌+◌, ◌^◌, [], ◌++◌, ℕ, true, IfOk, OnOk, length};
 ghost use Rattle.std.specs.List.{AllByRecursion, list_all};
-ghost use Rattle.dav_get.specs.Bodies.{is_part};
+ghost use Rattle.dav_get.specs.Bodies.{is_part, parts_of};
 ghost use Rattle.dav_model.specs.Head.{last_boundary, part_head as the_part_head, sent_parts as the_sent_parts, several_parts, slice_where, two_parts};
-ghost use Rattle.dav_get.specs.Parts.{parts_of};
 ghost use Rattle.dav_model.specs.Slices.{IsWithin};
-ghost use Rattle.dav_get.specs.Within.{IsSentOf};
+ghost use Rattle.dav_get.specs.Prepared.{IsSentOf};
 
 use crate::headers::push_span;
 use crate::part::BodyPart;

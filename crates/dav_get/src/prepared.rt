@@ -2,11 +2,10 @@
 ghost use Rattle.std.specs.Prelude.{◌≡◌, ◌<◌, IfOk, true};
 ghost use Rattle.std.specs.List.{list_all};
 ghost use Rattle.dav_model.specs.Head.{is_get as the_is_get, sent_status};
-ghost use Rattle.dav_model.specs.Sizes.{read_size_of};
+ghost use Rattle.dav_model.specs.Bodies.{read_size_of};
 ghost use Rattle.dav_get.specs.Bodies.{is_part};
-ghost use Rattle.dav_get.specs.Prepared.{AreReady, IsPrepared, longest as the_longest};
+ghost use Rattle.dav_get.specs.Prepared.{AreReady, IsPrepared, longest as the_longest, IsSentOf};
 ghost use Rattle.dav_get.specs.Table.{IsOutcome};
-ghost use Rattle.dav_get.specs.Within.{IsSentOf};
 ghost use Rattle.dav_model.specs.declared.sent.Sent.TheVariants.{Unsatisfied};
 
 use crate::buffer::ReadBuffer;

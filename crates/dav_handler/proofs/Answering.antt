@@ -26,7 +26,7 @@ use Rattle.dav_model.specs.Head.{Reply, is_set, is_well_known, refusal}
 use Rattle.dav_model.specs.Play.{Reads}
 use Rattle.dav_local_laws.proofs.LocalLearns.{nothing_learned}
 use Rattle.dav_model.specs.Rules.{Learns, Rules}
-use Rattle.dav_model.specs.Sizes.{read_size_of}
+use Rattle.dav_model.specs.Bodies.{read_size_of}
 use Rattle.dav_model.specs.Trail.{Leaves}
 use Rattle.dav_model.proofs.JoiningLemmas.{learns_same, leaves_same}
 use Rattle.dav_methods.proofs.KeptOpen.{open_kept, open_same}
@@ -42,9 +42,8 @@ use Rattle.dav_local.specs.Standing.{seen_in, seen_with}
 use Rattle.dav_local_laws.specs.Simple.{is_simple}
 use Rattle.dav_get.specs.declared.open_at.OpenAt.{OpenAt}
 use Rattle.dav_get.specs.declared.part.BodyPart.{BodyPart}
-use Rattle.dav_get.specs.Bodies.{IsHeld, left_of, is_slice}
+use Rattle.dav_get.specs.Bodies.{IsHeld, left_of, is_slice, parts_of}
 use Rattle.dav_get.specs.Lives.{HasMost, OpensOnly}
-use Rattle.dav_get.specs.Parts.{parts_of}
 use Rattle.dav_get.specs.Right.{IsOfNumber, number_told, or_zero, reply_at}
 use Rattle.dav_get.specs.Table.{Given}
 use Rattle.dav_handler.specs.declared.found.Found.{Found}

@@ -20,7 +20,7 @@ use Rattle.dav_model.specs.Conditions.{Fields}
 use Rattle.dav_model.specs.Head.{Reply, refusal}
 use Rattle.dav_model.specs.Plans.{Act, Ask, Plan, does, halts, plan}
 use Rattle.dav_model.specs.Rules.{Rules, plain_rules}
-use Rattle.dav_model.specs.Sizes.{read_size_of}
+use Rattle.dav_model.specs.Bodies.{read_size_of}
 use Rattle.dav_model.specs.Written.{ByActs, EndsAs, IsWriteReply, Makes, MakesAs, PartOf, ask_of}
 use Rattle.dav_store.specs.Frames.{KeepsOpen}
 use Rattle.dav_methods.specs.Answers.{IsAnswer, RefusesUsually}

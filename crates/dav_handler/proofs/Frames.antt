@@ -23,8 +23,7 @@ use Rattle.dav_local.specs.Standing.{seen_in, seen_with}
 use Rattle.dav_get.specs.declared.part.BodyPart.{BodyPart}
 use Rattle.dav_get.specs.declared.part.BodyPart.TheVariants.{Text, Slice as SliceOf}
 use Rattle.dav_get.specs.declared.open_at.OpenAt.{OpenAt}
-use Rattle.dav_get.specs.Bodies.{left_of, is_part, is_slice, IsHeld}
-use Rattle.dav_get.specs.Parts.{parts_of}
+use Rattle.dav_get.specs.Bodies.{left_of, is_part, is_slice, IsHeld, parts_of}
 use Rattle.dav_get.proofs.BodyKept.{held_stays}
 use Rattle.dav_handler.specs.Held.{Body, IsOpen, handle_in, handle_of, held_by, number_in, number_seen, parts_in}
 

@@ -15,9 +15,8 @@ use Rattle.dav_core.specs.Unchanged.{SameBesidesOpens}
 use Rattle.dav_core.proofs.UnchangedLemmas.{keeps_same, put_other, put_same}
 use Rattle.dav_model.specs.declared.answer.Answer.{Answer}
 use Rattle.dav_model.specs.declared.step.Step.TheVariants.{Poll}
-use Rattle.dav_model.specs.Bodies.{Part, Polls as PollsParts}
+use Rattle.dav_model.specs.Bodies.{Part, Polls as PollsParts, read_size_of}
 use Rattle.dav_model.specs.Calls.{AsksToPoll, AsksToRead, is_piece, place_held}
-use Rattle.dav_model.specs.Sizes.{read_size_of}
 use Rattle.dav_model.specs.Trail.{Goes}
 use Rattle.dav_model.specs.Play.{Lets, Stepped}
 use Rattle.dav_store.specs.Standing.{Seen}
@@ -29,8 +28,7 @@ use Rattle.dav_get.specs.declared.part.BodyPart.{BodyPart}
 use Rattle.dav_get.specs.declared.part.BodyPart.TheVariants.{Text, Slice as SliceOf}
 use Rattle.dav_get.specs.declared.open_at.OpenAt.{OpenAt}
 use Rattle.dav_get.specs.OpenFiles.{IsAt, SameStands}
-use Rattle.dav_get.specs.Bodies.{left_of, is_slice, Asks, HasNumber, IsHeld, Polls, StandsIn, Takes, TouchesOwn}
-use Rattle.dav_get.specs.Parts.{parts_of}
+use Rattle.dav_get.specs.Bodies.{left_of, is_slice, Asks, HasNumber, IsHeld, Polls, StandsIn, Takes, TouchesOwn, parts_of}
 use Rattle.dav_get.proofs.BodyRight.{takes_right}
 use Rattle.dav_handler.specs.By.{By}
 use Rattle.dav_handler.specs.Held.{Body, IsHeldBody, IsOpen, IsPlaying, PollsBody, Sweeps, handle_in, handle_of, held_by, held_in, left_in, number_in, number_seen, parts_in}

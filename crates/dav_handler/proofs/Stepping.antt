@@ -16,15 +16,14 @@ use Rattle.dav_core.proofs.HeldStays.{held_besides}
 use Rattle.dav_core.proofs.UnchangedLemmas.{keeps_same, same_besides}
 use Rattle.dav_model.specs.declared.step.Step.TheVariants.{Request, Poll, Abandon, Purge, Turn}
 use Rattle.dav_model.specs.declared.answer.Answer.TheVariants.{Reply as Replied, End, Done}
-use Rattle.dav_model.specs.Requests.{Asked, fields_of}
-use Rattle.dav_model.specs.Bodies.{Polls}
+use Rattle.dav_model.specs.Conditions.{Asked, fields_of}
+use Rattle.dav_model.specs.Bodies.{Polls, read_size_of}
 use Rattle.dav_io.specs.declared.fields.Field.{Field}
 use Rattle.dav_model.specs.Calls.{AsksAtGate, AsksToPoll, AsksToReply}
 use Rattle.dav_model.specs.declared.target.Target.{Target}
 use Rattle.dav_model.specs.declared.target.Target.TheVariants.{At, Methods, Refused, Writes}
 use Rattle.dav_model.specs.Play.{Gets, Lets, Quiet, Stage, Stepped, has_slice}
 use Rattle.dav_model.specs.Rules.{Forgets}
-use Rattle.dav_model.specs.Sizes.{read_size_of}
 use Rattle.dav_model.specs.Trail.{Goes, target_of}
 use Rattle.dav_model.specs.Written.{Makes}
 use Rattle.dav_model.proofs.JoiningLemmas.{learns_same, makes_kept}

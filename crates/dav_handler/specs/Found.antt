@@ -7,11 +7,10 @@ use Rattle.dav_core.specs.Disk.{DiskState}
 use Rattle.dav_core.specs.Statuses.{closes, lacks_memory, status_of}
 use Rattle.dav_model.specs.declared.target.Target.{Target}
 use Rattle.dav_model.specs.Calls.{AsksAtGate, AsksToReply}
-use Rattle.dav_model.specs.Conditions.{Fields}
+use Rattle.dav_model.specs.Conditions.{Fields, Asked, fields_of}
 use Rattle.dav_model.specs.Head.{Reply, refusal}
-use Rattle.dav_model.specs.Sizes.{read_size_of}
+use Rattle.dav_model.specs.Bodies.{read_size_of}
 use Rattle.dav_model.specs.Play.{Replies}
-use Rattle.dav_model.specs.Requests.{Asked, fields_of}
 use Rattle.dav_model.specs.Rules.{Learns}
 use Rattle.dav_model.specs.Written.{Makes}
 use Rattle.dav_store.specs.Frames.{KeepsOpen}

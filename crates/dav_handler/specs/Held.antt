@@ -1,9 +1,8 @@
 -- What a player keeps of its open bodies.
 use Rattle.std.specs.Prelude.{◌≡◌, ◌≤◌, ℕ, zero, suc, List, [], true, is_some, Option, None, Some}
 use Rattle.std.specs.List.{list_any}
-use Rattle.dav_core.specs.World.{World, put}
+use Rattle.dav_core.specs.World.{World, put, at_key}
 use Rattle.dav_core.specs.Disk.{DiskState}
-use Rattle.dav_core.specs.Tables.{at_key}
 use Rattle.dav_model.specs.declared.answer.Answer.{Answer}
 use Rattle.dav_model.specs.Bodies.{Part}
 use Rattle.dav_store.specs.Standing.{Seen}
@@ -11,8 +10,7 @@ use Rattle.dav_local.specs.declared.file.LocalFsFile.{LocalFsFile}
 use Rattle.dav_local.specs.Files.{seen_by}
 use Rattle.dav_get.specs.declared.body.GetBody.{GetBody}
 use Rattle.dav_get.specs.declared.open_at.OpenAt.{OpenAt}
-use Rattle.dav_get.specs.Bodies.{left_of, is_slice, IsHeld, Closes, IsPolled}
-use Rattle.dav_get.specs.Parts.{parts_of}
+use Rattle.dav_get.specs.Bodies.{left_of, is_slice, IsHeld, Closes, IsPolled, parts_of}
 use Rattle.dav_handler.specs.declared.bodies.Bodies.{Bodies}
 
 abbrev pub Body : Type 0

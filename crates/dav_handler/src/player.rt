@@ -1,5 +1,5 @@
 ghost use Rattle.std.specs.Prelude.{◌≡◌, ◌<◌, ◌≤◌, ◌+◌, ◌^◌, [], IfSome, IsSome, None, Ok};
-ghost use Rattle.dav_model.specs.Sizes.{read_size_of};
+ghost use Rattle.dav_model.specs.Bodies.{read_size_of};
 ghost use Rattle.dav_core.specs.Disk.{Turns};
 ghost use Rattle.dav_model.specs.declared.answer.Answer.TheVariants.{Reply as Replied};
 ghost use Rattle.dav_handler.specs.By.{by_store};

@@ -6,11 +6,11 @@ use Rattle.std.specs.declared.io.ErrorKind.TheVariants as kind
 use Rattle.dav_core.specs.declared.handle.DiskError.{DiskError}
 use Rattle.dav_core.specs.declared.handle.DiskError.TheVariants.{NotFound, NotDir, NoMemory}
 use Rattle.dav_core.specs.Path.{Names}
-use Rattle.dav_core.specs.World.{World, IsWorld}
+use Rattle.dav_core.specs.World.{World, IsWorld, at_key}
 use Rattle.dav_core.specs.Disk.{Live, DiskState}
-use Rattle.dav_core.specs.Tables.{at_key}
 use Rattle.dav_host.specs.declared.opens.HostFile.{HostFile}
 use Rattle.dav_host.specs.declared.opens.Opens.{Opens}
+use Rattle.dav_io.specs.Outside.{Stream}
 
 -- the most bytes of a path's text
 abbrev pub room : ℕ
@@ -66,3 +66,9 @@ IsListRefusal e = (e ≡ NotFound) ⊎ (e ≡ NotDir) ⊎ (e ≡ NoMemory)
 -- nothing is told
 pub never_told : (w : World) → None ≡ Some w → IsWorld w
 never_told w e = cc
+
+-- ---- streams of the machine
+
+-- a stream that tells its counts alone
+abbrev pub untold_stream : ℕ → ℕ → Stream
+untold_stream faults asked = record { bytes = None; faults = faults; asked = asked }

@@ -2,4 +2,3 @@ pub mod Host
 pub mod Kinds
 pub mod Listings
 pub mod Refusals
-pub mod Streams

@@ -3,7 +3,7 @@ use Rattle.std.specs.Prelude.{◌≡◌, ℕ, suc, List, Option, None, Some, Res
 use Rattle.std.specs.Option.{option_map}
 use Rattle.std.specs.BTreeMap.{BTreeMap}
 use Rattle.dav_core.specs.declared.handle.DiskError.{DiskError}
-use Rattle.dav_core.specs.Tables.{at_key}
+use Rattle.dav_core.specs.World.{at_key}
 use Rattle.dav_host.specs.declared.listings.HostListing.{HostListing}
 
 abbrev pub left_of : {R F D : Type 0} → HostListing R F D → ℕ

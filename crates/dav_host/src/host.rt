@@ -2,9 +2,8 @@ ghost use Rattle.std.specs.Prelude.{◌≡◌, ◌≢◌, ◌≤◌, None, Some,
 ghost use Rattle.dav_io.specs.Counts.{Rose, one_more};
 ghost use Rattle.dav_host.specs.Host.{room, live_at, untold, never_told};
 ghost use Rattle.dav_host.specs.Listings.{listers_at};
-ghost use Rattle.dav_core.specs.Untold.{untold_live};
+ghost use Rattle.dav_core.proofs.Untold.{untold_live};
 
-use crate::keys::free_key;
 use crate::listings::{HostListing, listing_of, next_name};
 use crate::opens::{
     HostFile, Opens, can_read, can_write, free_handle, may_change, meta_at, open_meta, read_at,
@@ -15,7 +14,7 @@ use crate::refusals::{list_refusal, open_refusal};
 use crate::writing::{
     copy_file, look_at, look_at_link, make_dir, move_to, take_dir, take_file, way_of,
 };
-use dav_core::{Disk, DiskError, FsPath, Handle, Lister, Meta, OpenOptions};
+use dav_core::{Disk, DiskError, FsPath, Handle, Lister, Meta, OpenOptions, free_key};
 use dav_io::{NoMemory, Text};
 use std::alloc::Global;
 use std::collections::BTreeMap;

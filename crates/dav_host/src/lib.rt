@@ -4,7 +4,6 @@
 
 mod clock;
 mod host;
-mod keys;
 mod listings;
 mod meta;
 mod opens;

@@ -4,7 +4,7 @@ ghost use Rattle.std.specs.Prelude.{◌≡◌, ◌<◌, ◌≤◌, IfOk, length}
 ghost use Rattle.std.specs.Io.KnownBytes.{ReadConsumes, WriteAppends};
 ghost use Rattle.dav_io.specs.Counts.{CountsFault};
 ghost use Rattle.dav_io.specs.Outside.{Stream, Takes, Puts};
-ghost use Rattle.dav_host.specs.Streams.{untold_stream};
+ghost use Rattle.dav_host.specs.Host.{untold_stream};
 
 use dav_io::{Failed, Sink, Source};
 use std::io::{ErrorKind, Read, Write};

@@ -4,5 +4,4 @@ pub mod Outside
 pub mod Sure
 pub mod Appending
 pub mod Schedules
-pub mod FieldNames
 pub mod Texts

@@ -38,6 +38,7 @@ impl Faults {
     pub fn next(&mut self) -> bool
         ensures fails { IsTrue result ↔ Contains self.old.fail.items (one_more self.old.asked) }
         ensures asked { self.new.asked ≡ one_more self.old.asked }
+        ensures more { self.old.asked ≤ self.new.asked }
         ensures fail { self.new.fail ≡ self.old.fail }
         ensures counts { self.old.met ≤ self.new.met }
         ensures rose { IsTrue result → Rose self.old.met self.new.met }

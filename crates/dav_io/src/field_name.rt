@@ -1,5 +1,5 @@
 ghost use Rattle.std.specs.Prelude.{◌≡◌};
-ghost use Rattle.dav_io.specs.FieldNames.{spelled};
+ghost use Rattle.dav_io.specs.Texts.{spelled};
 
 /// Names of header fields that answers have (RFC 9110), as part of the program.
 #[derive(Clone, Copy, Debug, PartialEq, Eq)]

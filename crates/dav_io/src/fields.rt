@@ -1,4 +1,4 @@
-ghost use Rattle.std.specs.Prelude.{◌≡◌, IfOk};
+ghost use Rattle.std.specs.Prelude.{◌≡◌, ◌++◌, ◌∷◌, [], IfOk, OnOk};
 
 use crate::{Items, NoMemory, Octets, Text, TryClone};
 
@@ -17,6 +17,15 @@ impl TryClone for Field {
         let value = self.value.try_clone()?;
         Ok(Field { name, value })
     }
+}
+
+/// Adds a field behind the others, whose value is a copy of these bytes.
+pub fn add_field(fields: &mut Vec<Field>, name: Text, value: &[u8]) -> Result<(), NoMemory>
+    ensures { OnOk result (fields.new.items ≡ fields.old.items ++ record { name = name; value = value.now } ∷ []) }
+{
+    let value = Octets::new(Vec::from_slice(*fields.allocator(), value)?);
+    fields.push(Field { name, value })?;
+    Ok(())
 }
 
 /// The fields of a header, in their order.

@@ -19,7 +19,7 @@ pub use clock::{Clock, Moment, SetClock};
 pub use failure::{Failed, NoMemory};
 pub use faults::Faults;
 pub use field_name::FieldName;
-pub use fields::{Field, Fields};
+pub use fields::{Field, Fields, add_field};
 pub use items::{Items, TryClone};
 pub use memory::{MemSink, MemSource};
 pub use octets::Octets;

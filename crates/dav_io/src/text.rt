@@ -5,7 +5,7 @@ ghost use Rattle.std.specs.Cmp.Lexicographic.{pointwise, slice_cmp, nat_list_eq_
 ghost use Rattle.std.specs.Cmp.{partial_equiv_from_equiv};
 ghost use Rattle.std.specs.Cmp.Rules.{hashing};
 ghost use Rattle.std.proofs.Common.{rules};
-ghost use Rattle.dav_io.specs.FieldNames.{spelled};
+ghost use Rattle.dav_io.specs.Texts.{spelled};
 
 use crate::{FieldName, NoMemory};
 use std::alloc::Global;

@@ -21,7 +21,7 @@ use Rattle.dav_core.specs.Disk.{DiskState, IsCounted, Live, Metas, Opens, Refuse
 use Rattle.dav_core.specs.Info.{Info}
 use Rattle.dav_core.specs.Listing.{ListedIn, Lists, listable, or_empty}
 use Rattle.dav_core.specs.Errors.{fs_error_of}
-use Rattle.dav_core.specs.Options.{reading}
+use Rattle.dav_core.specs.Writing.{reading}
 use Rattle.dav_core.specs.Path.{Names, parent_of}
 use Rattle.dav_core.specs.Tree.{is_dir, is_linked, look}
 use Rattle.dav_core.specs.Unchanged.{Keeps, SameBesidesOpens}

@@ -1,5 +1,5 @@
 -- What a local store shows over a told disk is what the rules show where its path is found.
-use Rattle.std.proofs.Common.{◌≡◌, ◌==◌, ◌||◌, ◌<◌, ◌⊎◌, inl, inr, ℕ, suc, Bool, true, false, List, [], ◌∷◌, length, get_or, Option, None, Some, Result, Ok, Err, refl, sym, ap, subst, ◌∙◌, arith}
+use Rattle.std.proofs.Common.{◌≡◌, ◌==◌, ◌||◌, ◌<◌, ◌⊎◌, inl, inr, ℕ, Bool, true, false, List, [], ◌∷◌, Option, None, Some, Result, Ok, Err, refl, sym, ap, subst, ◌∙◌, arith}
 use Rattle.std.specs.List.{AllByRecursion}
 use Rattle.std.specs.Option.{option_map}
 use Rattle.std.proofs.lemmas.Bool.Decides.{nat_tests}
@@ -14,12 +14,11 @@ use Rattle.dav_core.specs.declared.tree.Row.{Row}
 use Rattle.dav_core.specs.Disk.{Asks, DiskState, IsMetaOf, Live, MetaIn, Metas, OpenedIn, Opens, Refused, at_start, kind_at, kind_opened, with_opens}
 use Rattle.dav_core.specs.Errors.{fs_error_of}
 use Rattle.dav_core.specs.Info.{Info, info_of, known}
-use Rattle.dav_core.specs.Options.{reading}
+use Rattle.dav_core.specs.Writing.{reading}
 use Rattle.dav_core.specs.Path.{Names}
 use Rattle.dav_core.specs.Tree.{is_file, is_linked, look}
 use Rattle.dav_core.specs.Unchanged.{SameBesidesOpens}
 use Rattle.dav_core.specs.World.{IsWorld, Stored, World, bytes_of, bytes_or_none, is_numbered, put, time_of}
-use Rattle.dav_core.proofs.LookLemmas.{look_all}
 use Rattle.dav_core.proofs.UnchangedLemmas.{put_same}
 use Rattle.dav_store.specs.Files.{Spoiled}
 use Rattle.dav_store.specs.Shows.{IsThere, LooksThere, OpensThere}
@@ -27,6 +26,7 @@ use Rattle.dav_store.specs.Standing.{Agrees, Standing}
 use Rattle.dav_local.specs.declared.file.LocalFsFile.{LocalFsFile}
 use Rattle.dav_local.specs.Files.{filed, looked_as, seen_by}
 use Rattle.dav_local.specs.Standing.{found, seen_in, seen_with, standing_as, standing_of, under_slash}
+use Rattle.dav_core.proofs.LookLemmas.{stored_time}
 
 -- a refusal that the tree calls for, or a fault or want of memory
 refused : {T U V : Type 0} (e : DiskError) (stands : Result U DiskError) (answer : Result T DiskError) (s t : DiskState) → Refused e stands → answer ≡ Err e → Asks answer s t
@@ -61,18 +61,6 @@ looks_in : (w : World) (at : Names) (slash : Bool) (answer : Result Meta DiskErr
     → LooksThere (found w slash (look w.tree at)) (looked_as slash answer) ⊎ Spoiled s (looked_as slash answer) t
 looks_in w at slash (Ok m) s t (row, stands, is) asks = inl (rw stands (under_kinds slash row.kind m.kind (info_of m) (standing_of w row) is.kind (agrees m w row is)))
 looks_in w at slash (Err e) s t r asks = elim (refused {V = Info} e (look w.tree at) (Err e) s t r refl asks) [ inl f ↦ inl (rw f refl) | inr x ↦ inr x ]
-
--- what holds at each place of a list holds of each element
-each_holds : (P : Row → Type 0) (rows : List Row) → ((k : ℕ) (d : Row) → k < length rows → P (get_or rows k d)) → AllByRecursion P rows
-each_holds P [] h = tt
-each_holds P (row ∷ rows) h = (h 0 row (omega arith), each_holds P rows (λ k d lt. h (suc k) d (omega arith)))
-
-abbrev IsStored : World → Row → Type 0
-IsStored w row = row.kind ≡ File → time_of w row.number ≡ Some row.time
-
--- a file of a told tree is stored with its row's time
-stored_time : (w : World) (path : Names) (row : Row) → IsWorld w → look w.tree path ≡ Ok row → row.kind ≡ File → time_of w row.number ≡ Some row.time
-stored_time w path row is stands file = look_all (IsStored w) w.tree path row (each_holds (IsStored w) w.tree (λ k d lt. is.stored k d lt)) stands file
 
 a_file : (kind : Kind) → is_file kind ≡ true → kind ≡ File
 a_file Dir e = cc

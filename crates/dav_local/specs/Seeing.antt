@@ -8,7 +8,7 @@ use Rattle.dav_core.specs.DavPath.{last_name}
 use Rattle.dav_core.specs.Disk.{DiskState, Opens}
 use Rattle.dav_core.specs.Info.{Info}
 use Rattle.dav_core.specs.Listing.{or_empty}
-use Rattle.dav_core.specs.Options.{reading}
+use Rattle.dav_core.specs.Writing.{reading}
 use Rattle.dav_core.specs.Path.{Names}
 use Rattle.dav_core.specs.Unchanged.{Keeps}
 use Rattle.dav_store.specs.Frames.{IsOpened}

@@ -2,7 +2,7 @@
 ghost use Rattle.std.specs.Prelude.{◌≡◌, Bool, List, Ok, Option, cond, Result, Some, false, true};
 ghost use Rattle.dav_core.specs.declared.error.FsError.{FsError};
 ghost use Rattle.dav_core.specs.Info.{Info};
-ghost use Rattle.dav_core.specs.Options.{reading};
+ghost use Rattle.dav_core.specs.Writing.{reading};
 ghost use Rattle.dav_core.specs.Path.{Names};
 ghost use Rattle.dav_core.specs.Tree.{is_linked};
 ghost use Rattle.dav_core.specs.World.{World, bytes_of};

@@ -1,7 +1,7 @@
 // Looks and openings of paths that are found by folding. Where a path is found by a call of the disk at the place where
 // it stands, as where the memory has it, that call is the answer, and the disk isn't asked again.
 ghost use Rattle.std.specs.Prelude.{◌≡◌, true};
-ghost use Rattle.dav_core.specs.Options.{reading};
+ghost use Rattle.dav_core.specs.Writing.{reading};
 ghost use Rattle.dav_core.specs.Unchanged.{Keeps};
 ghost use Rattle.dav_cache.specs.Calls.{Opening, Seeing};
 ghost use Rattle.dav_store.specs.Frames.{OpensOne};

@@ -20,7 +20,7 @@ use Rattle.dav_core.specs.Errors.{CouldRefuse, fs_error_of}
 use Rattle.dav_core.specs.Info.{Info, info_of}
 use Rattle.dav_core.specs.Listing.{MayRefuseList, listable, stands_in}
 use Rattle.dav_core.specs.Members.{member_of, members}
-use Rattle.dav_core.specs.Options.{reading}
+use Rattle.dav_core.specs.Writing.{reading}
 use Rattle.dav_core.specs.Path.{Names}
 use Rattle.dav_core.specs.Statuses.{fs_status}
 use Rattle.dav_core.specs.Tree.{is_dir, is_linked, look}

@@ -10,7 +10,7 @@ use Rattle.dav_core.specs.Disk.{Opens}
 use Rattle.dav_core.specs.Info.{Info}
 use Rattle.dav_core.specs.Listing.{listable}
 use Rattle.dav_core.specs.Members.{members}
-use Rattle.dav_core.specs.Options.{reading}
+use Rattle.dav_core.specs.Writing.{reading}
 use Rattle.dav_core.specs.Path.{Names}
 use Rattle.dav_core.specs.Tree.{is_linked, look}
 use Rattle.dav_core.specs.World.{IsWorld, SameBesidesOpens, World}

@@ -6,4 +6,3 @@ pub mod ForestCodes
 pub mod Trees
 pub mod NodesAreLower
 pub mod Tokens
-pub mod Found

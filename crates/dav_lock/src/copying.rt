@@ -1,7 +1,6 @@
 //! Copies of element trees. A loop makes them, so how deep a tree nests costs memory and no stack.
 ghost use Rattle.std.specs.Prelude.{◌≡◌, IfOk};
-ghost use Rattle.dav_lock.specs.Trees.{forest_of};
-ghost use Rattle.dav_lock.specs.Found.{node_found};
+ghost use Rattle.dav_lock.specs.Trees.{forest_of, node_found};
 
 use crate::element::copy_pairs;
 use crate::{Element, Nodes, XmlNode, both, copy_text};

@@ -6,7 +6,7 @@ use Rattle.dav_core.specs.Info.{Info}
 use Rattle.dav_core.specs.declared.method.DavMethod.{DavMethod}
 use Rattle.dav_model.specs.Conditions.{Fields, condition_of}
 use Rattle.dav_model.proofs.NoneUnder.{none_under}
-use Rattle.dav_methods.specs.Names.{begins_with_if}
+use Rattle.dav_methods.specs.Lines.{begins_with_if}
 
 pub unconditional : (method : DavMethod) (fields : Fields) (info : Option Info) → list_any begins_with_if (keys fields) ≡ false → condition_of method fields info ≡ None
 unconditional method fields None free =

@@ -1,5 +1,4 @@
 pub mod Standing
-pub mod Names
 pub mod Lines
 pub mod Table
 pub mod Pouring

@@ -1,5 +1,5 @@
 -- The answers of the methods that write, and the lines of their tables (RFC 4918, sections 9.3, 9.6, 9.7 and 9.8).
-use Rattle.std.specs.Prelude.{ℕ, List, [], ◌∷◌, codes, Bool, true, false, not, Option, None, Some, Result, Ok, Err}
+use Rattle.std.specs.Prelude.{ℕ, List, [], ◌∷◌, codes, Bool, true, false, not, Option, None, Some, Result, Ok, Err, ◌==◌, ◌&&◌}
 use Rattle.dav_core.specs.declared.dav_error.DavError.{DavError}
 use Rattle.dav_core.specs.declared.dav_error.DavError.TheVariants as dav
 use Rattle.dav_core.specs.declared.error.FsError.{FsError}
@@ -116,3 +116,10 @@ may_put fields found = first_of (refused_but_missing found ∷ fails_when (is_di
 -- What was found lets a DELETE go on.
 abbrev pub may_delete : Fields → Result Info FsError → Line
 may_delete fields found = first_of (refused found ∷ unmet Delete fields found ∷ [])
+
+-- ---- the names of the fields that carry preconditions
+
+-- `if-` stands before each of them
+abbrev pub begins_with_if : List ℕ → Bool
+begins_with_if (a ∷ b ∷ c ∷ more) = a == 105 && (b == 102 && c == 45)
+begins_with_if _ = false

@@ -3,7 +3,7 @@ ghost use Rattle.std.specs.Prelude.{◌≡◌, IfOk, option_copied};
 ghost use Rattle.std.specs.List.{list_any};
 ghost use Rattle.http_header.specs.HeaderMap.{keys};
 ghost use Rattle.dav_model.specs.Conditions as conditions;
-ghost use Rattle.dav_methods.specs.Names.{begins_with_if as the_begins_with_if};
+ghost use Rattle.dav_methods.specs.Lines.{begins_with_if as the_begins_with_if};
 
 use dav_core::{EtagList, date_secs};
 use dav_io::{NoMemory, Octets};

@@ -6,7 +6,7 @@ ghost use Rattle.dav_model.specs.Gates.{in_allowed};
 ghost use Rattle.dav_model.specs.Head.{field};
 
 use dav_core::{DavMethod, DavMethodSet};
-use dav_io::{Field, Fields, NoMemory, Octets, Text};
+use dav_io::{Fields, NoMemory, Text, add_field};
 use dav_model::Outcome;
 use std::alloc::Global;
 
@@ -105,16 +105,6 @@ fn told(alloc: Global, allow: Option<DavMethodSet>, void: bool) -> Result<String
     Ok(words.join(alloc, ",")?)
 }
 
-// Adds a field.
-fn add(alloc: Global, fields: &mut Vec<Field>, name: &str, value: &[u8]) -> Result<(), NoMemory>
-    ensures { OnOk result (fields.new.items ≡ fields.old.items ++ field name.now value.now ∷ []) }
-{
-    let name = Text::copy(alloc, name)?;
-    let value = Octets::new(Vec::from_slice(alloc, value)?);
-    fields.push(Field { name, value })?;
-    Ok(())
-}
-
 /// What OPTIONS is answered with: 200, and the methods that are answered among those that are allowed (RFC 9110,
 /// section 9.3.7; RFC 4918, section 10.1). `void` is whether there is no store: then OPTIONS alone is told, where it is
 /// allowed. It asks no disk.
@@ -124,15 +114,14 @@ pub fn options(alloc: Global, allow: Option<DavMethodSet>, void: bool) -> Result
 {
     let told = told(alloc, allow, void)?;
     let mut fields = Vec::with_capacity(alloc, 4)?;
-    add(alloc, &mut fields, "allow", told.as_bytes())?;
-    add(alloc, &mut fields, "content-length", b"0")?;
-    add(
-        alloc,
+    add_field(&mut fields, Text::copy(alloc, "allow")?, told.as_bytes())?;
+    add_field(&mut fields, Text::copy(alloc, "content-length")?, b"0")?;
+    add_field(
         &mut fields,
-        "dav",
+        Text::copy(alloc, "dav")?,
         b"1,3,calendar-access,addressbook",
     )?;
-    add(alloc, &mut fields, "ms-author-via", b"DAV")?;
+    add_field(&mut fields, Text::copy(alloc, "ms-author-via")?, b"DAV")?;
     Ok(Outcome {
         status: 200,
         fields: Fields::new(fields),

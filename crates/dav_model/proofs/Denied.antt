@@ -31,9 +31,8 @@ use Rattle.dav_model.specs.declared.answer.Answer.{Answer}
 use Rattle.dav_model.specs.declared.target.Target.{Target}
 use Rattle.dav_model.specs.declared.target.Target.TheVariants.{At, Methods, Refused, Writes}
 use Rattle.dav_io.specs.declared.failure.NoMemory.{NoMemory}
-use Rattle.dav_model.specs.Conditions.{Fields}
+use Rattle.dav_model.specs.Conditions.{Fields, fields_of}
 use Rattle.dav_model.specs.Due.{query}
-use Rattle.dav_model.specs.Requests.{fields_of}
 use Rattle.dav_model.specs.Trail.{target_of}
 use Rattle.dav_model.specs.Play.{Playing, Played, PlayedOn, Plays, Reads, Replies, RepliesByTree, Stage, Stands, StepByTree, EachByTree, MeetsNoLink}
 use Rattle.dav_model.proofs.JoiningLemmas.{step_rules}

@@ -15,14 +15,12 @@ use Rattle.httpdate.specs.declared.parts.Parts.{Parts}
 use Rattle.percent_encoding.specs.Percent.{percent_encode_byte}
 use Rattle.dav_core.specs.declared.time.FileTime.{FileTime}
 use Rattle.dav_core.specs.ContentTypes.{Row, after_dot, type_in, type_of_part, types}
-use Rattle.dav_core.specs.DavPath.{link_byte, link_of, stays, type_of_last}
+use Rattle.dav_core.specs.DavPath.{link_byte, link_of, stays, type_of_last, is_printable}
 use Rattle.dav_core.specs.Tags.{HasTagBytes, is_tag_byte}
 use Rattle.dav_model.specs.declared.ranges.Slice.{Slice}
 use Rattle.dav_model.specs.declared.sent.Sent.{Sent}
 use Rattle.dav_model.specs.declared.sent.Sent.TheVariants.{All, Alone, Unsatisfied, One, Several}
-use Rattle.dav_model.specs.Head.{quoted_where, sent_length, sent_range, sent_type, span_text}
-use Rattle.dav_model.specs.Shown.{is_printable}
-use Rattle.dav_model.specs.Times.{IsDate}
+use Rattle.dav_model.specs.Head.{quoted_where, sent_length, sent_range, sent_type, span_text, IsDate}
 use Rattle.std.specs.Option.{option_map}
 
 -- each byte of a text is one of a field value

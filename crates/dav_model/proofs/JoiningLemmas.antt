@@ -18,15 +18,13 @@ use Rattle.dav_model.specs.declared.target.Target.{Target}
 use Rattle.dav_model.specs.declared.target.Target.TheVariants.{At, Methods, Refused, Writes}
 use Rattle.dav_model.specs.Calls.{AsksAtGate}
 use Rattle.dav_model.specs.declared.answer.Answer.{Answer}
-use Rattle.dav_model.specs.Bodies.{Polls}
-use Rattle.dav_model.specs.Sizes.{read_size_of}
+use Rattle.dav_model.specs.Bodies.{Polls, read_size_of}
 use Rattle.dav_model.specs.Folds.{Name, has_name}
 use Rattle.dav_model.specs.Rules.{Rules, Knowledge, Learns, Forgets, WasKnown, ShowsNames, SameDots}
 use Rattle.dav_model.specs.Head.{Reply}
 use Rattle.dav_model.specs.Plans.{Act, Ask, does, halts, plan}
 use Rattle.http.specs.Request.{body_of}
-use Rattle.dav_model.specs.Conditions.{Fields}
-use Rattle.dav_model.specs.Requests.{fields_of}
+use Rattle.dav_model.specs.Conditions.{Fields, fields_of}
 use Rattle.dav_model.specs.Written.{Makes, MakesAs, PartOf, ask_of}
 use Rattle.dav_model.specs.Trail.{Point, Move, Goes, Leaves, is_writing, step_leaves, target_of, last_of, steps_of, answers_of, points_of}
 use Rattle.dav_model.specs.Valid.{Valid, Occurs}

@@ -11,7 +11,7 @@ use Rattle.dav_core.specs.declared.member.Member.{Member}
 use Rattle.dav_core.specs.declared.tree.Kind.{Kind}
 use Rattle.dav_core.specs.declared.tree.Kind.TheVariants.{Dir, File, Link}
 use Rattle.dav_core.specs.declared.method.DavMethod.{DavMethod}
-use Rattle.dav_core.specs.DavPath.{WebPath, last_name, link_of, shown as shown_text, type_of_last}
+use Rattle.dav_core.specs.DavPath.{WebPath, last_name, link_of, shown as shown_text, type_of_last, is_printable}
 use Rattle.dav_core.specs.World.{World}
 use Rattle.dav_model.specs.declared.answer.Answer.{Answer}
 use Rattle.dav_model.specs.declared.answer.Answer.TheVariants.{Done}
@@ -23,13 +23,12 @@ use Rattle.dav_model.specs.declared.target.Target.{Target}
 use Rattle.dav_model.specs.declared.target.Target.TheVariants.{At, Methods, Refused, Writes}
 use Rattle.dav_model.specs.Allowing.{allowing}
 use Rattle.dav_model.specs.Bodies.{Part, Polls}
-use Rattle.dav_model.specs.Conditions.{Fields}
+use Rattle.dav_model.specs.Conditions.{Fields, Asked, fields_of}
 use Rattle.dav_model.specs.Due.{Due, Query, IsHead, IsRight, IsSpoiled, due, due_course, due_kind, due_listed, due_looked, due_opened, due_sent, file, index_path, known, page, query, refused, to_slash}
 use Rattle.dav_model.specs.Head.{IsFileHead, IsSent, Reply, Stood, address_of, directed, is_get, is_set, is_well_known, redirected, refusal, sent_of, well_known, with_slash}
 use Rattle.dav_model.specs.Play.{Playing, PlayedOn, Plays, Replies, Stage, Stands}
-use Rattle.dav_model.specs.Requests.{Asked, fields_of}
 use Rattle.dav_model.specs.Rules.{Knowledge, Rules}
-use Rattle.dav_model.specs.Shown.{Could, CouldShow, CouldStand, Shown, is_printable}
+use Rattle.dav_model.specs.Shown.{Could, CouldShow, CouldStand, Shown}
 use Rattle.dav_model.specs.Trail.{Move, Point, answers_of, target_of}
 use Rattle.dav_model.specs.Written.{IsWriteReply, halt_statuses, made, silent}
 use Rattle.dav_model.specs.WellFormed.{IsWellFormed, IsWellFormedAnswer, gate_statuses, is_among, reply_names, reply_statuses, right_statuses}

@@ -1,11 +1,19 @@
 -- What a body has left, and what a poll of it gives (the remaining body).
 use Rattle.std.proofs.Common.{Bool}
-use Rattle.std.specs.Prelude.{Option, Some, ◌⊎◌, ◌≡◌, ◌≤◌, ◌<◌, ◌+◌, ◌-◌, ◌==◌, ℕ, List, [], ◌∷◌, length, take, drop, min, replicate, cond, IsTrue}
+use Rattle.std.specs.Prelude.{Option, Some, ◌⊎◌, ◌≡◌, ◌≤◌, ◌<◌, ◌+◌, ◌-◌, ◌==◌, ℕ, List, [], ◌∷◌, length, take, drop, min, replicate, cond, IsTrue, None}
 use Rattle.std.specs.List.{AllByRecursion}
 use Rattle.dav_core.specs.World.{World, bytes_of}
-use Rattle.dav_model.specs.Sizes.{zeros_size}
 use Rattle.dav_model.specs.declared.answer.Answer.{Answer}
 use Rattle.dav_model.specs.declared.answer.Answer.TheVariants.{Piece, End, Broken}
+
+-- the most bytes of a file in a piece; 0 is the default
+abbrev pub read_size_of : Option ℕ → ℕ
+read_size_of None = 16384
+read_size_of (Some n) = cond (n == 0) 16384 n
+
+-- the most zeros in a piece
+abbrev pub zeros_size : ℕ
+zeros_size = 4096
 
 -- A part of a body. In no list of parts that is answered is a text or a slice of length 0.
 pub data Part : Type 0 where

@@ -15,6 +15,8 @@ use Rattle.dav_core.specs.declared.if_range.IfRange.TheVariants.{Tag, Date}
 use Rattle.dav_core.specs.declared.method.DavMethod.{DavMethod}
 use Rattle.dav_core.specs.declared.method.DavMethod.TheVariants.{Copy, Delete, Get, Head, MkAddressbook, MkCalendar, MkCol, Move, Put}
 use Rattle.dav_core.specs.declared.time.FileTime.{FileTime}
+use Rattle.http.specs.declared.request.Request.{Request}
+use Rattle.http.specs.Request.{head_of}
 
 -- the fields of a request
 abbrev pub Fields : Type 0
@@ -136,3 +138,12 @@ heard (Some value) tag time = is_fresh (if_range_of value) tag time
 -- doesn't.
 abbrev pub ranges_are_heard : Fields → Option ETag → Option FileTime → Bool
 ranges_are_heard fields tag time = heard (first_bytes fields (codes "if-range")) tag time
+
+-- ---- requests with their whole body
+
+-- a request with its whole body
+abbrev pub Asked : Type 0
+Asked = Request (List ℕ)
+
+abbrev pub fields_of : Asked → Fields
+fields_of r = (head_of r).headers

@@ -9,7 +9,7 @@ use Rattle.dav_core.specs.declared.time.FileTime.{FileTime}
 use Rattle.dav_core.specs.declared.method.DavMethod.{DavMethod}
 use Rattle.dav_core.specs.declared.method.DavMethod.TheVariants.{Get}
 use Rattle.dav_core.specs.DavPath.{WebPath, last_name, link_of, shown as shown_text, type_of_last}
-use Rattle.dav_core.specs.Info.{known_time, tag_of}
+use Rattle.dav_core.specs.Info.{known_time, tag_of, natural}
 use Rattle.dav_core.specs.Methods.{same_method}
 use Rattle.dav_core.specs.Path.{same_names}
 use Rattle.dav_core.specs.World.{World, bytes_of}
@@ -23,7 +23,13 @@ use Rattle.dav_model.specs.Bodies.{Part, text, slice}
 use Rattle.dav_model.specs.Clients.{is_from_microsoft}
 use Rattle.dav_model.specs.Conditions.{Fields, condition, first_bytes, ranges_are_heard, strong}
 use Rattle.dav_model.specs.Slices.{ranges}
-use Rattle.dav_model.specs.Times.{IsDate}
+use Rattle.httpdate.specs.declared.date.HttpDate.{HttpDate}
+use Rattle.httpdate.specs.Date.{unix_secs, date_text}
+
+-- The text of a known time in a header (RFC 9110, section 5.6.7), in whole seconds: there is exactly one.
+abbrev pub IsDate : Option FileTime → Option (List ℕ) → Type 0
+IsDate None shown = shown ≡ None
+IsDate (Some time) shown = (date : HttpDate) × (unix_secs date ≡ natural time.secs) × (shown ≡ Some (date_text date))
 
 -- what is answered to a request
 pub record Reply : Type 0 where

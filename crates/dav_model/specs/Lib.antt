@@ -1,4 +1,3 @@
-pub mod Sizes
 pub mod Unset
 pub mod Walks
 pub mod Destination
@@ -8,8 +7,6 @@ pub mod CarryPlans
 pub mod Written
 pub mod Bodies
 pub mod Calls
-pub mod Times
-pub mod Requests
 pub mod Slices
 pub mod Conditions
 pub mod Clients

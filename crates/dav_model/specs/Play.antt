@@ -9,7 +9,7 @@ use Rattle.dav_core.specs.declared.time.FileTime.{FileTime}
 use Rattle.dav_core.specs.declared.tree.Kind.TheVariants.{Dir, File}
 use Rattle.dav_core.specs.Changes.{turned}
 use Rattle.dav_core.specs.Disk.{Live}
-use Rattle.dav_core.specs.Options.{reading}
+use Rattle.dav_core.specs.Writing.{reading}
 use Rattle.dav_core.specs.Path.{Names}
 use Rattle.dav_core.specs.Tree.{is_linked}
 use Rattle.dav_core.specs.Unchanged.{SameBesidesOpens}
@@ -21,17 +21,15 @@ use Rattle.dav_model.specs.declared.answer.Answer.TheVariants.{Reply as Replied,
 use Rattle.dav_model.specs.declared.target.Target.{Target}
 use Rattle.dav_model.specs.declared.target.Target.TheVariants.{At, Methods, Refused, Writes}
 use Rattle.dav_model.specs.Allowing.{allowing}
-use Rattle.dav_model.specs.Bodies.{NoneEmpty, Part, text, slice, Polls}
+use Rattle.dav_model.specs.Bodies.{NoneEmpty, Part, text, slice, Polls, read_size_of}
 use Rattle.dav_model.specs.Calls.{AsksAtGate, AsksToPoll, AsksToReply}
-use Rattle.dav_model.specs.Conditions.{Fields}
+use Rattle.dav_model.specs.Conditions.{Fields, Asked, fields_of}
 use Rattle.dav_model.specs.Due.{OfItsPaths, Query, course, listing, query, IsRight}
 use Rattle.dav_model.specs.Finding.{MayShow, is_clear, resolved, shown_in}
 use Rattle.dav_model.specs.Folds.{Name}
 use Rattle.dav_model.specs.Head.{Reply, refusal}
-use Rattle.dav_model.specs.Requests.{Asked, fields_of}
 use Rattle.dav_model.specs.Rules.{Rules, Knowledge, Learns, Forgets, WasKnown, ShowsNames}
 use Rattle.dav_model.specs.Shown.{Shown, CouldShow}
-use Rattle.dav_model.specs.Sizes.{read_size_of}
 use Rattle.dav_model.specs.Trail.{Point, Move, Goes, Leaves, target_of, last_of, steps_of, answers_of, points_of}
 use Rattle.dav_model.specs.Valid.{Occurs, Valid}
 use Rattle.dav_model.specs.Written.{IsWriteReply, Makes}

@@ -1,9 +1,9 @@
 -- What a store shows, as far as answers speak of it.
-use Rattle.std.specs.Prelude.{◌≡◌, ◌&&◌, ℕ, nat_le, List, Bool, true, Result, Ok, Err, IfSome}
+use Rattle.std.specs.Prelude.{◌≡◌, List, true, Result, Ok, Err, IfSome}
 use Rattle.std.specs.List.{list_all, AllByRecursion}
 use Rattle.dav_core.specs.declared.error.FsError.{FsError}
 use Rattle.dav_core.specs.declared.member.Member.{Member}
-use Rattle.dav_core.specs.DavPath.{WebPath}
+use Rattle.dav_core.specs.DavPath.{WebPath, is_printable}
 use Rattle.dav_core.specs.Info.{IsInYears}
 use Rattle.dav_core.specs.Errors.{CouldRefuse}
 use Rattle.dav_core.specs.Tags.{HasTagBytes}
@@ -17,9 +17,6 @@ pub record Shown : Type 0 where
   pub looked : WebPath → Result Stood FsError
   pub opened : WebPath → Result Stood FsError
   pub listed : WebPath → Result (List Member) FsError
-
-abbrev pub is_printable : ℕ → Bool
-is_printable b = nat_le 32 b && nat_le b 126
 
 -- What could stand anywhere: a tag has the bytes of a tag, a time can be shown, and an address that a client is sent to
 -- in its place is printable ASCII.

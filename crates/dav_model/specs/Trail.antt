@@ -9,7 +9,7 @@ use Rattle.dav_model.specs.declared.step.Step.TheVariants.{Request, Poll, Abando
 use Rattle.dav_model.specs.declared.answer.Answer.{Answer}
 use Rattle.dav_model.specs.declared.target.Target.{Target}
 use Rattle.dav_model.specs.declared.target.Target.TheVariants.{At, Methods, Refused, Writes}
-use Rattle.dav_model.specs.Requests.{Asked}
+use Rattle.dav_model.specs.Conditions.{Asked}
 use Rattle.dav_model.specs.Gates.{gates, bulk_of}
 use Rattle.dav_model.specs.Rules.{Rules}
 

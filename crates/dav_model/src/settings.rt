@@ -1,5 +1,5 @@
 ghost use Rattle.std.specs.Prelude.{◌≡◌, ◌<◌};
-ghost use Rattle.dav_model.specs.Sizes.{read_size_of};
+ghost use Rattle.dav_model.specs.Bodies.{read_size_of};
 
 use dav_core::DavMethodSet;
 use dav_io::Text;

@@ -10,8 +10,7 @@ use Rattle.std.proofs.lemmas.Str.{chars-encodes, scalars-chars, IsUtf8-from_is_u
 use Rattle.std.proofs.lemmas.List.Elements.{All-head, All-tail}
 use Rattle.percent_encoding.specs.Percent.{percent_encode_byte}
 use Rattle.htmlescape.specs.declared.alphabet.Alphabet.TheVariants.{Minimal}
-use Rattle.htmlescape.specs.Escapes.{encoded}
-use Rattle.htmlescape.specs.Safety.{is_markup}
+use Rattle.htmlescape.specs.Escapes.{encoded, is_markup}
 use Rattle.htmlescape.proofs.Escaping.{encoded_characters}
 use Rattle.htmlescape.proofs.Undone.{undone, minimal_bytes}
 use Rattle.dav_core.specs.DavPath.{stays, link_of}

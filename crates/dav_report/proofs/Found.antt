@@ -7,8 +7,7 @@ use Rattle.std.specs.Str.{IsTrimAsciiEnd}
 use Rattle.std.proofs.lemmas.List.{at_drop_more}
 use Rattle.std.proofs.lemmas.Str.Ascii.{trim_ascii_end_is}
 use Rattle.std.proofs.lemmas.Bool.Decides.{nat_tests}
-use Rattle.dav_report.specs.Lines.{cut, first_some, trimmed_end, is_object}
-use Rattle.dav_report.specs.Cuts.{CutsAt}
+use Rattle.dav_report.specs.Lines.{cut, first_some, trimmed_end, is_object, CutsAt}
 
 pub found_here : {A B : Type 0} (f : A → Option B) (xs : List A) (i : ℕ) (d : A) (b : B) → i < length xs → f (get_or xs i d) ≡ Some b
     → first_some f (drop i xs) ≡ Some b

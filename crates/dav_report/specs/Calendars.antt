@@ -13,6 +13,8 @@ use Rattle.dav_report.specs.declared.caldav.component_filter.ComponentFilter.{Co
 use Rattle.dav_report.specs.declared.caldav.query.CalendarQuery.{CalendarQuery}
 use Rattle.dav_report.specs.declared.caldav.query.CalDavReportType.{CalDavReportType}
 use Rattle.dav_report.specs.declared.caldav.query.CalDavReportType.TheVariants.{CalendarQuery as query, CalendarMultiget, FreeBusyQuery}
+use Rattle.dav_report.specs.declared.caldav.resource.CalendarComponentType.{CalendarComponentType}
+use Rattle.dav_report.specs.declared.caldav.resource.CalendarComponentType.TheVariants.{VEvent, VTodo, VJournal, VFreeBusy, VTimezone, VAlarm}
 
 abbrev pub time_range : Element → TimeRange
 time_range e = record { start = attribute (codes "start") e; end = attribute (codes "end") e }
@@ -117,3 +119,13 @@ calendar_report root =
     cond (bytes_eq root.name (codes "calendar-query")) (option_map query (calendar_query root.children))
     (cond (bytes_eq root.name (codes "calendar-multiget")) (Some (CalendarMultiget (hrefs root.children)))
     (cond (bytes_eq root.name (codes "free-busy-query")) (option_map FreeBusyQuery (free_busy root.children)) None))
+
+-- ---- the names of calendar components (RFC 5545 section 3.6)
+
+abbrev pub component_name : CalendarComponentType → List ℕ
+component_name VEvent = codes "VEVENT"
+component_name VTodo = codes "VTODO"
+component_name VJournal = codes "VJOURNAL"
+component_name VFreeBusy = codes "VFREEBUSY"
+component_name VTimezone = codes "VTIMEZONE"
+component_name VAlarm = codes "VALARM"

@@ -5,6 +5,10 @@ use Rattle.std.specs.Str.{bytes_eq}
 use Rattle.dav_lock.specs.Pairs.{value_at}
 use Rattle.dav_lock.specs.Forests.{Forest, bare, then, element, text, comment, cdata, instruction}
 use Rattle.dav_lock.specs.declared.element.Element.{Element}
+use Rattle.std.specs.Vec.Iter.{into_iter_items}
+use Rattle.dav_lock.specs.Trees.{forest_of}
+use Rattle.dav_report.specs.declared.element_iters.Elements.{Elements}
+use Rattle.dav_report.specs.declared.element_iters.ElementsInto.{ElementsInto}
 
 -- the elements, in order
 abbrev pub elements : Forest → List Element
@@ -64,3 +68,11 @@ with_first None xs = None
 abbrev pub each : {A B : Type 0} → (A → Option B) → List A → Option (List B)
 each f [] = Some []
 each f (x ∷ xs) = with_first (f x) (each f xs)
+
+-- ---- what the iterators over the elements in an element have left
+
+abbrev pub left : Elements → List Element
+left s = elements (forest_of s.nodes.now)
+
+abbrev pub left_into : ElementsInto → List Element
+left_into s = elements (forest_of (into_iter_items s.nodes))

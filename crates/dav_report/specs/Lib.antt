@@ -1,4 +1,3 @@
-pub mod ComponentNames
 pub mod Filters
 pub mod FilterEvents
 pub mod EventsTellFilters
@@ -9,8 +8,5 @@ pub mod Children
 pub mod Requests
 pub mod Calendars
 pub mod AddressBooks
-pub mod Answers
 pub mod Lines
-pub mod Cuts
 pub mod Making
-pub mod Iterators

@@ -1,11 +1,11 @@
 -- What a text says of its object, line by line (RFC 5545 section 3.1, RFC 6350 section 3.3).
-use Rattle.std.specs.Prelude.{◌&&◌, ◌||◌, ◌==◌, ◌+◌, ◌-◌, ℕ, Bool, cond, List, [], ◌∷◌, length, take, drop, Option, Some, None, option_map, unwrap_or, codes}
-use Rattle.std.specs.Prelude.{nat_eq}
+use Rattle.std.specs.Prelude.{◌&&◌, ◌||◌, ◌==◌, ◌+◌, ◌-◌, ℕ, Bool, cond, List, [], ◌∷◌, length, take, drop, Option, Some, None, option_map, unwrap_or, codes, nat_eq, ◌≡◌}
 use Rattle.std.specs.Option.{option_or, option_and_then}
 use Rattle.std.specs.List.{position, starts_with, ends_with, suffix_len}
 use Rattle.std.specs.Char.{is_ascii_whitespace}
 use Rattle.std.specs.Str.{trim, str_eq_ignore_ascii_case}
 use Rattle.std.specs.Str.Lines.{lines}
+use Rattle.std.specs.Borrow.{Bor}
 
 -- a text before and after its first b
 abbrev pub cut : ℕ → List ℕ → Option (List ℕ × List ℕ)
@@ -60,3 +60,9 @@ trimmed_end content = take (length content - suffix_len is_ascii_whitespace cont
 -- begins and ends as this kind of object does
 abbrev pub is_object : List ℕ → List ℕ → List ℕ → Bool
 is_object begins ends content = starts_with nat_eq content begins && ends_with nat_eq (trimmed_end content) ends
+
+-- ---- what a cut of a text answers
+
+abbrev pub CutsAt : ℕ → List ℕ → Option (Bor (List ℕ) × Bor (List ℕ)) → Type 0
+CutsAt b t None = cut b t ≡ None
+CutsAt b t (Some p) = cut b t ≡ Some (p.0.now, p.1.now)

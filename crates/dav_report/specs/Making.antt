@@ -7,7 +7,7 @@ use Rattle.dav_lock.specs.Pairs.{Table, text_order}
 use Rattle.dav_lock.specs.Forests.{Forest, bare, then, Tree, element, text, comment, cdata, instruction, joined}
 use Rattle.dav_lock.specs.declared.element.Element.{Element}
 use Rattle.dav_report.specs.Lines.{cut, colon}
-use Rattle.dav_report.specs.ComponentNames.{component_name}
+use Rattle.dav_report.specs.Calendars.{component_name}
 use Rattle.dav_report.specs.declared.caldav.resource.CalendarComponentType.{CalendarComponentType}
 
 -- an element of this name, with nothing in it

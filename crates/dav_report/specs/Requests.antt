@@ -1,5 +1,5 @@
 -- What calendar and address book requests share (RFC 4791 section 9, RFC 6352 section 10).
-use Rattle.std.specs.Prelude.{◌&&◌, ℕ, Bool, false, cond, List, [], length, Option, Some, None, option_map, unwrap_or, codes, map, nat_lt}
+use Rattle.std.specs.Prelude.{◌&&◌, ℕ, Bool, false, cond, List, [], length, Option, Some, None, option_map, unwrap_or, codes, map, nat_lt, ◌≡◌, Result, Ok, Err}
 use Rattle.std.specs.List.{flat_map}
 use Rattle.std.specs.Str.{bytes_eq, all_ascii_digits}
 use Rattle.std.specs.Str.Parse.{digits_value, without_leading_plus}
@@ -8,6 +8,8 @@ use Rattle.dav_lock.specs.declared.element.Element.{Element}
 use Rattle.dav_report.specs.Children.{elements, texts, named, first_of, last_of, has, attribute, each}
 use Rattle.dav_report.specs.declared.filters.TextMatch.{TextMatch}
 use Rattle.dav_report.specs.declared.filters.ParameterFilter.{ParameterFilter}
+use Rattle.dav_report.specs.declared.error.ReportError.{ReportError}
+use Rattle.dav_report.specs.declared.error.ReportError.TheVariants.{BadRequest, FreeBusy, Fs, NoMemory}
 
 abbrev pub is_yes : Option (List ℕ) → Bool
 is_yes None = false
@@ -55,3 +57,14 @@ number t =
     let digits = without_leading_plus t in
     cond (nat_lt 0 (length digits) && all_ascii_digits digits && nat_lt (digits_value 10 digits) 4294967296)
     (Some (digits_value 10 digits)) None
+
+-- ---- what a parser answers
+
+-- Exactly the report that is asked for, and BadRequest exactly where there is none. Want of memory may come instead,
+-- and nothing else.
+abbrev pub Answers : {T : Type 0} → Option T → Result T ReportError → Type 0
+Answers asked (Ok report) = asked ≡ Some report
+Answers asked (Err BadRequest) = asked ≡ None
+Answers asked (Err FreeBusy) = ⊥
+Answers asked (Err (Fs e)) = ⊥
+Answers asked (Err NoMemory) = Unit {0}

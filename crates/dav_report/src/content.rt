@@ -1,7 +1,6 @@
 //! What a resource's content is, and what it says of itself.
 ghost use Rattle.std.specs.Prelude.{◌≡◌, ◌<◌, IfOk, MatchOption, Some, None, codes, option_copied};
-ghost use Rattle.dav_report.specs.Lines.{cut, colon, value_of, calendar_uid_in, calendar_uid, before_parameters, after_group, vcard_value_in, vcard_value, is_object};
-ghost use Rattle.dav_report.specs.Cuts.{CutsAt};
+ghost use Rattle.dav_report.specs.Lines.{cut, colon, value_of, calendar_uid_in, calendar_uid, before_parameters, after_group, vcard_value_in, vcard_value, is_object, CutsAt};
 
 use dav_io::{NoMemory, Text};
 use std::alloc::Global;

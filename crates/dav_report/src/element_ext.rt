@@ -3,8 +3,7 @@ ghost use Rattle.std.specs.BTreeMap.{insert_entry};
 ghost use Rattle.dav_lock.specs.Forests.{bare, then, text, joined};
 ghost use Rattle.dav_lock.specs.Pairs.{text_order};
 ghost use Rattle.dav_lock.specs.declared.element.Element.{Element as ElementValue};
-ghost use Rattle.dav_report.specs.Children.{elements, first_of};
-ghost use Rattle.dav_report.specs.Iterators.{left, left_into};
+ghost use Rattle.dav_report.specs.Children.{elements, first_of, left, left_into};
 ghost use Rattle.dav_report.specs.Making.{bare_element, element_called, with_namespace, with_text, with_child, without_texts, is_text_tree};
 ghost use Rattle.dav_lock.specs.Trees.{tree_of};
 

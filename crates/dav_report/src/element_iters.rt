@@ -11,7 +11,7 @@ impl<'a> Elements<'a> {
     ghost use Rattle.std.specs.Prelude.{◌≡◌};
     ghost use Rattle.dav_lock.specs.Trees.{forest_of};
     ghost use Rattle.dav_report.specs.Children.{elements};
-    ghost use Rattle.dav_report.specs.Iterators.{left};
+    ghost use Rattle.dav_report.specs.Children.{left};
 
     pub(crate) fn over(nodes: &'a [XmlNode]) -> Self
         ensures { left result ≡ elements (forest_of nodes.now) }
@@ -22,7 +22,7 @@ impl<'a> Elements<'a> {
 
 impl<'a> Iterator for Elements<'a> {
     ghost use Rattle.std.specs.Iterator.{YieldsFirstRef, item_count};
-    ghost use Rattle.dav_report.specs.Iterators.{left};
+    ghost use Rattle.dav_report.specs.Children.{left};
 
     type Item = &'a Element;
 
@@ -52,7 +52,7 @@ impl ElementsInto {
     ghost use Rattle.std.specs.Prelude.{◌≡◌};
     ghost use Rattle.dav_lock.specs.Trees.{forest_of};
     ghost use Rattle.dav_report.specs.Children.{elements};
-    ghost use Rattle.dav_report.specs.Iterators.{left_into};
+    ghost use Rattle.dav_report.specs.Children.{left_into};
 
     pub(crate) fn over(nodes: Vec<XmlNode>) -> Self
         ensures { left_into result ≡ elements (forest_of nodes.items) }
@@ -65,7 +65,7 @@ impl ElementsInto {
 
 impl Iterator for ElementsInto {
     ghost use Rattle.std.specs.Iterator.{YieldsFirst, item_count};
-    ghost use Rattle.dav_report.specs.Iterators.{left_into};
+    ghost use Rattle.dav_report.specs.Children.{left_into};
 
     type Item = Element;
 

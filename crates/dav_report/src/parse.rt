@@ -3,7 +3,7 @@ ghost use Rattle.std.specs.Prelude.{◌≡◌};
 ghost use Rattle.std.specs.Str.{bytes_eq};
 ghost use Rattle.dav_report.specs.Calendars.{calendar_report};
 ghost use Rattle.dav_report.specs.AddressBooks.{address_report};
-ghost use Rattle.dav_report.specs.Answers.{Answers};
+ghost use Rattle.dav_report.specs.Requests.{Answers};
 
 use crate::ReportError;
 use crate::address_parts::read_address_query;

@@ -8,7 +8,7 @@ use Rattle.dav_core.specs.declared.tree.Kind.{Kind}
 use Rattle.dav_core.specs.DavPath.{WebPath}
 use Rattle.dav_core.specs.Disk.{Live, can_read}
 use Rattle.dav_core.specs.Info.{Info}
-use Rattle.dav_core.specs.Options.{reading}
+use Rattle.dav_core.specs.Writing.{reading}
 use Rattle.dav_core.specs.Tree.{is_file}
 use Rattle.dav_core.proofs.UnchangedLemmas.{keeps_but}
 use Rattle.dav_store.specs.Files.{IsFault, Spoiled, rest_of}

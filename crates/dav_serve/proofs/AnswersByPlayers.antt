@@ -5,7 +5,7 @@ use Rattle.http.specs.declared.request.Parts.{Parts}
 use Rattle.http.specs.Request.{head_of, body_of}
 use Rattle.dav_io.specs.declared.failure.NoMemory.{NoMemory}
 use Rattle.dav_io.specs.declared.clock.Moment.{Moment}
-use Rattle.dav_model.specs.Requests.{Asked}
+use Rattle.dav_model.specs.Conditions.{Asked}
 use Rattle.dav_model.specs.Rules.{Knowledge}
 use Rattle.dav_model.specs.Trail.{Point}
 use Rattle.dav_serve.specs.declared.exchange.Ended.{Ended}

@@ -7,12 +7,11 @@ use Rattle.dav_model.specs.declared.step.Step.TheVariants.{Request, Poll, Purge,
 use Rattle.dav_model.specs.declared.answer.Answer.{Answer}
 use Rattle.dav_model.specs.declared.answer.Answer.TheVariants.{Reply as Replied, Piece, End, Done}
 use Rattle.dav_model.specs.Announced.{IsPoll, PolledToEnd, bytes_in, length_is_own, value_of}
-use Rattle.dav_model.specs.Bodies.{Part, Polls}
+use Rattle.dav_model.specs.Bodies.{Part, Polls, read_size_of}
 use Rattle.dav_model.specs.Head.{Reply}
 use Rattle.dav_model.specs.Play.{Answered, Playing, Plays, Polled, Replies, Stage, Stands}
-use Rattle.dav_model.specs.Requests.{fields_of}
+use Rattle.dav_model.specs.Conditions.{fields_of}
 use Rattle.dav_model.specs.Rules.{Rules, Knowledge}
-use Rattle.dav_model.specs.Sizes.{read_size_of}
 use Rattle.dav_model.specs.Trail.{Move, Point, answers_of as answers_along, steps_of as steps_along, target_of}
 use Rattle.dav_model.proofs.Framing.{given_length, gives_none}
 use Rattle.dav_model.proofs.RightReplies.{replies_framed}

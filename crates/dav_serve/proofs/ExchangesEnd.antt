@@ -10,10 +10,9 @@ use Rattle.dav_model.specs.declared.step.Step.{Step}
 use Rattle.dav_model.specs.declared.step.Step.TheVariants.{Request, Poll, Purge, Turn}
 use Rattle.dav_model.specs.declared.answer.Answer.{Answer}
 use Rattle.dav_model.specs.declared.answer.Answer.TheVariants.{Reply as Replied, Piece, End, Broken, Done}
-use Rattle.dav_model.specs.Requests.{Asked}
-use Rattle.dav_model.specs.Bodies.{Part, Polls, size, slice, text}
+use Rattle.dav_model.specs.Conditions.{Asked}
+use Rattle.dav_model.specs.Bodies.{Part, Polls, size, slice, text, read_size_of}
 use Rattle.dav_model.proofs.PollsShrink.{polls_shrink}
-use Rattle.dav_model.specs.Sizes.{read_size_of}
 use Rattle.dav_model.proofs.JoiningLemmas.{played_join, played_counts, poll_says}
 use Rattle.dav_wire.specs.Answers.{head_text, has_close_field}
 use Rattle.dav_wire.specs.Chunks.{written, ending}

@@ -12,11 +12,10 @@ use Rattle.dav_model.specs.declared.target.Target.{Target}
 use Rattle.dav_model.specs.declared.target.Target.TheVariants.{At, Methods, Refused, Writes}
 use Rattle.dav_model.specs.Announced.{PolledToEnd}
 use Rattle.dav_model.specs.Bodies.{Part}
-use Rattle.dav_model.specs.Conditions.{Fields}
+use Rattle.dav_model.specs.Conditions.{Fields, Asked, fields_of}
 use Rattle.dav_model.specs.Gates.{Bulk, none, some, much, broken, admitted, asked, bulk_of, is_allowed, is_built, or_refused, takes_much, takes_some, unless, weighed, with_method, with_path}
 use Rattle.dav_model.specs.Head.{Reply, is_get}
 use Rattle.dav_model.specs.Play.{Replies, Stage}
-use Rattle.dav_model.specs.Requests.{Asked, fields_of}
 use Rattle.dav_model.specs.Rules.{Rules, Knowledge}
 use Rattle.dav_model.specs.Trail.{Point, target_of}
 use Rattle.dav_model.proofs.Framing.{gives_none}

@@ -11,8 +11,7 @@ use Rattle.dav_wire.specs.Bodies.{IsBody, BodyRefusal, IsBodyUnfinished}
 use Rattle.dav_wire.specs.BodyReading.{ReadsOn, ReadsBody, GivesBody, IsEmptiedBy as IsBodyEmptiedBy}
 use Rattle.dav_wire.specs.Heads.{IsRead}
 use Rattle.dav_wire.specs.Messages.{refused_head, refused_body, open_head, open_body}
-use Rattle.dav_wire.specs.Pending.{Pending}
-use Rattle.dav_wire.specs.Reading.{Behind, Fills, FillsThen, Finds, Moves, sending}
+use Rattle.dav_wire.specs.Reading.{Behind, Fills, FillsThen, Finds, Moves, sending, Pending}
 use Rattle.dav_wire.specs.Requests.{IsRequest, Refusal}
 use Rattle.dav_wire.specs.Writing.{Pushes}
 use Rattle.dav_wire.specs.declared.announcing.Announced.{Announced}

@@ -13,7 +13,7 @@ use Rattle.dav_io.specs.declared.clock.Moment.{Moment}
 use Rattle.dav_model.specs.Rules.{Knowledge, Rules}
 use Rattle.dav_model.proofs.JoiningLemmas.{played_counts}
 use Rattle.dav_wire.specs.Heads.{IsRead}
-use Rattle.dav_wire.specs.Pending.{Pending}
+use Rattle.dav_wire.specs.Reading.{Pending}
 use Rattle.dav_wire.specs.BodyReading.{ReadsOn}
 use Rattle.dav_wire.specs.Messages.{Message, IsMessage, Messages}
 use Rattle.dav_wire.specs.Writing.{Pushes, Sent}

@@ -13,7 +13,7 @@ use Rattle.dav_model.specs.declared.step.Step.TheVariants.{Poll, Turn}
 use Rattle.dav_model.specs.declared.answer.Answer.TheVariants.{Broken, Done}
 use Rattle.dav_wire.specs.Answers.{refusal_text}
 use Rattle.dav_wire.specs.Messages.{Message, Messages, MessageRefusal, IsMessageUnfinished}
-use Rattle.dav_wire.specs.Pending.{Pending}
+use Rattle.dav_wire.specs.Reading.{Pending}
 use Rattle.dav_wire.specs.Writing.{Pushes, Sent, SentAll, SentFront}
 use Rattle.dav_wire.specs.declared.next.Flaw.{Flaw}
 use Rattle.dav_wire.proofs.MessageLemmas.{message_refusal_stays}

@@ -6,7 +6,7 @@ use Rattle.dav_model.specs.declared.step.Step.{Step}
 use Rattle.dav_model.specs.declared.step.Step.TheVariants.{Request, Poll, Purge, Turn}
 use Rattle.dav_model.specs.declared.answer.Answer.{Answer}
 use Rattle.dav_model.specs.declared.answer.Answer.TheVariants.{Done}
-use Rattle.dav_model.specs.Requests.{Asked}
+use Rattle.dav_model.specs.Conditions.{Asked}
 use Rattle.dav_model.specs.Trail.{Move}
 use Rattle.dav_model.specs.Play.{AreFull, Ends, Played, Stage, StaysOpen, Stepped}
 use Rattle.dav_model.proofs.JoiningLemmas.{none_played, one_more_played, refused_played}

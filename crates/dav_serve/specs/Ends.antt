@@ -14,7 +14,7 @@ use Rattle.dav_model.specs.declared.step.Step.{Step}
 use Rattle.dav_model.specs.declared.step.Step.TheVariants.{Poll, Turn}
 use Rattle.dav_model.specs.declared.answer.Answer.{Answer}
 use Rattle.dav_model.specs.declared.answer.Answer.TheVariants.{Broken, Done}
-use Rattle.dav_model.specs.Requests.{Asked}
+use Rattle.dav_model.specs.Conditions.{Asked}
 use Rattle.dav_model.specs.Rules.{Knowledge}
 use Rattle.dav_model.specs.Trail.{Point}
 use Rattle.dav_serve.specs.declared.exchange.Ended.{Ended}

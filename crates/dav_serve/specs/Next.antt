@@ -7,7 +7,7 @@ use Rattle.dav_io.specs.Outside.{Stream}
 use Rattle.dav_wire.specs.BodyReading.{ReadsOn}
 use Rattle.dav_wire.specs.Heads.{IsRead}
 use Rattle.dav_wire.specs.Messages.{IsMessage, MessageRefusal, IsMessageUnfinished}
-use Rattle.dav_wire.specs.Pending.{Pending}
+use Rattle.dav_wire.specs.Reading.{Pending}
 use Rattle.dav_wire.specs.declared.next.BodyRead.{BodyRead}
 use Rattle.dav_wire.specs.declared.next.BodyRead.TheVariants.{Whole as BodyWhole, Refused as BodyRefused, Ended}
 use Rattle.dav_wire.specs.declared.next.ReadError.{ReadError}

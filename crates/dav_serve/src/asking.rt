@@ -2,8 +2,7 @@
 ghost use Rattle.std.specs.Prelude.{◌≡◌, ◌≤◌, ◌^◌, ◌++◌, ℕ, List, [], Ok};
 ghost use Rattle.dav_io.specs.Outside.{Stream};
 ghost use Rattle.dav_wire.specs.BodyReading.{ReadsOn};
-ghost use Rattle.dav_wire.specs.Pending.{Pending};
-ghost use Rattle.dav_wire.specs.Reading.{sending};
+ghost use Rattle.dav_wire.specs.Reading.{sending, Pending};
 ghost use Rattle.dav_wire.specs.Writing.{Pushes};
 ghost use Rattle.dav_serve.specs.Next.{IsEmptiedBy, ReadsNext, next_by as the_next_by, over_with};
 ghost use Rattle.dav_serve.specs.Serving.{IsWanting};

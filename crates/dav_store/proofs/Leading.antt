@@ -4,7 +4,7 @@ use Rattle.dav_io.proofs.ToldLemmas.{both_same, both_then}
 use Rattle.dav_core.specs.declared.error.FsError.{FsError}
 use Rattle.dav_core.specs.declared.handle.OpenOptions.{OpenOptions}
 use Rattle.dav_core.specs.DavPath.{WebPath}
-use Rattle.dav_core.specs.Options.{reading}
+use Rattle.dav_core.specs.Writing.{reading}
 use Rattle.dav_core.specs.Unchanged.{SameBesidesOpens}
 use Rattle.dav_core.proofs.UnchangedLemmas.{same_besides, same_besides_then}
 use Rattle.dav_store.specs.Frames.{OpensOne}

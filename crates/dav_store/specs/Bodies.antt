@@ -34,3 +34,14 @@ pub record GivesPiece (old : BodyState) (result : Result (Option (List ℕ)) Fai
   pub some : IsPiece result
   pub ended : new.ended ≡ (old.ended || is_end result)
   pub told : Both old.left new.left (PieceIn result)
+
+-- ---- a reader of bytes that are in memory
+
+-- what is left of a body in memory
+abbrev pub bytes_or_none : Option (List ℕ) → List ℕ
+bytes_or_none None = []
+bytes_or_none (Some bytes) = bytes
+
+-- A reader of bytes that are in memory tells them, and meets no fault.
+abbrev pub one_state : Option (List ℕ) → Bool → BodyState
+one_state bytes ended = record { left = Some (bytes_or_none bytes); ended = ended; faults = 0 }

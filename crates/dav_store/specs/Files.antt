@@ -1,5 +1,5 @@
 -- What the calls of an open file do, where it is told what it is.
-use Rattle.std.specs.Prelude.{◌≡◌, ◌≤◌, ◌<◌, ◌+◌, ◌&&◌, ◌⊎◌, ℕ, nat_le, List, [], length, take, drop, min, Bool, true, Option, None, Some, IfSome, Result, Ok, Err, IfOk, OnErr, if◌then◌else◌}
+use Rattle.std.specs.Prelude.{◌≡◌, ◌≤◌, ◌<◌, ◌+◌, ◌&&◌, ◌⊎◌, ℕ, List, [], length, take, drop, min, Bool, true, Option, None, Some, IfSome, Result, Ok, Err, IfOk, OnErr, if◌then◌else◌}
 use Rattle.std.specs.List.{list_all}
 use Rattle.dav_io.specs.Counts.{Rose, one_more}
 use Rattle.dav_io.specs.Told.{Both}
@@ -11,6 +11,7 @@ use Rattle.dav_core.specs.Unchanged.{Keeps, KeepsBut, SameBesidesFiles, SameOpen
 use Rattle.dav_core.specs.Writing.{can_write, written}
 use Rattle.dav_store.specs.Frames.{KeepsOpenBut}
 use Rattle.dav_store.specs.Standing.{Seen, AgreesOpen}
+use Rattle.dav_core.specs.DavPath.{is_printable}
 
 -- the same file at the same place
 abbrev pub SameSeen : Option Seen → Option Seen → Type 0
@@ -105,10 +106,6 @@ pub record FileGives (s : DiskState) (h : ℕ) (seen : Option Seen) (count : ℕ
   pub refused : can_read (s.live h) ≡ true → OnErr result (Spoiled s result t)
   pub within : IfOk result (λ bytes. length bytes ≤ count)
   pub told : Both seen after (GivesIn s.whole count result)
-
--- a printable ASCII character
-abbrev pub is_printable : ℕ → Bool
-is_printable b = nat_le 32 b && nat_le b 126
 
 -- the address that it has
 abbrev pub Redirects : DiskState → Result (Option (List ℕ)) FsError → DiskState → Seen → Type 0

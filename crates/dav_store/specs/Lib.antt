@@ -7,6 +7,5 @@ pub mod View
 pub mod Shows
 pub mod Members
 pub mod Void
-pub mod OneBody
 pub mod Reached
 pub mod Leads

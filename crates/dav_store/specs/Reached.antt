@@ -4,7 +4,7 @@ use Rattle.dav_core.specs.declared.error.FsError.{FsError}
 use Rattle.dav_core.specs.declared.member.Member.{Member}
 use Rattle.dav_core.specs.DavPath.{WebPath}
 use Rattle.dav_core.specs.Info.{Info}
-use Rattle.dav_core.specs.Options.{reading}
+use Rattle.dav_core.specs.Writing.{reading}
 use Rattle.dav_core.specs.Unchanged.{Keeps, KeepsBut}
 use Rattle.dav_store.specs.Files.{Spoiled}
 use Rattle.dav_store.specs.Frames.{OpensOne}

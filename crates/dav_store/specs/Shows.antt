@@ -4,7 +4,7 @@ use Rattle.dav_core.specs.declared.error.FsError.{FsError}
 use Rattle.dav_core.specs.DavPath.{WebPath}
 use Rattle.dav_core.specs.Disk.{DiskState}
 use Rattle.dav_core.specs.Info.{Info}
-use Rattle.dav_core.specs.Options.{reading}
+use Rattle.dav_core.specs.Writing.{reading}
 use Rattle.dav_core.specs.Tree.{is_file}
 use Rattle.dav_store.specs.Standing.{Standing, Seen, Agrees}
 use Rattle.dav_store.specs.Files.{Spoiled}

@@ -1,7 +1,7 @@
 ghost use Rattle.std.specs.Prelude.{◌≡◌, ◌≤◌, Err, refl};
 ghost use Rattle.dav_core.specs.Disk.{Closes, FileMetas, LinkMetas, Metas, Opens, Reads, Seeks};
 ghost use Rattle.dav_core.specs.Listing.{EndsListing, Lists, ListsOn};
-ghost use Rattle.dav_core.specs.Untold.{untold_live};
+ghost use Rattle.dav_core.proofs.Untold.{untold_live};
 ghost use Rattle.dav_core.specs.Writing.{Copies, CreatesDir, RemovesDir, RemovesFile, Renames, Writes};
 ghost use Rattle.dav_io.specs.Counts.{Rose, one_more};
 ghost use Rattle.dav_store.specs.Void.{never_told, no_disk_state};

@@ -1,6 +1,6 @@
 ghost use Rattle.std.specs.Prelude.{◌≡◌, ◌<◌, IfOk, Some, false, length};
 ghost use Rattle.std.specs.Option.{ForSome};
-ghost use Rattle.dav_store.specs.OneBody.{one_state};
+ghost use Rattle.dav_store.specs.Bodies.{one_state};
 
 use crate::BodyReader;
 use bytes::Bytes;

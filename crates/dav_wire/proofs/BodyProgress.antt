@@ -8,8 +8,7 @@ use Rattle.dav_io.proofs.ToldLemmas.{both_same, both_then}
 use Rattle.dav_wire.specs.Bodies.{BodyRefusal, IsBodyUnfinished}
 use Rattle.dav_wire.specs.BodyReading.{ReadsOn, ReadsBody}
 use Rattle.dav_wire.specs.BodySteps.{Stands, HaltsAt}
-use Rattle.dav_wire.specs.Pending.{Pending}
-use Rattle.dav_wire.specs.Reading.{Behind, Fills, FillsThen, Moves, sending}
+use Rattle.dav_wire.specs.Reading.{Behind, Fills, FillsThen, Moves, sending, Pending}
 use Rattle.dav_wire.specs.Writing.{Pushes}
 use Rattle.dav_wire.proofs.Pushing.{pushes_then}
 use Rattle.dav_wire.specs.declared.announcing.Announced.{Announced}

@@ -10,8 +10,7 @@ use Rattle.http.specs.declared.request.Parts.{Parts}
 use Rattle.httparse.specs.Grammar.{RequestHead, print_request, ReadsRequest, HasNoRequest, MayBecomeRequest}
 use Rattle.httparse.proofs.GrammarLemmas.{ReadsRequest-append}
 use Rattle.dav_wire.specs.Heads.{IsRead, IsReadAt}
-use Rattle.dav_wire.specs.Pending.{Pending}
-use Rattle.dav_wire.specs.Reading.{Fills, Moves}
+use Rattle.dav_wire.specs.Reading.{Fills, Moves, Pending}
 use Rattle.dav_wire.specs.Requests.{IsRequest, Refusal, long}
 use Rattle.dav_wire.specs.Taking.{TakesAt, TakenAt}
 use Rattle.dav_wire.proofs.RequestLemmas.{refusal_stays}

@@ -2,8 +2,7 @@
 use Rattle.std.proofs.Common.{◌≡◌, ℕ, List, [], Result, Ok, Err, refl, sym, subst}
 use Rattle.dav_io.specs.declared.failure.Failed.{Failed as SinkFailed}
 use Rattle.dav_io.specs.Outside.{Stream}
-use Rattle.dav_wire.specs.Pending.{Pending}
-use Rattle.dav_wire.specs.Reading.{Fills, FillsThen, sending}
+use Rattle.dav_wire.specs.Reading.{Fills, FillsThen, sending, Pending}
 use Rattle.dav_wire.specs.Writing.{Pushes}
 use Rattle.dav_wire.specs.declared.next.ReadError.{ReadError}
 use Rattle.dav_wire.specs.declared.next.ReadError.TheVariants.{Failed, TooMuch, NoMemory as WithoutMemory, Unsent}

@@ -4,7 +4,7 @@ use Rattle.dav_io.specs.Counts.{Rose}
 use Rattle.dav_io.specs.Told.{Both}
 use Rattle.dav_io.specs.Outside.{Stream}
 use Rattle.dav_wire.specs.Bodies.{IsBody, BodyRefusal, IsBodyUnfinished}
-use Rattle.dav_wire.specs.Pending.{Pending}
+use Rattle.dav_wire.specs.Reading.{Pending}
 use Rattle.dav_wire.specs.declared.announcing.Announced.{Announced}
 use Rattle.dav_wire.specs.declared.next.BodyRead.{BodyRead}
 use Rattle.dav_wire.specs.declared.next.BodyRead.TheVariants.{Whole, Refused, Ended}

@@ -1,5 +1,5 @@
 -- The head of a request of the grammar, and the parts that `http` makes of it.
-use Rattle.std.specs.Prelude.{◌≡◌, ◌≤◌, ℕ, ◌==◌, if◌then◌else◌, List, [], map, length, drop}
+use Rattle.std.specs.Prelude.{◌≡◌, ◌≤◌, ℕ, ◌==◌, if◌then◌else◌, List, [], map, length, drop, Option, Some, None, Result, Ok, Err}
 use Rattle.http.specs.declared.request.Parts.{Parts}
 use Rattle.http.specs.declared.version.Version.{Version}
 use Rattle.http.specs.declared.version.TheConstants.Version.{HTTP_10, HTTP_11}
@@ -8,9 +8,13 @@ use Rattle.http_header.specs.FieldValue.{FieldValue, IsFieldValue, plain_value}
 use Rattle.http_header.specs.HeaderMap.{append_all}
 use Rattle.http_header.specs.Token.{lowercase}
 use Rattle.http_uri.specs.Uri.{Spells}
-use Rattle.httparse.specs.Grammar.{Field, field_value, RequestHead, print_request, ReadsRequest}
+use Rattle.httparse.specs.Grammar.{Field, field_value, RequestHead, print_request, ReadsRequest, HasNoRequest, MayBecomeRequest}
 use Rattle.httparse.specs.Spans.{header_bytes}
 use Rattle.httparse.specs.declared.spans.HeaderSpan.{HeaderSpan}
+use Rattle.dav_wire.specs.Requests.{Refusal}
+use Rattle.dav_wire.specs.declared.head.ReadHead.{ReadHead}
+use Rattle.dav_wire.specs.declared.head.PartError.{PartError}
+use Rattle.dav_wire.specs.declared.head.PartError.TheVariants.{Refused, NoMemory}
 
 -- HTTP/1.0 or HTTP/1.1, by its minor number
 abbrev pub version_of : ℕ → Version
@@ -46,3 +50,11 @@ pub record IsReadAt (buf : List ℕ) (len : ℕ) (parts : Parts) : Type 0 where
   pub len_is : len ≡ length (print_request head)
   pub few : length head.fields ≤ 256
   pub parts_are : IsRead head parts
+
+-- ---- what is read at the front of a buffer of at most 65,536 bytes
+
+abbrev pub Parses : List ℕ → Result (Option ReadHead) PartError → Type 0
+Parses buf (Ok (Some read)) = IsReadAt buf read.len read.parts
+Parses buf (Ok None) = HasNoRequest buf × MayBecomeRequest buf
+Parses buf (Err Refused) = Refusal buf
+Parses buf (Err NoMemory) = Unit {0}

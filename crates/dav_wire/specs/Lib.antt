@@ -5,8 +5,6 @@ pub mod Answers
 pub mod AnswerHeads
 pub mod Heads
 pub mod Requests
-pub mod Pending
-pub mod Parsing
 pub mod Taking
 pub mod Fields
 pub mod Reading

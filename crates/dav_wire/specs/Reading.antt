@@ -7,12 +7,16 @@ use Rattle.httparse.specs.Grammar.{RequestHead, HasNoRequest, MayBecomeRequest}
 use Rattle.dav_io.specs.declared.failure.NoMemory.{NoMemory}
 use Rattle.dav_io.specs.declared.failure.Failed.{Failed as SinkFailed}
 use Rattle.dav_wire.specs.Heads.{IsRead}
-use Rattle.dav_wire.specs.Pending.{Pending}
 use Rattle.dav_wire.specs.Requests.{IsRequest, Refusal}
 use Rattle.dav_wire.specs.declared.next.Found.{Found}
 use Rattle.dav_wire.specs.declared.next.Found.TheVariants.{Whole, Refused as FoundRefused, More}
 use Rattle.dav_wire.specs.declared.next.ReadError.{ReadError}
 use Rattle.dav_wire.specs.declared.next.ReadError.TheVariants.{Failed, TooMuch, NoMemory as WithoutMemory, Unsent}
+
+-- the bytes that were taken from the source and not yet passed, and how many bytes were ever taken
+pub record Pending : Type 0 where
+  pub bytes : List ℕ
+  pub taken : ℕ
 
 -- What stands at the front of the bytes that are held; only a request is passed. Otherwise more bytes are wanted: of
 -- these at most 65,536 no front is a head.

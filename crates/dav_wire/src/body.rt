@@ -4,8 +4,7 @@ ghost use Rattle.dav_io.specs.Outside.{Stream};
 ghost use Rattle.dav_wire.specs.Bodies.{IsBodyUnfinished};
 ghost use Rattle.dav_wire.specs.BodyReading.{ReadsOn, ReadsBody, IsEmptiedBy};
 ghost use Rattle.dav_wire.specs.BodyStarts.{StartsAt, read_as};
-ghost use Rattle.dav_wire.specs.Pending.{Pending};
-ghost use Rattle.dav_wire.specs.Reading.{sending};
+ghost use Rattle.dav_wire.specs.Reading.{sending, Pending};
 ghost use Rattle.dav_wire.specs.Writing.{Pushes};
 
 use crate::announcing::Announced;

@@ -6,8 +6,7 @@ ghost use Rattle.http_header.specs.HeaderMap.{append, append_all, value_count};
 ghost use Rattle.http_header.specs.Token.{IsToken, lowercase};
 ghost use Rattle.http_uri.specs.Uri.{Spells, SpellsNone};
 ghost use Rattle.httparse.specs.Spans.{IsHeaderWithin, IsWithin, header_bytes, span_bytes, IsRequestWithin, IsRequestOf};
-ghost use Rattle.dav_wire.specs.Heads.{IsReadAt, IsField, kept_span, version_of};
-ghost use Rattle.dav_wire.specs.Parsing.{Parses};
+ghost use Rattle.dav_wire.specs.Heads.{IsReadAt, IsField, kept_span, version_of, Parses};
 ghost use Rattle.dav_wire.specs.Requests.{Refusal};
 ghost use Rattle.dav_wire.specs.declared.head.PartError.TheVariants.{Refused};
 

@@ -37,7 +37,7 @@ pub struct Input {
 
 impl Model for Input {
     ghost use Rattle.std.specs.Prelude.{◌≡◌, ◌≤◌, ◌^◌, [], length, slice_range};
-    ghost use Rattle.dav_wire.specs.Pending.{Pending};
+    ghost use Rattle.dav_wire.specs.Reading.{Pending};
 
     ghost Value = { Pending };
 

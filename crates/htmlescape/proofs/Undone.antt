@@ -11,9 +11,8 @@ use Rattle.std.proofs.lemmas.List.Folds.{list_all-append}
 use Rattle.htmlescape.specs.declared.alphabet.Alphabet.{Alphabet}
 use Rattle.htmlescape.specs.declared.alphabet.Alphabet.TheVariants.{Minimal, Attribute}
 use Rattle.htmlescape.specs.Names.{entities, latin, symbols, special, named}
-use Rattle.htmlescape.specs.Escapes.{minimal_entity, escaped, other, or_else, encoded, hex_escape, is_numbered}
+use Rattle.htmlescape.specs.Escapes.{minimal_entity, escaped, other, or_else, encoded, hex_escape, is_numbered, is_markup, is_harmless}
 use Rattle.htmlescape.specs.Grammar.{Item, Plain, Name, Hexadecimal, spelled, meaning, IsText}
-use Rattle.htmlescape.specs.Safety.{is_markup, is_harmless}
 use Rattle.htmlescape.proofs.Escaping.{numbered_below}
 use Rattle.htmlescape.proofs.Utf8.{encode_one, encode_two, encode_three, encode_four}
 

@@ -1,5 +1,5 @@
 -- Characters read from bytes in UTF-8: the first byte gives the width.
-use Rattle.std.specs.Prelude.{◌≡◌, ◌<◌, ℕ, ◌≤◌, if◌then◌else◌, nat_lt, max, List, [], ◌∷◌, ◌++◌, length, drop, Option, Some, None, Result, Ok, Err, IsErr, encode_utf8}
+use Rattle.std.specs.Prelude.{◌≡◌, ◌<◌, ℕ, ◌≤◌, if◌then◌else◌, nat_lt, max, List, [], ◌∷◌, ◌++◌, length, drop, Option, Some, None, Result, Ok, Err, IsErr, encode_utf8, codes}
 use Rattle.std.specs.Char.{IsScalar}
 use Rattle.std.specs.Str.{StartsWithNoChar}
 use Rattle.dav_io.specs.declared.failure.Failed.{Failed}
@@ -64,3 +64,9 @@ pub record ReadsAfter (first : ℕ) (old : Stream) (result : Result ℕ CharsErr
   pub failed : IsRefused (Some result) → Rose old.faults new.faults
   pub scalar : IsCharacter (Some result)
   pub told : Both old.bytes new.bytes (λ a b. CharRead (Some result) (first ∷ a) b)
+
+-- ---- the texts of a fault of reading characters. Of the reader's own none is known
+
+abbrev pub message : CharsError → Option (List ℕ)
+message NotUtf8 = Some (codes "byte stream did not contain valid utf8")
+message (Other refused) = None

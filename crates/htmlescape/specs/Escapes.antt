@@ -1,10 +1,12 @@
 -- What the encoders write, character by character.
-use Rattle.std.specs.Prelude.{ℕ, ◌/◌, ◌%◌, Bool, true, not, ◌&&◌, if◌then◌else◌, ◌==◌, nat_lt, List, [], ◌∷◌, Option, Some, None, codes}
+use Rattle.std.specs.Prelude.{ℕ, ◌/◌, ◌%◌, Bool, true, not, ◌&&◌, if◌then◌else◌, ◌==◌, nat_lt, List, [], ◌∷◌, Option, Some, None, codes, ◌||◌, nat_le}
 use Rattle.std.specs.List.{flat_map}
 use Rattle.std.specs.Char.{is_ascii_alphanumeric}
 use Rattle.std.specs.Fmt.{digit_glyph}
 use Rattle.htmlescape.specs.declared.alphabet.Alphabet.{Alphabet}
 use Rattle.htmlescape.specs.declared.alphabet.Alphabet.TheVariants.{Minimal, Attribute}
+use Rattle.htmlescape.specs.declared.alphabet.Escape.{Escape}
+use Rattle.htmlescape.specs.declared.alphabet.Escape.TheVariants.{Entity, Number}
 
 -- the entity of one of the five characters `"`, `&`, `'`, `<`, `>`
 unfoldable pub minimal_entity : ℕ → Option (List ℕ)
@@ -39,3 +41,19 @@ escaped alphabet c = or_else (minimal_entity c) (other alphabet c)
 -- a text's encoding
 abbrev pub encoded : Alphabet → List ℕ → List ℕ
 encoded alphabet text = flat_map (escaped alphabet) text
+
+-- ---- the text of what stands for a character
+
+abbrev pub escape_text : Escape → List ℕ
+escape_text (Entity text) = text.now
+escape_text (Number code) = hex_escape code
+
+-- ---- what the encodings leave out
+
+-- one of `"`, `'`, `<`, `>`
+abbrev pub is_markup : ℕ → Bool
+is_markup c = (c == 34 || c == 39) || (c == 60 || c == 62)
+
+-- no ASCII character, or a letter, a digit, or one of `&`, `#`, `;`
+abbrev pub is_harmless : ℕ → Bool
+is_harmless c = nat_le 128 c || (is_ascii_alphanumeric c || (c == 38 || (c == 35 || c == 59)))

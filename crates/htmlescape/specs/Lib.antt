@@ -1,12 +1,8 @@
 pub mod Names
 pub mod Table
-pub mod Kinds
 pub mod Characters
-pub mod Messages
 pub mod Escapes
-pub mod Pieces
 pub mod Grammar
 pub mod Running
 pub mod Progress
 pub mod Decoding
-pub mod Safety

@@ -1,7 +1,6 @@
 ghost use Rattle.std.specs.Prelude.{◌≡◌, ◌<◌, ◌∷◌, [], true, encode_utf8_all, option_copied, MatchOption};
 ghost use Rattle.std.specs.Fmt.{digit_glyph};
-ghost use Rattle.htmlescape.specs.Escapes.{minimal_entity, other, escaped};
-ghost use Rattle.htmlescape.specs.Pieces.{escape_text};
+ghost use Rattle.htmlescape.specs.Escapes.{minimal_entity, other, escaped, escape_text};
 ghost use Rattle.dav_io.specs.Appending.{Appends};
 
 use crate::entities::MINIMAL_ENTITIES;

@@ -16,7 +16,7 @@ pub enum CharsError {
 }
 
 impl fmt::Display for CharsError {
-    ghost use Rattle.htmlescape.specs.Messages.{message};
+    ghost use Rattle.htmlescape.specs.Characters.{message};
 
     ghost output = { message };
 

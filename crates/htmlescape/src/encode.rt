@@ -1,8 +1,7 @@
 ghost use Rattle.std.specs.Prelude.{◌≡◌, ◌++◌, IfOk, encode_utf8_all, string_bytes};
 ghost use Rattle.htmlescape.specs.declared.alphabet.Alphabet.TheVariants.{Minimal, Attribute};
 ghost use Rattle.std.specs.Str.{chars};
-ghost use Rattle.htmlescape.specs.Escapes.{encoded};
-ghost use Rattle.htmlescape.specs.Pieces.{escape_text};
+ghost use Rattle.htmlescape.specs.Escapes.{encoded, escape_text};
 ghost use Rattle.dav_io.specs.Appending.{Appends};
 
 use crate::alphabet::{Alphabet, Escape};

@@ -5,8 +5,7 @@ ghost use Rattle.std.specs.Str.{all_scalars, chars};
 ghost use Rattle.htmlescape.specs.declared.alphabet.Alphabet.TheVariants.{Minimal, Attribute};
 ghost use Rattle.htmlescape.specs.declared.faults.DecodeErr.{DecodeErr};
 ghost use Rattle.htmlescape.specs.declared.faults.DecodeErrKind.{DecodeErrKind};
-ghost use Rattle.htmlescape.specs.Escapes.{encoded};
-ghost use Rattle.htmlescape.specs.Safety.{is_markup, is_harmless};
+ghost use Rattle.htmlescape.specs.Escapes.{encoded, is_markup, is_harmless};
 ghost use Rattle.htmlescape.specs.Grammar.{IsText, HasFault};
 ghost use Rattle.htmlescape.specs.Decoding.{Answers, Decodes, IsIo};
 

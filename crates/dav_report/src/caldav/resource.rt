@@ -1,5 +1,5 @@
 ghost use Rattle.std.specs.Prelude.{◌≡◌};
-ghost use Rattle.dav_report.specs.ComponentNames.{component_name};
+ghost use Rattle.dav_report.specs.Calendars.{component_name};
 
 /// What a resource is to a calendar server.
 #[derive(Clone, Copy, Debug, PartialEq, Eq)]

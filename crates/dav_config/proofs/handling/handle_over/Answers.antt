@@ -1,5 +1,4 @@
-use Rattle.dav_config.specs.Asked.{asking_of}
-use Rattle.dav_config.specs.Handling.{the_served}
+use Rattle.dav_config.specs.Handling.{the_served, asking_of}
 use Rattle.dav_config.proofs.Failures.{handled}
 use Rattle.dav_config.proofs.Unstored.{at_stored, target_parted}
 use Rattle.dav_config.proofs.handling.handle_over.Goals as goal

@@ -1,5 +1,5 @@
 use Rattle.std.proofs.Common.{◌∙◌, sym}
-use Rattle.dav_config.specs.Asked.{asking_of}
+use Rattle.dav_config.specs.Handling.{asking_of}
 use Rattle.dav_config.proofs.Unstored.{weighed_target}
 use Rattle.dav_config.proofs.handling.target.Goals as goal
 

@@ -1,6 +1,6 @@
 use Rattle.std.proofs.Common.{Err, ap}
 use Rattle.dav_store.specs.View.{the_listings, the_view}
-use Rattle.dav_get.specs.Asked.{asked_of}
+use Rattle.dav_get.specs.Table.{asked_of}
 use Rattle.dav_get.proofs.PageMembers.{listing_given, listing_life, listing_most, listing_refused}
 use Rattle.dav_get.proofs.autoindex.list_page.Goals as goal
 

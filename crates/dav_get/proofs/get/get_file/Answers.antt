@@ -1,7 +1,7 @@
 use Rattle.std.proofs.Common.{◌∙◌, sym, inl}
 use Rattle.dav_store.specs.View.{the_view}
 use Rattle.dav_get.proofs.FilesLeftOpen.{held_kept}
-use Rattle.dav_get.specs.Asked.{asked_of}
+use Rattle.dav_get.specs.Table.{asked_of}
 use Rattle.dav_get.proofs.MetaAsked.{meta_line}
 use Rattle.dav_get.proofs.get.get_file.Goals as goal
 

@@ -1,8 +1,7 @@
 use Rattle.std.proofs.Common.{◌≡◌, ℕ, true, take}
 use Rattle.std.specs.List.{flat_map, list_all}
 use Rattle.dav_model.specs.Head.{two_parts}
-use Rattle.dav_get.specs.Bodies.{is_part}
-use Rattle.dav_get.specs.Parts.{parts_of}
+use Rattle.dav_get.specs.Bodies.{is_part, parts_of}
 use Rattle.dav_get.proofs.parts.several.Given as goal
 
 abbrev pub invariant-loop-part : goal.invariant-loop-part

@@ -1,7 +1,7 @@
 use Rattle.std.proofs.Common.{◌≡◌, ◌∙◌, ℕ, List, Bool, ap, subst, arith, refl}
 use Rattle.http.specs.Request.{head_of}
 use Rattle.dav_io.specs.declared.fields.Field.{Field}
-use Rattle.dav_model.specs.Requests.{Asked}
+use Rattle.dav_model.specs.Conditions.{Asked}
 use Rattle.dav_wire.specs.Answers.{head_text}
 use Rattle.dav_wire.specs.Chunks.{written}
 use Rattle.dav_wire.specs.Framing.{framing, takes_chunks}

@@ -1,5 +1,5 @@
 use Rattle.std.proofs.Common.{◌≤◌, ◌+◌, [], length, ◌++◌, arith, take, drop, ◌∙◌, ap}
-use Rattle.htmlescape.specs.Pieces.{escape_text}
+use Rattle.htmlescape.specs.Escapes.{escape_text}
 use Rattle.dav_io.proofs.AppendingLemmas.{appends_none, appends_then}
 use Rattle.htmlescape.proofs.Encoding.{begun, stays, replaced, refused, last}
 use Rattle.htmlescape.proofs.encode.encode_to.Goals as goal

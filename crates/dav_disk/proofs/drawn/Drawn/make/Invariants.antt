@@ -1,7 +1,7 @@
 use Rattle.std.proofs.Common.{◌≡◌, drop}
 use Rattle.dav_core.specs.World.{World}
 use Rattle.dav_core.specs.Changes.{all_changed}
-use Rattle.dav_disk.specs.Drawn.{drawn_in}
+use Rattle.dav_disk.specs.Making.{drawn_in}
 use Rattle.dav_disk.proofs.drawn.Drawn.make.Given as goal
 
 -- the changes that are left make of the world what all make of the first

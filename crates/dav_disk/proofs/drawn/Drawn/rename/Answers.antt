@@ -1,5 +1,5 @@
 use Rattle.std.proofs.Common.{refl, ◌∙◌}
-use Rattle.dav_disk.specs.Drawn.{drawn_in}
+use Rattle.dav_disk.specs.Making.{drawn_in}
 use Rattle.dav_disk.proofs.Renames.{renamed_once, renamed_twice, reached, on_ok}
 use Rattle.dav_disk.proofs.drawn.Drawn.rename.Goals as goal
 

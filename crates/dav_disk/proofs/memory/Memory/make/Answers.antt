@@ -1,7 +1,7 @@
 use Rattle.std.proofs.Common.{◌≡◌, ap, ◌∙◌}
 use Rattle.dav_core.specs.World.{World}
 use Rattle.dav_core.specs.Changes.{changed}
-use Rattle.dav_disk.specs.Drawn.{drawn_in}
+use Rattle.dav_disk.specs.Making.{drawn_in}
 use Rattle.dav_disk.specs.Files.{live_at}
 use Rattle.dav_disk.specs.Memory.{known_of}
 use Rattle.dav_disk.proofs.Moved.{changed_good}

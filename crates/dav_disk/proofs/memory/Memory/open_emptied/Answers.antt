@@ -1,6 +1,6 @@
 use Rattle.std.proofs.Common.{[], Err, Some, subst, sym}
 use Rattle.dav_core.specs.Edits.{fills}
-use Rattle.dav_core.specs.Tables.{at_key}
+use Rattle.dav_core.specs.World.{at_key}
 use Rattle.dav_disk.specs.Calls.{Known}
 use Rattle.dav_disk.specs.Files.{live_of, open_of}
 use Rattle.dav_disk.specs.Making.{OpensBy}

@@ -1,14 +1,12 @@
 use Rattle.std.proofs.Common.{◌≡◌, ◌≤◌, ◌+◌, [], Some, ap, sym, ◌∙◌, arith}
 use Rattle.std.specs.Option.{option_map}
 use Rattle.dav_core.proofs.TablesLemmas.{updates_put}
-use Rattle.dav_core.specs.Tables.{at_key}
-use Rattle.dav_core.specs.World.{World}
+use Rattle.dav_core.specs.World.{World, at_key}
 use Rattle.dav_core.specs.Changes.{file_added}
 use Rattle.dav_core.specs.Edits.{makes}
 use Rattle.dav_core.specs.declared.tree.Kind.TheVariants.{File}
 use Rattle.dav_core.specs.declared.change.Change.TheVariants.{AddFile}
-use Rattle.dav_disk.specs.Drawn.{drawn_in}
-use Rattle.dav_disk.specs.Making.{edited}
+use Rattle.dav_disk.specs.Making.{edited, drawn_in}
 use Rattle.dav_disk.specs.Files.{live_of}
 use Rattle.dav_disk.specs.Memory.{known_of}
 use Rattle.dav_disk.proofs.Changed.{file_added_good}

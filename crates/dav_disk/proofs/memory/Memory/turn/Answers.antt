@@ -1,7 +1,7 @@
 use Rattle.std.proofs.Common.{◌<◌, refl, ap, arith, length, vec_len}
 use Rattle.dav_core.specs.World.{World}
 use Rattle.dav_core.specs.Changes.{turned}
-use Rattle.dav_disk.specs.Drawn.{drawn_in}
+use Rattle.dav_disk.specs.Making.{drawn_in}
 use Rattle.dav_disk.specs.Files.{live_at}
 use Rattle.dav_disk.specs.Memory.{known_of}
 use Rattle.dav_disk.proofs.Turned.{turn_made, turned_good, good_of, kept_of, some_batch, knows}

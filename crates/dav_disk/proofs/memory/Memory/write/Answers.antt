@@ -1,5 +1,5 @@
 use Rattle.std.proofs.Common.{ap, sym, ◌∙◌}
-use Rattle.dav_core.specs.Tables.{at_key}
+use Rattle.dav_core.specs.World.{at_key}
 use Rattle.dav_core.specs.Writing.{can_write, appends, write_place}
 use Rattle.dav_disk.specs.Calls.{Known}
 use Rattle.dav_disk.specs.Files.{open_of, live_of}

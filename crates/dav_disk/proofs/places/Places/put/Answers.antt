@@ -33,7 +33,7 @@ returns-clause-ok c =
     place_added (λ dir. get_by (λ k. slice_cmp (slice_cmp nat_cmp) dir k.items) c.args.self.now.dirs)
     (λ dir. get_by (λ k. slice_cmp (slice_cmp nat_cmp) dir k.items) c.insert-3.new.self)
     c.args.dir.now c.args.name.now c.args.place c.insert-2.new.self
-    (λ dir. dirs_put (λ k. k.items) c.args.dir.now c.in_ok-copied.field-0 c.get_mut.follows.lender-at-none c.insert-3.new.self (Some c.insert-2.new.self) c.in_ok-copied.ensures c.in_ok-insert-3.ensures.updates dir
+    (λ dir. dirs_put (λ k. k.items) c.args.dir.now c.in_ok-copied_names.field-0 c.get_mut.follows.lender-at-none c.insert-3.new.self (Some c.insert-2.new.self) c.in_ok-copied_names.ensures c.in_ok-insert-3.ensures.updates dir
     ∙ ap (λ dirs. cond (same_names c.args.dir.now dir) (Some c.insert-2.new.self) (get_by (λ k. slice_cmp (slice_cmp nat_cmp) dir k.items) dirs)) c.get_mut.follows.holds-at-none)
     (member_first c.args.name.now c.in_ok-name.name c.args.place (get_by (λ k. slice_cmp (slice_cmp nat_cmp) c.args.dir.now k.items) c.args.self.now.dirs) c.new-members.result c.insert-2.new.self
     c.in_ok-name.ensures (sym c.in_default.ensures.value) c.new-members.ensures.empty c.in_ok-insert-2.ensures.updates)

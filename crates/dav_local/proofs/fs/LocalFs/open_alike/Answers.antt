@@ -1,4 +1,4 @@
-use Rattle.dav_core.specs.Options.{reading}
+use Rattle.dav_core.specs.Writing.{reading}
 use Rattle.dav_cache.specs.Calls.{Opening}
 use Rattle.dav_local.specs.Seeing.{OpensAt}
 use Rattle.dav_local.proofs.Seen.{finds_unknown, open_recalled, opened_recalled, opened_unknown}

@@ -1,4 +1,4 @@
-use Rattle.dav_core.specs.Options.{reading}
+use Rattle.dav_core.specs.Writing.{reading}
 use Rattle.dav_local.specs.Seeing.{OpensAt}
 use Rattle.dav_local.proofs.Seen.{finds_refused, open_there, opened_nothing, opened_there}
 use Rattle.dav_local.proofs.fs.LocalFs.open_on_disk.Goals as goal

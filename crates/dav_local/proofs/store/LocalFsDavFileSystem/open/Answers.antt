@@ -1,5 +1,5 @@
 use Rattle.std.proofs.Common.{◌≡◌, false, rules, arith}
-use Rattle.dav_core.specs.Options.{reading}
+use Rattle.dav_core.specs.Writing.{reading}
 use Rattle.dav_local.specs.Calls.{is_shut}
 use Rattle.dav_local.specs.Ways.{is_known}
 use Rattle.dav_local.specs.Files.{seen_by}

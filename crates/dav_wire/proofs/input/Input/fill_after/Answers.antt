@@ -2,7 +2,7 @@ use Rattle.std.proofs.Common.{◌≡◌, ◌<◌, ◌+◌, ◌-◌, ◌^◌, Lis
 use Rattle.std.specs.List.{slice_range}
 use Rattle.std.specs.Vec.{with_items}
 use Rattle.std.proofs.lemmas.List.{with_items_is}
-use Rattle.dav_wire.specs.Pending.{Pending}
+use Rattle.dav_wire.specs.Reading.{Pending}
 use Rattle.dav_wire.proofs.Holding.{fills_ok}
 use Rattle.dav_wire.proofs.input.Input.fill_after.Goals as goal
 

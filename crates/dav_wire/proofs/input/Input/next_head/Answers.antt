@@ -1,5 +1,5 @@
 use Rattle.std.proofs.Common.{ap, sym, ◌∙◌, subst, arith, List, ℕ, ◌≤◌, length, drop}
-use Rattle.dav_wire.specs.Pending.{Pending}
+use Rattle.dav_wire.specs.Reading.{Pending}
 use Rattle.dav_wire.specs.Requests.{IsRequest}
 use Rattle.dav_wire.specs.Heads.{IsRead}
 use Rattle.httparse.specs.Grammar.{RequestHead}

@@ -1,5 +1,5 @@
 use Rattle.std.proofs.Common.{ap, ◌∙◌, drop, arith}
-use Rattle.dav_wire.specs.Pending.{Pending}
+use Rattle.dav_wire.specs.Reading.{Pending}
 use Rattle.dav_wire.proofs.Holding.{held_behind, held_len}
 use Rattle.dav_wire.proofs.input.Input.pass.Goals as goal
 

@@ -1,6 +1,6 @@
 use Rattle.std.proofs.Common.{ℕ, ◌<◌, IsSome}
-use Rattle.dav_core.specs.Tables.{at_key}
-use Rattle.dav_disk.proofs.tables.free_key.Given as goal
+use Rattle.dav_core.specs.World.{at_key}
+use Rattle.dav_core.proofs.keys.free_key.Given as goal
 
 -- the table has the keys so far
 abbrev pub invariant-loop-key : goal.invariant-loop-key

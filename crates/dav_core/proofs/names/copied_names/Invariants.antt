@@ -1,5 +1,5 @@
 use Rattle.std.proofs.Common.{◌≡◌, take}
-use Rattle.dav_disk.proofs.places.copied.Given as goal
+use Rattle.dav_core.proofs.names.copied_names.Given as goal
 
 abbrev pub invariant-loop-name : goal.invariant-loop-name
 invariant-loop-name l = l.copy.items ≡ take l.name-index l.names
