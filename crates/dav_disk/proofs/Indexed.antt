@@ -12,7 +12,7 @@ use Rattle.dav_core.specs.Changes.{timed_row}
 use Rattle.dav_core.specs.Edits.{timed_number}
 use Rattle.dav_core.specs.declared.time.FileTime.{FileTime}
 use Rattle.dav_disk.specs.declared.places.Places.{Places}
-use Rattle.dav_disk.specs.Places.{place_of, place_in, Indexes, IsAdded, IsKept}
+use Rattle.dav_disk.specs.Places.{place_of, Indexes, IsAdded}
 use Rattle.dav_disk.proofs.Added.{both}
 use Rattle.dav_disk.proofs.Trees.{same_yes, same_refl, not_same}
 

@@ -23,7 +23,7 @@ use Rattle.dav_core.specs.Tree.{is_free, is_apart, is_tree}
 use Rattle.dav_core.specs.Listing.{stands_in, name_of, names_in, or_empty}
 use Rattle.dav_disk.specs.declared.places.Places.{Places}
 use Rattle.dav_disk.specs.Members.{has_name, IsEachOnce, AreNamesOf, members_of}
-use Rattle.dav_disk.specs.Places.{place_of, place_in, Indexes}
+use Rattle.dav_disk.specs.Places.{place_of, Indexes}
 use Rattle.dav_disk.proofs.Added.{both}
 use Rattle.dav_disk.proofs.Trees.{same_yes, same_refl, not_both, free_at, parts_of, In}
 

@@ -1,5 +1,5 @@
 -- The places of rows in a list, by their paths.
-use Rattle.std.specs.Prelude.{◌≡◌, ◌&&◌, ℕ, suc, List, [], ◌∷◌, ◌++◌, Bool, cond, Option, None, Some}
+use Rattle.std.specs.Prelude.{◌≡◌, ◌&&◌, ℕ, suc, List, [], ◌∷◌, ◌++◌, cond, Option, None, Some}
 use Rattle.std.specs.Option.{option_map, option_or}
 use Rattle.std.specs.Str.{bytes_eq}
 use Rattle.dav_core.specs.declared.tree.Row.{Row}
