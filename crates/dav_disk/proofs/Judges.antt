@@ -1,5 +1,5 @@
 -- What a tree refuses a call with stands in the tree: it is no fault, and no want of memory.
-use Rattle.std.proofs.Common.{◌≡◌, ◌&&◌, ◌||◌, ◌++◌, ◌∷◌, [], List, Bool, true, false, cond, Option, None, Some, Result, Ok, Err, inl, inr, refl, sym, ap, ◌∙◌}
+use Rattle.std.proofs.Common.{◌≡◌, ◌&&◌, ◌||◌, ◌++◌, ◌∷◌, [], ℕ, List, Bool, true, false, cond, Option, None, Some, Result, Ok, Err, inl, inr, refl, sym, ap, ◌∙◌}
 use Rattle.dav_core.specs.declared.tree.Row.{Row}
 use Rattle.dav_core.specs.declared.tree.Kind.{Kind}
 use Rattle.dav_core.specs.declared.tree.Kind.TheVariants.{Dir, File, Link}
@@ -7,16 +7,18 @@ use Rattle.dav_core.specs.declared.handle.OpenOptions.{OpenOptions}
 use Rattle.dav_core.specs.declared.handle.DiskError.{DiskError}
 use Rattle.dav_core.specs.declared.handle.DiskError.TheVariants.{NotFound, Exists, NotDir, IsDir, NotEmpty, Failed, NoMemory}
 use Rattle.dav_core.specs.Path.{Names, same_names, is_front}
-use Rattle.dav_core.specs.Tree.{look, row_at, is_dir, IsTreeRefusal}
-use Rattle.dav_core.specs.World.{World}
+use Rattle.dav_core.specs.Tree.{look, row_at, is_dir, is_linked, IsTreeRefusal}
+use Rattle.dav_core.specs.World.{World, AreGiven}
 use Rattle.dav_core.specs.Changes.{is_leaf}
 use Rattle.dav_core.specs.Edits.{Edit}
 use Rattle.dav_core.specs.Allowed.{Allowed, place, place_from, through, through_kind, found_then, making_at, making_dir, may_go, taking_dir_row, taking_dir, taking_file_row, taking_file, moving_over, moving_to, moving, copying_over, copying_to, copying, opening_row, opening_at, opening, is_root}
-use Rattle.dav_core.specs.Writing.{MayRefuseMake, MayRefuseTakeDir, MayRefuseTakeFile, MayRefuseMove, MayRefuseCopy}
+use Rattle.dav_core.specs.Writing.{DoesIn, MayRefuseMake, MayRefuseTakeDir, MayRefuseTakeFile, MayRefuseMove, MayRefuseCopy}
 use Rattle.dav_core.proofs.LookLemmas.{look_err}
-use Rattle.dav_disk.specs.Calls.{Known}
-use Rattle.dav_disk.specs.Making.{MakesAt}
-use Rattle.dav_disk.proofs.Makes.{MayRefuse}
+use Rattle.dav_disk.specs.Calls.{Known, state_of}
+use Rattle.dav_disk.specs.Making.{MakesAt, Performs, allows}
+use Rattle.dav_disk.specs.declared.path_call.PathCall.{PathCall}
+use Rattle.dav_disk.specs.declared.path_call.PathCall.TheVariants.{CreateDir, RemoveDir, RemoveFile, Rename, Copy}
+use Rattle.dav_disk.proofs.Makes.{MayRefuse, Noted, does, does_in, fails_done, fails_in}
 
 kind_err : (k : Kind) (found : Result (Option Row) DiskError) (e : DiskError) → (found ≡ Err e → IsTreeRefusal e) → through_kind k found ≡ Err e → IsTreeRefusal e
 kind_err Dir found e h f = h f
@@ -130,6 +132,42 @@ move_refuses tree from to = record { failed = tt; memory = tt; tree = moving_err
 
 pub copy_refuses : (w : World) (from to : Names) → MayRefuse MayRefuseCopy (copying w from to)
 copy_refuses w from to = record { failed = tt; memory = tt; tree = copying_err MayRefuseCopy w from to tt tt tt }
+
+-- ---- the calls that change what stands at a path
+
+-- one that does what is allowed is what the trait of disks asks
+pub performed : (call : PathCall) (k n : Known) (f a : ℕ) (x : Bool) (g b : ℕ) (y : Bool) (result : Result Unit DiskError) → Noted result f a x g b y → AreGiven k.world.tree k.world.files k.world.opens k.world.greatest k.world.latest
+    → MakesAt (allows call k.world) k result n → Performs call (state_of k f a x) result (state_of n g b y)
+performed (CreateDir path) k n f a x g b y result noted given makes =
+    does MayRefuseMake (λ v w. is_linked v.tree path.now ≡ false → DoesIn false (making_dir v.tree path.now) result v w) (making_dir k.world.tree path.now) k n f a x g b y result noted (make_refuses k.world.tree path.now) makes
+    (λ linked. does_in false (making_dir k.world.tree path.now) k n result given makes)
+performed (RemoveDir path) k n f a x g b y result noted given makes =
+    does MayRefuseTakeDir (λ v w. is_linked v.tree path.now ≡ false → DoesIn false (taking_dir v.tree path.now) result v w) (taking_dir k.world.tree path.now) k n f a x g b y result noted (take_dir_refuses k.world.tree path.now) makes
+    (λ linked. does_in false (taking_dir k.world.tree path.now) k n result given makes)
+performed (RemoveFile path) k n f a x g b y result noted given makes =
+    does MayRefuseTakeFile (λ v w. is_linked v.tree path.now ≡ false → DoesIn false (taking_file v.tree path.now) result v w) (taking_file k.world.tree path.now) k n f a x g b y result noted (take_file_refuses k.world.tree path.now) makes
+    (λ linked. does_in false (taking_file k.world.tree path.now) k n result given makes)
+performed (Rename from to) k n f a x g b y result noted given makes =
+    does MayRefuseMove (λ v w. is_linked v.tree from.now ≡ false → is_linked v.tree to.now ≡ false → DoesIn true (moving v.tree from.now to.now) result v w) (moving k.world.tree from.now to.now) k n f a x g b y result noted (move_refuses k.world.tree from.now to.now) makes
+    (λ linked linked_to. does_in true (moving k.world.tree from.now to.now) k n result given makes)
+performed (Copy from to) k n f a x g b y result noted given makes =
+    does MayRefuseCopy (λ v w. is_linked v.tree from.now ≡ false → is_linked v.tree to.now ≡ false → DoesIn true (copying v from.now to.now) result v w) (copying k.world from.now to.now) k n f a x g b y result noted (copy_refuses k.world from.now to.now) makes
+    (λ linked linked_to. does_in true (copying k.world from.now to.now) k n result given makes)
+
+-- and so is one that fails by the schedule
+pub failed_by : (call : PathCall) (k : Known) (f a : ℕ) (x : Bool) (g b : ℕ) (y : Bool) → Noted {T = Unit} (Err Failed) f a x g b y → Performs call (state_of k f a x) (Err Failed) (state_of k g b y)
+failed_by (CreateDir path) k f a x g b y noted =
+    fails_done MayRefuseMake (λ v w. is_linked v.tree path.now ≡ false → DoesIn false (making_dir v.tree path.now) (Err Failed) v w) k f a x g b y noted tt (λ linked. fails_in false (making_dir k.world.tree path.now) k.world)
+failed_by (RemoveDir path) k f a x g b y noted =
+    fails_done MayRefuseTakeDir (λ v w. is_linked v.tree path.now ≡ false → DoesIn false (taking_dir v.tree path.now) (Err Failed) v w) k f a x g b y noted tt (λ linked. fails_in false (taking_dir k.world.tree path.now) k.world)
+failed_by (RemoveFile path) k f a x g b y noted =
+    fails_done MayRefuseTakeFile (λ v w. is_linked v.tree path.now ≡ false → DoesIn false (taking_file v.tree path.now) (Err Failed) v w) k f a x g b y noted tt (λ linked. fails_in false (taking_file k.world.tree path.now) k.world)
+failed_by (Rename from to) k f a x g b y noted =
+    fails_done MayRefuseMove (λ v w. is_linked v.tree from.now ≡ false → is_linked v.tree to.now ≡ false → DoesIn true (moving v.tree from.now to.now) (Err Failed) v w) k f a x g b y noted tt
+    (λ linked linked_to. fails_in true (moving k.world.tree from.now to.now) k.world)
+failed_by (Copy from to) k f a x g b y noted =
+    fails_done MayRefuseCopy (λ v w. is_linked v.tree from.now ≡ false → is_linked v.tree to.now ≡ false → DoesIn true (copying v from.now to.now) (Err Failed) v w) k f a x g b y noted tt
+    (λ linked linked_to. fails_in true (copying k.world from.now to.now) k.world)
 
 -- ---- no fault
 

@@ -1,5 +1,5 @@
 -- Where nothing stands and a call may make something, the path is free; and what a change makes of it is the edit.
-use Rattle.std.proofs.Common.{◌≡◌, ◌==◌, ◌&&◌, ◌||◌, ◌+◌, ◌-◌, ◌∷◌, ◌++◌, [], ℕ, List, Bool, true, false, cond, not, length, take, map, subst, nat_lt, Option, None, Some, Result, Ok, Err, OnOk, OnErr, refl, sym, ap, ◌∙◌, arith, append_assoc, append-nil}
+use Rattle.std.proofs.Common.{◌≡◌, ◌==◌, ◌&&◌, ◌||◌, ◌+◌, ◌-◌, ◌∷◌, ◌++◌, ◌⊎◌, [], inl, inr, ℕ, List, Bool, true, false, cond, not, length, take, map, subst, nat_lt, Option, None, Some, Result, Ok, Err, OnOk, OnErr, refl, sym, ap, ◌∙◌, arith, append_assoc, append-nil}
 use Rattle.std.specs.Option.{is_none, is_some}
 use Rattle.std.specs.Result.{is_err}
 use Rattle.std.proofs.lemmas.Bool.{and_parts}
@@ -197,7 +197,7 @@ dir_goes true true tree row x e = cc
 dir_goes true false tree row x e = refl
 dir_goes false b tree row x e = cc
 
-pub dir_may_go : (tree : List Row) (path : Names) (x : Option Edit) → taking_dir tree path ≡ Ok x → MayGo tree path
+dir_may_go : (tree : List Row) (path : Names) (x : Option Edit) → taking_dir tree path ≡ Ok x → MayGo tree path
 dir_may_go tree path x e =
     let (row, found, here, judged) = found_row tree (taking_dir_row tree) path x (look tree path) refl e in
     record { row = row; found = found; here = here; some = sym (ap (λ (p : Names). length p == 0) here) ∙ dir_goes (is_dir row.kind) (is_root row.path) tree row x judged }
@@ -218,10 +218,15 @@ no_file_root tree path row whole found file true e =
     root_dir (Some r) row d e = (let same : r ≡ row = cc in rw (← same) d)
 no_file_root tree path row whole found file false e = refl
 
-pub file_may_go : (tree : List Row) (path : Names) (x : Option Edit) → is_tree tree ≡ true → taking_file tree path ≡ Ok x → MayGo tree path
+file_may_go : (tree : List Row) (path : Names) (x : Option Edit) → is_tree tree ≡ true → taking_file tree path ≡ Ok x → MayGo tree path
 file_may_go tree path x whole e =
     let (row, found, here, judged) = found_row tree taking_file_row path x (look tree path) refl e in
     record { row = row; found = found; here = here; some = no_file_root tree path row whole found (file_goes (is_dir row.kind) row x judged) (length path == 0) refl }
+
+-- what either call may take
+pub goes : (tree : List Row) (path : Names) → is_tree tree ≡ true → (taking_dir tree path ≡ Ok (Some (takes path))) ⊎ (taking_file tree path ≡ Ok (Some (takes path))) → MayGo tree path
+goes tree path whole (inl e) = dir_may_go tree path (Some (takes path)) e
+goes tree path whole (inr e) = file_may_go tree path (Some (takes path)) whole e
 
 -- ---- what a call answers
 

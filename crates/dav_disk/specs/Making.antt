@@ -15,15 +15,17 @@ use Rattle.dav_core.specs.Path.{Names, same_names, parent_of}
 use Rattle.dav_core.specs.World.{World, OpenFile, put, bytes_of}
 use Rattle.dav_core.specs.Changes.{tick, touched, then_touched, added, stored_in, without, moved_row, parents_touched}
 use Rattle.dav_core.specs.Edits.{Edit, makes, fills, takes, moves, filled}
-use Rattle.dav_core.specs.Allowed.{Allowed, place, opening}
-use Rattle.dav_core.specs.Disk.{Live, at_start, with_opens}
+use Rattle.dav_core.specs.Allowed.{Allowed, place, opening, making_dir, taking_dir, taking_file, moving, copying}
+use Rattle.dav_core.specs.Disk.{Live, DiskState, at_start, with_opens}
 use Rattle.dav_core.specs.Tree.{is_dir, is_file, look}
-use Rattle.dav_core.specs.Writing.{can_write, appends, write_place, written}
+use Rattle.dav_core.specs.Writing.{can_write, appends, write_place, written, CreatesDir, RemovesDir, RemovesFile, Renames, Copies}
 use Rattle.dav_disk.specs.Calls.{Known, with_place}
 use Rattle.dav_disk.specs.declared.judge.Copying.{Copying}
 use Rattle.dav_disk.specs.declared.judge.Copying.TheVariants.{Stays, Makes, Fills}
 use Rattle.dav_disk.specs.Files.{stored_at}
 use Rattle.dav_disk.specs.declared.drawn.Drawn.{Drawn}
+use Rattle.dav_disk.specs.declared.path_call.PathCall.{PathCall}
+use Rattle.dav_disk.specs.declared.path_call.PathCall.TheVariants.{CreateDir, RemoveDir, RemoveFile, Rename, Copy}
 
 -- a file's bytes with a tick as its time
 abbrev pub filled_at : ℕ → List ℕ → Option FileTime → World → Option World
@@ -170,6 +172,24 @@ copies_from (Ok row) to there = copies_to row to there
 
 abbrev pub copies : List Row → Names → Names → Result Copying DiskError
 copies tree from to = copies_from (look tree from) to (place tree to)
+
+-- ---- a call that changes what stands at a path
+
+-- what the tree allows it
+abbrev pub allows : PathCall → World → Allowed
+allows (CreateDir path) w = making_dir w.tree path.now
+allows (RemoveDir path) w = taking_dir w.tree path.now
+allows (RemoveFile path) w = taking_file w.tree path.now
+allows (Rename from to) w = moving w.tree from.now to.now
+allows (Copy from to) w = copying w from.now to.now
+
+-- what it does to a disk
+abbrev pub Performs : PathCall → DiskState → Result Unit DiskError → DiskState → Type 0
+Performs (CreateDir path) old result new = CreatesDir old path.now result new
+Performs (RemoveDir path) old result new = RemovesDir old path.now result new
+Performs (RemoveFile path) old result new = RemovesFile old path.now result new
+Performs (Rename from to) old result new = Renames old from.now to.now result new
+Performs (Copy from to) old result new = Copies old from.now to.now result new
 
 -- ---- a world's rows and files, as a batch of changes is made on them
 

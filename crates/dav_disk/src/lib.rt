@@ -10,6 +10,7 @@ mod listing;
 mod listings;
 mod mem_disk;
 mod memory;
+mod path_call;
 mod paths;
 mod places;
 mod rows;

@@ -3,6 +3,7 @@ ghost use Rattle.dav_disk.specs.Lengths.{first_of, GivesMost, UsesLength};
 
 use crate::faults::{is_fault, noted};
 use crate::memory::Memory;
+use crate::path_call::PathCall;
 use dav_core::{Change, Disk, DiskError, FileTime, FsPath, Handle, Lister, Meta, OpenOptions};
 use dav_io::{Faults, NoMemory, Text};
 use std::alloc::Global;
@@ -43,7 +44,8 @@ fn drop_first(lens: &mut Vec<usize>)
 impl MemDisk {
     ghost use Rattle.dav_disk.specs.Rows.{first_world, can_add as the_can_add, with_dir, with_file, with_batch};
     ghost use Rattle.dav_disk.specs.Calls.{state_of};
-    ghost use Rattle.dav_disk.specs.Failing.{mem_state, mem_world, is_empty, fails_at, lens_left, listings_of};
+    ghost use Rattle.dav_disk.specs.Failing.{mem_state, mem_world, FollowsOr, is_empty, fails_at, lens_left, listings_of};
+    ghost use Rattle.dav_disk.specs.Making.{Performs, allows, is_spent};
 
     /// A root directory alone, of number 1 and time 0. The latest time used is 1 second past 1970, and no call fails.
     pub fn new(alloc: Global) -> Result<Self, NoMemory>
@@ -157,6 +159,22 @@ impl MemDisk {
         ensures { result ≡ listings_of self.now }
     {
         self.listings
+    }
+
+    // Does what a call asks for, and counts it.
+    fn perform(&mut self, call: PathCall) -> Result<(), DiskError>
+        ensures done { Performs call.entry (mem_state self.old) result (mem_state self.new) }
+        ensures schedule { FollowsOr (is_spent (allows call.entry (mem_world self.old)) (mem_world self.old)) self.old result
+            self.new }
+        ensures lens { lens_left self.new ≡ lens_left self.old }
+        ensures listings { listings_of self.new ≡ listings_of self.old }
+    {
+        if self.faults.next() {
+            return Err(DiskError::Failed);
+        }
+        let answer = self.memory.perform(call);
+        self.faults.met = noted(self.faults.met, is_fault(&answer));
+        answer
     }
 }
 
@@ -353,12 +371,7 @@ impl Disk for MemDisk {
         ensures lens { lens_left self.new ≡ lens_left self.old }
         ensures listings { listings_of self.new ≡ listings_of self.old }
     {
-        if self.faults.next() {
-            return Err(DiskError::Failed);
-        }
-        let answer = self.memory.create_dir(path);
-        self.faults.met = noted(self.faults.met, is_fault(&answer));
-        answer
+        self.perform(PathCall::CreateDir(path))
     }
 
     fn remove_dir(&mut self, path: &FsPath) -> Result<(), DiskError>
@@ -369,12 +382,7 @@ impl Disk for MemDisk {
         ensures lens { lens_left self.new ≡ lens_left self.old }
         ensures listings { listings_of self.new ≡ listings_of self.old }
     {
-        if self.faults.next() {
-            return Err(DiskError::Failed);
-        }
-        let answer = self.memory.remove_dir(path);
-        self.faults.met = noted(self.faults.met, is_fault(&answer));
-        answer
+        self.perform(PathCall::RemoveDir(path))
     }
 
     fn remove_file(&mut self, path: &FsPath) -> Result<(), DiskError>
@@ -385,12 +393,7 @@ impl Disk for MemDisk {
         ensures lens { lens_left self.new ≡ lens_left self.old }
         ensures listings { listings_of self.new ≡ listings_of self.old }
     {
-        if self.faults.next() {
-            return Err(DiskError::Failed);
-        }
-        let answer = self.memory.remove_file(path);
-        self.faults.met = noted(self.faults.met, is_fault(&answer));
-        answer
+        self.perform(PathCall::RemoveFile(path))
     }
 
     fn rename(&mut self, from: &FsPath, to: &FsPath) -> Result<(), DiskError>
@@ -401,12 +404,7 @@ impl Disk for MemDisk {
         ensures lens { lens_left self.new ≡ lens_left self.old }
         ensures listings { listings_of self.new ≡ listings_of self.old }
     {
-        if self.faults.next() {
-            return Err(DiskError::Failed);
-        }
-        let answer = self.memory.rename(from, to);
-        self.faults.met = noted(self.faults.met, is_fault(&answer));
-        answer
+        self.perform(PathCall::Rename(from, to))
     }
 
     fn copy(&mut self, from: &FsPath, to: &FsPath) -> Result<(), DiskError>
@@ -417,12 +415,7 @@ impl Disk for MemDisk {
         ensures lens { lens_left self.new ≡ lens_left self.old }
         ensures listings { listings_of self.new ≡ listings_of self.old }
     {
-        if self.faults.next() {
-            return Err(DiskError::Failed);
-        }
-        let answer = self.memory.copy(from, to);
-        self.faults.met = noted(self.faults.met, is_fault(&answer));
-        answer
+        self.perform(PathCall::Copy(from, to))
     }
 
     fn turn(&mut self) -> Result<(), NoMemory>

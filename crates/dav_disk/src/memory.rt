@@ -1,4 +1,4 @@
-ghost use Rattle.std.specs.Prelude.{◌≡◌, ◌<◌, ◌≤◌, ◌+◌, ℕ, [], length, not, is_none, None, Some, Ok, Err, Option, IfOk, OnOk, OnErr, IsSome, IfSome, true, option_map, is_some};
+ghost use Rattle.std.specs.Prelude.{◌≡◌, ◌<◌, ◌≤◌, ◌⊎◌, ◌+◌, ℕ, [], length, not, is_none, None, Some, Ok, Err, Option, IfOk, OnOk, OnErr, IsSome, IfSome, true, option_map, is_some};
 ghost use Rattle.dav_core.specs.Tree.{is_tree, is_file};
 ghost use Rattle.dav_core.specs.World.{AreGiven, ArePlain, time_of};
 ghost use Rattle.dav_disk.specs.Files.{AreStored, SaysNoMore, open_at, open_of, stored_at};
@@ -11,6 +11,7 @@ use crate::judge::{
 };
 use crate::listing::Listing;
 use crate::listings::{listing_of, take_name};
+use crate::path_call::PathCall;
 use crate::paths::{parent_of, tick};
 use crate::rows::{can_be_set, has_number, is_free, later_of, second_past};
 use crate::tables::{
@@ -64,9 +65,9 @@ impl Memory {
     ghost use Rattle.dav_core.specs.Changes.{turned, changed, is_free_in, tick as the_tick};
     ghost use Rattle.dav_core.specs.Allowed.{place as the_place, making_dir, taking_dir, taking_file, moving, copying};
     ghost use Rattle.dav_core.specs.declared.handle.DiskError.TheVariants.{NoMemory as OutOfMemory};
-    ghost use Rattle.dav_disk.specs.Making.{MakesAt, OpensAs, OpensBy, WritesAt, edited, filled_now, to_unit, row_is_left, move_is_left};
+    ghost use Rattle.dav_disk.specs.Making.{MakesAt, OpensAs, OpensBy, WritesAt, allows, edited, filled_now, to_unit, row_is_left, move_is_left};
     ghost use Rattle.dav_core.specs.declared.tree.Kind.TheVariants.{File as TheFile};
-    ghost use Rattle.dav_core.specs.Edits.{makes, fills};
+    ghost use Rattle.dav_core.specs.Edits.{makes, fills, takes};
     ghost use Rattle.dav_core.specs.Writing.{write_place, written};
     ghost use Rattle.dav_core.specs.World.{bytes_of};
 
@@ -388,7 +389,7 @@ impl Memory {
     }
 
     // Makes a directory.
-    pub fn create_dir(&mut self, path: &FsPath) -> Result<(), DiskError>
+    fn create_dir(&mut self, path: &FsPath) -> Result<(), DiskError>
         ensures { MakesAt (making_dir (known_of self.old).world.tree path.now) (known_of self.old) result
             (known_of self.new) }
     {
@@ -404,42 +405,45 @@ impl Memory {
         self.make(&Change::AddDir(path))
     }
 
+    // Removes what stands at a path, where the tree allows it.
+    fn remove(&mut self, path: &FsPath) -> Result<(), DiskError>
+        requires { (taking_dir (known_of self.old).world.tree path.now ≡ Ok (Some (takes path.now)))
+            ⊎ (taking_file (known_of self.old).world.tree path.now ≡ Ok (Some (takes path.now))) }
+        ensures { MakesAt (Ok (Some (takes path.now))) (known_of self.old) result (known_of self.new) }
+    {
+        if !self.has_tick_left() {
+            return Err(DiskError::Failed);
+        }
+        let Ok(path) = path.try_clone() else {
+            return Err(DiskError::NoMemory);
+        };
+        self.make(&Change::Remove(path))
+    }
+
     // Removes a directory without members.
-    pub fn remove_dir(&mut self, path: &FsPath) -> Result<(), DiskError>
+    fn remove_dir(&mut self, path: &FsPath) -> Result<(), DiskError>
         ensures { MakesAt (taking_dir (known_of self.old).world.tree path.now) (known_of self.old) result
             (known_of self.new) }
     {
-        if let Err(e) = may_take_dir(&self.rows, path.as_slice()) {
-            return Err(e);
+        match may_take_dir(&self.rows, path.as_slice()) {
+            Ok(()) => self.remove(path),
+            Err(e) => Err(e),
         }
-        if !self.has_tick_left() {
-            return Err(DiskError::Failed);
-        }
-        let Ok(path) = path.try_clone() else {
-            return Err(DiskError::NoMemory);
-        };
-        self.make(&Change::Remove(path))
     }
 
     // Removes what is no directory.
-    pub fn remove_file(&mut self, path: &FsPath) -> Result<(), DiskError>
+    fn remove_file(&mut self, path: &FsPath) -> Result<(), DiskError>
         ensures { MakesAt (taking_file (known_of self.old).world.tree path.now) (known_of self.old) result
             (known_of self.new) }
     {
-        if let Err(e) = may_take_file(&self.rows, path.as_slice()) {
-            return Err(e);
+        match may_take_file(&self.rows, path.as_slice()) {
+            Ok(()) => self.remove(path),
+            Err(e) => Err(e),
         }
-        if !self.has_tick_left() {
-            return Err(DiskError::Failed);
-        }
-        let Ok(path) = path.try_clone() else {
-            return Err(DiskError::NoMemory);
-        };
-        self.make(&Change::Remove(path))
     }
 
     // Moves what stands at a path to another.
-    pub fn rename(&mut self, from: &FsPath, to: &FsPath) -> Result<(), DiskError>
+    fn rename(&mut self, from: &FsPath, to: &FsPath) -> Result<(), DiskError>
         ensures { MakesAt (moving (known_of self.old).world.tree from.now to.now) (known_of self.old) result
             (known_of self.new) }
     {
@@ -502,7 +506,7 @@ impl Memory {
     }
 
     // Copies a file's bytes into the file at another path.
-    pub fn copy(&mut self, from: &FsPath, to: &FsPath) -> Result<(), DiskError>
+    fn copy(&mut self, from: &FsPath, to: &FsPath) -> Result<(), DiskError>
         ensures { MakesAt (copying (known_of self.old).world from.now to.now) (known_of self.old) result
             (known_of self.new) }
     {
@@ -511,6 +515,19 @@ impl Memory {
             Ok(Copying::Stays) => Ok(()),
             Ok(Copying::Makes(number)) => self.copy_new(number, to),
             Ok(Copying::Fills(number, there)) => self.copy_over(number, there),
+        }
+    }
+
+    // Does what a call asks for.
+    pub fn perform(&mut self, call: PathCall) -> Result<(), DiskError>
+        ensures { MakesAt (allows call.entry (known_of self.old).world) (known_of self.old) result (known_of self.new) }
+    {
+        match call {
+            PathCall::CreateDir(path) => self.create_dir(path),
+            PathCall::RemoveDir(path) => self.remove_dir(path),
+            PathCall::RemoveFile(path) => self.remove_file(path),
+            PathCall::Rename(from, to) => self.rename(from, to),
+            PathCall::Copy(from, to) => self.copy(from, to),
         }
     }
 

@@ -3,6 +3,7 @@ ghost use Rattle.dav_disk.specs.Memory.{known_of as known_to, HasRoom};
 
 use crate::faults::{is_fault, noted};
 use crate::memory::Memory;
+use crate::path_call::PathCall;
 use dav_core::{Change, Disk, DiskError, FileTime, FsPath, Handle, Lister, Meta, OpenOptions};
 use dav_io::{NoMemory, Text};
 use std::alloc::Global;
@@ -21,7 +22,8 @@ pub struct SureDisk {
 impl SureDisk {
     ghost use Rattle.dav_disk.specs.Rows.{first_world, can_add as the_can_add, with_dir, with_file, with_batch};
     ghost use Rattle.dav_disk.specs.Calls.{state_of};
-    ghost use Rattle.dav_disk.specs.Sure.{sure_state, sure_world, listings_of};
+    ghost use Rattle.dav_disk.specs.Sure.{sure_state, sure_world, listings_of, FailsOnly};
+    ghost use Rattle.dav_disk.specs.Making.{Performs, allows, is_spent};
 
     /// A root directory alone, of number 1 and time 0. The latest time used is 1 second past 1970.
     pub fn new(alloc: Global) -> Result<Self, NoMemory>
@@ -103,6 +105,19 @@ impl SureDisk {
         ensures { result ≡ listings_of self.now }
     {
         self.listings
+    }
+
+    // Does what a call asks for, and counts it.
+    fn perform(&mut self, call: PathCall) -> Result<(), DiskError>
+        ensures done { Performs call.entry (sure_state self.old) result (sure_state self.new) }
+        ensures fails { FailsOnly (is_spent (allows call.entry (sure_world self.old)) (sure_world self.old)) self.old result
+            self.new }
+        ensures listings { listings_of self.new ≡ listings_of self.old }
+    {
+        self.asked = self.asked.saturating_add(1);
+        let answer = self.memory.perform(call);
+        self.met = noted(self.met, is_fault(&answer));
+        answer
     }
 }
 
@@ -249,10 +264,7 @@ impl Disk for SureDisk {
         ensures fails { FailsOnly (is_spent (making_dir (sure_world self.old).tree path.now) (sure_world self.old))
             self.old result self.new }
     {
-        self.asked = self.asked.saturating_add(1);
-        let answer = self.memory.create_dir(path);
-        self.met = noted(self.met, is_fault(&answer));
-        answer
+        self.perform(PathCall::CreateDir(path))
     }
 
     fn remove_dir(&mut self, path: &FsPath) -> Result<(), DiskError>
@@ -262,10 +274,7 @@ impl Disk for SureDisk {
         ensures fails { FailsOnly (is_spent (taking_dir (sure_world self.old).tree path.now) (sure_world self.old))
             self.old result self.new }
     {
-        self.asked = self.asked.saturating_add(1);
-        let answer = self.memory.remove_dir(path);
-        self.met = noted(self.met, is_fault(&answer));
-        answer
+        self.perform(PathCall::RemoveDir(path))
     }
 
     fn remove_file(&mut self, path: &FsPath) -> Result<(), DiskError>
@@ -275,10 +284,7 @@ impl Disk for SureDisk {
         ensures fails { FailsOnly (is_spent (taking_file (sure_world self.old).tree path.now) (sure_world self.old))
             self.old result self.new }
     {
-        self.asked = self.asked.saturating_add(1);
-        let answer = self.memory.remove_file(path);
-        self.met = noted(self.met, is_fault(&answer));
-        answer
+        self.perform(PathCall::RemoveFile(path))
     }
 
     fn rename(&mut self, from: &FsPath, to: &FsPath) -> Result<(), DiskError>
@@ -288,10 +294,7 @@ impl Disk for SureDisk {
         ensures fails { FailsOnly (is_spent (moving (sure_world self.old).tree from.now to.now) (sure_world self.old))
             self.old result self.new }
     {
-        self.asked = self.asked.saturating_add(1);
-        let answer = self.memory.rename(from, to);
-        self.met = noted(self.met, is_fault(&answer));
-        answer
+        self.perform(PathCall::Rename(from, to))
     }
 
     fn copy(&mut self, from: &FsPath, to: &FsPath) -> Result<(), DiskError>
@@ -301,10 +304,7 @@ impl Disk for SureDisk {
         ensures fails { FailsOnly (is_spent (copying (sure_world self.old) from.now to.now) (sure_world self.old))
             self.old result self.new }
     {
-        self.asked = self.asked.saturating_add(1);
-        let answer = self.memory.copy(from, to);
-        self.met = noted(self.met, is_fault(&answer));
-        answer
+        self.perform(PathCall::Copy(from, to))
     }
 
     fn turn(&mut self) -> Result<(), NoMemory>
