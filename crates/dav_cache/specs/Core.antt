@@ -46,6 +46,11 @@ Turn = State × Told
 abbrev pub goes : State → ℕ → Place → Told → Turn
 goes s caller place told = (record s { places = slice_set s.places caller place }, told)
 
+-- an idle caller goes to a place
+abbrev pub enters : State → ℕ → Place → Option Place → Turn
+enters s c place (Some Idle) = goes s c place Nothing
+enters s c place _ = (s, Misplaced)
+
 -- what the disk tells of a directory's time
 abbrev pub time_told : Bool → Tree → Names → Option FileTime
 time_told refused tree dir = if refused then None else time_of tree dir
@@ -53,8 +58,7 @@ time_told refused tree dir = if refused then None else time_of tree dir
 -- ---- asking whether a name is absent
 
 abbrev pub ask : State → ℕ → Names → Name → Option Place → Turn
-ask s c dir name (Some Idle) = goes s c (Asked dir name) Nothing
-ask s c dir name _ = (s, Misplaced)
+ask s c dir name at = enters s c (Asked dir name) at
 
 abbrev pub peeked : State → ℕ → Names → Name → Option DuEntry → Turn
 peeked s c dir name None = goes s c Idle (Absent false)
@@ -81,8 +85,7 @@ drop_dir s c _ = (s, Misplaced)
 -- ---- listing a directory
 
 abbrev pub begin : State → ℕ → Names → Option Place → Turn
-begin s c dir (Some Idle) = goes s c (Begun dir) Nothing
-begin s c dir _ = (s, Misplaced)
+begin s c dir at = enters s c (Begun dir) at
 
 abbrev pub before : State → ℕ → Bool → Option Place → Turn
 before s c refused (Some (Begun dir)) =
@@ -163,8 +166,7 @@ seal s c now room _ = (s, Misplaced)
 -- ---- looking up a path
 
 abbrev pub find : State → ℕ → Names → Option Place → Turn
-find s c path (Some Idle) = goes s c (Finding path) Nothing
-find s c path _ = (s, Misplaced)
+find s c path at = enters s c (Finding path) at
 
 abbrev pub got : State → ℕ → Names → Option PathEntry → Turn
 got s c asked None = goes s c Idle (Path None)

@@ -95,17 +95,9 @@ impl World {
             ≡ core.ask self.old caller dir.now name.now (slice_get self.old.places caller)) }
         ensures err { OnErr result (self.new ≡ self.old) }
     {
-        match self.places.get(caller as usize) {
-            Some(Place::Idle) => {
-                let place = Place::Asked {
-                    dir: dir.try_clone()?,
-                    name: name.try_clone()?,
-                };
-                self.set(caller, place);
-                Ok(Told::Nothing)
-            }
-            _ => Ok(Told::Misplaced),
-        }
+        let dir = dir.try_clone()?;
+        let name = name.try_clone()?;
+        Ok(self.enter(caller, Place::Asked { dir, name }))
     }
 
     fn peek(&mut self, caller: u32) -> Result<Told, NoMemory>
@@ -215,16 +207,8 @@ impl World {
             ≡ core.begin self.old caller dir.now (slice_get self.old.places caller)) }
         ensures err { OnErr result (self.new ≡ self.old) }
     {
-        match self.places.get(caller as usize) {
-            Some(Place::Idle) => {
-                let place = Place::Begun {
-                    dir: dir.try_clone()?,
-                };
-                self.set(caller, place);
-                Ok(Told::Nothing)
-            }
-            _ => Ok(Told::Misplaced),
-        }
+        let dir = dir.try_clone()?;
+        Ok(self.enter(caller, Place::Begun { dir }))
     }
 
     fn before(&mut self, caller: u32, refused: bool) -> Result<Told, NoMemory>
@@ -256,16 +240,8 @@ impl World {
             ≡ core.find self.old caller path.now (slice_get self.old.places caller)) }
         ensures err { OnErr result (self.new ≡ self.old) }
     {
-        match self.places.get(caller as usize) {
-            Some(Place::Idle) => {
-                let place = Place::Finding {
-                    path: path.try_clone()?,
-                };
-                self.set(caller, place);
-                Ok(Told::Nothing)
-            }
-            _ => Ok(Told::Misplaced),
-        }
+        let path = path.try_clone()?;
+        Ok(self.enter(caller, Place::Finding { path }))
     }
 
     fn probe(&mut self, caller: u32, refused: bool) -> Result<Told, NoMemory>
@@ -466,6 +442,20 @@ impl World {
             return Err(NoMemory);
         }
         Ok(Some(dots))
+    }
+
+    // An idle caller goes to the place.
+    fn enter(&mut self, caller: u32, place: Place) -> Told
+        requires { core.Rises place }
+        ensures { (self.new, result) ≡ core.enters self.old caller place (slice_get self.old.places caller) }
+    {
+        match self.places.get(caller as usize) {
+            Some(Place::Idle) => {
+                self.set(caller, place);
+                Told::Nothing
+            }
+            _ => Told::Misplaced,
+        }
     }
 
     fn set(&mut self, caller: u32, place: Place)
