@@ -70,17 +70,27 @@ impl World {
         ensures err { OnErr result (self.new ≡ self.old) }
     {
         match event {
-            Event::Ask { caller, dir, name } => self.ask(*caller, dir, name),
+            Event::Ask { caller, dir, name } => {
+                let dir = dir.try_clone()?;
+                let name = name.try_clone()?;
+                Ok(self.enter(*caller, Place::Asked { dir, name }))
+            }
             Event::Peek { caller } => self.peek(*caller),
             Event::Check { caller, refused } => self.check(*caller, *refused),
             Event::Conclude { caller } => self.conclude(*caller),
             Event::DropDir { caller } => self.drop_dir(*caller),
-            Event::Begin { caller, dir } => self.begin(*caller, dir),
+            Event::Begin { caller, dir } => {
+                let dir = dir.try_clone()?;
+                Ok(self.enter(*caller, Place::Begun { dir }))
+            }
             Event::Before { caller, refused } => self.before(*caller, *refused),
             Event::ListNext { caller, refused } => self.list_next(*caller, *refused),
             Event::After { caller, refused } => self.after(*caller, *refused),
             Event::Seal { caller, now, room } => self.seal(*caller, *now, *room),
-            Event::Find { caller, path } => self.find(*caller, path),
+            Event::Find { caller, path } => {
+                let path = path.try_clone()?;
+                Ok(self.enter(*caller, Place::Finding { path }))
+            }
             Event::Get { caller } => self.get(*caller),
             Event::Probe { caller, refused } => self.probe(*caller, *refused),
             Event::Drop { caller } => self.drop(*caller),
@@ -88,16 +98,6 @@ impl World {
             Event::Purge { now, dots } => Ok(self.purge(*now, *dots)),
             Event::Change { tree } => self.change(tree),
         }
-    }
-
-    fn ask(&mut self, caller: u32, dir: &FsPath, name: &Text) -> Result<Told, NoMemory>
-        ensures done { IfOk result (λ told. (self.new, told)
-            ≡ core.ask self.old caller dir.now name.now (slice_get self.old.places caller)) }
-        ensures err { OnErr result (self.new ≡ self.old) }
-    {
-        let dir = dir.try_clone()?;
-        let name = name.try_clone()?;
-        Ok(self.enter(caller, Place::Asked { dir, name }))
     }
 
     fn peek(&mut self, caller: u32) -> Result<Told, NoMemory>
@@ -202,15 +202,6 @@ impl World {
         }
     }
 
-    fn begin(&mut self, caller: u32, dir: &FsPath) -> Result<Told, NoMemory>
-        ensures done { IfOk result (λ told. (self.new, told)
-            ≡ core.begin self.old caller dir.now (slice_get self.old.places caller)) }
-        ensures err { OnErr result (self.new ≡ self.old) }
-    {
-        let dir = dir.try_clone()?;
-        Ok(self.enter(caller, Place::Begun { dir }))
-    }
-
     fn before(&mut self, caller: u32, refused: bool) -> Result<Told, NoMemory>
         ensures done { IfOk result (λ told. (self.new, told)
             ≡ core.before self.old caller refused (slice_get self.old.places caller)) }
@@ -233,15 +224,6 @@ impl World {
             }
             _ => Ok(Told::Misplaced),
         }
-    }
-
-    fn find(&mut self, caller: u32, path: &FsPath) -> Result<Told, NoMemory>
-        ensures done { IfOk result (λ told. (self.new, told)
-            ≡ core.find self.old caller path.now (slice_get self.old.places caller)) }
-        ensures err { OnErr result (self.new ≡ self.old) }
-    {
-        let path = path.try_clone()?;
-        Ok(self.enter(caller, Place::Finding { path }))
     }
 
     fn probe(&mut self, caller: u32, refused: bool) -> Result<Told, NoMemory>
