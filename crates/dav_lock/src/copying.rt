@@ -18,6 +18,30 @@ struct Open<'a> {
     behind: &'a [XmlNode],
 }
 
+impl<'a> Open<'a> {
+    ghost use Rattle.std.specs.Prelude.{[], ◌∷◌};
+    ghost use Rattle.dav_lock.specs.declared.element.XmlNode.TheVariants.{Element as node};
+    ghost use Rattle.dav_lock.specs.Forests.{joined};
+
+    /// The copies up to the element, which has these children; and the nodes behind it.
+    fn close(self, children: Nodes) -> Result<(Nodes, &'a [XmlNode]), NoMemory>
+        ensures { IfOk result
+            (λ closed.
+            (closed.0
+            ≡ joined self.entry.before (forest_of (node (record self.entry.element { children = children }) ∷ [])))
+            × (closed.1.now ≡ self.entry.behind.now)) }
+    {
+        let Open {
+            mut element,
+            before: mut done,
+            behind,
+        } = self;
+        element.children = children;
+        done.push(XmlNode::Element(element))?;
+        Ok((done, behind))
+    }
+}
+
 /// What a node is to the loop that copies it.
 #[derive(Drop)]
 pub(crate) enum Found<'a> {
@@ -101,18 +125,7 @@ pub(crate) fn copy_nodes(alloc: Global, nodes: &[XmlNode]) -> Result<Nodes, NoMe
                 }
             },
             None => match open.pop() {
-                Some(
-                    Open {
-                        mut element,
-                        before,
-                        behind,
-                    },
-                ) => {
-                    element.children = done;
-                    done = before;
-                    done.push(XmlNode::Element(element))?;
-                    left = behind;
-                }
+                Some(last) => (done, left) = last.close(done)?,
                 None => return Ok(done),
             },
         }

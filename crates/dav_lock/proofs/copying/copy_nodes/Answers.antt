@@ -29,12 +29,14 @@ loop-node-preserved-in-Inner c =
     c.loop-node.invariant)
 
 pub loop-node-smaller : goal.loop-node-smaller
-loop-node-smaller c = closes_less c.pop.new.self.items c.loop-node.open.items c.in-Some-pop.field-0 c.loop-node.left.now c.in-Some-pop.ensures.items (none_left c.loop-node.left.now c.in-None.ensures.cases)
+loop-node-smaller c =
+    rw c.in_ok-done-in-Some-pop.ensures.1
+    (closes_less c.pop.new.self.items c.loop-node.open.items c.in-Some-pop.last c.loop-node.left.now c.in-Some-pop.ensures.items (none_left c.loop-node.left.now c.in-None.ensures.cases))
 
 pub loop-node-preserved : goal.loop-node-preserved
 loop-node-preserved c =
-    rw c.in_ok-push-in-Some-pop.ensures.ok
-    (close_step c.pop.new.self.items c.loop-node.open.items c.in-Some-pop.field-0 c.loop-node.done (forest_of c.args.nodes.now) c.loop-node.left.now c.in-Some-pop.ensures.items (none_left c.loop-node.left.now c.in-None.ensures.cases) c.loop-node.invariant)
+    rw (c.in_ok-done-in-Some-pop.ensures.0, c.in_ok-done-in-Some-pop.ensures.1)
+    (close_step c.pop.new.self.items c.loop-node.open.items c.in-Some-pop.last c.loop-node.done (forest_of c.args.nodes.now) c.loop-node.left.now c.in-Some-pop.ensures.items (none_left c.loop-node.left.now c.in-None.ensures.cases) c.loop-node.invariant)
 
 pub returns-in-None-pop : goal.returns-in-None-pop
 returns-in-None-pop c =
