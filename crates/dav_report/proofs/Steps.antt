@@ -1,8 +1,8 @@
 -- Children, one node after another.
-use Rattle.std.proofs.Common.{◌≡◌, ℕ, ◌+◌, ◌<◌, Bool, true, false, cond, List, [], ◌∷◌, ◌++◌, length, take, drop, get_or, Option, Some, None, refl, sym, ap, ◌∙◌, append_assoc, append-nil, map}
+use Rattle.std.proofs.Common.{◌≡◌, ℕ, ◌+◌, ◌<◌, Bool, true, false, cond, List, [], ◌∷◌, ◌++◌, length, take, drop, get_or, Option, Some, None, refl, sym, ap, ◌∙◌, append_assoc, append-nil, map, Bor, option_copied}
 use Rattle.std.proofs.lemmas.List.{map-append}
 use Rattle.std.specs.List.{filter, flat_map}
-use Rattle.std.specs.Option.{option_or, option_map}
+use Rattle.std.specs.Option.{option_or, option_map, option_to_list}
 use Rattle.std.proofs.lemmas.List.Concat.{flat_map-append}
 use Rattle.dav_lock.specs.Forests.{Forest, bare, then, element, text, comment, cdata, instruction, joined}
 use Rattle.dav_lock.specs.Trees.{tree_of, forest_of}
@@ -54,6 +54,16 @@ last_of-append xs [] = ap last_of (append-nil xs)
 last_of-append [] (y ∷ ys) = sym (or_none (last_of (y ∷ ys)))
 last_of-append (x ∷ []) (y ∷ ys) = last_some y ys (last_of (x ∷ []))
 last_of-append (x ∷ z ∷ zs) (y ∷ ys) = last_of-append (z ∷ zs) (y ∷ ys)
+
+-- what was found later, or else what was kept before
+pub later : {T : Type 0} (found kept : Option (Bor T)) (a b : Option T) → option_copied found ≡ a → option_copied kept ≡ b
+    → option_copied (option_or found kept) ≡ option_or a b
+later None kept a b e f = ap (λ o. option_or None o) f ∙ ap (λ o. option_or o b) e
+later (Some x) kept a b e f = ap (λ o. option_or o b) e
+
+pub last_of-one : {A : Type 0} (o : Option A) → last_of (option_to_list o) ≡ o
+last_of-one None = refl
+last_of-one (Some x) = refl
 
 pub named-joined : (name : List ℕ) (f g : Forest) → named name (joined f g) ≡ named name f ++ named name g
 named-joined name f g = ap (filter (is_named name)) (elements-joined f g) ∙ filter-joined (is_named name) (elements f) (elements g)

@@ -53,15 +53,9 @@ fn last_count(children: &Nodes) -> Option<&Text>
 {
     let mut last = None;
     for node in children.as_slice() {
-        let element = match element_named(node, "nresults") {
-            Some(element) => element,
-            None => continue,
-        };
-        let text = match first_text(&element.children) {
-            Some(text) => text,
-            None => continue,
-        };
-        last = Some(text);
+        if let Some(element) = element_named(node, "nresults") {
+            last = first_text(&element.children).or(last);
+        }
     }
     last
 }
@@ -72,15 +66,9 @@ fn last_limit(children: &Nodes) -> Option<&Text>
 {
     let mut last = None;
     for node in children.as_slice() {
-        let element = match element_named(node, "limit") {
-            Some(element) => element,
-            None => continue,
-        };
-        let text = match last_count(&element.children) {
-            Some(text) => text,
-            None => continue,
-        };
-        last = Some(text);
+        if let Some(element) = element_named(node, "limit") {
+            last = last_count(&element.children).or(last);
+        }
     }
     last
 }

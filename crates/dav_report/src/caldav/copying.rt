@@ -19,6 +19,31 @@ struct Open<'a> {
     behind: &'a [ComponentFilter],
 }
 
+impl<'a> Open<'a> {
+    ghost use Rattle.std.specs.Prelude.{[], ◌∷◌};
+    ghost use Rattle.dav_report.specs.Filters.{joined};
+
+    /// The copies up to the filter, which has these filters in it; and the filters behind it.
+    fn close(
+        self,
+        inner: ComponentFilters,
+    ) -> Result<(ComponentFilters, &'a [ComponentFilter]), NoMemory>
+        ensures { IfOk result
+            (λ closed.
+            (closed.0 ≡ joined self.entry.before (filters_of (record self.entry.filter { comp_filters = inner } ∷ [])))
+            × (closed.1.now ≡ self.entry.behind.now)) }
+    {
+        let Open {
+            mut filter,
+            before: mut done,
+            behind,
+        } = self;
+        filter.comp_filters = inner;
+        done.push(filter)?;
+        Ok((done, behind))
+    }
+}
+
 /// A copy of the filter with these filters in it. It may be refused for want of memory.
 pub(crate) fn copy_around(
     filter: &ComponentFilter,
@@ -73,18 +98,7 @@ pub(crate) fn copy_filters(
                 left = first.comp_filters.as_slice();
             }
             None => match open.pop() {
-                Some(
-                    Open {
-                        mut filter,
-                        before,
-                        behind,
-                    },
-                ) => {
-                    filter.comp_filters = done;
-                    done = before;
-                    done.push(filter)?;
-                    left = behind;
-                }
+                Some(last) => (done, left) = last.close(done)?,
                 None => return Ok(done),
             },
         }

@@ -17,12 +17,14 @@ loop-first-preserved-in-Some c =
     (open_step c.loop-first.open.items c.push.new.self.items o (filters_of c.args.filters.now) c.loop-first.left.now c.in-Some.first.now c.in_ok-push-in-Some.ensures.items c.in-Some.ensures.cases.0 is c.loop-first.invariant)
 
 pub loop-first-smaller : goal.loop-first-smaller
-loop-first-smaller c = closes_less c.pop.new.self.items c.loop-first.open.items c.in-Some-pop.field-0 c.loop-first.left.now c.in-Some-pop.ensures.items (none_left c.loop-first.left.now c.in-None.ensures.cases)
+loop-first-smaller c =
+    rw c.in_ok-done-in-Some-pop.ensures.1
+    (closes_less c.pop.new.self.items c.loop-first.open.items c.in-Some-pop.last c.loop-first.left.now c.in-Some-pop.ensures.items (none_left c.loop-first.left.now c.in-None.ensures.cases))
 
 pub loop-first-preserved : goal.loop-first-preserved
 loop-first-preserved c =
-    rw c.in_ok-push-in-Some-pop.ensures.ok
-    (close_step c.pop.new.self.items c.loop-first.open.items c.in-Some-pop.field-0 c.loop-first.done (filters_of c.args.filters.now) c.loop-first.left.now c.in-Some-pop.ensures.items (none_left c.loop-first.left.now c.in-None.ensures.cases)
+    rw (c.in_ok-done-in-Some-pop.ensures.0, c.in_ok-done-in-Some-pop.ensures.1)
+    (close_step c.pop.new.self.items c.loop-first.open.items c.in-Some-pop.last c.loop-first.done (filters_of c.args.filters.now) c.loop-first.left.now c.in-Some-pop.ensures.items (none_left c.loop-first.left.now c.in-None.ensures.cases)
     c.loop-first.invariant)
 
 pub returns-in-None-pop : goal.returns-in-None-pop
