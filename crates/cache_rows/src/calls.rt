@@ -4,7 +4,7 @@
 use crate::tell_path;
 use crate::words::{RowError, moment, number, path};
 use dav_cache::{DUCacheBuilder, Forget, Owned, Remember};
-use dav_core::{FileTime, FsPath, Meta};
+use dav_core::{FileTime, FsPath};
 use dav_disk::MemDisk;
 use dav_io::{NoMemory, Text};
 use std::alloc::Global;
@@ -37,10 +37,18 @@ fn tell_number(alloc: Global, line: &mut String, value: u64) -> Result<(), RowEr
 }
 
 // Adds where a path was found.
-fn tell_found(line: &mut String, found: &Option<(FsPath, Meta)>) -> Result<(), RowError> {
+fn tell_found(line: &mut String, found: &Option<FsPath>) -> Result<(), RowError> {
     match found {
-        Some((path, _)) => tell_path(line, path),
+        Some(path) => tell_path(line, path),
         None => Ok(line.push_str("none")?),
+    }
+}
+
+// Where a path was found, without what the call that found it gave.
+fn place<T: Copy>(found: Option<(FsPath, T)>) -> Option<FsPath> {
+    match found {
+        Some((path, _)) => Some(path),
+        None => None,
     }
 }
 
@@ -93,11 +101,23 @@ impl Calls {
         )
     }
 
-    // The path of a cell, looked up in a memory after it was put there, where it forgets all.
-    fn forgotten(&mut self, cell: &str) -> Result<Option<(FsPath, Meta)>, RowError> {
+    // Where the memory has the path of a cell: it is looked at there, or opened. Or where a memory has it that forgets
+    // all, after it was put there. What was opened stays open.
+    fn found(&mut self, name: &str, cell: &str) -> Result<Option<FsPath>, RowError> {
         let path = path(self.alloc, cell)?;
-        Forget.insert(self.alloc, &path, moment("0")?)?;
-        Ok(Forget.get(self.alloc, &path, &mut self.disk)?)
+        let (alloc, disk) = (self.alloc, &mut self.disk);
+        match name {
+            "get" => Ok(place(self.memory.get(alloc, &path, disk)?)),
+            "open" => Ok(place(self.memory.get_open(alloc, &path, disk)?)),
+            "forget" => {
+                Forget.insert(alloc, &path, moment("0")?)?;
+                Ok(place(Forget.get(alloc, &path, disk)?))
+            }
+            _ => {
+                Forget.insert(alloc, &path, moment("0")?)?;
+                Ok(place(Forget.get_open(alloc, &path, disk)?))
+            }
+        }
     }
 
     /// Makes the call of a word, and adds what it answers to a line.
@@ -112,13 +132,8 @@ impl Calls {
                 self.memory.insert(self.alloc, &path, moment(third)?)?;
                 line.push('-')?;
             }
-            "get" => {
-                let path = path(self.alloc, second)?;
-                let found = self.memory.get(self.alloc, &path, &mut self.disk)?;
-                tell_found(line, &found)?;
-            }
-            "forget" => {
-                let found = self.forgotten(second)?;
+            "get" | "open" | "forget" | "forget-open" => {
+                let found = self.found(name, second)?;
                 tell_found(line, &found)?;
             }
             "negative" => line.push_str(if self.negative(second, third)? {

@@ -7,9 +7,10 @@
 //! Or the first word is `calls:PATHS:DOTS`. Then each other word is a call, as `calls.rt` reads it:
 //!
 //!     insert:PATH:MOMENT, get:PATH    of the memory; `get` tells where the path was found, or `none`
+//!     open:PATH                       as `get`, by an opening for reading; what was opened stays open
 //!     negative:PATH:NAME              whether the name is denied: `absent` or `unknown`
 //!     purge:MOMENT                    of the memory
-//!     forget:PATH                     puts and gets a path in a memory that forgets all
+//!     forget:PATH, forget-open:PATH   puts and gets a path in a memory that forgets all, or opens it
 //!     list:PATH                       begins a listing
 //!     add:NAME, fault, finish:MOMENT  of that listing
 //!     many:COUNT                      adds so many names `._000001` .. to it, from the last to the first
