@@ -1,5 +1,5 @@
 -- A path that is found where the memory has it, as it stands, or in the directory above it.
-use Rattle.std.proofs.Common.{◌≡◌, ◌⊎◌, inl, inr, Bool, true, false, List, [], ◌∷◌, ◌++◌, length, Option, None, Some, IfSome, Result, Ok, Err, IfOk, OnErr, refl, sym, ap, subst, ◌∙◌, arith}
+use Rattle.std.proofs.Common.{◌≡◌, ◌⊎◌, inl, inr, Bool, true, false, List, [], ◌∷◌, ◌++◌, length, Option, None, Some, IfSome, Result, Ok, Err, refl, sym, ap, subst, ◌∙◌, arith}
 use Rattle.std.specs.List.{list_any}
 use Rattle.std.specs.Option.{is_some}
 use Rattle.dav_io.specs.Counts.{RefusedNothing, Rose}
@@ -17,9 +17,9 @@ use Rattle.dav_model.specs.Folds.{Name, fold_name, fold_path}
 use Rattle.dav_model.proofs.PlainWalks.{linked_below}
 use Rattle.std.proofs.lemmas.List.{map-append}
 use Rattle.dav_local.specs.Places.{Place}
-use Rattle.dav_local.specs.Remembering.{HasFirst, IsFirst, KeepsWork, SavesCalls, SavesWork, StandsElsewhere, has_link}
-use Rattle.dav_local.specs.Walking.{EndsAt, FindsParent, IsAlikeIn, IsClearAt, KeepsPlace, Recalls, Remembers, RemembersIn, StandsAt, StandsIn, Steps, StepsOn, StepsTo, TakesIn, TakesMember, Walks}
-use Rattle.dav_local.proofs.Coming.{root_clear, walk_starved}
+use Rattle.dav_local.specs.Remembering.{HasFirst, IsFirst, KeepsWork, SavesCalls, StandsElsewhere, has_link}
+use Rattle.dav_local.specs.Walking.{EndsAt, FindsParent, IsAlikeIn, IsClearAt, KeepsPlace, Recalls, Remembers, RemembersIn, StandsAt, StandsIn, Steps, StepsTo, TakesIn, TakesMember, Walks}
+use Rattle.dav_local.proofs.Coming.{root_clear}
 use Rattle.dav_local.proofs.Memories.{alike_folds, error_of, first_alike, no_link, place_disk, place_same, place_then, rows_same, rows_then, same_tree, spoiled_after, stands_still, stands_without_links}
 use Rattle.dav_local.proofs.Rows.{IsTree, linked_alike, nothing_below, stands_below, stood_loosely, stood_then, tree_parts}
 
@@ -117,40 +117,38 @@ some_same x y e = cc
 none_some : {A B : Type 0} (x : A) → ◌≡◌ {A = Option A} None (Some x) → B
 none_some x e = cc
 
-pub saves_recalled : (p q : Place) (names at : Names) (found : Option Names) → Recalls p names (Ok found) q → found ≡ Some at → SavesCalls p names (Ok at) q
-saves_recalled p q names at found recalls is = λ nothing other held.
-    let (same, once) = recalls.saved nothing other held in inl (ap (λ z. Ok z) (some_same at other (sym is ∙ same)), once)
+pub saves_recalled : (p q : Place) (names at : Names) (found : Option Names) (r : Result Names FsError) → Recalls p names (Ok found) q → found ≡ Some at → r ≡ Ok at → SavesCalls p names r q
+saves_recalled p q names at found r recalls is stands = λ nothing other held.
+    let (same, once) = recalls.saved nothing other held in inl (stands ∙ ap (λ z. Ok z) (some_same at other (sym is ∙ same)), once)
 
-pub saves_unknown : (p m q : Place) (names : Names) (found : Option Names) (r : Result Names FsError) → Recalls p names (Ok found) m → found ≡ None → Walks m names r q → SavesCalls p names r q
-saves_unknown p m q names found r recalls is walks = λ nothing other held.
+-- A path that the memory hasn't isn't remembered.
+pub saves_unknown : (p m q : Place) (names : Names) (found : Option Names) (s r : Result Names FsError) → Recalls p names (Ok found) m → found ≡ None → Walks m names s q → SavesCalls p names r q
+saves_unknown p m q names found s r recalls is walks = λ nothing other held.
     let so_far : RefusedNothing p.disk.faults m.disk.faults = record {
       same = omega (arith, nothing.same, recalls.keeps.keeps.counts, walks.keeps.keeps.counts);
       room = omega (arith, nothing.room, walks.keeps.keeps.counts);
     } in
     let (same, once) = recalls.saved so_far other held in none_some other (sym is ∙ same)
 
+pub saves_starved : (p q : Place) (names : Names) (e : FsError) (r : Result Names FsError) → Recalls p names (Err e) q → r ≡ Err e → SavesCalls p names r q
+saves_starved p q names e r recalls stands = λ nothing other held. let (is, same) = recalls.starved in inr (stands ∙ ap (λ x. Err x) (error_of e is), same)
+
 -- ---- as it stands
 
 ok_error : {A B C : Type 0} (x : A) (e : B) → ◌≡◌ {A = Result A B} (Ok x) (Err e) → C
 ok_error x e is = cc
 
-walk_whole : (p : Place) (t : DiskState) (names at : Names) (m : Meta) → Metas p.disk names (Ok m) t → Keeps p.disk t → at ≡ names → Walks p names (Ok at) (record p { disk = t })
-walk_whole p t names at m metas keeps same = record {
+-- What stands as it is asked is found there.
+pub walk_whole : (p : Place) (t : DiskState) (names : Names) (m : Meta) → Metas p.disk names (Ok m) t → Keeps p.disk t → Walks p names (Ok names) (record p { disk = t })
+walk_whole p t names m metas keeps = record {
   keeps = place_disk p t keeps;
   refused = tt;
-  alike = ap fold_path same;
-  told = λ w told is. subst (EndsAt w.tree names) (sym same)
-      (alike_ends w.tree names names (tree_parts w.tree is) refl (λ clear. let (row, stands, meta) = metas.told w told clear in (row, stands)));
+  alike = refl;
+  told = λ w told is. alike_ends w.tree names names (tree_parts w.tree is) refl (λ clear. let (row, stands, meta) = metas.told w told clear in (row, stands));
   first = λ e is.
       let (row, stands, meta) = metas.told e.world e.told (no_link e.world.tree names e.links) in ok_error row e.error (sym stands ∙ e.missing);
   rows = rows_same p (record p { disk = t }) refl;
 }
-
-pub walk_copied : (p : Place) (t : DiskState) (names : Names) (m : Meta) (r : Result Names FsError) → Metas p.disk names (Ok m) t → Keeps p.disk t → IfOk r (λ at. at ≡ names)
-    → OnErr r (r ≡ Err FsError.NoMemory) → Walks p names r (record p { disk = t })
-walk_copied p t names m (Ok at) metas keeps same starved = walk_whole p t names at m metas keeps same
-walk_copied p t names m (Err e) metas keeps same starved =
-    let is : e ≡ FsError.NoMemory = error_of e starved in rw is (walk_starved p (record p { disk = t }) names (place_disk p t keeps) (rows_same p (record p { disk = t }) refl))
 
 pub walks_missing : (p q : Place) (t : DiskState) (names : Names) (r : Result Names FsError) → Keeps p.disk t → Walks (record p { disk = t }) names r q → Walks p names r q
 walks_missing p q t names r keeps walks = walks_after p (record p { disk = t }) q names r (place_disk p t keeps) (rows_same p (record p { disk = t }) refl) walks

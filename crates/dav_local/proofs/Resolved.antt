@@ -1,5 +1,5 @@
 -- Where a local store finds a path is where a loose walk ends, and in a tree without twins where the rules say.
-use Rattle.std.proofs.Common.{◌≡◌, ◌||◌, Bool, true, false, not, List, [], Option, None, Some, Result, Ok, Err, IfOk, refl, sym, ap, subst, ◌∙◌, inr, OnErr}
+use Rattle.std.proofs.Common.{◌≡◌, ◌||◌, Bool, true, false, not, List, [], Option, None, Some, Result, Ok, Err, IfOk, refl, sym, ap, subst, ◌∙◌, inl, inr, OnErr}
 use Rattle.std.specs.Option.{is_some}
 use Rattle.dav_core.specs.declared.error.FsError.{FsError}
 use Rattle.dav_core.specs.declared.tree.Row.{Row}
@@ -14,7 +14,8 @@ use Rattle.dav_model.specs.Valid.{no_twins}
 use Rattle.dav_model.proofs.LooseWalks.{found_exactly, walk_is_loose}
 use Rattle.dav_model.proofs.PlainWalks.{plain_resolved}
 use Rattle.dav_local.specs.Places.{Place}
-use Rattle.dav_local.specs.Resolving.{Leads, Resolves}
+use Rattle.dav_local.specs.Remembering.{SavesWork}
+use Rattle.dav_local.specs.Resolving.{Leads, Resolves, StandsFor, found_at}
 use Rattle.dav_local.specs.Walking.{EndsAt, Walks}
 use Rattle.dav_local.specs.Ways.{Ways, is_known, resolved_by, rules_of}
 use Rattle.dav_local.proofs.Memories.{learns_none}
@@ -45,28 +46,9 @@ resolves_known p names at known is = record {
   told = λ w told. record { end = or_walk p.ways.alone names; loosely = known_loosely p.ways.alone p.ways.folds w.tree names known; here = λ clear. is };
 }
 
-resolves_starved : (p : Place) (names : Names) → Resolves p names (Err FsError.NoMemory) p
-resolves_starved p names = record {
-  ways = refl;
-  keeps = keeps_same p.disk;
-  learns = learns_none p.memory;
-  dots = refl;
-  refused = inr refl;
-  known = λ e. (refl, tt);
-  starved = λ e. refl;
-  alike = tt;
-  told = tt;
-}
-
-known_by : (p : Place) (names known : Names) (r : Result Names FsError) → is_known p.ways ≡ true → known ≡ or_walk p.ways.alone names → IfOk r (λ at. at ≡ known)
-    → OnErr r (r ≡ Err FsError.NoMemory) → Resolves p names r p
-known_by p names known (Ok at) is_known same copy starved = resolves_known p names at is_known (copy ∙ same)
-known_by p names known (Err e) is_known same copy starved = let is : e ≡ FsError.NoMemory = cc in rw is (resolves_starved p names)
-
-pub resolves_plain : (p : Place) (names : Names) (r : Result Names FsError) → p.ways.alone ≡ None → p.ways.folds ≡ false → IfOk r (λ at. at ≡ names) → OnErr r (r ≡ Err FsError.NoMemory)
-    → Resolves p names r p
-resolves_plain p names r alone folds copy starved =
-    known_by p names names r (ap (λ a. is_some a || not p.ways.folds) alone ∙ ap not folds) (sym (ap (λ a. or_walk a names) alone)) copy starved
+pub resolves_plain : (p : Place) (names : Names) → p.ways.alone ≡ None → p.ways.folds ≡ false → Resolves p names (Ok names) p
+resolves_plain p names alone folds =
+    resolves_known p names names (ap (λ a. is_some a || not p.ways.folds) alone ∙ ap not folds) (sym (ap (λ a. or_walk a names) alone))
 
 not_known : (ways : Ways) → ways.alone ≡ None → ways.folds ≡ true → is_known ways ≡ true → ⊥
 not_known ways alone folds known = no_false (sym known ∙ ap (λ a. is_some a || not ways.folds) alone ∙ ap not folds)
@@ -114,7 +96,43 @@ leads_exactly ways tree names at apart clear leads =
     let exactly : leads.end ≡ resolved_by ways tree names = found_exactly (rules_of ways) tree names leads.end apart leads.loosely in
     leads.here (ap (is_linked tree) exactly ∙ clear) ∙ exactly
 
-pub resolves_exactly : (p q : Place) (names : Names) (r : Result Names FsError) → Resolves p names r q
+resolves_exactly : (p q : Place) (names : Names) (r : Result Names FsError) → Resolves p names r q
     → IfOk r (λ at. (w : World) → p.disk.told ≡ Some w → (p.ways.folds ≡ true → no_twins w.tree ≡ true) → is_linked w.tree (resolved_by p.ways w.tree names) ≡ false → at ≡ resolved_by p.ways w.tree names)
 resolves_exactly p q names (Ok at) resolves = λ w told apart clear. leads_exactly p.ways w.tree names at apart clear (resolves.told w told)
 resolves_exactly p q names (Err e) resolves = tt
+
+-- ---- a path that is found, as a value of its own
+
+copy_starved : (p q : Place) (names at : Names) → Resolves p names (Ok at) q → Resolves p names (Err FsError.NoMemory) q
+copy_starved p q names at resolves = record {
+  ways = resolves.ways;
+  keeps = resolves.keeps;
+  learns = resolves.learns;
+  dots = resolves.dots;
+  refused = inr refl;
+  known = λ e. ((resolves.known e).0, tt);
+  starved = λ e. refl;
+  alike = tt;
+  told = tt;
+}
+
+owned : (p q : Place) (names : Names) (found : Result (Option Names) FsError) (r : Result Names FsError) → Resolves p names (found_at names found) q → StandsFor names found r → Resolves p names r q
+owned p q names (Err e) r resolves is = subst (λ z. Resolves p names z q) (sym is) resolves
+owned p q names (Ok (Some at)) r resolves is = subst (λ z. Resolves p names z q) (sym is) resolves
+owned p q names (Ok None) r resolves (inl is) = subst (λ z. Resolves p names z q) (sym is) resolves
+owned p q names (Ok None) r resolves (inr is) = subst (λ z. Resolves p names z q) (sym is) (copy_starved p q names names resolves)
+
+pub owned_exactly : (p q : Place) (asked names : Names) (found : Result (Option Names) FsError) (r : Result Names FsError) → asked ≡ names → Resolves p asked (found_at asked found) q → StandsFor asked found r
+    → IfOk r (λ at. (w : World) → p.disk.told ≡ Some w → (p.ways.folds ≡ true → no_twins w.tree ≡ true) → is_linked w.tree (resolved_by p.ways w.tree names) ≡ false → at ≡ resolved_by p.ways w.tree names)
+owned_exactly p q asked names found r same resolves stands = resolves_exactly p q names r (subst (λ z. Resolves p z r q) same (owned p q asked found r resolves stands))
+
+pub owned_saved : (p q : Place) (asked names : Names) (found : Result (Option Names) FsError) (r : Result Names FsError) → asked ≡ names
+    → ((s : Result Names FsError) → StandsFor asked found s → SavesWork p asked s q) → StandsFor asked found r → SavesWork p names r q
+owned_saved p q asked names found r same saved stands = subst (λ z. SavesWork p z r q) same (saved r stands)
+
+pub found_stands : (names at : Names) (found : Option Names) → found ≡ Some at → StandsFor names (Ok found) (Ok at)
+found_stands names at found is = rw is refl
+
+pub copy_stands : (names : Names) (found : Option Names) (r : Result Names FsError) → found ≡ None → IfOk r (λ at. at ≡ names) → OnErr r (r ≡ Err FsError.NoMemory) → StandsFor names (Ok found) r
+copy_stands names found (Ok at) none copy starved = rw none (inl (ap (λ z. Ok z) copy))
+copy_stands names found (Err e) none copy starved = rw none (inr starved)

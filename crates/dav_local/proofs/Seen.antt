@@ -1,7 +1,7 @@
 -- The call by which a path is found is the call that is asked for there.
 use Rattle.std.proofs.Common.{◌≡◌, ◌&&◌, ◌||◌, ◌⊎◌, inl, inr, Bool, true, false, not, Option, None, Some, Result, Ok, Err, refl, sym, ap, subst, ◌∙◌}
 use Rattle.std.specs.Map.{lookup}
-use Rattle.std.specs.Option.{is_some}
+use Rattle.std.specs.Option.{is_some, unwrap_or}
 use Rattle.dav_io.specs.Counts.{Rose}
 use Rattle.dav_io.proofs.ToldLemmas.{told_after}
 use Rattle.dav_core.specs.declared.error.FsError.{FsError}
@@ -34,7 +34,7 @@ use Rattle.dav_local.specs.Walking.{Misses, RecallsBy, StandsAt, Walks}
 use Rattle.dav_local.specs.Ways.{is_known, rules_of}
 use Rattle.dav_local.proofs.Coming.{walk_starved}
 use Rattle.dav_local.proofs.Framing.{keeps_open, opens_after}
-use Rattle.dav_local.proofs.Found.{alike_ends, walk_copied, walks_after}
+use Rattle.dav_local.proofs.Found.{alike_ends, walk_whole, walks_after}
 use Rattle.dav_local.proofs.Keeping.{metas_keep}
 use Rattle.dav_local.proofs.Memories.{place_disk, rows_same}
 use Rattle.dav_local.proofs.Opened.{opened_one, unopened_keeps}
@@ -193,7 +193,7 @@ look_found p m q names at meta slash r walks metas answers = by_judged (is_judge
 pub look_here : (p q : Place) (t : DiskState) (names : Names) (meta : Meta) (slash : Bool) (r : Result Info FsError) → Metas p.disk names (Ok meta) t → Keeps p.disk t
     → AnswersSeen names meta slash (record p { disk = t }) r q → FindsAlike p names (LooksAt true slash) r q
 look_here p q t names meta slash r metas keeps answers =
-    let walks = walk_copied p t names meta (Ok names) metas keeps refl tt in
+    let walks = walk_whole p t names meta metas keeps in
     look_found p (record p { disk = t }) q names names meta slash r (walks_before p (record p { disk = t }) names names walks) metas answers
 
 -- ---- openings
@@ -230,10 +230,10 @@ open_recalled p m names at h found recalls is = open_found p m names (at, h) (su
 
 -- ---- openings, by what the steps answer
 
-pub open_there : (p m : Place) (t : DiskState) (names at : Names) (how : OpenOptions) (r : Result LocalFsFile FsError) → Walks p names (Ok at) m → how ≡ reading
-    → (answer : Result Handle DiskError) × Opens m.disk at how answer t × (r ≡ filed answer) → FindsAlike p names (OpensAt reading) r (record m { disk = t })
-open_there p m t names at how r walks is (answer, opens, said) =
-    (Ok at, m, walks, (answer, t, subst (λ o. Opens m.disk at o answer t) is opens, said, refl))
+pub open_there : (p m : Place) (t : DiskState) (names at : Names) (found : Option Names) (how : OpenOptions) (r : Result LocalFsFile FsError) → Walks p names (Ok (unwrap_or found names)) m
+    → at ≡ unwrap_or found names → how ≡ reading → (answer : Result Handle DiskError) × Opens m.disk at how answer t × (r ≡ filed answer) → FindsAlike p names (OpensAt reading) r (record m { disk = t })
+open_there p m t names at found how r walks here is (answer, opens, said) =
+    (Ok at, m, subst (λ z. Walks p names (Ok z) m) (sym here) walks, (answer, t, subst (λ o. Opens m.disk at o answer t) is opens, said, refl))
 
 pub opened_recalled : (s t : DiskState) (at : Names) (h : Handle) (found : Option (Names × Handle)) → OpensThere s (Ok found) t → found ≡ Some (at, h)
     → OpensOne (λ (f : LocalFsFile). f.handle.0) seen_by reading s (Ok (record { handle = h })) t

@@ -1,5 +1,5 @@
 -- What a local store shows over a told disk is what the rules show where its path is found.
-use Rattle.std.proofs.Common.{◌≡◌, ◌==◌, ◌||◌, ◌<◌, ◌⊎◌, inl, inr, ℕ, Bool, true, false, List, [], ◌∷◌, Option, None, Some, Result, Ok, Err, refl, sym, ap, subst, ◌∙◌, arith}
+use Rattle.std.proofs.Common.{◌≡◌, ◌==◌, ◌||◌, ◌⊎◌, inl, inr, ℕ, Bool, true, false, List, [], ◌∷◌, Option, None, Some, Result, Ok, Err, refl, sym, ap, subst, ◌∙◌, arith}
 use Rattle.std.specs.List.{AllByRecursion}
 use Rattle.std.specs.Option.{option_map}
 use Rattle.std.proofs.lemmas.Bool.Decides.{nat_tests}
@@ -26,7 +26,7 @@ use Rattle.dav_store.specs.Standing.{Agrees, Standing}
 use Rattle.dav_local.specs.declared.file.LocalFsFile.{LocalFsFile}
 use Rattle.dav_local.specs.Files.{filed, looked_as, seen_by}
 use Rattle.dav_local.specs.Standing.{found, seen_in, seen_with, standing_as, standing_of, under_slash}
-use Rattle.dav_core.proofs.LookLemmas.{stored_time}
+use Rattle.dav_core.proofs.LookLemmas.{look_all, stored_time}
 
 -- a refusal that the tree calls for, or a fault or want of memory
 refused : {T U V : Type 0} (e : DiskError) (stands : Result U DiskError) (answer : Result T DiskError) (s t : DiskState) → Refused e stands → answer ≡ Err e → Asks answer s t

@@ -1,5 +1,6 @@
 -- Where a local store finds a path, in every run.
-use Rattle.std.specs.Prelude.{◌≡◌, List, true, false, None, Some, Result, Err, IfOk, OnErr}
+use Rattle.std.specs.Prelude.{◌≡◌, ◌⊎◌, List, true, false, Option, None, Some, Result, Ok, Err, IfOk, OnErr}
+use Rattle.std.specs.Option.{unwrap_or}
 use Rattle.dav_core.specs.declared.error.FsError.{FsError}
 use Rattle.dav_core.specs.declared.error.FsError.TheVariants.{NoMemory}
 use Rattle.dav_core.specs.declared.tree.Row.{Row}
@@ -19,6 +20,17 @@ pub record Leads (ways : Ways) (tree : List Row) (names at : Names) : Type 0 whe
   pub end : Names
   pub loosely : EndsLoosely ways.alone ways.folds tree names end
   pub here : is_linked tree end ≡ false → at ≡ end
+
+-- Where a path is found, by what a search of it answered: none says that it is found as it is asked.
+abbrev pub found_at : Names → Result (Option Names) FsError → Result Names FsError
+found_at path (Ok found) = Ok (unwrap_or found path)
+found_at path (Err e) = Err e
+
+-- What such a search stands for where the place is wanted as a value of its own: where it is found as it is asked, a
+-- copy of the path, for which memory may be wanting.
+abbrev pub StandsFor : Names → Result (Option Names) FsError → Result Names FsError → Type 0
+StandsFor path (Ok None) result = (result ≡ Ok path) ⊎ (result ≡ Err NoMemory)
+StandsFor path found result = result ≡ found_at path found
 
 -- The path is found: by the disk and the memory where names may fold, and else without either. It is refused only where
 -- a fault was met, and for want of memory. The memory knows nothing more of what is absent.

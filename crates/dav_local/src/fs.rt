@@ -23,7 +23,7 @@ ghost use Rattle.dav_local.specs.Ways.{resolved_by, rules_of};
 use crate::acts::make_missing;
 use crate::lists::look_by;
 use crate::meta::looked_as;
-use crate::walk::parent;
+use crate::walk::{at_or, copied, parent};
 use crate::ways::{is_dot_name, is_localized};
 use crate::{LocalFsMetaData, Ways};
 use dav_cache::Remember;
@@ -146,7 +146,12 @@ impl<D: Disk, R: Remember> LocalFs<D, R> {
         ensures stays { Stays self.old self.new }
         ensures loan { D.loan self.new.disk ≡ D.loan self.old.disk }
     {
-        self.find(path.names())
+        let names = path.names();
+        match self.found(names) {
+            Ok(Some(at)) => Ok(at),
+            Ok(None) => copied(names),
+            Err(error) => Err(error),
+        }
     }
 
     /// Whether the path is one of the two empty files that clients of macOS look for in the root. It takes no memory.
@@ -240,10 +245,8 @@ impl<D: Disk, R: Remember> LocalFs<D, R> {
         if follows && !self.ways.is_known() {
             return self.look_alike(path.names(), slash);
         }
-        match self.resolve(path) {
-            Ok(at) => self.look_at(&at, follows, slash),
-            Err(error) => Err(error),
-        }
+        let found = self.found(path.names())?;
+        self.look_at(at_or(&found, path.names()), follows, slash)
     }
 
     /// Makes the directories `/calendars` and `/addressbooks` where nothing stands. A file there counts as standing.
@@ -272,9 +275,7 @@ impl<D: Disk, R: Remember> LocalFs<D, R> {
         let Ok(path) = root.child(name) else {
             return Err(FsError::NoMemory);
         };
-        match self.find(&path) {
-            Ok(at) => make_missing(&mut self.disk, &at, self.public),
-            Err(error) => Err(error),
-        }
+        let found = self.found(&path)?;
+        make_missing(&mut self.disk, at_or(&found, &path), self.public)
     }
 }

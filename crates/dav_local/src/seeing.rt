@@ -15,6 +15,7 @@ ghost use Rattle.dav_local.specs.Walking.{RecallsBy};
 use crate::acts::open_at;
 use crate::lists::look;
 use crate::meta::looked_as;
+use crate::walk::at_or;
 use crate::{LocalFs, LocalFsFile, LocalFsMetaData};
 use dav_cache::Remember;
 use dav_core::{Disk, DiskError, FsError, FsPath, Handle, Meta, OpenOptions};
@@ -141,9 +142,8 @@ impl<D: Disk, R: Remember> LocalFs<D, R> {
         ensures stays { Stays self.old self.new }
         ensures loan { D.loan self.new.disk ≡ D.loan self.old.disk }
     {
-        match self.find_on_disk(path) {
-            Ok(at) => open_at(&mut self.disk, &at, OpenOptions::read(), self.public),
-            Err(error) => Err(error),
-        }
+        let found = self.find_on_disk(path)?;
+        let at = at_or(&found, path);
+        open_at(&mut self.disk, at, OpenOptions::read(), self.public)
     }
 }

@@ -2,11 +2,12 @@
 // path and the disk what stands there as it is asked; then likewise for the directory above it, of which the members
 // are listed; and without that directory it is walked from the root. What is found elsewhere than it is asked is
 // remembered.
-ghost use Rattle.std.specs.Prelude.{◌≡◌, true};
-ghost use Rattle.dav_core.specs.Path.{is_plain};
+ghost use Rattle.std.specs.Prelude.{◌≡◌, Result, true};
+ghost use Rattle.dav_core.specs.declared.error.FsError.{FsError};
+ghost use Rattle.dav_core.specs.Path.{Names, is_plain};
 ghost use Rattle.dav_local.specs.Places.{Stays, place_of};
 ghost use Rattle.dav_local.specs.Remembering.{KeepsWork, RemembersRows, SavesCalls, SavesWork};
-ghost use Rattle.dav_local.specs.Resolving.{Resolves};
+ghost use Rattle.dav_local.specs.Resolving.{Resolves, StandsFor, found_at};
 ghost use Rattle.dav_local.specs.Walking.{FindsParent, Recalls, Remembers, StepsOn, TakesMember, Walks};
 
 use crate::LocalFs;
@@ -17,52 +18,54 @@ use dav_core::{Disk, DiskError, FsError, FsPath};
 use dav_io::{NoMemory, Text};
 
 impl<D: Disk, R: Remember> LocalFs<D, R> {
-    // Finds a path as the store finds it.
-    pub(crate) fn find(&mut self, path: &FsPath) -> Result<FsPath, FsError>
-        ensures done { Resolves (place_of D.state R.state self.old) path.now result
+    // Finds a path as the store finds it. None says that it is found as it is asked: then it isn't copied.
+    pub(crate) fn found(&mut self, path: &FsPath) -> Result<Option<FsPath>, FsError>
+        ensures done { Resolves (place_of D.state R.state self.old) path.now (found_at path.now result)
             (place_of D.state R.state self.new) }
-        ensures saved { SavesWork (place_of D.state R.state self.old) path.now result
-            (place_of D.state R.state self.new) }
-        ensures kept { KeepsWork (place_of D.state R.state self.old) path.now result
+        ensures saved { (r : Result Names FsError) → StandsFor path.now result r
+            → SavesWork (place_of D.state R.state self.old) path.now r (place_of D.state R.state self.new) }
+        ensures kept { KeepsWork (place_of D.state R.state self.old) path.now (found_at path.now result)
             (place_of D.state R.state self.new) }
         ensures rows { RemembersRows (place_of D.state R.state self.old) (place_of D.state R.state self.new) }
         ensures stays { Stays self.old self.new }
         ensures loan { D.loan self.new.disk ≡ D.loan self.old.disk }
     {
         if let Some(file) = &self.ways.alone {
-            return copied(file);
+            return Ok(Some(copied(file)?));
         }
         if self.ways.folds {
             return self.find_alike(path);
         }
-        copied(path)
+        Ok(None)
     }
 
     // Finds a path by folding: where the memory has it, or as it stands, or below a directory.
-    fn find_alike(&mut self, path: &FsPath) -> Result<FsPath, FsError>
-        ensures done { Walks (place_of D.state R.state self.old) path.now result (place_of D.state R.state self.new) }
-        ensures saved { SavesCalls (place_of D.state R.state self.old) path.now result
+    fn find_alike(&mut self, path: &FsPath) -> Result<Option<FsPath>, FsError>
+        ensures done { Walks (place_of D.state R.state self.old) path.now (found_at path.now result)
             (place_of D.state R.state self.new) }
+        ensures saved { (r : Result Names FsError) → StandsFor path.now result r
+            → SavesCalls (place_of D.state R.state self.old) path.now r (place_of D.state R.state self.new) }
         ensures stays { Stays self.old self.new }
         ensures loan { D.loan self.new.disk ≡ D.loan self.old.disk }
     {
         match self.recall(path) {
-            Ok(Some(at)) => Ok(at),
+            Ok(Some(at)) => Ok(Some(at)),
             Ok(None) => self.find_on_disk(path),
             Err(error) => Err(error),
         }
     }
 
     // Finds a path that the memory hasn't.
-    pub(crate) fn find_on_disk(&mut self, path: &FsPath) -> Result<FsPath, FsError>
-        ensures done { Walks (place_of D.state R.state self.old) path.now result (place_of D.state R.state self.new) }
+    pub(crate) fn find_on_disk(&mut self, path: &FsPath) -> Result<Option<FsPath>, FsError>
+        ensures done { Walks (place_of D.state R.state self.old) path.now (found_at path.now result)
+            (place_of D.state R.state self.new) }
         ensures stays { Stays self.old self.new }
         ensures loan { D.loan self.new.disk ≡ D.loan self.old.disk }
     {
         match look(&mut self.disk, path) {
-            Ok(_) => copied(path),
+            Ok(_) => Ok(None),
             Err(DiskError::Failed) => Err(FsError::GeneralFailure),
-            Err(_) => self.find_elsewhere(path),
+            Err(_) => Ok(Some(self.find_elsewhere(path)?)),
         }
     }
 

@@ -7,6 +7,7 @@ ghost use Rattle.dav_local.specs.Places.{Stays, place_of};
 use crate::acts::{copy_at, make_at, move_at, open_at, take_dir_at, take_file_at};
 use crate::gathering::{begin_dir, next_in};
 use crate::lists::end_list;
+use crate::walk::at_or;
 use crate::{LocalFs, LocalFsDirEntry, LocalFsFile, LocalFsMetaData, LocalFsReadDir};
 use dav_cache::RememberAny;
 use dav_core::{DavPath, Disk, FsError, OpenOptions};
@@ -105,10 +106,9 @@ impl<D: Disk, R: RememberAny> DavFileSystem for LocalFs<D, R> {
         if options == OpenOptions::read() && !self.ways.is_known() {
             return self.open_alike(path.names());
         }
-        match self.resolve(path) {
-            Ok(at) => open_at(&mut self.disk, &at, options, self.public),
-            Err(error) => Err(error),
-        }
+        let found = self.found(path.names())?;
+        let at = at_or(&found, path.names());
+        open_at(&mut self.disk, at, options, self.public)
     }
 
     fn read_dir(&mut self, path: &DavPath, meta: ReadDirMeta) -> Result<LocalFsReadDir, FsError> {
@@ -130,55 +130,41 @@ impl<D: Disk, R: RememberAny> DavFileSystem for LocalFs<D, R> {
         if self.is_forbidden(path) {
             return Err(FsError::Forbidden);
         }
-        match self.resolve(path) {
-            Ok(at) => make_at(&mut self.disk, &at, self.public),
-            Err(error) => Err(error),
-        }
+        let found = self.found(path.names())?;
+        make_at(&mut self.disk, at_or(&found, path.names()), self.public)
     }
 
     fn remove_dir(&mut self, path: &DavPath) -> Result<(), FsError> {
-        match self.resolve(path) {
-            Ok(at) => take_dir_at(&mut self.disk, &at),
-            Err(error) => Err(error),
-        }
+        let found = self.found(path.names())?;
+        take_dir_at(&mut self.disk, at_or(&found, path.names()))
     }
 
     fn remove_file(&mut self, path: &DavPath) -> Result<(), FsError> {
         if self.is_shut(path) {
             return Err(FsError::Forbidden);
         }
-        match self.resolve(path) {
-            Ok(at) => take_file_at(&mut self.disk, &at),
-            Err(error) => Err(error),
-        }
+        let found = self.found(path.names())?;
+        take_file_at(&mut self.disk, at_or(&found, path.names()))
     }
 
     fn rename(&mut self, from: &DavPath, to: &DavPath) -> Result<(), FsError> {
         if self.is_forbidden(from) || self.is_forbidden(to) {
             return Err(FsError::Forbidden);
         }
-        let at = match self.resolve(from) {
-            Ok(at) => at,
-            Err(error) => return Err(error),
-        };
-        match self.resolve(to) {
-            Ok(into) => move_at(&mut self.disk, &at, &into),
-            Err(error) => Err(error),
-        }
+        let first = self.found(from.names())?;
+        let second = self.found(to.names())?;
+        let at = at_or(&first, from.names());
+        move_at(&mut self.disk, at, at_or(&second, to.names()))
     }
 
     fn copy(&mut self, from: &DavPath, to: &DavPath) -> Result<(), FsError> {
         if self.is_forbidden(from) || self.is_forbidden(to) {
             return Err(FsError::Forbidden);
         }
-        let at = match self.resolve(from) {
-            Ok(at) => at,
-            Err(error) => return Err(error),
-        };
-        match self.resolve(to) {
-            Ok(into) => copy_at(&mut self.disk, &at, &into),
-            Err(error) => Err(error),
-        }
+        let first = self.found(from.names())?;
+        let second = self.found(to.names())?;
+        let at = at_or(&first, from.names());
+        copy_at(&mut self.disk, at, at_or(&second, to.names()))
     }
 
     ghost puts_inside = { λ s d. refl };

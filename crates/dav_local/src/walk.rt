@@ -1,6 +1,7 @@
 // The steps of a walk by folding, over any disk: at each directory the name is taken as it stands, or the entry that
 // folds alike. Of a listing one name at a time is in memory.
 ghost use Rattle.std.specs.Prelude.{◌≡◌, ◌++◌, Err, IfOk, IsSome, OnErr, OnOk, true};
+ghost use Rattle.std.specs.Option.{unwrap_or};
 ghost use Rattle.dav_core.specs.Path.{all_plain, is_plain, parent_of};
 ghost use Rattle.dav_model.specs.Folds as folds;
 ghost use Rattle.dav_local.specs.Walking.{Searches, SearchesIn, Steps};
@@ -129,6 +130,16 @@ pub fn copied(path: &FsPath) -> Result<FsPath, FsError>
     match path.try_clone() {
         Ok(copy) => Ok(copy),
         Err(NoMemory) => Err(FsError::NoMemory),
+    }
+}
+
+// Where a path is found: at the place that was told, or else as it is asked.
+pub fn at_or<'a>(found: &'a Option<FsPath>, path: &'a FsPath) -> &'a FsPath
+    ensures { result.now ≡ unwrap_or found.now path.now }
+{
+    match found {
+        Some(at) => at,
+        None => path,
     }
 }
 

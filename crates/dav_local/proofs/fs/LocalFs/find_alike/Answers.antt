@@ -1,14 +1,17 @@
-use Rattle.dav_local.proofs.Found.{saves_recalled, saves_unknown, walks_recalled, walks_unknown}
+use Rattle.dav_local.proofs.Found.{saves_recalled, saves_starved, saves_unknown, walks_recalled, walks_unknown}
 use Rattle.dav_local.proofs.fs.LocalFs.find_alike.Goals as goal
 
 pub returns-in-Ok-Some-clause-done : goal.returns-in-Ok-Some-clause-done
 returns-in-Ok-Some-clause-done g c = walks_recalled _ _ _ _ c.in-Ok-Some.field-0 c.in-Ok-Some.ensures.done c.in-Ok-Some.field-0-is
 
 pub returns-in-Ok-Some-clause-saved : goal.returns-in-Ok-Some-clause-saved
-returns-in-Ok-Some-clause-saved g c = saves_recalled _ _ _ _ c.in-Ok-Some.field-0 c.in-Ok-Some.ensures.done c.in-Ok-Some.field-0-is
+returns-in-Ok-Some-clause-saved g c = λ r stands. saves_recalled _ _ _ _ c.in-Ok-Some.field-0 r c.in-Ok-Some.ensures.done c.in-Ok-Some.field-0-is stands
 
 pub returns-in-Ok-None-clause-done : goal.returns-in-Ok-None-clause-done
 returns-in-Ok-None-clause-done g c = walks_unknown _ _ _ _ c.in-Ok-None.field-0 _ c.in-Ok-None.ensures.done c.in-Ok-None.field-0-is c.find_on_disk.ensures.done
 
 pub returns-in-Ok-None-clause-saved : goal.returns-in-Ok-None-clause-saved
-returns-in-Ok-None-clause-saved g c = saves_unknown _ _ _ _ c.in-Ok-None.field-0 _ c.in-Ok-None.ensures.done c.in-Ok-None.field-0-is c.find_on_disk.ensures.done
+returns-in-Ok-None-clause-saved g c = λ r stands. saves_unknown _ _ _ _ c.in-Ok-None.field-0 _ r c.in-Ok-None.ensures.done c.in-Ok-None.field-0-is c.find_on_disk.ensures.done
+
+pub returns-in-Err-clause-saved : goal.returns-in-Err-clause-saved
+returns-in-Err-clause-saved g c = λ r stands. saves_starved _ _ _ c.in-Err.error r c.in-Err.ensures.done stands

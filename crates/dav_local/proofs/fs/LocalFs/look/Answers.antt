@@ -1,12 +1,9 @@
-use Rattle.std.proofs.Common.{◌≡◌, false, sym, arith}
+use Rattle.std.proofs.Common.{◌≡◌, false}
 use Rattle.dav_model.specs.Finding.{is_virtual}
 use Rattle.dav_local.specs.Ways.{is_known, rules_of}
 use Rattle.dav_core.proofs.UnchangedLemmas.{keeps_then}
 use Rattle.dav_local.proofs.Seen.{look_asked}
 use Rattle.dav_local.proofs.fs.LocalFs.look.Goals as goal
-
-pub returns-in-Ok-clause-keeps : goal.returns-in-Ok-clause-keeps
-returns-in-Ok-clause-keeps g c = keeps_then _ _ _ c.in-Ok.ensures.done.keeps c.look_at.ensures.keeps
 
 pub returns-then-not-is_known-clause-done : goal.returns-then-not-is_known-clause-done
 returns-then-not-is_known-clause-done g c =
@@ -14,3 +11,6 @@ returns-then-not-is_known-clause-done g c =
     let known : is_known c.args.self.now.ways ≡ false = cc (c.if-not-is_known.ensures, c.is_known.ensures) in
     look_asked _ _ _ c.names.result.now c.has_slash-slash.result c.args.follows _ (λ w told. g.met.D.Disk.world c.args.self.now.disk w told) c.if-follows.true real known c.names.ensures.value
     c.has_slash-slash.ensures c.look_alike.ensures.done
+
+pub returns-clause-keeps : goal.returns-clause-keeps
+returns-clause-keeps g c = keeps_then _ _ _ c.in_ok-found.ensures.done.keeps c.look_at.ensures.keeps

@@ -1,5 +1,5 @@
 use Rattle.dav_local.proofs.Framing.{open_after}
 use Rattle.dav_local.proofs.fs.LocalFs.make_one.Goals as goal
 
-pub returns-in-Ok-find-clause-keeps : goal.returns-in-Ok-find-clause-keeps
-returns-in-Ok-find-clause-keeps g c = open_after _ _ _ c.in-Ok-find.ensures.done.keeps c.make_missing.ensures.keeps
+pub returns-clause-keeps : goal.returns-clause-keeps
+returns-clause-keeps g c = open_after _ _ _ c.in_ok-found.ensures.done.keeps c.make_missing.ensures.keeps

@@ -7,12 +7,12 @@ use Rattle.dav_local.proofs.Framing.{opens_after}
 use Rattle.dav_local.proofs.Seen.{open_asked}
 use Rattle.dav_local.proofs.store.LocalFsDavFileSystem.open.Goals as goal
 
-pub returns-in-Ok-clause-one : goal.returns-in-Ok-clause-one
-returns-in-Ok-clause-one g c = opens_after (λ f. f.handle.0) seen_by c.args.options _ _ _ _ c.in-Ok.ensures.done.keeps c.open_at.ensures.one
-
 pub returns-then-not-is_known-clause-done : goal.returns-then-not-is_known-clause-done
 returns-then-not-is_known-clause-done g c =
     let open_ : is_shut c.args.self.now.ways c.args.path.now ≡ false = cc (c.if-is_shut.ensures, c.is_shut.ensures) in
     let known : is_known c.args.self.now.ways ≡ false = cc (c.if-not-is_known.ensures, c.is_known.ensures) in
     let how : c.args.options ≡ reading = first_of (search rules, grind arith, cc) in
     (open_asked _ _ _ c.names.result.now c.args.options _ (λ w told. g.met.D.Disk.world c.args.self.now.disk w told) open_ how known c.names.ensures.value c.open_alike.ensures.done, c.open_alike.ensures.stays)
+
+pub returns-clause-one : goal.returns-clause-one
+returns-clause-one g c = opens_after (λ f. f.handle.0) seen_by c.args.options _ _ _ _ c.in_ok-found.ensures.done.keeps c.open_at.ensures.one
