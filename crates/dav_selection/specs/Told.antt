@@ -1,5 +1,5 @@
 -- What stands in a told world, as a report finds it.
-use Rattle.std.specs.Prelude.{◌≡◌, ◌⊎◌, All, false, Option, Some, Result, Ok, Err}
+use Rattle.std.specs.Prelude.{◌≡◌, ◌⊎◌, ℕ, List, All, false, Option, Some, Result, Ok, Err}
 use Rattle.dav_core.specs.declared.parse_error.ParseError.{ParseError}
 use Rattle.dav_core.specs.DavPath.{WebPath}
 use Rattle.dav_core.specs.Grammar.{parsed}
@@ -9,11 +9,16 @@ use Rattle.dav_model.specs.Finding.{listed_in}
 use Rattle.dav_local.specs.Standing.{HasNoLinks}
 use Rattle.dav_local.specs.declared.ways.Ways.{Ways}
 use Rattle.dav_local_laws.specs.Simple.{opened, plain_ways}
+use Rattle.dav_lock.specs.declared.element.Element.{Element}
 use Rattle.dav_report.specs.declared.answer.Report.{Report}
 use Rattle.dav_report.specs.declared.error.ReportError.{ReportError}
 use Rattle.dav_report.specs.declared.error.ReportError.TheVariants.{NoMemory}
-use Rattle.dav_selection.specs.Selection.{Selection, queries, follows, refuses}
+use Rattle.dav_report.specs.AddressBooks.{address_report}
+use Rattle.dav_report.specs.Calendars.{calendar_report}
+use Rattle.dav_selection.specs.Selection.{Selection, queries, follows, refuses, address_selection, calendar_selection}
 use Rattle.dav_selection.specs.Shown.{IsRight, Stock}
+use Rattle.dav_selection.specs.declared.told.ReportKind.{ReportKind}
+use Rattle.dav_selection.specs.declared.told.ReportKind.TheVariants.{Calendars, AddressBook}
 
 -- the members of the world's directories, and what is opened at its paths
 abbrev pub stock_of : World → Stock
@@ -41,3 +46,8 @@ IsOf dir (refuses e) = Unit {0}
 abbrev pub TellsTheTree : Option World → Ways → Selection → Type 0 → Result Report ReportError → Type 0
 TellsTheTree told ways q fault result = (w : World) → told ≡ Some w → ways ≡ plain_ways → MeetsNoLink w q
     → IsRight q (stock_of w) fault result ⊎ (result ≡ Err NoMemory)
+
+-- what a request for a report of this kind asks of a store
+abbrev pub selection_of : ReportKind → WebPath → List ℕ → Element → Selection
+selection_of Calendars path prefix root = calendar_selection path prefix (calendar_report root)
+selection_of AddressBook path prefix root = address_selection path prefix (address_report root)

@@ -1,11 +1,7 @@
 //! Calendar reports.
-ghost use Rattle.std.specs.Prelude.{◌≡◌, ◌⊎◌, Err};
-ghost use Rattle.dav_io.specs.Counts.{Rose};
-ghost use Rattle.dav_core.specs.Unchanged.{Keeps};
-ghost use Rattle.dav_store.specs.View.{the_listings, the_view};
 ghost use Rattle.dav_report.specs.Calendars.{calendar_report as report_asked};
-ghost use Rattle.dav_selection.specs.Selection.{Reports, calendar_selection};
-ghost use Rattle.dav_selection.specs.Shown.{IsRight, ShowsFor, Stock};
+ghost use Rattle.dav_selection.specs.Selection.{calendar_selection};
+ghost use Rattle.dav_selection.specs.Shown.{Selects};
 
 use crate::following::follow;
 use crate::walking::{query_dir, report_of};
@@ -24,8 +20,8 @@ use std::alloc::Global;
 /// read to the length that its metadata gives, and is closed again; it gives a record where it is a calendar object
 /// that the filter of the query matches. What can't be opened or read is passed over.
 ///
-/// `table` tells which calls of the store gave the report; `shown` says that it is right for what the store shows
-/// wherever it looks, or for what may stand in its place where a fault was met.
+/// `Selects` tells which calls of the store gave the report (`table`), and that it is right for what the store shows
+/// wherever it looks, or for what may stand in its place where a fault was met (`shown`).
 ///
 /// Errors: `BadRequest` where the element asks for no report, `FreeBusy` where it asks for free-busy times, `Fs` where
 /// the listing of a query, or the metadata of one of its files, is refused; and want of memory.
@@ -38,21 +34,11 @@ pub fn calendar_report<S: GuardedFileSystem<C>, C>(
     credentials: &C,
 ) -> Result<Report, ReportError>
     requires admits { S.admits fs.old }
-    ensures table { Reports (the_view S.GuardedFileSystem S.Disk.Disk S.File.DavFile)
-        (the_listings S.GuardedFileSystem S.Entry.DavDirEntry) credentials.now
-        (calendar_selection path.now prefix.now (report_asked root.now)) fs.old result fs.new
-        ⊎ (result ≡ Err ReportError.NoMemory) }
-    ensures shown { (stock : Stock) → ShowsFor (the_view S.GuardedFileSystem S.Disk.Disk S.File.DavFile)
-        (the_listings S.GuardedFileSystem S.Entry.DavDirEntry) fs.old credentials.now stock
-        (calendar_selection path.now prefix.now (report_asked root.now))
-        → IsRight (calendar_selection path.now prefix.now (report_asked root.now)) stock
-        (Rose (S.Disk.state (S.inside fs.old)).faults (S.Disk.state (S.inside fs.new)).faults) result
-        ⊎ (result ≡ Err ReportError.NoMemory) }
-    ensures keeps { Keeps (S.Disk.state (S.inside fs.old)) (S.Disk.state (S.inside fs.new)) }
-    ensures admits { S.admits fs.new }
-    ensures loan { S.Disk.loan (S.inside fs.new) ≡ S.Disk.loan (S.inside fs.old) }
+    ensures { Selects S.GuardedFileSystem S.Disk.Disk S.File.DavFile S.Entry.DavDirEntry credentials.now
+        (calendar_selection path.now prefix.now (report_asked root.now)) fs.old result fs.new }
 {
     match parse_calendar_report(alloc, root) {
+        Ok(CalDavReportType::FreeBusyQuery { .. }) => Err(ReportError::FreeBusy),
         Ok(CalDavReportType::CalendarQuery(query)) => {
             let wanted = Wanted::Calendars(&query.comp_filter);
             let given = query_dir(alloc, fs, credentials, path, wanted, None);
@@ -63,7 +49,6 @@ pub fn calendar_report<S: GuardedFileSystem<C>, C>(
             let wanted = Wanted::Calendars(&every);
             follow(alloc, fs, credentials, prefix, wanted, &hrefs)
         }
-        Ok(CalDavReportType::FreeBusyQuery { .. }) => Err(ReportError::FreeBusy),
         Err(error) => Err(error),
     }
 }

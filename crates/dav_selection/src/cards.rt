@@ -1,11 +1,7 @@
 //! Address book reports.
-ghost use Rattle.std.specs.Prelude.{◌≡◌, ◌⊎◌, Err};
-ghost use Rattle.dav_io.specs.Counts.{Rose};
-ghost use Rattle.dav_core.specs.Unchanged.{Keeps};
-ghost use Rattle.dav_store.specs.View.{the_listings, the_view};
 ghost use Rattle.dav_report.specs.AddressBooks.{address_report as report_asked};
-ghost use Rattle.dav_selection.specs.Selection.{Reports, address_selection};
-ghost use Rattle.dav_selection.specs.Shown.{IsRight, ShowsFor, Stock};
+ghost use Rattle.dav_selection.specs.Selection.{address_selection};
+ghost use Rattle.dav_selection.specs.Shown.{Selects};
 
 use crate::following::follow;
 use crate::walking::{query_dir, report_of};
@@ -32,19 +28,8 @@ pub fn addressbook_report<S: GuardedFileSystem<C>, C>(
     credentials: &C,
 ) -> Result<Report, ReportError>
     requires admits { S.admits fs.old }
-    ensures table { Reports (the_view S.GuardedFileSystem S.Disk.Disk S.File.DavFile)
-        (the_listings S.GuardedFileSystem S.Entry.DavDirEntry) credentials.now
-        (address_selection path.now prefix.now (report_asked root.now)) fs.old result fs.new
-        ⊎ (result ≡ Err ReportError.NoMemory) }
-    ensures shown { (stock : Stock) → ShowsFor (the_view S.GuardedFileSystem S.Disk.Disk S.File.DavFile)
-        (the_listings S.GuardedFileSystem S.Entry.DavDirEntry) fs.old credentials.now stock
-        (address_selection path.now prefix.now (report_asked root.now))
-        → IsRight (address_selection path.now prefix.now (report_asked root.now)) stock
-        (Rose (S.Disk.state (S.inside fs.old)).faults (S.Disk.state (S.inside fs.new)).faults) result
-        ⊎ (result ≡ Err ReportError.NoMemory) }
-    ensures keeps { Keeps (S.Disk.state (S.inside fs.old)) (S.Disk.state (S.inside fs.new)) }
-    ensures admits { S.admits fs.new }
-    ensures loan { S.Disk.loan (S.inside fs.new) ≡ S.Disk.loan (S.inside fs.old) }
+    ensures { Selects S.GuardedFileSystem S.Disk.Disk S.File.DavFile S.Entry.DavDirEntry credentials.now
+        (address_selection path.now prefix.now (report_asked root.now)) fs.old result fs.new }
 {
     match parse_addressbook_report(alloc, root) {
         Ok(CardDavReportType::AddressBookQuery(query)) => {

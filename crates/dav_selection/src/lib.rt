@@ -16,4 +16,4 @@ mod wanted;
 pub use calendars::calendar_report;
 pub use cards::addressbook_report;
 pub use matching::{address_matches, calendar_matches};
-pub use told::{local_addressbook_report, local_calendar_report, shows_the_tree};
+pub use told::{ReportKind, local_report, shows_the_tree};

@@ -6,11 +6,9 @@ ghost use Rattle.dav_core.specs.Unchanged.{Keeps};
 ghost use Rattle.dav_core.specs.World.{World};
 ghost use Rattle.dav_store.specs.View.{the_listings, the_view};
 ghost use Rattle.dav_local_laws.specs.Simple.{plain_ways};
-ghost use Rattle.dav_report.specs.AddressBooks.{address_report as cards_asked};
-ghost use Rattle.dav_report.specs.Calendars.{calendar_report as calendars_asked};
-ghost use Rattle.dav_selection.specs.Selection.{Selection, address_selection, calendar_selection};
+ghost use Rattle.dav_selection.specs.Selection.{Selection};
 ghost use Rattle.dav_selection.specs.Shown.{ShowsFor};
-ghost use Rattle.dav_selection.specs.Told.{IsOf, MeetsNoLink, TellsTheTree, stock_of};
+ghost use Rattle.dav_selection.specs.Told.{IsOf, MeetsNoLink, TellsTheTree, selection_of, stock_of};
 
 use crate::{addressbook_report, calendar_report};
 use dav_cache::RememberAny;
@@ -34,39 +32,34 @@ pub fn shows_the_tree<D: Disk, R: RememberAny>(_fs: &LocalFs<D, R>, _path: &DavP
     local_stores_show_the_tree(_fs);
 }
 
-/// `calendar_report` over a local store: where its disk tells its world, each path is meant as it is written and no
-/// link is met, the report of what stands in that world, or may stand in its place where a fault was met.
-pub fn local_calendar_report<D: Disk, R: RememberAny>(
-    alloc: Global,
-    root: &Element,
-    path: &DavPath,
-    prefix: &str,
-    fs: &mut LocalFs<D, R>,
-) -> Result<Report, ReportError>
-    ensures tree { TellsTheTree (D.state fs.old.disk).told fs.old.ways
-        (calendar_selection path.now prefix.now (calendars_asked root.now))
-        (Rose (D.state fs.old.disk).faults (D.state fs.new.disk).faults) result }
-    ensures keeps { Keeps (D.state fs.old.disk) (D.state fs.new.disk) }
-    ensures loan { D.loan fs.new.disk ≡ D.loan fs.old.disk }
-{
-    shows_the_tree(fs, path);
-    calendar_report(alloc, root, path, prefix, fs, &())
+/// The two kinds of reports.
+#[derive(Clone, Copy)]
+pub enum ReportKind {
+    /// As `calendar_report` answers.
+    Calendars,
+    /// As `addressbook_report` does.
+    AddressBook,
 }
 
-/// `addressbook_report` over a local store likewise.
-pub fn local_addressbook_report<D: Disk, R: RememberAny>(
+/// A report over a local store: where its disk tells its world, each path is meant as it is written and no link is met,
+/// it is the report of what stands in that world, or may stand in its place where a fault was met.
+pub fn local_report<D: Disk, R: RememberAny>(
     alloc: Global,
+    kind: ReportKind,
     root: &Element,
     path: &DavPath,
     prefix: &str,
     fs: &mut LocalFs<D, R>,
 ) -> Result<Report, ReportError>
     ensures tree { TellsTheTree (D.state fs.old.disk).told fs.old.ways
-        (address_selection path.now prefix.now (cards_asked root.now))
+        (selection_of kind path.now prefix.now root.now)
         (Rose (D.state fs.old.disk).faults (D.state fs.new.disk).faults) result }
     ensures keeps { Keeps (D.state fs.old.disk) (D.state fs.new.disk) }
     ensures loan { D.loan fs.new.disk ≡ D.loan fs.old.disk }
 {
     shows_the_tree(fs, path);
-    addressbook_report(alloc, root, path, prefix, fs, &())
+    match kind {
+        ReportKind::Calendars => calendar_report(alloc, root, path, prefix, fs, &()),
+        ReportKind::AddressBook => addressbook_report(alloc, root, path, prefix, fs, &()),
+    }
 }

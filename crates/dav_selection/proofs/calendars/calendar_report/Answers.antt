@@ -1,4 +1,21 @@
+use Rattle.std.proofs.Common.{refl, inl}
+use Rattle.dav_core.proofs.UnchangedLemmas.{keeps_same}
 use Rattle.dav_selection.proofs.calendars.calendar_report.Goals as goal
 
-pub returns-in-Ok-CalendarMultiget-clause-shown : goal.returns-in-Ok-CalendarMultiget-clause-shown
-returns-in-Ok-CalendarMultiget-clause-shown g c = λ stock shows. rw (c.in-Ok-CalendarMultiget.ensures, c.in-Ok-CalendarMultiget.field-0-is) (c.follow.ensures.shown stock (rw (c.in-Ok-CalendarMultiget.ensures, c.in-Ok-CalendarMultiget.field-0-is) at shows))
+pub returns-in-Ok-FreeBusyQuery : goal.returns-in-Ok-FreeBusyQuery
+returns-in-Ok-FreeBusyQuery g c = rw (c.in-Ok-FreeBusyQuery.ensures, c.in-Ok-FreeBusyQuery.field-0-is) (record {
+  table = inl (refl, refl);
+  shown = λ stock shows. inl refl;
+  keeps = keeps_same _;
+  admits = c.requires.admits;
+  loan = refl;
+})
+
+pub returns-in-Ok-CalendarMultiget : goal.returns-in-Ok-CalendarMultiget
+returns-in-Ok-CalendarMultiget g c = rw (c.in-Ok-CalendarMultiget.ensures, c.in-Ok-CalendarMultiget.field-0-is) (record {
+  table = c.follow.ensures.table;
+  shown = λ stock shows. c.follow.ensures.shown stock shows;
+  keeps = c.follow.ensures.keeps;
+  admits = c.follow.ensures.admits c.requires.admits;
+  loan = c.follow.ensures.loan;
+})

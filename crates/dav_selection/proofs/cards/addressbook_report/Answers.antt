@@ -1,4 +1,10 @@
 use Rattle.dav_selection.proofs.cards.addressbook_report.Goals as goal
 
-pub returns-in-Ok-AddressBookMultiget-clause-shown : goal.returns-in-Ok-AddressBookMultiget-clause-shown
-returns-in-Ok-AddressBookMultiget-clause-shown g c = λ stock shows. rw (c.in-Ok-AddressBookMultiget.ensures, c.in-Ok-AddressBookMultiget.field-0-is) (c.follow.ensures.shown stock (rw (c.in-Ok-AddressBookMultiget.ensures, c.in-Ok-AddressBookMultiget.field-0-is) at shows))
+pub returns-in-Ok-AddressBookMultiget : goal.returns-in-Ok-AddressBookMultiget
+returns-in-Ok-AddressBookMultiget g c = rw (c.in-Ok-AddressBookMultiget.ensures, c.in-Ok-AddressBookMultiget.field-0-is) (record {
+  table = c.follow.ensures.table;
+  shown = λ stock shows. c.follow.ensures.shown stock shows;
+  keeps = c.follow.ensures.keeps;
+  admits = c.follow.ensures.admits c.requires.admits;
+  loan = c.follow.ensures.loan;
+})
