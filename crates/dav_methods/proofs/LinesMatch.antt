@@ -5,7 +5,7 @@ use Rattle.std.specs.Prelude.{◌++◌, ◌-◌, length}
 use Rattle.dav_core.specs.declared.error.FsError.{FsError}
 use Rattle.dav_core.specs.declared.error.FsError.TheVariants as fs
 use Rattle.dav_core.specs.declared.method.DavMethod.{DavMethod}
-use Rattle.dav_core.specs.declared.method.DavMethod.TheVariants.{Delete, MkCol, Put}
+use Rattle.dav_core.specs.declared.method.DavMethod.TheVariants.{MkCol, Put}
 use Rattle.dav_core.specs.declared.tree.Row.{Row}
 use Rattle.dav_core.specs.Errors.{CouldRefuse}
 use Rattle.dav_core.specs.Info.{Info}
@@ -16,7 +16,7 @@ use Rattle.dav_model.specs.Head.{Stood}
 use Rattle.dav_model.specs.Plans.{Halt, closing_when, failing, first, is_dir_found, is_found, refused as plan_refused, refused_there, unmet as plan_unmet, when}
 use Rattle.dav_model.proofs.PlainWalks.{linked_below}
 use Rattle.dav_methods.specs.Follows.{Finds}
-use Rattle.dav_methods.specs.Lines.{Line, fails_when, first_of, found_or_failed, is_dir_there, is_there, may_delete, may_make, may_put, no_parent, refused, refused_but_missing, unmet, with_status}
+use Rattle.dav_methods.specs.Lines.{Line, fails_when, first_of, found_or_failed, is_dir_there, is_there, may_make, may_put, no_parent, refused, refused_but_missing, unmet, with_status}
 use Rattle.dav_methods.proofs.Stages.{Matches, fs_line}
 
 -- ---- several lines

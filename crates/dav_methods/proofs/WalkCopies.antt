@@ -1,11 +1,9 @@
 -- What a walk that copies does, step by step, is what the table of COPY says of whole paths.
-use Rattle.std.proofs.Common.{◌≡◌, ◌<◌, ◌≤◌, ◌+◌, ◌-◌, ◌^◌, ◌*◌, ◌++◌, ℕ, suc, nat_lt, List, [], ◌∷◌, map, length, Bool, true, false, Result, Ok, Err, refl, sym, ap, subst, ◌∙◌, arith}
+use Rattle.std.proofs.Common.{◌≡◌, ◌<◌, ◌++◌, List, [], ◌∷◌, map, length, Bool, true, false, Result, Ok, Err, refl, sym, ap, subst, ◌∙◌, arith}
 use Rattle.std.proofs.lemmas.List.{length-map}
 use Rattle.dav_core.specs.declared.dav_error.DavError.{DavError}
-use Rattle.dav_core.specs.declared.dav_error.DavError.TheVariants.{NoMemory, Status}
 use Rattle.dav_core.specs.declared.error.FsError.{FsError}
 use Rattle.dav_core.specs.DavPath.{WebPath}
-use Rattle.dav_core.specs.Statuses.{of_fs}
 use Rattle.dav_store.specs.View.{View, Listings}
 use Rattle.dav_methods.specs.declared.ends.Ends.{Ends}
 use Rattle.dav_methods.specs.declared.member.Member.{Member}
@@ -14,12 +12,12 @@ use Rattle.dav_methods.specs.declared.pending.Pending.TheVariants.{Below, Up}
 use Rattle.dav_methods.specs.declared.transfer.Transfer.{Transfer}
 use Rattle.dav_methods.specs.declared.work.Work.TheVariants.{Whole}
 use Rattle.dav_methods.specs.Copying.{AfterMaking, Copies, CopiesBy, CopiesDir, CopiesOne, Enters, ReadsInto, done, goes, stops, transfer_of}
-use Rattle.dav_methods.specs.Lines.{Line, above}
+use Rattle.dav_methods.specs.Lines.{Line, above, fails_when}
 use Rattle.dav_methods.specs.Removing.{is_deep, line_of}
 use Rattle.dav_methods.specs.Walking.{CopiesOn, ReadsPending, ends_above, ends_below, member_at, members_at, transfer_dir, transfers_at, works_at}
-use Rattle.dav_methods.specs.Weights.{depth_left, weight, weight_of}
+use Rattle.dav_methods.specs.Weights.{weight}
 use Rattle.dav_methods.proofs.Lighter.{members_lighter, wide}
-use Rattle.dav_methods.proofs.Walking.{ends_again, slashed_ends, transfers_joined, transfers_slashed, up_again, weighs_slashed, works_joined}
+use Rattle.dav_methods.proofs.Walking.{ends_again, is_refused, transfers_joined, transfers_slashed, up_again, weighs_slashed, works_joined}
 
 -- Up again from a member, what is pending is the same.
 same_transfers : (ends : Ends) (m : Member) (works : List Pending) → transfers_at (ends_above (ends_below ends m)) works ≡ transfers_at ends works
@@ -59,10 +57,12 @@ module _ {S C F L E : Type 0} (view : View S C F) (lists : Listings S C L E) (c 
 
   -- ---- a directory
 
-  pub too_deep : (ends : Ends) (works new : List Pending) (s : S) → is_deep ends.from ≡ true
-      → CopiesOn view lists c alone (transfer_dir ends ∷ transfers_at (ends_above ends) works) s (Err (Status 403)) s (transfers_at ends new)
-  too_deep ends works new s deep = stops (transfer_dir ends) (transfers_at (ends_above ends) works) (transfers_at ends new) s s (Status 403)
-      (subst (λ b. CopiesDir view lists c alone b (transfer_dir ends) (transfers_at (ends_above ends) works) s (Err (Status 403)) s (transfers_at ends new)) (sym deep) (refl, refl))
+  pub too_deep : (ends : Ends) (works new : List Pending) (s : S) (e : DavError) → Err e ≡ fails_when (is_deep ends.from) 403
+      → CopiesOn view lists c alone (transfer_dir ends ∷ transfers_at (ends_above ends) works) s (Err e) s (transfers_at ends new)
+  too_deep ends works new s e refused =
+      let is = is_refused (is_deep ends.from) e refused in
+      stops (transfer_dir ends) (transfers_at (ends_above ends) works) (transfers_at ends new) s s e
+      (subst (λ b. CopiesDir view lists c alone b (transfer_dir ends) (transfers_at (ends_above ends) works) s (Err e) s (transfers_at ends new)) (sym is.0) (refl, ap Err is.1))
 
   -- A directory was made, or not.
   pub made : (ends : Ends) (works new : List Pending) (s m t : S) (r : Line) (told : Result Unit FsError) → is_deep ends.from ≡ false → view.makes_dir s c ends.to told m

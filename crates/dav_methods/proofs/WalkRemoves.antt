@@ -1,8 +1,7 @@
 -- What a walk that removes does, step by step, is what the table of DELETE says of whole paths.
-use Rattle.std.proofs.Common.{◌≡◌, ◌<◌, ◌≤◌, ◌+◌, ◌^◌, ◌++◌, ℕ, List, [], ◌∷◌, map, length, Bool, true, false, Result, Ok, Err, refl, sym, ap, subst, ◌∙◌, arith}
+use Rattle.std.proofs.Common.{◌≡◌, ◌<◌, List, [], ◌∷◌, length, Bool, true, false, Result, Ok, Err, refl, sym, ap, subst, ◌∙◌, arith, inl, inr}
 use Rattle.std.proofs.lemmas.List.{length-map}
 use Rattle.dav_core.specs.declared.dav_error.DavError.{DavError}
-use Rattle.dav_core.specs.declared.dav_error.DavError.TheVariants.{NoMemory}
 use Rattle.dav_core.specs.declared.error.FsError.{FsError}
 use Rattle.dav_core.specs.DavPath.{WebPath}
 use Rattle.dav_store.specs.View.{View, Listings}
@@ -11,12 +10,12 @@ use Rattle.dav_methods.specs.declared.pending.Pending.{Pending}
 use Rattle.dav_methods.specs.declared.pending.Pending.TheVariants.{Below, Up}
 use Rattle.dav_methods.specs.declared.work.Work.{Work}
 use Rattle.dav_methods.specs.declared.work.Work.TheVariants.{Emptied, Whole}
-use Rattle.dav_methods.specs.Lines.{Line, above}
-use Rattle.dav_methods.specs.Removing.{Removes, RemovesOne, done, goes, is_deep, line_of, stops, works_in}
-use Rattle.dav_methods.specs.Walking.{OpensPending, RemovesOn, member_at, members_at, works_at}
+use Rattle.dav_methods.specs.Lines.{Line, above, fails_when}
+use Rattle.dav_methods.specs.Removing.{RefusesDir, Removes, RemovesOne, done, goes, is_deep, line_of, stops}
+use Rattle.dav_methods.specs.Walking.{ReadsPending, RemovesOn, member_at, members_at, works_at}
 use Rattle.dav_methods.specs.Weights.{weight}
 use Rattle.dav_methods.proofs.Lighter.{members_lighter}
-use Rattle.dav_methods.proofs.Walking.{same_again, slashed, works_joined}
+use Rattle.dav_methods.proofs.Walking.{is_refused, is_shallow, same_again, slashed, works_joined}
 
 module _ {S C F L E : Type 0} (view : View S C F) (lists : Listings S C L E) (c : C) where
   -- the first of the work
@@ -51,18 +50,34 @@ module _ {S C F L E : Type 0} (view : View S C F) (lists : Listings S C L E) (c 
       let done = step (Emptied path) (works_at (above path) works last) (works_at (above path) works last) s t r (gone.0, gone.1, gone.2, refl) in
       subst (λ p. RemovesOn view lists c (works_at path (Up ∷ works) last) s r t (works_at p works last)) (sym up) done
 
+  -- The members of a directory come before what is pending, by whether it is too deep.
+  abbrev pub OpensPending : WebPath → List Pending → S → Line → S → List Pending → Type 0
+  OpensPending path works s (Ok x) t rest = (is_deep path ≡ false) × ReadsPending view lists c path works s (Ok x) t rest
+  OpensPending path works s (Err e) t rest = RefusesDir view lists c path s e t
+
+  pub shallow_opens : (path : WebPath) (works new : List Pending) (s t : S) (r : Line) → Ok tt ≡ fails_when (is_deep path) 403 → ReadsPending view lists c path works s r t new
+      → OpensPending path works s r t new
+  shallow_opens path works new s t (Ok x) passed reads = (is_shallow (is_deep path) passed, reads)
+  shallow_opens path works new s t (Err e) passed (inl (refusal, none, is)) = inr (inl (is_shallow (is_deep path) passed, refusal, none, is))
+  shallow_opens path works new s t (Err e) passed (inr (members, has, short)) = inr (inr (is_shallow (is_deep path) passed, members, has, short))
+
+  pub deep_stays : (path : WebPath) (works new : List Pending) (s : S) (e : DavError) → Err e ≡ fails_when (is_deep path) 403 → OpensPending path works s (Err e) s new
+  deep_stays path works new s e refused =
+      let is = is_refused (is_deep path) e refused in
+      inl (is.0, is.1, refl)
+
   -- A directory was opened, with the way up behind its members.
-  opened : (path : WebPath) (works new : List Pending) (last : List Work) (s t : S) (r : Line) → OpensPending view lists c path (Up ∷ works) s r t new
+  opened : (path : WebPath) (works new : List Pending) (last : List Work) (s t : S) (r : Line) → OpensPending path (Up ∷ works) s r t new
       → RemovesOne view lists c (Whole path true) (works_at (above path) works last) s r t (works_at path new last)
   opened path works new last s t (Ok x) (near, (members, has, few, is)) =
       (near, members_at path members, has, ap (λ ws. works_at path ws last) is ∙ works_joined path members (Up ∷ works) last)
   opened path works new last s t (Err e) refused = refused
 
   pub member_opened : (path below : WebPath) (m : Member) (works pushed new : List Pending) (last : List Work) (s t : S) (r : Line) → path.slash ≡ true → m.dir ≡ true
-      → below ≡ (member_at path m).path → pushed ≡ Up ∷ works → OpensPending view lists c below pushed s r t new
+      → below ≡ (member_at path m).path → pushed ≡ Up ∷ works → OpensPending below pushed s r t new
       → RemovesOn view lists c (works_at path (Below m ∷ works) last) s r t (works_at below new last)
   member_opened path below m works pushed new last s t r slash dir down put opens =
-      let at : OpensPending view lists c below (Up ∷ works) s r t new = subst (λ ws. OpensPending view lists c below ws s r t new) put opens in
+      let at : OpensPending below (Up ∷ works) s r t new = subst (λ ws. OpensPending below ws s r t new) put opens in
       let one = step (Whole below true) (works_at (above below) works last) (works_at below new last) s t r (opened below works new last s t r at) in
       let back : above below ≡ path = ap above down ∙ same_again path m slash in
       let here = subst (λ p. RemovesOn view lists c (Whole below true ∷ works_at p works last) s r t (works_at below new last)) back one in
@@ -70,14 +85,14 @@ module _ {S C F L E : Type 0} (view : View S C F) (lists : Listings S C L E) (c 
       subst (λ b. RemovesOn view lists c (Whole (member_at path m).path b ∷ works_at path works last) s r t (works_at below new last)) (sym dir) named
 
   -- The first directory was opened: it is removed last.
-  pub first_opened : (path below : WebPath) (works new : List Pending) (s t : S) (r : Line) → below ≡ slashed path → works ≡ [] → OpensPending view lists c path works s r t new
+  pub first_opened : (path below : WebPath) (works new : List Pending) (s t : S) (r : Line) → below ≡ slashed path → works ≡ [] → OpensPending path works s r t new
       → RemovesOn view lists c (Whole path true ∷ []) s r t (works_at below new (Emptied path ∷ []))
   first_opened path below works new s t r slash none opens =
-      let at = subst (λ ws. OpensPending view lists c path ws s r t new) none opens in
+      let at = subst (λ ws. OpensPending path ws s r t new) none opens in
       let one = step (Whole path true) [] (works_at (slashed path) new (Emptied path ∷ [])) s t r (first r at) in
       subst (λ p. RemovesOn view lists c (Whole path true ∷ []) s r t (works_at p new (Emptied path ∷ []))) (sym slash) one
     where
-      first : (r : Line) → OpensPending view lists c path [] s r t new → RemovesOne view lists c (Whole path true) [] s r t (works_at (slashed path) new (Emptied path ∷ []))
+      first : (r : Line) → OpensPending path [] s r t new → RemovesOne view lists c (Whole path true) [] s r t (works_at (slashed path) new (Emptied path ∷ []))
       first (Ok x) (near, (members, has, few, is)) = (
         near,
         members_at path members,
@@ -146,7 +161,7 @@ module _ {S C F L E : Type 0} (view : View S C F) (lists : Listings S C L E) (c 
       let same : weight (works_at after works []) ≡ weight (works_at (above path) works []) = ap (λ p. weight (works_at p works [])) up in
       omega (arith, same)
 
-  pub opened_lighter : (path : WebPath) (works new : List Pending) (s t : S) → OpensPending view lists c path (Up ∷ works) s (Ok tt) t new
+  pub opened_lighter : (path : WebPath) (works new : List Pending) (s t : S) → OpensPending path (Up ∷ works) s (Ok tt) t new
       → weight (works_at path new []) < weight (Whole path true ∷ works_at (above path) works [])
   opened_lighter path works new s t (near, (members, has, few, is)) =
       let count : length (members_at path members) ≡ length members = length-map members (member_at path) in
@@ -154,10 +169,10 @@ module _ {S C F L E : Type 0} (view : View S C F) (lists : Listings S C L E) (c 
       (omega (arith, few, count)) refl (ap (λ ws. works_at path ws []) is ∙ works_joined path members (Up ∷ works) [])
 
   pub member_lighter : (path below : WebPath) (m : Member) (works pushed new : List Pending) (s t : S) (r : Line) → path.slash ≡ true → m.dir ≡ true
-      → below ≡ (member_at path m).path → pushed ≡ Up ∷ works → r ≡ Ok tt → OpensPending view lists c below pushed s r t new → weight (works_at below new []) < weight (works_at path (Below m ∷ works) [])
+      → below ≡ (member_at path m).path → pushed ≡ Up ∷ works → r ≡ Ok tt → OpensPending below pushed s r t new → weight (works_at below new []) < weight (works_at path (Below m ∷ works) [])
   member_lighter path below m works pushed new s t r slash dir down put ok opens =
-      let told : OpensPending view lists c below pushed s (Ok tt) t new = subst (λ (x : Line). OpensPending view lists c below pushed s x t new) ok opens in
-      let at : OpensPending view lists c below (Up ∷ works) s (Ok tt) t new = subst (λ ws. OpensPending view lists c below ws s (Ok tt) t new) put told in
+      let told : OpensPending below pushed s (Ok tt) t new = subst (λ (x : Line). OpensPending below pushed s x t new) ok opens in
+      let at : OpensPending below (Up ∷ works) s (Ok tt) t new = subst (λ ws. OpensPending below ws s (Ok tt) t new) put told in
       let less = opened_lighter below works new s t at in
       let back : above below ≡ path = ap above down ∙ same_again path m slash in
       let here : weight (Whole below true ∷ works_at (above below) works []) ≡ weight (Whole below true ∷ works_at path works []) =

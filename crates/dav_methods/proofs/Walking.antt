@@ -1,29 +1,36 @@
 -- A walk's one path stands for the paths of the tables.
-use Rattle.std.proofs.Common.{◌≡◌, ◌<◌, ◌+◌, ◌^◌, ◌++◌, ◌-◌, ℕ, suc, List, [], ◌∷◌, map, length, take, get_or, Bool, true, false, Result, Ok, Err, refl, sym, ap, subst, ◌∙◌, arith, length-append, inl, inr}
+use Rattle.std.proofs.Common.{◌≡◌, ◌<◌, ◌+◌, ◌++◌, ◌-◌, ℕ, List, [], ◌∷◌, map, length, take, get_or, Bool, true, false, Ok, Err, refl, sym, ap, subst, ◌∙◌, arith, length-append}
 use Rattle.std.proofs.Math.Seq.{take-append_seam}
 use Rattle.std.proofs.lemmas.List.{get_or-map, length-map}
 use Rattle.std.specs.Cmp.Lexicographic.{slice_cmp}
 use Rattle.std.specs.List.Sorted.{IsSortedByKey}
 use Rattle.std.specs.Ordering.{is_lt, nat_cmp}
 use Rattle.dav_core.specs.declared.dav_error.DavError.{DavError}
-use Rattle.dav_core.specs.declared.error.FsError.{FsError}
+use Rattle.dav_core.specs.declared.dav_error.DavError.TheVariants.{Status}
 use Rattle.dav_core.specs.DavPath.{WebPath}
 use Rattle.dav_core.specs.Path.{Names, parent_of}
-use Rattle.dav_store.specs.View.{View, Listings}
 use Rattle.dav_methods.specs.declared.child.Child.{Child}
 use Rattle.dav_methods.specs.declared.ends.Ends.{Ends}
 use Rattle.dav_methods.specs.declared.member.Member.{Member}
 use Rattle.dav_methods.specs.declared.pending.Pending.{Pending}
 use Rattle.dav_methods.specs.declared.pending.Pending.TheVariants.{Below, Up}
-use Rattle.dav_methods.specs.declared.transfer.Transfer.{Transfer}
 use Rattle.dav_methods.specs.declared.work.Work.{Work}
-use Rattle.dav_methods.specs.declared.work.Work.TheVariants.{Emptied, Whole}
-use Rattle.dav_methods.specs.Copying.{transfer_of, transfers_in}
-use Rattle.dav_methods.specs.Lines.{Line, above}
-use Rattle.dav_methods.specs.Reading.{child_named}
-use Rattle.dav_methods.specs.Removing.{work_of, works_in}
+use Rattle.dav_methods.specs.declared.work.Work.TheVariants.{Whole}
+use Rattle.dav_methods.specs.Copying.{transfer_of}
+use Rattle.dav_methods.specs.Lines.{above, fails_when}
+use Rattle.dav_methods.specs.Removing.{work_of}
 use Rattle.dav_methods.specs.Walking.{ends_above, ends_below, member_at, members_at, transfers_at, works_at}
 use Rattle.dav_methods.specs.Weights.{weight, weight_of}
+
+-- ---- how deep
+
+pub is_shallow : (deep : Bool) → Ok tt ≡ fails_when deep 403 → deep ≡ false
+is_shallow false e = refl
+is_shallow true e = cc
+
+pub is_refused : (deep : Bool) (e : DavError) → Err e ≡ fails_when deep 403 → (deep ≡ true) × (e ≡ Status 403)
+is_refused true e is = (refl, cc)
+is_refused false e is = cc
 
 -- ---- down and up again
 

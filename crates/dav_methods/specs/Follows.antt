@@ -24,6 +24,7 @@ use Rattle.dav_store.specs.declared.entry.ReadDirMeta.TheVariants.{DataSymlink}
 use Rattle.dav_store.specs.Files.{Spoiled}
 use Rattle.dav_store.specs.Leads.{ListedThrough}
 use Rattle.dav_store.specs.View.{View, Listings, Closes}
+use Rattle.dav_model.specs.CarryPlans.{method_of}
 use Rattle.dav_model.specs.Conditions.{Fields}
 use Rattle.dav_model.specs.Finding.{is_clear, resolved}
 use Rattle.dav_model.specs.Head.{Reply, Stood, refusal}
@@ -32,9 +33,11 @@ use Rattle.dav_model.specs.Rules.{Rules}
 use Rattle.dav_model.specs.Walks.{dir_first, in_order}
 use Rattle.dav_model.specs.Written.{CarriesIn, EndsAs}
 use Rattle.dav_methods.specs.declared.child.Child.{Child}
+use Rattle.dav_methods.specs.Carrying.{CopyMoves}
 use Rattle.dav_methods.specs.Lines.{Given}
 use Rattle.dav_methods.specs.Pouring.{Writes, WritesFile}
 use Rattle.dav_methods.specs.Reading.{HasMembers, HasNoMembers, child_named}
+use Rattle.dav_methods.specs.Table.{Next}
 
 -- ---- answers
 
@@ -212,3 +215,14 @@ module _ {S C F L E : Type 0} (view : View S C F) (lists : Listings S C L E) (wr
   abbrev pub CarriedIn : Rules → Bool → Ask → Turn
   CarriedIn rules moves ask s r t v w = (result : Result Reply Wanting) → answer_or ask.fields r result
       → CarriesIn rules moves ask result (Rose (view.state s).faults (view.state t).faults) v w
+
+  -- A COPY or a MOVE is answered by the plan of what its fields ask for, and makes of the told world what the plan
+  -- says, over a store that follows rules, which neither fold names nor are those of macOS, and finds each path as it
+  -- is asked for.
+  abbrev pub CarriesByPlan : Bool → Type 0
+  CarriesByPlan moves = (rules : Rules) (s : S) → Follows rules s
+      → rules.folds ≡ false → rules.macos ≡ false → rules.alone ≡ None
+      → (path : WebPath) (fields : Fields) (body : List ℕ) (r : Given) (t : S)
+      → Next (CopyMoves view lists c moves rules.settings.prefix path fields) s r t
+      → Told s t (CarriedIn rules moves
+      (record { method = method_of moves; path = path; fields = fields; body = body }) s r t)

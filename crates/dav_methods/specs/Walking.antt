@@ -1,7 +1,6 @@
 -- What stands for what a walk holds: it has one path, at which members are pending, and the ways up to those that are
 -- pending above. The tables speak of whole paths. Private functions alone cite this.
-use Rattle.std.specs.Prelude.{◌≡◌, ◌⊎◌, ◌++◌, ◌<◌, ◌^◌, List, [], ◌∷◌, map, length, Bool, true, false, Result, Ok, Err}
-use Rattle.dav_core.specs.declared.dav_error.DavError.{DavError}
+use Rattle.std.specs.Prelude.{◌≡◌, ◌⊎◌, ◌++◌, ◌<◌, ◌^◌, List, [], ◌∷◌, map, length, Bool, true, Ok, Err}
 use Rattle.dav_core.specs.declared.dav_error.DavError.TheVariants.{NoMemory}
 use Rattle.dav_core.specs.declared.error.FsError.{FsError}
 use Rattle.dav_core.specs.DavPath.{WebPath}
@@ -18,7 +17,7 @@ use Rattle.dav_methods.specs.declared.work.Work.TheVariants.{Emptied, Whole}
 use Rattle.dav_methods.specs.Copying.{Copies, transfer_of}
 use Rattle.dav_methods.specs.Lines.{Line, above}
 use Rattle.dav_methods.specs.Reading.{HasMembers, HasNoMembers, child_named}
-use Rattle.dav_methods.specs.Removing.{RefusesDir, Removes, is_deep}
+use Rattle.dav_methods.specs.Removing.{Removes}
 
 abbrev pub member_at : WebPath → Member → Child
 member_at path m = child_named path m.name m.dir
@@ -59,11 +58,6 @@ module _ {S C F L E : Type 0} (view : View S C F) (lists : Listings S C L E) (c 
   ReadsPending path works s (Err e) t rest = ((refusal : FsError) × HasNoMembers view lists s c path refusal t
       × (e ≡ of_fs refusal))
       ⊎ ((members : List Child) × HasMembers view lists s c path members t × (e ≡ NoMemory))
-
-  -- The same, by whether the directory is too deep.
-  abbrev pub OpensPending : WebPath → List Pending → S → Line → S → List Pending → Type 0
-  OpensPending path works s (Ok x) t rest = (is_deep path ≡ false) × ReadsPending path works s (Ok x) t rest
-  OpensPending path works s (Err e) t rest = RefusesDir view lists c path s e t
 
   -- Removals lead on to others: what these come to, those come to. Or they end with a refusal.
   abbrev pub RemovesOn : List Work → S → Line → S → List Work → Type 0

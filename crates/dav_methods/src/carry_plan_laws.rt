@@ -1,13 +1,7 @@
 //! Laws over the tables of COPY and MOVE and their plans, each the contract of a function that does nothing.
-ghost use Rattle.std.specs.Prelude.{◌≡◌, ℕ, List, None, false, true};
-ghost use Rattle.dav_core.specs.declared.method.DavMethod.TheVariants.{Copy, Move};
-ghost use Rattle.dav_core.specs.DavPath.{WebPath};
+ghost use Rattle.std.specs.Prelude.{false, true};
 ghost use Rattle.dav_store.specs.View.{the_listings, the_view};
-ghost use Rattle.dav_model.specs.Conditions.{Fields};
-ghost use Rattle.dav_model.specs.Rules.{Rules};
-ghost use Rattle.dav_methods.specs.Carrying.{CopiesTo, MovesTo};
-ghost use Rattle.dav_methods.specs.Follows.{CarriedIn, Follows, Told};
-ghost use Rattle.dav_methods.specs.Lines.{Given};
+ghost use Rattle.dav_methods.specs.Follows.{CarriesByPlan};
 
 use dav_store::GuardedFileSystem;
 
@@ -15,31 +9,13 @@ use dav_store::GuardedFileSystem;
 /// for, a MOVE is answered by the plan of what its fields ask for, and makes of the told world what the plan says: what
 /// stands at the destination goes, and then what stands at the source is moved there in one change.
 pub fn moves_follow_their_plan<S: GuardedFileSystem<C>, C>()
-    ensures { (c : C) (rules : Rules) (s : S) → Follows (the_view S.GuardedFileSystem S.Disk.Disk S.File.DavFile)
-        (the_listings S.GuardedFileSystem S.Entry.DavDirEntry) S.File.writes c rules s
-        → rules.folds ≡ false → rules.macos ≡ false → rules.alone ≡ None
-        → (path : WebPath) (fields : Fields) (body : List ℕ) (r : Given) (t : S)
-        → MovesTo (the_view S.GuardedFileSystem S.Disk.Disk S.File.DavFile)
-        (the_listings S.GuardedFileSystem S.Entry.DavDirEntry) c rules.settings.prefix path fields s r t
-        → Told (the_view S.GuardedFileSystem S.Disk.Disk S.File.DavFile)
-        (the_listings S.GuardedFileSystem S.Entry.DavDirEntry) S.File.writes c s t
-        (CarriedIn (the_view S.GuardedFileSystem S.Disk.Disk S.File.DavFile)
-        (the_listings S.GuardedFileSystem S.Entry.DavDirEntry) S.File.writes c rules true
-        (record { method = Move; path = path; fields = fields; body = body }) s r t) }
+    ensures { (c : C) → CarriesByPlan (the_view S.GuardedFileSystem S.Disk.Disk S.File.DavFile)
+        (the_listings S.GuardedFileSystem S.Entry.DavDirEntry) S.File.writes c true }
 {}
 
 /// Likewise a COPY: what stands at the destination goes, and then what stands at the source is made again there, a
 /// directory before its members, these in the order of their names; after a refusal what was done stays done.
 pub fn copies_follow_their_plan<S: GuardedFileSystem<C>, C>()
-    ensures { (c : C) (rules : Rules) (s : S) → Follows (the_view S.GuardedFileSystem S.Disk.Disk S.File.DavFile)
-        (the_listings S.GuardedFileSystem S.Entry.DavDirEntry) S.File.writes c rules s
-        → rules.folds ≡ false → rules.macos ≡ false → rules.alone ≡ None
-        → (path : WebPath) (fields : Fields) (body : List ℕ) (r : Given) (t : S)
-        → CopiesTo (the_view S.GuardedFileSystem S.Disk.Disk S.File.DavFile)
-        (the_listings S.GuardedFileSystem S.Entry.DavDirEntry) c rules.settings.prefix path fields s r t
-        → Told (the_view S.GuardedFileSystem S.Disk.Disk S.File.DavFile)
-        (the_listings S.GuardedFileSystem S.Entry.DavDirEntry) S.File.writes c s t
-        (CarriedIn (the_view S.GuardedFileSystem S.Disk.Disk S.File.DavFile)
-        (the_listings S.GuardedFileSystem S.Entry.DavDirEntry) S.File.writes c rules false
-        (record { method = Copy; path = path; fields = fields; body = body }) s r t) }
+    ensures { (c : C) → CarriesByPlan (the_view S.GuardedFileSystem S.Disk.Disk S.File.DavFile)
+        (the_listings S.GuardedFileSystem S.Entry.DavDirEntry) S.File.writes c false }
 {}

@@ -2,7 +2,7 @@
 ghost use Rattle.std.specs.Prelude.{◌≡◌, ◌⊎◌, Ok, Err};
 ghost use Rattle.dav_store.specs.Frames.{KeepsOpen};
 ghost use Rattle.dav_store.specs.View.{the_listings, the_view};
-ghost use Rattle.dav_methods.specs.Carrying.{Arrives, Carries, CopiesTo, Goes, Leaves, MovesTo, Replaces};
+ghost use Rattle.dav_methods.specs.Carrying.{Arrives, CopiesTo, CopyMoves, Goes, Leaves, MovesTo, Replaces};
 ghost use Rattle.dav_model.specs.CarryPlans.{method_of as the_method_of};
 ghost use Rattle.dav_methods.specs.Lines.{fails_when};
 ghost use Rattle.dav_model.specs.Overlap.{overlap};
@@ -194,30 +194,35 @@ fn leave<S: GuardedFileSystem<C>, C>(
     arrive_if(alloc, fs, credentials, asked, path, meta.is_dir(), may)
 }
 
-// Does what is asked for.
+// Does what the fields ask for, read under a prefix.
 fn carry<S: GuardedFileSystem<C>, C>(
     alloc: Global,
     fs: &mut S,
     credentials: &C,
+    moving: bool,
     path: &DavPath,
     fields: &HeaderMap,
-    asked: &Asked,
+    prefix: &str,
 ) -> Result<Outcome, DavError>
     requires admits { S.admits fs.old }
-    ensures table { Carries (the_view S.GuardedFileSystem S.Disk.Disk S.File.DavFile)
-        (the_listings S.GuardedFileSystem S.Entry.DavDirEntry) credentials.now path.now fields.now (Ok asked.now)
+    ensures table { Next (CopyMoves (the_view S.GuardedFileSystem S.Disk.Disk S.File.DavFile)
+        (the_listings S.GuardedFileSystem S.Entry.DavDirEntry) credentials.now moving prefix.now path.now fields.now)
         fs.old result fs.new }
     ensures keeps { KeepsOpen (S.Disk.state (S.inside fs.old)) (S.Disk.state (S.inside fs.new)) }
     ensures admits { S.admits fs.new }
     ensures loan { S.Disk.loan (S.inside fs.new) ≡ S.Disk.loan (S.inside fs.old) }
 {
+    let asked = match asked(alloc, moving, fields, prefix) {
+        Ok(asked) => asked,
+        Err(error) => return Err(error),
+    };
     let folds = fs.folds();
     let meta = match fs.metadata(path, credentials) {
         Ok(meta) => meta,
         Err(refusal) => return Err(DavError::from(refusal)),
     };
     match pass_apart(alloc, folds, path, &asked.to) {
-        Ok(()) => leave(alloc, fs, credentials, asked, path, fields, &meta),
+        Ok(()) => leave(alloc, fs, credentials, &asked, path, fields, &meta),
         Err(error) => Err(error),
     }
 }
@@ -254,11 +259,7 @@ pub fn copy<S: GuardedFileSystem<C>, C>(
     ensures admits { S.admits fs.new }
     ensures loan { S.Disk.loan (S.inside fs.new) ≡ S.Disk.loan (S.inside fs.old) }
 {
-    let asked = match asked(alloc, false, fields, prefix) {
-        Ok(asked) => asked,
-        Err(error) => return Err(error),
-    };
-    carry(alloc, fs, credentials, path, fields, &asked)
+    carry(alloc, fs, credentials, false, path, fields, prefix)
 }
 
 /// Answers a MOVE (RFC 4918, section 9.9) over any store, by a renaming. All else is as for `copy`, save that Depth may
@@ -279,9 +280,5 @@ pub fn move_to<S: GuardedFileSystem<C>, C>(
     ensures admits { S.admits fs.new }
     ensures loan { S.Disk.loan (S.inside fs.new) ≡ S.Disk.loan (S.inside fs.old) }
 {
-    let asked = match asked(alloc, true, fields, prefix) {
-        Ok(asked) => asked,
-        Err(error) => return Err(error),
-    };
-    carry(alloc, fs, credentials, path, fields, &asked)
+    carry(alloc, fs, credentials, true, path, fields, prefix)
 }

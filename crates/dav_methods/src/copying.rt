@@ -14,11 +14,10 @@ ghost use Rattle.dav_methods.specs.declared.work.Work.TheVariants.{Whole};
 use crate::ends::Ends;
 use crate::member::Member;
 use crate::pending::{Pending, read_pending};
-use crate::removing::{is_deep, line_of};
+use crate::removing::{line_of, pass_shallow};
 use dav_core::{DavError, DavPath};
 use dav_io::NoMemory;
 use dav_store::GuardedFileSystem;
-use http::StatusCode;
 use std::alloc::Global;
 use std::collections::VecDeque;
 
@@ -59,9 +58,7 @@ fn copy_dir<S: GuardedFileSystem<C>, C>(
     ensures admits { S.admits fs.new }
     ensures loan { S.Disk.loan (S.inside fs.new) ≡ S.Disk.loan (S.inside fs.old) }
 {
-    if is_deep(&ends.from) {
-        return Err(DavError::Status(StatusCode::FORBIDDEN));
-    }
+    pass_shallow(&ends.from)?;
     let Ok(()) = works.push_front(Pending::Up) else {
         return Err(DavError::NoMemory);
     };

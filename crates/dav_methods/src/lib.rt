@@ -35,7 +35,7 @@ pub use conditions::{if_match, ifrange_match, ranges_are_heard, reads};
 pub use copy_laws::copies_are_listed;
 pub use fields::first_value;
 pub use laws::{answers_are_listed, writes_follow_their_plans, writes_lead_on};
-pub use making::{mkaddressbook, mkcalendar, mkcol};
+pub use making::{mkcalendar, mkcalendar as mkaddressbook, mkcol};
 pub use putting::{put, put_whole};
 pub use removal_laws::{removals_are_listed, removals_follow_their_plan};
 pub use removing::delete;

@@ -97,29 +97,8 @@ pub fn mkcol<S: GuardedFileSystem<C>, C>(
     make_if(alloc, fs, credentials, path, may)
 }
 
-// MKCALENDAR and MKADDRESSBOOK.
-fn make_unless_there<S: GuardedFileSystem<C>, C>(
-    alloc: Global,
-    fs: &mut S,
-    credentials: &C,
-    path: &DavPath,
-) -> Result<Outcome, DavError>
-    ensures table { MkCalendars (the_view S.GuardedFileSystem S.Disk.Disk S.File.DavFile) credentials.now path.now
-        fs.old result fs.new }
-    ensures keeps { KeepsOpen (S.Disk.state (S.inside fs.old)) (S.Disk.state (S.inside fs.new)) }
-    ensures admits { S.admits fs.old → S.admits fs.new }
-    ensures loan { S.Disk.loan (S.inside fs.new) ≡ S.Disk.loan (S.inside fs.old) }
-{
-    match fs.metadata(path, credentials) {
-        Ok(_) => Err(DavError::StatusClose(StatusCode::METHOD_NOT_ALLOWED)),
-        Err(refusal) => {
-            pass_unfailed(refusal)?;
-            make(alloc, fs, credentials, path)
-        }
-    }
-}
-
-/// Answers a MKCALENDAR (RFC 4791, section 5.3.1) over any store: 201 where a directory was made. No field counts.
+/// Answers a MKCALENDAR (RFC 4791, section 5.3.1) or a MKADDRESSBOOK over any store: 201 where a directory was made. No
+/// field counts.
 ///
 /// Errors, in this order: 405 where something stands at the path, and the connection closes; a look there that failed;
 /// the refusal of the making, also where nothing stands above; and want of memory. `table` tells which call of the
@@ -137,22 +116,11 @@ pub fn mkcalendar<S: GuardedFileSystem<C>, C>(
     ensures admits { S.admits fs.old → S.admits fs.new }
     ensures loan { S.Disk.loan (S.inside fs.new) ≡ S.Disk.loan (S.inside fs.old) }
 {
-    make_unless_there(alloc, fs, credentials, path)
-}
-
-/// Answers a MKADDRESSBOOK, as `mkcalendar` answers a MKCALENDAR.
-pub fn mkaddressbook<S: GuardedFileSystem<C>, C>(
-    alloc: Global,
-    fs: &mut S,
-    credentials: &C,
-    path: &DavPath,
-    _fields: &HeaderMap,
-) -> Result<Outcome, DavError>
-    ensures table { MkCalendars (the_view S.GuardedFileSystem S.Disk.Disk S.File.DavFile) credentials.now path.now
-        fs.old result fs.new }
-    ensures keeps { KeepsOpen (S.Disk.state (S.inside fs.old)) (S.Disk.state (S.inside fs.new)) }
-    ensures admits { S.admits fs.old → S.admits fs.new }
-    ensures loan { S.Disk.loan (S.inside fs.new) ≡ S.Disk.loan (S.inside fs.old) }
-{
-    make_unless_there(alloc, fs, credentials, path)
+    match fs.metadata(path, credentials) {
+        Ok(_) => Err(DavError::StatusClose(StatusCode::METHOD_NOT_ALLOWED)),
+        Err(refusal) => {
+            pass_unfailed(refusal)?;
+            make(alloc, fs, credentials, path)
+        }
+    }
 }

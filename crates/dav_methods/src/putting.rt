@@ -4,7 +4,7 @@ ghost use Rattle.dav_core.specs.Unchanged.{Keeps};
 ghost use Rattle.dav_store.specs.Frames.{KeepsOpen};
 ghost use Rattle.dav_store.specs.View.{the_view};
 ghost use Rattle.dav_methods.specs.Lines.{made, may_put, silent as the_silent, unless};
-ghost use Rattle.dav_methods.specs.Putting.{AfterChecks, AfterChecksWhole, MayPut, MayReplace, Puts, PutsWhole, put_options as the_put_options};
+ghost use Rattle.dav_methods.specs.Putting.{AfterChecks, AfterChecksWhole, MayPut, Puts, PutsWhole, put_options as the_put_options};
 
 use crate::lines::{may_put_new, may_put_over, pass_parent};
 use crate::outcomes::{answer, answer_written, created, silent};
@@ -49,26 +49,6 @@ fn put_new(alloc: Global, fields: &HeaderMap, refusal: FsError) -> Result<Outcom
     answer(may_put_new(alloc, fields, refusal), outcome)
 }
 
-// Refuses what a PUT may not replace, and gives the answer to be given where all goes well.
-fn may_replace<S: GuardedFileSystem<C>, C>(
-    alloc: Global,
-    fs: &mut S,
-    credentials: &C,
-    path: &DavPath,
-    fields: &HeaderMap,
-) -> Result<Outcome, DavError>
-    ensures table { MayReplace (the_view S.GuardedFileSystem S.Disk.Disk S.File.DavFile) credentials.now path.now
-        fields.now fs.old result fs.new }
-    ensures keeps { Keeps (S.Disk.state (S.inside fs.old)) (S.Disk.state (S.inside fs.new)) }
-    ensures admits { S.admits fs.old → S.admits fs.new }
-    ensures loan { S.Disk.loan (S.inside fs.new) ≡ S.Disk.loan (S.inside fs.old) }
-{
-    match fs.metadata(path, credentials) {
-        Ok(meta) => put_over(alloc, fields, &meta),
-        Err(refusal) => put_new(alloc, fields, refusal),
-    }
-}
-
 // Refuses a PUT before anything is opened, and gives the answer to be given where all goes well.
 fn check<S: GuardedFileSystem<C>, C>(
     alloc: Global,
@@ -88,7 +68,10 @@ fn check<S: GuardedFileSystem<C>, C>(
     }
     let above = path.parent()?;
     pass_parent(fs, credentials, &above)?;
-    may_replace(alloc, fs, credentials, path, fields)
+    match fs.metadata(path, credentials) {
+        Ok(meta) => put_over(alloc, fields, &meta),
+        Err(refusal) => put_new(alloc, fields, refusal),
+    }
 }
 
 // Opens the file, writes the body to it, and closes it.

@@ -1,5 +1,5 @@
 // The members of a directory, for the methods that walk. Nothing is passed over.
-ghost use Rattle.std.specs.Prelude.{◌≡◌, ◌++◌, ◌∷◌, [], Result, MatchResult, OnOk, true};
+ghost use Rattle.std.specs.Prelude.{◌≡◌, ◌⊎◌, ◌++◌, ◌∷◌, [], Result, MatchResult, IfErr, IfOk, IsOk, IsOkAnd, OnOk, Err, true};
 ghost use Rattle.std.specs.List.Sorted.{IsPermutation, IsSortedByKey};
 ghost use Rattle.std.specs.Cmp.Lexicographic.{slice_cmp};
 ghost use Rattle.std.specs.Ordering.{nat_cmp};
@@ -10,7 +10,7 @@ ghost use Rattle.dav_core.specs.Path.{is_plain};
 ghost use Rattle.dav_core.specs.Unchanged.{Keeps};
 ghost use Rattle.dav_store.specs.Listings.{HasLister, KeepsButLister};
 ghost use Rattle.dav_store.specs.View.{the_listings, the_view};
-ghost use Rattle.dav_methods.specs.Reading.{AddsChild, HasMembers, HasNoMembers, Listed, ReadRefused, ReadsAll};
+ghost use Rattle.dav_methods.specs.Reading.{AddsChild, HasMembers, HasNoMembers, ReadRefused, ReadsAll};
 ghost use Rattle.dav_methods.specs.Walking.{members_at};
 
 use crate::member::Member;
@@ -97,43 +97,24 @@ fn read_to_end<S: GuardedFileSystem<C>, C>(
     }
 }
 
-// The members of the directory at a path, in the order of its listing, which is read to its end and ended.
-fn read_listing<S: GuardedFileSystem<C>, C>(
-    alloc: Global,
-    fs: &mut S,
-    credentials: &C,
-    path: &DavPath,
-) -> Result<Vec<Member>, FsError>
-    requires admits { S.admits fs.old }
-    ensures read { MatchResult result
-        (λ members. Listed (the_view S.GuardedFileSystem S.Disk.Disk S.File.DavFile)
-        (the_listings S.GuardedFileSystem S.Entry.DavDirEntry) fs.old credentials.now path.now
-        (members_at path.now members.items) fs.new)
-        (λ e. HasNoMembers (the_view S.GuardedFileSystem S.Disk.Disk S.File.DavFile)
-        (the_listings S.GuardedFileSystem S.Entry.DavDirEntry) fs.old credentials.now path.now e fs.new) }
-    ensures keeps { Keeps (S.Disk.state (S.inside fs.old)) (S.Disk.state (S.inside fs.new)) }
-    ensures admits { S.admits fs.new }
-    ensures loan { S.Disk.loan (S.inside fs.new) ≡ S.Disk.loan (S.inside fs.old) }
+// What was read of a listing, its members in the order of their names, by bytes.
+fn in_order(read: Result<Vec<Member>, FsError>) -> Result<Vec<Member>, FsError>
+    ensures each_once { IfOk result (λ members. IsOkAnd read (λ was. IsPermutation was.items members.items)) }
+    ensures in_order { IfOk result (λ members. IsSortedByKey (λ m. m.name) (slice_cmp nat_cmp) members.items) }
+    ensures refused { IfErr result (λ e. (read ≡ Err e) ⊎ (IsOk read × (e ≡ FsError.NoMemory))) }
 {
-    let mut dir = match fs.read_dir(path, ReadDirMeta::DataSymlink, credentials) {
-        Ok(dir) => dir,
+    let mut members = match read {
+        Ok(members) => members,
         Err(refusal) => return Err(refusal),
     };
-    let read = read_to_end(alloc, fs, &mut dir);
-    fs.end_dir(dir);
-    read
+    match members.sort_by(|one, other| one.name.as_text().cmp(other.name.as_text())) {
+        Ok(()) => Ok(members),
+        Err(_) => Err(FsError::NoMemory),
+    }
 }
 
-// Brings members into the order of their names.
-fn sort(members: &mut Vec<Member>) -> Result<(), NoMemory>
-    ensures each_once { OnOk result (IsPermutation members.old.items members.new.items) }
-    ensures in_order { OnOk result (IsSortedByKey (λ m. m.name) (slice_cmp nat_cmp) members.new.items) }
-{
-    members.sort_by(|one, other| one.name.as_text().cmp(other.name.as_text()))?;
-    Ok(())
-}
-
-// The members of the directory at a path, in the order of their names, by bytes.
+// The members of the directory at a path, in the order of their names, by bytes. Its listing is read to its end and
+// ended.
 pub fn read_members<S: GuardedFileSystem<C>, C>(
     alloc: Global,
     fs: &mut S,
@@ -151,12 +132,11 @@ pub fn read_members<S: GuardedFileSystem<C>, C>(
     ensures admits { S.admits fs.new }
     ensures loan { S.Disk.loan (S.inside fs.new) ≡ S.Disk.loan (S.inside fs.old) }
 {
-    let mut members = match read_listing(alloc, fs, credentials, path) {
-        Ok(members) => members,
+    let mut dir = match fs.read_dir(path, ReadDirMeta::DataSymlink, credentials) {
+        Ok(dir) => dir,
         Err(refusal) => return Err(refusal),
     };
-    let Ok(()) = sort(&mut members) else {
-        return Err(FsError::NoMemory);
-    };
-    Ok(members)
+    let read = read_to_end(alloc, fs, &mut dir);
+    fs.end_dir(dir);
+    in_order(read)
 }

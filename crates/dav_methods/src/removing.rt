@@ -1,11 +1,11 @@
 //! DELETE: what stands at a path is removed, a directory's members before it.
-ghost use Rattle.std.specs.Prelude.{◌≡◌, ◌<◌, ◌∷◌, [], List, true, Ok, Result};
-ghost use Rattle.dav_core.specs.declared.error.FsError.{FsError};
+ghost use Rattle.std.specs.Prelude.{◌≡◌, ◌<◌, ◌∷◌, [], List, true, Ok};
 ghost use Rattle.dav_store.specs.Frames.{KeepsOpen};
 ghost use Rattle.dav_store.specs.View.{the_listings, the_view};
-ghost use Rattle.dav_methods.specs.Removing.{Deletes, Removes, RemovesAll, is_deep as the_is_deep, is_root as the_is_root, line_of as the_line_of};
+ghost use Rattle.dav_methods.specs.Lines.{fails_when};
+ghost use Rattle.dav_methods.specs.Removing.{Deletes, Removes, RemovesAll, is_deep, is_root as the_is_root, line_of as the_line_of};
 ghost use Rattle.dav_methods.specs.Table.{Next, Unless};
-ghost use Rattle.dav_methods.specs.Walking.{OpensPending, RemovesOn, works_at};
+ghost use Rattle.dav_methods.specs.Walking.{RemovesOn, works_at};
 ghost use Rattle.dav_methods.specs.Weights.{weight};
 ghost use Rattle.dav_methods.specs.declared.pending.Pending.TheVariants.{Below};
 ghost use Rattle.dav_methods.specs.declared.work.Work.{Work};
@@ -35,65 +35,14 @@ pub fn line_of(answer: Result<(), FsError>) -> Result<(), DavError>
     }
 }
 
-// Whether a path has too many names to be walked into.
-pub fn is_deep(path: &DavPath) -> bool
-    ensures { result ≡ the_is_deep path.now }
+// Refuses a directory whose path has too many names to be walked into.
+pub fn pass_shallow(path: &DavPath) -> Result<(), DavError>
+    ensures { result ≡ fails_when (is_deep path.now) 403 }
 {
-    path.names().as_slice().len() > MOST_NAMES
-}
-
-// Puts the members of a directory before what is pending.
-fn open_dir<S: GuardedFileSystem<C>, C>(
-    alloc: Global,
-    fs: &mut S,
-    credentials: &C,
-    path: &DavPath,
-    works: &mut VecDeque<Pending>,
-) -> Result<(), DavError>
-    requires admits { S.admits fs.old }
-    ensures opens { OpensPending (the_view S.GuardedFileSystem S.Disk.Disk S.File.DavFile)
-        (the_listings S.GuardedFileSystem S.Entry.DavDirEntry) credentials.now path.now works.old.items fs.old
-        result fs.new works.new.items }
-    ensures keeps { KeepsOpen (S.Disk.state (S.inside fs.old)) (S.Disk.state (S.inside fs.new)) }
-    ensures admits { S.admits fs.new }
-    ensures loan { S.Disk.loan (S.inside fs.new) ≡ S.Disk.loan (S.inside fs.old) }
-{
-    if is_deep(path) {
+    if path.names().as_slice().len() > MOST_NAMES {
         return Err(DavError::Status(StatusCode::FORBIDDEN));
     }
-    read_pending(alloc, fs, credentials, path, works)
-}
-
-// Removes what stands at a path and is no directory.
-fn remove_file<S: GuardedFileSystem<C>, C>(
-    fs: &mut S,
-    credentials: &C,
-    path: &DavPath,
-) -> Result<(), DavError>
-    requires admits { S.admits fs.old }
-    ensures removes { (gone : Result Unit FsError) × S.removes_file fs.old credentials.now path.now gone fs.new
-        × (result ≡ the_line_of gone) }
-    ensures keeps { KeepsOpen (S.Disk.state (S.inside fs.old)) (S.Disk.state (S.inside fs.new)) }
-    ensures admits { S.admits fs.new }
-    ensures loan { S.Disk.loan (S.inside fs.new) ≡ S.Disk.loan (S.inside fs.old) }
-{
-    line_of(fs.remove_file(path, credentials))
-}
-
-// Removes a directory that has lost its members.
-fn remove_dir<S: GuardedFileSystem<C>, C>(
-    fs: &mut S,
-    credentials: &C,
-    path: &DavPath,
-) -> Result<(), DavError>
-    requires admits { S.admits fs.old }
-    ensures removes { (gone : Result Unit FsError) × S.removes_dir fs.old credentials.now path.now gone fs.new
-        × (result ≡ the_line_of gone) }
-    ensures keeps { KeepsOpen (S.Disk.state (S.inside fs.old)) (S.Disk.state (S.inside fs.new)) }
-    ensures admits { S.admits fs.new }
-    ensures loan { S.Disk.loan (S.inside fs.new) ≡ S.Disk.loan (S.inside fs.old) }
-{
-    line_of(fs.remove_dir(path, credentials))
+    Ok(())
 }
 
 // Goes down to a member: a file is removed there, and of a directory the members come before what is pending.
@@ -122,14 +71,15 @@ fn remove_member<S: GuardedFileSystem<C>, C>(
         return Err(DavError::NoMemory);
     };
     if !member.dir {
-        let gone = remove_file(fs, credentials, path);
+        let gone = line_of(fs.remove_file(path, credentials));
         path.pop_segment();
         return gone;
     }
+    pass_shallow(path)?;
     let Ok(()) = works.push_front(Pending::Up) else {
         return Err(DavError::NoMemory);
     };
-    open_dir(alloc, fs, credentials, path, works)
+    read_pending(alloc, fs, credentials, path, works)
 }
 
 // Does the first of what is pending.
@@ -157,7 +107,7 @@ fn remove_one<S: GuardedFileSystem<C>, C>(
     match work {
         Pending::Below(member) => remove_member(alloc, fs, credentials, path, &member, works),
         Pending::Up => {
-            let gone = remove_dir(fs, credentials, path);
+            let gone = line_of(fs.remove_dir(path, credentials));
             path.pop_segment();
             gone
         }
@@ -210,12 +160,13 @@ fn empty_dir<S: GuardedFileSystem<C>, C>(
     ensures admits { S.admits fs.new }
     ensures loan { S.Disk.loan (S.inside fs.new) ≡ S.Disk.loan (S.inside fs.old) }
 {
+    pass_shallow(path)?;
     let Ok(mut below) = path.try_clone() else {
         return Err(DavError::NoMemory);
     };
     below.add_slash();
     let mut works = VecDeque::new(alloc);
-    match open_dir(alloc, fs, credentials, path, &mut works) {
+    match read_pending(alloc, fs, credentials, path, &mut works) {
         Ok(()) => remove_pending(alloc, fs, credentials, below, works),
         Err(error) => Err(error),
     }
@@ -238,10 +189,10 @@ pub fn remove_all<S: GuardedFileSystem<C>, C>(
     ensures loan { S.Disk.loan (S.inside fs.new) ≡ S.Disk.loan (S.inside fs.old) }
 {
     if !dir {
-        return remove_file(fs, credentials, path);
+        return line_of(fs.remove_file(path, credentials));
     }
     match empty_dir(alloc, fs, credentials, path) {
-        Ok(()) => remove_dir(fs, credentials, path),
+        Ok(()) => line_of(fs.remove_dir(path, credentials)),
         Err(error) => Err(error),
     }
 }

@@ -8,7 +8,7 @@ use Rattle.dav_methods.proofs.removing.remove_one.Goals as goal
 pub returns-in-Up-clause-removes : goal.returns-in-Up-clause-removes
 returns-in-Up-clause-removes g c = λ last.
     subst (λ (work : Pending). RemovesOn (the_view g.S.GuardedFileSystem g.S.Disk.Disk g.S.File.DavFile) (the_listings g.S.GuardedFileSystem g.S.Entry.DavDirEntry) c.args.credentials.now
-    (works_at c.args.path.now (work ∷ c.args.works.now.items) last) c.args.fs.now c.remove_dir-gone.result c.remove_dir-gone.new.fs
+    (works_at c.args.path.now (work ∷ c.args.works.now.items) last) c.args.fs.now c.line_of-gone.result c.remove_dir.new.self
     (works_at c.pop_segment.new.self c.args.works.now.items last)) (sym c.in-Up.is)
-    (dir_done (the_view g.S.GuardedFileSystem g.S.Disk.Disk g.S.File.DavFile) (the_listings g.S.GuardedFileSystem g.S.Entry.DavDirEntry) c.args.credentials.now c.args.path.now c.pop_segment.new.self c.args.works.now.items last c.args.fs.now c.remove_dir-gone.new.fs
-    c.remove_dir-gone.result c.pop_segment.ensures c.remove_dir-gone.ensures.removes)
+    (dir_done (the_view g.S.GuardedFileSystem g.S.Disk.Disk g.S.File.DavFile) (the_listings g.S.GuardedFileSystem g.S.Entry.DavDirEntry) c.args.credentials.now c.args.path.now c.pop_segment.new.self c.args.works.now.items last c.args.fs.now c.remove_dir.new.self
+    c.line_of-gone.result c.pop_segment.ensures (c.remove_dir.result, c.remove_dir.ensures.done, c.line_of-gone.ensures))

@@ -1,4 +1,4 @@
-use Rattle.std.proofs.Common.{Ok, Err, [], refl, ap, ◌∙◌, arith}
+use Rattle.std.proofs.Common.{Err, [], refl, ap, ◌∙◌, arith}
 use Rattle.dav_store.specs.View.{the_listings, the_view}
 use Rattle.dav_methods.specs.Walking.{works_at}
 use Rattle.dav_methods.specs.Weights.{weight}
