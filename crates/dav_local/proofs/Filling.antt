@@ -29,12 +29,13 @@ reads_kept : (s m t : DiskState) (d e : ListingState) (name : List ℕ) (entry :
 reads_kept s m t d e name entry on gives keeps (inl is) = (Ok (Some name), m, on, (Ok entry, gives, is))
 reads_kept s m t d e name entry on gives keeps (inr is) = (Ok (Some name), m, on, (Err fs.NoMemory, (refl, keeps), is))
 
--- the same, where the listing is given by its parts
-pub reads_kept_at : (s m t : DiskState) (v d e : ListingState) (name : List ℕ) (entry : LocalFsDirEntry) → v ≡ d → ListsOn s v.lister.0 (Ok (Some name)) m → GivesEntry name v.path v.wanted m (Ok entry) t
-    → Keeps m t → (e ≡ with_given d (Ok entry)) ⊎ (e ≡ with_given d (Err fs.NoMemory)) → ReadsOne s d t e
-reads_kept_at s m t v d e name entry same on gives keeps either =
-    reads_kept s m t d e name entry (subst (λ (x : ListingState). ListsOn s x.lister.0 (Ok (Some name)) m) same on)
-    (subst (λ (x : ListingState). GivesEntry name x.path x.wanted m (Ok entry) t) same gives) keeps either
+-- the same, where the listing is given by its parts, and by those that it has after the call
+pub reads_kept_at : (s m t : DiskState) (v d x e : ListingState) (name : List ℕ) (entry : LocalFsDirEntry) → v ≡ d → x ≡ v → ListsOn s v.lister.0 (Ok (Some name)) m → GivesEntry name v.path v.wanted m (Ok entry) t
+    → Keeps m t → (e ≡ with_given x (Ok entry)) ⊎ (e ≡ with_given x (Err fs.NoMemory)) → ReadsOne s d t e
+reads_kept_at s m t v d x e name entry same stays on gives keeps either =
+    reads_kept s m t d e name entry (subst (λ (y : ListingState). ListsOn s y.lister.0 (Ok (Some name)) m) same on)
+    (subst (λ (y : ListingState). GivesEntry name y.path y.wanted m (Ok entry) t) same gives) keeps
+    (subst (λ (y : ListingState). (e ≡ with_given y (Ok entry)) ⊎ (e ≡ with_given y (Err fs.NoMemory))) (stays ∙ same) either)
 
 -- ---- how many answers are to come
 

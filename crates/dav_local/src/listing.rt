@@ -4,7 +4,7 @@ ghost use Rattle.dav_core.specs.Unchanged.{Keeps};
 ghost use Rattle.dav_store.specs.Listings.{GoesOn, HasLister, ListsOne, Nearer};
 ghost use Rattle.dav_local.specs.Listing.{Begins, Filled, GivesEntry, Gives, NextEntry, ReadsOne, Refilled, is_ended as the_is_ended, stopped, to_come, with_given};
 
-use crate::lists::{begin_list, next_name};
+use crate::lists::{begin_list, look_by, next_name};
 use crate::meta::said;
 use crate::{EntryMeta, LocalFsDirEntry};
 use dav_core::{Disk, DiskError, FsError, FsPath, Lister};
@@ -102,27 +102,35 @@ pub fn begin<D: Disk>(disk: &mut D, path: FsPath, wanted: ReadDirMeta) -> Result
     }
 }
 
-// The entry of a name that the disk gave.
+// The entry of a name that the disk gave. The path of the directory is that of the member while the disk is asked.
 fn entry_of<D: Disk>(
     disk: &mut D,
-    dir: &FsPath,
+    dir: &mut FsPath,
     wanted: ReadDirMeta,
     name: Text,
 ) -> Result<LocalFsDirEntry, FsError>
     requires { is_plain name ≡ true }
-    ensures done { GivesEntry name dir.now wanted (D.state disk.old) result (D.state disk.new) }
+    ensures done { GivesEntry name dir.old wanted (D.state disk.old) result (D.state disk.new) }
+    ensures path { dir.new ≡ dir.old }
     ensures keeps { Keeps (D.state disk.old) (D.state disk.new) }
     ensures loan { D.loan disk.new ≡ D.loan disk.old }
 {
-    let Ok(path) = dir.child(name.as_str()) else {
+    let follows = match wanted {
+        ReadDirMeta::Data => true,
+        ReadDirMeta::DataSymlink => false,
+        ReadDirMeta::None => {
+            let Ok(path) = dir.child(name.as_str()) else {
+                return Err(FsError::NoMemory);
+            };
+            return Ok(LocalFsDirEntry::new(name, EntryMeta::At(path)));
+        }
+    };
+    let Ok(()) = dir.push(name.as_str()) else {
         return Err(FsError::NoMemory);
     };
-    let meta = match wanted {
-        ReadDirMeta::Data => EntryMeta::Read(said(disk.meta(&path))),
-        ReadDirMeta::DataSymlink => EntryMeta::Read(said(disk.link_meta(&path))),
-        ReadDirMeta::None => EntryMeta::At(path),
-    };
-    Ok(LocalFsDirEntry::new(name, meta))
+    let answer = look_by(disk, follows, dir);
+    dir.pop();
+    Ok(LocalFsDirEntry::new(name, EntryMeta::Read(said(answer))))
 }
 
 // Asks the disk for one name more.
@@ -135,7 +143,7 @@ fn read_one<D: Disk>(disk: &mut D, dir: &mut Reading)
     ensures loan { D.loan disk.new ≡ D.loan disk.old }
 {
     match next_name(dir.path.allocator(), disk, dir.lister) {
-        Ok(Some(name)) => match entry_of(disk, &dir.path, dir.wanted, name) {
+        Ok(Some(name)) => match entry_of(disk, &mut dir.path, dir.wanted, name) {
             Ok(entry) => dir.keep(entry),
             Err(error) => dir.refused = Some(error),
         },
