@@ -14,48 +14,30 @@ mod trees;
 
 use anyhow::Result;
 use dav_disk::{MemDisk, SureDisk};
-use scene::{is_call, set_mem, set_sure};
+use scene::{Scene, is_call};
 use std::alloc::Global;
 
-// What a disk answers that may fail.
-fn mem_row(alloc: Global, parts: &str) -> Result<String> {
-    let mut disk = MemDisk::new(alloc)?;
+// What a disk answers, and what stands there afterwards.
+fn row<D: Scene + Drop>(alloc: Global, mut disk: D, parts: &str) -> Result<String> {
     let mut line = String::new(alloc);
     for part in parts.split('|').skip(1) {
         if is_call(part.trim()) {
             calls::call(alloc, &mut disk, part.trim(), &mut line)?;
         } else {
-            set_mem(alloc, &mut disk, part.trim())?;
+            disk.set(alloc, part.trim())?;
         }
     }
-    let (asked, faults) = (disk.asked(), disk.faults());
+    let (asked, faults) = disk.counts();
     trees::show_tree(alloc, &mut disk, &mut line)?;
     line.push_str(format!(in alloc; "asked {asked}, failed {faults}")?.as_str())?;
     Ok(line)
 }
 
-// What a disk answers that has no schedule of faults.
-fn sure_row(alloc: Global, parts: &str) -> Result<String> {
-    let mut disk = SureDisk::new(alloc)?;
-    let mut line = String::new(alloc);
-    for part in parts.split('|').skip(1) {
-        if is_call(part.trim()) {
-            calls::call(alloc, &mut disk, part.trim(), &mut line)?;
-        } else {
-            set_sure(alloc, &mut disk, part.trim())?;
-        }
-    }
-    let (asked, faults) = (disk.asked(), disk.faults());
-    trees::show_tree(alloc, &mut disk, &mut line)?;
-    line.push_str(format!(in alloc; "asked {asked}, failed {faults}")?.as_str())?;
-    Ok(line)
-}
-
-fn answer(alloc: Global, row: &str) -> Result<String> {
-    match row.split(' ').next().unwrap_or("") {
-        "mem" => mem_row(alloc, row),
-        "sure" => sure_row(alloc, row),
-        _ => Ok(String::from_str(alloc, row)?),
+fn answer(alloc: Global, line: &str) -> Result<String> {
+    match line.split(' ').next().unwrap_or("") {
+        "mem" => row(alloc, MemDisk::new(alloc)?, line),
+        "sure" => row(alloc, SureDisk::new(alloc)?, line),
+        _ => Ok(String::from_str(alloc, line)?),
     }
 }
 

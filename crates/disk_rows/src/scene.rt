@@ -7,7 +7,7 @@
 //! Each other part is a call.
 use crate::cells::{bytes_of, number, path_of, time_of};
 use anyhow::Result;
-use dav_core::{FileTime, FsPath};
+use dav_core::{Disk, FileTime, FsPath};
 use dav_disk::{MemDisk, SureDisk};
 use std::alloc::Global;
 
@@ -44,34 +44,54 @@ fn standing_of(alloc: Global, part: &str) -> Result<Standing> {
     })
 }
 
-/// Sets what a part says of a disk that may fail.
-pub fn set_mem(alloc: Global, disk: &mut MemDisk, part: &str) -> Result<()> {
-    if part.starts_with("fail ") {
-        for word in part.split(' ').skip(1) {
-            disk.fail(number(word)?)?;
-        }
-        return Ok(());
-    }
-    let new = standing_of(alloc, part)?;
-    if !disk.can_add(&new.path, new.number, new.time) {
-        return Ok(());
-    }
-    match &new.bytes {
-        Some(bytes) => disk.add_file(&new.path, new.number, new.time, bytes.as_slice())?,
-        None => disk.add_dir(&new.path, new.number, new.time)?,
-    }
-    Ok(())
+/// A disk in memory that a row sets.
+pub trait Scene: Disk {
+    /// Sets what a part says. What the disk doesn't take isn't set.
+    fn set(&mut self, alloc: Global, part: &str) -> Result<()>;
+
+    /// How often the disk was asked, and how many faults it met.
+    fn counts(&self) -> (u64, u64);
 }
 
-/// Sets what a part says of a disk that has no schedule of faults.
-pub fn set_sure(alloc: Global, disk: &mut SureDisk, part: &str) -> Result<()> {
-    let new = standing_of(alloc, part)?;
-    if !disk.can_add(&new.path, new.number, new.time) {
-        return Ok(());
+impl Scene for MemDisk {
+    fn set(&mut self, alloc: Global, part: &str) -> Result<()> {
+        if part.starts_with("fail ") {
+            for word in part.split(' ').skip(1) {
+                self.fail(number(word)?)?;
+            }
+            return Ok(());
+        }
+        let new = standing_of(alloc, part)?;
+        if !self.can_add(&new.path, new.number, new.time) {
+            return Ok(());
+        }
+        match &new.bytes {
+            Some(bytes) => self.add_file(&new.path, new.number, new.time, bytes.as_slice())?,
+            None => self.add_dir(&new.path, new.number, new.time)?,
+        }
+        Ok(())
     }
-    match &new.bytes {
-        Some(bytes) => disk.add_file(&new.path, new.number, new.time, bytes.as_slice())?,
-        None => disk.add_dir(&new.path, new.number, new.time)?,
+
+    fn counts(&self) -> (u64, u64) {
+        (self.asked(), self.faults())
     }
-    Ok(())
+}
+
+// It has no schedule of faults.
+impl Scene for SureDisk {
+    fn set(&mut self, alloc: Global, part: &str) -> Result<()> {
+        let new = standing_of(alloc, part)?;
+        if !self.can_add(&new.path, new.number, new.time) {
+            return Ok(());
+        }
+        match &new.bytes {
+            Some(bytes) => self.add_file(&new.path, new.number, new.time, bytes.as_slice())?,
+            None => self.add_dir(&new.path, new.number, new.time)?,
+        }
+        Ok(())
+    }
+
+    fn counts(&self) -> (u64, u64) {
+        (self.asked(), self.faults())
+    }
 }
