@@ -24,7 +24,7 @@ use Rattle.dav_store.specs.declared.file.DavFile.{Ghosts as FileGhosts}
 use Rattle.dav_store.specs.declared.guarded.GuardedFileSystem.{Ghosts as StoreGhosts}
 use Rattle.dav_store.specs.Bodies.{BodyState}
 use Rattle.dav_store.specs.Standing.{Standing}
-use Rattle.dav_store.specs.View.{View, Listings, the_view, the_listings}
+use Rattle.dav_store.specs.View.{View, Listings}
 use Rattle.dav_methods.specs.Pouring.{Writes as FileWritesOf}
 use Rattle.dav_get.specs.Heard.{Heard}
 use Rattle.dav_get.specs.Lives.{HasMost, OpenOnlyHeld}

@@ -8,7 +8,6 @@ ghost use Rattle.dav_model.specs.declared.target.Target.TheVariants.{At, Writes}
 ghost use Rattle.dav_local.specs.Files.{seen_by};
 ghost use Rattle.dav_local.specs.Ways.{rules_with};
 ghost use Rattle.dav_store.specs.Frames.{KeepsOpen};
-ghost use Rattle.dav_store.specs.View.{the_listings, the_view};
 ghost use Rattle.dav_methods.specs.Changing.{Changes};
 ghost use Rattle.dav_handler.specs.By.{over_of};
 ghost use Rattle.dav_handler.specs.Found.{Finds, Gives, IsAlone, IsRefusedBy, said_in};

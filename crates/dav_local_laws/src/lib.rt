@@ -39,7 +39,6 @@ ghost use Rattle.dav_model.specs.Rules.{Learns, plain_rules};
 ghost use Rattle.dav_store.specs.Leads.{LeadsOn};
 ghost use Rattle.dav_store.specs.Members.{ShowsMembers};
 ghost use Rattle.dav_store.specs.Reached.{ShowsOn};
-ghost use Rattle.dav_store.specs.View.{the_listings, the_view};
 ghost use Rattle.dav_local_laws.specs.LocalStore.{IsLocalStore};
 ghost use Rattle.dav_local_laws.specs.Simple.{is_simple, opened, plain_ways};
 

@@ -1,7 +1,6 @@
 //! COPY and MOVE: what stands at a path is copied or moved to another, in place of what stands there.
 ghost use Rattle.std.specs.Prelude.{◌≡◌, ◌⊎◌, Ok, Err};
 ghost use Rattle.dav_store.specs.Frames.{KeepsOpen};
-ghost use Rattle.dav_store.specs.View.{the_listings, the_view};
 ghost use Rattle.dav_methods.specs.Carrying.{Arrives, CopiesTo, CopyMoves, Goes, Leaves, MovesTo, Replaces};
 ghost use Rattle.dav_model.specs.CarryPlans.{method_of as the_method_of};
 ghost use Rattle.dav_methods.specs.Lines.{fails_when};
@@ -52,13 +51,13 @@ fn go<S: GuardedFileSystem<C>, C>(
     dir: bool,
     outcome: Outcome,
 ) -> Result<Outcome, DavError>
-    requires admits { S.admits fs.old }
-    ensures table { Goes (the_view S.GuardedFileSystem S.Disk.Disk S.File.DavFile)
-        (the_listings S.GuardedFileSystem S.Entry.DavDirEntry) credentials.now asked.now.moving asked.now
+    requires admits { S.view.admits fs.old }
+    ensures table { Goes S.view
+        S.listings credentials.now asked.now.moving asked.now
         (record { from = path.now; to = asked.now.to; dir = dir }) outcome fs.old result fs.new }
-    ensures keeps { KeepsOpen (S.Disk.state (S.inside fs.old)) (S.Disk.state (S.inside fs.new)) }
-    ensures admits { S.admits fs.new }
-    ensures loan { S.Disk.loan (S.inside fs.new) ≡ S.Disk.loan (S.inside fs.old) }
+    ensures keeps { KeepsOpen (S.view.state fs.old) (S.view.state fs.new) }
+    ensures admits { S.view.admits fs.new }
+    ensures loan { S.view.loan fs.new ≡ S.view.loan fs.old }
 {
     if asked.moving {
         return answer(line_of(fs.rename(path, &asked.to, credentials)), outcome);
@@ -77,13 +76,13 @@ fn replace<S: GuardedFileSystem<C>, C>(
     dir: bool,
     dir_there: bool,
 ) -> Result<Outcome, DavError>
-    requires admits { S.admits fs.old }
-    ensures table { Replaces (the_view S.GuardedFileSystem S.Disk.Disk S.File.DavFile)
-        (the_listings S.GuardedFileSystem S.Entry.DavDirEntry) credentials.now asked.now
+    requires admits { S.view.admits fs.old }
+    ensures table { Replaces S.view
+        S.listings credentials.now asked.now
         (record { from = path.now; to = asked.now.to; dir = dir }) dir_there fs.old result fs.new }
-    ensures keeps { KeepsOpen (S.Disk.state (S.inside fs.old)) (S.Disk.state (S.inside fs.new)) }
-    ensures admits { S.admits fs.new }
-    ensures loan { S.Disk.loan (S.inside fs.new) ≡ S.Disk.loan (S.inside fs.old) }
+    ensures keeps { KeepsOpen (S.view.state fs.old) (S.view.state fs.new) }
+    ensures admits { S.view.admits fs.new }
+    ensures loan { S.view.loan fs.new ≡ S.view.loan fs.old }
 {
     match remove_all(alloc, fs, credentials, &asked.to, dir_there) {
         Ok(()) => go(alloc, fs, credentials, asked, path, dir, silent(alloc)),
@@ -101,13 +100,13 @@ fn fill<S: GuardedFileSystem<C>, C>(
     dir: bool,
     refusal: FsError,
 ) -> Result<Outcome, DavError>
-    requires admits { S.admits fs.old }
-    ensures table { Next (Arrives (the_view S.GuardedFileSystem S.Disk.Disk S.File.DavFile)
-        (the_listings S.GuardedFileSystem S.Entry.DavDirEntry) credentials.now asked.now
+    requires admits { S.view.admits fs.old }
+    ensures table { Next (Arrives S.view
+        S.listings credentials.now asked.now
         (record { from = path.now; to = asked.now.to; dir = dir }) (Err refusal)) fs.old result fs.new }
-    ensures keeps { KeepsOpen (S.Disk.state (S.inside fs.old)) (S.Disk.state (S.inside fs.new)) }
-    ensures admits { S.admits fs.new }
-    ensures loan { S.Disk.loan (S.inside fs.new) ≡ S.Disk.loan (S.inside fs.old) }
+    ensures keeps { KeepsOpen (S.view.state fs.old) (S.view.state fs.new) }
+    ensures admits { S.view.admits fs.new }
+    ensures loan { S.view.loan fs.new ≡ S.view.loan fs.old }
 {
     pass_missing(refusal)?;
     let outcome = created(alloc)?;
@@ -123,15 +122,15 @@ fn arrive<S: GuardedFileSystem<C>, C>(
     path: &DavPath,
     dir: bool,
 ) -> Result<Outcome, DavError>
-    requires admits { S.admits fs.old }
-    ensures table { LooksAtLink (the_view S.GuardedFileSystem S.Disk.Disk S.File.DavFile)
-        (the_listings S.GuardedFileSystem S.Entry.DavDirEntry) credentials.now asked.now.to
-        (Arrives (the_view S.GuardedFileSystem S.Disk.Disk S.File.DavFile)
-        (the_listings S.GuardedFileSystem S.Entry.DavDirEntry) credentials.now asked.now
+    requires admits { S.view.admits fs.old }
+    ensures table { LooksAtLink S.view
+        S.listings credentials.now asked.now.to
+        (Arrives S.view
+        S.listings credentials.now asked.now
         (record { from = path.now; to = asked.now.to; dir = dir })) fs.old result fs.new }
-    ensures keeps { KeepsOpen (S.Disk.state (S.inside fs.old)) (S.Disk.state (S.inside fs.new)) }
-    ensures admits { S.admits fs.new }
-    ensures loan { S.Disk.loan (S.inside fs.new) ≡ S.Disk.loan (S.inside fs.old) }
+    ensures keeps { KeepsOpen (S.view.state fs.old) (S.view.state fs.new) }
+    ensures admits { S.view.admits fs.new }
+    ensures loan { S.view.loan fs.new ≡ S.view.loan fs.old }
 {
     match fs.symlink_metadata(&asked.to, credentials) {
         Ok(meta) => {
@@ -154,15 +153,15 @@ fn arrive_if<S: GuardedFileSystem<C>, C>(
     dir: bool,
     may: Result<(), DavError>,
 ) -> Result<Outcome, DavError>
-    requires admits { S.admits fs.old }
-    ensures table { Next (Unless may (LooksAtLink (the_view S.GuardedFileSystem S.Disk.Disk S.File.DavFile)
-        (the_listings S.GuardedFileSystem S.Entry.DavDirEntry) credentials.now asked.now.to
-        (Arrives (the_view S.GuardedFileSystem S.Disk.Disk S.File.DavFile)
-        (the_listings S.GuardedFileSystem S.Entry.DavDirEntry) credentials.now asked.now
+    requires admits { S.view.admits fs.old }
+    ensures table { Next (Unless may (LooksAtLink S.view
+        S.listings credentials.now asked.now.to
+        (Arrives S.view
+        S.listings credentials.now asked.now
         (record { from = path.now; to = asked.now.to; dir = dir })))) fs.old result fs.new }
-    ensures keeps { KeepsOpen (S.Disk.state (S.inside fs.old)) (S.Disk.state (S.inside fs.new)) }
-    ensures admits { S.admits fs.new }
-    ensures loan { S.Disk.loan (S.inside fs.new) ≡ S.Disk.loan (S.inside fs.old) }
+    ensures keeps { KeepsOpen (S.view.state fs.old) (S.view.state fs.new) }
+    ensures admits { S.view.admits fs.new }
+    ensures loan { S.view.loan fs.new ≡ S.view.loan fs.old }
 {
     match may {
         Ok(()) => arrive(alloc, fs, credentials, asked, path, dir),
@@ -180,13 +179,13 @@ fn leave<S: GuardedFileSystem<C>, C>(
     fields: &HeaderMap,
     meta: &S::Meta,
 ) -> Result<Outcome, DavError>
-    requires admits { S.admits fs.old }
-    ensures table { Next (Leaves (the_view S.GuardedFileSystem S.Disk.Disk S.File.DavFile)
-        (the_listings S.GuardedFileSystem S.Entry.DavDirEntry) credentials.now path.now fields.now asked.now
+    requires admits { S.view.admits fs.old }
+    ensures table { Next (Leaves S.view
+        S.listings credentials.now path.now fields.now asked.now
         (Ok (S.Meta.info meta.now))) fs.old result fs.new }
-    ensures keeps { KeepsOpen (S.Disk.state (S.inside fs.old)) (S.Disk.state (S.inside fs.new)) }
-    ensures admits { S.admits fs.new }
-    ensures loan { S.Disk.loan (S.inside fs.new) ≡ S.Disk.loan (S.inside fs.old) }
+    ensures keeps { KeepsOpen (S.view.state fs.old) (S.view.state fs.new) }
+    ensures admits { S.view.admits fs.new }
+    ensures loan { S.view.loan fs.new ≡ S.view.loan fs.old }
 {
     let above = asked.to.parent()?;
     pass_parent(fs, credentials, &above)?;
@@ -204,13 +203,13 @@ fn carry<S: GuardedFileSystem<C>, C>(
     fields: &HeaderMap,
     prefix: &str,
 ) -> Result<Outcome, DavError>
-    requires admits { S.admits fs.old }
-    ensures table { Next (CopyMoves (the_view S.GuardedFileSystem S.Disk.Disk S.File.DavFile)
-        (the_listings S.GuardedFileSystem S.Entry.DavDirEntry) credentials.now moving prefix.now path.now fields.now)
+    requires admits { S.view.admits fs.old }
+    ensures table { Next (CopyMoves S.view
+        S.listings credentials.now moving prefix.now path.now fields.now)
         fs.old result fs.new }
-    ensures keeps { KeepsOpen (S.Disk.state (S.inside fs.old)) (S.Disk.state (S.inside fs.new)) }
-    ensures admits { S.admits fs.new }
-    ensures loan { S.Disk.loan (S.inside fs.new) ≡ S.Disk.loan (S.inside fs.old) }
+    ensures keeps { KeepsOpen (S.view.state fs.old) (S.view.state fs.new) }
+    ensures admits { S.view.admits fs.new }
+    ensures loan { S.view.loan fs.new ≡ S.view.loan fs.old }
 {
     let asked = match asked(alloc, moving, fields, prefix) {
         Ok(asked) => asked,
@@ -251,13 +250,13 @@ pub fn copy<S: GuardedFileSystem<C>, C>(
     fields: &HeaderMap,
     prefix: &str,
 ) -> Result<Outcome, DavError>
-    requires admits { S.admits fs.old }
-    ensures table { CopiesTo (the_view S.GuardedFileSystem S.Disk.Disk S.File.DavFile)
-        (the_listings S.GuardedFileSystem S.Entry.DavDirEntry) credentials.now prefix.now path.now fields.now fs.old
+    requires admits { S.view.admits fs.old }
+    ensures table { CopiesTo S.view
+        S.listings credentials.now prefix.now path.now fields.now fs.old
         result fs.new }
-    ensures keeps { KeepsOpen (S.Disk.state (S.inside fs.old)) (S.Disk.state (S.inside fs.new)) }
-    ensures admits { S.admits fs.new }
-    ensures loan { S.Disk.loan (S.inside fs.new) ≡ S.Disk.loan (S.inside fs.old) }
+    ensures keeps { KeepsOpen (S.view.state fs.old) (S.view.state fs.new) }
+    ensures admits { S.view.admits fs.new }
+    ensures loan { S.view.loan fs.new ≡ S.view.loan fs.old }
 {
     carry(alloc, fs, credentials, false, path, fields, prefix)
 }
@@ -272,13 +271,13 @@ pub fn move_to<S: GuardedFileSystem<C>, C>(
     fields: &HeaderMap,
     prefix: &str,
 ) -> Result<Outcome, DavError>
-    requires admits { S.admits fs.old }
-    ensures table { MovesTo (the_view S.GuardedFileSystem S.Disk.Disk S.File.DavFile)
-        (the_listings S.GuardedFileSystem S.Entry.DavDirEntry) credentials.now prefix.now path.now fields.now fs.old
+    requires admits { S.view.admits fs.old }
+    ensures table { MovesTo S.view
+        S.listings credentials.now prefix.now path.now fields.now fs.old
         result fs.new }
-    ensures keeps { KeepsOpen (S.Disk.state (S.inside fs.old)) (S.Disk.state (S.inside fs.new)) }
-    ensures admits { S.admits fs.new }
-    ensures loan { S.Disk.loan (S.inside fs.new) ≡ S.Disk.loan (S.inside fs.old) }
+    ensures keeps { KeepsOpen (S.view.state fs.old) (S.view.state fs.new) }
+    ensures admits { S.view.admits fs.new }
+    ensures loan { S.view.loan fs.new ≡ S.view.loan fs.old }
 {
     carry(alloc, fs, credentials, true, path, fields, prefix)
 }

@@ -102,11 +102,11 @@ pub fn pass_parent<S: GuardedFileSystem<C>, C>(
     credentials: &C,
     above: &DavPath,
 ) -> Result<(), DavError>
-    ensures looks { (up : Result Info FsError) × S.looks fs.old credentials.now above.now up fs.new
+    ensures looks { (up : Result Info FsError) × S.view.looks fs.old credentials.now above.now up fs.new
         × (result ≡ no_parent up) }
-    ensures keeps { Keeps (S.Disk.state (S.inside fs.old)) (S.Disk.state (S.inside fs.new)) }
-    ensures admits { S.admits fs.old → S.admits fs.new }
-    ensures loan { S.Disk.loan (S.inside fs.new) ≡ S.Disk.loan (S.inside fs.old) }
+    ensures keeps { Keeps (S.view.state fs.old) (S.view.state fs.new) }
+    ensures admits { S.view.admits fs.old → S.view.admits fs.new }
+    ensures loan { S.view.loan fs.new ≡ S.view.loan fs.old }
 {
     match fs.metadata(above, credentials) {
         Ok(meta) => {

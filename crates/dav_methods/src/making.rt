@@ -1,7 +1,6 @@
 //! MKCOL, MKCALENDAR and MKADDRESSBOOK: a directory is made.
 ghost use Rattle.std.specs.Prelude.{◌≡◌};
 ghost use Rattle.dav_store.specs.Frames.{KeepsOpen};
-ghost use Rattle.dav_store.specs.View.{the_view};
 ghost use Rattle.dav_methods.specs.Table.{Below, EndsMade, MkCalendars, MkCols, Next, Unless};
 
 use crate::lines::{may_make, pass_parent, pass_unfailed};
@@ -19,11 +18,11 @@ fn make<S: GuardedFileSystem<C>, C>(
     credentials: &C,
     path: &DavPath,
 ) -> Result<Outcome, DavError>
-    ensures table { Next (EndsMade (the_view S.GuardedFileSystem S.Disk.Disk S.File.DavFile) credentials.now path.now)
+    ensures table { Next (EndsMade S.view credentials.now path.now)
         fs.old result fs.new }
-    ensures keeps { KeepsOpen (S.Disk.state (S.inside fs.old)) (S.Disk.state (S.inside fs.new)) }
-    ensures admits { S.admits fs.old → S.admits fs.new }
-    ensures loan { S.Disk.loan (S.inside fs.new) ≡ S.Disk.loan (S.inside fs.old) }
+    ensures keeps { KeepsOpen (S.view.state fs.old) (S.view.state fs.new) }
+    ensures admits { S.view.admits fs.old → S.view.admits fs.new }
+    ensures loan { S.view.loan fs.new ≡ S.view.loan fs.old }
 {
     let outcome = created(alloc)?;
     match fs.create_dir(path, credentials) {
@@ -39,12 +38,12 @@ fn make_below<S: GuardedFileSystem<C>, C>(
     credentials: &C,
     path: &DavPath,
 ) -> Result<Outcome, DavError>
-    ensures table { Next (Below (the_view S.GuardedFileSystem S.Disk.Disk S.File.DavFile) credentials.now path.now
-        (EndsMade (the_view S.GuardedFileSystem S.Disk.Disk S.File.DavFile) credentials.now path.now))
+    ensures table { Next (Below S.view credentials.now path.now
+        (EndsMade S.view credentials.now path.now))
         fs.old result fs.new }
-    ensures keeps { KeepsOpen (S.Disk.state (S.inside fs.old)) (S.Disk.state (S.inside fs.new)) }
-    ensures admits { S.admits fs.old → S.admits fs.new }
-    ensures loan { S.Disk.loan (S.inside fs.new) ≡ S.Disk.loan (S.inside fs.old) }
+    ensures keeps { KeepsOpen (S.view.state fs.old) (S.view.state fs.new) }
+    ensures admits { S.view.admits fs.old → S.view.admits fs.new }
+    ensures loan { S.view.loan fs.new ≡ S.view.loan fs.old }
 {
     let above = path.parent()?;
     pass_parent(fs, credentials, &above)?;
@@ -59,12 +58,12 @@ fn make_if<S: GuardedFileSystem<C>, C>(
     path: &DavPath,
     may: Result<(), DavError>,
 ) -> Result<Outcome, DavError>
-    ensures table { Next (Unless may (Below (the_view S.GuardedFileSystem S.Disk.Disk S.File.DavFile) credentials.now
-        path.now (EndsMade (the_view S.GuardedFileSystem S.Disk.Disk S.File.DavFile) credentials.now path.now)))
+    ensures table { Next (Unless may (Below S.view credentials.now
+        path.now (EndsMade S.view credentials.now path.now)))
         fs.old result fs.new }
-    ensures keeps { KeepsOpen (S.Disk.state (S.inside fs.old)) (S.Disk.state (S.inside fs.new)) }
-    ensures admits { S.admits fs.old → S.admits fs.new }
-    ensures loan { S.Disk.loan (S.inside fs.new) ≡ S.Disk.loan (S.inside fs.old) }
+    ensures keeps { KeepsOpen (S.view.state fs.old) (S.view.state fs.new) }
+    ensures admits { S.view.admits fs.old → S.view.admits fs.new }
+    ensures loan { S.view.loan fs.new ≡ S.view.loan fs.old }
 {
     match may {
         Ok(()) => make_below(alloc, fs, credentials, path),
@@ -84,11 +83,11 @@ pub fn mkcol<S: GuardedFileSystem<C>, C>(
     path: &DavPath,
     fields: &HeaderMap,
 ) -> Result<Outcome, DavError>
-    ensures table { MkCols (the_view S.GuardedFileSystem S.Disk.Disk S.File.DavFile) credentials.now path.now
+    ensures table { MkCols S.view credentials.now path.now
         fields.now fs.old result fs.new }
-    ensures keeps { KeepsOpen (S.Disk.state (S.inside fs.old)) (S.Disk.state (S.inside fs.new)) }
-    ensures admits { S.admits fs.old → S.admits fs.new }
-    ensures loan { S.Disk.loan (S.inside fs.new) ≡ S.Disk.loan (S.inside fs.old) }
+    ensures keeps { KeepsOpen (S.view.state fs.old) (S.view.state fs.new) }
+    ensures admits { S.view.admits fs.old → S.view.admits fs.new }
+    ensures loan { S.view.loan fs.new ≡ S.view.loan fs.old }
 {
     let Err(refusal) = fs.metadata(path, credentials) else {
         return Err(DavError::Status(StatusCode::METHOD_NOT_ALLOWED));
@@ -110,11 +109,11 @@ pub fn mkcalendar<S: GuardedFileSystem<C>, C>(
     path: &DavPath,
     _fields: &HeaderMap,
 ) -> Result<Outcome, DavError>
-    ensures table { MkCalendars (the_view S.GuardedFileSystem S.Disk.Disk S.File.DavFile) credentials.now path.now
+    ensures table { MkCalendars S.view credentials.now path.now
         fs.old result fs.new }
-    ensures keeps { KeepsOpen (S.Disk.state (S.inside fs.old)) (S.Disk.state (S.inside fs.new)) }
-    ensures admits { S.admits fs.old → S.admits fs.new }
-    ensures loan { S.Disk.loan (S.inside fs.new) ≡ S.Disk.loan (S.inside fs.old) }
+    ensures keeps { KeepsOpen (S.view.state fs.old) (S.view.state fs.new) }
+    ensures admits { S.view.admits fs.old → S.view.admits fs.new }
+    ensures loan { S.view.loan fs.new ≡ S.view.loan fs.old }
 {
     match fs.metadata(path, credentials) {
         Ok(_) => Err(DavError::StatusClose(StatusCode::METHOD_NOT_ALLOWED)),

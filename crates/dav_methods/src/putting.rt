@@ -2,7 +2,6 @@
 ghost use Rattle.std.specs.Prelude.{◌≡◌, ◌⊎◌, true, IfOk, Ok, Err};
 ghost use Rattle.dav_core.specs.Unchanged.{Keeps};
 ghost use Rattle.dav_store.specs.Frames.{KeepsOpen};
-ghost use Rattle.dav_store.specs.View.{the_view};
 ghost use Rattle.dav_methods.specs.Lines.{made, may_put, silent as the_silent, unless};
 ghost use Rattle.dav_methods.specs.Putting.{AfterChecks, AfterChecksWhole, MayPut, Puts, PutsWhole, put_options as the_put_options};
 
@@ -57,11 +56,11 @@ fn check<S: GuardedFileSystem<C>, C>(
     path: &DavPath,
     fields: &HeaderMap,
 ) -> Result<Outcome, DavError>
-    ensures table { MayPut (the_view S.GuardedFileSystem S.Disk.Disk S.File.DavFile) credentials.now path.now
+    ensures table { MayPut S.view credentials.now path.now
         fields.now fs.old result fs.new }
-    ensures keeps { Keeps (S.Disk.state (S.inside fs.old)) (S.Disk.state (S.inside fs.new)) }
-    ensures admits { S.admits fs.old → S.admits fs.new }
-    ensures loan { S.Disk.loan (S.inside fs.new) ≡ S.Disk.loan (S.inside fs.old) }
+    ensures keeps { Keeps (S.view.state fs.old) (S.view.state fs.new) }
+    ensures admits { S.view.admits fs.old → S.view.admits fs.new }
+    ensures loan { S.view.loan fs.new ≡ S.view.loan fs.old }
 {
     if path.is_collection() {
         return Err(DavError::Status(StatusCode::METHOD_NOT_ALLOWED));
@@ -82,11 +81,11 @@ fn put_body<S: GuardedFileSystem<C>, C, B: BodyReader>(
     outcome: Outcome,
     body: &mut B,
 ) -> Result<Outcome, DavError>
-    ensures table { AfterChecks (the_view S.GuardedFileSystem S.Disk.Disk S.File.DavFile) S.File.writes
+    ensures table { AfterChecks S.view S.File.writes
         credentials.now (Ok outcome) path.now (B.state body.old) fs.old result fs.new (B.state body.new) }
-    ensures keeps { KeepsOpen (S.Disk.state (S.inside fs.old)) (S.Disk.state (S.inside fs.new)) }
-    ensures admits { S.admits fs.old → S.admits fs.new }
-    ensures loan { S.Disk.loan (S.inside fs.new) ≡ S.Disk.loan (S.inside fs.old) }
+    ensures keeps { KeepsOpen (S.view.state fs.old) (S.view.state fs.new) }
+    ensures admits { S.view.admits fs.old → S.view.admits fs.new }
+    ensures loan { S.view.loan fs.new ≡ S.view.loan fs.old }
     ensures body_loan { B.loan body.new ≡ B.loan body.old }
 {
     let mut file = match fs.open(path, put_options(), credentials) {
@@ -115,12 +114,12 @@ pub fn put<S: GuardedFileSystem<C>, C, B: BodyReader>(
     fields: &HeaderMap,
     body: &mut B,
 ) -> Result<Outcome, DavError>
-    ensures table { Puts (the_view S.GuardedFileSystem S.Disk.Disk S.File.DavFile) S.File.writes credentials.now
+    ensures table { Puts S.view S.File.writes credentials.now
         path.now fields.now (B.state body.old) fs.old result fs.new (B.state body.new) }
     ensures read { IfOk result (λ _. (B.state body.new).ended ≡ true) }
-    ensures keeps { KeepsOpen (S.Disk.state (S.inside fs.old)) (S.Disk.state (S.inside fs.new)) }
-    ensures admits { S.admits fs.old → S.admits fs.new }
-    ensures loan { S.Disk.loan (S.inside fs.new) ≡ S.Disk.loan (S.inside fs.old) }
+    ensures keeps { KeepsOpen (S.view.state fs.old) (S.view.state fs.new) }
+    ensures admits { S.view.admits fs.old → S.view.admits fs.new }
+    ensures loan { S.view.loan fs.new ≡ S.view.loan fs.old }
     ensures body_loan { B.loan body.new ≡ B.loan body.old }
 {
     let outcome = match check(alloc, fs, credentials, path, fields) {
@@ -138,11 +137,11 @@ fn put_bytes<S: GuardedFileSystem<C>, C>(
     outcome: Outcome,
     bytes: &[u8],
 ) -> Result<Outcome, DavError>
-    ensures table { AfterChecksWhole (the_view S.GuardedFileSystem S.Disk.Disk S.File.DavFile) S.File.writes
+    ensures table { AfterChecksWhole S.view S.File.writes
         credentials.now (Ok outcome) path.now bytes.now fs.old result fs.new }
-    ensures keeps { KeepsOpen (S.Disk.state (S.inside fs.old)) (S.Disk.state (S.inside fs.new)) }
-    ensures admits { S.admits fs.old → S.admits fs.new }
-    ensures loan { S.Disk.loan (S.inside fs.new) ≡ S.Disk.loan (S.inside fs.old) }
+    ensures keeps { KeepsOpen (S.view.state fs.old) (S.view.state fs.new) }
+    ensures admits { S.view.admits fs.old → S.view.admits fs.new }
+    ensures loan { S.view.loan fs.new ≡ S.view.loan fs.old }
 {
     let mut file = match fs.open(path, put_options(), credentials) {
         Ok(file) => file,
@@ -168,11 +167,11 @@ pub fn put_whole<S: GuardedFileSystem<C>, C>(
     fields: &HeaderMap,
     bytes: &[u8],
 ) -> Result<Outcome, DavError>
-    ensures table { PutsWhole (the_view S.GuardedFileSystem S.Disk.Disk S.File.DavFile) S.File.writes
+    ensures table { PutsWhole S.view S.File.writes
         credentials.now path.now fields.now bytes.now fs.old result fs.new }
-    ensures keeps { KeepsOpen (S.Disk.state (S.inside fs.old)) (S.Disk.state (S.inside fs.new)) }
-    ensures admits { S.admits fs.old → S.admits fs.new }
-    ensures loan { S.Disk.loan (S.inside fs.new) ≡ S.Disk.loan (S.inside fs.old) }
+    ensures keeps { KeepsOpen (S.view.state fs.old) (S.view.state fs.new) }
+    ensures admits { S.view.admits fs.old → S.view.admits fs.new }
+    ensures loan { S.view.loan fs.new ≡ S.view.loan fs.old }
 {
     let outcome = match check(alloc, fs, credentials, path, fields) {
         Ok(outcome) => outcome,

@@ -18,7 +18,7 @@ use Rattle.dav_store.specs.declared.guarded.GuardedFileSystem.{Ghosts as StoreGh
 use Rattle.dav_store.specs.Members.{ShowsMembers}
 use Rattle.dav_store.specs.Reached.{ShowsOn}
 use Rattle.dav_store.specs.Standing.{Standing}
-use Rattle.dav_store.specs.View.{View, Listings, the_view, the_listings}
+use Rattle.dav_store.specs.View.{View, Listings}
 use Rattle.dav_report.specs.declared.answer.Record.{Record}
 use Rattle.dav_report.specs.declared.answer.Report.{Report}
 use Rattle.dav_report.specs.declared.error.ReportError.{ReportError}

@@ -4,7 +4,6 @@ ghost use Rattle.dav_core.specs.Disk.{Live, can_read};
 ghost use Rattle.dav_core.specs.Unchanged.{Keeps, KeepsBut};
 ghost use Rattle.dav_store.specs.Files.{Spoiled};
 ghost use Rattle.dav_store.specs.Standing.{Seen};
-ghost use Rattle.dav_store.specs.View.{the_view};
 ghost use Rattle.dav_selection.specs.Pieces.{Appends, ClosesAfter, Touches};
 ghost use Rattle.dav_selection.specs.Resources.{AfterMeta, AfterOpen, Fetches, ReadsTo, content_of};
 
@@ -25,17 +24,17 @@ fn read_piece<S: GuardedFileSystem<C>, C>(
     buffer: &mut [u8],
     bytes: &mut Vec<u8>,
 ) -> Result<usize, FsError>
-    requires live { IsSome ((S.Disk.state (S.inside fs.old)).live (S.File.handle file.old)) }
+    requires live { IsSome ((S.view.state fs.old).live (S.view.handle file.old)) }
     requires some { 0 < left }
     requires room { 0 < length buffer.old }
-    ensures touches { Touches (the_view S.GuardedFileSystem S.Disk.Disk S.File.DavFile) fs.old file.old fs.new
+    ensures touches { Touches S.view fs.old file.old fs.new
         file.new }
-    ensures refused { can_read ((S.Disk.state (S.inside fs.old)).live (S.File.handle file.old)) ≡ true
-        → OnErr result (Spoiled (S.Disk.state (S.inside fs.old)) result (S.Disk.state (S.inside fs.new))) }
+    ensures refused { can_read ((S.view.state fs.old).live (S.view.handle file.old)) ≡ true
+        → OnErr result (Spoiled (S.view.state fs.old) result (S.view.state fs.new)) }
     ensures within { IfOk result (λ n. n ≤ left) }
     ensures len { IfOk result (λ n. length bytes.new.items ≡ length bytes.old.items + n) }
-    ensures told { (f : Seen) → S.File.seen file.old (S.Disk.state (S.inside fs.old)) ≡ Some f
-        → Appends (the_view S.GuardedFileSystem S.Disk.Disk S.File.DavFile) f bytes.old.items result bytes.new.items
+    ensures told { (f : Seen) → S.view.seen file.old (S.view.state fs.old) ≡ Some f
+        → Appends S.view f bytes.old.items result bytes.new.items
         fs.new file.new }
 {
     let most = left.min(buffer.len() as u64) as usize;
@@ -56,8 +55,8 @@ fn read_to<S: GuardedFileSystem<C>, C>(
     file: &mut S::File,
     len: u64,
 ) -> Result<Octets, FsError>
-    requires live { IsSome ((S.Disk.state (S.inside fs.old)).live (S.File.handle file.old)) }
-    ensures { ReadsTo (the_view S.GuardedFileSystem S.Disk.Disk S.File.DavFile) fs.old file.old len result fs.new
+    requires live { IsSome ((S.view.state fs.old).live (S.view.handle file.old)) }
+    ensures { ReadsTo S.view fs.old file.old len result fs.new
         file.new }
 {
     let mut bytes = Vec::new(alloc);
@@ -113,10 +112,10 @@ fn read_content<S: GuardedFileSystem<C>, C>(
     file: S::File,
     meta: &S::Meta,
 ) -> Result<Resource, Unread>
-    requires live { IsSome ((S.Disk.state (S.inside fs.old)).live (S.File.handle file)) }
-    ensures table { AfterMeta (the_view S.GuardedFileSystem S.Disk.Disk S.File.DavFile) (Ok (S.Meta.info meta.now)) file
+    requires live { IsSome ((S.view.state fs.old).live (S.view.handle file)) }
+    ensures table { AfterMeta S.view (Ok (S.Meta.info meta.now)) file
         fs.old result fs.new ⊎ (result ≡ Err Unread.NoMemory) }
-    ensures closed { ClosesAfter (the_view S.GuardedFileSystem S.Disk.Disk S.File.DavFile) (S.File.handle file) fs.old
+    ensures closed { ClosesAfter S.view (S.view.handle file) fs.old
         fs.new }
 {
     if !meta.is_file() {
@@ -135,9 +134,9 @@ fn read_file<S: GuardedFileSystem<C>, C>(
     fs: &mut S,
     file: S::File,
 ) -> Result<Resource, Unread>
-    requires live { IsSome ((S.Disk.state (S.inside fs.old)).live (S.File.handle file)) }
-    ensures table { AfterOpen (the_view S.GuardedFileSystem S.Disk.Disk S.File.DavFile) (Ok file) fs.old result fs.new }
-    ensures closed { ClosesAfter (the_view S.GuardedFileSystem S.Disk.Disk S.File.DavFile) (S.File.handle file) fs.old
+    requires live { IsSome ((S.view.state fs.old).live (S.view.handle file)) }
+    ensures table { AfterOpen S.view (Ok file) fs.old result fs.new }
+    ensures closed { ClosesAfter S.view (S.view.handle file) fs.old
         fs.new }
 {
     let mut file = file;
@@ -157,11 +156,11 @@ pub(crate) fn fetch<S: GuardedFileSystem<C>, C>(
     credentials: &C,
     path: &DavPath,
 ) -> Result<Resource, Unread>
-    ensures table { Fetches (the_view S.GuardedFileSystem S.Disk.Disk S.File.DavFile) credentials.now path.now fs.old
+    ensures table { Fetches S.view credentials.now path.now fs.old
         result fs.new }
-    ensures keeps { Keeps (S.Disk.state (S.inside fs.old)) (S.Disk.state (S.inside fs.new)) }
-    ensures admits { S.admits fs.old → S.admits fs.new }
-    ensures loan { S.Disk.loan (S.inside fs.new) ≡ S.Disk.loan (S.inside fs.old) }
+    ensures keeps { Keeps (S.view.state fs.old) (S.view.state fs.new) }
+    ensures admits { S.view.admits fs.old → S.view.admits fs.new }
+    ensures loan { S.view.loan fs.new ≡ S.view.loan fs.old }
 {
     match fs.open(path, OpenOptions::read(), credentials) {
         Ok(file) => read_file(alloc, fs, file),

@@ -4,7 +4,6 @@ ghost use Rattle.std.specs.Prelude.{◌≡◌, Some};
 ghost use Rattle.dav_io.specs.Counts.{Rose};
 ghost use Rattle.dav_core.specs.Unchanged.{Keeps};
 ghost use Rattle.dav_core.specs.World.{World};
-ghost use Rattle.dav_store.specs.View.{the_listings, the_view};
 ghost use Rattle.dav_local_laws.specs.Simple.{plain_ways};
 ghost use Rattle.dav_selection.specs.Selection.{Selection};
 ghost use Rattle.dav_selection.specs.Shown.{ShowsFor};

@@ -1,5 +1,4 @@
 use Rattle.std.proofs.Common.{Ok, Err, [], refl, ap, ◌∙◌, arith}
-use Rattle.dav_store.specs.View.{the_listings, the_view}
 use Rattle.dav_methods.specs.Walking.{transfers_at, works_at}
 use Rattle.dav_methods.specs.Weights.{weight}
 use Rattle.dav_methods.proofs.KeptOpen.{open_same, open_then}
@@ -14,7 +13,7 @@ works-preserved g c =
     let before = c.works.invariant in
     record {
       copies = λ r t h. before.copies r t
-          (pending_goes (the_view g.S.GuardedFileSystem g.S.Disk.Disk g.S.File.DavFile) (the_listings g.S.GuardedFileSystem g.S.Entry.DavDirEntry) c.args.credentials.now c.args.alone c.works.ends c.copy_one.new.ends
+          (pending_goes g.S.GuardedFileSystem.view g.S.GuardedFileSystem.listings c.args.credentials.now c.args.alone c.works.ends c.copy_one.new.ends
           c.works.works.items c.pop_front.new.self.items c.copy_one.new.works.items c.in-Some.work c.works.fs c.copy_one.new.fs t r c.in-Some.ensures.items
           c.in-Ok.ensures.copies h);
       keeps = open_then _ _ _ before.keeps c.copy_one.ensures.keeps;
@@ -28,7 +27,7 @@ works-smaller g c = omega (arith, c.in-Ok.ensures.lighter refl, ap (λ ws. weigh
 pub returns-in-Err-clause-copies : goal.returns-in-Err-clause-copies
 returns-in-Err-clause-copies g c =
     c.works.invariant.copies (Err c.in-Err.error) c.copy_one.new.fs
-    (pending_stops (the_view g.S.GuardedFileSystem g.S.Disk.Disk g.S.File.DavFile) (the_listings g.S.GuardedFileSystem g.S.Entry.DavDirEntry) c.args.credentials.now c.args.alone c.works.ends c.works.works.items
+    (pending_stops g.S.GuardedFileSystem.view g.S.GuardedFileSystem.listings c.args.credentials.now c.args.alone c.works.ends c.works.works.items
     c.pop_front.new.self.items c.in-Some.work (transfers_at c.copy_one.new.ends c.copy_one.new.works.items) c.works.fs c.copy_one.new.fs c.in-Err.error c.in-Some.ensures.items c.in-Err.ensures.copies)
 
 pub returns-in-Err-clause-keeps : goal.returns-in-Err-clause-keeps
@@ -37,5 +36,5 @@ returns-in-Err-clause-keeps g c = open_then _ _ _ c.works.invariant.keeps c.copy
 pub returns-in-None-clause-copies : goal.returns-in-None-clause-copies
 returns-in-None-clause-copies g c =
     c.works.invariant.copies (Ok tt) c.works.fs
-    (none_pending (the_view g.S.GuardedFileSystem g.S.Disk.Disk g.S.File.DavFile) (the_listings g.S.GuardedFileSystem g.S.Entry.DavDirEntry) c.args.credentials.now c.args.alone c.works.ends
+    (none_pending g.S.GuardedFileSystem.view g.S.GuardedFileSystem.listings c.args.credentials.now c.args.alone c.works.ends
     c.works.works.items c.works.fs (omega (arith, c.in-None.ensures.cases.0, c.works.works.ok.0)))

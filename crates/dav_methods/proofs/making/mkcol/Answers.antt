@@ -7,4 +7,4 @@ pub returns-clause-table : goal.returns-clause-table
 returns-clause-table g c = (Err c.in-Err.refusal, c.metadata.new.self, c.in-Err.ensures.done, line_next _ _ _ _ _ _ c.may_make-may.ensures c.make_if.ensures.table)
 
 pub returns-clause-keeps : goal.returns-clause-keeps
-returns-clause-keeps g c = open_after _ _ _ c.metadata.ensures.keeps c.make_if.ensures.keeps
+returns-clause-keeps g c = open_after _ _ _ c.metadata.ensures.stays.keeps c.make_if.ensures.keeps

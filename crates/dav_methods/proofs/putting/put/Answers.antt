@@ -1,5 +1,4 @@
 use Rattle.std.proofs.Common.{Ok}
-use Rattle.dav_store.specs.View.{the_view}
 use Rattle.dav_methods.proofs.KeptOpen.{open_after}
 use Rattle.dav_methods.proofs.FilePut.{put_read}
 use Rattle.dav_methods.proofs.putting.put.Goals as goal
@@ -8,7 +7,7 @@ pub returns-clause-table : goal.returns-clause-table
 returns-clause-table g c = (Ok c.in-Ok.outcome, c.check.new.fs, c.in-Ok.ensures.table, c.put_body.ensures.table)
 
 pub returns-clause-read : goal.returns-clause-read
-returns-clause-read g c = put_read (the_view g.S.GuardedFileSystem g.S.Disk.Disk g.S.File.DavFile) _ _ _ _ _ _ _ _ _ c.put_body.ensures.table
+returns-clause-read g c = put_read g.S.GuardedFileSystem.view _ _ _ _ _ _ _ _ _ c.put_body.ensures.table
 
 pub returns-clause-keeps : goal.returns-clause-keeps
 returns-clause-keeps g c = open_after _ _ _ c.check.ensures.keeps c.put_body.ensures.keeps

@@ -1,6 +1,5 @@
 use Rattle.std.proofs.Common.{[], ◌++◌, ◌∷◌, ap, inl, inr, refl, ◌∙◌}
 use Rattle.dav_store.specs.Members.{begun, goes}
-use Rattle.dav_store.specs.View.{the_listings, the_view}
 use Rattle.dav_store.proofs.Reading.{lister_kept, step_keeps}
 use Rattle.dav_store.proofs.Walking.{walk_same}
 use Rattle.dav_methods.specs.Walking.{members_at}
@@ -25,8 +24,8 @@ entries-preserved g c =
     let r = added.told.0 in
     let name = g.S.Entry.DavDirEntry.called c.in-Ok-Some.entry in
     record {
-      live = lister_kept (g.S.GuardedFileSystem.lister c.entries.dir) (g.S.GuardedFileSystem.lister c.next_entry.new.dir) (g.S.Disk.Disk.state (g.S.GuardedFileSystem.inside c.next_entry.new.self))
-          (g.S.Disk.Disk.state (g.S.GuardedFileSystem.inside c.add_child.new.fs)) c.next_entry.ensures.lister added.keeps.listers c.next_entry.ensures.goes_on.live;
+      live = lister_kept (g.S.GuardedFileSystem.listings.lister c.entries.dir) (g.S.GuardedFileSystem.listings.lister c.next_entry.new.dir) (g.S.GuardedFileSystem.view.state c.next_entry.new.self)
+          (g.S.GuardedFileSystem.view.state c.add_child.new.fs) c.next_entry.ensures.lister added.keeps.listers c.next_entry.ensures.goes_on.live;
       admits = added.admits;
       lister = c.next_entry.ensures.lister ∙ before.lister;
       keeps = step_keeps _ _ _ _ _ _ before.lister before.keeps c.next_entry.ensures.goes_on.keeps added.keeps;
@@ -49,7 +48,7 @@ returns-in-Err-add_child-clause-reads g c = λ path.
     let before = c.entries.invariant in
     let told = c.in-Err-add_child.ensures.told in
     let name = g.S.Entry.DavDirEntry.called c.in-Ok-Some.entry in
-    entry_refused (the_view g.S.GuardedFileSystem g.S.Disk.Disk g.S.File.DavFile) (the_listings g.S.GuardedFileSystem g.S.Entry.DavDirEntry) c.args.fs.now c.add_child.new.fs
+    entry_refused g.S.GuardedFileSystem.view g.S.GuardedFileSystem.listings c.args.fs.now c.add_child.new.fs
     c.args.dir.now c.next_entry.new.dir path before.walk.0 name told.0 (members_at path c.entries.members.items) (members_at path c.add_child.new.members.items)
     c.in-Err-add_child.refusal (before.walk.2 path)
     (goes before.walk.0 c.entries.fs c.next_entry.new.self c.add_child.new.fs c.entries.dir c.next_entry.new.dir c.in-Ok-Some.entry told.0 before.walk.1

@@ -1,7 +1,6 @@
 use Rattle.std.proofs.Common.{◌≡◌, ◌++◌, [], refl, inl, ◌∙◌}
 use Rattle.std.proofs.lemmas.List.{take_all}
 use Rattle.dav_core.proofs.UnchangedLemmas.{keeps_same, keeps_then}
-use Rattle.dav_store.specs.View.{the_listings, the_view}
 use Rattle.dav_selection.specs.Answered.{unless}
 use Rattle.dav_selection.specs.Reports.{began}
 use Rattle.dav_selection.specs.Taken.{taken}
@@ -23,7 +22,7 @@ loop-href-preserved g c =
     let before = c.loop-href.invariant in
     let noted = ok_then c.note.result (c.note.new.missing.items ≡ c.loop-href.missing.items ++ unless c.in-Ok.given c.href-item.result) c.if-is_err.ensures.value c.note.ensures in
     record {
-      links = links_more (the_view g.S.GuardedFileSystem g.S.Disk.Disk g.S.File.DavFile) c.args.credentials.now (taken c.args.wanted) c.args.prefix.now c.as_slice-href-items.result.now c.args.fs.now c.loop-href.fs
+      links = links_more g.S.GuardedFileSystem.view c.args.credentials.now (taken c.args.wanted) c.args.prefix.now c.as_slice-href-items.result.now c.args.fs.now c.loop-href.fs
           c.follow_link.new.fs c.loop-href.href-index c.href-item.result c.href-item.result c.in-Ok.given c.loop-href.records.items c.follow_link.new.records.items c.loop-href.missing.items
           c.note.new.missing.items before.links c.in-Ok.ensures.table c.loop-href-test.true c.href-item.is noted;
       keeps = keeps_then _ _ _ before.keeps c.in-Ok.ensures.keeps;
@@ -49,5 +48,5 @@ returns-clause-table g c =
     })
 
 pub returns-clause-shown : goal.returns-clause-shown
-returns-clause-shown g c = λ stock shows. followed_or (the_view g.S.GuardedFileSystem g.S.Disk.Disk g.S.File.DavFile) (the_listings g.S.GuardedFileSystem g.S.Entry.DavDirEntry)
+returns-clause-shown g c = λ stock shows. followed_or g.S.GuardedFileSystem.view g.S.GuardedFileSystem.listings
     c.args.fs.now c.args.credentials.now stock (links_asked c.args.prefix.now c.args.hrefs.now c.args.wanted) c.loop-href.fs _ (returns-clause-table g c) shows
