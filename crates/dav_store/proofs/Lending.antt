@@ -1,9 +1,10 @@
 -- Calls on the disk inside a store, one after the other.
-use Rattle.std.proofs.Common.{◌≡◌, ℕ, List, Option, Result, sym, ap, subst, ◌∙◌}
+use Rattle.std.proofs.Common.{◌≡◌, ℕ, List, Option, Some, Result, sym, ap, subst, ◌∙◌}
 use Rattle.std.specs.Borrow.{GName}
 use Rattle.dav_core.specs.declared.error.FsError.{FsError}
 use Rattle.dav_core.specs.Disk.{DiskState}
 use Rattle.dav_core.specs.Info.{Info}
+use Rattle.dav_core.specs.World.{World}
 use Rattle.dav_store.specs.Standing.{Seen}
 use Rattle.dav_store.specs.View.{Fits, Listings, View}
 
@@ -22,3 +23,7 @@ module _ {S C D F L E : Type 0} (view : View S C F) (lists : Listings S C L E) {
     lends_on over a b c first next =
         let before = ap (λ s. with_disk s (inside c)) (fits.lent a b first) in
         subst (view.lends a) (sym (fits.lent b c next ∙ (before ∙ over a (inside b) (inside c)))) (fits.lends a (inside c))
+
+    -- What holds of each world that a disk tells, holds of each that a store's disk tells.
+    pub worlds_inside : (P : World → Type 0) → ((d : D) (w : World) → (state_of d).told ≡ Some w → P w) → (s : S) (w : World) → (view.state s).told ≡ Some w → P w
+    worlds_inside P worlds s w told = worlds (inside s) w (ap (λ (x : DiskState). x.told) (sym (fits.state s)) ∙ told)
