@@ -49,10 +49,9 @@ fn give_up<S: GuardedFileSystem<C>, C>(fs: &mut S, file: S::File, error: DavErro
     requires { IsSome ((S.view.state fs.old).live (S.view.handle file)) }
     ensures closed { Closes S.view fs.old file fs.new }
     ensures error { result ≡ Err error }
-    ensures life { HeldOrClosed S.view
-        (S.view.handle file) fs.old result fs.new }
+    ensures life { HeldOrClosed S.view (S.view.handle file) fs.old result fs.new }
     ensures loan { S.view.loan fs.new ≡ S.view.loan fs.old }
-    ensures store { fs.new ≡ S.with_disk fs.old (S.inside fs.new) }
+    ensures store { S.view.lends fs.old fs.new }
 {
     file_close(fs, file);
     Err(error)
@@ -68,10 +67,9 @@ fn answer_alone<S: GuardedFileSystem<C>, C>(
     requires { IsSome ((S.view.state fs.old).live (S.view.handle file)) }
     ensures closed { Closes S.view fs.old file fs.new }
     ensures given { GivesBody (λ answer. (answer.0 ≡ outcome) × IsEmpty answer.1) result }
-    ensures life { HeldOrClosed S.view
-        (S.view.handle file) fs.old result fs.new }
+    ensures life { HeldOrClosed S.view (S.view.handle file) fs.old result fs.new }
     ensures loan { S.view.loan fs.new ≡ S.view.loan fs.old }
-    ensures store { fs.new ≡ S.with_disk fs.old (S.inside fs.new) }
+    ensures store { S.view.lends fs.old fs.new }
 {
     file_close(fs, file);
     Ok((
@@ -91,13 +89,11 @@ fn hold<S: GuardedFileSystem<C>, C>(
     requires some { 0 < size }
     requires ready { AreReady size prepared.parts.items prepared.buffer }
     ensures outcome { result.0 ≡ prepared.outcome }
-    ensures holds { Holds S.view prepared.parts.items held fs.old
-        result.1 fs.new }
-    ensures life { HeldOrClosed S.view
-        (S.view.handle held.file) fs.old (Ok result) fs.new }
+    ensures holds { Holds S.view prepared.parts.items held fs.old result.1 fs.new }
+    ensures life { HeldOrClosed S.view (S.view.handle held.file) fs.old (Ok result) fs.new }
     ensures most { HasMost size (Ok result) }
     ensures loan { S.view.loan fs.new ≡ S.view.loan fs.old }
-    ensures store { fs.new ≡ S.with_disk fs.old (S.inside fs.new) }
+    ensures store { S.view.lends fs.old fs.new }
 {
     let Prepared {
         outcome,
@@ -122,14 +118,12 @@ fn send<S: GuardedFileSystem<C>, C>(
 ) -> Given<S::File>
     requires at { IsAt S.view.handle S.view.seen (S.view.state fs.old) held }
     requires within { IsSentOf (S.Meta.info meta.now).len sent.now }
-    ensures table { GivesBody (λ answer. Sends S.view
-        (asked_of asked.now) (S.Meta.info meta.now) sent.now held fs.old answer fs.new) result
-        ⊎ (result ≡ Err DavError.NoMemory) }
-    ensures life { HeldOrClosed S.view
-        (S.view.handle held.file) fs.old result fs.new }
+    ensures table { GivesBody (λ answer. Sends S.view (asked_of asked.now)
+        (S.Meta.info meta.now) sent.now held fs.old answer fs.new) result ⊎ (result ≡ Err DavError.NoMemory) }
+    ensures life { HeldOrClosed S.view (S.view.handle held.file) fs.old result fs.new }
     ensures most { HasMost (read_size_of asked.now.settings.now.read_buf_size) result }
     ensures loan { S.view.loan fs.new ≡ S.view.loan fs.old }
-    ensures store { fs.new ≡ S.with_disk fs.old (S.inside fs.new) }
+    ensures store { S.view.lends fs.old fs.new }
 {
     match prepare(alloc, asked.settings, asked.method, asked.path, meta, sent) {
         Ok(prepared) => Ok(hold(fs, held, prepared, asked.settings.read_size())),
@@ -150,14 +144,12 @@ fn send_from<S: GuardedFileSystem<C>, C>(
     requires live { can_read ((S.view.state fs.old).live (S.view.handle file)) ≡ true }
     requires place { (f : Seen) → S.view.seen file (S.view.state fs.old) ≡ Some f → f.place ≡ 0 }
     requires within { IsSentOf (S.Meta.info meta.now).len sent.now }
-    ensures table { GivesBody (λ answer. SendsFrom S.view
-        (asked_of asked.now) (S.Meta.info meta.now) sent.now file fs.old answer fs.new) result
-        ⊎ (result ≡ Err DavError.NoMemory) }
-    ensures life { HeldOrClosed S.view
-        (S.view.handle file) fs.old result fs.new }
+    ensures table { GivesBody (λ answer. SendsFrom S.view (asked_of asked.now)
+        (S.Meta.info meta.now) sent.now file fs.old answer fs.new) result ⊎ (result ≡ Err DavError.NoMemory) }
+    ensures life { HeldOrClosed S.view (S.view.handle file) fs.old result fs.new }
     ensures most { HasMost (read_size_of asked.now.settings.now.read_buf_size) result }
     ensures loan { S.view.loan fs.new ≡ S.view.loan fs.old }
-    ensures store { fs.new ≡ S.with_disk fs.old (S.inside fs.new) }
+    ensures store { S.view.lends fs.old fs.new }
 {
     let Some(start) = first_place(sent) else {
         return send(alloc, fs, OpenAt { file, place: 0 }, asked, meta, sent);
@@ -178,14 +170,12 @@ fn send_unplaced<S: GuardedFileSystem<C>, C>(
     meta: &S::Meta,
 ) -> Given<S::File>
     requires { IsSome ((S.view.state fs.old).live (S.view.handle held.file)) }
-    ensures table { GivesBody (λ answer. Sends S.view
-        (asked_of asked.now) (S.Meta.info meta.now) Unsatisfied held fs.old answer fs.new) result
-        ⊎ (result ≡ Err DavError.NoMemory) }
-    ensures life { HeldOrClosed S.view
-        (S.view.handle held.file) fs.old result fs.new }
+    ensures table { GivesBody (λ answer. Sends S.view (asked_of asked.now)
+        (S.Meta.info meta.now) Unsatisfied held fs.old answer fs.new) result ⊎ (result ≡ Err DavError.NoMemory) }
+    ensures life { HeldOrClosed S.view (S.view.handle held.file) fs.old result fs.new }
     ensures most { HasMost (read_size_of asked.now.settings.now.read_buf_size) result }
     ensures loan { S.view.loan fs.new ≡ S.view.loan fs.old }
-    ensures store { fs.new ≡ S.with_disk fs.old (S.inside fs.new) }
+    ensures store { S.view.lends fs.old fs.new }
 {
     match prepare_unsatisfied(alloc, asked.method, asked.path, meta) {
         Ok(outcome) => answer_alone(alloc, fs, held.file, outcome),
@@ -200,8 +190,7 @@ fn file_redirect<S: GuardedFileSystem<C>, C>(
     file: &mut S::File,
 ) -> Result<Option<Text>, FsError>
     requires { IsSome ((S.view.state fs.old).live (S.view.handle file.old)) }
-    ensures { Redirects S.view fs.old file.old result fs.new
-        file.new }
+    ensures { Redirects S.view fs.old file.old result fs.new file.new }
 {
     file.redirect_url(alloc, fs.disk())
 }
@@ -216,13 +205,12 @@ fn send_file<S: GuardedFileSystem<C>, C>(
 ) -> Given<S::File>
     requires live { can_read ((S.view.state fs.old).live (S.view.handle file)) ≡ true }
     requires place { (f : Seen) → S.view.seen file (S.view.state fs.old) ≡ Some f → f.place ≡ 0 }
-    ensures table { SendsFile S.view (asked_of asked.now)
-        (S.Meta.info meta.now) file fs.old result fs.new ⊎ (result ≡ Err DavError.NoMemory) }
-    ensures life { HeldOrClosed S.view
-        (S.view.handle file) fs.old result fs.new }
+    ensures table { SendsFile S.view (asked_of asked.now) (S.Meta.info meta.now) file fs.old result fs.new
+        ⊎ (result ≡ Err DavError.NoMemory) }
+    ensures life { HeldOrClosed S.view (S.view.handle file) fs.old result fs.new }
     ensures most { HasMost (read_size_of asked.now.settings.now.read_buf_size) result }
     ensures loan { S.view.loan fs.new ≡ S.view.loan fs.old }
-    ensures store { fs.new ≡ S.with_disk fs.old (S.inside fs.new) }
+    ensures store { S.view.lends fs.old fs.new }
 {
     match decide(alloc, asked.method, asked.fields, meta) {
         Ok(sent) => send_from(alloc, fs, file, asked, meta, &sent),
@@ -239,12 +227,11 @@ fn send_away<S: GuardedFileSystem<C>, C>(
     address: &Text,
 ) -> Given<S::File>
     requires { IsSome ((S.view.state fs.old).live (S.view.handle file)) }
-    ensures table { SendsAway S.view
-        (S.Meta.info meta.now) address.now file fs.old result fs.new ⊎ (result ≡ Err DavError.NoMemory) }
-    ensures life { HeldOrClosed S.view
-        (S.view.handle file) fs.old result fs.new }
+    ensures table { SendsAway S.view (S.Meta.info meta.now) address.now file fs.old result fs.new
+        ⊎ (result ≡ Err DavError.NoMemory) }
+    ensures life { HeldOrClosed S.view (S.view.handle file) fs.old result fs.new }
     ensures loan { S.view.loan fs.new ≡ S.view.loan fs.old }
-    ensures store { fs.new ≡ S.with_disk fs.old (S.inside fs.new) }
+    ensures store { S.view.lends fs.old fs.new }
 {
     match redirected_fields(alloc, address, meta) {
         Ok(fields) => {
@@ -268,14 +255,12 @@ fn give_file<S: GuardedFileSystem<C>, C>(
 ) -> Given<S::File>
     requires live { can_read ((S.view.state fs.old).live (S.view.handle file)) ≡ true }
     requires place { (f : Seen) → S.view.seen file (S.view.state fs.old) ≡ Some f → f.place ≡ 0 }
-    ensures table { ByRedirect S.view
-        (is_set asked.now.settings.now.redirect) (asked_of asked.now) (S.Meta.info meta.now) file fs.old result fs.new
-        ⊎ (result ≡ Err DavError.NoMemory) }
-    ensures life { HeldOrClosed S.view
-        (S.view.handle file) fs.old result fs.new }
+    ensures table { ByRedirect S.view (is_set asked.now.settings.now.redirect)
+        (asked_of asked.now) (S.Meta.info meta.now) file fs.old result fs.new ⊎ (result ≡ Err DavError.NoMemory) }
+    ensures life { HeldOrClosed S.view (S.view.handle file) fs.old result fs.new }
     ensures most { HasMost (read_size_of asked.now.settings.now.read_buf_size) result }
     ensures loan { S.view.loan fs.new ≡ S.view.loan fs.old }
-    ensures store { fs.new ≡ S.with_disk fs.old (S.inside fs.new) }
+    ensures store { S.view.lends fs.old fs.new }
 {
     if !is_on(asked.settings.redirect) {
         return send_file(alloc, fs, file, asked, meta);
@@ -306,16 +291,13 @@ fn get_file<S: GuardedFileSystem<C>, C>(
     asked: &Asked<'_>,
 ) -> Given<S::File>
     requires live { IsSome ((S.view.state fs.old).live (S.view.handle file)) }
-    requires reads { (l : Live) → (S.view.state fs.old).live (S.view.handle file) ≡ Some l
-        → l.how ≡ reading }
+    requires reads { (l : Live) → (S.view.state fs.old).live (S.view.handle file) ≡ Some l → l.how ≡ reading }
     requires place { (f : Seen) → S.view.seen file (S.view.state fs.old) ≡ Some f → f.place ≡ 0 }
-    ensures table { GetsFile S.view
-        (asked_of asked.now) file fs.old result fs.new ⊎ (result ≡ Err DavError.NoMemory) }
-    ensures life { HeldOrClosed S.view
-        (S.view.handle file) fs.old result fs.new }
+    ensures table { GetsFile S.view (asked_of asked.now) file fs.old result fs.new ⊎ (result ≡ Err DavError.NoMemory) }
+    ensures life { HeldOrClosed S.view (S.view.handle file) fs.old result fs.new }
     ensures most { HasMost (read_size_of asked.now.settings.now.read_buf_size) result }
     ensures loan { S.view.loan fs.new ≡ S.view.loan fs.old }
-    ensures store { fs.new ≡ S.with_disk fs.old (S.inside fs.new) }
+    ensures store { S.view.lends fs.old fs.new }
 {
     let mut file = file;
     match file_metadata(fs, &mut file) {
@@ -336,10 +318,8 @@ fn open_file<S: GuardedFileSystem<C>, C>(
     credentials: &C,
     asked: &Asked<'_>,
 ) -> Given<S::File>
-    ensures table { Opens S.view
-        (asked_of asked.now) credentials.now fs.old result fs.new }
-    ensures leads { LeadsOn S.view
-        S.listings credentials.now fs.old fs.new }
+    ensures table { Opens S.view (asked_of asked.now) credentials.now fs.old result fs.new }
+    ensures leads { LeadsOn S.view S.listings credentials.now fs.old fs.new }
     ensures life { OpenOnlyHeld S.view fs.old result fs.new }
     ensures most { HasMost (read_size_of asked.now.settings.now.read_buf_size) result }
     ensures loan { S.view.loan fs.new ≡ S.view.loan fs.old }
@@ -359,12 +339,9 @@ fn get_index<S: GuardedFileSystem<C>, C>(
     asked: &Asked<'_>,
     name: &Text,
 ) -> Given<S::File>
-    ensures table { ByCourse S.view
-        S.listings
-        (index_course (asked_of asked.now) (Some name.now)) (asked_of asked.now) credentials.now fs.old result fs.new
-        ⊎ (result ≡ Err DavError.NoMemory) }
-    ensures leads { LeadsOn S.view
-        S.listings credentials.now fs.old fs.new }
+    ensures table { ByCourse S.view S.listings (index_course (asked_of asked.now) (Some name.now))
+        (asked_of asked.now) credentials.now fs.old result fs.new ⊎ (result ≡ Err DavError.NoMemory) }
+    ensures leads { LeadsOn S.view S.listings credentials.now fs.old fs.new }
     ensures life { OpenOnlyHeld S.view fs.old result fs.new }
     ensures most { HasMost (read_size_of asked.now.settings.now.read_buf_size) result }
     ensures loan { S.view.loan fs.new ≡ S.view.loan fs.old }
@@ -395,12 +372,9 @@ fn get_dir<S: GuardedFileSystem<C>, C>(
     asked: &Asked<'_>,
 ) -> Given<S::File>
     requires admits { S.view.admits fs.old }
-    ensures table { ByCourse S.view
-        S.listings
-        (dir_course (asked_of asked.now) asked.now.path.now.slash) (asked_of asked.now) credentials.now fs.old result
-        fs.new ⊎ (result ≡ Err DavError.NoMemory) }
-    ensures leads { LeadsOn S.view
-        S.listings credentials.now fs.old fs.new }
+    ensures table { ByCourse S.view S.listings (dir_course (asked_of asked.now) asked.now.path.now.slash)
+        (asked_of asked.now) credentials.now fs.old result fs.new ⊎ (result ≡ Err DavError.NoMemory) }
+    ensures leads { LeadsOn S.view S.listings credentials.now fs.old fs.new }
     ensures life { OpenOnlyHeld S.view fs.old result fs.new }
     ensures most { HasMost (read_size_of asked.now.settings.now.read_buf_size) result }
     ensures loan { S.view.loan fs.new ≡ S.view.loan fs.old }
@@ -429,11 +403,9 @@ fn look<S: GuardedFileSystem<C>, C>(
     asked: &Asked<'_>,
 ) -> Given<S::File>
     requires admits { S.view.admits fs.old }
-    ensures table { ByWellKnown S.view
-        S.listings false
-        (asked_of asked.now) credentials.now fs.old result fs.new ⊎ (result ≡ Err DavError.NoMemory) }
-    ensures leads { LeadsOn S.view
-        S.listings credentials.now fs.old fs.new }
+    ensures table { ByWellKnown S.view S.listings false (asked_of asked.now) credentials.now fs.old result fs.new
+        ⊎ (result ≡ Err DavError.NoMemory) }
+    ensures leads { LeadsOn S.view S.listings credentials.now fs.old fs.new }
     ensures life { OpenOnlyHeld S.view fs.old result fs.new }
     ensures most { HasMost (read_size_of asked.now.settings.now.read_buf_size) result }
     ensures loan { S.view.loan fs.new ≡ S.view.loan fs.old }
@@ -492,29 +464,23 @@ pub fn handle_get<S: GuardedFileSystem<C>, C>(
     fields: &HeaderMap,
 ) -> Given<S::File>
     requires admits { S.view.admits fs.old }
-    ensures table { Gets S.view
-        S.listings
-        (query settings.now fields.now method path.now) credentials.now fs.old result fs.new
-        ⊎ (result ≡ Err DavError.NoMemory) }
+    ensures table { Gets S.view S.listings (query settings.now fields.now method path.now)
+        credentials.now fs.old result fs.new ⊎ (result ≡ Err DavError.NoMemory) }
     ensures framed { (number : ℕ) → IsFramed (At method path.now) (reply_at fields.now number result) }
     ensures sound { (number : ℕ) → HasSoundBody (reply_at fields.now number result) }
-    ensures heard { (result ≡ Err DavError.NoMemory) ⊎ Heard S.view
-        S.listings
+    ensures heard { (result ≡ Err DavError.NoMemory) ⊎ Heard S.view S.listings
         (query settings.now fields.now method path.now) credentials.now fs.old result fs.new }
     ensures right { (looked opened : WebPath → Result Standing FsError)
         (listed : WebPath → Result (List Member) FsError)
-        → ShowsFor S.view
-        S.listings fs.old credentials.now
+        → ShowsFor S.view S.listings fs.old credentials.now
         (query settings.now fields.now method path.now) looked opened listed
         → (result ≡ Err DavError.NoMemory) ⊎ IsRightFor S.view
         (query settings.now fields.now method path.now) looked opened listed fs.old result fs.new }
-    ensures asks { (holds : S → Bool) → AsksByOne S.view
-        S.listings holds → holds fs.old ≡ true
+    ensures asks { (holds : S → Bool) → AsksByOne S.view S.listings holds → holds fs.old ≡ true
         → (result ≡ Err DavError.NoMemory) ⊎ AsksUnlessKnown (the_is_well_known settings.now method path.now)
         (is_set settings.now.redirect) (status_given result) (fields_given fields.now result)
         (S.view.state fs.old).asked (S.view.state fs.new).asked }
-    ensures leads { LeadsOn S.view
-        S.listings credentials.now fs.old fs.new }
+    ensures leads { LeadsOn S.view S.listings credentials.now fs.old fs.new }
     ensures life { OpenOnlyHeld S.view fs.old result fs.new }
     ensures most { HasMost (read_size_of settings.now.read_buf_size) result }
     ensures loan { S.view.loan fs.new ≡ S.view.loan fs.old }
@@ -537,11 +503,9 @@ fn get_once<S: GuardedFileSystem<C>, C>(
     asked: &Asked<'_>,
 ) -> Given<S::File>
     requires admits { S.view.admits fs.old }
-    ensures table { Gets S.view
-        S.listings
-        (asked_of asked.now) credentials.now fs.old result fs.new ⊎ (result ≡ Err DavError.NoMemory) }
-    ensures leads { LeadsOn S.view
-        S.listings credentials.now fs.old fs.new }
+    ensures table { Gets S.view S.listings (asked_of asked.now) credentials.now fs.old result fs.new
+        ⊎ (result ≡ Err DavError.NoMemory) }
+    ensures leads { LeadsOn S.view S.listings credentials.now fs.old fs.new }
     ensures life { OpenOnlyHeld S.view fs.old result fs.new }
     ensures most { HasMost (read_size_of asked.now.settings.now.read_buf_size) result }
     ensures loan { S.view.loan fs.new ≡ S.view.loan fs.old }

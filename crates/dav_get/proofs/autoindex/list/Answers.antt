@@ -17,7 +17,7 @@ returns-in-Ok-clause-listed g c =
 
 pub returns-in-Ok-clause-keeps : goal.returns-in-Ok-clause-keeps
 returns-in-Ok-clause-keeps g c =
-    walk_leaves (g.S.GuardedFileSystem.listings.lister c.in-Ok.dir) _ _ _ _ c.in-Ok.ensures.one (walk_same _ _) c.end_dir.ensures.ends
+    walk_leaves (g.S.GuardedFileSystem.listings.lister c.in-Ok.dir) _ _ _ _ c.in-Ok.ensures.stays.keeps (walk_same _ _) c.end_dir.ensures.stays.keeps
 
 pub returns-in-Ok-clause-leads : goal.returns-in-Ok-clause-leads
 returns-in-Ok-clause-leads g c =
@@ -32,4 +32,4 @@ returns-in-Ok-clause-leads g c =
     }) (returns-in-Ok-clause-keeps g c).world
 
 pub returns-in-Err-clause-leads : goal.returns-in-Err-clause-leads
-returns-in-Err-clause-leads g c = unlisted _ _ _ _ none c.in-Err.ensures.done c.in-Err.ensures.one.world
+returns-in-Err-clause-leads g c = unlisted _ _ _ _ none c.in-Err.ensures.done c.in-Err.ensures.stays.keeps.world

@@ -14,12 +14,12 @@ returns-then-is_dir-clause-life g c =
 pub returns-else-is_dir-clause-leads : goal.returns-else-is_dir-clause-leads
 returns-else-is_dir-clause-leads g c =
     leads_then g.S.GuardedFileSystem.view g.S.GuardedFileSystem.listings c.args.credentials.now _ _ _
-    (looks _ _ _ _ none c.in-Ok.ensures.done c.in-Ok.ensures.keeps.world) c.open_file.ensures.leads
+    (looks _ _ _ _ none c.in-Ok.ensures.done c.in-Ok.ensures.stays.keeps.world) c.open_file.ensures.leads
 
 pub returns-then-is_dir-clause-leads : goal.returns-then-is_dir-clause-leads
 returns-then-is_dir-clause-leads g c =
     leads_then g.S.GuardedFileSystem.view g.S.GuardedFileSystem.listings c.args.credentials.now _ _ _
-    (looks _ _ _ _ none c.in-Ok.ensures.done c.in-Ok.ensures.keeps.world) c.get_dir.ensures.leads
+    (looks _ _ _ _ none c.in-Ok.ensures.done c.in-Ok.ensures.stays.keeps.world) c.get_dir.ensures.leads
 
 pub returns-in-Err-clause-leads : goal.returns-in-Err-clause-leads
-returns-in-Err-clause-leads g c = looks _ _ _ _ none c.in-Err.ensures.done c.in-Err.ensures.keeps.world
+returns-in-Err-clause-leads g c = looks _ _ _ _ none c.in-Err.ensures.done c.in-Err.ensures.stays.keeps.world
