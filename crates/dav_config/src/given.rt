@@ -84,14 +84,12 @@ fn gather<S: GuardedFileSystem<C>, C>(
     store: &mut S,
     response: Response<Body<GetBody<S::File>>>,
 ) -> Answered<S::File>
-    requires { MayPoll (λ b d. IsHeld S.view.handle S.view.seen (S.Disk.state d) b) (inner_of response)
+    requires { MayPoll (λ b d. IsHeld S.File.handle S.File.seen (S.Disk.state d) b) (inner_of response)
         (S.inside store.old) }
-    ensures done { IfOk result (λ r. Gathers
-        (the_served S.GuardedFileSystem S.Disk.Disk S.File.DavFile S.Entry.DavDirEntry) S.Disk.state S.Disk.loan
-        S.inside
-        response store.old r store.new) }
-    ensures touches { TouchesOwn S.view.handle S.view.seen (S.view.state store.old)
-        (file_of (inner_of response)) (S.view.state store.new) None }
+    ensures done { IfOk result (λ r. Gathers (the_served S.GuardedFileSystem S.File.DavFile)
+        S.File.handle S.File.seen S.Disk.state S.Disk.loan S.inside response store.old r store.new) }
+    ensures touches { TouchesOwn S.File.handle S.File.seen (S.Disk.state (S.inside store.old))
+        (file_of (inner_of response)) (S.Disk.state (S.inside store.new)) None }
     ensures loan { S.view.loan store.new ≡ S.view.loan store.old }
 {
     let (head, body) = response.into_parts();
@@ -109,12 +107,10 @@ pub fn handle_given<S: GuardedFileSystem<C> + Drop, C, B: BodyReader + Drop>(
     now: Moment,
 ) -> Answered<S::File>
     requires { S.view.admits store }
-    ensures done { IfOk result (λ r. HandlesGiven
-        (the_served S.GuardedFileSystem S.Disk.Disk S.File.DavFile S.Entry.DavDirEntry) S.Disk.state S.Disk.loan
-        S.inside
-        B.BodyReader (asking settings.now (head_of req) credentials.now now) store (body_of req) r) }
-    ensures memory { OnErr result (Ends
-        (the_served S.GuardedFileSystem S.Disk.Disk S.File.DavFile S.Entry.DavDirEntry)
+    ensures done { IfOk result (λ r. HandlesGiven (the_served S.GuardedFileSystem S.File.DavFile)
+        S.File.handle S.File.seen S.Disk.state S.Disk.loan S.inside B.BodyReader
+        (asking settings.now (head_of req) credentials.now now) store (body_of req) r) }
+    ensures memory { OnErr result (Ends (the_served S.GuardedFileSystem S.File.DavFile)
         (asking settings.now (head_of req) credentials.now now) store) }
 {
     let mut given = Some(store);
