@@ -39,12 +39,9 @@ fn follow_link<S: GuardedFileSystem<C>, C>(
     href: &Text,
     records: &mut Vec<Record>,
 ) -> Result<bool, ReportError>
-    ensures table { ((answer : Option Answer)
-        × Leads S.view credentials.now prefix.now href.now
-        fs.old answer fs.new
+    ensures table { ((answer : Option Answer) × Leads S.view credentials.now prefix.now href.now fs.old answer fs.new
         × (records.new.items ≡ records.old.items ++ answer_given (taken wanted.entry) answer)
-        × (result ≡ Ok (is_given (answer_given (taken wanted.entry) answer))))
-        ⊎ (result ≡ Err ReportError.NoMemory) }
+        × (result ≡ Ok (is_given (answer_given (taken wanted.entry) answer)))) ⊎ (result ≡ Err ReportError.NoMemory) }
     ensures keeps { Keeps (S.view.state fs.old) (S.view.state fs.new) }
     ensures admits { S.view.admits fs.old → S.view.admits fs.new }
     ensures loan { S.view.loan fs.new ≡ S.view.loan fs.old }
@@ -78,14 +75,12 @@ pub(crate) fn follow<S: GuardedFileSystem<C>, C>(
     wanted: Wanted<'_>,
     hrefs: &Names,
 ) -> Result<Report, ReportError>
-    ensures table { Follows S.view credentials.now
-        (links_asked prefix.now hrefs.now wanted.entry) fs.old result fs.new ⊎ (result ≡ Err ReportError.NoMemory) }
-    ensures shown { (stock : Stock) → ShowsFor S.view
-        S.listings fs.old credentials.now stock
+    ensures table { Follows S.view credentials.now (links_asked prefix.now hrefs.now wanted.entry) fs.old result fs.new
+        ⊎ (result ≡ Err ReportError.NoMemory) }
+    ensures shown { (stock : Stock) → ShowsFor S.view S.listings fs.old credentials.now stock
         (follows (links_asked prefix.now hrefs.now wanted.entry))
         → IsFollowed (links_asked prefix.now hrefs.now wanted.entry) stock
-        (Rose (S.view.state fs.old).faults (S.view.state fs.new).faults) result
-        ⊎ (result ≡ Err ReportError.NoMemory) }
+        (Rose (S.view.state fs.old).faults (S.view.state fs.new).faults) result ⊎ (result ≡ Err ReportError.NoMemory) }
     ensures keeps { Keeps (S.view.state fs.old) (S.view.state fs.new) }
     ensures admits { S.view.admits fs.old → S.view.admits fs.new }
     ensures loan { S.view.loan fs.new ≡ S.view.loan fs.old }

@@ -27,15 +27,13 @@ fn read_piece<S: GuardedFileSystem<C>, C>(
     requires live { IsSome ((S.view.state fs.old).live (S.view.handle file.old)) }
     requires some { 0 < left }
     requires room { 0 < length buffer.old }
-    ensures touches { Touches S.view fs.old file.old fs.new
-        file.new }
+    ensures touches { Touches S.view fs.old file.old fs.new file.new }
     ensures refused { can_read ((S.view.state fs.old).live (S.view.handle file.old)) ≡ true
         → OnErr result (Spoiled (S.view.state fs.old) result (S.view.state fs.new)) }
     ensures within { IfOk result (λ n. n ≤ left) }
     ensures len { IfOk result (λ n. length bytes.new.items ≡ length bytes.old.items + n) }
     ensures told { (f : Seen) → S.view.seen file.old (S.view.state fs.old) ≡ Some f
-        → Appends S.view f bytes.old.items result bytes.new.items
-        fs.new file.new }
+        → Appends S.view f bytes.old.items result bytes.new.items fs.new file.new }
 {
     let most = left.min(buffer.len() as u64) as usize;
     prove!(most <= buffer.len());
@@ -56,8 +54,7 @@ fn read_to<S: GuardedFileSystem<C>, C>(
     len: u64,
 ) -> Result<Octets, FsError>
     requires live { IsSome ((S.view.state fs.old).live (S.view.handle file.old)) }
-    ensures { ReadsTo S.view fs.old file.old len result fs.new
-        file.new }
+    ensures { ReadsTo S.view fs.old file.old len result fs.new file.new }
 {
     let mut bytes = Vec::new(alloc);
     let Ok(mut buffer) = vec![in alloc; 0u8; PIECE] else {
@@ -113,10 +110,9 @@ fn read_content<S: GuardedFileSystem<C>, C>(
     meta: &S::Meta,
 ) -> Result<Resource, Unread>
     requires live { IsSome ((S.view.state fs.old).live (S.view.handle file)) }
-    ensures table { AfterMeta S.view (Ok (S.Meta.info meta.now)) file
-        fs.old result fs.new ⊎ (result ≡ Err Unread.NoMemory) }
-    ensures closed { ClosesAfter S.view (S.view.handle file) fs.old
-        fs.new }
+    ensures table { AfterMeta S.view (Ok (S.Meta.info meta.now)) file fs.old result fs.new
+        ⊎ (result ≡ Err Unread.NoMemory) }
+    ensures closed { ClosesAfter S.view (S.view.handle file) fs.old fs.new }
 {
     if !meta.is_file() {
         file_close(fs, file);
@@ -136,8 +132,7 @@ fn read_file<S: GuardedFileSystem<C>, C>(
 ) -> Result<Resource, Unread>
     requires live { IsSome ((S.view.state fs.old).live (S.view.handle file)) }
     ensures table { AfterOpen S.view (Ok file) fs.old result fs.new }
-    ensures closed { ClosesAfter S.view (S.view.handle file) fs.old
-        fs.new }
+    ensures closed { ClosesAfter S.view (S.view.handle file) fs.old fs.new }
 {
     let mut file = file;
     match file_metadata(fs, &mut file) {
@@ -156,8 +151,7 @@ pub(crate) fn fetch<S: GuardedFileSystem<C>, C>(
     credentials: &C,
     path: &DavPath,
 ) -> Result<Resource, Unread>
-    ensures table { Fetches S.view credentials.now path.now fs.old
-        result fs.new }
+    ensures table { Fetches S.view credentials.now path.now fs.old result fs.new }
     ensures keeps { Keeps (S.view.state fs.old) (S.view.state fs.new) }
     ensures admits { S.view.admits fs.old → S.view.admits fs.new }
     ensures loan { S.view.loan fs.new ≡ S.view.loan fs.old }

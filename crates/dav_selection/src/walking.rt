@@ -57,8 +57,7 @@ pub(crate) fn visit<S: GuardedFileSystem<C>, C>(
     wanted: Wanted<'_>,
     records: &mut Vec<Record>,
 ) -> Result<bool, Unread>
-    ensures table { ((got : Result Resource Unread)
-        × Fetches S.view credentials.now path fs.old got fs.new
+    ensures table { ((got : Result Resource Unread) × Fetches S.view credentials.now path fs.old got fs.new
         × Adds (taken wanted.entry) (record { path = path; got = got }) records.old.items result records.new.items)
         ⊎ (result ≡ Err Unread.NoMemory) }
     ensures keeps { Keeps (S.view.state fs.old) (S.view.state fs.new) }
@@ -97,8 +96,8 @@ fn walk<S: GuardedFileSystem<C>, C>(
 ) -> Result<Records, ReportError>
     requires plain { AllByRecursion IsNamedPlain members.now }
     requires admits { S.view.admits fs.old }
-    ensures table { Selects S.view credentials.now
-        (sought dir.now limit wanted.entry) members.now fs.old result fs.new ⊎ (result ≡ Err ReportError.NoMemory) }
+    ensures table { Selects S.view credentials.now (sought dir.now limit wanted.entry) members.now fs.old result fs.new
+        ⊎ (result ≡ Err ReportError.NoMemory) }
     ensures keeps { Keeps (S.view.state fs.old) (S.view.state fs.new) }
     ensures admits { S.view.admits fs.new }
     ensures loan { S.view.loan fs.new ≡ S.view.loan fs.old }
@@ -146,14 +145,11 @@ pub(crate) fn query_dir<S: GuardedFileSystem<C>, C>(
     limit: Option<u32>,
 ) -> Result<Records, ReportError>
     requires admits { S.view.admits fs.old }
-    ensures table { Queries S.view
-        S.listings credentials.now (sought dir.now limit wanted.entry)
-        fs.old result fs.new ⊎ (result ≡ Err ReportError.NoMemory) }
-    ensures shown { (stock : Stock) → ShowsDir S.view
-        S.listings fs.old credentials.now stock dir.now
-        → IsQueried (sought dir.now limit wanted.entry) (stock.listed dir.now) stock
-        (Rose (S.view.state fs.old).faults (S.view.state fs.new).faults) result
+    ensures table { Queries S.view S.listings credentials.now (sought dir.now limit wanted.entry) fs.old result fs.new
         ⊎ (result ≡ Err ReportError.NoMemory) }
+    ensures shown { (stock : Stock) → ShowsDir S.view S.listings fs.old credentials.now stock dir.now
+        → IsQueried (sought dir.now limit wanted.entry) (stock.listed dir.now) stock
+        (Rose (S.view.state fs.old).faults (S.view.state fs.new).faults) result ⊎ (result ≡ Err ReportError.NoMemory) }
     ensures keeps { Keeps (S.view.state fs.old) (S.view.state fs.new) }
     ensures admits { S.view.admits fs.new }
     ensures loan { S.view.loan fs.new ≡ S.view.loan fs.old }

@@ -8,7 +8,7 @@ invariant-pieces g l = record {
   touches : Touches g.S.GuardedFileSystem.view l.initial.fs l.initial.file l.fs l.file;
   room : 0 < vec_len l.buffer;
   count : length l.bytes.items + l.left ≡ l.len;
-  told : (f : Seen) → g.S.File.DavFile.seen l.initial.file (g.S.GuardedFileSystem.view.state l.initial.fs) ≡ Some f
+  told : (f : Seen) → g.S.GuardedFileSystem.view.seen l.initial.file (g.S.GuardedFileSystem.view.state l.initial.fs) ≡ Some f
       → ReadSoFar g.S.GuardedFileSystem.view f l.bytes.items l.fs l.file;
 }
 
