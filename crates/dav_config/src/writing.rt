@@ -3,6 +3,7 @@ ghost use Rattle.std.specs.Prelude.{◌≡◌, IfOk, OnErr, true};
 ghost use Rattle.http.specs.Request.{head_of};
 ghost use Rattle.dav_model.specs.Conditions.{writes as the_writes};
 ghost use Rattle.dav_store.specs.Frames.{KeepsOpen};
+ghost use Rattle.dav_store.specs.View.{StaysOpen};
 ghost use Rattle.dav_config.specs.Handling.{SetsMoment, the_served};
 ghost use Rattle.dav_config.specs.Writing.{ByMethod, Tells, WritesOver, order};
 
@@ -29,9 +30,7 @@ fn perform<S: GuardedFileSystem<C>, C, B: BodyReader>(
     ensures table { ByMethod S.view S.listings S.File.writes asked.entry.now.credentials.now method
         (order asked.entry.now.settings.now.prefix method path.now (head_of asked.entry.now.head.now).headers)
         (B.state body.old) fs.old result fs.new (B.state body.new) }
-    ensures keeps { KeepsOpen (S.view.state fs.old) (S.view.state fs.new) }
-    ensures admits { S.view.admits fs.new }
-    ensures loan { S.view.loan fs.new ≡ S.view.loan fs.old }
+    ensures stays { StaysOpen S.view fs.old fs.new }
     ensures body_loan { B.loan body.new ≡ B.loan body.old }
 {
     let credentials = asked.credentials;

@@ -1,13 +1,13 @@
 // The page of a directory.
 ghost use Rattle.std.specs.Prelude.{◌≡◌, ◌⊎◌, ℕ, [], IfOk, MatchResult, Ok, OnOk, Err, map, not};
 ghost use Rattle.std.specs.List.{AllByRecursion};
-ghost use Rattle.dav_core.specs.Unchanged.{Keeps};
 ghost use Rattle.dav_model.specs.Due.{page_course, query};
 ghost use Rattle.dav_model.specs.Head.{is_get as the_is_get};
 ghost use Rattle.dav_model.specs.Indexes.{IsIndexReply, page_fields as the_page_fields};
 ghost use Rattle.dav_model.specs.Bodies.{read_size_of};
 ghost use Rattle.dav_page.specs.Listed.{AreSound, HasPlainName};
 ghost use Rattle.dav_store.specs.Leads.{LeadsOn};
+ghost use Rattle.dav_store.specs.View.{Stays};
 ghost use Rattle.dav_get.specs.declared.part.BodyPart.TheVariants.{Text as TextPart};
 ghost use Rattle.dav_get.specs.Lives.{HasMost, OpenOnlyHeld};
 ghost use Rattle.dav_get.specs.Right.{reply_at};
@@ -43,9 +43,7 @@ fn list<S: GuardedFileSystem<C>, C>(
         (λ e. IsListing S.view S.listings (the_is_get asked.now.method) credentials.now
         asked.now.path.now fs.old (Err e) fs.new ⊎ (e ≡ FsError.NoMemory)) }
     ensures leads { LeadsOn S.view S.listings credentials.now fs.old fs.new }
-    ensures keeps { Keeps (S.view.state fs.old) (S.view.state fs.new) }
-    ensures loan { S.view.loan fs.new ≡ S.view.loan fs.old }
-    ensures admits { S.view.admits fs.new }
+    ensures stays { Stays S.view fs.old fs.new }
 {
     if is_get(asked.method) {
         return read_members(alloc, fs, asked.path, credentials);

@@ -1,10 +1,10 @@
 //! COPY and MOVE: what stands at a path is copied or moved to another, in place of what stands there.
 ghost use Rattle.std.specs.Prelude.{◌≡◌, ◌⊎◌, Ok, Err};
-ghost use Rattle.dav_store.specs.Frames.{KeepsOpen};
 ghost use Rattle.dav_methods.specs.Carrying.{Arrives, CopiesTo, CopyMoves, Goes, Leaves, MovesTo, Replaces};
 ghost use Rattle.dav_model.specs.CarryPlans.{method_of as the_method_of};
 ghost use Rattle.dav_methods.specs.Lines.{fails_when};
 ghost use Rattle.dav_model.specs.Overlap.{overlap};
+ghost use Rattle.dav_store.specs.View.{StaysOpen};
 ghost use Rattle.dav_methods.specs.Removing.{LooksAtLink};
 ghost use Rattle.dav_methods.specs.Table.{Next, Unless};
 
@@ -54,9 +54,7 @@ fn go<S: GuardedFileSystem<C>, C>(
     requires admits { S.view.admits fs.old }
     ensures table { Goes S.view S.listings credentials.now asked.now.moving asked.now
         (record { from = path.now; to = asked.now.to; dir = dir }) outcome fs.old result fs.new }
-    ensures keeps { KeepsOpen (S.view.state fs.old) (S.view.state fs.new) }
-    ensures admits { S.view.admits fs.new }
-    ensures loan { S.view.loan fs.new ≡ S.view.loan fs.old }
+    ensures stays { StaysOpen S.view fs.old fs.new }
 {
     if asked.moving {
         return answer(line_of(fs.rename(path, &asked.to, credentials)), outcome);
@@ -78,9 +76,7 @@ fn replace<S: GuardedFileSystem<C>, C>(
     requires admits { S.view.admits fs.old }
     ensures table { Replaces S.view S.listings credentials.now asked.now
         (record { from = path.now; to = asked.now.to; dir = dir }) dir_there fs.old result fs.new }
-    ensures keeps { KeepsOpen (S.view.state fs.old) (S.view.state fs.new) }
-    ensures admits { S.view.admits fs.new }
-    ensures loan { S.view.loan fs.new ≡ S.view.loan fs.old }
+    ensures stays { StaysOpen S.view fs.old fs.new }
 {
     match remove_all(alloc, fs, credentials, &asked.to, dir_there) {
         Ok(()) => go(alloc, fs, credentials, asked, path, dir, silent(alloc)),
@@ -101,9 +97,7 @@ fn fill<S: GuardedFileSystem<C>, C>(
     requires admits { S.view.admits fs.old }
     ensures table { Next (Arrives S.view S.listings credentials.now asked.now
         (record { from = path.now; to = asked.now.to; dir = dir }) (Err refusal)) fs.old result fs.new }
-    ensures keeps { KeepsOpen (S.view.state fs.old) (S.view.state fs.new) }
-    ensures admits { S.view.admits fs.new }
-    ensures loan { S.view.loan fs.new ≡ S.view.loan fs.old }
+    ensures stays { StaysOpen S.view fs.old fs.new }
 {
     pass_missing(refusal)?;
     let outcome = created(alloc)?;
@@ -122,9 +116,7 @@ fn arrive<S: GuardedFileSystem<C>, C>(
     requires admits { S.view.admits fs.old }
     ensures table { LooksAtLink S.view S.listings credentials.now asked.now.to (Arrives S.view S.listings
         credentials.now asked.now (record { from = path.now; to = asked.now.to; dir = dir })) fs.old result fs.new }
-    ensures keeps { KeepsOpen (S.view.state fs.old) (S.view.state fs.new) }
-    ensures admits { S.view.admits fs.new }
-    ensures loan { S.view.loan fs.new ≡ S.view.loan fs.old }
+    ensures stays { StaysOpen S.view fs.old fs.new }
 {
     match fs.symlink_metadata(&asked.to, credentials) {
         Ok(meta) => {
@@ -151,9 +143,7 @@ fn arrive_if<S: GuardedFileSystem<C>, C>(
     ensures table { Next (Unless may (LooksAtLink S.view S.listings credentials.now asked.now.to (Arrives S.view
         S.listings credentials.now asked.now (record { from = path.now; to = asked.now.to; dir = dir }))))
         fs.old result fs.new }
-    ensures keeps { KeepsOpen (S.view.state fs.old) (S.view.state fs.new) }
-    ensures admits { S.view.admits fs.new }
-    ensures loan { S.view.loan fs.new ≡ S.view.loan fs.old }
+    ensures stays { StaysOpen S.view fs.old fs.new }
 {
     match may {
         Ok(()) => arrive(alloc, fs, credentials, asked, path, dir),
@@ -174,9 +164,7 @@ fn leave<S: GuardedFileSystem<C>, C>(
     requires admits { S.view.admits fs.old }
     ensures table { Next (Leaves S.view S.listings credentials.now path.now fields.now asked.now
         (Ok (S.Meta.info meta.now))) fs.old result fs.new }
-    ensures keeps { KeepsOpen (S.view.state fs.old) (S.view.state fs.new) }
-    ensures admits { S.view.admits fs.new }
-    ensures loan { S.view.loan fs.new ≡ S.view.loan fs.old }
+    ensures stays { StaysOpen S.view fs.old fs.new }
 {
     let above = asked.to.parent()?;
     pass_parent(fs, credentials, &above)?;
@@ -197,9 +185,7 @@ fn carry<S: GuardedFileSystem<C>, C>(
     requires admits { S.view.admits fs.old }
     ensures table { Next (CopyMoves S.view S.listings credentials.now moving prefix.now path.now fields.now)
         fs.old result fs.new }
-    ensures keeps { KeepsOpen (S.view.state fs.old) (S.view.state fs.new) }
-    ensures admits { S.view.admits fs.new }
-    ensures loan { S.view.loan fs.new ≡ S.view.loan fs.old }
+    ensures stays { StaysOpen S.view fs.old fs.new }
 {
     let asked = match asked(alloc, moving, fields, prefix) {
         Ok(asked) => asked,
@@ -242,9 +228,7 @@ pub fn copy<S: GuardedFileSystem<C>, C>(
 ) -> Result<Outcome, DavError>
     requires admits { S.view.admits fs.old }
     ensures table { CopiesTo S.view S.listings credentials.now prefix.now path.now fields.now fs.old result fs.new }
-    ensures keeps { KeepsOpen (S.view.state fs.old) (S.view.state fs.new) }
-    ensures admits { S.view.admits fs.new }
-    ensures loan { S.view.loan fs.new ≡ S.view.loan fs.old }
+    ensures stays { StaysOpen S.view fs.old fs.new }
 {
     carry(alloc, fs, credentials, false, path, fields, prefix)
 }
@@ -261,9 +245,7 @@ pub fn move_to<S: GuardedFileSystem<C>, C>(
 ) -> Result<Outcome, DavError>
     requires admits { S.view.admits fs.old }
     ensures table { MovesTo S.view S.listings credentials.now prefix.now path.now fields.now fs.old result fs.new }
-    ensures keeps { KeepsOpen (S.view.state fs.old) (S.view.state fs.new) }
-    ensures admits { S.view.admits fs.new }
-    ensures loan { S.view.loan fs.new ≡ S.view.loan fs.old }
+    ensures stays { StaysOpen S.view fs.old fs.new }
 {
     carry(alloc, fs, credentials, true, path, fields, prefix)
 }

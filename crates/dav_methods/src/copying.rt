@@ -1,7 +1,7 @@
 // A copy of what stands at a path, a directory before its members.
 ghost use Rattle.std.specs.Prelude.{◌≡◌, ◌<◌, ◌∷◌, [], true, IfOk, Ok, Result};
 ghost use Rattle.dav_core.specs.declared.error.FsError.{FsError};
-ghost use Rattle.dav_store.specs.Frames.{KeepsOpen};
+ghost use Rattle.dav_store.specs.View.{StaysOpen};
 ghost use Rattle.dav_methods.specs.Copying.{Copies};
 ghost use Rattle.dav_methods.specs.Lines.{above};
 ghost use Rattle.dav_methods.specs.Removing.{line_of as the_line_of};
@@ -30,9 +30,7 @@ fn copy_file<S: GuardedFileSystem<C>, C>(
     requires admits { S.view.admits fs.old }
     ensures copies { (copied : Result Unit FsError) × S.view.copies fs.old credentials.now from.now to.now copied fs.new
         × (result ≡ the_line_of copied) }
-    ensures keeps { KeepsOpen (S.view.state fs.old) (S.view.state fs.new) }
-    ensures admits { S.view.admits fs.new }
-    ensures loan { S.view.loan fs.new ≡ S.view.loan fs.old }
+    ensures stays { StaysOpen S.view fs.old fs.new }
 {
     line_of(fs.copy(from, to, credentials))
 }
@@ -51,9 +49,7 @@ fn copy_dir<S: GuardedFileSystem<C>, C>(
         (ends_above ends.now) works.old.items) fs.old result fs.new (transfers_at ends.now works.new.items) }
     ensures lighter { result ≡ Ok tt → weight (works_at ends.now.from works.new.items [])
         < weight (Whole ends.now.from true ∷ works_at (above ends.now.from) works.old.items []) }
-    ensures keeps { KeepsOpen (S.view.state fs.old) (S.view.state fs.new) }
-    ensures admits { S.view.admits fs.new }
-    ensures loan { S.view.loan fs.new ≡ S.view.loan fs.old }
+    ensures stays { StaysOpen S.view fs.old fs.new }
 {
     pass_shallow(&ends.from)?;
     let Ok(()) = works.push_front(Pending::Up) else {
@@ -84,9 +80,7 @@ fn copy_member<S: GuardedFileSystem<C>, C>(
         ends.old (Below member.now ∷ works.old.items)) fs.old result fs.new (transfers_at ends.new works.new.items) }
     ensures lighter { result ≡ Ok tt → weight (works_at ends.new.from works.new.items [])
         < weight (works_at ends.old.from (Below member.now ∷ works.old.items) []) }
-    ensures keeps { KeepsOpen (S.view.state fs.old) (S.view.state fs.new) }
-    ensures admits { S.view.admits fs.new }
-    ensures loan { S.view.loan fs.new ≡ S.view.loan fs.old }
+    ensures stays { StaysOpen S.view fs.old fs.new }
 {
     let Ok(()) = ends.down(member) else {
         return Err(DavError::NoMemory);
@@ -114,9 +108,7 @@ fn copy_one<S: GuardedFileSystem<C>, C>(
         (transfers_at ends.old (work ∷ works.old.items)) fs.old result fs.new (transfers_at ends.new works.new.items) }
     ensures lighter { result ≡ Ok tt → weight (works_at ends.new.from works.new.items [])
         < weight (works_at ends.old.from (work ∷ works.old.items) []) }
-    ensures keeps { KeepsOpen (S.view.state fs.old) (S.view.state fs.new) }
-    ensures admits { S.view.admits fs.new }
-    ensures loan { S.view.loan fs.new ≡ S.view.loan fs.old }
+    ensures stays { StaysOpen S.view fs.old fs.new }
 {
     match work {
         Pending::Below(member) => {
@@ -141,9 +133,7 @@ fn copy_pending<S: GuardedFileSystem<C>, C>(
     requires admits { S.view.admits fs.old }
     ensures copies { Copies S.view S.listings credentials.now alone
         (transfers_at ends works.items) fs.old result fs.new }
-    ensures keeps { KeepsOpen (S.view.state fs.old) (S.view.state fs.new) }
-    ensures admits { S.view.admits fs.new }
-    ensures loan { S.view.loan fs.new ≡ S.view.loan fs.old }
+    ensures stays { StaysOpen S.view fs.old fs.new }
 {
     let mut ends = ends;
     let mut works = works;
@@ -170,9 +160,7 @@ fn copy_tree<S: GuardedFileSystem<C>, C>(
 ) -> Result<(), DavError>
     requires admits { S.view.admits fs.old }
     ensures copies { Copies S.view S.listings credentials.now alone (transfer_dir ends ∷ []) fs.old result fs.new }
-    ensures keeps { KeepsOpen (S.view.state fs.old) (S.view.state fs.new) }
-    ensures admits { S.view.admits fs.new }
-    ensures loan { S.view.loan fs.new ≡ S.view.loan fs.old }
+    ensures stays { StaysOpen S.view fs.old fs.new }
 {
     let mut works = VecDeque::new(alloc);
     match copy_dir(alloc, fs, credentials, alone, &ends, &mut works) {
@@ -204,9 +192,7 @@ pub fn copy_all<S: GuardedFileSystem<C>, C>(
     requires admits { S.view.admits fs.old }
     ensures copies { Copies S.view S.listings credentials.now alone
         (record { from = from.now; to = to.now; dir = dir } ∷ []) fs.old result fs.new }
-    ensures keeps { KeepsOpen (S.view.state fs.old) (S.view.state fs.new) }
-    ensures admits { S.view.admits fs.new }
-    ensures loan { S.view.loan fs.new ≡ S.view.loan fs.old }
+    ensures stays { StaysOpen S.view fs.old fs.new }
 {
     if !dir {
         return copy_file(fs, credentials, from, to);

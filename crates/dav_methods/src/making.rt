@@ -1,6 +1,5 @@
 //! MKCOL, MKCALENDAR and MKADDRESSBOOK: a directory is made.
-ghost use Rattle.std.specs.Prelude.{◌≡◌};
-ghost use Rattle.dav_store.specs.Frames.{KeepsOpen};
+ghost use Rattle.dav_store.specs.View.{StaysOpen};
 ghost use Rattle.dav_methods.specs.Table.{Below, EndsMade, MkCalendars, MkCols, Next, Unless};
 
 use crate::lines::{may_make, pass_parent, pass_unfailed};
@@ -19,9 +18,7 @@ fn make<S: GuardedFileSystem<C>, C>(
     path: &DavPath,
 ) -> Result<Outcome, DavError>
     ensures table { Next (EndsMade S.view credentials.now path.now) fs.old result fs.new }
-    ensures keeps { KeepsOpen (S.view.state fs.old) (S.view.state fs.new) }
-    ensures admits { S.view.admits fs.old → S.view.admits fs.new }
-    ensures loan { S.view.loan fs.new ≡ S.view.loan fs.old }
+    ensures stays { StaysOpen S.view fs.old fs.new }
 {
     let outcome = created(alloc)?;
     match fs.create_dir(path, credentials) {
@@ -39,9 +36,7 @@ fn make_below<S: GuardedFileSystem<C>, C>(
 ) -> Result<Outcome, DavError>
     ensures table { Next (Below S.view credentials.now path.now (EndsMade S.view credentials.now path.now))
         fs.old result fs.new }
-    ensures keeps { KeepsOpen (S.view.state fs.old) (S.view.state fs.new) }
-    ensures admits { S.view.admits fs.old → S.view.admits fs.new }
-    ensures loan { S.view.loan fs.new ≡ S.view.loan fs.old }
+    ensures stays { StaysOpen S.view fs.old fs.new }
 {
     let above = path.parent()?;
     pass_parent(fs, credentials, &above)?;
@@ -58,9 +53,7 @@ fn make_if<S: GuardedFileSystem<C>, C>(
 ) -> Result<Outcome, DavError>
     ensures table { Next (Unless may (Below S.view credentials.now path.now (EndsMade S.view credentials.now path.now)))
         fs.old result fs.new }
-    ensures keeps { KeepsOpen (S.view.state fs.old) (S.view.state fs.new) }
-    ensures admits { S.view.admits fs.old → S.view.admits fs.new }
-    ensures loan { S.view.loan fs.new ≡ S.view.loan fs.old }
+    ensures stays { StaysOpen S.view fs.old fs.new }
 {
     match may {
         Ok(()) => make_below(alloc, fs, credentials, path),
@@ -81,9 +74,7 @@ pub fn mkcol<S: GuardedFileSystem<C>, C>(
     fields: &HeaderMap,
 ) -> Result<Outcome, DavError>
     ensures table { MkCols S.view credentials.now path.now fields.now fs.old result fs.new }
-    ensures keeps { KeepsOpen (S.view.state fs.old) (S.view.state fs.new) }
-    ensures admits { S.view.admits fs.old → S.view.admits fs.new }
-    ensures loan { S.view.loan fs.new ≡ S.view.loan fs.old }
+    ensures stays { StaysOpen S.view fs.old fs.new }
 {
     let Err(refusal) = fs.metadata(path, credentials) else {
         return Err(DavError::Status(StatusCode::METHOD_NOT_ALLOWED));
@@ -106,9 +97,7 @@ pub fn mkcalendar<S: GuardedFileSystem<C>, C>(
     _fields: &HeaderMap,
 ) -> Result<Outcome, DavError>
     ensures table { MkCalendars S.view credentials.now path.now fs.old result fs.new }
-    ensures keeps { KeepsOpen (S.view.state fs.old) (S.view.state fs.new) }
-    ensures admits { S.view.admits fs.old → S.view.admits fs.new }
-    ensures loan { S.view.loan fs.new ≡ S.view.loan fs.old }
+    ensures stays { StaysOpen S.view fs.old fs.new }
 {
     match fs.metadata(path, credentials) {
         Ok(_) => Err(DavError::StatusClose(StatusCode::METHOD_NOT_ALLOWED)),

@@ -1,6 +1,6 @@
 // What a walk below a directory still has to do.
 ghost use Rattle.std.specs.Prelude.{◌≡◌, ◌++◌, map, OnOk};
-ghost use Rattle.dav_store.specs.Frames.{KeepsOpen};
+ghost use Rattle.dav_store.specs.View.{StaysOpen};
 ghost use Rattle.dav_methods.specs.declared.pending.Pending.TheVariants.{Below};
 ghost use Rattle.dav_methods.specs.Lines.{above as the_above};
 ghost use Rattle.dav_methods.specs.Reading.{child_named};
@@ -57,9 +57,7 @@ pub fn read_pending<S: GuardedFileSystem<C>, C>(
     requires admits { S.view.admits fs.old }
     ensures reads { ReadsPending S.view S.listings credentials.now path.now works.old.items fs.old
         result fs.new works.new.items }
-    ensures keeps { KeepsOpen (S.view.state fs.old) (S.view.state fs.new) }
-    ensures admits { S.view.admits fs.new }
-    ensures loan { S.view.loan fs.new ≡ S.view.loan fs.old }
+    ensures stays { StaysOpen S.view fs.old fs.new }
 {
     let members = match read_members(alloc, fs, credentials, path) {
         Ok(members) => members,

@@ -1,7 +1,6 @@
 //! PUT: a file gets the body of the request.
 ghost use Rattle.std.specs.Prelude.{◌≡◌, ◌⊎◌, true, IfOk, Ok, Err};
-ghost use Rattle.dav_core.specs.Unchanged.{Keeps};
-ghost use Rattle.dav_store.specs.Frames.{KeepsOpen};
+ghost use Rattle.dav_store.specs.View.{Stays, StaysOpen};
 ghost use Rattle.dav_methods.specs.Lines.{made, may_put, silent as the_silent, unless};
 ghost use Rattle.dav_methods.specs.Putting.{AfterChecks, AfterChecksWhole, MayPut, Puts, PutsWhole, put_options as the_put_options};
 
@@ -57,9 +56,7 @@ fn check<S: GuardedFileSystem<C>, C>(
     fields: &HeaderMap,
 ) -> Result<Outcome, DavError>
     ensures table { MayPut S.view credentials.now path.now fields.now fs.old result fs.new }
-    ensures keeps { Keeps (S.view.state fs.old) (S.view.state fs.new) }
-    ensures admits { S.view.admits fs.old → S.view.admits fs.new }
-    ensures loan { S.view.loan fs.new ≡ S.view.loan fs.old }
+    ensures stays { Stays S.view fs.old fs.new }
 {
     if path.is_collection() {
         return Err(DavError::Status(StatusCode::METHOD_NOT_ALLOWED));
@@ -82,9 +79,7 @@ fn put_body<S: GuardedFileSystem<C>, C, B: BodyReader>(
 ) -> Result<Outcome, DavError>
     ensures table { AfterChecks S.view S.File.writes credentials.now (Ok outcome)
         path.now (B.state body.old) fs.old result fs.new (B.state body.new) }
-    ensures keeps { KeepsOpen (S.view.state fs.old) (S.view.state fs.new) }
-    ensures admits { S.view.admits fs.old → S.view.admits fs.new }
-    ensures loan { S.view.loan fs.new ≡ S.view.loan fs.old }
+    ensures stays { StaysOpen S.view fs.old fs.new }
     ensures body_loan { B.loan body.new ≡ B.loan body.old }
 {
     let mut file = match fs.open(path, put_options(), credentials) {
@@ -116,9 +111,7 @@ pub fn put<S: GuardedFileSystem<C>, C, B: BodyReader>(
     ensures table { Puts S.view S.File.writes credentials.now
         path.now fields.now (B.state body.old) fs.old result fs.new (B.state body.new) }
     ensures read { IfOk result (λ _. (B.state body.new).ended ≡ true) }
-    ensures keeps { KeepsOpen (S.view.state fs.old) (S.view.state fs.new) }
-    ensures admits { S.view.admits fs.old → S.view.admits fs.new }
-    ensures loan { S.view.loan fs.new ≡ S.view.loan fs.old }
+    ensures stays { StaysOpen S.view fs.old fs.new }
     ensures body_loan { B.loan body.new ≡ B.loan body.old }
 {
     let outcome = match check(alloc, fs, credentials, path, fields) {
@@ -138,9 +131,7 @@ fn put_bytes<S: GuardedFileSystem<C>, C>(
 ) -> Result<Outcome, DavError>
     ensures table { AfterChecksWhole S.view S.File.writes
         credentials.now (Ok outcome) path.now bytes.now fs.old result fs.new }
-    ensures keeps { KeepsOpen (S.view.state fs.old) (S.view.state fs.new) }
-    ensures admits { S.view.admits fs.old → S.view.admits fs.new }
-    ensures loan { S.view.loan fs.new ≡ S.view.loan fs.old }
+    ensures stays { StaysOpen S.view fs.old fs.new }
 {
     let mut file = match fs.open(path, put_options(), credentials) {
         Ok(file) => file,
@@ -167,9 +158,7 @@ pub fn put_whole<S: GuardedFileSystem<C>, C>(
     bytes: &[u8],
 ) -> Result<Outcome, DavError>
     ensures table { PutsWhole S.view S.File.writes credentials.now path.now fields.now bytes.now fs.old result fs.new }
-    ensures keeps { KeepsOpen (S.view.state fs.old) (S.view.state fs.new) }
-    ensures admits { S.view.admits fs.old → S.view.admits fs.new }
-    ensures loan { S.view.loan fs.new ≡ S.view.loan fs.old }
+    ensures stays { StaysOpen S.view fs.old fs.new }
 {
     let outcome = match check(alloc, fs, credentials, path, fields) {
         Ok(outcome) => outcome,

@@ -7,8 +7,8 @@ ghost use Rattle.dav_core.specs.declared.error.FsError.{FsError};
 ghost use Rattle.dav_core.specs.DavPath.{WebPath};
 ghost use Rattle.dav_core.specs.Info.{Info};
 ghost use Rattle.dav_core.specs.Path.{is_plain};
-ghost use Rattle.dav_core.specs.Unchanged.{Keeps};
 ghost use Rattle.dav_store.specs.Listings.{HasLister, KeepsButLister};
+ghost use Rattle.dav_store.specs.View.{Stays};
 ghost use Rattle.dav_methods.specs.Reading.{AddsChild, HasMembers, HasNoMembers, ReadRefused, ReadsAll};
 ghost use Rattle.dav_methods.specs.Walking.{members_at};
 
@@ -46,9 +46,7 @@ fn add_child<S: GuardedFileSystem<C>, C>(
         said (S.view.state fs.new) × ((path : WebPath) → AddsChild path (S.listings.called entry.now)
         said (members_at path members.old.items) result (members_at path members.new.items)) }
     ensures store { S.view.lends fs.old fs.new }
-    ensures keeps { Keeps (S.view.state fs.old) (S.view.state fs.new) }
-    ensures admits { S.view.admits fs.new }
-    ensures loan { S.view.loan fs.new ≡ S.view.loan fs.old }
+    ensures stays { Stays S.view fs.old fs.new }
 {
     match entry_metadata::<S, C>(fs, entry) {
         Ok(meta) => match push_member(alloc, entry.name(), meta.is_dir(), members) {
@@ -119,9 +117,7 @@ pub fn read_members<S: GuardedFileSystem<C>, C>(
     ensures read { MatchResult result (λ members. HasMembers S.view
         S.listings fs.old credentials.now path.now (members_at path.now members.items) fs.new)
         (λ e. HasNoMembers S.view S.listings fs.old credentials.now path.now e fs.new) }
-    ensures keeps { Keeps (S.view.state fs.old) (S.view.state fs.new) }
-    ensures admits { S.view.admits fs.new }
-    ensures loan { S.view.loan fs.new ≡ S.view.loan fs.old }
+    ensures stays { Stays S.view fs.old fs.new }
 {
     let mut dir = match fs.read_dir(path, ReadDirMeta::DataSymlink, credentials) {
         Ok(dir) => dir,

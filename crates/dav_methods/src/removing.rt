@@ -1,6 +1,6 @@
 //! DELETE: what stands at a path is removed, a directory's members before it.
 ghost use Rattle.std.specs.Prelude.{◌≡◌, ◌<◌, ◌∷◌, [], List, true, Ok};
-ghost use Rattle.dav_store.specs.Frames.{KeepsOpen};
+ghost use Rattle.dav_store.specs.View.{StaysOpen};
 ghost use Rattle.dav_methods.specs.Lines.{fails_when};
 ghost use Rattle.dav_methods.specs.Removing.{Deletes, Removes, RemovesAll, is_deep, is_root as the_is_root, line_of as the_line_of};
 ghost use Rattle.dav_methods.specs.Table.{Next, Unless};
@@ -60,9 +60,7 @@ fn remove_member<S: GuardedFileSystem<C>, C>(
     ensures slash { result ≡ Ok tt → path.new.slash ≡ true }
     ensures lighter { result ≡ Ok tt → weight (works_at path.new works.new.items [])
         < weight (works_at path.old (Below member.now ∷ works.old.items) []) }
-    ensures keeps { KeepsOpen (S.view.state fs.old) (S.view.state fs.new) }
-    ensures admits { S.view.admits fs.new }
-    ensures loan { S.view.loan fs.new ≡ S.view.loan fs.old }
+    ensures stays { StaysOpen S.view fs.old fs.new }
 {
     let Ok(()) = go_down(path, member) else {
         return Err(DavError::NoMemory);
@@ -95,9 +93,7 @@ fn remove_one<S: GuardedFileSystem<C>, C>(
     ensures slash { result ≡ Ok tt → path.new.slash ≡ true }
     ensures lighter { result ≡ Ok tt → weight (works_at path.new works.new.items [])
         < weight (works_at path.old (work ∷ works.old.items) []) }
-    ensures keeps { KeepsOpen (S.view.state fs.old) (S.view.state fs.new) }
-    ensures admits { S.view.admits fs.new }
-    ensures loan { S.view.loan fs.new ≡ S.view.loan fs.old }
+    ensures stays { StaysOpen S.view fs.old fs.new }
 {
     match work {
         Pending::Below(member) => remove_member(alloc, fs, credentials, path, &member, works),
@@ -121,9 +117,7 @@ fn remove_pending<S: GuardedFileSystem<C>, C>(
     requires slash { path.slash ≡ true }
     ensures removes { (last : List Work) → RemovesOn S.view S.listings credentials.now
         (works_at path works.items last) fs.old result fs.new last }
-    ensures keeps { KeepsOpen (S.view.state fs.old) (S.view.state fs.new) }
-    ensures admits { S.view.admits fs.new }
-    ensures loan { S.view.loan fs.new ≡ S.view.loan fs.old }
+    ensures stays { StaysOpen S.view fs.old fs.new }
 {
     let mut path = path;
     let mut works = works;
@@ -149,9 +143,7 @@ fn empty_dir<S: GuardedFileSystem<C>, C>(
     requires admits { S.view.admits fs.old }
     ensures removes { RemovesOn S.view S.listings credentials.now (Whole path.now true ∷ []) fs.old
         result fs.new (Emptied path.now ∷ []) }
-    ensures keeps { KeepsOpen (S.view.state fs.old) (S.view.state fs.new) }
-    ensures admits { S.view.admits fs.new }
-    ensures loan { S.view.loan fs.new ≡ S.view.loan fs.old }
+    ensures stays { StaysOpen S.view fs.old fs.new }
 {
     pass_shallow(path)?;
     let Ok(mut below) = path.try_clone() else {
@@ -175,9 +167,7 @@ pub fn remove_all<S: GuardedFileSystem<C>, C>(
 ) -> Result<(), DavError>
     requires admits { S.view.admits fs.old }
     ensures removes { Removes S.view S.listings credentials.now (Whole path.now dir ∷ []) fs.old result fs.new }
-    ensures keeps { KeepsOpen (S.view.state fs.old) (S.view.state fs.new) }
-    ensures admits { S.view.admits fs.new }
-    ensures loan { S.view.loan fs.new ≡ S.view.loan fs.old }
+    ensures stays { StaysOpen S.view fs.old fs.new }
 {
     if !dir {
         return line_of(fs.remove_file(path, credentials));
@@ -199,9 +189,7 @@ fn delete_if<S: GuardedFileSystem<C>, C>(
 ) -> Result<Outcome, DavError>
     requires admits { S.view.admits fs.old }
     ensures table { Next (Unless may (RemovesAll S.view S.listings credentials.now path.now dir)) fs.old result fs.new }
-    ensures keeps { KeepsOpen (S.view.state fs.old) (S.view.state fs.new) }
-    ensures admits { S.view.admits fs.new }
-    ensures loan { S.view.loan fs.new ≡ S.view.loan fs.old }
+    ensures stays { StaysOpen S.view fs.old fs.new }
 {
     if let Err(error) = may {
         return Err(error);
@@ -233,9 +221,7 @@ pub fn delete<S: GuardedFileSystem<C>, C>(
 ) -> Result<Outcome, DavError>
     requires admits { S.view.admits fs.old }
     ensures table { Deletes S.view S.listings credentials.now path.now fields.now fs.old result fs.new }
-    ensures keeps { KeepsOpen (S.view.state fs.old) (S.view.state fs.new) }
-    ensures admits { S.view.admits fs.new }
-    ensures loan { S.view.loan fs.new ≡ S.view.loan fs.old }
+    ensures stays { StaysOpen S.view fs.old fs.new }
 {
     if is_root(path) {
         return Err(DavError::Status(StatusCode::FORBIDDEN));

@@ -10,11 +10,10 @@ use Rattle.dav_core.specs.declared.parse_error.ParseError.{ParseError}
 use Rattle.dav_core.specs.DavPath.{WebPath}
 use Rattle.dav_core.specs.Grammar.{parsed}
 use Rattle.dav_core.specs.Tree.{is_file}
-use Rattle.dav_core.specs.Unchanged.{Keeps}
 use Rattle.dav_store.specs.Members.{ShowsMembers}
 use Rattle.dav_store.specs.Reached.{ShowsOn}
 use Rattle.dav_store.specs.Standing.{Standing}
-use Rattle.dav_store.specs.View.{View, Listings}
+use Rattle.dav_store.specs.View.{Listings, Stays, View}
 use Rattle.dav_report.specs.declared.answer.Record.{Record}
 use Rattle.dav_report.specs.declared.answer.Report.{Report}
 use Rattle.dav_report.specs.declared.error.ReportError.{ReportError}
@@ -141,7 +140,6 @@ module _ {S C F L E : Type 0} (view : View S C F) (lists : Listings S C L E) whe
     -- fault was met.
     pub shown : (stock : Stock) → ShowsFor view lists s c stock q
         → IsRight q stock (Rose (view.state s).faults (view.state t).faults) result ⊎ (result ≡ Err NoMemory)
-    -- What was live or open before is as it was, and no file and no listing stays open.
-    pub keeps : Keeps (view.state s) (view.state t)
-    pub admits : view.admits t
-    pub loan : view.loan t ≡ view.loan s
+    -- What was live or open before is as it was, and no file and no listing stays open; what the store may remember
+    -- stays true.
+    pub stays : Stays view s t

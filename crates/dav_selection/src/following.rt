@@ -1,7 +1,7 @@
 // Following the links of a multiget.
 ghost use Rattle.std.specs.Prelude.{◌≡◌, ◌⊎◌, ◌++◌, IfOk, OnOk, Option, Ok, Err};
 ghost use Rattle.dav_io.specs.Counts.{Rose};
-ghost use Rattle.dav_core.specs.Unchanged.{Keeps};
+ghost use Rattle.dav_store.specs.View.{Stays};
 ghost use Rattle.dav_selection.specs.Answered.{Answer, answer_given, is_given, unless};
 ghost use Rattle.dav_selection.specs.Reports.{Follows, Leads};
 ghost use Rattle.dav_selection.specs.Selection.{follows};
@@ -42,9 +42,7 @@ fn follow_link<S: GuardedFileSystem<C>, C>(
     ensures table { ((answer : Option Answer) × Leads S.view credentials.now prefix.now href.now fs.old answer fs.new
         × (records.new.items ≡ records.old.items ++ answer_given (taken wanted.entry) answer)
         × (result ≡ Ok (is_given (answer_given (taken wanted.entry) answer)))) ⊎ (result ≡ Err ReportError.NoMemory) }
-    ensures keeps { Keeps (S.view.state fs.old) (S.view.state fs.new) }
-    ensures admits { S.view.admits fs.old → S.view.admits fs.new }
-    ensures loan { S.view.loan fs.new ≡ S.view.loan fs.old }
+    ensures stays { Stays S.view fs.old fs.new }
 {
     let path = match DavPath::from_str_and_prefix(alloc, href.as_str(), prefix) {
         Ok(path) => path,
@@ -81,9 +79,7 @@ pub(crate) fn follow<S: GuardedFileSystem<C>, C>(
         (follows (links_asked prefix.now hrefs.now wanted.entry))
         → IsFollowed (links_asked prefix.now hrefs.now wanted.entry) stock
         (Rose (S.view.state fs.old).faults (S.view.state fs.new).faults) result ⊎ (result ≡ Err ReportError.NoMemory) }
-    ensures keeps { Keeps (S.view.state fs.old) (S.view.state fs.new) }
-    ensures admits { S.view.admits fs.old → S.view.admits fs.new }
-    ensures loan { S.view.loan fs.new ≡ S.view.loan fs.old }
+    ensures stays { Stays S.view fs.old fs.new }
 {
     let mut records = Vec::new(alloc);
     let mut missing = Vec::new(alloc);

@@ -1,9 +1,10 @@
 // Reading a resource of a store.
 ghost use Rattle.std.specs.Prelude.{◌≡◌, ◌⊎◌, ◌<◌, ◌≤◌, ◌+◌, IfOk, OnErr, IsSome, Some, Err, Ok, length, unwrap_or, [], true};
 ghost use Rattle.dav_core.specs.Disk.{Live, can_read};
-ghost use Rattle.dav_core.specs.Unchanged.{Keeps, KeepsBut};
+ghost use Rattle.dav_core.specs.Unchanged.{KeepsBut};
 ghost use Rattle.dav_store.specs.Files.{Spoiled};
 ghost use Rattle.dav_store.specs.Standing.{Seen};
+ghost use Rattle.dav_store.specs.View.{Stays};
 ghost use Rattle.dav_selection.specs.Pieces.{Appends, ClosesAfter, Touches};
 ghost use Rattle.dav_selection.specs.Resources.{AfterMeta, AfterOpen, Fetches, ReadsTo, content_of};
 
@@ -152,9 +153,7 @@ pub(crate) fn fetch<S: GuardedFileSystem<C>, C>(
     path: &DavPath,
 ) -> Result<Resource, Unread>
     ensures table { Fetches S.view credentials.now path.now fs.old result fs.new }
-    ensures keeps { Keeps (S.view.state fs.old) (S.view.state fs.new) }
-    ensures admits { S.view.admits fs.old → S.view.admits fs.new }
-    ensures loan { S.view.loan fs.new ≡ S.view.loan fs.old }
+    ensures stays { Stays S.view fs.old fs.new }
 {
     match fs.open(path, OpenOptions::read(), credentials) {
         Ok(file) => read_file(alloc, fs, file),

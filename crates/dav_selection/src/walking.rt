@@ -5,8 +5,8 @@ ghost use Rattle.std.specs.List.{AllByRecursion};
 ghost use Rattle.std.specs.List.Sorted.{IsPermutation, IsSortedByKey};
 ghost use Rattle.std.specs.Ordering.{nat_cmp};
 ghost use Rattle.dav_io.specs.Counts.{Rose};
-ghost use Rattle.dav_core.specs.Unchanged.{Keeps};
 ghost use Rattle.dav_store.specs.Members.{IsNamedPlain};
+ghost use Rattle.dav_store.specs.View.{Stays};
 ghost use Rattle.dav_selection.specs.declared.resource.Resource.{Resource};
 ghost use Rattle.dav_selection.specs.declared.resource.Unread.{Unread};
 ghost use Rattle.dav_selection.specs.Answered.{Wants};
@@ -60,9 +60,7 @@ pub(crate) fn visit<S: GuardedFileSystem<C>, C>(
     ensures table { ((got : Result Resource Unread) × Fetches S.view credentials.now path fs.old got fs.new
         × Adds (taken wanted.entry) (record { path = path; got = got }) records.old.items result records.new.items)
         ⊎ (result ≡ Err Unread.NoMemory) }
-    ensures keeps { Keeps (S.view.state fs.old) (S.view.state fs.new) }
-    ensures admits { S.view.admits fs.old → S.view.admits fs.new }
-    ensures loan { S.view.loan fs.new ≡ S.view.loan fs.old }
+    ensures stays { Stays S.view fs.old fs.new }
 {
     match fetch(alloc, fs, credentials, &path) {
         Ok(resource) => match add_wanted(alloc, wanted, path, resource, records) {
@@ -98,9 +96,7 @@ fn walk<S: GuardedFileSystem<C>, C>(
     requires admits { S.view.admits fs.old }
     ensures table { Selects S.view credentials.now (sought dir.now limit wanted.entry) members.now fs.old result fs.new
         ⊎ (result ≡ Err ReportError.NoMemory) }
-    ensures keeps { Keeps (S.view.state fs.old) (S.view.state fs.new) }
-    ensures admits { S.view.admits fs.new }
-    ensures loan { S.view.loan fs.new ≡ S.view.loan fs.old }
+    ensures stays { Stays S.view fs.old fs.new }
 {
     let mut records = Vec::new(alloc);
     for member in members {
@@ -150,9 +146,7 @@ pub(crate) fn query_dir<S: GuardedFileSystem<C>, C>(
     ensures shown { (stock : Stock) → ShowsDir S.view S.listings fs.old credentials.now stock dir.now
         → IsQueried (sought dir.now limit wanted.entry) (stock.listed dir.now) stock
         (Rose (S.view.state fs.old).faults (S.view.state fs.new).faults) result ⊎ (result ≡ Err ReportError.NoMemory) }
-    ensures keeps { Keeps (S.view.state fs.old) (S.view.state fs.new) }
-    ensures admits { S.view.admits fs.new }
-    ensures loan { S.view.loan fs.new ≡ S.view.loan fs.old }
+    ensures stays { Stays S.view fs.old fs.new }
 {
     let mut members = match read_members(alloc, fs, dir, credentials) {
         Ok(members) => members,

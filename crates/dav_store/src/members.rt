@@ -4,10 +4,10 @@ ghost use Rattle.std.specs.List.{AllByRecursion};
 ghost use Rattle.dav_core.specs.declared.error.FsError.{FsError};
 ghost use Rattle.dav_core.specs.declared.member.Member.{Member};
 ghost use Rattle.dav_core.specs.Info.{Info};
-ghost use Rattle.dav_core.specs.Unchanged.{Keeps};
 ghost use Rattle.dav_store.specs.Leads.{LeadsOn, ListedOn};
 ghost use Rattle.dav_store.specs.Listings.{HasLister, KeepsButLister};
 ghost use Rattle.dav_store.specs.Members.{IsNamedPlain, ReadOut, ReadsThere, RefusesThere, ShowsMembers, WalksOut, WasListed, member_said, told_of};
+ghost use Rattle.dav_store.specs.View.{Stays};
 ghost use Rattle.dav_store.specs.declared.entry.ReadDirMeta.TheVariants.{Data};
 
 use crate::through::entry_metadata;
@@ -56,9 +56,7 @@ fn add_member<S: GuardedFileSystem<C>, C>(
         × OnOk result (members.new.items ≡ members.old.items ++ told_of (S.listings.called entry.now) r) }
     ensures plain { AllByRecursion IsNamedPlain members.old.items → AllByRecursion IsNamedPlain members.new.items }
     ensures store { S.view.lends fs.old fs.new }
-    ensures keeps { Keeps (S.view.state fs.old) (S.view.state fs.new) }
-    ensures admits { S.view.admits fs.new }
-    ensures loan { S.view.loan fs.new ≡ S.view.loan fs.old }
+    ensures stays { Stays S.view fs.old fs.new }
 {
     let Ok(meta) = entry_metadata::<S, C>(fs, entry) else {
         return Ok(());
@@ -152,10 +150,8 @@ pub fn read_members<S: GuardedFileSystem<C>, C>(
         → ShowsMembers S.view S.listings fs.old credentials.now path.now found
         → MatchResult result (λ members. ReadsThere found (S.view.state fs.old).faults members.items
         (S.view.state fs.new).faults) (λ e. RefusesThere found (S.view.state fs.old) e (S.view.state fs.new)) }
-    ensures keeps { Keeps (S.view.state fs.old) (S.view.state fs.new) }
+    ensures stays { Stays S.view fs.old fs.new }
     ensures leads { LeadsOn S.view S.listings credentials.now fs.old fs.new }
-    ensures admits { S.view.admits fs.new }
-    ensures loan { S.view.loan fs.new ≡ S.view.loan fs.old }
 {
     let mut dir = match fs.read_dir(path, ReadDirMeta::Data, credentials) {
         Ok(dir) => dir,

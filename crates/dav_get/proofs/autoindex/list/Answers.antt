@@ -15,9 +15,12 @@ returns-in-Ok-clause-listed g c =
     listed_none g.S.GuardedFileSystem.view g.S.GuardedFileSystem.listings _ _ c.args.fs.now c.read_dir.new.self c.args.credentials.now c.args.asked.now.path.now c.in-Ok.dir
     c.end_dir.new.self (sym c.if-is_get.false ∙ c.is_get.ensures) c.new.ensures.items c.in-Ok.ensures.done c.end_dir.ensures.done
 
-pub returns-in-Ok-clause-keeps : goal.returns-in-Ok-clause-keeps
-returns-in-Ok-clause-keeps g c =
-    walk_leaves (g.S.GuardedFileSystem.listings.lister c.in-Ok.dir) _ _ _ _ c.in-Ok.ensures.stays.keeps (walk_same _ _) c.end_dir.ensures.stays.keeps
+pub returns-in-Ok-clause-stays : goal.returns-in-Ok-clause-stays
+returns-in-Ok-clause-stays g c = record {
+  keeps = walk_leaves (g.S.GuardedFileSystem.listings.lister c.in-Ok.dir) _ _ _ _ c.in-Ok.ensures.stays.keeps (walk_same _ _) c.end_dir.ensures.stays.keeps;
+  admits = λ a. c.end_dir.ensures.stays.admits (c.in-Ok.ensures.stays.admits a);
+  loan = c.end_dir.ensures.stays.loan ∙ c.in-Ok.ensures.stays.loan;
+}
 
 pub returns-in-Ok-clause-leads : goal.returns-in-Ok-clause-leads
 returns-in-Ok-clause-leads g c =
@@ -29,7 +32,7 @@ returns-in-Ok-clause-leads g c =
       over = c.in-Ok.dir;
       on = begun;
       ended = c.end_dir.ensures.done;
-    }) (returns-in-Ok-clause-keeps g c).world
+    }) (returns-in-Ok-clause-stays g c).keeps.world
 
 pub returns-in-Err-clause-leads : goal.returns-in-Err-clause-leads
 returns-in-Err-clause-leads g c = unlisted _ _ _ _ none c.in-Err.ensures.done c.in-Err.ensures.stays.keeps.world

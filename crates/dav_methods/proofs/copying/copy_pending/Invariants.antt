@@ -1,5 +1,5 @@
 use Rattle.std.proofs.Common.{◌≡◌, []}
-use Rattle.dav_store.specs.Frames.{KeepsOpen}
+use Rattle.dav_store.specs.View.{StaysOpen}
 use Rattle.dav_methods.specs.Copying.{Copies}
 use Rattle.dav_methods.specs.Lines.{Line}
 use Rattle.dav_methods.specs.Walking.{transfers_at, works_at}
@@ -14,9 +14,8 @@ invariant-works g l = record {
       (transfers_at l.ends l.works.items) l.fs r t
       → Copies g.S.GuardedFileSystem.view g.S.GuardedFileSystem.listings l.credentials l.alone
       (transfers_at l.initial.ends l.initial.works.items) l.initial.fs r t;
-  keeps : KeepsOpen (g.S.GuardedFileSystem.view.state l.initial.fs) (g.S.GuardedFileSystem.view.state l.fs);
+  stays : StaysOpen g.S.GuardedFileSystem.view l.initial.fs l.fs;
   admits : g.S.GuardedFileSystem.view.admits l.fs;
-  loan : g.S.GuardedFileSystem.view.loan l.fs ≡ g.S.GuardedFileSystem.view.loan l.initial.fs;
 }
 
 abbrev pub decreases-works : goal.decreases-works

@@ -1,8 +1,8 @@
-use Rattle.dav_core.proofs.UnchangedLemmas.{keeps_then}
+use Rattle.dav_store.proofs.Staying.{reads_then}
 use Rattle.dav_methods.proofs.putting.check.Goals as goal
 
-pub returns-in-Ok-clause-keeps : goal.returns-in-Ok-clause-keeps
-returns-in-Ok-clause-keeps g c = keeps_then _ _ _ c.pass_parent.ensures.keeps c.metadata.ensures.stays.keeps
+pub returns-in-Ok-clause-stays : goal.returns-in-Ok-clause-stays
+returns-in-Ok-clause-stays g c = reads_then _ _ _ _ c.pass_parent.ensures.stays c.metadata.ensures.stays
 
-pub returns-clause-keeps : goal.returns-clause-keeps
-returns-clause-keeps g c = keeps_then _ _ _ c.pass_parent.ensures.keeps c.metadata.ensures.stays.keeps
+pub returns-clause-stays : goal.returns-clause-stays
+returns-clause-stays g c = reads_then _ _ _ _ c.pass_parent.ensures.stays c.metadata.ensures.stays

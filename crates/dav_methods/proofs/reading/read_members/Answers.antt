@@ -1,4 +1,4 @@
-use Rattle.std.proofs.Common.{inl, inr, subst}
+use Rattle.std.proofs.Common.{inl, inr, subst, ◌∙◌}
 use Rattle.dav_store.specs.Listings.{EndsList}
 use Rattle.dav_store.proofs.Walking.{walk_leaves}
 use Rattle.dav_methods.proofs.MembersRead.{read_by}
@@ -7,12 +7,16 @@ use Rattle.dav_methods.proofs.reading.read_members.Goals as goal
 pub returns-in-Err-clause-read : goal.returns-in-Err-clause-read
 returns-in-Err-clause-read g c = record { keeps = c.in-Err.ensures.stays.keeps; why = inr (inl c.in-Err.ensures.done) }
 
-pub returns-clause-keeps : goal.returns-clause-keeps
-returns-clause-keeps g c =
+pub returns-clause-stays : goal.returns-clause-stays
+returns-clause-stays g c =
     let ended = subst (λ own. EndsList (g.S.GuardedFileSystem.view.state c.read_to_end-read.new.fs) own
     (g.S.GuardedFileSystem.view.state c.end_dir.new.self))
     c.read_to_end-read.ensures.lister c.end_dir.ensures.stays.keeps in
-    walk_leaves (g.S.GuardedFileSystem.listings.lister c.in-Ok.dir) _ _ _ _ c.in-Ok.ensures.stays.keeps c.read_to_end-read.ensures.keeps ended
+    record {
+      keeps = walk_leaves (g.S.GuardedFileSystem.listings.lister c.in-Ok.dir) _ _ _ _ c.in-Ok.ensures.stays.keeps c.read_to_end-read.ensures.keeps ended;
+      admits = λ a. c.end_dir.ensures.stays.admits c.read_to_end-read.ensures.admits;
+      loan = c.end_dir.ensures.stays.loan ∙ (c.read_to_end-read.ensures.loan ∙ c.in-Ok.ensures.stays.loan);
+    }
 
 pub returns-clause-read : goal.returns-clause-read
 returns-clause-read g c =

@@ -1,9 +1,9 @@
 use Rattle.std.proofs.Common.{Ok, Err, [], ◌∷◌, true, ap, refl, ◌∙◌}
 use Rattle.std.proofs.lemmas.Result.{err_from_is_err_and}
+use Rattle.dav_store.proofs.Staying.{stays_then}
 use Rattle.dav_methods.specs.declared.work.Work.TheVariants.{Emptied, Whole}
 use Rattle.dav_methods.specs.Removing.{short}
 use Rattle.dav_methods.specs.Walking.{works_at}
-use Rattle.dav_methods.proofs.KeptOpen.{open_then}
 use Rattle.dav_methods.proofs.Walking.{slashed}
 use Rattle.dav_methods.proofs.WalkRemoves.{deep_stays, first_opened, shallow_opens, then}
 use Rattle.dav_methods.proofs.removing.empty_dir.Goals as goal
@@ -28,8 +28,8 @@ returns-in-Ok-read_pending-clause-removes g c =
     c.read_pending.new.fs (Ok tt) c.in_ok-pass_shallow.ensures c.in-Ok-read_pending.ensures.reads))
     (c.remove_pending.ensures.removes (Emptied c.args.path.now ∷ []))
 
-pub returns-in-Ok-read_pending-clause-keeps : goal.returns-in-Ok-read_pending-clause-keeps
-returns-in-Ok-read_pending-clause-keeps g c = open_then _ _ _ c.read_pending.ensures.keeps c.remove_pending.ensures.keeps
+pub returns-in-Ok-read_pending-clause-stays : goal.returns-in-Ok-read_pending-clause-stays
+returns-in-Ok-read_pending-clause-stays g c = stays_then _ _ _ _ c.read_pending.ensures.stays c.remove_pending.ensures.stays
 
 pub returns-in-Err-clause-removes : goal.returns-in-Err-clause-removes
 returns-in-Err-clause-removes g c =

@@ -1,5 +1,5 @@
 use Rattle.std.proofs.Common.{◌≡◌, List, [], true}
-use Rattle.dav_store.specs.Frames.{KeepsOpen}
+use Rattle.dav_store.specs.View.{StaysOpen}
 use Rattle.dav_methods.specs.declared.work.Work.{Work}
 use Rattle.dav_methods.specs.Lines.{Line}
 use Rattle.dav_methods.specs.Removing.{Removes}
@@ -16,9 +16,8 @@ invariant-works g l = record {
       → Removes g.S.GuardedFileSystem.view g.S.GuardedFileSystem.listings l.credentials
       (works_at l.initial.path l.initial.works.items last) l.initial.fs r t;
   slash : l.path.slash ≡ true;
-  keeps : KeepsOpen (g.S.GuardedFileSystem.view.state l.initial.fs) (g.S.GuardedFileSystem.view.state l.fs);
+  stays : StaysOpen g.S.GuardedFileSystem.view l.initial.fs l.fs;
   admits : g.S.GuardedFileSystem.view.admits l.fs;
-  loan : g.S.GuardedFileSystem.view.loan l.fs ≡ g.S.GuardedFileSystem.view.loan l.initial.fs;
 }
 
 abbrev pub decreases-works : goal.decreases-works

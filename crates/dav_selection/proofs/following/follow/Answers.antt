@@ -1,6 +1,6 @@
 use Rattle.std.proofs.Common.{◌≡◌, ◌++◌, [], refl, inl, ◌∙◌}
 use Rattle.std.proofs.lemmas.List.{take_all}
-use Rattle.dav_core.proofs.UnchangedLemmas.{keeps_same, keeps_then}
+use Rattle.dav_store.proofs.Staying.{reads_same, reads_then}
 use Rattle.dav_selection.specs.Answered.{unless}
 use Rattle.dav_selection.specs.Reports.{began}
 use Rattle.dav_selection.specs.Taken.{taken}
@@ -12,9 +12,7 @@ use Rattle.dav_selection.proofs.following.follow.Goals as goal
 pub loop-href-init : goal.loop-href-init
 loop-href-init g c = record {
   links = ([], began, refl, c.new-records.ensures.items, c.new-missing.ensures.items);
-  keeps = keeps_same _;
-  admits = λ a. a;
-  loan = refl;
+  stays = reads_same _ _;
 }
 
 pub loop-href-preserved : goal.loop-href-preserved
@@ -25,16 +23,14 @@ loop-href-preserved g c =
       links = links_more g.S.GuardedFileSystem.view c.args.credentials.now (taken c.args.wanted) c.args.prefix.now c.as_slice-href-items.result.now c.args.fs.now c.loop-href.fs
           c.follow_link.new.fs c.loop-href.href-index c.href-item.result c.href-item.result c.in-Ok.given c.loop-href.records.items c.follow_link.new.records.items c.loop-href.missing.items
           c.note.new.missing.items before.links c.in-Ok.ensures.table c.loop-href-test.true c.href-item.is noted;
-      keeps = keeps_then _ _ _ before.keeps c.in-Ok.ensures.keeps;
-      admits = λ a. c.in-Ok.ensures.admits (before.admits a);
-      loan = c.in-Ok.ensures.loan ∙ before.loan;
+      stays = reads_then _ _ _ _ before.stays c.in-Ok.ensures.stays;
     }
 
-pub returns-in-Err-clause-keeps : goal.returns-in-Err-clause-keeps
-returns-in-Err-clause-keeps g c = keeps_then _ _ _ c.loop-href.invariant.keeps c.in-Err.ensures.keeps
+pub returns-in-Err-clause-stays : goal.returns-in-Err-clause-stays
+returns-in-Err-clause-stays g c = reads_then _ _ _ _ c.loop-href.invariant.stays c.in-Err.ensures.stays
 
-pub returns-then-is_err-clause-keeps : goal.returns-then-is_err-clause-keeps
-returns-then-is_err-clause-keeps g c = keeps_then _ _ _ c.loop-href.invariant.keeps c.in-Ok.ensures.keeps
+pub returns-then-is_err-clause-stays : goal.returns-then-is_err-clause-stays
+returns-then-is_err-clause-stays g c = reads_then _ _ _ _ c.loop-href.invariant.stays c.in-Ok.ensures.stays
 
 pub returns-clause-table : goal.returns-clause-table
 returns-clause-table g c =

@@ -1,5 +1,5 @@
 use Rattle.std.proofs.Common.{◌≡◌, List, map, take}
-use Rattle.dav_core.specs.Unchanged.{Keeps}
+use Rattle.dav_store.specs.View.{Stays}
 use Rattle.dav_selection.specs.Answered.{Link, linked, missing}
 use Rattle.dav_selection.specs.Reports.{Followed}
 use Rattle.dav_selection.specs.Taken.{taken}
@@ -9,7 +9,5 @@ abbrev pub invariant-loop-href : goal.invariant-loop-href
 invariant-loop-href g l = record {
   links : (links : List Link) × Followed g.S.GuardedFileSystem.view l.credentials l.prefix l.initial.fs links l.fs
       × (map (λ (k : Link). k.href) links ≡ take l.href-index l.href-items) × (l.records.items ≡ linked (taken l.wanted) links) × (l.missing.items ≡ missing (taken l.wanted) links);
-  keeps : Keeps (g.S.GuardedFileSystem.view.state l.initial.fs) (g.S.GuardedFileSystem.view.state l.fs);
-  admits : g.S.GuardedFileSystem.view.admits l.initial.fs → g.S.GuardedFileSystem.view.admits l.fs;
-  loan : g.S.GuardedFileSystem.view.loan l.fs ≡ g.S.GuardedFileSystem.view.loan l.initial.fs;
+  stays : Stays g.S.GuardedFileSystem.view l.initial.fs l.fs;
 }

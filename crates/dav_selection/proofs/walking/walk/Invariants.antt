@@ -1,5 +1,5 @@
 use Rattle.std.proofs.Common.{◌≡◌, List, length}
-use Rattle.dav_core.specs.Unchanged.{Keeps}
+use Rattle.dav_store.specs.View.{Stays}
 use Rattle.dav_selection.specs.Answered.{Answer, records}
 use Rattle.dav_selection.specs.Reports.{Walks}
 use Rattle.dav_selection.specs.Taken.{taken}
@@ -10,7 +10,5 @@ abbrev pub invariant-loop-member : goal.invariant-loop-member
 invariant-loop-member g l = record {
   walk : (answers : List Answer) × Walks g.S.GuardedFileSystem.view l.credentials (sought l.dir l.limit l.wanted) l.members l.initial.fs answers l.fs
       × (length answers ≡ l.member-index) × (l.records.items ≡ records (taken l.wanted) answers);
-  keeps : Keeps (g.S.GuardedFileSystem.view.state l.initial.fs) (g.S.GuardedFileSystem.view.state l.fs);
-  admits : g.S.GuardedFileSystem.view.admits l.fs;
-  loan : g.S.GuardedFileSystem.view.loan l.fs ≡ g.S.GuardedFileSystem.view.loan l.initial.fs;
+  stays : Stays g.S.GuardedFileSystem.view l.initial.fs l.fs;
 }

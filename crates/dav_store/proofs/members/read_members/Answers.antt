@@ -1,4 +1,4 @@
-use Rattle.std.proofs.Common.{Err, subst, arith}
+use Rattle.std.proofs.Common.{Err, subst, ◌∙◌, arith}
 use Rattle.dav_store.specs.Leads.{listed, none, unlisted}
 use Rattle.dav_store.specs.Listings.{EndsList}
 use Rattle.dav_store.specs.Shows.{here}
@@ -16,12 +16,16 @@ returns-clause-shown g c = λ found shows. shown_by g.S.GuardedFileSystem.view g
     c.read_on-members.new.dir c.read_on-members.result c.in-Ok.ensures.done c.read_on-members.ensures.walks c.read_on-members.ensures.error c.end_dir.ensures.done
     c.in-Ok.ensures.stays.keeps.keeps.counts (omega (arith, c.end_dir.ensures.stays.keeps.counts)) shows
 
-pub returns-clause-keeps : goal.returns-clause-keeps
-returns-clause-keeps g c =
+pub returns-clause-stays : goal.returns-clause-stays
+returns-clause-stays g c =
     let ended = subst (λ own. EndsList (g.S.GuardedFileSystem.view.state c.read_on-members.new.fs) own
     (g.S.GuardedFileSystem.view.state c.end_dir.new.self))
     c.read_on-members.ensures.lister c.end_dir.ensures.stays.keeps in
-    walk_leaves (g.S.GuardedFileSystem.listings.lister c.in-Ok.dir) _ _ _ _ c.in-Ok.ensures.stays.keeps c.read_on-members.ensures.keeps ended
+    record {
+      keeps = walk_leaves (g.S.GuardedFileSystem.listings.lister c.in-Ok.dir) _ _ _ _ c.in-Ok.ensures.stays.keeps c.read_on-members.ensures.keeps ended;
+      admits = λ a. c.end_dir.ensures.stays.admits c.read_on-members.ensures.admits;
+      loan = c.end_dir.ensures.stays.loan ∙ (c.read_on-members.ensures.loan ∙ c.in-Ok.ensures.stays.loan);
+    }
 
 pub returns-in-Err-clause-leads : goal.returns-in-Err-clause-leads
 returns-in-Err-clause-leads g c = unlisted _ _ _ _ none c.in-Err.ensures.done c.in-Err.ensures.stays.keeps.world
@@ -36,4 +40,4 @@ returns-clause-leads g c =
       over = c.read_on-members.new.dir;
       on = c.read_on-members.ensures.on;
       ended = c.end_dir.ensures.done;
-    }) (returns-clause-keeps g c).world
+    }) (returns-clause-stays g c).keeps.world

@@ -27,27 +27,27 @@ entries-preserved g c =
     let name = g.S.GuardedFileSystem.listings.called c.in-Ok-Some.entry in
     record {
       live = lister_kept (g.S.GuardedFileSystem.listings.lister c.entries.dir) (g.S.GuardedFileSystem.listings.lister c.next_entry.new.dir) (g.S.GuardedFileSystem.view.state c.next_entry.new.self)
-          (g.S.GuardedFileSystem.view.state c.add_member.new.fs) c.next_entry.ensures.lister added.keeps.listers c.next_entry.ensures.stays.keeps.live;
-      admits = added.admits;
+          (g.S.GuardedFileSystem.view.state c.add_member.new.fs) c.next_entry.ensures.lister added.stays.keeps.listers c.next_entry.ensures.stays.keeps.live;
+      admits = added.stays.admits (c.next_entry.ensures.stays.admits before.admits);
       lister = c.next_entry.ensures.lister ∙ before.lister;
-      keeps = step_keeps _ _ _ _ _ _ before.lister before.keeps c.next_entry.ensures.stays.keeps.keeps added.keeps;
-      loan = added.loan ∙ (c.next_entry.ensures.stays.loan ∙ before.loan);
+      keeps = step_keeps _ _ _ _ _ _ before.lister before.keeps c.next_entry.ensures.stays.keeps.keeps added.stays.keeps;
+      loan = added.stays.loan ∙ (c.next_entry.ensures.stays.loan ∙ before.loan);
       walk = (
         answers ++ record { name = name; meta = r } ∷ [],
         goes answers c.entries.fs c.next_entry.new.self c.add_member.new.fs c.entries.dir c.next_entry.new.dir c.in-Ok-Some.entry r before.walk.1
-            (rw c.in-Ok-Some.field-0-is at c.in-Ok-Some.ensures.done) added.told.1 added.store added.keeps,
+            (rw c.in-Ok-Some.field-0-is at c.in-Ok-Some.ensures.done) added.told.1 added.store added.stays.keeps,
         told_then answers name r c.entries.members.items c.add_member.new.members.items added.told.2 before.walk.2,
       );
       plain = added.plain before.plain;
-      on = says _ _ _ _ _ _ _ before.on (rw c.in-Ok-Some.field-0-is at c.in-Ok-Some.ensures.done) added.told.1 added.store added.keeps;
+      on = says _ _ _ _ _ _ _ before.on (rw c.in-Ok-Some.field-0-is at c.in-Ok-Some.ensures.done) added.told.1 added.store added.stays.keeps;
     }
 
 pub returns-in_default-clause-keeps : goal.returns-in_default-clause-keeps
 returns-in_default-clause-keeps g c =
-    step_keeps _ _ _ _ _ _ c.entries.invariant.lister c.entries.invariant.keeps c.next_entry.ensures.stays.keeps.keeps c.add_member.ensures.keeps
+    step_keeps _ _ _ _ _ _ c.entries.invariant.lister c.entries.invariant.keeps c.next_entry.ensures.stays.keeps.keeps c.add_member.ensures.stays.keeps
 
 pub returns-in_default-clause-on : goal.returns-in_default-clause-on
-returns-in_default-clause-on g c = says _ _ _ _ _ _ _ c.entries.invariant.on (rw c.in-Ok-Some.field-0-is at c.in-Ok-Some.ensures.done) c.add_member.ensures.told.1 c.add_member.ensures.store c.add_member.ensures.keeps
+returns-in_default-clause-on g c = says _ _ _ _ _ _ _ c.entries.invariant.on (rw c.in-Ok-Some.field-0-is at c.in-Ok-Some.ensures.done) c.add_member.ensures.told.1 c.add_member.ensures.store c.add_member.ensures.stays.keeps
 
 pub returns-in-Ok-None-clause-on : goal.returns-in-Ok-None-clause-on
 returns-in-Ok-None-clause-on g c = goes_on _ _ _ _ _ c.entries.invariant.on c.next_entry.ensures.done
