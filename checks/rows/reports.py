@@ -1,4 +1,5 @@
 """Calendar and address book reports: element trees, what they ask, and what is selected (RFC 4791, RFC 6352)."""
+from components import ascii_capitals, components, moment, overlaps
 from disk import READING
 from model import FsError, ParseError, path_of
 from texts import number
@@ -88,6 +89,14 @@ def range_of(element):
     return element.attributes.get("start"), element.attributes.get("end")
 
 
+def judged_range(element):
+    """The range of a filter, whose bounds must be moments."""
+    asked = range_of(element)
+    if any(bound is not None and moment(bound) is None for bound in asked):
+        raise Bad
+    return asked
+
+
 # What each kind of filter has beside `is-not-defined`.
 HAS = {"component": ("time-range", "prop-filter", "comp-filter"), "property": ("time-range", "text-match"),
        "card": ("text-match", "param-filter"), "parameter": ("text-match",)}
@@ -103,7 +112,7 @@ def filter_of(element, kind):
         elif child.name not in HAS[kind]:
             continue
         elif child.name == "time-range":
-            made.range = range_of(child)
+            made.range = judged_range(child)
         elif child.name == "text-match":
             made.match = Match(child)
         elif child.name == "prop-filter":
@@ -187,24 +196,60 @@ def vcard_value(text, name):
     return None
 
 
-# ---- selection, as it is before time ranges are looked at
+# ---- what a filter matches
 
 def folded(text):
     return text.casefold()
 
 
-def calendar_matches(asked, text):
-    return asked.filter is None or asked.filter.name == "" or "BEGIN:" + asked.filter.name in text
-
-
-def ascii_capitals(text):
-    return "".join(chr(ord(c) - 32) if "a" <= c <= "z" else c for c in text)
+def bounds(asked):
+    return [None if bound is None else moment(bound)[0] for bound in asked]
 
 
 def text_matches(match, text):
+    """Whether a value meets a text match. Both are folded."""
+    value, searched = folded(text), folded(match.text)
+    tests = {"equals": value == searched, "starts-with": value.startswith(searched),
+             "ends-with": value.endswith(searched)}
+    return tests.get(match.kind, searched in value) != match.negated
+
+
+def property_matches(asked, component):
+    values = component.values(ascii_capitals(asked.name))
+    if asked.absent:
+        return not values
+    return any((asked.range is None or is_within(value, asked.range))
+               and (asked.match is None or text_matches(asked.match, value)) for value in values)
+
+
+def is_within(value, asked):
+    found, (start, end) = moment(value), bounds(asked)
+    return found is not None and (start is None or start <= found[0]) and (end is None or found[0] < end)
+
+
+def component_matches(asked, found):
+    """Whether a filter matches among components."""
+    named = [component for component in found if component.name == ascii_capitals(asked.name)]
+    if asked.absent:
+        return not named
+    return any((asked.range is None or overlaps(component, *bounds(asked.range)))
+               and all(property_matches(inner, component) for inner in asked.properties)
+               and all(component_matches(inner, component.children) for inner in asked.components)
+               for component in named)
+
+
+def calendar_matches(asked, text):
+    if asked.filter is None or asked.filter.name == "":
+        return True
+    found = components(text)
+    return found is not None and component_matches(asked.filter, found)
+
+
+def card_text_matches(match, text):
+    """A text match over a whole vCard: on some line the part behind the first colon, or anywhere."""
     whole, searched = folded(text), folded(match.text)
     values = [line.partition(":")[2] for line in lines_of(whole) if ":" in line]
-    tests = {"equals": lambda: ":" + searched in whole,
+    tests = {"equals": lambda: searched in values,
              "starts-with": lambda: any(value.startswith(searched) for value in values),
              "ends-with": lambda: any(value.endswith(searched) for value in values)}
     return tests.get(match.kind, lambda: searched in whole)() != match.negated
@@ -215,7 +260,7 @@ def card_matches(asked, text):
         return True
     if asked.filter.absent:
         return ascii_capitals(asked.filter.name) + ":" not in text
-    return asked.filter.match is None or text_matches(asked.filter.match, text)
+    return asked.filter.match is None or card_text_matches(asked.filter.match, text)
 
 
 class Record:
