@@ -8,7 +8,7 @@ import tempfile
 import time
 
 from rows import AT_ROOT, BIG, F, TREE, carry, judge, plans, row
-from served import Fault, Left, Place, Request, bytes_of, copying, dropping, is_front, need, whole
+from served import Fault, Left, Place, Request, Shim, bytes_of, copying, dropping, is_front, need, whole
 
 
 # ---- memory
@@ -62,6 +62,28 @@ def need_front(came, right):
         is_last = at + 1 == len(came.answers)
         need(answer.status == right[at].status, f"{answer.status} in place of {right[at].status}")
         need(answer.body == right[at].body or is_last and right[at].body.startswith(answer.body), "another body")
+
+
+def allocations(server, shim, request):
+    """How often the program asks for memory at a request."""
+    with Place(TREE) as place, tempfile.NamedTemporaryFile(prefix="davserve-counted-") as counted:
+        server.run(place.root, [request], before=shim.words(COUNTED=counted.name))
+        return int(counted.read() or 0)
+
+
+@row("memory is refused at any one place", "a front of the answers: status 101; or as ever", "what a front of the plan leaves")
+def refused_memory(server):
+    tries = 0
+    with Shim() as shim:
+        for request, plan in plans({**AT_ROOT, **TREE}):
+            for number in range(1, allocations(server, shim, request) + 1):
+                with Place(TREE) as place:
+                    before = place.tree()
+                    came = server.run(place.root, [request], before=shim.words(REFUSED=number))
+                    need(came.status in (0, 101), f"allocation {number} is refused: status {came.status} at {request}")
+                    judge(server, place, before, request, plan, came)
+                    tries += 1
+    return tries
 
 
 # ---- the program is ended

@@ -64,10 +64,13 @@ def judge(server, place, before, request, plan, came):
     after = place.tree()
     need(came.status >= 0, f"it ends by signal {-came.status} at {request}")
     need(is_front(before, after, plan), f"another tree behind {request}")
+    right = right_of(server, request)
     if came.status in (3, 4, 101) or not came.answers:
         need(came.status in (3, 4, 101), f"status {came.status} and no answer to {request}")
+        fits = [(it.status == right.status and right.body.startswith(it.body)) for it in came.answers]
+        need(all(fits), f"{request} is answered otherwise")
         return
-    answer, right = came.answers[0], right_of(server, request)
+    answer = came.answers[0]
     if came.status == 5:
         need(answer.status == right.status and not answer.is_whole and right.body.startswith(answer.body),
              f"{request} breaks off otherwise")

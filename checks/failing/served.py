@@ -296,6 +296,26 @@ class Talk:
         self.process.communicate()
 
 
+class Shim:
+    """A library in front of the C library, by which reads and writes are short, or memory is refused."""
+
+    def __enter__(self):
+        self.folder = tempfile.TemporaryDirectory(prefix="davserve-shim-")
+        self.library = os.path.join(self.folder.name, "shim.so")
+        source = os.path.join(os.path.dirname(os.path.abspath(__file__)), "shim.c")
+        words = ["cc", "-shared", "-fPIC", "-O1", "-fno-builtin", "-o", self.library, source, "-ldl"]
+        if not shutil.which("cc") or subprocess.run(words, check=False).returncode:
+            self.folder.cleanup()
+            raise Left("no cc, to make reads and writes short and to refuse memory")
+        return self
+
+    def __exit__(self, *_):
+        self.folder.cleanup()
+
+    def words(self, **settings):
+        return ["env", f"LD_PRELOAD={self.library}", *(f"{name}={value}" for name, value in settings.items())]
+
+
 class Place:
     """A folder that is served, beside one that isn't, in a place of its own that goes when it is left."""
 

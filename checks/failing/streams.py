@@ -1,16 +1,10 @@
 """Rows on the input, the output and the stream of errors."""
 import fcntl
 import os
-import shutil
-import subprocess
-import tempfile
 
 from folders import LONG
 from rows import AT_ROOT, F, TREE, plans, right_of, row
-from served import Left, Place, Request, is_front, need, whole
-
-
-HERE = os.path.dirname(os.path.abspath(__file__))
+from served import Place, Request, Shim, is_front, need, whole
 
 
 # ---- the streams
@@ -132,17 +126,13 @@ def bad_errors(server):
 @row("reads and writes move a few bytes at a time", "as ever", "as ever")
 def short_moves(server):
     tries = 0
-    with tempfile.TemporaryDirectory(prefix="davserve-short-") as folder:
-        shim = os.path.join(folder, "short.so")
-        words = ["cc", "-shared", "-fPIC", "-O1", "-o", shim, os.path.join(HERE, "short.c"), "-ldl"]
-        if not shutil.which("cc") or subprocess.run(words, check=False).returncode:
-            raise Left("no cc, to make reads and writes short")
+    with Shim() as shim:
         for size in ("1", "7", "4096"):
             for request, plan in plans({**AT_ROOT, **TREE}):
                 if size == "1" and len(request.body) > 1000:
                     continue
                 with Place(TREE) as place:
-                    came = server.run(place.root, [request], before=["env", f"LD_PRELOAD={shim}", f"SHORT={size}"])
+                    came = server.run(place.root, [request], before=shim.words(SHORT=size))
                     need(came.status == 0, f"status {came.status} at {request}, {size} at a time")
                     need(came.answers[0].said() == right_of(server, request).said(), f"{request} is answered otherwise")
                     need(place.tree() == whole({**AT_ROOT, **TREE}, plan), f"another tree behind {request}")
