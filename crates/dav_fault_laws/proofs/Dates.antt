@@ -37,7 +37,7 @@ same_date : (y z m n d e : ℕ) → IsCivilDate (pos y) m d → IsCivilDate (pos
     → (y ≡ z) × ((m ≡ n) × (d ≡ e))
 same_date y z m n d e one other same =
     let counts : day_count (pos y) m d ≡ day_count (pos z) n e =
-      omega (arith, signed_arith, same, days_from_civil-day_count (pos y) m d, days_from_civil-day_count (pos z) n e) in
+    omega (arith, signed_arith, same, days_from_civil-day_count (pos y) m d, days_from_civil-day_count (pos z) n e) in
     let years : y ≡ z = same_years y z m n d e one other counts in
     (years, same_rest y m n d e one (subst (λ x. IsCivilDate (pos x) n e) (sym years) other) (counts ∙ ap (λ x. day_count (pos x) n e) (sym years)))
 

@@ -220,8 +220,11 @@ rows_left w dir some whole is left rows = rows_part dir left.shown.listed rows.l
 
     fewer : Fewer left.shown.listed rows.listed
     fewer k = omega (
-      arith, sum_by-IsPermutation (has_place k) (filter is_visible left.some) left.shown.listed left.shown.each_once,
-      sum_by-IsPermutation (has_place k) (filter is_visible all) rows.listed rows.each_once, count_filter is_visible k left.some,
-      count_filter is_visible k all, sum_by-IsPermutation (shows is_visible k) all (left.some ++ left.missing) left.parts,
+      arith,
+      sum_by-IsPermutation (has_place k) (filter is_visible left.some) left.shown.listed left.shown.each_once,
+      sum_by-IsPermutation (has_place k) (filter is_visible all) rows.listed rows.each_once,
+      count_filter is_visible k left.some,
+      count_filter is_visible k all,
+      sum_by-IsPermutation (shows is_visible k) all (left.some ++ left.missing) left.parts,
       sum_by-append (shows is_visible k) left.some left.missing,
     )

@@ -31,9 +31,22 @@ IsOther status = status ≡ 500 → ⊥
 
 gate_other : (status : ℕ) → is_among status gate_statuses ≡ true → IsOther status
 gate_other status listed =
-    among_all IsOther gate_statuses
-    ((λ e. omega (arith, e)), ((λ e. omega (arith, e)), ((λ e. omega (arith, e)), ((λ e. omega (arith, e)), ((λ e. omega (arith, e)),
-    ((λ e. omega (arith, e)), ((λ e. omega (arith, e)), tt)))))))
+    among_all IsOther gate_statuses (
+      (λ e. omega (arith, e)),
+      (
+        (λ e. omega (arith, e)),
+        (
+          (λ e. omega (arith, e)),
+          (
+            (λ e. omega (arith, e)),
+            (
+              (λ e. omega (arith, e)),
+              ((λ e. omega (arith, e)), ((λ e. omega (arith, e)), tt)),
+            ),
+          ),
+        ),
+      ),
+    )
     status listed
 
 write_other : (fields : Fields) (rose : Type 0) (reply : Reply) → IsWriteReply fields rose reply → (rose → ⊥) → IsOther reply.status
@@ -107,8 +120,7 @@ plays_whole p s [] q end plays le same room = tt
 plays_whole p s (move ∷ moves) q end (m, stands, held, plays) le same room =
     let more : move.to.faults ≤ (last_of move.to moves).faults = trail_goes m move.to moves q plays in
     let up : s.faults ≤ move.to.faults = step_goes p s move.to move.step move.answer m stands in
-    let here : move.to.faults ≡ end = omega (arith, more, up, le, same) in
-    (
+    let here : move.to.faults ≡ end = omega (arith, more, up, le, same) in (
       step_whole p s move.to move.step move.answer m stands (none_rose s.faults move.to.faults end same (omega (arith, here)) room),
       plays_whole m move.to moves q end plays le here room,
     )
