@@ -63,15 +63,15 @@ pub fn listings_are_by_the_rules<D: Disk, R: RememberAny>(_fs: &LocalFs<D, R>, _
 pub fn walks_tell_the_members<D: Disk, R: RememberAny>(_fs: &LocalFs<D, R>, _path: &DavPath)
     ensures each { (w : World) (n o : LocalFs D R) (l k : LocalFsReadDir) (answers : List Answered)
         → (D.state _fs.now.disk).told ≡ Some w
-        → ⟦<LocalFs<D, R> as DavFileSystem>⟧.listings.lists _fs.now tt _path.now Data (Ok l) n → HasNoLinks w l.reading.path
-        → Walked ⟦<LocalFs<D, R> as DavFileSystem>⟧.view
-        ⟦<LocalFs<D, R> as DavFileSystem>⟧.listings n l answers o k
+        → ⟦<LocalFs<D, R> as DavFileSystem>⟧.listings.lists _fs.now tt _path.now Data (Ok l) n
+        → HasNoLinks w l.reading.path
+        → Walked ⟦<LocalFs<D, R> as DavFileSystem>⟧.view ⟦<LocalFs<D, R> as DavFileSystem>⟧.listings n l answers o k
         → AreOf (members w l.reading.path) (D.state _fs.now.disk).faults (D.state o.disk).faults answers }
     ensures ends { (w : World) (n o t : LocalFs D R) (l k j : LocalFsReadDir) (answers : List Answered)
         (last : Result (Option LocalFsDirEntry) FsError) → (D.state _fs.now.disk).told ≡ Some w
-        → ⟦<LocalFs<D, R> as DavFileSystem>⟧.listings.lists _fs.now tt _path.now Data (Ok l) n → HasNoLinks w l.reading.path
-        → Walked ⟦<LocalFs<D, R> as DavFileSystem>⟧.view
-        ⟦<LocalFs<D, R> as DavFileSystem>⟧.listings n l answers o k
+        → ⟦<LocalFs<D, R> as DavFileSystem>⟧.listings.lists _fs.now tt _path.now Data (Ok l) n
+        → HasNoLinks w l.reading.path
+        → Walked ⟦<LocalFs<D, R> as DavFileSystem>⟧.view ⟦<LocalFs<D, R> as DavFileSystem>⟧.listings n l answers o k
         → ⟦<LocalFs<D, R> as DavFileSystem>⟧.listings.lists_on o k last t j
         → EndsBy (D.state _fs.now.disk).faults (members w l.reading.path) answers last (D.state t.disk).faults }
 {}

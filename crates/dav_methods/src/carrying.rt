@@ -52,8 +52,7 @@ fn go<S: GuardedFileSystem<C>, C>(
     outcome: Outcome,
 ) -> Result<Outcome, DavError>
     requires admits { S.view.admits fs.old }
-    ensures table { Goes S.view
-        S.listings credentials.now asked.now.moving asked.now
+    ensures table { Goes S.view S.listings credentials.now asked.now.moving asked.now
         (record { from = path.now; to = asked.now.to; dir = dir }) outcome fs.old result fs.new }
     ensures keeps { KeepsOpen (S.view.state fs.old) (S.view.state fs.new) }
     ensures admits { S.view.admits fs.new }
@@ -77,8 +76,7 @@ fn replace<S: GuardedFileSystem<C>, C>(
     dir_there: bool,
 ) -> Result<Outcome, DavError>
     requires admits { S.view.admits fs.old }
-    ensures table { Replaces S.view
-        S.listings credentials.now asked.now
+    ensures table { Replaces S.view S.listings credentials.now asked.now
         (record { from = path.now; to = asked.now.to; dir = dir }) dir_there fs.old result fs.new }
     ensures keeps { KeepsOpen (S.view.state fs.old) (S.view.state fs.new) }
     ensures admits { S.view.admits fs.new }
@@ -101,8 +99,7 @@ fn fill<S: GuardedFileSystem<C>, C>(
     refusal: FsError,
 ) -> Result<Outcome, DavError>
     requires admits { S.view.admits fs.old }
-    ensures table { Next (Arrives S.view
-        S.listings credentials.now asked.now
+    ensures table { Next (Arrives S.view S.listings credentials.now asked.now
         (record { from = path.now; to = asked.now.to; dir = dir }) (Err refusal)) fs.old result fs.new }
     ensures keeps { KeepsOpen (S.view.state fs.old) (S.view.state fs.new) }
     ensures admits { S.view.admits fs.new }
@@ -123,11 +120,8 @@ fn arrive<S: GuardedFileSystem<C>, C>(
     dir: bool,
 ) -> Result<Outcome, DavError>
     requires admits { S.view.admits fs.old }
-    ensures table { LooksAtLink S.view
-        S.listings credentials.now asked.now.to
-        (Arrives S.view
-        S.listings credentials.now asked.now
-        (record { from = path.now; to = asked.now.to; dir = dir })) fs.old result fs.new }
+    ensures table { LooksAtLink S.view S.listings credentials.now asked.now.to (Arrives S.view S.listings
+        credentials.now asked.now (record { from = path.now; to = asked.now.to; dir = dir })) fs.old result fs.new }
     ensures keeps { KeepsOpen (S.view.state fs.old) (S.view.state fs.new) }
     ensures admits { S.view.admits fs.new }
     ensures loan { S.view.loan fs.new ≡ S.view.loan fs.old }
@@ -154,11 +148,9 @@ fn arrive_if<S: GuardedFileSystem<C>, C>(
     may: Result<(), DavError>,
 ) -> Result<Outcome, DavError>
     requires admits { S.view.admits fs.old }
-    ensures table { Next (Unless may (LooksAtLink S.view
-        S.listings credentials.now asked.now.to
-        (Arrives S.view
-        S.listings credentials.now asked.now
-        (record { from = path.now; to = asked.now.to; dir = dir })))) fs.old result fs.new }
+    ensures table { Next (Unless may (LooksAtLink S.view S.listings credentials.now asked.now.to (Arrives S.view
+        S.listings credentials.now asked.now (record { from = path.now; to = asked.now.to; dir = dir }))))
+        fs.old result fs.new }
     ensures keeps { KeepsOpen (S.view.state fs.old) (S.view.state fs.new) }
     ensures admits { S.view.admits fs.new }
     ensures loan { S.view.loan fs.new ≡ S.view.loan fs.old }
@@ -180,8 +172,7 @@ fn leave<S: GuardedFileSystem<C>, C>(
     meta: &S::Meta,
 ) -> Result<Outcome, DavError>
     requires admits { S.view.admits fs.old }
-    ensures table { Next (Leaves S.view
-        S.listings credentials.now path.now fields.now asked.now
+    ensures table { Next (Leaves S.view S.listings credentials.now path.now fields.now asked.now
         (Ok (S.Meta.info meta.now))) fs.old result fs.new }
     ensures keeps { KeepsOpen (S.view.state fs.old) (S.view.state fs.new) }
     ensures admits { S.view.admits fs.new }
@@ -204,8 +195,7 @@ fn carry<S: GuardedFileSystem<C>, C>(
     prefix: &str,
 ) -> Result<Outcome, DavError>
     requires admits { S.view.admits fs.old }
-    ensures table { Next (CopyMoves S.view
-        S.listings credentials.now moving prefix.now path.now fields.now)
+    ensures table { Next (CopyMoves S.view S.listings credentials.now moving prefix.now path.now fields.now)
         fs.old result fs.new }
     ensures keeps { KeepsOpen (S.view.state fs.old) (S.view.state fs.new) }
     ensures admits { S.view.admits fs.new }
@@ -251,9 +241,7 @@ pub fn copy<S: GuardedFileSystem<C>, C>(
     prefix: &str,
 ) -> Result<Outcome, DavError>
     requires admits { S.view.admits fs.old }
-    ensures table { CopiesTo S.view
-        S.listings credentials.now prefix.now path.now fields.now fs.old
-        result fs.new }
+    ensures table { CopiesTo S.view S.listings credentials.now prefix.now path.now fields.now fs.old result fs.new }
     ensures keeps { KeepsOpen (S.view.state fs.old) (S.view.state fs.new) }
     ensures admits { S.view.admits fs.new }
     ensures loan { S.view.loan fs.new ≡ S.view.loan fs.old }
@@ -272,9 +260,7 @@ pub fn move_to<S: GuardedFileSystem<C>, C>(
     prefix: &str,
 ) -> Result<Outcome, DavError>
     requires admits { S.view.admits fs.old }
-    ensures table { MovesTo S.view
-        S.listings credentials.now prefix.now path.now fields.now fs.old
-        result fs.new }
+    ensures table { MovesTo S.view S.listings credentials.now prefix.now path.now fields.now fs.old result fs.new }
     ensures keeps { KeepsOpen (S.view.state fs.old) (S.view.state fs.new) }
     ensures admits { S.view.admits fs.new }
     ensures loan { S.view.loan fs.new ≡ S.view.loan fs.old }

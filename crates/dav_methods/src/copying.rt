@@ -47,10 +47,8 @@ fn copy_dir<S: GuardedFileSystem<C>, C>(
     works: &mut VecDeque<Pending>,
 ) -> Result<(), DavError>
     requires admits { S.view.admits fs.old }
-    ensures copies { CopiesOn S.view
-        S.listings credentials.now alone
-        (transfer_dir ends.now ∷ transfers_at (ends_above ends.now) works.old.items) fs.old result fs.new
-        (transfers_at ends.now works.new.items) }
+    ensures copies { CopiesOn S.view S.listings credentials.now alone (transfer_dir ends.now ∷ transfers_at
+        (ends_above ends.now) works.old.items) fs.old result fs.new (transfers_at ends.now works.new.items) }
     ensures lighter { result ≡ Ok tt → weight (works_at ends.now.from works.new.items [])
         < weight (Whole ends.now.from true ∷ works_at (above ends.now.from) works.old.items []) }
     ensures keeps { KeepsOpen (S.view.state fs.old) (S.view.state fs.new) }
@@ -82,10 +80,8 @@ fn copy_member<S: GuardedFileSystem<C>, C>(
     works: &mut VecDeque<Pending>,
 ) -> Result<(), DavError>
     requires admits { S.view.admits fs.old }
-    ensures copies { CopiesOn S.view
-        S.listings credentials.now alone
-        (transfers_at ends.old (Below member.now ∷ works.old.items)) fs.old result fs.new
-        (transfers_at ends.new works.new.items) }
+    ensures copies { CopiesOn S.view S.listings credentials.now alone (transfers_at
+        ends.old (Below member.now ∷ works.old.items)) fs.old result fs.new (transfers_at ends.new works.new.items) }
     ensures lighter { result ≡ Ok tt → weight (works_at ends.new.from works.new.items [])
         < weight (works_at ends.old.from (Below member.now ∷ works.old.items) []) }
     ensures keeps { KeepsOpen (S.view.state fs.old) (S.view.state fs.new) }
@@ -114,10 +110,8 @@ fn copy_one<S: GuardedFileSystem<C>, C>(
     works: &mut VecDeque<Pending>,
 ) -> Result<(), DavError>
     requires admits { S.view.admits fs.old }
-    ensures copies { CopiesOn S.view
-        S.listings credentials.now alone
-        (transfers_at ends.old (work ∷ works.old.items)) fs.old result fs.new
-        (transfers_at ends.new works.new.items) }
+    ensures copies { CopiesOn S.view S.listings credentials.now alone
+        (transfers_at ends.old (work ∷ works.old.items)) fs.old result fs.new (transfers_at ends.new works.new.items) }
     ensures lighter { result ≡ Ok tt → weight (works_at ends.new.from works.new.items [])
         < weight (works_at ends.old.from (work ∷ works.old.items) []) }
     ensures keeps { KeepsOpen (S.view.state fs.old) (S.view.state fs.new) }
@@ -145,8 +139,7 @@ fn copy_pending<S: GuardedFileSystem<C>, C>(
     works: VecDeque<Pending>,
 ) -> Result<(), DavError>
     requires admits { S.view.admits fs.old }
-    ensures copies { Copies S.view
-        S.listings credentials.now alone
+    ensures copies { Copies S.view S.listings credentials.now alone
         (transfers_at ends works.items) fs.old result fs.new }
     ensures keeps { KeepsOpen (S.view.state fs.old) (S.view.state fs.new) }
     ensures admits { S.view.admits fs.new }
@@ -176,9 +169,7 @@ fn copy_tree<S: GuardedFileSystem<C>, C>(
     ends: Ends,
 ) -> Result<(), DavError>
     requires admits { S.view.admits fs.old }
-    ensures copies { Copies S.view
-        S.listings credentials.now alone
-        (transfer_dir ends ∷ []) fs.old result fs.new }
+    ensures copies { Copies S.view S.listings credentials.now alone (transfer_dir ends ∷ []) fs.old result fs.new }
     ensures keeps { KeepsOpen (S.view.state fs.old) (S.view.state fs.new) }
     ensures admits { S.view.admits fs.new }
     ensures loan { S.view.loan fs.new ≡ S.view.loan fs.old }
@@ -211,8 +202,7 @@ pub fn copy_all<S: GuardedFileSystem<C>, C>(
     dir: bool,
 ) -> Result<(), DavError>
     requires admits { S.view.admits fs.old }
-    ensures copies { Copies S.view
-        S.listings credentials.now alone
+    ensures copies { Copies S.view S.listings credentials.now alone
         (record { from = from.now; to = to.now; dir = dir } ∷ []) fs.old result fs.new }
     ensures keeps { KeepsOpen (S.view.state fs.old) (S.view.state fs.new) }
     ensures admits { S.view.admits fs.new }

@@ -18,18 +18,15 @@ use dav_store::GuardedFileSystem;
 /// Over a store that refuses few things a request that writes is answered 201, 204, or with a status of a short list,
 /// where memory isn't refused; and 500 only where a fault was met.
 pub fn answers_are_listed<S: GuardedFileSystem<C>, C>()
-    ensures mkcol { (c : C) → RefusesUsually S.view
-        S.listings S.File.writes c
+    ensures mkcol { (c : C) → RefusesUsually S.view S.listings S.File.writes c
         → (path : WebPath) (fields : Fields) (s t : S) (r : Given)
         → MkCols S.view c path fields s r t
         → Answers S.view s r t }
-    ensures mkcalendar { (c : C) → RefusesUsually S.view
-        S.listings S.File.writes c
+    ensures mkcalendar { (c : C) → RefusesUsually S.view S.listings S.File.writes c
         → (path : WebPath) (s t : S) (r : Given)
         → MkCalendars S.view c path s r t
         → Answers S.view s r t }
-    ensures put { (c : C) → RefusesUsually S.view
-        S.listings S.File.writes c
+    ensures put { (c : C) → RefusesUsually S.view S.listings S.File.writes c
         → (path : WebPath) (fields : Fields) (bytes : List ℕ) (s t : S) (r : Given)
         → PutsWhole S.view S.File.writes c path fields bytes s r t
         → Answers S.view s r t }
@@ -38,43 +35,28 @@ pub fn answers_are_listed<S: GuardedFileSystem<C>, C>()
 /// Over a store that follows its rules, by which each path is meant as it is written, a request that writes makes of a
 /// told world what its plan says, and is answered so.
 pub fn writes_follow_their_plans<S: GuardedFileSystem<C>, C>()
-    ensures mkcol { (c : C) (rules : Rules) (s : S) → Follows S.view
-        S.listings S.File.writes c rules s
+    ensures mkcol { (c : C) (rules : Rules) (s : S) → Follows S.view S.listings S.File.writes c rules s
         → rules.folds ≡ false → rules.macos ≡ false → rules.alone ≡ None
         → (ask : Ask) → ask.method ≡ MkCol → (r : Given) (t : S)
         → MkCols S.view c ask.path ask.fields s r t
-        → Told S.view
-        S.listings S.File.writes c s t
-        (RightIn S.view
-        S.listings S.File.writes c rules ask s r t) }
+        → Told S.view S.listings S.File.writes c s t (RightIn S.view S.listings S.File.writes c rules ask s r t) }
     ensures mkcalendar { (c : C) (rules : Rules) (s : S)
-        → Follows S.view
-        S.listings S.File.writes c rules s
+        → Follows S.view S.listings S.File.writes c rules s
         → rules.folds ≡ false → rules.macos ≡ false → rules.alone ≡ None
         → (ask : Ask) → (ask.method ≡ MkCalendar) ⊎ (ask.method ≡ MkAddressbook) → (r : Given) (t : S)
         → MkCalendars S.view c ask.path s r t
-        → Told S.view
-        S.listings S.File.writes c s t
-        (RightIn S.view
-        S.listings S.File.writes c rules ask s r t) }
-    ensures put { (c : C) (rules : Rules) (s : S) → Follows S.view
-        S.listings S.File.writes c rules s
+        → Told S.view S.listings S.File.writes c s t (RightIn S.view S.listings S.File.writes c rules ask s r t) }
+    ensures put { (c : C) (rules : Rules) (s : S) → Follows S.view S.listings S.File.writes c rules s
         → rules.folds ≡ false → rules.macos ≡ false → rules.alone ≡ None
         → (ask : Ask) → ask.method ≡ Put → (r : Given) (t : S)
-        → PutsWhole S.view S.File.writes c ask.path ask.fields
-        ask.body s r t
-        → Told S.view
-        S.listings S.File.writes c s t
-        (RightIn S.view
-        S.listings S.File.writes c rules ask s r t) }
+        → PutsWhole S.view S.File.writes c ask.path ask.fields ask.body s r t
+        → Told S.view S.listings S.File.writes c s t (RightIn S.view S.listings S.File.writes c rules ask s r t) }
 {}
 
 /// The calls that a request that writes makes lead to the store that is left, whatever is answered.
 pub fn writes_lead_on<S: GuardedFileSystem<C>, C>()
     ensures { (c : C) (s t : S) (method : DavMethod) (prefix : List ℕ) (path : WebPath) (fields : Fields)
         (body : List ℕ)
-        → (r : Given) → Changes S.view
-        S.listings S.File.writes c method prefix path fields body s r t
-        → Reached S.view
-        S.listings S.File.writes c s t }
+        → (r : Given) → Changes S.view S.listings S.File.writes c method prefix path fields body s r t
+        → Reached S.view S.listings S.File.writes c s t }
 {}

@@ -18,8 +18,7 @@ fn make<S: GuardedFileSystem<C>, C>(
     credentials: &C,
     path: &DavPath,
 ) -> Result<Outcome, DavError>
-    ensures table { Next (EndsMade S.view credentials.now path.now)
-        fs.old result fs.new }
+    ensures table { Next (EndsMade S.view credentials.now path.now) fs.old result fs.new }
     ensures keeps { KeepsOpen (S.view.state fs.old) (S.view.state fs.new) }
     ensures admits { S.view.admits fs.old → S.view.admits fs.new }
     ensures loan { S.view.loan fs.new ≡ S.view.loan fs.old }
@@ -38,8 +37,7 @@ fn make_below<S: GuardedFileSystem<C>, C>(
     credentials: &C,
     path: &DavPath,
 ) -> Result<Outcome, DavError>
-    ensures table { Next (Below S.view credentials.now path.now
-        (EndsMade S.view credentials.now path.now))
+    ensures table { Next (Below S.view credentials.now path.now (EndsMade S.view credentials.now path.now))
         fs.old result fs.new }
     ensures keeps { KeepsOpen (S.view.state fs.old) (S.view.state fs.new) }
     ensures admits { S.view.admits fs.old → S.view.admits fs.new }
@@ -58,8 +56,7 @@ fn make_if<S: GuardedFileSystem<C>, C>(
     path: &DavPath,
     may: Result<(), DavError>,
 ) -> Result<Outcome, DavError>
-    ensures table { Next (Unless may (Below S.view credentials.now
-        path.now (EndsMade S.view credentials.now path.now)))
+    ensures table { Next (Unless may (Below S.view credentials.now path.now (EndsMade S.view credentials.now path.now)))
         fs.old result fs.new }
     ensures keeps { KeepsOpen (S.view.state fs.old) (S.view.state fs.new) }
     ensures admits { S.view.admits fs.old → S.view.admits fs.new }
@@ -83,8 +80,7 @@ pub fn mkcol<S: GuardedFileSystem<C>, C>(
     path: &DavPath,
     fields: &HeaderMap,
 ) -> Result<Outcome, DavError>
-    ensures table { MkCols S.view credentials.now path.now
-        fields.now fs.old result fs.new }
+    ensures table { MkCols S.view credentials.now path.now fields.now fs.old result fs.new }
     ensures keeps { KeepsOpen (S.view.state fs.old) (S.view.state fs.new) }
     ensures admits { S.view.admits fs.old → S.view.admits fs.new }
     ensures loan { S.view.loan fs.new ≡ S.view.loan fs.old }
@@ -109,8 +105,7 @@ pub fn mkcalendar<S: GuardedFileSystem<C>, C>(
     path: &DavPath,
     _fields: &HeaderMap,
 ) -> Result<Outcome, DavError>
-    ensures table { MkCalendars S.view credentials.now path.now
-        fs.old result fs.new }
+    ensures table { MkCalendars S.view credentials.now path.now fs.old result fs.new }
     ensures keeps { KeepsOpen (S.view.state fs.old) (S.view.state fs.new) }
     ensures admits { S.view.admits fs.old → S.view.admits fs.new }
     ensures loan { S.view.loan fs.new ≡ S.view.loan fs.old }

@@ -55,8 +55,7 @@ pub fn read_pending<S: GuardedFileSystem<C>, C>(
     works: &mut VecDeque<Pending>,
 ) -> Result<(), DavError>
     requires admits { S.view.admits fs.old }
-    ensures reads { ReadsPending S.view
-        S.listings credentials.now path.now works.old.items fs.old
+    ensures reads { ReadsPending S.view S.listings credentials.now path.now works.old.items fs.old
         result fs.new works.new.items }
     ensures keeps { KeepsOpen (S.view.state fs.old) (S.view.state fs.new) }
     ensures admits { S.view.admits fs.new }

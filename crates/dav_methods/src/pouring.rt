@@ -16,8 +16,7 @@ pub fn file_write<S: GuardedFileSystem<C>, C>(
     bytes: &[u8],
 ) -> Result<(), FsError>
     requires { IsSome ((S.view.state fs.old).live (S.view.handle file.old)) }
-    ensures writes { WritesFile S.view S.File.writes fs.old file.old
-        bytes.now result fs.new file.new }
+    ensures writes { WritesFile S.view S.File.writes fs.old file.old bytes.now result fs.new file.new }
     ensures admits { S.view.admits fs.old → S.view.admits fs.new }
 {
     file.write_bytes(fs.disk(), bytes)
@@ -32,8 +31,7 @@ fn write_piece<S: GuardedFileSystem<C>, C>(
 ) -> Result<u64, DavError>
     requires live { IsSome ((S.view.state fs.old).live (S.view.handle file.old)) }
     requires short { total < most_bytes }
-    ensures takes { TakesPiece S.view S.File.writes total fs.old
-        file.old piece.now result fs.new file.new }
+    ensures takes { TakesPiece S.view S.File.writes total fs.old file.old piece.now result fs.new file.new }
     ensures admits { S.view.admits fs.old → S.view.admits fs.new }
 {
     let sum = total.saturating_add(piece.len() as u64);

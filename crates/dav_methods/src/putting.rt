@@ -56,8 +56,7 @@ fn check<S: GuardedFileSystem<C>, C>(
     path: &DavPath,
     fields: &HeaderMap,
 ) -> Result<Outcome, DavError>
-    ensures table { MayPut S.view credentials.now path.now
-        fields.now fs.old result fs.new }
+    ensures table { MayPut S.view credentials.now path.now fields.now fs.old result fs.new }
     ensures keeps { Keeps (S.view.state fs.old) (S.view.state fs.new) }
     ensures admits { S.view.admits fs.old → S.view.admits fs.new }
     ensures loan { S.view.loan fs.new ≡ S.view.loan fs.old }
@@ -81,8 +80,8 @@ fn put_body<S: GuardedFileSystem<C>, C, B: BodyReader>(
     outcome: Outcome,
     body: &mut B,
 ) -> Result<Outcome, DavError>
-    ensures table { AfterChecks S.view S.File.writes
-        credentials.now (Ok outcome) path.now (B.state body.old) fs.old result fs.new (B.state body.new) }
+    ensures table { AfterChecks S.view S.File.writes credentials.now (Ok outcome)
+        path.now (B.state body.old) fs.old result fs.new (B.state body.new) }
     ensures keeps { KeepsOpen (S.view.state fs.old) (S.view.state fs.new) }
     ensures admits { S.view.admits fs.old → S.view.admits fs.new }
     ensures loan { S.view.loan fs.new ≡ S.view.loan fs.old }
@@ -167,8 +166,7 @@ pub fn put_whole<S: GuardedFileSystem<C>, C>(
     fields: &HeaderMap,
     bytes: &[u8],
 ) -> Result<Outcome, DavError>
-    ensures table { PutsWhole S.view S.File.writes
-        credentials.now path.now fields.now bytes.now fs.old result fs.new }
+    ensures table { PutsWhole S.view S.File.writes credentials.now path.now fields.now bytes.now fs.old result fs.new }
     ensures keeps { KeepsOpen (S.view.state fs.old) (S.view.state fs.new) }
     ensures admits { S.view.admits fs.old → S.view.admits fs.new }
     ensures loan { S.view.loan fs.new ≡ S.view.loan fs.old }

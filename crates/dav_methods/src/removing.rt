@@ -55,10 +55,8 @@ fn remove_member<S: GuardedFileSystem<C>, C>(
 ) -> Result<(), DavError>
     requires admits { S.view.admits fs.old }
     requires slash { path.old.slash ≡ true }
-    ensures removes { (last : List Work) → RemovesOn S.view
-        S.listings credentials.now
-        (works_at path.old (Below member.now ∷ works.old.items) last) fs.old result fs.new
-        (works_at path.new works.new.items last) }
+    ensures removes { (last : List Work) → RemovesOn S.view S.listings credentials.now (works_at path.old
+        (Below member.now ∷ works.old.items) last) fs.old result fs.new (works_at path.new works.new.items last) }
     ensures slash { result ≡ Ok tt → path.new.slash ≡ true }
     ensures lighter { result ≡ Ok tt → weight (works_at path.new works.new.items [])
         < weight (works_at path.old (Below member.now ∷ works.old.items) []) }
@@ -92,10 +90,8 @@ fn remove_one<S: GuardedFileSystem<C>, C>(
 ) -> Result<(), DavError>
     requires admits { S.view.admits fs.old }
     requires slash { path.old.slash ≡ true }
-    ensures removes { (last : List Work) → RemovesOn S.view
-        S.listings credentials.now
-        (works_at path.old (work ∷ works.old.items) last) fs.old result fs.new
-        (works_at path.new works.new.items last) }
+    ensures removes { (last : List Work) → RemovesOn S.view S.listings credentials.now (works_at
+        path.old (work ∷ works.old.items) last) fs.old result fs.new (works_at path.new works.new.items last) }
     ensures slash { result ≡ Ok tt → path.new.slash ≡ true }
     ensures lighter { result ≡ Ok tt → weight (works_at path.new works.new.items [])
         < weight (works_at path.old (work ∷ works.old.items) []) }
@@ -123,8 +119,7 @@ fn remove_pending<S: GuardedFileSystem<C>, C>(
 ) -> Result<(), DavError>
     requires admits { S.view.admits fs.old }
     requires slash { path.slash ≡ true }
-    ensures removes { (last : List Work) → RemovesOn S.view
-        S.listings credentials.now
+    ensures removes { (last : List Work) → RemovesOn S.view S.listings credentials.now
         (works_at path works.items last) fs.old result fs.new last }
     ensures keeps { KeepsOpen (S.view.state fs.old) (S.view.state fs.new) }
     ensures admits { S.view.admits fs.new }
@@ -152,8 +147,7 @@ fn empty_dir<S: GuardedFileSystem<C>, C>(
     path: &DavPath,
 ) -> Result<(), DavError>
     requires admits { S.view.admits fs.old }
-    ensures removes { RemovesOn S.view
-        S.listings credentials.now (Whole path.now true ∷ []) fs.old
+    ensures removes { RemovesOn S.view S.listings credentials.now (Whole path.now true ∷ []) fs.old
         result fs.new (Emptied path.now ∷ []) }
     ensures keeps { KeepsOpen (S.view.state fs.old) (S.view.state fs.new) }
     ensures admits { S.view.admits fs.new }
@@ -180,9 +174,7 @@ pub fn remove_all<S: GuardedFileSystem<C>, C>(
     dir: bool,
 ) -> Result<(), DavError>
     requires admits { S.view.admits fs.old }
-    ensures removes { Removes S.view
-        S.listings credentials.now (Whole path.now dir ∷ []) fs.old
-        result fs.new }
+    ensures removes { Removes S.view S.listings credentials.now (Whole path.now dir ∷ []) fs.old result fs.new }
     ensures keeps { KeepsOpen (S.view.state fs.old) (S.view.state fs.new) }
     ensures admits { S.view.admits fs.new }
     ensures loan { S.view.loan fs.new ≡ S.view.loan fs.old }
@@ -206,8 +198,7 @@ fn delete_if<S: GuardedFileSystem<C>, C>(
     may: Result<(), DavError>,
 ) -> Result<Outcome, DavError>
     requires admits { S.view.admits fs.old }
-    ensures table { Next (Unless may (RemovesAll S.view
-        S.listings credentials.now path.now dir)) fs.old result fs.new }
+    ensures table { Next (Unless may (RemovesAll S.view S.listings credentials.now path.now dir)) fs.old result fs.new }
     ensures keeps { KeepsOpen (S.view.state fs.old) (S.view.state fs.new) }
     ensures admits { S.view.admits fs.new }
     ensures loan { S.view.loan fs.new ≡ S.view.loan fs.old }
@@ -241,9 +232,7 @@ pub fn delete<S: GuardedFileSystem<C>, C>(
     fields: &HeaderMap,
 ) -> Result<Outcome, DavError>
     requires admits { S.view.admits fs.old }
-    ensures table { Deletes S.view
-        S.listings credentials.now path.now fields.now fs.old result
-        fs.new }
+    ensures table { Deletes S.view S.listings credentials.now path.now fields.now fs.old result fs.new }
     ensures keeps { KeepsOpen (S.view.state fs.old) (S.view.state fs.new) }
     ensures admits { S.view.admits fs.new }
     ensures loan { S.view.loan fs.new ≡ S.view.loan fs.old }

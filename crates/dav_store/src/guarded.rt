@@ -103,8 +103,8 @@ pub trait GuardedFileSystem<C> {
         requires live { HasLister (view.state self.old) (listings.lister dir.old) }
         requires admits { view.admits self.old }
         ensures done { listings.lists_on self.old dir.old result self.new dir.new }
-        ensures nearer { Nearer (listings.to_come dir.old (left_of (view.state self.old) (listings.lister dir.old))) result
-            (listings.to_come dir.new (left_of (view.state self.new) (listings.lister dir.new))) }
+        ensures nearer { Nearer (listings.to_come dir.old (left_of (view.state self.old) (listings.lister dir.old)))
+            result (listings.to_come dir.new (left_of (view.state self.new) (listings.lister dir.new))) }
         ensures lister { listings.lister dir.new ≡ listings.lister dir.old }
         ensures stays { StaysBy view (λ s t. GoesOn s (listings.lister dir.old) t) self.old self.new };
 
@@ -148,16 +148,15 @@ pub trait GuardedFileSystem<C> {
     /// Putting inside what is inside changes nothing.
     ghost puts_back: { (s : Self) → with_disk s (inside s) ≡ s };
 
-    /// A disk put inside whose told world has the same tree, script and bytes keeps what the store may remember.
-    ghost admits_lent: { (s : Self) (d : Self.Disk)
-        → Both (Self.Disk.state (inside s)).told (Self.Disk.state d).told SameBesidesOpens
-        → view.admits s → view.admits (with_disk s d) };
+    /// A call on the disk inside keeps what the store may remember, where its told world has the same tree, script and
+    /// bytes behind it.
+    ghost admits_lent: { (s t : Self) → view.lends s t
+        → Both (view.state s).told (view.state t).told SameBesidesOpens → view.admits s → view.admits t };
 
-    /// A disk put inside whose told world has the same things at the same places, each with its time or a new one,
-    /// keeps what the store may remember: a write to a file leaves such a world.
-    ghost admits_written: { (s : Self) (d : Self.Disk)
-        → Both (Self.Disk.state (inside s)).told (Self.Disk.state d).told SameBesidesFiles
-        → view.admits s → view.admits (with_disk s d) };
+    /// The same where the told world has the same things at the same places, each with its time or a new one: a write
+    /// to a file leaves such a world.
+    ghost admits_written: { (s t : Self) → view.lends s t
+        → Both (view.state s).told (view.state t).told SameBesidesFiles → view.admits s → view.admits t };
 
     /// The view speaks of the disk inside, of the files and of the entries as they are.
     ghost fits: { Fits view listings inside with_disk Self.Disk.state Self.Disk.loan Self.File.handle Self.File.seen

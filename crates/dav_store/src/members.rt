@@ -52,8 +52,7 @@ fn add_member<S: GuardedFileSystem<C>, C>(
     members: &mut Vec<Member>,
 ) -> Result<(), NoMemory>
     requires admits { S.view.admits fs.old }
-    ensures told { (r : Result Info FsError)
-        × S.listings.says entry.now (S.view.state fs.old) r (S.view.state fs.new)
+    ensures told { (r : Result Info FsError) × S.listings.says entry.now (S.view.state fs.old) r (S.view.state fs.new)
         × OnOk result (members.new.items ≡ members.old.items ++ told_of (S.listings.called entry.now) r) }
     ensures plain { AllByRecursion IsNamedPlain members.old.items → AllByRecursion IsNamedPlain members.new.items }
     ensures store { S.view.lends fs.old fs.new }
@@ -75,15 +74,12 @@ fn add_member<S: GuardedFileSystem<C>, C>(
 fn run_out<S: GuardedFileSystem<C>, C>(fs: &mut S, dir: &mut S::Dir) -> Result<(), FsError>
     requires live { HasLister (S.view.state fs.old) (S.listings.lister dir.old) }
     requires admits { S.view.admits fs.old }
-    ensures ends { OnOk result (ReadOut S.view
-        S.listings fs.old dir.old fs.new dir.new) }
+    ensures ends { OnOk result (ReadOut S.view S.listings fs.old dir.old fs.new dir.new) }
     ensures live { HasLister (S.view.state fs.new) (S.listings.lister dir.new) }
     ensures admits { S.view.admits fs.new }
     ensures lister { S.listings.lister dir.new ≡ S.listings.lister dir.old }
-    ensures keeps { KeepsButLister (S.listings.lister dir.old) (S.view.state fs.old)
-        (S.view.state fs.new) }
-    ensures on { ListedOn S.view
-        S.listings fs.old dir.old fs.new dir.new }
+    ensures keeps { KeepsButLister (S.listings.lister dir.old) (S.view.state fs.old) (S.view.state fs.new) }
+    ensures on { ListedOn S.view S.listings fs.old dir.old fs.new dir.new }
     ensures error { IfErr result (λ e. e ≡ FsError.NoMemory) }
     ensures loan { S.view.loan fs.new ≡ S.view.loan fs.old }
 {
@@ -106,16 +102,13 @@ fn read_on<S: GuardedFileSystem<C>, C>(
 ) -> Result<Vec<Member>, FsError>
     requires live { HasLister (S.view.state fs.old) (S.listings.lister dir.old) }
     requires admits { S.view.admits fs.old }
-    ensures walks { IfOk result (λ members. WalksOut S.view
-        S.listings fs.old dir.old members.items fs.new dir.new) }
+    ensures walks { IfOk result (λ members. WalksOut S.view S.listings fs.old dir.old members.items fs.new dir.new) }
     ensures plain { IfOk result (λ members. AllByRecursion IsNamedPlain members.items) }
     ensures live { HasLister (S.view.state fs.new) (S.listings.lister dir.new) }
     ensures admits { S.view.admits fs.new }
     ensures lister { S.listings.lister dir.new ≡ S.listings.lister dir.old }
-    ensures keeps { KeepsButLister (S.listings.lister dir.old) (S.view.state fs.old)
-        (S.view.state fs.new) }
-    ensures on { ListedOn S.view
-        S.listings fs.old dir.old fs.new dir.new }
+    ensures keeps { KeepsButLister (S.listings.lister dir.old) (S.view.state fs.old) (S.view.state fs.new) }
+    ensures on { ListedOn S.view S.listings fs.old dir.old fs.new dir.new }
     ensures error { IfErr result (λ e. e ≡ FsError.NoMemory) }
     ensures loan { S.view.loan fs.new ≡ S.view.loan fs.old }
 {
@@ -150,21 +143,17 @@ pub fn read_members<S: GuardedFileSystem<C>, C>(
     credentials: &C,
 ) -> Result<Vec<Member>, FsError>
     requires admits { S.view.admits fs.old }
-    ensures listed { IfOk result (λ members. WasListed S.view
-        S.listings fs.old credentials.now path.now members.items fs.new) }
+    ensures listed { IfOk
+        result (λ members. WasListed S.view S.listings fs.old credentials.now path.now members.items fs.new) }
     ensures plain { IfOk result (λ members. AllByRecursion IsNamedPlain members.items) }
-    ensures refused { IfErr result (λ e. S.listings.lists fs.old credentials.now path.now Data (Err e) fs.new
-        ⊎ (e ≡ FsError.NoMemory)) }
+    ensures refused { IfErr result
+        (λ e. S.listings.lists fs.old credentials.now path.now Data (Err e) fs.new ⊎ (e ≡ FsError.NoMemory)) }
     ensures shown { (found : Result (List Member) FsError)
-        → ShowsMembers S.view
-        S.listings fs.old credentials.now path.now found
-        → MatchResult result
-        (λ members. ReadsThere found (S.view.state fs.old).faults members.items
-        (S.view.state fs.new).faults)
-        (λ e. RefusesThere found (S.view.state fs.old) e (S.view.state fs.new)) }
+        → ShowsMembers S.view S.listings fs.old credentials.now path.now found
+        → MatchResult result (λ members. ReadsThere found (S.view.state fs.old).faults members.items
+        (S.view.state fs.new).faults) (λ e. RefusesThere found (S.view.state fs.old) e (S.view.state fs.new)) }
     ensures keeps { Keeps (S.view.state fs.old) (S.view.state fs.new) }
-    ensures leads { LeadsOn S.view
-        S.listings credentials.now fs.old fs.new }
+    ensures leads { LeadsOn S.view S.listings credentials.now fs.old fs.new }
     ensures admits { S.view.admits fs.new }
     ensures loan { S.view.loan fs.new ≡ S.view.loan fs.old }
 {

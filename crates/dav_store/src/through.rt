@@ -13,8 +13,7 @@ pub fn file_metadata<S: GuardedFileSystem<C>, C>(
     file: &mut S::File,
 ) -> Result<S::Meta, FsError>
     requires { IsSome ((S.view.state fs.old).live (S.view.handle file.old)) }
-    ensures { Says S.view fs.old file.old
-        (info_in S.Meta.info result) fs.new file.new }
+    ensures { Says S.view fs.old file.old (info_in S.Meta.info result) fs.new file.new }
 {
     file.metadata(fs.disk())
 }
@@ -26,8 +25,7 @@ pub fn file_seek<S: GuardedFileSystem<C>, C>(
     place: u64,
 ) -> Result<u64, FsError>
     requires { IsSome ((S.view.state fs.old).live (S.view.handle file.old)) }
-    ensures { Seeks S.view fs.old file.old place result fs.new
-        file.new }
+    ensures { Seeks S.view fs.old file.old place result fs.new file.new }
 {
     file.seek(fs.disk(), place)
 }
@@ -40,8 +38,7 @@ pub fn file_read<S: GuardedFileSystem<C>, C>(
 ) -> Result<usize, FsError>
     requires live { IsSome ((S.view.state fs.old).live (S.view.handle file.old)) }
     requires room { 0 < length into.old }
-    ensures { Reads S.view fs.old file.old into.new result fs.new
-        file.new }
+    ensures { Reads S.view fs.old file.old into.new result fs.new file.new }
 {
     file.read_into(fs.disk(), into)
 }
@@ -60,8 +57,7 @@ pub fn entry_metadata<S: GuardedFileSystem<C>, C>(
     entry: &S::Entry,
 ) -> Result<S::Meta, FsError>
     requires { S.view.admits fs.old }
-    ensures says { S.listings.says entry.now (S.view.state fs.old) (info_in S.Meta.info result)
-        (S.view.state fs.new) }
+    ensures says { S.listings.says entry.now (S.view.state fs.old) (info_in S.Meta.info result) (S.view.state fs.new) }
     ensures lent { Lent S.view fs.old fs.new }
     ensures keeps { Keeps (S.view.state fs.old) (S.view.state fs.new) }
     ensures admits { S.view.admits fs.new }

@@ -87,8 +87,8 @@ pub trait DavFileSystem {
         requires live { HasLister (view.state self.old) (listings.lister dir.old) }
         requires admits { view.admits self.old }
         ensures done { listings.lists_on self.old dir.old result self.new dir.new }
-        ensures nearer { Nearer (listings.to_come dir.old (left_of (view.state self.old) (listings.lister dir.old))) result
-            (listings.to_come dir.new (left_of (view.state self.new) (listings.lister dir.new))) }
+        ensures nearer { Nearer (listings.to_come dir.old (left_of (view.state self.old) (listings.lister dir.old)))
+            result (listings.to_come dir.new (left_of (view.state self.new) (listings.lister dir.new))) }
         ensures lister { listings.lister dir.new ≡ listings.lister dir.old }
         ensures stays { StaysBy view (λ s t. GoesOn s (listings.lister dir.old) t) self.old self.new };
 
@@ -129,13 +129,11 @@ pub trait DavFileSystem {
 
     ghost puts_back: { (s : Self) → with_disk s (inside s) ≡ s };
 
-    ghost admits_lent: { (s : Self) (d : Self.Disk)
-        → Both (Self.Disk.state (inside s)).told (Self.Disk.state d).told SameBesidesOpens
-        → view.admits s → view.admits (with_disk s d) };
+    ghost admits_lent: { (s t : Self) → view.lends s t
+        → Both (view.state s).told (view.state t).told SameBesidesOpens → view.admits s → view.admits t };
 
-    ghost admits_written: { (s : Self) (d : Self.Disk)
-        → Both (Self.Disk.state (inside s)).told (Self.Disk.state d).told SameBesidesFiles
-        → view.admits s → view.admits (with_disk s d) };
+    ghost admits_written: { (s t : Self) → view.lends s t
+        → Both (view.state s).told (view.state t).told SameBesidesFiles → view.admits s → view.admits t };
 
     /// The view speaks of the disk inside, of the files and of the entries as they are.
     ghost fits: { Fits view listings inside with_disk Self.Disk.state Self.Disk.loan Self.File.handle Self.File.seen

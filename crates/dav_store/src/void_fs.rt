@@ -55,31 +55,31 @@ impl<C> GuardedFileSystem<C> for VoidFs<C> {
     ghost void = { λ _. true };
 
     ghost view = { record {
-        state = λ s. no_disk_state s.disk.faults s.disk.asked;
-        loan = λ _. None;
-        admits = λ _. Unit {0};
-        lends = λ s t. t ≡ record s { disk = t.disk };
-        looks = λ s _ _ result t. Unbuilt s result t;
-        looks_at_link = λ s _ _ result t. Unbuilt s result t;
-        opens = λ s _ _ _ result t. Unbuilt s result t;
-        makes_dir = λ s _ _ result t. Unbuilt s result t;
-        removes_dir = λ s _ _ result t. Unbuilt s result t;
-        removes_file = λ s _ _ result t. Unbuilt s result t;
-        renames = λ s _ _ _ result t. Unbuilt s result t;
-        copies = λ s _ _ _ result t. Unbuilt s result t;
-        folding = λ _. false;
-        handle = λ _. no_handle;
-        seen = λ _ _. None;
+      state = λ s. no_disk_state s.disk.faults s.disk.asked;
+      loan = λ _. None;
+      admits = λ _. Unit {0};
+      lends = λ s t. t ≡ record s { disk = t.disk };
+      looks = λ s _ _ result t. Unbuilt s result t;
+      looks_at_link = λ s _ _ result t. Unbuilt s result t;
+      opens = λ s _ _ _ result t. Unbuilt s result t;
+      makes_dir = λ s _ _ result t. Unbuilt s result t;
+      removes_dir = λ s _ _ result t. Unbuilt s result t;
+      removes_file = λ s _ _ result t. Unbuilt s result t;
+      renames = λ s _ _ _ result t. Unbuilt s result t;
+      copies = λ s _ _ _ result t. Unbuilt s result t;
+      folding = λ _. false;
+      handle = λ _. no_handle;
+      seen = λ _ _. None;
     } };
 
     ghost listings = { record {
-        lister = λ _. None;
-        to_come = λ d _. cond d.over 0 1;
-        lists = λ s _ _ _ result t. Unbuilt s result t;
-        lists_on = λ s d result t e. GivesOnce d.over result e.over × (t ≡ s);
-        ends_list = λ s _ t. t ≡ s;
-        called = λ _. codes "void";
-        says = λ _ s result t. Unbuilt s result t;
+      lister = λ _. None;
+      to_come = λ d _. cond d.over 0 1;
+      lists = λ s _ _ _ result t. Unbuilt s result t;
+      lists_on = λ s d result t e. GivesOnce d.over result e.over × (t ≡ s);
+      ends_list = λ s _ t. t ≡ s;
+      called = λ _. codes "void";
+      says = λ _ s result t. Unbuilt s result t;
     } };
 
     fn disk(&mut self) -> &mut NoDisk {
@@ -162,17 +162,18 @@ impl<C> GuardedFileSystem<C> for VoidFs<C> {
 
     ghost puts_back = { λ s. refl };
 
-    ghost admits_lent = { λ s d keeps admits. admits };
+    ghost admits_lent = { λ s t lent keeps admits. admits };
 
-    ghost admits_written = { λ s d keeps admits. admits };
+    ghost admits_written = { λ s t lent keeps admits. admits };
 
     ghost fits = { record {
-        state = λ s. refl;
-        loan = λ s. refl;
-        lends = λ s d. refl;
-        handle = λ f. refl;
-        seen = λ f s. refl;
-        called = λ e. refl;
-        says = λ e s r t said. said;
+      state = λ s. refl;
+      loan = λ s. refl;
+      lends = λ s d. refl;
+      lent = λ s t lends. lends;
+      handle = λ f. refl;
+      seen = λ f s. refl;
+      called = λ e. refl;
+      says = λ e s r t said. said;
     } };
 }

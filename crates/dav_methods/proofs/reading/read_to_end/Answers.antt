@@ -1,7 +1,7 @@
 use Rattle.std.proofs.Common.{[], ◌++◌, ◌∷◌, ap, inl, inr, refl, ◌∙◌}
 use Rattle.dav_store.specs.Members.{begun, goes}
 use Rattle.dav_store.proofs.Reading.{lister_kept, step_keeps}
-use Rattle.dav_store.proofs.Walking.{walk_same}
+use Rattle.dav_store.proofs.Walking.{walk_on, walk_same}
 use Rattle.dav_methods.specs.Walking.{members_at}
 use Rattle.dav_methods.proofs.MembersRead.{entry_refused, none_told, told_then}
 use Rattle.dav_methods.proofs.reading.read_to_end.Goals as goal
@@ -22,14 +22,14 @@ entries-preserved g c =
     let added = c.in-Ok.ensures in
     let answers = before.walk.0 in
     let r = added.told.0 in
-    let name = g.S.Entry.DavDirEntry.called c.in-Ok-Some.entry in
+    let name = g.S.GuardedFileSystem.listings.called c.in-Ok-Some.entry in
     record {
       live = lister_kept (g.S.GuardedFileSystem.listings.lister c.entries.dir) (g.S.GuardedFileSystem.listings.lister c.next_entry.new.dir) (g.S.GuardedFileSystem.view.state c.next_entry.new.self)
-          (g.S.GuardedFileSystem.view.state c.add_child.new.fs) c.next_entry.ensures.lister added.keeps.listers c.next_entry.ensures.goes_on.live;
+          (g.S.GuardedFileSystem.view.state c.add_child.new.fs) c.next_entry.ensures.lister added.keeps.listers c.next_entry.ensures.stays.keeps.live;
       admits = added.admits;
       lister = c.next_entry.ensures.lister ∙ before.lister;
-      keeps = step_keeps _ _ _ _ _ _ before.lister before.keeps c.next_entry.ensures.goes_on.keeps added.keeps;
-      loan = added.loan ∙ (c.next_entry.ensures.loan ∙ before.loan);
+      keeps = step_keeps _ _ _ _ _ _ before.lister before.keeps c.next_entry.ensures.stays.keeps.keeps added.keeps;
+      loan = added.loan ∙ (c.next_entry.ensures.stays.loan ∙ before.loan);
       walk = (
         answers ++ record { name = name; meta = r } ∷ [],
         goes answers c.entries.fs c.next_entry.new.self c.add_child.new.fs c.entries.dir c.next_entry.new.dir c.in-Ok-Some.entry r before.walk.1
@@ -47,7 +47,7 @@ pub returns-in-Err-add_child-clause-reads : goal.returns-in-Err-add_child-clause
 returns-in-Err-add_child-clause-reads g c = λ path.
     let before = c.entries.invariant in
     let told = c.in-Err-add_child.ensures.told in
-    let name = g.S.Entry.DavDirEntry.called c.in-Ok-Some.entry in
+    let name = g.S.GuardedFileSystem.listings.called c.in-Ok-Some.entry in
     entry_refused g.S.GuardedFileSystem.view g.S.GuardedFileSystem.listings c.args.fs.now c.add_child.new.fs
     c.args.dir.now c.next_entry.new.dir path before.walk.0 name told.0 (members_at path c.entries.members.items) (members_at path c.add_child.new.members.items)
     c.in-Err-add_child.refusal (before.walk.2 path)
@@ -57,4 +57,10 @@ returns-in-Err-add_child-clause-reads g c = λ path.
 
 pub returns-in-Err-add_child-clause-keeps : goal.returns-in-Err-add_child-clause-keeps
 returns-in-Err-add_child-clause-keeps g c =
-    step_keeps _ _ _ _ _ _ c.entries.invariant.lister c.entries.invariant.keeps c.next_entry.ensures.goes_on.keeps c.add_child.ensures.keeps
+    step_keeps _ _ _ _ _ _ c.entries.invariant.lister c.entries.invariant.keeps c.next_entry.ensures.stays.keeps.keeps c.add_child.ensures.keeps
+
+pub returns-in-Ok-None-clause-keeps : goal.returns-in-Ok-None-clause-keeps
+returns-in-Ok-None-clause-keeps g c = walk_on _ _ _ _ _ c.entries.invariant.lister c.entries.invariant.keeps c.next_entry.ensures.stays.keeps.keeps
+
+pub returns-in-Err-clause-keeps : goal.returns-in-Err-clause-keeps
+returns-in-Err-clause-keeps g c = walk_on _ _ _ _ _ c.entries.invariant.lister c.entries.invariant.keeps c.next_entry.ensures.stays.keeps.keeps
