@@ -18,8 +18,8 @@ mod LinesMatch
 pub mod MakingFollows
 pub mod PutFollows
 mod OpenedFile
-mod WalkOrder
-mod TreeRows
+pub mod WalkOrder
+pub mod TreeRows
 mod RemovalWork
 mod WorkCovers
 mod ActsJoined

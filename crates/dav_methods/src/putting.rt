@@ -48,8 +48,13 @@ fn put_new(alloc: Global, fields: &HeaderMap, refusal: FsError) -> Result<Outcom
     answer(may_put_new(alloc, fields, refusal), outcome)
 }
 
-// Refuses a PUT before anything is opened, and gives the answer to be given where all goes well.
-fn check<S: GuardedFileSystem<C>, C>(
+/// Judges a PUT up to its precondition, before anything is opened, and gives the answer to be given where all goes well:
+/// 201 where nothing stands at the path, 204 where a file does.
+///
+/// Errors, in this order: 405 where a slash ends the path; 409 where no directory stands above, or the refusal of a
+/// look there that failed; a refused look at the path, unless nothing stands; 405 where a directory stands; 412 where a
+/// precondition isn't met; want of memory.
+pub fn judge_put<S: GuardedFileSystem<C>, C>(
     alloc: Global,
     fs: &mut S,
     credentials: &C,
@@ -121,7 +126,7 @@ pub fn put<S: GuardedFileSystem<C>, C, B: BodyReader>(
     ensures loan { S.view.loan fs.new ≡ S.view.loan fs.old }
     ensures body_loan { B.loan body.new ≡ B.loan body.old }
 {
-    let outcome = match check(alloc, fs, credentials, path, fields) {
+    let outcome = match judge_put(alloc, fs, credentials, path, fields) {
         Ok(outcome) => outcome,
         Err(error) => return Err(error),
     };
@@ -171,7 +176,7 @@ pub fn put_whole<S: GuardedFileSystem<C>, C>(
     ensures admits { S.view.admits fs.old → S.view.admits fs.new }
     ensures loan { S.view.loan fs.new ≡ S.view.loan fs.old }
 {
-    let outcome = match check(alloc, fs, credentials, path, fields) {
+    let outcome = match judge_put(alloc, fs, credentials, path, fields) {
         Ok(outcome) => outcome,
         Err(error) => return Err(error),
     };

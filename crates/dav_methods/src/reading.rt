@@ -107,8 +107,10 @@ fn in_order(read: Result<Vec<Member>, FsError>) -> Result<Vec<Member>, FsError>
     }
 }
 
-// The members of the directory at a path, in the order of their names, by bytes. Its listing is read to its end and
-// ended.
+/// The members of the directory at a path, in the order of their names, by bytes. Its listing is read to its end and
+/// ended.
+///
+/// Errors: the first refusal of the listing or of a member's metadata; want of memory.
 pub fn read_members<S: GuardedFileSystem<C>, C>(
     alloc: Global,
     fs: &mut S,

@@ -4,10 +4,10 @@ use Rattle.dav_methods.proofs.FilePut.{put_read}
 use Rattle.dav_methods.proofs.putting.put.Goals as goal
 
 pub returns-clause-table : goal.returns-clause-table
-returns-clause-table g c = (Ok c.in-Ok.outcome, c.check.new.fs, c.in-Ok.ensures.table, c.put_body.ensures.table)
+returns-clause-table g c = (Ok c.in-Ok.outcome, c.judge_put.new.fs, c.in-Ok.ensures.table, c.put_body.ensures.table)
 
 pub returns-clause-read : goal.returns-clause-read
 returns-clause-read g c = put_read g.S.GuardedFileSystem.view _ _ _ _ _ _ _ _ _ c.put_body.ensures.table
 
 pub returns-clause-keeps : goal.returns-clause-keeps
-returns-clause-keeps g c = open_after _ _ _ c.check.ensures.keeps c.put_body.ensures.keeps
+returns-clause-keeps g c = open_after _ _ _ c.judge_put.ensures.keeps c.put_body.ensures.keeps
