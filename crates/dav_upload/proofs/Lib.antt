@@ -3,3 +3,9 @@ pub mod Hiding
 pub mod Making
 pub mod PieceHeld
 pub mod Tokens
+pub mod Beside
+pub mod Kept
+pub mod Stands
+pub mod Ends
+pub mod Closing
+pub mod MembersTaken

@@ -19,7 +19,7 @@ use Rattle.dav_upload.proofs.Moving.{never, numbered, off, other_names, path_of,
 
 -- ---- a row more
 
-more_at : (r : Row) (rows : List Row) (p : Names) → (p ≡ r.path → ⊥) → row_at (rows ++ r ∷ []) p ≡ row_at rows p
+pub more_at : (r : Row) (rows : List Row) (p : Names) → (p ≡ r.path → ⊥) → row_at (rows ++ r ∷ []) p ≡ row_at rows p
 more_at r [] p ne = ap (λ b. cond b (Some r) None) (other_names p r.path ne)
 more_at r (x ∷ rows) p ne = ap (λ o. cond (same_names p x.path) (Some x) o) (more_at r rows p ne)
 
@@ -60,7 +60,7 @@ renewed_path number t r = by (r.number == number) refl
     by true e = rw e refl
     by false e = rw e refl
 
-renewed_at : (number : ℕ) (t : FileTime) (rows : List Row) (p : Names) → row_at (map (renewed_row number t) rows) p ≡ option_map (renewed_row number t) (row_at rows p)
+pub renewed_at : (number : ℕ) (t : FileTime) (rows : List Row) (p : Names) → row_at (map (renewed_row number t) rows) p ≡ option_map (renewed_row number t) (row_at rows p)
 renewed_at number t [] p = refl
 renewed_at number t (r ∷ rows) p = rw (renewed_path number t r, renewed_at number t rows p) (by (same_names p r.path))
   where

@@ -21,10 +21,10 @@ use Rattle.dav_upload.specs.Shown.{IsCommitted, StandsBeside, shown_as, shown_at
 names_decide : (a b : Names) → Decides (same_names a b) (a ≡ b)
 names_decide a b = slice_eq-Decides bytes_eq-Decides a b (same_names a b) refl
 
-same_yes : (a b : Names) → same_names a b ≡ true → a ≡ b
+pub same_yes : (a b : Names) → same_names a b ≡ true → a ≡ b
 same_yes a b = (names_decide a b).0
 
-same_of : (a b : Names) → a ≡ b → same_names a b ≡ true
+pub same_of : (a b : Names) → a ≡ b → same_names a b ≡ true
 same_of a b = (names_decide a b).1
 
 pub never : {P : Type 0} (b : Bool) → b ≡ true → b ≡ false → P
@@ -57,7 +57,7 @@ timed_at q t (r ∷ rows) p = rw (timed_path q t r, timed_at q t rows p) (by (sa
 
 -- ---- what was in the target's place
 
-without_at : (to : Names) (rows : List Row) (p : Names) → is_front to p ≡ false → row_at (without to rows) p ≡ row_at rows p
+pub without_at : (to : Names) (rows : List Row) (p : Names) → is_front to p ≡ false → row_at (without to rows) p ≡ row_at rows p
 without_at to [] p other = refl
 without_at to (r ∷ rows) p other = by (is_front to r.path) refl (without_at to rows p other)
   where
@@ -67,7 +67,7 @@ without_at to (r ∷ rows) p other = by (is_front to r.path) refl (without_at to
         rw (e, apart) rest
     by false e rest = rw e (ap (λ o. cond (same_names p r.path) (Some r) o) rest)
 
-front_itself : (a : Names) → is_front a a ≡ true
+pub front_itself : (a : Names) → is_front a a ≡ true
 front_itself a = same_of a (take (length a) a) (sym (take-append_seam a []) ∙ ap (take (length a)) (append-nil a))
 
 gone_below : (to : Names) (rows : List Row) (p : Names) → is_front to p ≡ true → row_at (without to rows) p ≡ None
@@ -80,7 +80,7 @@ gone_below to (r ∷ rows) p below = by (is_front to r.path) refl (gone_below to
         let apart : same_names p r.path ≡ false = off (same_names p r.path) (λ f. never (is_front to r.path) (subst (λ z. is_front to z ≡ true) (same_yes p r.path f) below) e) in
         rw (e, apart) rest
 
-gone_at : (to : Names) (rows : List Row) → row_at (without to rows) to ≡ None
+pub gone_at : (to : Names) (rows : List Row) → row_at (without to rows) to ≡ None
 gone_at to rows = gone_below to rows to (front_itself to)
 
 none_below : (to : Names) (rows : List Row) (p : Names) → is_leaf to rows ≡ true → is_front to p ≡ true → (p ≡ to → ⊥) → row_at rows p ≡ None
@@ -102,7 +102,7 @@ beside_at to rows p leaf ne = by (is_front to p) refl
     by false e = without_at to rows p e
     by true e = gone_below to rows p e ∙ sym (none_below to rows p leaf e ne)
 
-leaf_without : (from to : Names) (rows : List Row) → is_leaf from rows ≡ true → is_leaf from (without to rows) ≡ true
+pub leaf_without : (from to : Names) (rows : List Row) → is_leaf from rows ≡ true → is_leaf from (without to rows) ≡ true
 leaf_without from to [] leaf = refl
 leaf_without from to (r ∷ rows) leaf =
     let parts = and_parts (not (is_front from r.path) || same_names from r.path) (is_leaf from rows) leaf in
@@ -128,7 +128,7 @@ leaf_same from r rest leaf front =
     let parts = and_parts (not (is_front from r.path) || same_names from r.path) rest leaf in
     (same_yes from r.path (sym (ap (λ b. not b || same_names from r.path) front) ∙ parts.0), parts.1)
 
-moved_at : (from to : Names) (rows : List Row) (p : Names) → is_leaf from rows ≡ true → (p ≡ to → ⊥) → (p ≡ from → ⊥) → row_at (map (moved_row from to) rows) p ≡ row_at rows p
+pub moved_at : (from to : Names) (rows : List Row) (p : Names) → is_leaf from rows ≡ true → (p ≡ to → ⊥) → (p ≡ from → ⊥) → row_at (map (moved_row from to) rows) p ≡ row_at rows p
 moved_at from to [] p leaf ne other = refl
 moved_at from to (r ∷ rows) p leaf ne other = by (is_front from r.path) refl (and_parts (not (is_front from r.path) || same_names from r.path) (is_leaf from rows) leaf)
     (λ rest. moved_at from to rows p rest ne other)
@@ -141,6 +141,22 @@ moved_at from to (r ∷ rows) p leaf ne other = by (is_front from r.path) refl (
         let away : same_names p r.path ≡ false = other_names p r.path (λ f. other (f ∙ sym same)) in
         rw (apart, away) (more rest)
     by false e parts more = rw e (ap (λ o. cond (same_names p r.path) (Some r) o) (more parts.1))
+
+-- nothing is left where the move came from
+moved_from : (from to : Names) (rows : List Row) → is_leaf from rows ≡ true → (from ≡ to → ⊥) → row_at (map (moved_row from to) rows) from ≡ None
+moved_from from to [] leaf ne = refl
+moved_from from to (r ∷ rows) leaf ne = by (is_front from r.path) refl (and_parts (not (is_front from r.path) || same_names from r.path) (is_leaf from rows) leaf) (λ rest. moved_from from to rows rest ne)
+  where
+    by : (b : Bool) → is_front from r.path ≡ b → ((not (is_front from r.path) || same_names from r.path) ≡ true) × (is_leaf from rows ≡ true)
+        → (is_leaf from rows ≡ true → row_at (map (moved_row from to) rows) from ≡ None) → row_at (map (moved_row from to) (r ∷ rows)) from ≡ None
+    by true e parts more =
+        let (same, rest) = leaf_same from r (is_leaf from rows) leaf e in
+        let apart : same_names from (moved_row from to r).path ≡ false = other_names from (moved_row from to r).path (λ f. ne (f ∙ moved_path from to r e same)) in
+        rw apart (more rest)
+    by false e parts more =
+        let away : same_names from r.path ≡ false = off (same_names from r.path) (λ f. never (is_front from r.path) (subst (λ z. is_front from z ≡ true) (same_yes from r.path f) (front_itself from)) e) in
+        ap (λ (x : Row). cond (same_names from x.path) (Some x) (row_at (map (moved_row from to) rows) from)) (moved_off from to r e)
+        ∙ (ap (λ b. cond b (Some r) (row_at (map (moved_row from to) rows) from)) away ∙ more parts.1)
 
 -- a row of this kind and number
 pub record IsLike (o : Option Row) (row : Row) : Type 0 where
@@ -260,7 +276,7 @@ after from to t u rows = map (timed_row (parent_of to) u) (map (timed_row (paren
 abbrev pub twice : Names → Names → FileTime → FileTime → Row → Row
 twice a b t u r = timed_row b u (timed_row a t r)
 
-after_at : (from to : Names) (t u : FileTime) (rows : List Row) (p : Names) (o : Option Row) → row_at (map (moved_row from to) (without to rows)) p ≡ o
+pub after_at : (from to : Names) (t u : FileTime) (rows : List Row) (p : Names) (o : Option Row) → row_at (map (moved_row from to) (without to rows)) p ≡ o
     → row_at (after from to t u rows) p ≡ option_map (timed_row (parent_of to) u) (option_map (timed_row (parent_of from) t) o)
 after_at from to t u rows p o e =
     timed_at (parent_of to) u (map (timed_row (parent_of from) t) (map (moved_row from to) (without to rows))) p
@@ -317,6 +333,12 @@ module _ (v w : World) (hidden target : Names) (row : Row) (stands : StandsBesid
   end_shown : shown_row w end ≡ shown_as File end.number end.time (bytes_of w end.number)
   end_shown = ap (λ k. shown_as k end.number end.time (bytes_of w end.number)) end_kind
 
+  pub number_there : (r : Row) → row_at w.tree target ≡ Some r → r.number ≡ row.number
+  number_there r at = let same : Some end ≡ Some r = sym end_at ∙ at in let is : end ≡ r = cc in ap (λ (x : Row). x.number) (sym is) ∙ end_number
+
+  pub gone_there : (hidden ≡ target → ⊥) → row_at w.tree hidden ≡ None
+  gone_there ne = ap (λ rows. row_at rows hidden) tree ∙ after_at hidden target t u v.tree hidden None (moved_from hidden target (without target v.tree) leaf ne)
+
   pub commits : IsCommitted v target (bytes_of v row.number) w
   commits = record {
     others = others_shown;
@@ -328,3 +350,11 @@ module _ (v w : World) (hidden target : Names) (row : Row) (stands : StandsBesid
 
 pub moved_commits : (v w : World) (hidden target : Names) (row : Row) → StandsBeside v hidden target row → Edited (moves hidden target) v w → IsCommitted v target (bytes_of v row.number) w
 moved_commits v w hidden target row stands (t, u, new, later, becomes) = commits v w hidden target row stands t u becomes.tree (λ number holds. (becomes.files number holds).1)
+
+-- the row that was moved keeps its number
+pub moved_number : (v w : World) (hidden target : Names) (row : Row) → StandsBeside v hidden target row → Edited (moves hidden target) v w → (r : Row) → row_at w.tree target ≡ Some r → r.number ≡ row.number
+moved_number v w hidden target row stands (t, u, new, later, becomes) = number_there v w hidden target row stands t u becomes.tree (λ number holds. (becomes.files number holds).1)
+
+-- nothing stands at the hidden name behind its move
+pub moved_gone : (v w : World) (hidden target : Names) (row : Row) → StandsBeside v hidden target row → (hidden ≡ target → ⊥) → Edited (moves hidden target) v w → row_at w.tree hidden ≡ None
+moved_gone v w hidden target row stands ne (t, u, new, later, becomes) = gone_there v w hidden target row stands t u becomes.tree (λ number holds. (becomes.files number holds).1) ne

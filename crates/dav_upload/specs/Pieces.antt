@@ -28,6 +28,12 @@ pub record IsMade (h : ℕ) (s t : DiskState) : Type 0 where
   pub live : IsSome (t.live h)
   pub options : (l : Live) → t.live h ≡ Some l → l.how ≡ upload_options
 
+-- A file that is open stays open under its handle, and all else that is open stays as it is.
+pub record KeepsUpload (h after : ℕ) (s t : DiskState) : Type 0 where
+  pub others : KeepsOpenBut h s t
+  pub handle : after ≡ h
+  pub live : t.live h ≡ s.live h
+
 -- A file was closed, and all else that is open stays.
 pub record ClosesUpload (h : ℕ) (s t : DiskState) : Type 0 where
   pub others : KeepsOpenBut h s t
