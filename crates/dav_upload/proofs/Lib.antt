@@ -9,3 +9,4 @@ pub mod Stands
 pub mod Ends
 pub mod Closing
 pub mod MembersTaken
+pub mod Chains

@@ -14,17 +14,12 @@ use Rattle.dav_upload.specs.Kept.{KeepsRow}
 use Rattle.dav_upload.specs.Names.{is_hidden_path}
 use Rattle.dav_upload.specs.Pieces.{upload_options}
 use Rattle.dav_upload.specs.Shown.{IsCommitted, IsHiddenIn, IsUnseen, SameShown, StandsBeside}
-use Rattle.dav_upload.specs.Standing.{StandsIn}
+use Rattle.dav_upload.specs.Standing.{OthersOpen, StandsIn}
 use Rattle.dav_upload.proofs.Beside.{below_greatest, file_beside, file_hidden}
 use Rattle.dav_upload.proofs.Hiding.{fills_keep, moves_keep, takes_keep, taken_unseen}
 use Rattle.dav_upload.proofs.Kept.{IsMadeIn, kept_filled, kept_made, kept_moved, kept_same, kept_taken, made_in, makes_keep, same_keep, unseen_at, unseen_new, unseen_same}
 use Rattle.dav_upload.proofs.Making.{filled_unseen, kept_unseen, made_unseen, written_behind}
 use Rattle.dav_upload.proofs.Moving.{moved_commits, moved_number, numbered, same_yes}
-
--- Each other handle is live as it was, and has open what it had.
-pub record OthersOpen (own : ℕ) (live then : ℕ → Option Live) (v w : World) : Type 0 where
-  pub lives : (k : ℕ) → k ≢ own → then k ≡ live k
-  pub opens : (k : ℕ) (l : Live) → k ≢ own → live k ≡ Some l → w.opens k ≡ v.opens k
 
 some_of : {A : Type 0} (o : Option A) → IsSome o → (a : A) × (o ≡ Some a)
 some_of None s = cc

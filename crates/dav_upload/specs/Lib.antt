@@ -5,3 +5,5 @@ pub mod Kept
 pub mod Standing
 pub mod Ends
 pub mod Uploading
+pub mod Takes
+pub mod Steps

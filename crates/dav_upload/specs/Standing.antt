@@ -1,5 +1,5 @@
 -- An upload that stands in a world.
-use Rattle.std.specs.Prelude.{◌≡◌, ℕ, List, length, Bool, true, false, Option, Some, IsSome}
+use Rattle.std.specs.Prelude.{◌≡◌, ◌≢◌, ℕ, List, length, Bool, true, false, Option, Some, IsSome}
 use Rattle.dav_core.specs.declared.tree.Row.{Row}
 use Rattle.dav_core.specs.declared.tree.Kind.TheVariants.{File}
 use Rattle.dav_core.specs.Disk.{Live}
@@ -26,3 +26,8 @@ pub record StandsIn (live : ℕ → Option Live) (w : World) (hidden : Names) (h
   pub unseen : IsUnseen w held.number
   pub apart : (k : ℕ) (l : Live) (o : OpenFile) → live k ≡ Some l → w.opens k ≡ Some o → o.number ≡ held.number → k ≡ h
   pub whole : broken ≡ false → (bytes_of w held.number ≡ pieces) × (held.place ≡ length pieces)
+
+-- Each other handle is live as it was, and has open what it had.
+pub record OthersOpen (own : ℕ) (live then : ℕ → Option Live) (v w : World) : Type 0 where
+  pub lives : (k : ℕ) → k ≢ own → then k ≡ live k
+  pub opens : (k : ℕ) (l : Live) → k ≢ own → live k ≡ Some l → w.opens k ≡ v.opens k
