@@ -1,6 +1,6 @@
 -- What a tree says of a file with a hidden name: nothing lies below it, and a directory stands above.
-use Rattle.std.proofs.Common.{◌≡◌, ◌≤◌, ◌<◌, ◌&&◌, ◌||◌, ◌==◌, ◌-◌, ◌++◌, inl, inr, ℕ, suc, List, [], ◌∷◌, length, take, drop, Bool, true, false, not, cond, Option, None, Some, Result, Ok, Err, refl, sym, ap, subst, ◌∙◌, arith, append-nil, append_assoc, take-append-drop, length-take}
-use Rattle.std.specs.List.{All, AllByRecursion}
+use Rattle.std.proofs.Common.{◌≡◌, ◌≤◌, ◌<◌, ◌||◌, ◌-◌, ◌++◌, inl, inr, ℕ, suc, List, [], ◌∷◌, length, take, drop, Bool, true, false, not, Option, None, Some, Result, Ok, Err, refl, sym, ap, subst, ◌∙◌, arith, append-nil, append_assoc, take-append-drop}
+use Rattle.std.specs.List.{AllByRecursion}
 use Rattle.std.proofs.lemmas.List.Elements.{recursion_from_All}
 use Rattle.dav_core.specs.declared.tree.Row.{Row}
 use Rattle.dav_core.specs.declared.tree.Kind.{Kind}
@@ -9,7 +9,7 @@ use Rattle.dav_core.specs.declared.handle.DiskError.{DiskError}
 use Rattle.dav_core.specs.Allowed.{place, place_from, through, through_kind}
 use Rattle.dav_core.specs.Changes.{is_leaf}
 use Rattle.dav_core.specs.Path.{Names, is_front, parent_of, same_names}
-use Rattle.dav_core.specs.Tree.{is_dir, is_tree, look, row_at}
+use Rattle.dav_core.specs.Tree.{look, row_at}
 use Rattle.dav_core.specs.World.{IsGiven, IsWorld, World}
 use Rattle.dav_upload.specs.Names.{is_hidden_path}
 use Rattle.dav_upload.specs.Shown.{AreBelow, IsHiddenIn, StandsBeside}

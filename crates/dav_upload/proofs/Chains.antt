@@ -1,23 +1,22 @@
 -- The steps of an upload over a store whose calls do what the tree allows.
-use Rattle.std.proofs.Common.{◌≡◌, ◌≢◌, ◌⊎◌, ◌≤◌, ◌<◌, ◌+◌, ◌++◌, inl, inr, ℕ, List, [], ◌∷◌, length, take, drop, Bool, true, false, Option, None, Some, Result, Ok, Err, refl, sym, ap, subst, ◌∙◌, arith, length-append}
+use Rattle.std.proofs.Common.{◌≡◌, ◌≢◌, ◌⊎◌, ◌≤◌, ◌<◌, ◌+◌, ◌++◌, inl, inr, ℕ, List, [], ◌∷◌, length, Bool, true, false, Option, None, Some, Result, Ok, Err, refl, sym, ap, subst, ◌∙◌, arith, length-append}
 use Rattle.dav_io.specs.Told.{Both}
-use Rattle.dav_core.specs.declared.dav_error.DavError.{DavError}
 use Rattle.dav_core.specs.declared.error.FsError.{FsError}
 use Rattle.dav_core.specs.declared.handle.DiskError.{DiskError}
-use Rattle.dav_core.specs.declared.tree.Kind.TheVariants.{Dir, File}
+use Rattle.dav_core.specs.declared.tree.Kind.TheVariants.{File}
 use Rattle.dav_core.specs.declared.tree.Row.{Row}
 use Rattle.dav_core.specs.Allowed.{Allowed, opening, opening_at, place}
 use Rattle.dav_core.specs.DavPath.{WebPath}
-use Rattle.dav_core.specs.Disk.{DiskState, Live, at_start}
-use Rattle.dav_core.specs.Edits.{Edit, EditedBy, Edited, makes, moves, takes}
+use Rattle.dav_core.specs.Disk.{Live}
+use Rattle.dav_core.specs.Edits.{Edit, EditedBy, Edited, makes}
 use Rattle.dav_core.specs.Info.{Info}
-use Rattle.dav_core.specs.Path.{Names, parent_of}
+use Rattle.dav_core.specs.Path.{Names}
 use Rattle.dav_core.specs.Tree.{is_linked, row_at}
 use Rattle.dav_core.specs.Unchanged.{Keeps}
-use Rattle.dav_core.specs.World.{Holds, IsWorld, OpenFile, SameBesidesOpens, World, bytes_of}
+use Rattle.dav_core.specs.World.{Holds, SameBesidesOpens, World, bytes_of}
 use Rattle.dav_core.specs.Writing.{appends, written}
-use Rattle.dav_core.proofs.UnchangedLemmas.{same_besides, same_besides_then}
-use Rattle.dav_store.specs.Frames.{KeepsOpenBut, OpensOne}
+use Rattle.dav_core.proofs.UnchangedLemmas.{same_besides_then}
+use Rattle.dav_store.specs.Frames.{OpensOne}
 use Rattle.dav_store.specs.View.{Closes, View}
 use Rattle.dav_model.specs.declared.outcome.Outcome.{Outcome}
 use Rattle.dav_model.specs.Conditions.{Fields}
@@ -27,14 +26,14 @@ use Rattle.dav_methods.specs.Putting.{MayPut, MayReplace}
 use Rattle.dav_methods.specs.Table.{Below, Ends, Looks, Next, Run, Unless}
 use Rattle.dav_upload.specs.declared.error.UploadError.{UploadError}
 use Rattle.dav_upload.specs.declared.upload.Upload.{Upload}
-use Rattle.dav_upload.specs.Ends.{EndsAs, MakesFile, WritesAt}
+use Rattle.dav_upload.specs.Ends.{WritesAt}
 use Rattle.dav_upload.specs.Names.{hidden_beside, is_hidden_path, is_taken}
 use Rattle.dav_upload.specs.Pieces.{upload_options}
-use Rattle.dav_upload.specs.Shown.{IsCommitted, IsHiddenIn, IsUnseen, SameShown, StandsBeside}
+use Rattle.dav_upload.specs.Shown.{IsCommitted, IsHiddenIn, SameShown, StandsBeside}
 use Rattle.dav_upload.specs.Standing.{OthersOpen, StandsIn}
 use Rattle.dav_upload.specs.Steps.{Began, Committed, IsBeside, IsClear, Pieced}
 use Rattle.dav_upload.specs.Takes.{TakesUploads}
-use Rattle.dav_upload.specs.Uploading.{AfterClose, AfterJudged, AfterJudging, AfterMove, Aborts, Begins, BeginsAs, Commits, Judges, PieceOn, TriesToRemove, WritesPiece, is_refused, opened_as}
+use Rattle.dav_upload.specs.Uploading.{AfterClose, AfterJudged, AfterJudging, AfterMove, Aborts, Begins, BeginsAs, Commits, Judges, PieceOn, WritesPiece, is_refused, opened_as}
 use Rattle.dav_upload.proofs.Beside.{below_greatest, file_beside, file_hidden, none_hidden, placed_above, placed_row}
 use Rattle.dav_upload.proofs.Ends.{may_move, moved_or_left, none_taken, taken_or_left, unlinked_after}
 use Rattle.dav_upload.proofs.Hiding.{taken_unseen}

@@ -1,5 +1,5 @@
 -- How the edits of an upload end: its hidden file is taken or moved, or stays.
-use Rattle.std.proofs.Common.{◌≡◌, ◌≢◌, ◌⊎◌, ◌<◌, ◌&&◌, ◌||◌, ◌==◌, ◌++◌, inl, inr, ℕ, List, [], ◌∷◌, length, drop, map, Bool, true, false, not, cond, Option, None, Some, Result, Ok, Err, refl, sym, ap, subst, ◌∙◌, arith, append-nil}
+use Rattle.std.proofs.Common.{◌≡◌, ◌⊎◌, ◌<◌, ◌&&◌, ◌||◌, ◌++◌, inl, inr, List, [], ◌∷◌, length, drop, map, Bool, true, false, not, cond, Option, None, Some, Result, Ok, Err, refl, sym, ap, subst, ◌∙◌, arith, append-nil}
 use Rattle.std.proofs.Math.Seq.{drop-length}
 use Rattle.std.proofs.lemmas.Bool.{and_parts}
 use Rattle.std.proofs.lemmas.Bool.Decides.{nat_tests}
@@ -10,20 +10,18 @@ use Rattle.dav_core.specs.declared.time.FileTime.{FileTime}
 use Rattle.dav_core.specs.declared.tree.Row.{Row}
 use Rattle.dav_core.specs.declared.tree.Kind.{Kind}
 use Rattle.dav_core.specs.declared.tree.Kind.TheVariants.{Dir, File, Link}
-use Rattle.dav_core.specs.Allowed.{Allowed, found_then, is_root, moving, moving_over, moving_to, opening, opening_at, place, taking_file, taking_file_row}
+use Rattle.dav_core.specs.Allowed.{Allowed, found_then, is_root, moving, moving_over, moving_to, place, taking_file, taking_file_row}
 use Rattle.dav_core.specs.Changes.{is_leaf, moved_row, timed_row, without}
-use Rattle.dav_core.specs.Edits.{Edit, Edited, EditedBy, makes, moves, takes}
+use Rattle.dav_core.specs.Edits.{Edit, Edited, EditedBy, moves, takes}
 use Rattle.dav_core.specs.Path.{Names, is_front, parent_of, same_names}
 use Rattle.dav_core.specs.Tree.{is_dir, is_link, is_linked, look, row_at, standing}
-use Rattle.dav_core.specs.World.{IsWorld, SameBesidesOpens, World, bytes_of}
+use Rattle.dav_core.specs.World.{IsWorld, SameBesidesOpens, World}
 use Rattle.dav_core.specs.Writing.{LeftBy}
 use Rattle.dav_core.proofs.PlaceLemmas.{look_place, stands_at}
 use Rattle.dav_upload.specs.Ends.{EndsAs}
-use Rattle.dav_upload.specs.Names.{is_hidden_path}
-use Rattle.dav_upload.specs.Pieces.{upload_options}
-use Rattle.dav_upload.specs.Shown.{IsCommitted, StandsBeside}
+use Rattle.dav_upload.specs.Shown.{StandsBeside}
 use Rattle.dav_upload.proofs.Beside.{looked_at, placed_row}
-use Rattle.dav_upload.proofs.Moving.{after, moved_commits, never, path_of, same_of, same_yes, timed_kind, timed_path}
+use Rattle.dav_upload.proofs.Moving.{path_of, same_yes, timed_kind, timed_path}
 
 -- ---- a removal
 

@@ -1,11 +1,11 @@
 -- What the edits of uploads leave of other rows, and of the bytes of other files.
-use Rattle.std.proofs.Common.{◌≡◌, ◌≢◌, ◌≤◌, ◌<◌, ◌++◌, ◌==◌, inl, inr, ℕ, List, [], ◌∷◌, map, Bool, true, false, cond, Option, None, Some, refl, sym, ap, subst, ◌∙◌, arith}
+use Rattle.std.proofs.Common.{◌≡◌, ◌≢◌, ◌≤◌, ◌<◌, ◌++◌, ◌==◌, inl, inr, ℕ, List, [], ◌∷◌, Bool, true, false, cond, Option, None, Some, refl, sym, ap, subst, ◌∙◌, arith}
 use Rattle.std.specs.Option.{option_map}
 use Rattle.dav_core.specs.declared.tree.Row.{Row}
 use Rattle.dav_core.specs.declared.tree.Kind.{Kind}
 use Rattle.dav_core.specs.declared.tree.Kind.TheVariants.{Dir, File, Link}
 use Rattle.dav_core.specs.declared.time.FileTime.{FileTime}
-use Rattle.dav_core.specs.Changes.{is_leaf, moved_row, timed_row, without}
+use Rattle.dav_core.specs.Changes.{is_leaf, timed_row, without}
 use Rattle.dav_core.specs.Edits.{Edited, fills, makes, moves, stored_as, takes, timed_number as renewed_row}
 use Rattle.dav_core.specs.Path.{Names, parent_of, same_names}
 use Rattle.dav_core.specs.Tree.{row_at}
@@ -15,7 +15,7 @@ use Rattle.dav_upload.specs.Kept.{KeepsRow}
 use Rattle.dav_upload.specs.Names.{is_hidden_path}
 use Rattle.dav_upload.specs.Shown.{AreBelow, IsUnseen, SameShown, ShownRow, shown_as, shown_at, shown_row}
 use Rattle.dav_upload.proofs.Making.{more_at, renewed_at}
-use Rattle.dav_upload.proofs.Moving.{after_at, beside_at, leaf_without, moved_at, same_of, timed_at, timed_kind, timed_number, timed_path, twice}
+use Rattle.dav_upload.proofs.Moving.{after_at, beside_at, leaf_without, moved_at, same_of, timed_at, timed_kind, timed_number, twice}
 
 -- ---- rows
 

@@ -1,25 +1,22 @@
 -- How uploads stand through the edits of a world: the one that is written, and the others.
-use Rattle.std.proofs.Common.{◌≡◌, ◌≢◌, ◌≤◌, ◌<◌, ◌++◌, ◌==◌, ◌+◌, inl, inr, ℕ, List, [], ◌∷◌, length, Bool, true, false, cond, Option, None, Some, IsSome, refl, sym, ap, subst, ◌∙◌, arith, length-append}
-use Rattle.std.specs.Option.{option_map}
+use Rattle.std.proofs.Common.{◌≡◌, ◌≢◌, ◌<◌, ◌==◌, inl, inr, ℕ, List, [], length, Bool, true, false, Option, None, Some, IsSome, refl, sym, ap, subst, ◌∙◌, arith}
 use Rattle.dav_core.specs.declared.tree.Row.{Row}
-use Rattle.dav_core.specs.declared.tree.Kind.TheVariants.{Dir, File}
+use Rattle.dav_core.specs.declared.tree.Kind.TheVariants.{File}
 use Rattle.dav_core.specs.Disk.{Live, at_start}
-use Rattle.dav_core.specs.Edits.{Edited, fills, makes, moves, takes}
-use Rattle.dav_core.specs.Path.{Names, parent_of, same_names}
+use Rattle.dav_core.specs.Edits.{Edited, fills, makes}
+use Rattle.dav_core.specs.Path.{Names}
 use Rattle.dav_core.specs.Tree.{row_at}
-use Rattle.dav_core.specs.World.{Holds, IsWorld, OpenFile, SameBesidesOpens, World, bytes_of, number_of}
-use Rattle.dav_core.specs.Writing.{written}
+use Rattle.dav_core.specs.World.{Holds, IsWorld, OpenFile, World, bytes_of}
 use Rattle.dav_core.proofs.UnchangedLemmas.{equal_keys, other_keys, put_same}
 use Rattle.dav_upload.specs.Kept.{KeepsRow}
 use Rattle.dav_upload.specs.Names.{is_hidden_path}
 use Rattle.dav_upload.specs.Pieces.{upload_options}
-use Rattle.dav_upload.specs.Shown.{IsCommitted, IsHiddenIn, IsUnseen, SameShown, StandsBeside}
+use Rattle.dav_upload.specs.Shown.{IsUnseen, SameShown}
 use Rattle.dav_upload.specs.Standing.{OthersOpen, StandsIn}
-use Rattle.dav_upload.proofs.Beside.{below_greatest, file_beside, file_hidden}
-use Rattle.dav_upload.proofs.Hiding.{fills_keep, moves_keep, takes_keep, taken_unseen}
-use Rattle.dav_upload.proofs.Kept.{IsMadeIn, kept_filled, kept_made, kept_moved, kept_same, kept_taken, made_in, makes_keep, same_keep, unseen_at, unseen_new, unseen_same}
-use Rattle.dav_upload.proofs.Making.{filled_unseen, kept_unseen, made_unseen, written_behind}
-use Rattle.dav_upload.proofs.Moving.{moved_commits, moved_number, numbered, same_yes}
+use Rattle.dav_upload.proofs.Beside.{below_greatest}
+use Rattle.dav_upload.proofs.Kept.{IsMadeIn, kept_filled, made_in, same_keep, unseen_new, unseen_same}
+use Rattle.dav_upload.proofs.Making.{filled_unseen}
+use Rattle.dav_upload.proofs.Moving.{numbered}
 
 some_of : {A : Type 0} (o : Option A) → IsSome o → (a : A) × (o ≡ Some a)
 some_of None s = cc

@@ -1,4 +1,4 @@
-use Rattle.std.proofs.Common.{◌≡◌, ◌≤◌, drop}
+use Rattle.std.proofs.Common.{◌≤◌, drop}
 use Rattle.dav_store.specs.View.{StaysOpen}
 use Rattle.dav_methods.specs.Walking.{members_at}
 use Rattle.dav_upload.specs.Uploading.{hidden_files}
