@@ -64,12 +64,11 @@ pub fn local_stores_refuse_few<D: Disk, R: RememberAny>(_fs: &LocalFs<D, R>)
     calls_are_local(_fs)
 }
 
-/// From any state on in which it serves its disk's root, its names don't fold and the rules for macOS don't hold, the
-/// local store follows the rules by which each path is meant as it is written.
+/// From any state on the local store follows the rules of its ways, as far as its memory knows what is so.
 pub fn local_stores_follow_rules<D: Disk, R: RememberAny>(_fs: &LocalFs<D, R>, _settings: &Settings)
-    ensures { _fs.now.ways ≡ plain_ways
-        → Follows ⟦<LocalFs<D, R> as DavFileSystem>⟧.view ⟦<LocalFs<D, R> as DavFileSystem>⟧.listings
-        ⟦<LocalFsFile as DavFile<D>>⟧.writes tt (plain_rules _settings.now) _fs.now }
+    ensures { Follows ⟦<LocalFs<D, R> as DavFileSystem>⟧.view ⟦<LocalFs<D, R> as DavFileSystem>⟧.listings
+        ⟦<LocalFsFile as DavFile<D>>⟧.writes tt (rules_with _settings.now _fs.now.ways)
+        (knowledge_of (R.state _fs.now.memory)) _fs.now }
 {
     calls_are_local(_fs)
 }

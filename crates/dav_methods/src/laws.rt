@@ -1,11 +1,12 @@
 //! Laws over the tables of the methods that write, each the contract of a function that does nothing.
-ghost use Rattle.std.specs.Prelude.{◌≡◌, ◌⊎◌, ℕ, List, None, false};
+ghost use Rattle.std.specs.Prelude.{◌≡◌, ◌⊎◌, ℕ, List};
 ghost use Rattle.dav_core.specs.declared.method.DavMethod.{DavMethod};
 ghost use Rattle.dav_core.specs.declared.method.DavMethod.TheVariants.{MkAddressbook, MkCalendar, MkCol, Put};
 ghost use Rattle.dav_core.specs.DavPath.{WebPath};
 ghost use Rattle.dav_model.specs.Conditions.{Fields};
 ghost use Rattle.dav_model.specs.Plans.{Ask};
-ghost use Rattle.dav_model.specs.Rules.{Rules};
+ghost use Rattle.dav_model.specs.Rules.{Knowledge, Rules};
+ghost use Rattle.dav_model.specs.Valid.{IsRegular};
 ghost use Rattle.dav_methods.specs.Answers.{Answers, RefusesUsually};
 ghost use Rattle.dav_methods.specs.Changing.{Changes};
 ghost use Rattle.dav_methods.specs.Follows.{Follows, Reached, RightIn, Told};
@@ -32,25 +33,25 @@ pub fn answers_are_listed<S: GuardedFileSystem<C>, C>()
         → Answers S.view s r t }
 {}
 
-/// Over a store that follows its rules, by which each path is meant as it is written, a request that writes makes of a
-/// told world what its plan says, and is answered so.
+/// Over a store that follows its rules a request that makes a directory or puts a file makes of a world of a valid run
+/// what its plan says, and is answered so.
 pub fn writes_follow_their_plans<S: GuardedFileSystem<C>, C>()
-    ensures mkcol { (c : C) (rules : Rules) (s : S) → Follows S.view S.listings S.File.writes c rules s
-        → rules.folds ≡ false → rules.macos ≡ false → rules.alone ≡ None
+    ensures mkcol { (c : C) (rules : Rules) (k : Knowledge) (s : S) → Follows S.view S.listings S.File.writes c rules k s
         → (ask : Ask) → ask.method ≡ MkCol → (r : Given) (t : S)
         → MkCols S.view c ask.path ask.fields s r t
-        → Told S.view S.listings S.File.writes c s t (RightIn S.view S.listings S.File.writes c rules ask s r t) }
-    ensures mkcalendar { (c : C) (rules : Rules) (s : S)
-        → Follows S.view S.listings S.File.writes c rules s
-        → rules.folds ≡ false → rules.macos ≡ false → rules.alone ≡ None
+        → Told S.view S.listings S.File.writes c s t (λ v w. IsRegular rules k v
+        → RightIn S.view S.listings S.File.writes c rules ask s r t v w) }
+    ensures mkcalendar { (c : C) (rules : Rules) (k : Knowledge) (s : S)
+        → Follows S.view S.listings S.File.writes c rules k s
         → (ask : Ask) → (ask.method ≡ MkCalendar) ⊎ (ask.method ≡ MkAddressbook) → (r : Given) (t : S)
         → MkCalendars S.view c ask.path s r t
-        → Told S.view S.listings S.File.writes c s t (RightIn S.view S.listings S.File.writes c rules ask s r t) }
-    ensures put { (c : C) (rules : Rules) (s : S) → Follows S.view S.listings S.File.writes c rules s
-        → rules.folds ≡ false → rules.macos ≡ false → rules.alone ≡ None
+        → Told S.view S.listings S.File.writes c s t (λ v w. IsRegular rules k v
+        → RightIn S.view S.listings S.File.writes c rules ask s r t v w) }
+    ensures put { (c : C) (rules : Rules) (k : Knowledge) (s : S) → Follows S.view S.listings S.File.writes c rules k s
         → (ask : Ask) → ask.method ≡ Put → (r : Given) (t : S)
         → PutsWhole S.view S.File.writes c ask.path ask.fields ask.body s r t
-        → Told S.view S.listings S.File.writes c s t (RightIn S.view S.listings S.File.writes c rules ask s r t) }
+        → Told S.view S.listings S.File.writes c s t (λ v w. IsRegular rules k v
+        → RightIn S.view S.listings S.File.writes c rules ask s r t v w) }
 {}
 
 /// The calls that a request that writes makes lead to the store that is left, whatever is answered.

@@ -5,7 +5,7 @@ use Rattle.dav_io.specs.Told.{Both}
 use Rattle.dav_io.specs.declared.failure.NoMemory.{NoMemory}
 use Rattle.dav_core.specs.declared.dav_error.DavError.{DavError}
 use Rattle.dav_core.specs.declared.method.DavMethod.{DavMethod}
-use Rattle.dav_core.specs.declared.method.DavMethod.TheVariants.{Copy, Move}
+use Rattle.dav_core.specs.declared.method.DavMethod.TheVariants.{Copy, Delete, Move}
 use Rattle.dav_core.specs.DavPath.{WebPath}
 use Rattle.dav_core.specs.Edits.{Edit, Edited, IsPart}
 use Rattle.dav_core.specs.World.{World, SameBesidesOpens}
@@ -19,8 +19,9 @@ use Rattle.dav_model.specs.Due.{failure}
 use Rattle.dav_model.specs.Finding.{resolved}
 use Rattle.dav_model.specs.Head.{Reply, field, refusal}
 use Rattle.dav_model.specs.Plans.{Act, Ask, Plan, does, halts, meets_link, plan}
-use Rattle.dav_model.specs.Rules.{Rules}
+use Rattle.dav_model.specs.Rules.{Knowledge, Rules}
 use Rattle.dav_model.specs.Trail.{Leaves, Point}
+use Rattle.dav_model.specs.Valid.{IsRegular}
 use Rattle.dav_model.specs.WellFormed.{is_among}
 
 -- ---- answers
@@ -103,11 +104,26 @@ MakesAs Copy rules ask = CarriesIn rules false ask
 MakesAs Move rules ask = CarriesIn rules true ask
 MakesAs other rules ask = MakesIn rules ask
 
--- Only a request that writes changes what stands. Of a store that finds names that fold alike, has the rules of macOS,
--- or serves one file alone, nothing is said.
-abbrev pub Makes : Target → Rules → Fields → List ℕ → Result Reply NoMemory → Point → Point → Type 0
-Makes (Writes method path) rules fields body result s t = rules.folds ≡ false → rules.macos ≡ false → rules.alone ≡ None
-    → Both s.told t.told (MakesAs method rules (ask_of method path fields body) result (Rose s.faults t.faults))
-Makes (At method path) rules fields body result s t = Leaves s t
-Makes Methods rules fields body result s t = Leaves s t
-Makes (Refused status close) rules fields body result s t = Leaves s t
+-- The rules by which each path is meant as it is written.
+pub record ArePlain (rules : Rules) : Type 0 where
+  pub folds : rules.folds ≡ false
+  pub macos : rules.macos ≡ false
+  pub alone : rules.alone ≡ None
+
+-- The rules under which it is said what a method makes. Of COPY and MOVE it is said where each path is meant as it is
+-- written; of DELETE but over one file that is served alone; of the others under all rules.
+abbrev pub IsSaidUnder : DavMethod → Rules → Type 0
+IsSaidUnder Delete rules = rules.alone ≡ None
+IsSaidUnder Copy rules = ArePlain rules
+IsSaidUnder Move rules = ArePlain rules
+IsSaidUnder other rules = Unit {0}
+
+-- Only a request that writes changes what stands. What it makes is said of each world of a valid run, with what the
+-- memory knew before it.
+abbrev pub Makes : Target → Rules → Knowledge → Fields → List ℕ → Result Reply NoMemory → Point → Point → Type 0
+Makes (Writes method path) rules k fields body result s t = IsSaidUnder method rules
+    → Both s.told t.told (λ v w. IsRegular rules k v
+    → MakesAs method rules (ask_of method path fields body) result (Rose s.faults t.faults) v w)
+Makes (At method path) rules k fields body result s t = Leaves s t
+Makes Methods rules k fields body result s t = Leaves s t
+Makes (Refused status close) rules k fields body result s t = Leaves s t

@@ -6,8 +6,8 @@ use Rattle.dav_methods.proofs.carry_plan_laws.copies_follow_their_plan.Goals as 
 
 pub returns : goal.returns
 returns g c =
-    λ credentials rules s follows folds macos alone path fields body r t run.
+    λ credentials rules k s follows folds macos alone path fields body r t run.
     carried_right g.S.GuardedFileSystem.view g.S.GuardedFileSystem.listings g.S.File.DavFile.writes credentials
     false
     (λ asked x own. copies_right g.S.GuardedFileSystem.view g.S.GuardedFileSystem.listings g.S.File.DavFile.writes credentials asked x)
-    rules s follows folds macos alone (record { method = Copy; path = path; fields = fields; body = body }) r t run
+    rules k s follows folds macos alone (record { method = Copy; path = path; fields = fields; body = body }) r t run
