@@ -1,5 +1,6 @@
 //! Laws over the tables of COPY and MOVE, each the contract of a function that does nothing.
 ghost use Rattle.std.specs.Prelude.{ℕ, List};
+ghost use Rattle.dav_core.specs.declared.method.DavMethod.TheVariants.{Copy, Move};
 ghost use Rattle.dav_core.specs.DavPath.{WebPath};
 ghost use Rattle.dav_model.specs.Conditions.{Fields};
 ghost use Rattle.dav_methods.specs.Answers.{Answers, RefusesUsually};
@@ -9,14 +10,14 @@ ghost use Rattle.dav_methods.specs.Lines.{Given};
 use dav_store::GuardedFileSystem;
 
 /// Over a store that refuses few things a COPY or a MOVE is answered 201, 204, or with a status of a short list, where
-/// memory isn't refused; and 500 only where a fault was met.
+/// memory isn't refused; 500 only where a fault was met, and no close.
 pub fn copies_are_listed<S: GuardedFileSystem<C>, C>()
     ensures copy { (c : C) → RefusesUsually S.view S.listings S.File.writes c
         → (prefix : List ℕ) (path : WebPath) (fields : Fields) (s t : S) (r : Given)
         → CopiesTo S.view S.listings c prefix path fields s r t
-        → Answers S.view s r t }
+        → Answers Copy S.view s r t }
     ensures moved { (c : C) → RefusesUsually S.view S.listings S.File.writes c
         → (prefix : List ℕ) (path : WebPath) (fields : Fields) (s t : S) (r : Given)
         → MovesTo S.view S.listings c prefix path fields s r t
-        → Answers S.view s r t }
+        → Answers Move S.view s r t }
 {}

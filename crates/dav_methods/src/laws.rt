@@ -16,21 +16,25 @@ ghost use Rattle.dav_methods.specs.Table.{MkCalendars, MkCols};
 
 use dav_store::GuardedFileSystem;
 
-/// Over a store that refuses few things a request that writes is answered 201, 204, or with a status of a short list,
-/// where memory isn't refused; and 500 only where a fault was met.
+/// Over a store that refuses few things a request that writes is answered as its method may be where all was done, or with
+/// a status of its method's list, where memory isn't refused; 500 only where a fault was met, and a close only with 405.
 pub fn answers_are_listed<S: GuardedFileSystem<C>, C>()
     ensures mkcol { (c : C) → RefusesUsually S.view S.listings S.File.writes c
         → (path : WebPath) (fields : Fields) (s t : S) (r : Given)
         → MkCols S.view c path fields s r t
-        → Answers S.view s r t }
+        → Answers MkCol S.view s r t }
     ensures mkcalendar { (c : C) → RefusesUsually S.view S.listings S.File.writes c
         → (path : WebPath) (s t : S) (r : Given)
         → MkCalendars S.view c path s r t
-        → Answers S.view s r t }
+        → Answers MkCalendar S.view s r t }
+    ensures mkaddressbook { (c : C) → RefusesUsually S.view S.listings S.File.writes c
+        → (path : WebPath) (s t : S) (r : Given)
+        → MkCalendars S.view c path s r t
+        → Answers MkAddressbook S.view s r t }
     ensures put { (c : C) → RefusesUsually S.view S.listings S.File.writes c
         → (path : WebPath) (fields : Fields) (bytes : List ℕ) (s t : S) (r : Given)
         → PutsWhole S.view S.File.writes c path fields bytes s r t
-        → Answers S.view s r t }
+        → Answers Put S.view s r t }
 {}
 
 /// Over a store that follows its rules a request that makes a directory or puts a file makes of a world of a valid run

@@ -18,7 +18,7 @@ pub fn removals_are_listed<S: GuardedFileSystem<C>, C>()
     ensures { (c : C) → RefusesUsually S.view S.listings S.File.writes c
         → (path : WebPath) (fields : Fields) (s t : S) (r : Given)
         → Deletes S.view S.listings c path fields s r t
-        → Answers S.view s r t }
+        → Answers Delete S.view s r t }
 {}
 
 /// Over a store that follows its rules, of which none is that each path names one file, a DELETE makes of a world of a

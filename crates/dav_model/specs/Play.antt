@@ -108,7 +108,7 @@ pub record Reads (rules : Rules) (k : Knowledge) (s t : Point) (q : Query) (repl
 abbrev pub Replies : Target → Rules → Knowledge → Point → Point → Fields → Reply → Type 0
 Replies (Refused status close) rules k s t fields reply = reply ≡ refusal fields status close
 Replies Methods rules k s t fields reply = reply ≡ allowing rules.settings.allow false
-Replies (Writes method path) rules k s t fields reply = IsWriteReply fields (Rose s.faults t.faults) reply
+Replies (Writes method path) rules k s t fields reply = IsWriteReply method fields (Rose s.faults t.faults) reply
 Replies (At method path) rules k s t fields reply = Reads rules k s t (query rules.settings fields method path) reply
 
 -- ---- steps
@@ -253,7 +253,7 @@ MakesOfTree rules s t ask reply = IsSaidUnder ask.method rules
 abbrev pub RepliesByTree : Target → Rules → Point → Point → Fields → List ℕ → Reply → Type 0
 RepliesByTree (Refused status close) rules s t fields body reply = reply ≡ refusal fields status close
 RepliesByTree Methods rules s t fields body reply = reply ≡ allowing rules.settings.allow false
-RepliesByTree (Writes method path) rules s t fields body reply = IsWriteReply fields (Rose s.faults t.faults) reply
+RepliesByTree (Writes method path) rules s t fields body reply = IsWriteReply method fields (Rose s.faults t.faults) reply
     × MakesOfTree rules s t (ask_of method path fields body) reply
 RepliesByTree (At method path) rules s t fields body reply = IsOfTree rules s t
     (query rules.settings fields method path) reply
