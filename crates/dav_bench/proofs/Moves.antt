@@ -6,6 +6,7 @@ use Rattle.dav_model.specs.declared.answer.Answer.{Answer}
 use Rattle.dav_model.specs.declared.step.Step.{Step}
 use Rattle.dav_model.specs.declared.step.Step.TheVariants.{Request, Poll, Abandon, Purge, Turn}
 use Rattle.dav_model.specs.Play.{Answered, EachByTree, Ends, Played, PlayedOn, Playing, Plays, Polled, Replies, RepliesByTree, Stage, Stands, StaysOpen, StepByTree, points_from}
+use Rattle.http.specs.Request.{body_of}
 use Rattle.dav_model.specs.Conditions.{Asked, fields_of}
 use Rattle.dav_model.specs.Trail.{Move, Point, answers_of, last_of, steps_of, target_of}
 use Rattle.dav_model.specs.Valid.{Valid}
@@ -14,7 +15,7 @@ use Rattle.dav_bench.specs.Asking.{steps_for}
 -- A request was answered, and under `V` by the tree.
 pub record ByTree (p : Playing) (s t : Point) (request : Asked) (answer : Answer) (q : Playing) (V : Type 0) : Type 0 where
   pub stands : Answered p s t request answer q
-  pub tree : V → RepliesByTree (target_of p.rules request) p.rules s t (fields_of request) stands.reply
+  pub tree : V → RepliesByTree (target_of p.rules request) p.rules s t (fields_of request) (body_of request) stands.reply
 
 by_request : (step : Step) (request : Asked) (now : Moment) (p : Playing) (s t : Point) (answer : Answer) (q : Playing) (V : Type 0) → step ≡ Request request now
     → (st : Stands p s t step answer q) → (V → StepByTree p s t step answer q st) → ByTree p s t request answer q V

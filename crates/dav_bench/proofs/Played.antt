@@ -78,8 +78,8 @@ tells_on m s t a leaves = let (w, e, b) = leaves_by m s.told t.told a.world a.to
 
 -- a request that reads leaves what stands
 reads_leave : (target : Target) (p : Playing) (request : Asked) (reply : Reply) (s t : Point) (i j : ℕ) → target ≡ At Get (asked_at i j)
-    → Makes target p.rules (fields_of request) (body_of request) (Ok reply) s t → Leaves s t
-reads_leave target p request reply s t i j e makes = subst (λ (z : Target). Makes z p.rules (fields_of request) (body_of request) (Ok reply) s t) e makes
+    → Makes target p.rules p.knows (fields_of request) (body_of request) (Ok reply) s t → Leaves s t
+reads_leave target p request reply s t i j e makes = subst (λ (z : Target). Makes z p.rules p.knows (fields_of request) (body_of request) (Ok reply) s t) e makes
 
 -- ---- valid runs
 
@@ -108,12 +108,12 @@ valid m rules k s t u v most same a b c d = record {
 -- ---- the reply
 
 -- the reply by the tree, at rules and fields that are known
-by_tree : (target : Target) (rules : Rules) (fields : _) (s t : Point) (reply : Reply) (i j : ℕ) → target ≡ At Get (asked_at i j) → rules ≡ bench_rules → fields ≡ []
-    → RepliesByTree target rules s t fields reply → RepliesByTree (At Get (asked_at i j)) bench_rules s t [] reply
-by_tree target rules fields s t reply i j e f g by =
-    subst (λ (x : _). RepliesByTree (At Get (asked_at i j)) bench_rules s t x reply) g
-    (subst (λ (x : Rules). RepliesByTree (At Get (asked_at i j)) x s t fields reply) f
-    (subst (λ (x : Target). RepliesByTree x rules s t fields reply) e by))
+by_tree : (target : Target) (rules : Rules) (fields : _) (body : List ℕ) (s t : Point) (reply : Reply) (i j : ℕ) → target ≡ At Get (asked_at i j) → rules ≡ bench_rules → fields ≡ []
+    → RepliesByTree target rules s t fields body reply → RepliesByTree (At Get (asked_at i j)) bench_rules s t [] body reply
+by_tree target rules fields body s t reply i j e f g by =
+    subst (λ (x : _). RepliesByTree (At Get (asked_at i j)) bench_rules s t x body reply) g
+    (subst (λ (x : Rules). RepliesByTree (At Get (asked_at i j)) x s t fields body reply) f
+    (subst (λ (x : Target). RepliesByTree x rules s t fields body reply) e by))
 
 -- ---- polls
 
@@ -226,7 +226,7 @@ read_size p e = ap (λ (r : Rules). read_size_of r.settings.read_buf_size) e
 
 -- the right reply, where no fault was met
 whole_reply : (m i j : ℕ) (s t : Point) (reply : Reply) → m ≤ 400 → i < 8 → j < m → Tells m s → t.faults ≡ 0
-    → RepliesByTree (At Get (asked_at i j)) bench_rules s t [] reply → IsWhole (file_row m i j).number (length_of i j) reply
+    → RepliesByTree (At Get (asked_at i j)) bench_rules s t [] [] reply → IsWhole (file_row m i j).number (length_of i j) reply
 whole_reply m i j s t reply most it jt a none by =
     reply_is_whole m i j a.world reply s.faults t.faults most it jt a.bench none (by a.world a.told (meets_none m i j a.world a.bench))
 
@@ -247,7 +247,7 @@ file_asked m i j a request body old new b most it jt ready asking same none x =
     let g : x.u.faults ≤ b.at.faults = x.second.goes.faults in
     let none_t : x.t.faults ≡ 0 = omega arith in
     let none_u : x.u.faults ≡ 0 = omega arith in
-    let tree = by_tree (target_of a.playing.rules request) a.playing.rules (fields_of request) a.at x.t st.reply i j (target_is m i j a request most it jt ready asking) ready.rules asking.fields
+    let tree = by_tree (target_of a.playing.rules request) a.playing.rules (fields_of request) (body_of request) a.at x.t st.reply i j (target_is m i j a request most it jt ready asking) ready.rules asking.fields
     (x.asked.tree (valid m a.playing.rules a.playing.knows a.at x.t x.u b.at most ready.rules p.before p.next p.then p.after)) in
     let reply : IsWhole (file_row m i j).number (length_of i j) st.reply = whole_reply m i j a.at x.t st.reply most it jt p.before none_t tree in
     let left : x.p.left body ≡ slice (file_row m i j).number 0 (length_of i j) ∷ [] = gets_left a.playing.replies body st.reply.parts begun x.p (sym same) st.gets ∙ reply.parts in

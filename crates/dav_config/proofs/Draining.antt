@@ -5,7 +5,7 @@ use Rattle.std.specs.Borrow.{GName}
 use Rattle.http.specs.Response.{head_of}
 use Rattle.dav_io.specs.Counts.{Rose}
 use Rattle.dav_core.specs.Disk.{DiskState}
-use Rattle.dav_core.specs.Unchanged.{Keeps}
+use Rattle.dav_core.specs.Unchanged.{Keeps, KeepsBut}
 use Rattle.dav_core.proofs.UnchangedLemmas.{but_then, closed_again, keeps_same}
 use Rattle.dav_model.specs.declared.answer.Answer.TheVariants.{Broken as BrokenAnswer}
 use Rattle.dav_model.specs.declared.target.Target.{Target}
@@ -79,6 +79,13 @@ module _ {F : Type 0} (handle : F → ℕ) (seen : F → DiskState → Option Se
       → KeepsUnless writes s t
   closed_unless writes s m t None keeps same = subst (KeepsUnless writes s) (sym same) keeps
   closed_unless writes s m t (Some h) opens touches = kept_unless writes s t (closed_all s m t (Some h) opens touches)
+
+-- a file that was closed, by another name of its handle
+ended_as : {F : Type 0} (handle other : F → ℕ) (seen shown : F → DiskState → Option Seen) → ((f : F) → other f ≡ handle f) → (s t : DiskState) (file : Option (OpenAt F))
+    → TouchesOwn handle seen s file t None → TouchesOwn other shown s file t None
+ended_as handle other seen shown same s t None touches = touches
+ended_as handle other seen shown same s t (Some h) touches =
+    subst (λ n. KeepsBut n s t × (t.live n ≡ None)) (sym (same h.file)) touches
 
 module _ {F D : Type 0} (handle : F → ℕ) (seen : F → DiskState → Option Seen) (state : D → DiskState) (loan : D → Option GName) where
   abbrev Step : GetBody F → D → Option (Result (List ℕ) BodyFault) → GetBody F → D → Type 0
@@ -247,59 +254,62 @@ module _ {S C F L E : Type 0} (served : Served S C F L E) where
   stays_ended asking given None stays = absurd stays
   stays_ended asking given (Some t) stays = (t, record { keeps = stays.0; loan = stays.1 })
 
-module _ {S C F L E D : Type 0} (served : Served S C F L E) (state : D → DiskState) (loan : D → Option GName) (inside : S → D) where
-  pub gathered : {X : Type 0} (result : Result (Responded F) X) (answered : Responded F) (s t : S) (all : Result (List ℕ) BodyFault)
-      → Drains served.view.handle served.view.seen state loan (inner_of answered) (inside s) all (inside t) → IfOk result (IsCollected (head_of answered) all)
-      → IfOk result (λ r. Gathers served state loan inside answered s r t)
-  gathered (Ok r) answered s t all drains becomes = record { all = all; drains = drains; becomes = becomes }
-  gathered (Err e) answered s t all drains becomes = tt
+module _ {S C F L E D : Type 0} (served : Served S C F L E) (handle : F → ℕ) (seen : F → DiskState → Option Seen) (state : D → DiskState) (loan : D → Option GName)
+    (inside : S → D)
+  where
+    pub gathered : {X : Type 0} (result : Result (Responded F) X) (answered : Responded F) (s t : S) (all : Result (List ℕ) BodyFault)
+        → Drains handle seen state loan (inner_of answered) (inside s) all (inside t) → IfOk result (IsCollected (head_of answered) all)
+        → IfOk result (λ r. Gathers served handle seen state loan inside answered s r t)
+    gathered (Ok r) answered s t all drains becomes = record { all = all; drains = drains; becomes = becomes }
+    gathered (Err e) answered s t all drains becomes = tt
 
-  failed_so : (all : Result (List ℕ) BodyFault) (answered r : Responded F) (s t : S)
-      → Drains served.view.handle served.view.seen state loan (inner_of answered) (inside s) all (inside t) → IsCollected (head_of answered) all r → (head_of r).status ≡ 500
-      → ((head_of answered).status ≡ 500) ⊎ Rose (state (inside s)).faults (state (inside t)).faults
-  failed_so (Ok bytes) answered r s t drains becomes e = inl (rw becomes.0 at e)
-  failed_so (Err Broken) answered r s t drains becomes e = inr (drained_broken served.view.handle served.view.seen state loan (inner_of answered) (inside s) (inside t) drains)
-  failed_so (Err NoMemory) answered r s t drains becomes e = absurd becomes
+    failed_so : (all : Result (List ℕ) BodyFault) (answered r : Responded F) (s t : S)
+        → Drains handle seen state loan (inner_of answered) (inside s) all (inside t) → IsCollected (head_of answered) all r → (head_of r).status ≡ 500
+        → ((head_of answered).status ≡ 500) ⊎ Rose (state (inside s)).faults (state (inside t)).faults
+    failed_so (Ok bytes) answered r s t drains becomes e = inl (rw becomes.0 at e)
+    failed_so (Err Broken) answered r s t drains becomes e = inr (drained_broken handle seen state loan (inner_of answered) (inside s) (inside t) drains)
+    failed_so (Err NoMemory) answered r s t drains becomes e = absurd becomes
 
-  -- the disk inside is that of the view
-  module _ (is_inside : (s : S) → served.view.state s ≡ state (inside s)) where
-    gathered_ends : (asking : Asking C) (given between after : S) (answered : Responded F) → OpensFor served asking given answered between
-        → served.view.loan between ≡ served.view.loan given
-        → TouchesOwn served.view.handle served.view.seen (state (inside between)) (file_of (inner_of answered)) (state (inside after)) None
-        → served.view.loan after ≡ served.view.loan between → EndsAs served asking given after
-    gathered_ends asking given between after answered opens same touches still = record {
-      keeps = subst (KeepsUnless (asks_to_write asking.head) (served.view.state given)) (sym (is_inside after))
-          (closed_unless served.view.handle served.view.seen (asks_to_write asking.head) (served.view.state given) (state (inside between)) (state (inside after))
-          (file_of (inner_of answered))
-          (subst (OpensUnless served.view.handle served.view.seen (asks_to_write asking.head) (served.view.state given) (file_of (inner_of answered))) (is_inside between) opens) touches);
-      loan = still ∙ same;
-    }
+    -- the view is that of the disk inside and of its files
+    module _ (is_inside : (s : S) → served.view.state s ≡ state (inside s)) (is_handle : (f : F) → served.view.handle f ≡ handle f) where
+      gathered_ends : (asking : Asking C) (given between after : S) (answered : Responded F) → OpensFor served asking given answered between
+          → served.view.loan between ≡ served.view.loan given
+          → TouchesOwn handle seen (state (inside between)) (file_of (inner_of answered)) (state (inside after)) None
+          → served.view.loan after ≡ served.view.loan between → EndsAs served asking given after
+      gathered_ends asking given between after answered opens same touches still = record {
+        keeps = subst (KeepsUnless (asks_to_write asking.head) (served.view.state given)) (sym (is_inside after))
+            (closed_unless served.view.handle served.view.seen (asks_to_write asking.head) (served.view.state given) (state (inside between)) (state (inside after))
+            (file_of (inner_of answered))
+            (subst (OpensUnless served.view.handle served.view.seen (asks_to_write asking.head) (served.view.state given) (file_of (inner_of answered))) (is_inside between) opens)
+            (ended_as handle served.view.handle seen served.view.seen is_handle (state (inside between)) (state (inside after)) (file_of (inner_of answered)) touches));
+        loan = still ∙ same;
+      }
 
-    -- The request was answered over the given store, which ended.
-    pub given_handled : {B X : Type 0} (result : Result (Responded F) X) (reader : ReaderGhosts B) (asking : Asking C) (given between after : S) (body : B) (answered : Responded F)
-        → HandlesAll served reader asking (Some given) body answered (Some between)
-        → IfOk result (λ r. Gathers served state loan inside answered between r after)
-        → TouchesOwn served.view.handle served.view.seen (state (inside between)) (file_of (inner_of answered)) (state (inside after)) None
-        → served.view.loan after ≡ served.view.loan between
-        → IfOk result (λ r. HandlesGiven served state loan inside reader asking given body r) × Ends served asking given
-    given_handled {X = X} result reader asking given between after body answered handles gathers touches still =
-        let opened = handled_opens served reader asking given body answered (Some between) handles in
-        let f = opened.is in
-        let same : opened.after ≡ between = cc in
-        let ends : EndsAs served asking given after = gathered_ends asking given between after answered
-        (subst (λ (x : S). OpensFor served asking given answered x) same opened.opens)
-        (subst (λ (x : S). served.view.loan x ≡ served.view.loan given) same opened.loan) touches still in
-        (by result gathers ends, (after, ends))
-      where
-        by : (result : Result (Responded F) X) → IfOk result (λ r. Gathers served state loan inside answered between r after) → EndsAs served asking given after
-            → IfOk result (λ r. HandlesGiven served state loan inside reader asking given body r)
-        by (Ok r) gathers ends = record {
-          answered = answered;
-          between = between;
-          after = after;
-          handles = handles;
-          gathers = gathers;
-          ends = ends;
-          failed = λ e. rw (is_inside between, is_inside after) (failed_so gathers.all answered r between after gathers.drains gathers.becomes e);
-        }
-        by (Err e) gathers ends = tt
+      -- The request was answered over the given store, which ended.
+      pub given_handled : {B X : Type 0} (result : Result (Responded F) X) (reader : ReaderGhosts B) (asking : Asking C) (given between after : S) (body : B) (answered : Responded F)
+          → HandlesAll served reader asking (Some given) body answered (Some between)
+          → IfOk result (λ r. Gathers served handle seen state loan inside answered between r after)
+          → TouchesOwn handle seen (state (inside between)) (file_of (inner_of answered)) (state (inside after)) None
+          → served.view.loan after ≡ served.view.loan between
+          → IfOk result (λ r. HandlesGiven served handle seen state loan inside reader asking given body r) × Ends served asking given
+      given_handled {X = X} result reader asking given between after body answered handles gathers touches still =
+          let opened = handled_opens served reader asking given body answered (Some between) handles in
+          let f = opened.is in
+          let same : opened.after ≡ between = cc in
+          let ends : EndsAs served asking given after = gathered_ends asking given between after answered
+          (subst (λ (x : S). OpensFor served asking given answered x) same opened.opens)
+          (subst (λ (x : S). served.view.loan x ≡ served.view.loan given) same opened.loan) touches still in
+          (by result gathers ends, (after, ends))
+        where
+          by : (result : Result (Responded F) X) → IfOk result (λ r. Gathers served handle seen state loan inside answered between r after) → EndsAs served asking given after
+              → IfOk result (λ r. HandlesGiven served handle seen state loan inside reader asking given body r)
+          by (Ok r) gathers ends = record {
+            answered = answered;
+            between = between;
+            after = after;
+            handles = handles;
+            gathers = gathers;
+            ends = ends;
+            failed = λ e. rw (is_inside between, is_inside after) (failed_so gathers.all answered r between after gathers.drains gathers.becomes e);
+          }
+          by (Err e) gathers ends = tt

@@ -75,12 +75,12 @@ module _ {S C F L E : Type 0} (served : Served S C F L E) where
   StaysWith asking None old new = Stays served asking old new
   StaysWith asking (Some given) old new = Ends asking given × (new ≡ old)
 
-module _ {S C F L E D : Type 0} (served : Served S C F L E) (state : D → DiskState) (loan : D → Option GName)
-    (inside : S → D) where
+module _ {S C F L E D : Type 0} (served : Served S C F L E) (handle : F → ℕ) (seen : F → DiskState → Option Seen)
+    (state : D → DiskState) (loan : D → Option GName) (inside : S → D) where
   -- An answer's body was collected with the store's disk, and the answer made of it.
   pub record Gathers (answered : Responded F) (s : S) (r : Responded F) (t : S) : Type 0 where
     pub all : Result (List ℕ) BodyFault
-    pub drains : Drains served.view.handle served.view.seen state loan (inner_of answered) (inside s) all (inside t)
+    pub drains : Drains handle seen state loan (inner_of answered) (inside s) all (inside t)
     pub becomes : IsCollected (head_of answered) all r
 
   -- A request was answered over the store that is given with it, and the answer gathered.

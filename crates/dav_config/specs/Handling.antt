@@ -4,7 +4,6 @@ use Rattle.dav_io.specs.declared.clock.Moment.{Moment}
 use Rattle.dav_io.specs.Counts.{Rose}
 use Rattle.http.specs.declared.request.Parts.{Parts}
 use Rattle.http.specs.Response.{head_of}
-use Rattle.dav_core.specs.declared.disk.Disk.{Ghosts as DiskGhosts}
 use Rattle.dav_core.specs.declared.error.FsError.{FsError}
 use Rattle.dav_core.specs.declared.member.Member.{Member}
 use Rattle.dav_core.specs.DavPath.{WebPath}
@@ -19,12 +18,11 @@ use Rattle.dav_model.specs.Gates.{Bulk, none, admitted, gates, takes_much}
 use Rattle.dav_model.specs.Head.{refusal}
 use Rattle.dav_model.specs.Bodies.{read_size_of}
 use Rattle.dav_store.specs.declared.body_reader.BodyReader.{Ghosts as ReaderGhosts}
-use Rattle.dav_store.specs.declared.entry.DavDirEntry.{Ghosts as EntryGhosts}
 use Rattle.dav_store.specs.declared.file.DavFile.{Ghosts as FileGhosts}
 use Rattle.dav_store.specs.declared.guarded.GuardedFileSystem.{Ghosts as StoreGhosts}
 use Rattle.dav_store.specs.Bodies.{BodyState}
 use Rattle.dav_store.specs.Standing.{Standing}
-use Rattle.dav_store.specs.View.{View, Listings, the_view, the_listings}
+use Rattle.dav_store.specs.View.{View, Listings}
 use Rattle.dav_methods.specs.Pouring.{Writes as FileWritesOf}
 use Rattle.dav_get.specs.Heard.{Heard}
 use Rattle.dav_get.specs.Lives.{HasMost, OpenOnlyHeld}
@@ -49,11 +47,10 @@ pub record Served (S C F L E : Type 0) : Type 1 where
   pub void : S → Bool
   pub with_now : S → Moment → S
 
-abbrev pub the_served : {S C D M F L E : Type 0} → StoreGhosts S C D M F L E → DiskGhosts D → FileGhosts F D M
-    → EntryGhosts E D M → Served S C F L E
-the_served store disk file entry = record {
-  view = the_view store disk file;
-  lists = the_listings store entry;
+abbrev pub the_served : {S C D M F L E : Type 0} → StoreGhosts S C D M F L E → FileGhosts F D M → Served S C F L E
+the_served store file = record {
+  view = store.view;
+  lists = store.listings;
   writes = file.writes;
   void = store.void;
   with_now = store.with_now;

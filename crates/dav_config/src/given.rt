@@ -86,13 +86,11 @@ fn gather<S: GuardedFileSystem<C>, C>(
 ) -> Answered<S::File>
     requires { MayPoll (λ b d. IsHeld S.File.handle S.File.seen (S.Disk.state d) b) (inner_of response)
         (S.inside store.old) }
-    ensures done { IfOk result (λ r. Gathers
-        (the_served S.GuardedFileSystem S.Disk.Disk S.File.DavFile S.Entry.DavDirEntry) S.Disk.state S.Disk.loan
-        S.inside
-        response store.old r store.new) }
+    ensures done { IfOk result (λ r. Gathers (the_served S.GuardedFileSystem S.File.DavFile)
+        S.File.handle S.File.seen S.Disk.state S.Disk.loan S.inside response store.old r store.new) }
     ensures touches { TouchesOwn S.File.handle S.File.seen (S.Disk.state (S.inside store.old))
         (file_of (inner_of response)) (S.Disk.state (S.inside store.new)) None }
-    ensures loan { S.Disk.loan (S.inside store.new) ≡ S.Disk.loan (S.inside store.old) }
+    ensures loan { S.view.loan store.new ≡ S.view.loan store.old }
 {
     let (head, body) = response.into_parts();
     let all = drained(alloc, store.disk(), body);
@@ -108,13 +106,11 @@ pub fn handle_given<S: GuardedFileSystem<C> + Drop, C, B: BodyReader + Drop>(
     req: Request<B>,
     now: Moment,
 ) -> Answered<S::File>
-    requires { S.admits store }
-    ensures done { IfOk result (λ r. HandlesGiven
-        (the_served S.GuardedFileSystem S.Disk.Disk S.File.DavFile S.Entry.DavDirEntry) S.Disk.state S.Disk.loan
-        S.inside
-        B.BodyReader (asking settings.now (head_of req) credentials.now now) store (body_of req) r) }
-    ensures memory { OnErr result (Ends
-        (the_served S.GuardedFileSystem S.Disk.Disk S.File.DavFile S.Entry.DavDirEntry)
+    requires { S.view.admits store }
+    ensures done { IfOk result (λ r. HandlesGiven (the_served S.GuardedFileSystem S.File.DavFile)
+        S.File.handle S.File.seen S.Disk.state S.Disk.loan S.inside B.BodyReader
+        (asking settings.now (head_of req) credentials.now now) store (body_of req) r) }
+    ensures memory { OnErr result (Ends (the_served S.GuardedFileSystem S.File.DavFile)
         (asking settings.now (head_of req) credentials.now now) store) }
 {
     let mut given = Some(store);

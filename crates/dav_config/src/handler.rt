@@ -99,18 +99,16 @@ impl<S: GuardedFileSystem<C>, C> DavHandler<S, C> {
     ) -> Answered<S::File>
     where
         C: Drop,
-        requires { IfSome self.old.store S.admits }
-        ensures done { IfOk result (λ r. HandlesAll
-            (the_served S.GuardedFileSystem S.Disk.Disk S.File.DavFile S.Entry.DavDirEntry) B.BodyReader
-            (asking (record self.old.settings { principal = Some principal.now })
-            (head_of req) credentials now) self.old.store (body_of req) r self.new.store) }
-        ensures may { IfOk result (λ r. IfSome self.new.store (λ s. MayPoll
-            (λ b d. IsHeld S.File.handle S.File.seen (S.Disk.state d) b) (inner_of r) (S.inside s))) }
-        ensures memory { OnErr result (Stays
-            (the_served S.GuardedFileSystem S.Disk.Disk S.File.DavFile S.Entry.DavDirEntry)
+        requires { IfSome self.old.store S.view.admits }
+        ensures done { IfOk result (λ r. HandlesAll (the_served S.GuardedFileSystem S.File.DavFile) B.BodyReader
+            (asking (record self.old.settings { principal = Some principal.now }) (head_of req) credentials now)
+            self.old.store (body_of req) r self.new.store) }
+        ensures may { IfOk result (λ r. IfSome self.new.store
+            (λ s. MayPoll (λ b d. IsHeld S.File.handle S.File.seen (S.Disk.state d) b) (inner_of r) (S.inside s))) }
+        ensures memory { OnErr result (Stays (the_served S.GuardedFileSystem S.File.DavFile)
             (asking (record self.old.settings { principal = Some principal.now }) (head_of req) credentials now)
             self.old.store self.new.store) }
-        ensures admits { IfSome self.new.store S.admits }
+        ensures admits { IfSome self.new.store S.view.admits }
         ensures settings { self.new.settings ≡ self.old.settings }
         ensures locks { self.new.locks ≡ self.old.locks }
     {
@@ -151,17 +149,14 @@ impl<S: GuardedFileSystem<()>> DavHandler<S, ()> {
         req: Request<B>,
         now: Moment,
     ) -> Answered<S::File>
-        requires { IfSome self.old.store S.admits }
-        ensures done { IfOk result (λ r. HandlesAll
-            (the_served S.GuardedFileSystem S.Disk.Disk S.File.DavFile S.Entry.DavDirEntry) B.BodyReader
+        requires { IfSome self.old.store S.view.admits }
+        ensures done { IfOk result (λ r. HandlesAll (the_served S.GuardedFileSystem S.File.DavFile) B.BodyReader
             (asking self.old.settings (head_of req) tt now) self.old.store (body_of req) r self.new.store) }
-        ensures may { IfOk result (λ r. IfSome self.new.store (λ s. MayPoll
-            (λ b d. IsHeld S.File.handle S.File.seen (S.Disk.state d) b) (inner_of r) (S.inside s))) }
-        ensures memory { OnErr result (Stays
-            (the_served S.GuardedFileSystem S.Disk.Disk S.File.DavFile S.Entry.DavDirEntry)
-            (asking self.old.settings (head_of req) tt now)
-            self.old.store self.new.store) }
-        ensures admits { IfSome self.new.store S.admits }
+        ensures may { IfOk result (λ r. IfSome self.new.store
+            (λ s. MayPoll (λ b d. IsHeld S.File.handle S.File.seen (S.Disk.state d) b) (inner_of r) (S.inside s))) }
+        ensures memory { OnErr result (Stays (the_served S.GuardedFileSystem S.File.DavFile)
+            (asking self.old.settings (head_of req) tt now) self.old.store self.new.store) }
+        ensures admits { IfSome self.new.store S.view.admits }
         ensures settings { self.new.settings ≡ self.old.settings }
         ensures locks { self.new.locks ≡ self.old.locks }
     {
@@ -174,17 +169,14 @@ impl<S: GuardedFileSystem<()>> DavHandler<S, ()> {
         req: Request<StreamBody<B>>,
         now: Moment,
     ) -> Answered<S::File>
-        requires { IfSome self.old.store S.admits }
-        ensures done { IfOk result (λ r. HandlesAll
-            (the_served S.GuardedFileSystem S.Disk.Disk S.File.DavFile S.Entry.DavDirEntry) B.BodyReader
+        requires { IfSome self.old.store S.view.admits }
+        ensures done { IfOk result (λ r. HandlesAll (the_served S.GuardedFileSystem S.File.DavFile) B.BodyReader
             (asking self.old.settings (head_of req) tt now) self.old.store (body_of req).body r self.new.store) }
-        ensures may { IfOk result (λ r. IfSome self.new.store (λ s. MayPoll
-            (λ b d. IsHeld S.File.handle S.File.seen (S.Disk.state d) b) (inner_of r) (S.inside s))) }
-        ensures memory { OnErr result (Stays
-            (the_served S.GuardedFileSystem S.Disk.Disk S.File.DavFile S.Entry.DavDirEntry)
-            (asking self.old.settings (head_of req) tt now)
-            self.old.store self.new.store) }
-        ensures admits { IfSome self.new.store S.admits }
+        ensures may { IfOk result (λ r. IfSome self.new.store
+            (λ s. MayPoll (λ b d. IsHeld S.File.handle S.File.seen (S.Disk.state d) b) (inner_of r) (S.inside s))) }
+        ensures memory { OnErr result (Stays (the_served S.GuardedFileSystem S.File.DavFile)
+            (asking self.old.settings (head_of req) tt now) self.old.store self.new.store) }
+        ensures admits { IfSome self.new.store S.view.admits }
         ensures settings { self.new.settings ≡ self.old.settings }
         ensures locks { self.new.locks ≡ self.old.locks }
     {
@@ -207,20 +199,16 @@ impl<S: GuardedFileSystem<()>> DavHandler<S, ()> {
     ) -> Answered<S::File>
     where
         S: Drop,
-        requires own { IfSome self.old.store S.admits }
-        requires given { IfSome config.store S.admits }
-        ensures done { IfOk result (λ r. HandlesWith
-            (the_served S.GuardedFileSystem S.Disk.Disk S.File.DavFile S.Entry.DavDirEntry)
-            S.Disk.state S.Disk.loan S.inside B.BodyReader
-            (asking (the_merged self.old.settings config.settings) (head_of req) tt now) config.store
-            self.old.store (body_of req) r self.new.store) }
-        ensures may { IfOk result (λ r. IfSome self.new.store (λ s. MayPoll
-            (λ b d. IsHeld S.File.handle S.File.seen (S.Disk.state d) b) (inner_of r) (S.inside s))) }
-        ensures memory { OnErr result (StaysWith
-            (the_served S.GuardedFileSystem S.Disk.Disk S.File.DavFile S.Entry.DavDirEntry)
-            (asking (the_merged self.old.settings config.settings) (head_of req) tt now)
-            config.store self.old.store self.new.store) }
-        ensures admits { IfSome self.new.store S.admits }
+        requires own { IfSome self.old.store S.view.admits }
+        requires given { IfSome config.store S.view.admits }
+        ensures done { IfOk result (λ r. HandlesWith (the_served S.GuardedFileSystem S.File.DavFile) S.File.handle
+            S.File.seen S.Disk.state S.Disk.loan S.inside B.BodyReader (asking (the_merged self.old.settings
+            config.settings) (head_of req) tt now) config.store self.old.store (body_of req) r self.new.store) }
+        ensures may { IfOk result (λ r. IfSome self.new.store
+            (λ s. MayPoll (λ b d. IsHeld S.File.handle S.File.seen (S.Disk.state d) b) (inner_of r) (S.inside s))) }
+        ensures memory { OnErr result (StaysWith (the_served S.GuardedFileSystem S.File.DavFile) (asking (the_merged
+            self.old.settings config.settings) (head_of req) tt now) config.store self.old.store self.new.store) }
+        ensures admits { IfSome self.new.store S.view.admits }
         ensures settings { self.new.settings ≡ self.old.settings }
         ensures locks { self.new.locks ≡ self.old.locks }
     {
@@ -250,20 +238,16 @@ impl<S: GuardedFileSystem<()>> DavHandler<S, ()> {
     ) -> Answered<S::File>
     where
         S: Drop,
-        requires own { IfSome self.old.store S.admits }
-        requires given { IfSome config.store S.admits }
-        ensures done { IfOk result (λ r. HandlesWith
-            (the_served S.GuardedFileSystem S.Disk.Disk S.File.DavFile S.Entry.DavDirEntry)
-            S.Disk.state S.Disk.loan S.inside B.BodyReader
-            (asking (the_merged self.old.settings config.settings) (head_of req) tt now) config.store
-            self.old.store (body_of req).body r self.new.store) }
-        ensures may { IfOk result (λ r. IfSome self.new.store (λ s. MayPoll
-            (λ b d. IsHeld S.File.handle S.File.seen (S.Disk.state d) b) (inner_of r) (S.inside s))) }
-        ensures memory { OnErr result (StaysWith
-            (the_served S.GuardedFileSystem S.Disk.Disk S.File.DavFile S.Entry.DavDirEntry)
-            (asking (the_merged self.old.settings config.settings) (head_of req) tt now)
-            config.store self.old.store self.new.store) }
-        ensures admits { IfSome self.new.store S.admits }
+        requires own { IfSome self.old.store S.view.admits }
+        requires given { IfSome config.store S.view.admits }
+        ensures done { IfOk result (λ r. HandlesWith (the_served S.GuardedFileSystem S.File.DavFile) S.File.handle
+            S.File.seen S.Disk.state S.Disk.loan S.inside B.BodyReader (asking (the_merged self.old.settings
+            config.settings) (head_of req) tt now) config.store self.old.store (body_of req).body r self.new.store) }
+        ensures may { IfOk result (λ r. IfSome self.new.store
+            (λ s. MayPoll (λ b d. IsHeld S.File.handle S.File.seen (S.Disk.state d) b) (inner_of r) (S.inside s))) }
+        ensures memory { OnErr result (StaysWith (the_served S.GuardedFileSystem S.File.DavFile) (asking (the_merged
+            self.old.settings config.settings) (head_of req) tt now) config.store self.old.store self.new.store) }
+        ensures admits { IfSome self.new.store S.view.admits }
         ensures settings { self.new.settings ≡ self.old.settings }
         ensures locks { self.new.locks ≡ self.old.locks }
     {

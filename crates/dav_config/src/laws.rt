@@ -4,7 +4,6 @@ ghost use Rattle.http.specs.Response.{head_of};
 ghost use Rattle.dav_io.specs.Counts.{Rose};
 ghost use Rattle.dav_get.specs.Heard.{RefusesFew};
 ghost use Rattle.dav_methods.specs.Answers.{RefusesUsually};
-ghost use Rattle.dav_store.specs.View.{the_listings, the_view};
 ghost use Rattle.dav_config.specs.Handling.{Asking, Handles, RoseIn, Sides, the_served};
 ghost use Rattle.dav_config.specs.Responses.{Responded};
 ghost use Rattle.dav_config.specs.Writing.{asks_to_write};
@@ -36,14 +35,12 @@ impl<S, C> DavInner<S, C> {
 /// request is answered 500 only where the reader of its body or the disk of the store met a fault. Of a request that
 /// writes the store is asked besides that each of its calls fails only by a fault (`RefusesUsually`).
 pub fn failures_are_faults<S: GuardedFileSystem<C>, C>()
-    ensures { RefusesFew (the_view S.GuardedFileSystem S.Disk.Disk S.File.DavFile)
-        (the_listings S.GuardedFileSystem S.Entry.DavDirEntry)
+    ensures { RefusesFew S.view S.listings
         → (asking : Asking C)
         → (asks_to_write asking.head ≡ true
-        → RefusesUsually (the_view S.GuardedFileSystem S.Disk.Disk S.File.DavFile)
-        (the_listings S.GuardedFileSystem S.Entry.DavDirEntry) S.File.writes asking.credentials)
+        → RefusesUsually S.view S.listings S.File.writes asking.credentials)
         → (old new : Sides S) (r : Responded S.File)
-        → Handles (the_served S.GuardedFileSystem S.Disk.Disk S.File.DavFile S.Entry.DavDirEntry) asking old r new
+        → Handles (the_served S.GuardedFileSystem S.File.DavFile) asking old r new
         → (head_of r).status ≡ 500 → Rose old.body.faults new.body.faults
-        ⊎ RoseIn (the_served S.GuardedFileSystem S.Disk.Disk S.File.DavFile S.Entry.DavDirEntry) old.store new.store }
+        ⊎ RoseIn (the_served S.GuardedFileSystem S.File.DavFile) old.store new.store }
 {}

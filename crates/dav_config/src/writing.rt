@@ -3,7 +3,7 @@ ghost use Rattle.std.specs.Prelude.{◌≡◌, IfOk, OnErr, true};
 ghost use Rattle.http.specs.Request.{head_of};
 ghost use Rattle.dav_model.specs.Conditions.{writes as the_writes};
 ghost use Rattle.dav_store.specs.Frames.{KeepsOpen};
-ghost use Rattle.dav_store.specs.View.{the_listings, the_view};
+ghost use Rattle.dav_store.specs.View.{StaysOpen};
 ghost use Rattle.dav_config.specs.Handling.{SetsMoment, the_served};
 ghost use Rattle.dav_config.specs.Writing.{ByMethod, Tells, WritesOver, order};
 
@@ -25,15 +25,12 @@ fn perform<S: GuardedFileSystem<C>, C, B: BodyReader>(
     path: &DavPath,
     body: &mut B,
 ) -> Result<Outcome, DavError>
-    requires admits { S.admits fs.old }
+    requires admits { S.view.admits fs.old }
     requires writes { the_writes method ≡ true }
-    ensures table { ByMethod (the_view S.GuardedFileSystem S.Disk.Disk S.File.DavFile)
-        (the_listings S.GuardedFileSystem S.Entry.DavDirEntry) S.File.writes asked.entry.now.credentials.now method
+    ensures table { ByMethod S.view S.listings S.File.writes asked.entry.now.credentials.now method
         (order asked.entry.now.settings.now.prefix method path.now (head_of asked.entry.now.head.now).headers)
         (B.state body.old) fs.old result fs.new (B.state body.new) }
-    ensures keeps { KeepsOpen (S.Disk.state (S.inside fs.old)) (S.Disk.state (S.inside fs.new)) }
-    ensures admits { S.admits fs.new }
-    ensures loan { S.Disk.loan (S.inside fs.new) ≡ S.Disk.loan (S.inside fs.old) }
+    ensures stays { StaysOpen S.view fs.old fs.new }
     ensures body_loan { B.loan body.new ≡ B.loan body.old }
 {
     let credentials = asked.credentials;
@@ -70,17 +67,15 @@ pub fn write_over<S: GuardedFileSystem<C>, C, B: BodyReader>(
     path: &DavPath,
     body: &mut B,
 ) -> Answered<S::File>
-    requires admits { S.admits fs.old }
+    requires admits { S.view.admits fs.old }
     requires writes { the_writes method ≡ true }
-    ensures done { IfOk result (λ r. WritesOver (the_view S.GuardedFileSystem S.Disk.Disk S.File.DavFile)
-        (the_listings S.GuardedFileSystem S.Entry.DavDirEntry) S.File.writes asked.entry.now.credentials.now
+    ensures done { IfOk result (λ r. WritesOver S.view S.listings S.File.writes asked.entry.now.credentials.now
         (order asked.entry.now.settings.now.prefix method path.now (head_of asked.entry.now.head.now).headers)
         (B.state body.old) (S.with_now fs.old asked.entry.now.now) r fs.new (B.state body.new)) }
-    ensures moment { SetsMoment
-        (the_served S.GuardedFileSystem S.Disk.Disk S.File.DavFile S.Entry.DavDirEntry) fs.old asked.entry.now.now }
-    ensures memory { OnErr result (KeepsOpen (S.Disk.state (S.inside fs.old)) (S.Disk.state (S.inside fs.new))) }
-    ensures admits { S.admits fs.new }
-    ensures loan { S.Disk.loan (S.inside fs.new) ≡ S.Disk.loan (S.inside fs.old) }
+    ensures moment { SetsMoment (the_served S.GuardedFileSystem S.File.DavFile) fs.old asked.entry.now.now }
+    ensures memory { OnErr result (KeepsOpen (S.view.state fs.old) (S.view.state fs.new)) }
+    ensures admits { S.view.admits fs.new }
+    ensures loan { S.view.loan fs.new ≡ S.view.loan fs.old }
     ensures body_loan { B.loan body.new ≡ B.loan body.old }
 {
     fs.set_now(asked.now);

@@ -7,8 +7,6 @@ pub mod BodyPolls
 pub mod BodyRight
 pub mod BodyKept
 pub mod BodyBound
-pub mod Bounds
-pub mod BodyStays
 pub mod FilesLeftOpen
 pub mod BodyEnds
 pub mod Framing
@@ -23,3 +21,5 @@ pub mod Pages
 pub mod PageMembers
 pub mod SoundPages
 pub mod NoRanges
+pub mod Numbers
+pub mod Judging

@@ -1,14 +1,13 @@
 // The page of a directory.
 ghost use Rattle.std.specs.Prelude.{◌≡◌, ◌⊎◌, ℕ, [], IfOk, MatchResult, Ok, OnOk, Err, map, not};
 ghost use Rattle.std.specs.List.{AllByRecursion};
-ghost use Rattle.dav_core.specs.Unchanged.{Keeps};
 ghost use Rattle.dav_model.specs.Due.{page_course, query};
 ghost use Rattle.dav_model.specs.Head.{is_get as the_is_get};
 ghost use Rattle.dav_model.specs.Indexes.{IsIndexReply, page_fields as the_page_fields};
 ghost use Rattle.dav_model.specs.Bodies.{read_size_of};
 ghost use Rattle.dav_page.specs.Listed.{AreSound, HasPlainName};
 ghost use Rattle.dav_store.specs.Leads.{LeadsOn};
-ghost use Rattle.dav_store.specs.View.{the_listings, the_view};
+ghost use Rattle.dav_store.specs.View.{Stays};
 ghost use Rattle.dav_get.specs.declared.part.BodyPart.TheVariants.{Text as TextPart};
 ghost use Rattle.dav_get.specs.Lives.{HasMost, OpenOnlyHeld};
 ghost use Rattle.dav_get.specs.Right.{reply_at};
@@ -38,19 +37,13 @@ fn list<S: GuardedFileSystem<C>, C>(
     credentials: &C,
     asked: &Asked<'_>,
 ) -> Result<Vec<Member>, FsError>
-    requires admits { S.admits fs.old }
-    ensures listed { MatchResult result
-        (λ members. IsListing (the_view S.GuardedFileSystem S.Disk.Disk S.File.DavFile)
-        (the_listings S.GuardedFileSystem S.Entry.DavDirEntry) (the_is_get asked.now.method) credentials.now
-        asked.now.path.now fs.old (Ok members.items) fs.new)
-        (λ e. IsListing (the_view S.GuardedFileSystem S.Disk.Disk S.File.DavFile)
-        (the_listings S.GuardedFileSystem S.Entry.DavDirEntry) (the_is_get asked.now.method) credentials.now
+    requires admits { S.view.admits fs.old }
+    ensures listed { MatchResult result (λ members. IsListing S.view
+        S.listings (the_is_get asked.now.method) credentials.now asked.now.path.now fs.old (Ok members.items) fs.new)
+        (λ e. IsListing S.view S.listings (the_is_get asked.now.method) credentials.now
         asked.now.path.now fs.old (Err e) fs.new ⊎ (e ≡ FsError.NoMemory)) }
-    ensures leads { LeadsOn (the_view S.GuardedFileSystem S.Disk.Disk S.File.DavFile)
-        (the_listings S.GuardedFileSystem S.Entry.DavDirEntry) credentials.now fs.old fs.new }
-    ensures keeps { Keeps (S.Disk.state (S.inside fs.old)) (S.Disk.state (S.inside fs.new)) }
-    ensures loan { S.Disk.loan (S.inside fs.new) ≡ S.Disk.loan (S.inside fs.old) }
-    ensures admits { S.admits fs.new }
+    ensures leads { LeadsOn S.view S.listings credentials.now fs.old fs.new }
+    ensures stays { Stays S.view fs.old fs.new }
 {
     if is_get(asked.method) {
         return read_members(alloc, fs, asked.path, credentials);
@@ -144,16 +137,14 @@ fn list_page<S: GuardedFileSystem<C>, C>(
     credentials: &C,
     asked: &Asked<'_>,
 ) -> Given<S::File>
-    requires admits { S.admits fs.old }
-    ensures table { Lists (the_view S.GuardedFileSystem S.Disk.Disk S.File.DavFile)
-        (the_listings S.GuardedFileSystem S.Entry.DavDirEntry) (asked_of asked.now) credentials.now fs.old result fs.new
+    requires admits { S.view.admits fs.old }
+    ensures table { Lists S.view S.listings (asked_of asked.now) credentials.now fs.old result fs.new
         ⊎ (result ≡ Err DavError.NoMemory) }
-    ensures leads { LeadsOn (the_view S.GuardedFileSystem S.Disk.Disk S.File.DavFile)
-        (the_listings S.GuardedFileSystem S.Entry.DavDirEntry) credentials.now fs.old fs.new }
-    ensures life { OpenOnlyHeld (the_view S.GuardedFileSystem S.Disk.Disk S.File.DavFile) fs.old result fs.new }
+    ensures leads { LeadsOn S.view S.listings credentials.now fs.old fs.new }
+    ensures life { OpenOnlyHeld S.view fs.old result fs.new }
     ensures most { HasMost (read_size_of asked.now.settings.now.read_buf_size) result }
-    ensures loan { S.Disk.loan (S.inside fs.new) ≡ S.Disk.loan (S.inside fs.old) }
-    ensures admits { S.admits fs.new }
+    ensures loan { S.view.loan fs.new ≡ S.view.loan fs.old }
+    ensures admits { S.view.admits fs.new }
 {
     match list(alloc, fs, credentials, asked) {
         Ok(members) => give_page(alloc, asked, members),
@@ -168,16 +159,14 @@ pub(crate) fn get_page<S: GuardedFileSystem<C>, C>(
     credentials: &C,
     asked: &Asked<'_>,
 ) -> Given<S::File>
-    requires admits { S.admits fs.old }
-    ensures table { ByCourse (the_view S.GuardedFileSystem S.Disk.Disk S.File.DavFile)
-        (the_listings S.GuardedFileSystem S.Entry.DavDirEntry) (page_course asked.now.settings.now) (asked_of asked.now)
+    requires admits { S.view.admits fs.old }
+    ensures table { ByCourse S.view S.listings (page_course asked.now.settings.now) (asked_of asked.now)
         credentials.now fs.old result fs.new ⊎ (result ≡ Err DavError.NoMemory) }
-    ensures leads { LeadsOn (the_view S.GuardedFileSystem S.Disk.Disk S.File.DavFile)
-        (the_listings S.GuardedFileSystem S.Entry.DavDirEntry) credentials.now fs.old fs.new }
-    ensures life { OpenOnlyHeld (the_view S.GuardedFileSystem S.Disk.Disk S.File.DavFile) fs.old result fs.new }
+    ensures leads { LeadsOn S.view S.listings credentials.now fs.old fs.new }
+    ensures life { OpenOnlyHeld S.view fs.old result fs.new }
     ensures most { HasMost (read_size_of asked.now.settings.now.read_buf_size) result }
-    ensures loan { S.Disk.loan (S.inside fs.new) ≡ S.Disk.loan (S.inside fs.old) }
-    ensures admits { S.admits fs.new }
+    ensures loan { S.view.loan fs.new ≡ S.view.loan fs.old }
+    ensures admits { S.view.admits fs.new }
 {
     if may_list(asked.settings) {
         return list_page(alloc, fs, credentials, asked);
@@ -210,18 +199,15 @@ pub fn handle_autoindex<S: GuardedFileSystem<C>, C>(
     path: &DavPath,
     head: bool,
 ) -> Given<S::File>
-    requires admits { S.admits fs.old }
-    ensures table { ByCourse (the_view S.GuardedFileSystem S.Disk.Disk S.File.DavFile)
-        (the_listings S.GuardedFileSystem S.Entry.DavDirEntry) (page_course settings.now)
-        (query settings.now [] (the_method_for head) path.now) credentials.now fs.old result fs.new
-        ⊎ (result ≡ Err DavError.NoMemory) }
+    requires admits { S.view.admits fs.old }
+    ensures table { ByCourse S.view S.listings (page_course settings.now) (query settings.now
+        [] (the_method_for head) path.now) credentials.now fs.old result fs.new ⊎ (result ≡ Err DavError.NoMemory) }
     ensures page { (number : ℕ) → OnOk result (IsIndexReply (not head) path.now (AreSound path.now)
         (reply_at [] number result)) }
-    ensures leads { LeadsOn (the_view S.GuardedFileSystem S.Disk.Disk S.File.DavFile)
-        (the_listings S.GuardedFileSystem S.Entry.DavDirEntry) credentials.now fs.old fs.new }
-    ensures life { OpenOnlyHeld (the_view S.GuardedFileSystem S.Disk.Disk S.File.DavFile) fs.old result fs.new }
-    ensures admits { S.admits fs.new }
-    ensures loan { S.Disk.loan (S.inside fs.new) ≡ S.Disk.loan (S.inside fs.old) }
+    ensures leads { LeadsOn S.view S.listings credentials.now fs.old fs.new }
+    ensures life { OpenOnlyHeld S.view fs.old result fs.new }
+    ensures admits { S.view.admits fs.new }
+    ensures loan { S.view.loan fs.new ≡ S.view.loan fs.old }
 {
     let fields = HeaderMap::new(alloc);
     let asked = Asked {

@@ -15,7 +15,7 @@ ghost use Rattle.dav_model.specs.Head.{is_set, is_well_known as the_is_well_know
 ghost use Rattle.dav_model.specs.Bodies.{read_size_of};
 ghost use Rattle.dav_store.specs.Leads.{LeadsOn};
 ghost use Rattle.dav_store.specs.Standing.{Seen, Standing};
-ghost use Rattle.dav_store.specs.View.{the_listings, the_view, Closes};
+ghost use Rattle.dav_store.specs.View.{Closes};
 ghost use Rattle.dav_get.specs.Calls.{AsksByOne, fields_given, status_given};
 ghost use Rattle.dav_get.specs.Heard.{Heard};
 ghost use Rattle.dav_get.specs.Lives.{HeldOrClosed, HasMost, OpenOnlyHeld};
@@ -46,13 +46,12 @@ type Given<F> = Result<(Outcome, GetBody<F>), DavError>;
 
 // Closes the file, and answers this error.
 fn give_up<S: GuardedFileSystem<C>, C>(fs: &mut S, file: S::File, error: DavError) -> Given<S::File>
-    requires { IsSome ((S.Disk.state (S.inside fs.old)).live (S.File.handle file)) }
-    ensures closed { Closes (the_view S.GuardedFileSystem S.Disk.Disk S.File.DavFile) fs.old file fs.new }
+    requires { IsSome ((S.view.state fs.old).live (S.view.handle file)) }
+    ensures closed { Closes S.view fs.old file fs.new }
     ensures error { result ≡ Err error }
-    ensures life { HeldOrClosed (the_view S.GuardedFileSystem S.Disk.Disk S.File.DavFile)
-        (S.File.handle file) fs.old result fs.new }
-    ensures loan { S.Disk.loan (S.inside fs.new) ≡ S.Disk.loan (S.inside fs.old) }
-    ensures store { fs.new ≡ S.with_disk fs.old (S.inside fs.new) }
+    ensures life { HeldOrClosed S.view (S.view.handle file) fs.old result fs.new }
+    ensures loan { S.view.loan fs.new ≡ S.view.loan fs.old }
+    ensures store { S.view.lends fs.old fs.new }
 {
     file_close(fs, file);
     Err(error)
@@ -65,13 +64,12 @@ fn answer_alone<S: GuardedFileSystem<C>, C>(
     file: S::File,
     outcome: Outcome,
 ) -> Given<S::File>
-    requires { IsSome ((S.Disk.state (S.inside fs.old)).live (S.File.handle file)) }
-    ensures closed { Closes (the_view S.GuardedFileSystem S.Disk.Disk S.File.DavFile) fs.old file fs.new }
+    requires { IsSome ((S.view.state fs.old).live (S.view.handle file)) }
+    ensures closed { Closes S.view fs.old file fs.new }
     ensures given { GivesBody (λ answer. (answer.0 ≡ outcome) × IsEmpty answer.1) result }
-    ensures life { HeldOrClosed (the_view S.GuardedFileSystem S.Disk.Disk S.File.DavFile)
-        (S.File.handle file) fs.old result fs.new }
-    ensures loan { S.Disk.loan (S.inside fs.new) ≡ S.Disk.loan (S.inside fs.old) }
-    ensures store { fs.new ≡ S.with_disk fs.old (S.inside fs.new) }
+    ensures life { HeldOrClosed S.view (S.view.handle file) fs.old result fs.new }
+    ensures loan { S.view.loan fs.new ≡ S.view.loan fs.old }
+    ensures store { S.view.lends fs.old fs.new }
 {
     file_close(fs, file);
     Ok((
@@ -87,17 +85,15 @@ fn hold<S: GuardedFileSystem<C>, C>(
     prepared: Prepared,
     size: usize,
 ) -> (Outcome, GetBody<S::File>)
-    requires at { IsAt S.File.handle S.File.seen (S.Disk.state (S.inside fs.old)) held }
+    requires at { IsAt S.view.handle S.view.seen (S.view.state fs.old) held }
     requires some { 0 < size }
     requires ready { AreReady size prepared.parts.items prepared.buffer }
     ensures outcome { result.0 ≡ prepared.outcome }
-    ensures holds { Holds (the_view S.GuardedFileSystem S.Disk.Disk S.File.DavFile) prepared.parts.items held fs.old
-        result.1 fs.new }
-    ensures life { HeldOrClosed (the_view S.GuardedFileSystem S.Disk.Disk S.File.DavFile)
-        (S.File.handle held.file) fs.old (Ok result) fs.new }
+    ensures holds { Holds S.view prepared.parts.items held fs.old result.1 fs.new }
+    ensures life { HeldOrClosed S.view (S.view.handle held.file) fs.old (Ok result) fs.new }
     ensures most { HasMost size (Ok result) }
-    ensures loan { S.Disk.loan (S.inside fs.new) ≡ S.Disk.loan (S.inside fs.old) }
-    ensures store { fs.new ≡ S.with_disk fs.old (S.inside fs.new) }
+    ensures loan { S.view.loan fs.new ≡ S.view.loan fs.old }
+    ensures store { S.view.lends fs.old fs.new }
 {
     let Prepared {
         outcome,
@@ -120,16 +116,14 @@ fn send<S: GuardedFileSystem<C>, C>(
     meta: &S::Meta,
     sent: &Sent,
 ) -> Given<S::File>
-    requires at { IsAt S.File.handle S.File.seen (S.Disk.state (S.inside fs.old)) held }
+    requires at { IsAt S.view.handle S.view.seen (S.view.state fs.old) held }
     requires within { IsSentOf (S.Meta.info meta.now).len sent.now }
-    ensures table { GivesBody (λ answer. Sends (the_view S.GuardedFileSystem S.Disk.Disk S.File.DavFile)
-        (asked_of asked.now) (S.Meta.info meta.now) sent.now held fs.old answer fs.new) result
-        ⊎ (result ≡ Err DavError.NoMemory) }
-    ensures life { HeldOrClosed (the_view S.GuardedFileSystem S.Disk.Disk S.File.DavFile)
-        (S.File.handle held.file) fs.old result fs.new }
+    ensures table { GivesBody (λ answer. Sends S.view (asked_of asked.now)
+        (S.Meta.info meta.now) sent.now held fs.old answer fs.new) result ⊎ (result ≡ Err DavError.NoMemory) }
+    ensures life { HeldOrClosed S.view (S.view.handle held.file) fs.old result fs.new }
     ensures most { HasMost (read_size_of asked.now.settings.now.read_buf_size) result }
-    ensures loan { S.Disk.loan (S.inside fs.new) ≡ S.Disk.loan (S.inside fs.old) }
-    ensures store { fs.new ≡ S.with_disk fs.old (S.inside fs.new) }
+    ensures loan { S.view.loan fs.new ≡ S.view.loan fs.old }
+    ensures store { S.view.lends fs.old fs.new }
 {
     match prepare(alloc, asked.settings, asked.method, asked.path, meta, sent) {
         Ok(prepared) => Ok(hold(fs, held, prepared, asked.settings.read_size())),
@@ -147,17 +141,15 @@ fn send_from<S: GuardedFileSystem<C>, C>(
     meta: &S::Meta,
     sent: &Sent,
 ) -> Given<S::File>
-    requires live { can_read ((S.Disk.state (S.inside fs.old)).live (S.File.handle file)) ≡ true }
-    requires place { (f : Seen) → S.File.seen file (S.Disk.state (S.inside fs.old)) ≡ Some f → f.place ≡ 0 }
+    requires live { can_read ((S.view.state fs.old).live (S.view.handle file)) ≡ true }
+    requires place { (f : Seen) → S.view.seen file (S.view.state fs.old) ≡ Some f → f.place ≡ 0 }
     requires within { IsSentOf (S.Meta.info meta.now).len sent.now }
-    ensures table { GivesBody (λ answer. SendsFrom (the_view S.GuardedFileSystem S.Disk.Disk S.File.DavFile)
-        (asked_of asked.now) (S.Meta.info meta.now) sent.now file fs.old answer fs.new) result
-        ⊎ (result ≡ Err DavError.NoMemory) }
-    ensures life { HeldOrClosed (the_view S.GuardedFileSystem S.Disk.Disk S.File.DavFile)
-        (S.File.handle file) fs.old result fs.new }
+    ensures table { GivesBody (λ answer. SendsFrom S.view (asked_of asked.now)
+        (S.Meta.info meta.now) sent.now file fs.old answer fs.new) result ⊎ (result ≡ Err DavError.NoMemory) }
+    ensures life { HeldOrClosed S.view (S.view.handle file) fs.old result fs.new }
     ensures most { HasMost (read_size_of asked.now.settings.now.read_buf_size) result }
-    ensures loan { S.Disk.loan (S.inside fs.new) ≡ S.Disk.loan (S.inside fs.old) }
-    ensures store { fs.new ≡ S.with_disk fs.old (S.inside fs.new) }
+    ensures loan { S.view.loan fs.new ≡ S.view.loan fs.old }
+    ensures store { S.view.lends fs.old fs.new }
 {
     let Some(start) = first_place(sent) else {
         return send(alloc, fs, OpenAt { file, place: 0 }, asked, meta, sent);
@@ -177,15 +169,13 @@ fn send_unplaced<S: GuardedFileSystem<C>, C>(
     asked: &Asked<'_>,
     meta: &S::Meta,
 ) -> Given<S::File>
-    requires { IsSome ((S.Disk.state (S.inside fs.old)).live (S.File.handle held.file)) }
-    ensures table { GivesBody (λ answer. Sends (the_view S.GuardedFileSystem S.Disk.Disk S.File.DavFile)
-        (asked_of asked.now) (S.Meta.info meta.now) Unsatisfied held fs.old answer fs.new) result
-        ⊎ (result ≡ Err DavError.NoMemory) }
-    ensures life { HeldOrClosed (the_view S.GuardedFileSystem S.Disk.Disk S.File.DavFile)
-        (S.File.handle held.file) fs.old result fs.new }
+    requires { IsSome ((S.view.state fs.old).live (S.view.handle held.file)) }
+    ensures table { GivesBody (λ answer. Sends S.view (asked_of asked.now)
+        (S.Meta.info meta.now) Unsatisfied held fs.old answer fs.new) result ⊎ (result ≡ Err DavError.NoMemory) }
+    ensures life { HeldOrClosed S.view (S.view.handle held.file) fs.old result fs.new }
     ensures most { HasMost (read_size_of asked.now.settings.now.read_buf_size) result }
-    ensures loan { S.Disk.loan (S.inside fs.new) ≡ S.Disk.loan (S.inside fs.old) }
-    ensures store { fs.new ≡ S.with_disk fs.old (S.inside fs.new) }
+    ensures loan { S.view.loan fs.new ≡ S.view.loan fs.old }
+    ensures store { S.view.lends fs.old fs.new }
 {
     match prepare_unsatisfied(alloc, asked.method, asked.path, meta) {
         Ok(outcome) => answer_alone(alloc, fs, held.file, outcome),
@@ -199,9 +189,8 @@ fn file_redirect<S: GuardedFileSystem<C>, C>(
     fs: &mut S,
     file: &mut S::File,
 ) -> Result<Option<Text>, FsError>
-    requires { IsSome ((S.Disk.state (S.inside fs.old)).live (S.File.handle file.old)) }
-    ensures { Redirects (the_view S.GuardedFileSystem S.Disk.Disk S.File.DavFile) fs.old file.old result fs.new
-        file.new }
+    requires { IsSome ((S.view.state fs.old).live (S.view.handle file.old)) }
+    ensures { Redirects S.view fs.old file.old result fs.new file.new }
 {
     file.redirect_url(alloc, fs.disk())
 }
@@ -214,15 +203,14 @@ fn send_file<S: GuardedFileSystem<C>, C>(
     asked: &Asked<'_>,
     meta: &S::Meta,
 ) -> Given<S::File>
-    requires live { can_read ((S.Disk.state (S.inside fs.old)).live (S.File.handle file)) ≡ true }
-    requires place { (f : Seen) → S.File.seen file (S.Disk.state (S.inside fs.old)) ≡ Some f → f.place ≡ 0 }
-    ensures table { SendsFile (the_view S.GuardedFileSystem S.Disk.Disk S.File.DavFile) (asked_of asked.now)
-        (S.Meta.info meta.now) file fs.old result fs.new ⊎ (result ≡ Err DavError.NoMemory) }
-    ensures life { HeldOrClosed (the_view S.GuardedFileSystem S.Disk.Disk S.File.DavFile)
-        (S.File.handle file) fs.old result fs.new }
+    requires live { can_read ((S.view.state fs.old).live (S.view.handle file)) ≡ true }
+    requires place { (f : Seen) → S.view.seen file (S.view.state fs.old) ≡ Some f → f.place ≡ 0 }
+    ensures table { SendsFile S.view (asked_of asked.now) (S.Meta.info meta.now) file fs.old result fs.new
+        ⊎ (result ≡ Err DavError.NoMemory) }
+    ensures life { HeldOrClosed S.view (S.view.handle file) fs.old result fs.new }
     ensures most { HasMost (read_size_of asked.now.settings.now.read_buf_size) result }
-    ensures loan { S.Disk.loan (S.inside fs.new) ≡ S.Disk.loan (S.inside fs.old) }
-    ensures store { fs.new ≡ S.with_disk fs.old (S.inside fs.new) }
+    ensures loan { S.view.loan fs.new ≡ S.view.loan fs.old }
+    ensures store { S.view.lends fs.old fs.new }
 {
     match decide(alloc, asked.method, asked.fields, meta) {
         Ok(sent) => send_from(alloc, fs, file, asked, meta, &sent),
@@ -238,13 +226,12 @@ fn send_away<S: GuardedFileSystem<C>, C>(
     meta: &S::Meta,
     address: &Text,
 ) -> Given<S::File>
-    requires { IsSome ((S.Disk.state (S.inside fs.old)).live (S.File.handle file)) }
-    ensures table { SendsAway (the_view S.GuardedFileSystem S.Disk.Disk S.File.DavFile)
-        (S.Meta.info meta.now) address.now file fs.old result fs.new ⊎ (result ≡ Err DavError.NoMemory) }
-    ensures life { HeldOrClosed (the_view S.GuardedFileSystem S.Disk.Disk S.File.DavFile)
-        (S.File.handle file) fs.old result fs.new }
-    ensures loan { S.Disk.loan (S.inside fs.new) ≡ S.Disk.loan (S.inside fs.old) }
-    ensures store { fs.new ≡ S.with_disk fs.old (S.inside fs.new) }
+    requires { IsSome ((S.view.state fs.old).live (S.view.handle file)) }
+    ensures table { SendsAway S.view (S.Meta.info meta.now) address.now file fs.old result fs.new
+        ⊎ (result ≡ Err DavError.NoMemory) }
+    ensures life { HeldOrClosed S.view (S.view.handle file) fs.old result fs.new }
+    ensures loan { S.view.loan fs.new ≡ S.view.loan fs.old }
+    ensures store { S.view.lends fs.old fs.new }
 {
     match redirected_fields(alloc, address, meta) {
         Ok(fields) => {
@@ -266,16 +253,14 @@ fn give_file<S: GuardedFileSystem<C>, C>(
     asked: &Asked<'_>,
     meta: &S::Meta,
 ) -> Given<S::File>
-    requires live { can_read ((S.Disk.state (S.inside fs.old)).live (S.File.handle file)) ≡ true }
-    requires place { (f : Seen) → S.File.seen file (S.Disk.state (S.inside fs.old)) ≡ Some f → f.place ≡ 0 }
-    ensures table { ByRedirect (the_view S.GuardedFileSystem S.Disk.Disk S.File.DavFile)
-        (is_set asked.now.settings.now.redirect) (asked_of asked.now) (S.Meta.info meta.now) file fs.old result fs.new
-        ⊎ (result ≡ Err DavError.NoMemory) }
-    ensures life { HeldOrClosed (the_view S.GuardedFileSystem S.Disk.Disk S.File.DavFile)
-        (S.File.handle file) fs.old result fs.new }
+    requires live { can_read ((S.view.state fs.old).live (S.view.handle file)) ≡ true }
+    requires place { (f : Seen) → S.view.seen file (S.view.state fs.old) ≡ Some f → f.place ≡ 0 }
+    ensures table { ByRedirect S.view (is_set asked.now.settings.now.redirect)
+        (asked_of asked.now) (S.Meta.info meta.now) file fs.old result fs.new ⊎ (result ≡ Err DavError.NoMemory) }
+    ensures life { HeldOrClosed S.view (S.view.handle file) fs.old result fs.new }
     ensures most { HasMost (read_size_of asked.now.settings.now.read_buf_size) result }
-    ensures loan { S.Disk.loan (S.inside fs.new) ≡ S.Disk.loan (S.inside fs.old) }
-    ensures store { fs.new ≡ S.with_disk fs.old (S.inside fs.new) }
+    ensures loan { S.view.loan fs.new ≡ S.view.loan fs.old }
+    ensures store { S.view.lends fs.old fs.new }
 {
     if !is_on(asked.settings.redirect) {
         return send_file(alloc, fs, file, asked, meta);
@@ -305,17 +290,14 @@ fn get_file<S: GuardedFileSystem<C>, C>(
     file: S::File,
     asked: &Asked<'_>,
 ) -> Given<S::File>
-    requires live { IsSome ((S.Disk.state (S.inside fs.old)).live (S.File.handle file)) }
-    requires reads { (l : Live) → (S.Disk.state (S.inside fs.old)).live (S.File.handle file) ≡ Some l
-        → l.how ≡ reading }
-    requires place { (f : Seen) → S.File.seen file (S.Disk.state (S.inside fs.old)) ≡ Some f → f.place ≡ 0 }
-    ensures table { GetsFile (the_view S.GuardedFileSystem S.Disk.Disk S.File.DavFile)
-        (asked_of asked.now) file fs.old result fs.new ⊎ (result ≡ Err DavError.NoMemory) }
-    ensures life { HeldOrClosed (the_view S.GuardedFileSystem S.Disk.Disk S.File.DavFile)
-        (S.File.handle file) fs.old result fs.new }
+    requires live { IsSome ((S.view.state fs.old).live (S.view.handle file)) }
+    requires reads { (l : Live) → (S.view.state fs.old).live (S.view.handle file) ≡ Some l → l.how ≡ reading }
+    requires place { (f : Seen) → S.view.seen file (S.view.state fs.old) ≡ Some f → f.place ≡ 0 }
+    ensures table { GetsFile S.view (asked_of asked.now) file fs.old result fs.new ⊎ (result ≡ Err DavError.NoMemory) }
+    ensures life { HeldOrClosed S.view (S.view.handle file) fs.old result fs.new }
     ensures most { HasMost (read_size_of asked.now.settings.now.read_buf_size) result }
-    ensures loan { S.Disk.loan (S.inside fs.new) ≡ S.Disk.loan (S.inside fs.old) }
-    ensures store { fs.new ≡ S.with_disk fs.old (S.inside fs.new) }
+    ensures loan { S.view.loan fs.new ≡ S.view.loan fs.old }
+    ensures store { S.view.lends fs.old fs.new }
 {
     let mut file = file;
     match file_metadata(fs, &mut file) {
@@ -336,14 +318,12 @@ fn open_file<S: GuardedFileSystem<C>, C>(
     credentials: &C,
     asked: &Asked<'_>,
 ) -> Given<S::File>
-    ensures table { Opens (the_view S.GuardedFileSystem S.Disk.Disk S.File.DavFile)
-        (asked_of asked.now) credentials.now fs.old result fs.new }
-    ensures leads { LeadsOn (the_view S.GuardedFileSystem S.Disk.Disk S.File.DavFile)
-        (the_listings S.GuardedFileSystem S.Entry.DavDirEntry) credentials.now fs.old fs.new }
-    ensures life { OpenOnlyHeld (the_view S.GuardedFileSystem S.Disk.Disk S.File.DavFile) fs.old result fs.new }
+    ensures table { Opens S.view (asked_of asked.now) credentials.now fs.old result fs.new }
+    ensures leads { LeadsOn S.view S.listings credentials.now fs.old fs.new }
+    ensures life { OpenOnlyHeld S.view fs.old result fs.new }
     ensures most { HasMost (read_size_of asked.now.settings.now.read_buf_size) result }
-    ensures loan { S.Disk.loan (S.inside fs.new) ≡ S.Disk.loan (S.inside fs.old) }
-    ensures admits { S.admits fs.old → S.admits fs.new }
+    ensures loan { S.view.loan fs.new ≡ S.view.loan fs.old }
+    ensures admits { S.view.admits fs.old → S.view.admits fs.new }
 {
     match fs.open(asked.path, OpenOptions::read(), credentials) {
         Ok(file) => get_file(alloc, fs, file, asked),
@@ -359,16 +339,13 @@ fn get_index<S: GuardedFileSystem<C>, C>(
     asked: &Asked<'_>,
     name: &Text,
 ) -> Given<S::File>
-    ensures table { ByCourse (the_view S.GuardedFileSystem S.Disk.Disk S.File.DavFile)
-        (the_listings S.GuardedFileSystem S.Entry.DavDirEntry)
-        (index_course (asked_of asked.now) (Some name.now)) (asked_of asked.now) credentials.now fs.old result fs.new
-        ⊎ (result ≡ Err DavError.NoMemory) }
-    ensures leads { LeadsOn (the_view S.GuardedFileSystem S.Disk.Disk S.File.DavFile)
-        (the_listings S.GuardedFileSystem S.Entry.DavDirEntry) credentials.now fs.old fs.new }
-    ensures life { OpenOnlyHeld (the_view S.GuardedFileSystem S.Disk.Disk S.File.DavFile) fs.old result fs.new }
+    ensures table { ByCourse S.view S.listings (index_course (asked_of asked.now) (Some name.now))
+        (asked_of asked.now) credentials.now fs.old result fs.new ⊎ (result ≡ Err DavError.NoMemory) }
+    ensures leads { LeadsOn S.view S.listings credentials.now fs.old fs.new }
+    ensures life { OpenOnlyHeld S.view fs.old result fs.new }
     ensures most { HasMost (read_size_of asked.now.settings.now.read_buf_size) result }
-    ensures loan { S.Disk.loan (S.inside fs.new) ≡ S.Disk.loan (S.inside fs.old) }
-    ensures admits { S.admits fs.old → S.admits fs.new }
+    ensures loan { S.view.loan fs.new ≡ S.view.loan fs.old }
+    ensures admits { S.view.admits fs.old → S.view.admits fs.new }
 {
     if !is_plain(name.as_slice()) {
         return Err(DavError::Status(StatusCode::NOT_FOUND));
@@ -394,17 +371,14 @@ fn get_dir<S: GuardedFileSystem<C>, C>(
     credentials: &C,
     asked: &Asked<'_>,
 ) -> Given<S::File>
-    requires admits { S.admits fs.old }
-    ensures table { ByCourse (the_view S.GuardedFileSystem S.Disk.Disk S.File.DavFile)
-        (the_listings S.GuardedFileSystem S.Entry.DavDirEntry)
-        (dir_course (asked_of asked.now) asked.now.path.now.slash) (asked_of asked.now) credentials.now fs.old result
-        fs.new ⊎ (result ≡ Err DavError.NoMemory) }
-    ensures leads { LeadsOn (the_view S.GuardedFileSystem S.Disk.Disk S.File.DavFile)
-        (the_listings S.GuardedFileSystem S.Entry.DavDirEntry) credentials.now fs.old fs.new }
-    ensures life { OpenOnlyHeld (the_view S.GuardedFileSystem S.Disk.Disk S.File.DavFile) fs.old result fs.new }
+    requires admits { S.view.admits fs.old }
+    ensures table { ByCourse S.view S.listings (dir_course (asked_of asked.now) asked.now.path.now.slash)
+        (asked_of asked.now) credentials.now fs.old result fs.new ⊎ (result ≡ Err DavError.NoMemory) }
+    ensures leads { LeadsOn S.view S.listings credentials.now fs.old fs.new }
+    ensures life { OpenOnlyHeld S.view fs.old result fs.new }
     ensures most { HasMost (read_size_of asked.now.settings.now.read_buf_size) result }
-    ensures loan { S.Disk.loan (S.inside fs.new) ≡ S.Disk.loan (S.inside fs.old) }
-    ensures admits { S.admits fs.new }
+    ensures loan { S.view.loan fs.new ≡ S.view.loan fs.old }
+    ensures admits { S.view.admits fs.new }
 {
     if asked.path.is_collection() {
         return match &asked.settings.indexfile {
@@ -428,16 +402,14 @@ fn look<S: GuardedFileSystem<C>, C>(
     credentials: &C,
     asked: &Asked<'_>,
 ) -> Given<S::File>
-    requires admits { S.admits fs.old }
-    ensures table { ByWellKnown (the_view S.GuardedFileSystem S.Disk.Disk S.File.DavFile)
-        (the_listings S.GuardedFileSystem S.Entry.DavDirEntry) false
-        (asked_of asked.now) credentials.now fs.old result fs.new ⊎ (result ≡ Err DavError.NoMemory) }
-    ensures leads { LeadsOn (the_view S.GuardedFileSystem S.Disk.Disk S.File.DavFile)
-        (the_listings S.GuardedFileSystem S.Entry.DavDirEntry) credentials.now fs.old fs.new }
-    ensures life { OpenOnlyHeld (the_view S.GuardedFileSystem S.Disk.Disk S.File.DavFile) fs.old result fs.new }
+    requires admits { S.view.admits fs.old }
+    ensures table { ByWellKnown S.view S.listings false (asked_of asked.now) credentials.now fs.old result fs.new
+        ⊎ (result ≡ Err DavError.NoMemory) }
+    ensures leads { LeadsOn S.view S.listings credentials.now fs.old fs.new }
+    ensures life { OpenOnlyHeld S.view fs.old result fs.new }
     ensures most { HasMost (read_size_of asked.now.settings.now.read_buf_size) result }
-    ensures loan { S.Disk.loan (S.inside fs.new) ≡ S.Disk.loan (S.inside fs.old) }
-    ensures admits { S.admits fs.new }
+    ensures loan { S.view.loan fs.new ≡ S.view.loan fs.old }
+    ensures admits { S.view.admits fs.new }
 {
     match fs.metadata(asked.path, credentials) {
         Ok(meta) => {
@@ -491,34 +463,28 @@ pub fn handle_get<S: GuardedFileSystem<C>, C>(
     path: &DavPath,
     fields: &HeaderMap,
 ) -> Given<S::File>
-    requires admits { S.admits fs.old }
-    ensures table { Gets (the_view S.GuardedFileSystem S.Disk.Disk S.File.DavFile)
-        (the_listings S.GuardedFileSystem S.Entry.DavDirEntry)
-        (query settings.now fields.now method path.now) credentials.now fs.old result fs.new
-        ⊎ (result ≡ Err DavError.NoMemory) }
+    requires admits { S.view.admits fs.old }
+    ensures table { Gets S.view S.listings (query settings.now fields.now method path.now)
+        credentials.now fs.old result fs.new ⊎ (result ≡ Err DavError.NoMemory) }
     ensures framed { (number : ℕ) → IsFramed (At method path.now) (reply_at fields.now number result) }
     ensures sound { (number : ℕ) → HasSoundBody (reply_at fields.now number result) }
-    ensures heard { (result ≡ Err DavError.NoMemory) ⊎ Heard (the_view S.GuardedFileSystem S.Disk.Disk S.File.DavFile)
-        (the_listings S.GuardedFileSystem S.Entry.DavDirEntry)
+    ensures heard { (result ≡ Err DavError.NoMemory) ⊎ Heard S.view S.listings
         (query settings.now fields.now method path.now) credentials.now fs.old result fs.new }
     ensures right { (looked opened : WebPath → Result Standing FsError)
         (listed : WebPath → Result (List Member) FsError)
-        → ShowsFor (the_view S.GuardedFileSystem S.Disk.Disk S.File.DavFile)
-        (the_listings S.GuardedFileSystem S.Entry.DavDirEntry) fs.old credentials.now
+        → ShowsFor S.view S.listings fs.old credentials.now
         (query settings.now fields.now method path.now) looked opened listed
-        → (result ≡ Err DavError.NoMemory) ⊎ IsRightFor (the_view S.GuardedFileSystem S.Disk.Disk S.File.DavFile)
+        → (result ≡ Err DavError.NoMemory) ⊎ IsRightFor S.view
         (query settings.now fields.now method path.now) looked opened listed fs.old result fs.new }
-    ensures asks { (holds : S → Bool) → AsksByOne (the_view S.GuardedFileSystem S.Disk.Disk S.File.DavFile)
-        (the_listings S.GuardedFileSystem S.Entry.DavDirEntry) holds → holds fs.old ≡ true
+    ensures asks { (holds : S → Bool) → AsksByOne S.view S.listings holds → holds fs.old ≡ true
         → (result ≡ Err DavError.NoMemory) ⊎ AsksUnlessKnown (the_is_well_known settings.now method path.now)
         (is_set settings.now.redirect) (status_given result) (fields_given fields.now result)
-        (S.Disk.state (S.inside fs.old)).asked (S.Disk.state (S.inside fs.new)).asked }
-    ensures leads { LeadsOn (the_view S.GuardedFileSystem S.Disk.Disk S.File.DavFile)
-        (the_listings S.GuardedFileSystem S.Entry.DavDirEntry) credentials.now fs.old fs.new }
-    ensures life { OpenOnlyHeld (the_view S.GuardedFileSystem S.Disk.Disk S.File.DavFile) fs.old result fs.new }
+        (S.view.state fs.old).asked (S.view.state fs.new).asked }
+    ensures leads { LeadsOn S.view S.listings credentials.now fs.old fs.new }
+    ensures life { OpenOnlyHeld S.view fs.old result fs.new }
     ensures most { HasMost (read_size_of settings.now.read_buf_size) result }
-    ensures loan { S.Disk.loan (S.inside fs.new) ≡ S.Disk.loan (S.inside fs.old) }
-    ensures admits { S.admits fs.new }
+    ensures loan { S.view.loan fs.new ≡ S.view.loan fs.old }
+    ensures admits { S.view.admits fs.new }
 {
     let asked = Asked {
         settings,
@@ -536,16 +502,14 @@ fn get_once<S: GuardedFileSystem<C>, C>(
     credentials: &C,
     asked: &Asked<'_>,
 ) -> Given<S::File>
-    requires admits { S.admits fs.old }
-    ensures table { Gets (the_view S.GuardedFileSystem S.Disk.Disk S.File.DavFile)
-        (the_listings S.GuardedFileSystem S.Entry.DavDirEntry)
-        (asked_of asked.now) credentials.now fs.old result fs.new ⊎ (result ≡ Err DavError.NoMemory) }
-    ensures leads { LeadsOn (the_view S.GuardedFileSystem S.Disk.Disk S.File.DavFile)
-        (the_listings S.GuardedFileSystem S.Entry.DavDirEntry) credentials.now fs.old fs.new }
-    ensures life { OpenOnlyHeld (the_view S.GuardedFileSystem S.Disk.Disk S.File.DavFile) fs.old result fs.new }
+    requires admits { S.view.admits fs.old }
+    ensures table { Gets S.view S.listings (asked_of asked.now) credentials.now fs.old result fs.new
+        ⊎ (result ≡ Err DavError.NoMemory) }
+    ensures leads { LeadsOn S.view S.listings credentials.now fs.old fs.new }
+    ensures life { OpenOnlyHeld S.view fs.old result fs.new }
     ensures most { HasMost (read_size_of asked.now.settings.now.read_buf_size) result }
-    ensures loan { S.Disk.loan (S.inside fs.new) ≡ S.Disk.loan (S.inside fs.old) }
-    ensures admits { S.admits fs.new }
+    ensures loan { S.view.loan fs.new ≡ S.view.loan fs.old }
+    ensures admits { S.view.admits fs.new }
 {
     if !is_well_known(asked) {
         return look(alloc, fs, credentials, asked);

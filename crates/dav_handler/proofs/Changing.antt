@@ -1,5 +1,5 @@
 -- What a method that writes is answered, and makes of the told world: from what its table gave to the clause of its step.
-use Rattle.std.proofs.Common.{◌≡◌, inl, inr, ℕ, List, [], ◌∷◌, Bool, true, false, None, Some, Result, Ok, Err, refl, sym, ap, subst, ◌∙◌, true≢false}
+use Rattle.std.proofs.Common.{◌≡◌, inl, inr, ℕ, List, [], ◌∷◌, Bool, true, false, None, Result, Ok, Err, refl, sym, ap, subst, ◌∙◌, true≢false}
 use Rattle.std.specs.Prelude.{IfOk}
 use Rattle.dav_io.specs.Counts.{Rose}
 use Rattle.dav_io.specs.Told.{Both}
@@ -11,26 +11,23 @@ use Rattle.dav_core.specs.declared.method.DavMethod.TheVariants.{Copy, Delete, M
 use Rattle.dav_core.specs.DavPath.{WebPath}
 use Rattle.dav_core.specs.Disk.{DiskState}
 use Rattle.dav_core.specs.Statuses.{closes, lacks_memory, status_of}
-use Rattle.dav_core.specs.World.{IsWorld, World}
+use Rattle.dav_core.specs.World.{World}
 use Rattle.dav_model.specs.declared.outcome.Outcome.{Outcome}
-use Rattle.dav_model.specs.declared.settings.Settings.{Settings}
 use Rattle.dav_model.specs.declared.target.Target.TheVariants.{Writes}
 use Rattle.dav_model.specs.CarryPlans.{carry_plan}
 use Rattle.dav_model.specs.Conditions.{Fields}
 use Rattle.dav_model.specs.Head.{Reply, refusal}
 use Rattle.dav_model.specs.Plans.{Act, Ask, Plan, does, halts, plan}
-use Rattle.dav_model.specs.Rules.{Rules, plain_rules}
+use Rattle.dav_model.specs.Rules.{Knowledge, Rules}
+use Rattle.dav_model.specs.Valid.{IsRegular}
 use Rattle.dav_model.specs.Bodies.{read_size_of}
-use Rattle.dav_model.specs.Written.{ByActs, EndsAs, IsWriteReply, Makes, MakesAs, PartOf, ask_of}
+use Rattle.dav_model.specs.Written.{ByActs, EndsAs, IsSaidUnder, IsWriteReply, Makes, MakesAs, PartOf, ask_of}
 use Rattle.dav_store.specs.Frames.{KeepsOpen}
 use Rattle.dav_methods.specs.Answers.{IsAnswer, RefusesUsually}
 use Rattle.dav_store.specs.View.{View, Listings}
 use Rattle.dav_local.specs.declared.entry.LocalFsDirEntry.{LocalFsDirEntry}
 use Rattle.dav_local.specs.declared.file.LocalFsFile.{LocalFsFile}
-use Rattle.dav_local.specs.declared.ways.Ways.{Ways}
 use Rattle.dav_local.specs.declared.gathering.LocalFsReadDir.{LocalFsReadDir}
-use Rattle.dav_local.specs.Ways.{rules_with}
-use Rattle.dav_local_laws.specs.Simple.{plain_ways}
 use Rattle.dav_methods.specs.Carrying.{CopiesTo, MovesTo}
 use Rattle.dav_methods.specs.Changing.{Changes}
 use Rattle.dav_methods.specs.Follows.{Follows, answer_or}
@@ -49,20 +46,6 @@ use Rattle.dav_handler.specs.declared.found.Found.{Found}
 use Rattle.dav_handler.specs.By.{By, Over}
 use Rattle.dav_handler.specs.Found.{Answers, Finds, HoldsOnly, IsRefusedBy, Said, Stays, reply_of}
 
--- The rules by which each path is meant as it is written.
-pub record ArePlain (rules : Rules) : Type 0 where
-  pub folds : rules.folds ≡ false
-  pub macos : rules.macos ≡ false
-  pub alone : rules.alone ≡ None
-
--- The ways of such rules are plain.
-pub ways_plain : {settings : Settings} (ways : Ways) → ArePlain (rules_with settings ways) → ways ≡ plain_ways
-ways_plain ways plain = λ i. record { alone = plain.alone i; folds = plain.folds i; macos = plain.macos i }
-
--- such rules are those of a plain store
-are_plain : (rules : Rules) → ArePlain rules → rules ≡ plain_rules rules.settings
-are_plain rules plain = λ i. record { settings = rules.settings; folds = plain.folds i; macos = plain.macos i; alone = plain.alone i }
-
 -- what was done is a part of what is planned
 acts_part : (fields : Fields) (acts : List Act) (done : ℕ) (reply : Reply) (v w : World) → ByActs fields acts done reply v w → PartOf acts v w
 acts_part fields [] done reply v w (is, same) = same
@@ -73,11 +56,11 @@ ends_part : (fields : Fields) (plan : Plan) (reply : Reply) (rose : Type 0) (v w
 ends_part fields plan reply rose v w (inl by) = acts_part fields plan.acts plan.done reply v w by
 ends_part fields plan reply rose v w (inr (is, r, part)) = part
 
--- What a method that writes did between two states of the disk. What it made of the told world is said where the rules are plain.
-pub record Did (rules : Rules) (ask : Ask) (s : DiskState) (r : Given) (t : DiskState) : Type 0 where
+-- What a method that writes did between two states of the disk, and what it made of the told world.
+pub record Did (rules : Rules) (k : Knowledge) (ask : Ask) (s : DiskState) (r : Given) (t : DiskState) : Type 0 where
   pub keeps : KeepsOpen s t
-  pub listed : IsAnswer (Rose s.faults t.faults) r
-  pub right : ArePlain rules → Both s.told t.told (λ v w. (result : Result Reply NoMemory) → answer_or ask.fields r result
+  pub listed : IsAnswer ask.method (Rose s.faults t.faults) r
+  pub right : IsSaidUnder ask.method rules → Both s.told t.told (λ v w. IsRegular rules k v → (result : Result Reply NoMemory) → answer_or ask.fields r result
       → MakesAs ask.method rules ask result (Rose s.faults t.faults) v w)
 
 -- Where it is known what was made for an answer, it is known where memory was refused for that.
@@ -86,16 +69,16 @@ lost_as Copy rules ask reply e rose v w (asked, asks, ends) = inr (asked, asks, 
 lost_as Move rules ask reply e rose v w (asked, asks, ends) = inr (asked, asks, λ clear. ends_part ask.fields (carry_plan rules v ask asked) reply rose v w (ends clear))
 lost_as other rules ask reply e rose v w makes = λ clear. ends_part ask.fields (plan rules v ask) reply rose v w (makes clear)
 
-done_listed : (fields : Fields) (rose : Type 0) (outcome : Outcome) → IsAnswer rose (Ok outcome)
-    → IsWriteReply fields rose (record { status = outcome.status; fields = outcome.fields; parts = [] })
-done_listed fields rose outcome (inl is) = inl (ap (λ (o : Outcome). (let r : Reply = record { status = o.status; fields = o.fields; parts = [] } in r)) is)
-done_listed fields rose outcome (inr is) = inr (inl (ap (λ (o : Outcome). (let r : Reply = record { status = o.status; fields = o.fields; parts = [] } in r)) is))
+done_listed : (method : DavMethod) (fields : Fields) (rose : Type 0) (outcome : Outcome) → IsAnswer method rose (Ok outcome)
+    → IsWriteReply method fields rose (record { status = outcome.status; fields = outcome.fields; parts = [] })
+done_listed method fields rose outcome (inl (is, may)) = inl (ap (λ (o : Outcome). (let r : Reply = record { status = o.status; fields = o.fields; parts = [] } in r)) is, may)
+done_listed method fields rose outcome (inr (is, may)) = inr (inl (ap (λ (o : Outcome). (let r : Reply = record { status = o.status; fields = o.fields; parts = [] } in r)) is, may))
 
-refused_listed : (fields : Fields) (rose : Type 0) (e : DavError) → lacks_memory e ≡ false → IsAnswer rose (Err e)
-    → IsWriteReply fields rose (refusal fields (status_of e) (closes e))
-refused_listed fields rose e has (inl lacks) = absurd (true≢false (sym lacks ∙ has))
-refused_listed fields rose e has (inr (listed, failed)) =
-    inr (inr (record { status = status_of e; close = closes e; is = refl; listed = listed; failed = failed }))
+refused_listed : (method : DavMethod) (fields : Fields) (rose : Type 0) (e : DavError) → lacks_memory e ≡ false → IsAnswer method rose (Err e)
+    → IsWriteReply method fields rose (refusal fields (status_of e) (closes e))
+refused_listed method fields rose e has (inl lacks) = absurd (true≢false (sym lacks ∙ has))
+refused_listed method fields rose e has (inr (listed, failed, close)) =
+    inr (inr (record { status = status_of e; close = closes e; is = refl; listed = listed; failed = failed; closes = close }))
 
 module _ (a b : By) (method : DavMethod) (path : WebPath) (said : Said) (s t : DiskState) (stays : Stays (record { by = a; disk = s }) (record { by = b; disk = t })) where
   abbrev asks : Ask
@@ -108,33 +91,33 @@ module _ (a b : By) (method : DavMethod) (path : WebPath) (said : Said) (s t : D
   after = record { by = b; disk = t }
 
   -- what its plan says of this answer, or of want of memory
-  made_as : (r : Given) (result : Result Reply NoMemory) → Did a.rules asks s r t → answer_or said.fields r result → Makes (Writes method path) a.rules said.fields said.body result s t
-  made_as r result did is = λ folds macos alone. both_map s.told t.told _
-      (MakesAs method a.rules asks result (Rose s.faults t.faults)) (λ v w right. right result is) (did.right (record { folds = folds; macos = macos; alone = alone }))
+  made_as : (r : Given) (result : Result Reply NoMemory) → Did a.rules a.knows asks s r t → answer_or said.fields r result → Makes (Writes method path) a.rules a.knows said.fields said.body result s t
+  made_as r result did is = λ under. both_map s.told t.told _
+      (λ v w. IsRegular a.rules a.knows v → MakesAs method a.rules asks result (Rose s.faults t.faults) v w) (λ v w right regular. right regular result is) (did.right under)
 
   -- it was done or refused, and memory was refused for the answer
-  made_lost : (r : Given) (reply : Reply) (e : NoMemory) → Did a.rules asks s r t → answer_or said.fields r (Ok reply) → Makes (Writes method path) a.rules said.fields said.body (Err e) s t
-  made_lost r reply e did is = λ folds macos alone. both_map s.told t.told _
-      (MakesAs method a.rules asks (Err e) (Rose s.faults t.faults))
-      (λ v w right. lost_as method a.rules asks reply e (Rose s.faults t.faults) v w (right (Ok reply) is)) (did.right (record { folds = folds; macos = macos; alone = alone }))
+  made_lost : (r : Given) (reply : Reply) (e : NoMemory) → Did a.rules a.knows asks s r t → answer_or said.fields r (Ok reply) → Makes (Writes method path) a.rules a.knows said.fields said.body (Err e) s t
+  made_lost r reply e did is = λ under. both_map s.told t.told _
+      (λ v w. IsRegular a.rules a.knows v → MakesAs method a.rules asks (Err e) (Rose s.faults t.faults) v w)
+      (λ v w right regular. lost_as method a.rules asks reply e (Rose s.faults t.faults) v w (right regular (Ok reply) is)) (did.right under)
 
   -- It was done.
-  pub write_done : (outcome : Outcome) (found : Found) → Did a.rules asks s (Ok outcome) t → found.outcome ≡ outcome → found.body ≡ None → Answers before said (Writes method path) found after
+  pub write_done : (outcome : Outcome) (found : Found) → Did a.rules a.knows asks s (Ok outcome) t → found.outcome ≡ outcome → found.body ≡ None → Answers before said (Writes method path) found after
   write_done outcome found did is none =
       let same : reply_of t found ≡ record { status = outcome.status; fields = outcome.fields; parts = [] } = rw (is, none) refl in
       record {
         stays = stays;
         holds = subst (λ b. HoldsOnly (read_size_of a.rules.settings.read_buf_size) s b t) (sym none) did.keeps;
         makes = made_as (Ok outcome) (Ok (reply_of t found)) did same;
-        right = subst (IsWriteReply said.fields (Rose s.faults t.faults)) (sym same) (done_listed said.fields (Rose s.faults t.faults) outcome did.listed);
+        right = subst (IsWriteReply method said.fields (Rose s.faults t.faults)) (sym same) (done_listed method said.fields (Rose s.faults t.faults) outcome did.listed);
         asks = did.keeps.asked;
       }
 
   -- It was refused.
-  pub write_refused : (e : DavError) (result : Result Found NoMemory) → Did a.rules asks s (Err e) t → IfOk result (IsRefusedBy said.fields e) → Finds before said (Writes method path) result after
+  pub write_refused : (e : DavError) (result : Result Found NoMemory) → Did a.rules a.knows asks s (Err e) t → IfOk result (IsRefusedBy said.fields e) → Finds before said (Writes method path) result after
   write_refused e (Err x) did is = record { stays = stays; keeps = did.keeps; makes = λ y. by_memory y (lacks_memory e) refl; asks = tt }
     where
-      by_memory : (y : NoMemory) (b : Bool) → lacks_memory e ≡ b → Makes (Writes method path) a.rules said.fields said.body (Err y) s t
+      by_memory : (y : NoMemory) (b : Bool) → lacks_memory e ≡ b → Makes (Writes method path) a.rules a.knows said.fields said.body (Err y) s t
       by_memory y true lacks = made_as (Err e) (Err y) did lacks
       by_memory y false has = made_lost (Err e) (refusal said.fields (status_of e) (closes e)) y did (has, refl)
   write_refused e (Ok found) did is =
@@ -143,49 +126,52 @@ module _ (a b : By) (method : DavMethod) (path : WebPath) (said : Said) (s t : D
         stays = stays;
         holds = subst (λ b. HoldsOnly (read_size_of a.rules.settings.read_buf_size) s b t) (sym is.refused.body) did.keeps;
         makes = made_as (Err e) (Ok (reply_of t found)) did (is.memory, same);
-        right = subst (IsWriteReply said.fields (Rose s.faults t.faults)) (sym same) (refused_listed said.fields (Rose s.faults t.faults) e is.memory did.listed);
+        right = subst (IsWriteReply method said.fields (Rose s.faults t.faults)) (sym same) (refused_listed method said.fields (Rose s.faults t.faults) e is.memory did.listed);
         asks = did.keeps.asked;
       }
 
 -- ---- over the store
 
 module _ {S C : Type 0} (view : View S C LocalFsFile) (lists : Listings S C LocalFsReadDir LocalFsDirEntry) (writes : FileWrites LocalFsFile) (c : C)
-    (usual : RefusesUsually view lists writes c) (worlds : (s : S) (w : World) → (view.state s).told ≡ Some w → IsWorld w)
-    (prefix : List ℕ) (path : WebPath) (said : Said) (s : S) (r : Given) (t : S) where
+    (usual : RefusesUsually view lists writes c) (prefix : List ℕ) (path : WebPath) (said : Said) (s : S) (r : Given) (t : S) where
   listed : (method : DavMethod) → Changes view lists writes c method prefix path said.fields said.body s r t
-      → IsAnswer (Rose (view.state s).faults (view.state t).faults) r
-  listed Put run = (put_listed view lists writes c usual path said.fields said.body s r t run).answers
-  listed MkCol run = (mkcol_listed view lists writes c usual path said.fields s r t run).answers
-  listed Delete run = (delete_listed view lists writes c usual path said.fields s r t run).answers
-  listed Copy run = (carry_listed view lists writes c usual false prefix path said.fields s r t run).answers
-  listed Move run = (carry_listed view lists writes c usual true prefix path said.fields s r t run).answers
-  listed other run = (mkcalendar_listed view lists writes c usual path s r t run).answers
+      → IsAnswer method (Rose (view.state s).faults (view.state t).faults) r
+  listed Put run = (put_listed Put view lists writes c usual refl refl refl refl path said.fields said.body s r t run).answers
+  listed MkCol run = (mkcol_listed MkCol view lists writes c usual refl refl refl path said.fields s r t run).answers
+  listed Delete run = (delete_listed Delete view lists writes c usual refl refl path said.fields s r t run).answers
+  listed Copy run = (carry_listed Copy view lists writes c usual refl refl refl refl refl false prefix path said.fields s r t run).answers
+  listed Move run = (carry_listed Move view lists writes c usual refl refl refl refl refl true prefix path said.fields s r t run).answers
+  listed other run = (mkcalendar_listed other view lists writes c usual refl refl path s r t run).answers
 
-  right : (settings : Settings) → prefix ≡ settings.prefix → Follows view lists writes c (plain_rules settings) s → (method : DavMethod) → Changes view lists writes c method prefix path said.fields said.body s r t
-      → Both (view.state s).told (view.state t).told (λ v w. (result : Result Reply NoMemory) → answer_or said.fields r result
-      → MakesAs method (plain_rules settings) (ask_of method path said.fields said.body) result (Rose (view.state s).faults (view.state t).faults) v w)
-  right settings own follows Put run = put_follows view lists writes c worlds (plain_rules settings) s follows
-      refl refl refl (ask_of Put path said.fields said.body) refl r t run
-  right settings own follows MkCol run = mkcol_follows view lists writes c worlds (plain_rules settings) s follows
-      refl refl refl (ask_of MkCol path said.fields said.body) refl r t run
-  right settings own follows Delete run = deletes_right view lists writes c (plain_rules settings) path said.fields said.body s follows
-      refl refl refl r t run
-  right settings own follows Copy run = carried_right view lists writes c false (λ asked x moving. copies_right view lists writes c asked x) (plain_rules settings) s follows
-      refl refl refl (ask_of Copy path said.fields said.body) r t (subst (λ z. CopiesTo view lists c z path said.fields s r t) own run)
-  right settings own follows Move run = carried_right view lists writes c true (λ asked x moving. moves_right view lists writes c asked x) (plain_rules settings) s follows
-      refl refl refl (ask_of Move path said.fields said.body) r t (subst (λ z. MovesTo view lists c z path said.fields s r t) own run)
-  right settings own follows other run = mkcalendar_follows view lists writes c worlds (plain_rules settings) s follows
-      refl refl refl (ask_of other path said.fields said.body) (λ v. refl) r t run
+  module _ (rules : Rules) (k : Knowledge) where
+    -- what it made of a world, as its plan says
+    abbrev MadeBy : DavMethod → World → World → Type 0
+    MadeBy method v w = (result : Result Reply NoMemory) → answer_or said.fields r result
+        → MakesAs method rules (ask_of method path said.fields said.body) result (Rose (view.state s).faults (view.state t).faults) v w
 
-  abbrev RightBy : Rules → DavMethod → Type 0
-  RightBy rules method = Both (view.state s).told (view.state t).told (λ v w. (result : Result Reply NoMemory) → answer_or said.fields r result
-      → MakesAs method rules (ask_of method path said.fields said.body) result (Rose (view.state s).faults (view.state t).faults) v w)
+    abbrev RightBy : DavMethod → Type 0
+    RightBy method = Both (view.state s).told (view.state t).told (λ v w. IsRegular rules k v → MadeBy method v w)
 
-  -- What a method that writes did over the store, which follows plain rules where its own are plain.
-  pub did_change : (rules : Rules) → prefix ≡ rules.settings.prefix → (ArePlain rules → Follows view lists writes c (plain_rules rules.settings) s) → (method : DavMethod)
-      → Changes view lists writes c method prefix path said.fields said.body s r t → KeepsOpen (view.state s) (view.state t) → Did rules (ask_of method path said.fields said.body) (view.state s) r (view.state t)
-  did_change rules own follows method run keeps = record {
+    -- what is so of every world
+    of_each : (method : DavMethod) → Both (view.state s).told (view.state t).told (MadeBy method) → RightBy method
+    of_each method made = both_map (view.state s).told (view.state t).told (MadeBy method) (λ v w. IsRegular rules k v → MadeBy method v w) (λ v w by regular. by) made
+
+    right : prefix ≡ rules.settings.prefix → Follows view lists writes c rules k s → (method : DavMethod) → Changes view lists writes c method prefix path said.fields said.body s r t
+        → IsSaidUnder method rules → RightBy method
+    right own follows Put run under = put_follows view lists writes c rules k s follows (ask_of Put path said.fields said.body) refl r t run
+    right own follows MkCol run under = mkcol_follows view lists writes c rules k s follows (ask_of MkCol path said.fields said.body) refl r t run
+    right own follows Delete run under = deletes_right view lists writes c rules path said.fields said.body s k follows under r t run
+    right own follows Copy run under = of_each Copy (carried_right view lists writes c false (λ asked x moving. copies_right view lists writes c asked x) rules k s follows
+        under.folds under.macos under.alone (ask_of Copy path said.fields said.body) r t (subst (λ z. CopiesTo view lists c z path said.fields s r t) own run))
+    right own follows Move run under = of_each Move (carried_right view lists writes c true (λ asked x moving. moves_right view lists writes c asked x) rules k s follows
+        under.folds under.macos under.alone (ask_of Move path said.fields said.body) r t (subst (λ z. MovesTo view lists c z path said.fields s r t) own run))
+    right own follows other run under = mkcalendar_follows view lists writes c rules k s follows (ask_of other path said.fields said.body) (λ v. refl) r t run
+
+  -- What a method that writes did over the store, which follows its rules.
+  pub did_change : (rules : Rules) (k : Knowledge) → prefix ≡ rules.settings.prefix → Follows view lists writes c rules k s → (method : DavMethod)
+      → Changes view lists writes c method prefix path said.fields said.body s r t → KeepsOpen (view.state s) (view.state t) → Did rules k (ask_of method path said.fields said.body) (view.state s) r (view.state t)
+  did_change rules k own follows method run keeps = record {
     keeps = keeps;
     listed = listed method run;
-    right = λ plain. subst (λ x. RightBy x method) (sym (are_plain rules plain)) (right rules.settings own (follows plain) method run);
+    right = λ under. right rules k own follows method run under;
   }

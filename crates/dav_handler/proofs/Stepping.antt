@@ -251,7 +251,7 @@ undone_steps o p t request now found replies at new b c e playing answers is sam
     (refused o (record p { disk = t }) request now replies at e (record {
       stays = record { rules = answers.stays.rules; learns = answers.stays.learns };
       keeps = open_kept o.disk t keeps;
-      makes = λ x. makes_kept (target_of o.by.rules request) o.by.rules (fields_of request) (body_of request) x o.disk t keeps.world;
+      makes = λ x. makes_kept (target_of o.by.rules request) o.by.rules o.by.knows (fields_of request) (body_of request) x o.disk t keeps.world;
       asks = undone_asks o.by (target_of o.by.rules request) found.outcome.status found.outcome.fields o.disk p.disk t c answers.asks closes;
     }) playing)
 

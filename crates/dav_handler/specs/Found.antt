@@ -48,7 +48,7 @@ pub record Answers (o : Over) (said : Said) (target : Target) (found : Found) (p
   pub stays : Stays o p
   pub holds : HoldsOnly (read_size_of o.by.rules.settings.read_buf_size) o.disk found.body p.disk
   -- what it makes of the told world
-  pub makes : Makes target o.by.rules said.fields said.body (Ok (reply_of p.disk found)) o.disk p.disk
+  pub makes : Makes target o.by.rules o.by.knows said.fields said.body (Ok (reply_of p.disk found)) o.disk p.disk
   pub right : Replies target o.by.rules o.by.knows o.disk p.disk said.fields (reply_of p.disk found)
   pub asks : AsksToReply target o.by.rules found.outcome.status found.outcome.fields o.disk.asked p.disk.asked
 
@@ -56,7 +56,7 @@ pub record Answers (o : Over) (said : Said) (target : Target) (found : Found) (p
 pub record Starves (o : Over) (said : Said) (target : Target) (p : Over) : Type 0 where
   pub stays : Stays o p
   pub keeps : KeepsOpen o.disk p.disk
-  pub makes : (e : NoMemory) → Makes target o.by.rules said.fields said.body (Err e) o.disk p.disk
+  pub makes : (e : NoMemory) → Makes target o.by.rules o.by.knows said.fields said.body (Err e) o.disk p.disk
   pub asks : AsksAtGate target o.disk.asked p.disk.asked
 
 abbrev pub Finds : Over → Said → Target → Result Found NoMemory → Over → Type 0

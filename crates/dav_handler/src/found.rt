@@ -8,7 +8,6 @@ ghost use Rattle.dav_model.specs.declared.target.Target.TheVariants.{At, Writes}
 ghost use Rattle.dav_local.specs.Files.{seen_by};
 ghost use Rattle.dav_local.specs.Ways.{rules_with};
 ghost use Rattle.dav_store.specs.Frames.{KeepsOpen};
-ghost use Rattle.dav_store.specs.View.{the_listings, the_view};
 ghost use Rattle.dav_methods.specs.Changing.{Changes};
 ghost use Rattle.dav_handler.specs.By.{over_of};
 ghost use Rattle.dav_handler.specs.Found.{Finds, Gives, IsAlone, IsRefusedBy, said_in};
@@ -20,14 +19,14 @@ use dav_config::{refused, refused_by};
 use dav_core::{DavError, DavMethod, DavMethodSet, DavPath, Disk};
 use dav_get::{GetBody, handle_get};
 use dav_io::{NoMemory, Octets};
-use dav_local::{LocalFs, LocalFsDirEntry, LocalFsFile};
+use dav_local::{LocalFs, LocalFsFile};
 use dav_local_laws::{
     calls_teach_nothing, local_stores_ask_once, local_stores_follow_rules, local_stores_refuse_few,
     reads_are_right, reads_learn_what_stands,
 };
 use dav_methods::{copy, delete, mkcalendar, mkcol, move_to, options, put_whole, writes_lead_on};
 use dav_model::{Outcome, Settings, Target};
-use dav_store::{DavDirEntry, DavFile, DavFileSystem, GuardedFileSystem};
+use dav_store::{DavFile, DavFileSystem};
 use http::{HeaderMap, Request};
 use std::alloc::Global;
 
@@ -140,8 +139,7 @@ fn change<D: Disk, R: RememberAny>(
     body: &[u8],
     prefix: &str,
 ) -> Result<Outcome, DavError>
-    ensures table { Changes (the_view ⟦<LocalFs<D, R> as GuardedFileSystem<()>>⟧ D.Disk ⟦<LocalFsFile as DavFile<D>>⟧)
-        (the_listings ⟦<LocalFs<D, R> as GuardedFileSystem<()>>⟧ ⟦<LocalFsDirEntry as DavDirEntry<D>>⟧)
+    ensures table { Changes ⟦<LocalFs<D, R> as DavFileSystem>⟧.view ⟦<LocalFs<D, R> as DavFileSystem>⟧.listings
         ⟦<LocalFsFile as DavFile<D>>⟧.writes tt method prefix.now path.now fields.now body.now store.old result
         store.new }
     ensures keeps { KeepsOpen (D.state store.old.disk) (D.state store.new.disk) }

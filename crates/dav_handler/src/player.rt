@@ -52,8 +52,9 @@ impl<D: Disk, R: RememberAny> Player<D, R> {
         }
     }
 
-    // A player over a store, by these settings.
-    fn over(alloc: Global, settings: Settings, store: LocalFs<D, R>) -> Self
+    /// A player over a store, by these settings. It gave no reply yet.
+    pub fn over(alloc: Global, settings: Settings, store: LocalFs<D, R>) -> Self
+        ensures store { result.store ≡ store }
         ensures loan { D.loan result.store.disk ≡ D.loan store.disk }
         ensures stage { stage_of result ≡ record {
           at = D.state store.disk;

@@ -111,7 +111,7 @@ ok_same : (a b : Bool) → ◌≡◌ {A = Result Bool Starved} (Ok a) (Ok b) →
 ok_same a b e = cc
 
 -- a path that isn't called absent isn't `.localized`
-present : (p q : Place) (at : Names) → TellsAbsent p at (Ok false) q → (p.ways.macos && is_localized at) ≡ false
+pub present : (p q : Place) (at : Names) → TellsAbsent p at (Ok false) q → (p.ways.macos && is_localized at) ≡ false
 present p q at tells = elim (true_or_false (asks_memory p.ways at)) [
   | inl asks ↦ and_false p.ways.macos (is_localized at) (not_localized at (and_parts p.ways.macos (is_dot (or_empty (last_name at))) asks).1)
   | inr none ↦ sym (ok_same false (p.ways.macos && is_localized at) (tells.plain none).1)
@@ -160,7 +160,7 @@ denied_by memory s t v at told clear dot (meta, time, metas, dir, modified, may)
     }
 
 -- A path that is called absent is `.localized`, or the memory may deny it.
-absent_why : (p q : Place) (at : Names) (v : World) → p.disk.told ≡ Some v → is_linked v.tree at ≡ false → TellsAbsent p at (Ok true) q
+pub absent_why : (p q : Place) (at : Names) (v : World) → p.disk.told ≡ Some v → is_linked v.tree at ≡ false → TellsAbsent p at (Ok true) q
     → ((p.ways.macos && is_localized at) ≡ true) ⊎ ((p.ways.macos ≡ true) × Denies (knowledge_of p.memory) v.tree at)
 absent_why p q at v told clear tells = elim (true_or_false (asks_memory p.ways at)) [
   | inl asks ↦
@@ -174,7 +174,7 @@ swapped_back m dir time name (inl open_at) = inr open_at
 swapped_back m dir time name (inr known) = inl known
 
 -- What is denied by a memory that learned nothing might be denied before.
-denies_before : (a b : MemoryState) (tree : List Row) (at : Names) → LearnsNothing a b → Denies (knowledge_of b) tree at → Denies (knowledge_of a) tree at
+pub denies_before : (a b : MemoryState) (tree : List Row) (at : Names) → LearnsNothing a b → Denies (knowledge_of b) tree at → Denies (knowledge_of a) tree at
 denies_before a b tree at learns denies = record {
   dir = denies.dir;
   name = denies.name;

@@ -17,7 +17,6 @@ ghost use Rattle.dav_core.specs.Members.{members};
 ghost use Rattle.dav_store.specs.declared.entry.ReadDirMeta.TheVariants.{Data};
 ghost use Rattle.dav_store.specs.Members.{Answered, AreOf, Walked};
 ghost use Rattle.dav_store.specs.Standing.{Seen};
-ghost use Rattle.dav_store.specs.View.{the_listings, the_view};
 ghost use Rattle.dav_local.specs.declared.entry.LocalFsDirEntry.{LocalFsDirEntry};
 ghost use Rattle.dav_local.specs.declared.file.LocalFsFile.{LocalFsFile};
 ghost use Rattle.dav_local.specs.declared.fs.LocalFs.{LocalFs};
@@ -27,17 +26,17 @@ ghost use Rattle.dav_store.specs.declared.entry.ReadDirMeta.{ReadDirMeta};
 ghost use Rattle.dav_local.specs.Standing.{HasNoLinks, seen_at};
 ghost use Rattle.dav_local.specs.Ways.{Ways, rules_with};
 
-use crate::{LocalFs, LocalFsDirEntry, LocalFsFile};
+use crate::{LocalFs, LocalFsFile};
 use dav_cache::RememberAny;
 use dav_core::{DavPath, Disk};
-use dav_store::{DavDirEntry, DavFile, DavFileSystem, GuardedFileSystem};
+use dav_store::DavFileSystem;
 
 /// Over a told disk each look is answered by the rules for a place where a loose walk of the path ends, whatever the
 /// memory knows and however many names fold alike.
 pub fn looks_are_by_the_rules<D: Disk, R: RememberAny>(_fs: &LocalFs<D, R>, _path: &DavPath)
     ensures { (w : World) (result : Result Info FsError) (t : LocalFs D R)
         → (D.state _fs.now.disk).told ≡ Some w
-        → ⟦<LocalFs<D, R> as DavFileSystem>⟧.looks _fs.now _path.now result t
+        → ⟦<LocalFs<D, R> as DavFileSystem>⟧.view.looks _fs.now tt _path.now result t
         → LooksByRules _fs.now.ways (knowledge_of (R.state _fs.now.memory)) w _path.now (D.state _fs.now.disk) result
         (D.state t.disk) }
 {}
@@ -46,7 +45,7 @@ pub fn looks_are_by_the_rules<D: Disk, R: RememberAny>(_fs: &LocalFs<D, R>, _pat
 pub fn openings_are_by_the_rules<D: Disk, R: RememberAny>(_fs: &LocalFs<D, R>, _path: &DavPath)
     ensures { (w : World) (result : Result LocalFsFile FsError) (t : LocalFs D R)
         → (D.state _fs.now.disk).told ≡ Some w
-        → ⟦<LocalFs<D, R> as DavFileSystem>⟧.opens _fs.now _path.now reading result t
+        → ⟦<LocalFs<D, R> as DavFileSystem>⟧.view.opens _fs.now tt _path.now reading result t
         → OpensByRules _fs.now.ways w _path.now (D.state _fs.now.disk) result (D.state t.disk) }
 {}
 
@@ -54,7 +53,7 @@ pub fn openings_are_by_the_rules<D: Disk, R: RememberAny>(_fs: &LocalFs<D, R>, _
 pub fn listings_are_by_the_rules<D: Disk, R: RememberAny>(_fs: &LocalFs<D, R>, _path: &DavPath)
     ensures { (w : World) (wanted : ReadDirMeta) (result : Result LocalFsReadDir FsError) (t : LocalFs D R)
         → (D.state _fs.now.disk).told ≡ Some w
-        → ⟦<LocalFs<D, R> as DavFileSystem>⟧.lists _fs.now _path.now wanted result t
+        → ⟦<LocalFs<D, R> as DavFileSystem>⟧.listings.lists _fs.now tt _path.now wanted result t
         → ListsByRules _fs.now.ways w _path.now (D.state _fs.now.disk) result (D.state t.disk) }
 {}
 
@@ -64,16 +63,16 @@ pub fn listings_are_by_the_rules<D: Disk, R: RememberAny>(_fs: &LocalFs<D, R>, _
 pub fn walks_tell_the_members<D: Disk, R: RememberAny>(_fs: &LocalFs<D, R>, _path: &DavPath)
     ensures each { (w : World) (n o : LocalFs D R) (l k : LocalFsReadDir) (answers : List Answered)
         → (D.state _fs.now.disk).told ≡ Some w
-        → ⟦<LocalFs<D, R> as DavFileSystem>⟧.lists _fs.now _path.now Data (Ok l) n → HasNoLinks w l.reading.path
-        → Walked (the_view ⟦<LocalFs<D, R> as GuardedFileSystem<()>>⟧ D.Disk ⟦<LocalFsFile as DavFile<D>>⟧)
-        (the_listings ⟦<LocalFs<D, R> as GuardedFileSystem<()>>⟧ ⟦<LocalFsDirEntry as DavDirEntry<D>>⟧) n l answers o k
+        → ⟦<LocalFs<D, R> as DavFileSystem>⟧.listings.lists _fs.now tt _path.now Data (Ok l) n
+        → HasNoLinks w l.reading.path
+        → Walked ⟦<LocalFs<D, R> as DavFileSystem>⟧.view ⟦<LocalFs<D, R> as DavFileSystem>⟧.listings n l answers o k
         → AreOf (members w l.reading.path) (D.state _fs.now.disk).faults (D.state o.disk).faults answers }
     ensures ends { (w : World) (n o t : LocalFs D R) (l k j : LocalFsReadDir) (answers : List Answered)
         (last : Result (Option LocalFsDirEntry) FsError) → (D.state _fs.now.disk).told ≡ Some w
-        → ⟦<LocalFs<D, R> as DavFileSystem>⟧.lists _fs.now _path.now Data (Ok l) n → HasNoLinks w l.reading.path
-        → Walked (the_view ⟦<LocalFs<D, R> as GuardedFileSystem<()>>⟧ D.Disk ⟦<LocalFsFile as DavFile<D>>⟧)
-        (the_listings ⟦<LocalFs<D, R> as GuardedFileSystem<()>>⟧ ⟦<LocalFsDirEntry as DavDirEntry<D>>⟧) n l answers o k
-        → ⟦<LocalFs<D, R> as DavFileSystem>⟧.lists_on o k last t j
+        → ⟦<LocalFs<D, R> as DavFileSystem>⟧.listings.lists _fs.now tt _path.now Data (Ok l) n
+        → HasNoLinks w l.reading.path
+        → Walked ⟦<LocalFs<D, R> as DavFileSystem>⟧.view ⟦<LocalFs<D, R> as DavFileSystem>⟧.listings n l answers o k
+        → ⟦<LocalFs<D, R> as DavFileSystem>⟧.listings.lists_on o k last t j
         → EndsBy (D.state _fs.now.disk).faults (members w l.reading.path) answers last (D.state t.disk).faults }
 {}
 

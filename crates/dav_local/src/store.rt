@@ -2,6 +2,8 @@ ghost use Rattle.std.specs.Prelude.{◌≡◌, Option, Some, refl};
 ghost use Rattle.dav_local.specs.Calls.{AsksToCopy, AsksToMake, AsksToMove, AsksToTakeDir, AsksToTakeFile};
 ghost use Rattle.dav_local.specs.Calls.{BeginsAt, Finds, IsOpening, Looks};
 ghost use Rattle.dav_local.specs.Gathering.{GivesNext, dir_to_come};
+ghost use Rattle.dav_local.specs.Entries.{Says};
+ghost use Rattle.dav_local.specs.Files.{seen_by};
 ghost use Rattle.dav_local.specs.Places.{Stays, place_of};
 
 use crate::acts::{copy_at, make_at, move_at, open_at, take_dir_at, take_file_at};
@@ -34,46 +36,46 @@ impl<D: Disk, R: RememberAny> DavFileSystem for LocalFs<D, R> {
 
     ghost with_now = { λ s now. record s { moment = now } };
 
-    ghost folding = { λ s. s.ways.folds };
-
     ghost void = { λ _. false };
 
-    ghost looks = { λ s path result t. Looks true (place_of D.state R.state s) path result
-        (place_of D.state R.state t) × Stays s t };
+    ghost view = { record {
+      state = λ s. D.state s.disk;
+      loan = λ s. D.loan s.disk;
+      admits = λ _. Unit {0};
+      lends = λ s t. t ≡ record s { disk = t.disk };
+      looks = λ s _ path result t. Looks true (place_of D.state R.state s) path result
+          (place_of D.state R.state t) × Stays s t;
+      looks_at_link = λ s _ path result t. Looks false (place_of D.state R.state s) path result
+          (place_of D.state R.state t) × Stays s t;
+      opens = λ s _ path how result t. IsOpening (place_of D.state R.state s) path how result
+          (place_of D.state R.state t) × Stays s t;
+      makes_dir = λ s _ path result t. AsksToMake (place_of D.state R.state s) path result
+          (place_of D.state R.state t) × Stays s t;
+      removes_dir = λ s _ path result t. AsksToTakeDir (place_of D.state R.state s) path result
+          (place_of D.state R.state t) × Stays s t;
+      removes_file = λ s _ path result t. AsksToTakeFile (place_of D.state R.state s) path result
+          (place_of D.state R.state t) × Stays s t;
+      renames = λ s _ from to result t. AsksToMove (place_of D.state R.state s) from to result
+          (place_of D.state R.state t) × Stays s t;
+      copies = λ s _ from to result t. AsksToCopy (place_of D.state R.state s) from to result
+          (place_of D.state R.state t) × Stays s t;
+      folding = λ s. s.ways.folds;
+      handle = λ f. f.handle.0;
+      seen = seen_by;
+    } };
 
-    ghost looks_at_link = { λ s path result t. Looks false (place_of D.state R.state s) path result
-        (place_of D.state R.state t) × Stays s t };
-
-    ghost opens = { λ s path how result t. IsOpening (place_of D.state R.state s) path how result
-        (place_of D.state R.state t) × Stays s t };
-
-    ghost lister = { λ d. Some d.reading.lister.0 };
-
-    ghost to_come = { dir_to_come };
-
-    ghost lists = { λ s path wanted result t. Finds (place_of D.state R.state s) path.names (BeginsAt wanted) result
-        (place_of D.state R.state t) × Stays s t };
-
-    ghost lists_on = { λ s d result t e. GivesNext s.moment (place_of D.state R.state s) d result
-        (place_of D.state R.state t) e × Stays s t };
-
-    ghost ends_list = { λ s d t. EndsListing (D.state s.disk) d.reading.lister.0 (D.state t.disk)
-        × (t ≡ record s { disk = t.disk }) };
-
-    ghost makes_dir = { λ s path result t. AsksToMake (place_of D.state R.state s) path result
-        (place_of D.state R.state t) × Stays s t };
-
-    ghost removes_dir = { λ s path result t. AsksToTakeDir (place_of D.state R.state s) path result
-        (place_of D.state R.state t) × Stays s t };
-
-    ghost removes_file = { λ s path result t. AsksToTakeFile (place_of D.state R.state s) path result
-        (place_of D.state R.state t) × Stays s t };
-
-    ghost renames = { λ s from to result t. AsksToMove (place_of D.state R.state s) from to result
-        (place_of D.state R.state t) × Stays s t };
-
-    ghost copies = { λ s from to result t. AsksToCopy (place_of D.state R.state s) from to result
-        (place_of D.state R.state t) × Stays s t };
+    ghost listings = { record {
+      lister = λ d. Some d.reading.lister.0;
+      to_come = dir_to_come;
+      lists = λ s _ path wanted result t. Finds (place_of D.state R.state s) path.names (BeginsAt wanted) result
+          (place_of D.state R.state t) × Stays s t;
+      lists_on = λ s d result t e. GivesNext s.moment (place_of D.state R.state s) d result
+          (place_of D.state R.state t) e × Stays s t;
+      ends_list = λ s d t. EndsListing (D.state s.disk) d.reading.lister.0 (D.state t.disk)
+          × (t ≡ record s { disk = t.disk });
+      called = λ e. e.name;
+      says = λ e s result t. Says e.meta s result t;
+    } };
 
     fn disk(&mut self) -> &mut D {
         &mut self.disk
@@ -173,7 +175,18 @@ impl<D: Disk, R: RememberAny> DavFileSystem for LocalFs<D, R> {
 
     ghost puts_back = { λ s. refl };
 
-    ghost admits_lent = { λ s d keeps admits. admits };
+    ghost admits_lent = { λ s t lent keeps admits. admits };
 
-    ghost admits_written = { λ s d keeps admits. admits };
+    ghost admits_written = { λ s t lent keeps admits. admits };
+
+    ghost fits = { record {
+      state = λ s. refl;
+      loan = λ s. refl;
+      lends = λ s d. refl;
+      lent = λ s t lends. lends;
+      handle = λ f. refl;
+      seen = λ f s. refl;
+      called = λ e. refl;
+      says = λ e s r t said. said;
+    } };
 }

@@ -5,6 +5,7 @@ pub mod LocalUsual
 pub mod LocalReads
 pub mod LocalAsks
 pub mod PlainLooks
+pub mod CallsBefore
 pub mod CallsDone
 pub mod Refilled
 pub mod FileWrites
@@ -14,6 +15,8 @@ pub mod NamedMembers
 pub mod TreeLooks
 pub mod ListingWorlds
 pub mod PlainWays
+pub mod LocalLooks
+pub mod LocalCalls
 pub mod LocalMoves
 pub mod LocalFollows
 pub mod LocalLeads

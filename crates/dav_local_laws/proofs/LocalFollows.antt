@@ -1,6 +1,5 @@
--- A local store follows the rules by which each path is meant as it is written, where its names don't fold and the rules for macOS
--- don't hold.
-use Rattle.std.proofs.Common.{◌≡◌, ◌⊎◌, ◌++◌, inl, inr, ℕ, true, false, List, [], ◌∷◌, map, length, Option, None, Some, Result, Ok, Err, IsOk, refl, sym, ap, subst, ◌∙◌, arith, append-nil, length-append}
+-- A local store follows the rules of its ways.
+use Rattle.std.proofs.Common.{◌≡◌, ◌⊎◌, ◌||◌, ◌++◌, inl, inr, ℕ, true, false, List, [], ◌∷◌, map, length, Option, None, Some, Result, Ok, Err, IsOk, refl, sym, ap, subst, ◌∙◌, arith, append-nil, length-append}
 use Rattle.std.proofs.lemmas.List.Elements.{All-from_recursion, recursion_from_All}
 use Rattle.std.proofs.lemmas.List.Sorted.{All-permutation, IsPermutation-map, IsPermutation-sym, IsPermutation-trans, length_permutation}
 use Rattle.std.proofs.lemmas.Slice.Zip.{AllZip-long}
@@ -8,47 +7,49 @@ use Rattle.std.specs.List.{AllByRecursion, AllZip, filter}
 use Rattle.std.specs.List.Sorted.{IsPermutation}
 use Rattle.dav_io.specs.Counts.{Rose}
 use Rattle.dav_io.specs.Told.{Both}
-use Rattle.dav_io.proofs.ToldLemmas.{both_map, both_same, both_then, told_after}
+use Rattle.dav_io.proofs.ToldLemmas.{both_map}
 use Rattle.dav_core.specs.declared.error.FsError.{FsError}
 use Rattle.dav_core.specs.declared.handle.DiskError.{DiskError}
 use Rattle.dav_core.specs.declared.handle.DiskError.TheVariants.{NotFound, Exists, NotDir, IsDir, NotEmpty, Failed, NoMemory}
-use Rattle.dav_core.specs.declared.handle.Lister.{Lister}
 use Rattle.dav_core.specs.declared.member.Member.{Member}
 use Rattle.dav_core.specs.declared.tree.Kind.TheVariants.{Dir}
 use Rattle.dav_core.specs.declared.tree.Row.{Row}
 use Rattle.dav_core.specs.DavPath.{WebPath}
 use Rattle.dav_core.specs.Disk.{DiskState}
-use Rattle.dav_core.specs.Errors.{fs_error_of}
+use Rattle.dav_core.specs.Allowed.{copying, moving, taking_dir, taking_file}
 use Rattle.dav_core.specs.Info.{Info}
 use Rattle.dav_core.specs.Listing.{EndedIn, ListedIn, ListsOn, NextIn, listable, name_of, stands_in}
 use Rattle.dav_core.specs.Members.{member_of, members}
 use Rattle.dav_core.specs.Path.{Names}
-use Rattle.dav_core.specs.Tree.{has_dir, is_dir, look}
+use Rattle.dav_core.specs.Tree.{has_dir, is_dir, is_linked, look, row_at}
 use Rattle.dav_core.specs.World.{SameBesidesOpens, World, put}
 use Rattle.dav_core.specs.Writing.{appends}
-use Rattle.dav_core.proofs.UnchangedLemmas.{same_besides, same_besides_then}
 use Rattle.dav_store.specs.declared.entry.ReadDirMeta.TheVariants.{DataSymlink}
 use Rattle.dav_store.specs.Files.{Spoiled}
-use Rattle.dav_store.specs.Members.{Answered, AreOf, IsAnswerOf, SaysOrRose, Walked, begun, goes as walks}
+use Rattle.dav_store.specs.Members.{Answered, AreOf, BeginsThere, IsAnswerOf, SaysOrRose, Walked, begun, goes as walks}
 use Rattle.dav_store.specs.View.{Listings, View}
 use Rattle.dav_model.specs.declared.settings.Settings.{Settings}
-use Rattle.dav_model.specs.Finding.{is_clear}
-use Rattle.dav_model.specs.Rules.{plain_rules}
+use Rattle.dav_model.specs.Finding.{EndsLoosely, has_slash, is_clear, is_forbidden, listed_in, members_or, resolved}
+use Rattle.dav_model.specs.Plans.{making}
+use Rattle.dav_model.specs.Rules.{Rules}
+use Rattle.dav_model.specs.Valid.{TellsApart}
 use Rattle.dav_model.specs.Walks.{dir_first, in_order}
-use Rattle.dav_model.proofs.PlainWalks.{plain_resolved}
+use Rattle.dav_model.proofs.LooseWalks.{found_exactly}
 use Rattle.dav_methods.specs.declared.child.Child.{Child}
-use Rattle.dav_methods.specs.Follows.{FailsToList, Follows, ListsBy, Reached, Told, child_of, children_in}
+use Rattle.dav_methods.specs.Follows.{Calls, FailsToList, Follows, IfBothFound, IfFound, ListsBy, LooksBy, OpensBy, Reached, Told, UnlessShut, child_of, children_in}
 use Rattle.dav_methods.specs.Pouring.{Writes, WritesFile}
 use Rattle.dav_methods.specs.Reading.{AllSaid, HasMembers, HasNoMembers, MembersUnread, ReadRefused, child_named, child_said, children_said}
-use Rattle.dav_cache.specs.Memory.{MemoryState}
+use Rattle.dav_cache.specs.Memory.{LearnsNothing, MemoryState}
 use Rattle.dav_local.specs.declared.entry.LocalFsDirEntry.{LocalFsDirEntry}
 use Rattle.dav_local.specs.declared.file.LocalFsFile.{LocalFsFile}
 use Rattle.dav_local.specs.Calls.{BeginsAt, Finds, Place}
 use Rattle.dav_local.specs.Listing.{Fills, ListingState, NextEntry, ReadsOne, Refills}
 use Rattle.dav_local.specs.Listing.Fills.{ended, full, more as reads_more}
-use Rattle.dav_local.specs.Shown.{EndsBy, WhyRefused}
+use Rattle.dav_local.specs.Shown.{EndsBy, ListsByRules, WhyRefused, knowledge_of}
+use Rattle.dav_local.specs.Ways.{rules_with}
 use Rattle.dav_local.specs.Standing.{HasNoLinks}
 use Rattle.dav_local.specs.declared.ways.Ways.{Ways}
+use Rattle.dav_local.proofs.ByRules.{lists_by_rules}
 use Rattle.dav_local.proofs.Filling.{given_keeps}
 use Rattle.dav_local.proofs.EntriesTold.{listed_dir, rows_stand}
 use Rattle.dav_local.proofs.Walked.{ListsLocal, walk_ends, walk_fails, walk_told}
@@ -56,16 +57,16 @@ use Rattle.dav_local_laws.proofs.FileWrites.{WrittenFrom, writes_told}
 use Rattle.dav_local_laws.proofs.ListingWorlds.{listed_besides, next_besides, same_world}
 use Rattle.dav_local_laws.proofs.NamedMembers.{are_members, in_name_order, member, paths_of, rows_members}
 use Rattle.dav_local_laws.proofs.NameOrder.{ascending_once, order_ascends, order_permutes, sorted_ascends}
-use Rattle.dav_local_laws.proofs.PlainLooks.{both_with, called_for}
+use Rattle.dav_local_laws.proofs.LocalCalls.{copy_told, make_told, open_told, take_dir_told, take_file_told}
+use Rattle.dav_local_laws.proofs.LocalLooks.{Besides, besides_same, besides_then, look_at_link_told, look_told, spoiled_as}
+use Rattle.dav_local_laws.proofs.PlainLooks.{both_with}
 use Rattle.dav_local_laws.proofs.ReachedCounts.{reached_counts}
 use Rattle.dav_local_laws.proofs.TreeLooks.{dir_listed}
-use Rattle.dav_local_laws.specs.Simple.{plain_ways}
 use Rattle.dav_local_laws.proofs.LocalReads.{no_links}
 use Rattle.dav_local_laws.specs.LocalStore.{IsLocalStore, place}
 use Rattle.dav_local_laws.proofs.LocalLeads.{calls_remain}
 use Rattle.dav_local_laws.proofs.LocalMoves.{move_told}
 use Rattle.dav_local_laws.proofs.LocalUsual.{local_usual}
-use Rattle.dav_local_laws.proofs.PlainWays.{Lost, copy_told, finds_plain, look_at_link_told, look_told, make_told, open_told, take_dir_told, take_file_told}
 use Rattle.dav_local.specs.declared.gathering.LocalFsReadDir.{LocalFsReadDir}
 use Rattle.dav_local.proofs.Gathered.{Next, after_keeps}
 use Rattle.dav_local_laws.proofs.LocalListings.{lists_local, next_local}
@@ -104,26 +105,17 @@ none_left given [] n all some = refl
 none_left given (m ∷ rest) n all some = absurd (omega (arith, length-append given (m ∷ rest)))
 
 -- Where all members were told of, the children are those of the rows, in some order.
-children_are : (w : World) (path : WebPath) (from now : ℕ) (answers : List Answered) → AreOf (members w path.names) from now answers → length answers ≡ length (members w path.names) → AllSaid answers
-    → IsPermutation (map (child_of path) (filter (stands_in path.names) w.tree)) (children_said path answers)
-children_are w path from now answers of long said =
-    let rows = filter (stands_in path.names) w.tree in
-    let all = members w path.names in
+children_are : (w : World) (dir : Names) (path : WebPath) (from now : ℕ) (answers : List Answered) → AreOf (members w dir) from now answers → length answers ≡ length (members w dir) → AllSaid answers
+    → IsPermutation (map (child_of path) (filter (stands_in dir) w.tree)) (children_said path answers)
+children_are w dir path from now answers of long said =
+    let rows = filter (stands_in dir) w.tree in
+    let all = members w dir in
     let none = none_left of.given of.rest (length all) (length_permutation all (of.given ++ of.rest) of.once) (AllZip-long (IsAnswerOf from now) answers of.given of.each ∙ long) in
     let once : IsPermutation all of.given = subst (IsPermutation all) (ap (λ xs. of.given ++ xs) none ∙ append-nil of.given) of.once in
     subst (λ z. IsPermutation (map (child_of path) rows) z) (sym (said_given path from now answers of.given said of.each))
     (subst (λ z. IsPermutation z (map (childm path) of.given)) (rows_children w path rows) (IsPermutation-map (childm path) all of.given once))
 
 -- ---- what listings leave of the told world
-
-abbrev Besides : DiskState → DiskState → Type 0
-Besides s t = Both s.told t.told SameBesidesOpens
-
-besides_then : (s m t : DiskState) → Besides s m → Besides m t → Besides s t
-besides_then s m t p q = both_then s.told m.told t.told SameBesidesOpens SameBesidesOpens SameBesidesOpens same_besides_then p q
-
-besides_same : (s t : DiskState) → t ≡ s → Besides s t
-besides_same s t same = both_same s.told t.told SameBesidesOpens same_besides (ap (λ (d : DiskState). d.told) same)
 
 asked_besides : (l : ℕ) (answer : Result (Option (List ℕ)) DiskError) (s m t : DiskState) → ListsOn s l answer m → Besides m t → Besides s t
 asked_besides l answer s m t on rest = besides_then s m t (both_map s.told m.told (NextIn l answer) SameBesidesOpens (next_besides l answer) on.told) rest
@@ -189,66 +181,85 @@ module _ {S C : Type 0} (view : View S C LocalFsFile) (lists : Listings S C Loca
   next : (s t : S) (d e : LocalFsReadDir) (r : Result (Option LocalFsDirEntry) FsError) → lists.lists_on s d r t e → Next (view.state s) d r (view.state t) e
   next s t d e r on = next_local view lists writes ways memory local s t d e r on
 
-  -- the directory that was listed is the one asked
-  listed_here : (m n : S) (path : WebPath) (l : LocalFsReadDir) → ways m ≡ plain_ways → lists.lists m c path DataSymlink (Ok l) n → l.reading.path ≡ path.names
-  listed_here m n path l plain h = by (finds_plain (at m) (at n) path.names (BeginsAt DataSymlink) (Ok l) plain (local.begins m n c path DataSymlink (Ok l) h).0)
-    where
-      by : BeginsAt DataSymlink path.names (at m) (Ok l) (at n) ⊎ Lost (at m) (Ok l) (at n) → l.reading.path ≡ path.names
-      by (inl (t, (Ok reading, (Ok lister, lists_so, is), whole), ends)) =
-          let same : l.reading ≡ record { lister = lister; path = path.names; wanted = DataSymlink; batch = []; refused = None; over = false } = cc in ap (λ (d : ListingState). d.path) same
-      by (inl (t, (Ok reading, (Err d, lists_so, is), whole), ends)) = cc
-      by (inl (t, (Err f, begins_so, whole), ends)) = cc
-      by (inr (is, same)) = cc
+  abbrev rules : S → Rules
+  rules m = rules_with settings (ways m)
 
-  links_at : (v : World) (m n : S) (path : WebPath) (l : LocalFsReadDir) → ways m ≡ plain_ways → lists.lists m c path DataSymlink (Ok l) n → is_clear v.tree path.names ≡ true → HasNoLinks v l.reading.path
-  links_at v m n path l plain h clear = subst (HasNoLinks v) (sym (listed_here m n path l plain h)) (no_links v path.names clear)
+  -- where the rules find the directory
+  abbrev dir_at : S → World → WebPath → Names
+  dir_at m v path = resolved (rules m) v.tree path.names
+
+  lists_so : (m n : S) (path : WebPath) (r : Result LocalFsReadDir FsError) (v : World) → (view.state m).told ≡ Some v → lists.lists m c path DataSymlink r n
+      → ListsByRules (ways m) v path (view.state m) r (view.state n)
+  lists_so m n path r v told h = lists_by_rules (at m) (at n) v path DataSymlink r told (local.begins m n c path DataSymlink r h).0
+
+  ends_there : (m : S) (v : World) (path : WebPath) (end : Names) → TellsApart (rules m) v → EndsLoosely (ways m).alone (ways m).folds v.tree path.names end → end ≡ dir_at m v path
+  ends_there m v path end apart loosely = found_exactly (rules m) v.tree path.names end apart loosely
+
+  -- the directory that was listed is the one asked
+  listed_here : (m n : S) (path : WebPath) (l : LocalFsReadDir) (v : World) → TellsApart (rules m) v → (view.state m).told ≡ Some v → is_clear v.tree (dir_at m v path) ≡ true
+      → lists.lists m c path DataSymlink (Ok l) n → l.reading.path ≡ dir_at m v path
+  listed_here m n path l v apart told clear h =
+      let b = lists_so m n path (Ok l) v told h in
+      let here = ends_there m v path b.end apart b.loosely in
+      b.at_end l refl (ap (is_linked v.tree) here ∙ (no_links v (dir_at m v path) clear).way) ∙ here
+
+  links_at : (m n : S) (path : WebPath) (l : LocalFsReadDir) (v : World) → TellsApart (rules m) v → (view.state m).told ≡ Some v → is_clear v.tree (dir_at m v path) ≡ true
+      → lists.lists m c path DataSymlink (Ok l) n → HasNoLinks v l.reading.path
+  links_at m n path l v apart told clear h = subst (HasNoLinks v) (sym (listed_here m n path l v apart told clear h)) (no_links v (dir_at m v path) clear)
+
+  dir_begun : (v : World) (dir : Names) (found : Result Row DiskError) (l : LocalFsReadDir) → BeginsThere (members_or v dir found) (Ok l) → IsOk found
+  dir_begun v dir (Ok row) l there = refl
+  dir_begun v dir (Err e) l there = absurd there
 
   -- a directory stands there
-  dir_of_listing : (m n : S) (path : WebPath) (v : World) → ways m ≡ plain_ways → (view.state m).told ≡ Some v → (l : LocalFsReadDir) → lists.lists m c path DataSymlink (Ok l) n → is_clear v.tree path.names ≡ true
-      → (row : Row) × ((look v.tree path.names ≡ Ok row) × (row.kind ≡ Dir))
-  dir_of_listing m n path v plain told l h clear = by (finds_plain (at m) (at n) path.names (BeginsAt DataSymlink) (Ok l) plain (local.begins m n c path DataSymlink (Ok l) h).0)
+  dir_of_listing : (m n : S) (path : WebPath) (l : LocalFsReadDir) (v : World) → TellsApart (rules m) v → (view.state m).told ≡ Some v → is_clear v.tree (dir_at m v path) ≡ true
+      → lists.lists m c path DataSymlink (Ok l) n → (row : Row) × ((look v.tree (dir_at m v path) ≡ Ok row) × (row.kind ≡ Dir))
+  dir_of_listing m n path l v apart told clear h =
+      let b = lists_so m n path (Ok l) v told h in
+      let here = ends_there m v path b.end apart b.loosely in
+      by b.end here (b.shows (ap (is_linked v.tree) here ∙ (no_links v (dir_at m v path) clear).way))
     where
-      by : BeginsAt DataSymlink path.names (at m) (Ok l) (at n) ⊎ Lost (at m) (Ok l) (at n) → (row : Row) × ((look v.tree path.names ≡ Ok row) × (row.kind ≡ Dir))
-      by (inl (t, (reading, (Ok lister, lists_so, is), whole), ends)) =
-          let (x, now, listed) = told_after (view.state m).told t.told (ListedIn path.names (Ok lister)) v lists_so.told told in
-          let dir = listed_dir (look v.tree path.names) (listed.2 (no_links v path.names clear).way).0 in
+      by : (end : Names) → end ≡ dir_at m v path → BeginsThere (listed_in v end) (Ok l) ⊎ Spoiled (view.state m) (Ok l) (view.state n) → (row : Row) × ((look v.tree (dir_at m v path) ≡ Ok row) × (row.kind ≡ Dir))
+      by end here (inl there) =
+          let dir = listed_dir (look v.tree (dir_at m v path)) (subst (λ z. IsOk (listable (look v.tree z))) here (dir_begun v end (listable (look v.tree end)) l there)) in
           (dir.row, (dir.is, dir.kind))
-      by (inl (t, (Ok reading, (Err d, lists_so, is), whole), ends)) = cc
-      by (inl (t, (Err f, (Err d, lists_so, is), whole), ends)) = cc
-      by (inr (is, same)) = cc
+      by end here (inr (inl (is, rose))) = cc
+      by end here (inr (inr is)) = cc
 
   -- the members that were read are those of the tree
-  members_read : (m n : S) (path : WebPath) (read : List Child) (v : World) → ways m ≡ plain_ways → HasMembers view lists m c path read n → (view.state m).told ≡ Some v → is_clear v.tree path.names ≡ true
-      → read ≡ children_in v.tree path.names path
-  members_read m n path read v plain has told clear =
+  members_read : (m n : S) (path : WebPath) (read : List Child) (v : World) → TellsApart (rules m) v → HasMembers view lists m c path read n → (view.state m).told ≡ Some v
+      → is_clear v.tree (dir_at m v path) ≡ true → read ≡ children_in v.tree (dir_at m v path) path
+  members_read m n path read v apart has told clear =
+      let dir : Names = dir_at m v path in
       let was = has.was in
       let all_read = was.reads in
       let is = local.worlds m v told in
       let begins_so = (local.begins m was.begin c path DataSymlink (Ok was.listing) was.begins).0 in
-      let links = links_at v m was.begin path was.listing plain was.begins clear in
-      let here = listed_here m was.begin path was.listing plain was.begins in
+      let links = links_at m was.begin path was.listing v apart told clear was.begins in
+      let here = listed_here m was.begin path was.listing v apart told clear was.begins in
       let of = subst (λ d. AreOf (members v d) (view.state m).faults (view.state all_read.place).faults all_read.answers) here
       (walk_told view lists listings false (at m) (at was.begin) v path was.begin all_read.place was.listing all_read.left all_read.answers told is begins_so refl links all_read.walk) in
       let long = subst (λ d. EndsBy (view.state m).faults (members v d) all_read.answers (Ok None) (view.state was.after).faults) here
       (walk_ends view lists listings false (at m) (at was.begin) v path was.begin all_read.place was.after was.listing all_read.left was.over all_read.answers (Ok None) told begins_so refl links all_read.walk all_read.ends) in
-      let rows = filter (stands_in path.names) v.tree in
+      let rows = filter (stands_in dir) v.tree in
       let target = map (child_of path) rows in
-      let (kind_row, stands) = dir_of_listing m was.begin path v plain told was.listing was.begins clear in
-      let stand = rows_stand v.tree path.names kind_row is.tree stands.0 in
-      let said : IsPermutation target has.listed = subst (IsPermutation target) (sym all_read.told) (children_are v path (view.state m).faults (view.state all_read.place).faults all_read.answers of long all_read.said) in
+      let (kind_row, stands) = dir_of_listing m was.begin path was.listing v apart told clear was.begins in
+      let stand = rows_stand v.tree dir kind_row is.tree stands.0 in
+      let said : IsPermutation target has.listed = subst (IsPermutation target) (sym all_read.told) (children_are v dir path (view.state m).faults (view.state all_read.place).faults all_read.answers of long all_read.said) in
       let given : IsPermutation target read = IsPermutation-trans target has.listed read said has.each_once in
-      let each_row : AllByRecursion (λ (x : Child). x ≡ member v path x.name) target = subst (AllByRecursion (λ (x : Child). x ≡ member v path x.name)) (rows_members v path rows stand) (are_members v path (map name_of rows)) in
-      let each = recursion_from_All (λ (x : Child). x ≡ member v path x.name) read (All-permutation (λ (x : Child). x ≡ member v path x.name) target read given
-      (All-from_recursion (λ (x : Child). x ≡ member v path x.name) target each_row)) in
+      let each_row : AllByRecursion (λ (x : Child). x ≡ member v dir path x.name) target =
+      subst (AllByRecursion (λ (x : Child). x ≡ member v dir path x.name)) (rows_members v dir path rows stand) (are_members v dir path (map name_of rows)) in
+      let each = recursion_from_All (λ (x : Child). x ≡ member v dir path x.name) read (All-permutation (λ (x : Child). x ≡ member v dir path x.name) target read given
+      (All-from_recursion (λ (x : Child). x ≡ member v dir path x.name) target each_row)) in
       let ordered = map name_of (in_order dir_first rows) in
       let names : IsPermutation (map (λ (x : Child). x.name) read) ordered =
       IsPermutation-trans (map (λ (x : Child). x.name) read) (map name_of rows) ordered
       (IsPermutation-sym (map name_of rows) (map (λ (x : Child). x.name) read)
       (subst (λ z. IsPermutation z (map (λ (x : Child). x.name) read)) (names_children path rows) (IsPermutation-map (λ (x : Child). x.name) target read given)))
       (IsPermutation-map name_of rows (in_order dir_first rows) (order_permutes dir_first rows)) in
-      in_name_order v path rows read stand each
+      in_name_order v dir path rows read stand each
       (ascending_once (map (λ (x : Child). x.name) read) ordered (sorted_ascends (λ (x : Child). x.name) read has.in_order)
-      (order_ascends path.names rows (paths_of v path.names rows stand)) names)
+      (order_ascends dir rows (paths_of v dir rows stand)) names)
 
   walk_besides : (n : S) (l : LocalFsReadDir) (answers : List Answered) (o : S) (k : LocalFsReadDir) → Walked view lists n l answers o k → Besides (view.state n) (view.state o)
   walk_besides n l answers o k begun = besides_same (view.state n) (view.state n) refl
@@ -268,45 +279,39 @@ module _ {S C : Type 0} (view : View S C LocalFsFile) (lists : Listings S C Loca
       (both_map (view.state was.after).told (view.state n).told (EndedIn was.over.reading.lister.0) SameBesidesOpens
       (λ v w ended_so. same_world v w (put was.over.reading.lister.0 None v.listings) ended_so) (local.ends was.after n was.over was.ended).0.told)))
 
-  members_told : (m n : S) (path : WebPath) (read : List Child) → ways m ≡ plain_ways → HasMembers view lists m c path read n → Told view lists writes c m n (ListsBy view lists writes c (plain_rules settings) path read)
-  members_told m n path read plain has =
-      both_with (view.state m).told (view.state n).told SameBesidesOpens (ListsBy view lists writes c (plain_rules settings) path read) (listing_besides m n path read has)
-      (λ v w told now same. (
-        same,
-        λ clear.
-            members_read m n path read v plain has told (subst (λ names. is_clear v.tree names ≡ true) (plain_resolved settings v.tree path.names) clear)
-            ∙ ap (λ names. children_in v.tree names path) (sym (plain_resolved settings v.tree path.names)),
-      ))
+  members_told : (m n : S) (path : WebPath) (read : List Child) → HasMembers view lists m c path read n → Told view lists writes c m n (ListsBy view lists writes c (rules m) path read)
+  members_told m n path read has =
+      both_with (view.state m).told (view.state n).told SameBesidesOpens (ListsBy view lists writes c (rules m) path read) (listing_besides m n path read has)
+      (λ v w told now same. (same, λ apart clear. members_read m n path read v apart has told clear))
 
   -- ---- a listing that fails
 
-  begin_refused : (m n : S) (path : WebPath) (e : FsError) (v : World) → ways m ≡ plain_ways → (view.state m).told ≡ Some v → is_clear v.tree path.names ≡ true → has_dir v.tree path.names ≡ true
+  begin_refused : (m n : S) (path : WebPath) (e : FsError) (v : World) → TellsApart (rules m) v → (view.state m).told ≡ Some v → is_clear v.tree (dir_at m v path) ≡ true → has_dir v.tree (dir_at m v path) ≡ true
       → lists.lists m c path DataSymlink (Err e) n → Spoiled {T = Unit {0}} (view.state m) (Err e) (view.state n)
-  begin_refused m n path e v plain told clear dir h = by (finds_plain (at m) (at n) path.names (BeginsAt DataSymlink) (Err e) plain (local.begins m n c path DataSymlink (Err e) h).0)
+  begin_refused m n path e v apart told clear dir h =
+      let b = lists_so m n path (Err e) v told h in
+      let here = ends_there m v path b.end apart b.loosely in
+      let (row, there) = dir_listed v.tree (local.worlds m v told).tree (dir_at m v path) dir in
+      by b.end row (ap (λ z. listable (look v.tree z)) here ∙ there) (b.shows (ap (is_linked v.tree) here ∙ (no_links v (dir_at m v path) clear).way))
     where
-      by : BeginsAt DataSymlink path.names (at m) (Err e) (at n) ⊎ Lost {T = LocalFsReadDir} (at m) (Err e) (at n) → Spoiled {T = Unit {0}} (view.state m) (Err e) (view.state n)
-      by (inl (t, (Ok reading, begins_so, whole), ends)) = cc
-      by (inl (t, (Err f, (Ok lister, lists_so, is), whole), ends)) = cc
-      by (inl (t, (Err f, (Err d, lists_so, is), whole), ends)) =
-          let (x, now, listed) = told_after (view.state m).told t.told (ListedIn path.names (Err d)) v lists_so.told told in
-          let (row, there) = dir_listed v.tree (local.worlds m v told).tree path.names dir in
-          let same : e ≡ fs_error_of d = cc in
-          subst (λ x. Spoiled {T = Unit {0}} (view.state m) (Err e) x) (sym (ap (λ (x : Place). x.disk) ends))
-          (elim (called_for Lister Row Unit d (listable (look v.tree path.names)) (view.state m) t (listed.1 (no_links v path.names clear).way) lists_so.counted) [
-            | inl called ↦ (let never : Ok row ≡ Err d = sym there ∙ called in cc)
-            | inr spoiled ↦ subst (λ (x : FsError). Spoiled {T = Unit {0}} (view.state m) (Err x) t) (sym same) spoiled
-          ])
-      by (inr (is, same)) = inr cc
+      never : (end : Names) (found : Result Row DiskError) (row : Row) → found ≡ Ok row → BeginsThere {L = LocalFsReadDir} (members_or v end found) (Err e) → ⊥
+      never end (Ok x) row is there = there
+      never end (Err d) row is there = cc
 
-  read_refused : (m b n : S) (path : WebPath) (l k : LocalFsReadDir) (e : FsError) (v : World) → ways m ≡ plain_ways → (view.state m).told ≡ Some v → is_clear v.tree path.names ≡ true
+      by : (end : Names) (row : Row) → listable (look v.tree end) ≡ Ok row → BeginsThere {L = LocalFsReadDir} (listed_in v end) (Err e) ⊎ Spoiled {T = LocalFsReadDir} (view.state m) (Err e) (view.state n)
+          → Spoiled {T = Unit {0}} (view.state m) (Err e) (view.state n)
+      by end row is (inl there) = absurd (never end (listable (look v.tree end)) row is there)
+      by end row is (inr spoiled) = spoiled_as {U = Unit {0}} (view.state m) (view.state m) (view.state n) e (Err e) (omega arith) refl spoiled
+
+  read_refused : (m b n : S) (path : WebPath) (l k : LocalFsReadDir) (e : FsError) (v : World) → TellsApart (rules m) v → (view.state m).told ≡ Some v → is_clear v.tree (dir_at m v path) ≡ true
       → lists.lists m c path DataSymlink (Ok l) b → ReadRefused view lists b l e n k → Spoiled {T = Unit {0}} (view.state m) (Err e) (view.state n)
-  read_refused m b n path l k e v plain told clear begins (inl (is, answers, walk)) = inr (ap Err is)
-  read_refused m b n path l k e v plain told clear begins (inr (inl (answers, here, left, walk, said, on_so))) =
+  read_refused m b n path l k e v apart told clear begins (inl (is, answers, walk)) = inr (ap Err is)
+  read_refused m b n path l k e v apart told clear begins (inr (inl (answers, here, left, walk, said, on_so))) =
       why_spoiled (view.state m) (view.state n) e
-      (walk_ends view lists listings false (at m) (at b) v path b here n l left k answers (Err e) told (local.begins m b c path DataSymlink (Ok l) begins).0 refl (links_at v m b path l plain begins clear) walk on_so)
-  read_refused m b n path l k e v plain told clear begins (inr (inr (answers, name, said, walk))) =
+      (walk_ends view lists listings false (at m) (at b) v path b here n l left k answers (Err e) told (local.begins m b c path DataSymlink (Ok l) begins).0 refl (links_at m b path l v apart told clear begins) walk on_so)
+  read_refused m b n path l k e v apart told clear begins (inr (inr (answers, name, said, walk))) =
       let failed = walk_fails view lists listings false (at m) (at b) v path b n l k answers name e told (local.worlds m v told) (local.begins m b c path DataSymlink (Ok l) begins).0 refl
-      (links_at v m b path l plain begins clear) walk in
+      (links_at m b path l v apart told clear begins) walk in
       inl (ap Err failed.0, failed.1)
 
   spoiled_on : (s m t : DiskState) (e : FsError) → t.faults ≡ m.faults → Spoiled {T = Unit {0}} s (Err e) m → Spoiled {T = Unit {0}} s (Err e) t
@@ -314,43 +319,60 @@ module _ {S C : Type 0} (view : View S C LocalFsFile) (lists : Listings S C Loca
   spoiled_on s m t e same (inr is) = inr is
 
   -- the members weren't read because of a fault, or for want of memory
-  members_unread : (m n : S) (path : WebPath) (e : FsError) (v : World) → ways m ≡ plain_ways → HasNoMembers view lists m c path e n → (view.state m).told ≡ Some v → is_clear v.tree path.names ≡ true
-      → has_dir v.tree path.names ≡ true → Spoiled {T = Unit {0}} (view.state m) (Err e) (view.state n)
-  members_unread m n path e v plain hasnt told clear dir = by_why hasnt.why
+  members_unread : (m n : S) (path : WebPath) (e : FsError) (v : World) → TellsApart (rules m) v → HasNoMembers view lists m c path e n → (view.state m).told ≡ Some v → is_clear v.tree (dir_at m v path) ≡ true
+      → has_dir v.tree (dir_at m v path) ≡ true → Spoiled {T = Unit {0}} (view.state m) (Err e) (view.state n)
+  members_unread m n path e v apart hasnt told clear dir = by_why hasnt.why
     where
       by_why : MembersUnread view lists m c path e n → Spoiled {T = Unit {0}} (view.state m) (Err e) (view.state n)
       by_why (inl (is, listed, was)) = inr (ap Err is)
-      by_why (inr (inl begins)) = begin_refused m n path e v plain told clear dir begins
+      by_why (inr (inl begins)) = begin_refused m n path e v apart told clear dir begins
       by_why (inr (inr (begin, after, listing, over, begins, refused_so, ended_so))) =
-          spoiled_on (view.state m) (view.state after) (view.state n) e (local.ends after n over ended_so).0.counts (read_refused m begin after path listing over e v plain told clear begins refused_so)
+          spoiled_on (view.state m) (view.state after) (view.state n) e (local.ends after n over ended_so).0.counts (read_refused m begin after path listing over e v apart told clear begins refused_so)
 
-  no_members_told : (m n : S) (path : WebPath) (e : FsError) → ways m ≡ plain_ways → HasNoMembers view lists m c path e n → Told view lists writes c m n (FailsToList view lists writes c (plain_rules settings) path m e n)
-  no_members_told m n path e plain hasnt =
-      both_with (view.state m).told (view.state n).told SameBesidesOpens (FailsToList view lists writes c (plain_rules settings) path m e n) hasnt.keeps.world
-      (λ v w told now same. (
-        same,
-        λ clear dir.
-            members_unread m n path e v plain hasnt told (subst (λ names. is_clear v.tree names ≡ true) (plain_resolved settings v.tree path.names) clear)
-            (subst (λ names. has_dir v.tree names ≡ true) (plain_resolved settings v.tree path.names) dir),
-      ))
+  no_members_told : (m n : S) (path : WebPath) (e : FsError) → HasNoMembers view lists m c path e n → Told view lists writes c m n (FailsToList view lists writes c (rules m) path m e n)
+  no_members_told m n path e hasnt =
+      both_with (view.state m).told (view.state n).told SameBesidesOpens (FailsToList view lists writes c (rules m) path m e n) hasnt.keeps.world
+      (λ v w told now same. (same, λ apart clear dir. members_unread m n path e v apart hasnt told clear dir))
 
-  pub local_follows : (s : S) → ways s ≡ plain_ways → Follows view lists writes c (plain_rules settings) s
-  local_follows s plain = record {
+  -- ---- the rules of the store where the request began
+
+  pub local_follows : (s : S) → Follows view lists writes c (rules_with settings (ways s)) (knowledge_of (memory s)) s
+  local_follows s = record {
     counts = λ n reached. reached_counts view lists writes c (local_usual view lists writes c ways memory local) s n reached;
     folds = λ n reached. local.folding n ∙ ap (λ (w : Ways). w.folds) (stays n reached);
     trees = λ n w reached told. local.worlds n w told;
-    looks = λ m n path r reached h. look_told view lists writes c ways memory local settings m n path r (stays m reached) h;
-    looks_at_link = λ m n path r reached h. look_at_link_told view lists writes c ways memory local settings m n path r (stays m reached) h;
-    makes_dir = λ m n path r reached h. make_told view lists writes c ways memory local settings m n path r (stays m reached) h;
-    removes_dir = λ m n path r reached h. take_dir_told view lists writes c ways memory local settings m n path r (stays m reached) h;
-    removes_file = λ m n path r reached h. take_file_told view lists writes c ways memory local settings m n path r (stays m reached) h;
-    renames = λ m n from to r reached h. move_told view lists writes c ways memory local settings m n from to r (stays m reached) h;
-    copies = λ m n from to r reached h. copy_told view lists writes c ways memory local settings m n from to r (stays m reached) h;
-    opens = λ m n path r reached h flat. open_told view lists writes c ways memory local settings m n path r (stays m reached) h flat;
+    looks = λ m n path r reached h. look_as m n path r reached (look_told view lists writes c ways memory local settings m n path r (memory s) (learns m reached) h);
+    looks_at_link = λ m n path r reached h. look_as m n path r reached (look_at_link_told view lists writes c ways memory local settings m n path r (memory s) (learns m reached) h);
+    makes_dir = λ m n path r reached h. subst (λ x. Told view lists writes c m n (λ v w. UnlessShut view lists writes c (is_forbidden x path) r v w (IfFound view lists writes c x v path
+        (Calls view lists writes c (making x v path) m r n v w)))) (same m reached) (make_told view lists writes c ways memory local settings m n path r h);
+    removes_dir = λ m n path r reached h. subst (λ (x : Rules). Told view lists writes c m n (λ v w. IfFound view lists writes c x v path
+        (Calls view lists writes c (taking_dir v.tree (resolved x v.tree path.names)) m r n v w))) (same m reached) (take_dir_told view lists writes c ways memory local settings m n path r h);
+    removes_file = λ m n path r reached h. subst (λ (x : Rules). Told view lists writes c m n (λ v w. UnlessShut view lists writes c (is_forbidden x path || has_slash x.alone path) r v w
+        (IfFound view lists writes c x v path (Calls view lists writes c (taking_file v.tree (resolved x v.tree path.names)) m r n v w))))
+        (same m reached) (take_file_told view lists writes c ways memory local settings m n path r h);
+    renames = λ m n from to r reached h. subst (λ (x : Rules). Told view lists writes c m n (λ v w. UnlessShut view lists writes c (is_forbidden x from || is_forbidden x to) r v w
+        (IfBothFound view lists writes c x v from to (row_at v.tree (resolved x v.tree to.names) ≡ None
+        → Calls view lists writes c (moving v.tree (resolved x v.tree from.names) (resolved x v.tree to.names)) m r n v w))))
+        (same m reached) (move_told view lists writes c ways memory local settings m n from to r h);
+    copies = λ m n from to r reached h. subst (λ (x : Rules). Told view lists writes c m n (λ v w. UnlessShut view lists writes c (is_forbidden x from || is_forbidden x to) r v w
+        (IfBothFound view lists writes c x v from to (Calls view lists writes c (copying v (resolved x v.tree from.names) (resolved x v.tree to.names)) m r n v w))))
+        (same m reached) (copy_told view lists writes c ways memory local settings m n from to r h);
+    opens = λ m n path r reached h. subst (λ (x : Rules). Told view lists writes c m n (λ v w. UnlessShut view lists writes c (is_forbidden x path || has_slash x.alone path) r v w
+        (IfFound view lists writes c x v path (OpensBy view lists writes c x path m r n v w)))) (same m reached) (open_told view lists writes c ways memory local settings m n path r h);
     writes_file = λ m n f g bytes r reached h end. writes_file_told m n f g bytes r h end;
-    members = λ m n path read reached has. members_told m n path read (stays m reached) has;
-    no_members = λ m n path e reached hasnt. no_members_told m n path e (stays m reached) hasnt;
+    members = λ m n path read reached has. subst (λ x. Told view lists writes c m n (ListsBy view lists writes c x path read)) (same m reached) (members_told m n path read has);
+    no_members = λ m n path e reached hasnt. subst (λ x. Told view lists writes c m n (FailsToList view lists writes c x path m e n)) (same m reached) (no_members_told m n path e hasnt);
   }
     where
-      stays : (m : S) → Reached view lists writes c s m → ways m ≡ plain_ways
-      stays m reached = (calls_remain view lists writes ways memory local c s m reached).0 ∙ plain
+      stays : (m : S) → Reached view lists writes c s m → ways m ≡ ways s
+      stays m reached = (calls_remain view lists writes ways memory local c s m reached).0
+
+      learns : (m : S) → Reached view lists writes c s m → LearnsNothing (memory s) (memory m)
+      learns m reached = (calls_remain view lists writes ways memory local c s m reached).1
+
+      same : (m : S) → Reached view lists writes c s m → rules m ≡ rules s
+      same m reached = ap (rules_with settings) (stays m reached)
+
+      look_as : (m n : S) (path : WebPath) (r : Result Info FsError) → Reached view lists writes c s m → Told view lists writes c m n (LooksBy view lists writes c (rules m) (knowledge_of (memory s)) path m r n)
+          → Told view lists writes c m n (LooksBy view lists writes c (rules s) (knowledge_of (memory s)) path m r n)
+      look_as m n path r reached told = subst (λ x. Told view lists writes c m n (LooksBy view lists writes c x (knowledge_of (memory s)) path m r n)) (same m reached) told

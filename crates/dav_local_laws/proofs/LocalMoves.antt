@@ -1,6 +1,6 @@
 -- What a move of a local store makes of the told world where nothing stands at the destination: what one call of the disk makes.
 -- Where a directory was to take a file's place it is asked again, which then is refused as before.
-use Rattle.std.proofs.Common.{◌≡◌, ◌≤◌, ◌⊎◌, inl, inr, Bool, true, false, List, None, Some, Result, Ok, Err, refl, sym, ap, subst, ◌∙◌, arith}
+use Rattle.std.proofs.Common.{◌≡◌, ◌≤◌, inl, inr, ◌||◌, Bool, true, false, List, None, Some, Result, Ok, Err, refl, sym, ap, subst, ◌∙◌, arith}
 use Rattle.dav_io.specs.Told.{Both}
 use Rattle.dav_io.proofs.ToldLemmas.{both_map, both_then}
 use Rattle.dav_core.specs.declared.error.FsError.{FsError}
@@ -17,10 +17,9 @@ use Rattle.dav_core.specs.Writing.{DoesIn, LeftBy, Renames}
 use Rattle.dav_core.proofs.UnchangedLemmas.{same_besides, same_besides_then}
 use Rattle.dav_store.specs.View.{Listings, View}
 use Rattle.dav_model.specs.declared.settings.Settings.{Settings}
-use Rattle.dav_model.specs.Finding.{resolved}
-use Rattle.dav_model.specs.Rules.{plain_rules}
-use Rattle.dav_model.proofs.PlainWalks.{plain_resolved}
-use Rattle.dav_methods.specs.Follows.{Calls, Told}
+use Rattle.dav_model.specs.Finding.{is_forbidden, resolved}
+use Rattle.dav_model.specs.Rules.{Rules}
+use Rattle.dav_methods.specs.Follows.{Calls, IfBothFound, Told, UnlessShut}
 use Rattle.dav_methods.specs.Pouring.{Writes}
 use Rattle.dav_cache.specs.Memory.{MemoryState}
 use Rattle.dav_local.specs.declared.entry.LocalFsDirEntry.{LocalFsDirEntry}
@@ -28,13 +27,15 @@ use Rattle.dav_local.specs.declared.file.LocalFsFile.{LocalFsFile}
 use Rattle.dav_local.specs.declared.ways.Ways.{Ways}
 use Rattle.dav_local.specs.Calls.{AfterMove, MovesAgain, MovesAt, Place, found_dir}
 use Rattle.dav_local.specs.Files.{done_by}
+use Rattle.dav_local.specs.Ways.{rules_of, rules_with}
 use Rattle.dav_local.specs.declared.gathering.LocalFsReadDir.{LocalFsReadDir}
 use Rattle.dav_local.proofs.Rows.{looked_row}
-use Rattle.dav_local_laws.proofs.CallsDone.{calls_from, calls_of, left_called}
+use Rattle.dav_local_laws.proofs.CallsBefore.{calls_before, moving_numbered}
+use Rattle.dav_local_laws.proofs.CallsDone.{calls_from, left_called}
+use Rattle.dav_local_laws.proofs.LocalCalls.{LedToBoth, calls_spoiled, found_both, unless_told}
+use Rattle.dav_local_laws.proofs.LocalLooks.{found_there}
 use Rattle.dav_local_laws.proofs.PlainLooks.{both_stays}
-use Rattle.dav_local_laws.specs.Simple.{plain_ways}
 use Rattle.dav_local_laws.specs.LocalStore.{IsLocalStore, place}
-use Rattle.dav_local_laws.proofs.PlainWays.{CallsBetween, Lost, between_lost, finds_both_plain}
 
 -- ---- a file is removed where nothing stands
 
@@ -61,7 +62,8 @@ module _ {S C : Type 0} (view : View S C LocalFsFile) (lists : Listings S C Loca
   abbrev at : S → Place
   at s = place view lists writes ways memory s
 
-  module _ (m n : S) (r : Result Unit FsError) (from into : Names) where
+  -- from the state of the disk in which both places were found
+  module _ (m n : S) (d : DiskState) (within : (view.state m).faults ≤ d.faults) (r : Result Unit FsError) (from into : Names) where
     -- nothing stands at the destination, and no link on either way
     abbrev IfClear : World → Type 0 → Type 0
     IfClear v P = is_linked v.tree from ≡ false → is_linked v.tree into ≡ false → row_at v.tree into ≡ None → P
@@ -118,18 +120,18 @@ module _ {S C : Type 0} (view : View S C LocalFsFile) (lists : Listings S C Loca
         subst (λ a. Calls view lists writes c a m r n v w) (sym refused) (refused_before r v u w same after)
 
     -- a move that stands
-    moved_once : (answer : Result Unit DiskError) (k : DiskState) → Renames (view.state m) from into answer k → r ≡ done_by answer → view.state n ≡ k → Both (view.state m).told (view.state n).told Moved
+    moved_once : (answer : Result Unit DiskError) (k : DiskState) → Renames d from into answer k → r ≡ done_by answer → view.state n ≡ k → Both d.told (view.state n).told Moved
     moved_once answer k renames is same =
-        let all = subst (Renames (view.state m) from into answer) (sym same) renames in
-        both_map (view.state m).told (view.state n).told (Renamed answer) Moved
-        (λ v w does clear free nothing. rw is (calls_of view lists writes c true (moving v.tree from into) answer m n v w (does clear free) all.asks.counted))
+        let all = subst (Renames d from into answer) (sym same) renames in
+        both_map d.told (view.state n).told (Renamed answer) Moved
+        (λ v w does clear free nothing. rw is (calls_from view lists writes c true (moving v.tree from into) answer m n d v w (does clear free) within all.asks.counted))
         all.told
 
-    moved_by : (answer : Result Unit DiskError) (k : DiskState) → Renames (view.state m) from into answer k → AfterMove answer from into k r (view.state n) → Both (view.state m).told (view.state n).told Moved
+    pub moved_by : (answer : Result Unit DiskError) (k : DiskState) → Renames d from into answer k → AfterMove answer from into k r (view.state n) → Both d.told (view.state n).told Moved
     moved_by (Ok x) k renames (is, same) = moved_once (Ok x) k renames is same
     moved_by (Err NotDir) k renames (look, j, metas, again) =
-        both_then (view.state m).told k.told (view.state n).told (Renamed (Err NotDir)) Again Moved then_moved renames.told
-        (subst (λ told. Both told (view.state n).told Again) metas.world (again_told (found_dir look) j (omega (arith, renames.asks.counts, metas.asks.counts)) again))
+        both_then d.told k.told (view.state n).told (Renamed (Err NotDir)) Again Moved then_moved renames.told
+        (subst (λ told. Both told (view.state n).told Again) metas.world (again_told (found_dir look) j (omega (arith, within, renames.asks.counts, metas.asks.counts)) again))
     moved_by (Err NotFound) k renames (is, same) = moved_once (Err NotFound) k renames is same
     moved_by (Err Exists) k renames (is, same) = moved_once (Err Exists) k renames is same
     moved_by (Err IsDir) k renames (is, same) = moved_once (Err IsDir) k renames is same
@@ -139,29 +141,38 @@ module _ {S C : Type 0} (view : View S C LocalFsFile) (lists : Listings S C Loca
 
   -- ---- over the store
 
+  abbrev rules : S → Rules
+  rules m = rules_with settings (ways m)
+
   -- the move is one where both paths are found, no link is met on either way and nothing stands at the destination
-  abbrev MovedBetween : S → S → WebPath → WebPath → Result Unit FsError → World → World → Type 0
-  MovedBetween m n from to r v w = is_linked v.tree (resolved (plain_rules settings) v.tree from.names) ≡ false
-      → is_linked v.tree (resolved (plain_rules settings) v.tree to.names) ≡ false → row_at v.tree (resolved (plain_rules settings) v.tree to.names) ≡ None
-      → Calls view lists writes c (moving v.tree (resolved (plain_rules settings) v.tree from.names) (resolved (plain_rules settings) v.tree to.names)) m r n v w
+  abbrev pub MovedBetween : S → S → WebPath → WebPath → Result Unit FsError → World → World → Type 0
+  MovedBetween m n from to r v w = IfBothFound view lists writes c (rules m) v from to (row_at v.tree (resolved (rules m) v.tree to.names) ≡ None
+      → Calls view lists writes c (moving v.tree (resolved (rules m) v.tree from.names) (resolved (rules m) v.tree to.names)) m r n v w)
 
-  -- each path is meant as it is written
-  moved_plain : (m n : S) (from to : WebPath) (r : Result Unit FsError) (v w : World) → Moved m n r from.names to.names v w → MovedBetween m n from to r v w
-  moved_plain m n from to r v w moved =
-      subst (λ a. is_linked v.tree a ≡ false → is_linked v.tree (resolved (plain_rules settings) v.tree to.names) ≡ false → row_at v.tree (resolved (plain_rules settings) v.tree to.names) ≡ None
-      → Calls view lists writes c (moving v.tree a (resolved (plain_rules settings) v.tree to.names)) m r n v w) (sym (plain_resolved settings v.tree from.names))
-      (subst (λ b. is_linked v.tree from.names ≡ false → is_linked v.tree b ≡ false → row_at v.tree b ≡ None → Calls view lists writes c (moving v.tree from.names b) m r n v w)
-      (sym (plain_resolved settings v.tree to.names)) moved)
+  moved_at : (m n : S) (from to : WebPath) (r : Result Unit FsError) (one other : Names) (q : Place)
+      → Both (view.state m).told q.disk.told (LedToBoth view lists writes c ways memory local settings m from to one other) → (view.state m).faults ≤ q.disk.faults
+      → MovesAt one other q r (at n) → Told view lists writes c m n (MovedBetween m n from to r)
+  moved_at m n from to r one other q led le (answer, k, renames, t, after, ends) =
+      let same : view.state n ≡ t = ap (λ (x : Place). x.disk) ends in
+      both_then (view.state m).told q.disk.told (view.state n).told (LedToBoth view lists writes c ways memory local settings m from to one other) (Moved m n q.disk le r one other) (MovedBetween m n from to r)
+      (λ v u w p moved apart free beyond nothing.
+      let here = found_there settings (ways m) v from.names one apart free p.first in
+      let into = found_there settings (ways m) v to.names other apart beyond p.second in
+      subst (λ (z : Names). Calls view lists writes c (moving v.tree z (resolved (rules m) v.tree to.names)) m r n v w) here
+      (subst (λ (z : Names). Calls view lists writes c (moving v.tree one z) m r n v w) into
+      (subst (λ (tree : List Row). Calls view lists writes c (moving tree one other) m r n v w) p.same.tree
+      (calls_before view lists writes c (moving u.tree one other) m n r v u w (moving_numbered u.tree one other) p.same
+      (moved (ap (λ (tree : List Row). is_linked tree one) p.same.tree ∙ (ap (is_linked v.tree) here ∙ free))
+      (ap (λ (tree : List Row). is_linked tree other) p.same.tree ∙ (ap (is_linked v.tree) into ∙ beyond))
+      (ap (λ (tree : List Row). row_at tree other) p.same.tree ∙ (ap (row_at v.tree) into ∙ nothing)))))))
+      led
+      (moved_by m n q.disk le r one other answer k renames (subst (AfterMove answer one other k r) (sym same) after))
 
-  pub move_told : (m n : S) (from to : WebPath) (r : Result Unit FsError) → ways m ≡ plain_ways → view.renames m c from to r n → Told view lists writes c m n (MovedBetween m n from to r)
-  move_told m n from to r plain h = by (finds_both_plain (at m) (at n) from to MovesAt r plain (local.renames m n c from to r h).0)
-    where
-      by : MovesAt from.names to.names (at m) r (at n) ⊎ Lost (at m) r (at n) → Told view lists writes c m n (MovedBetween m n from to r)
-      by (inl (answer, k, renames, t, after, ends)) =
-          let same : view.state n ≡ t = ap (λ (x : Place). x.disk) ends in
-          both_map (view.state m).told (view.state n).told (Moved m n r from.names to.names) (MovedBetween m n from to r) (moved_plain m n from to r)
-          (moved_by m n r from.names to.names answer k renames (subst (AfterMove answer from.names to.names k r) (sym same) after))
-      by (inr lost) =
-          both_map (view.state m).told (view.state n).told (CallsBetween view lists writes c ways memory local settings m n from to r (λ v names into. moving v.tree names into)) (MovedBetween m n from to r)
-          (λ v w done clear free nothing. done clear free)
-          (between_lost view lists writes c ways memory local settings m n from to r (λ v names into. moving v.tree names into) lost)
+  pub move_told : (m n : S) (from to : WebPath) (r : Result Unit FsError) → view.renames m c from to r n
+      → Told view lists writes c m n (λ v w. UnlessShut view lists writes c (is_forbidden (rules m) from || is_forbidden (rules m) to) r v w (MovedBetween m n from to r v w))
+  move_told m n from to r h =
+      unless_told view lists writes c ways memory local settings (is_forbidden (rules_of (ways m)) from || is_forbidden (rules_of (ways m)) to) m n _ r (MovedBetween m n from to r) (local.renames m n c from to r h).0
+      (found_both view lists writes c ways memory local settings m n from to r MovesAt (MovedBetween m n from to r)
+      (λ e k q v w le spoiled is ends same apart free beyond nothing.
+      calls_spoiled view lists writes c ways memory local settings m n (moving v.tree (resolved (rules m) v.tree from.names) (resolved (rules m) v.tree to.names)) e r k q v w le spoiled is ends same)
+      (λ one other q led le moves. moved_at m n from to r one other q led le moves))

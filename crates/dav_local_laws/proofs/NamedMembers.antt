@@ -25,30 +25,32 @@ abbrev pub found_dir : Result Row DiskError → Bool
 found_dir (Ok row) = is_dir row.kind
 found_dir (Err e) = false
 
--- the member of a name, as the tree has it
-abbrev pub member : World → WebPath → List ℕ → Child
-member w path name = child_named path name (found_dir (look w.tree (path.names ++ name ∷ [])))
+-- the member of a name in a directory that a path leads to, as the tree has it
+abbrev pub member : World → Names → WebPath → List ℕ → Child
+member w dir path name = child_named path name (found_dir (look w.tree (dir ++ name ∷ [])))
 
-pub rows_members : (w : World) (path : WebPath) (rows : List Row) → AllByRecursion (StandsIn w.tree path.names) rows → map (member w path) (map name_of rows) ≡ map (child_of path) rows
-rows_members w path [] stand = refl
-rows_members w path (row ∷ rows) stand =
-    let first : member w path (name_of row) ≡ child_of path row = ap (λ found. child_named path (name_of row) (found_dir found)) stand.0.found in
-    ap (λ m. m ∷ map (member w path) (map name_of rows)) first ∙ ap (λ ms. child_of path row ∷ ms) (rows_members w path rows stand.1)
+pub rows_members : (w : World) (dir : Names) (path : WebPath) (rows : List Row) → AllByRecursion (StandsIn w.tree dir) rows → map (member w dir path) (map name_of rows) ≡ map (child_of path) rows
+rows_members w dir path [] stand = refl
+rows_members w dir path (row ∷ rows) stand =
+    let first : member w dir path (name_of row) ≡ child_of path row = ap (λ found. child_named path (name_of row) (found_dir found)) stand.0.found in
+    ap (λ m. m ∷ map (member w dir path) (map name_of rows)) first ∙ ap (λ ms. child_of path row ∷ ms) (rows_members w dir path rows stand.1)
 
 -- each is the member of its name
-pub are_members : (w : World) (path : WebPath) (names : Names) → AllByRecursion (λ (m : Child). m ≡ member w path m.name) (map (member w path) names)
-are_members w path [] = tt
-are_members w path (name ∷ names) = (refl, are_members w path names)
+pub are_members : (w : World) (dir : Names) (path : WebPath) (names : Names) → AllByRecursion (λ (m : Child). m ≡ member w dir path m.name) (map (member w dir path) names)
+are_members w dir path [] = tt
+are_members w dir path (name ∷ names) = (refl, are_members w dir path names)
 
-by_names : (w : World) (path : WebPath) (members : List Child) → AllByRecursion (λ (m : Child). m ≡ member w path m.name) members → members ≡ map (member w path) (map (λ (m : Child). m.name) members)
-by_names w path [] all = refl
-by_names w path (m ∷ members) all =
-    ap (λ x. x ∷ members) all.0 ∙ ap (λ ms. member w path m.name ∷ ms) (by_names w path members all.1)
+by_names : (w : World) (dir : Names) (path : WebPath) (members : List Child) → AllByRecursion (λ (m : Child). m ≡ member w dir path m.name) members
+    → members ≡ map (member w dir path) (map (λ (m : Child). m.name) members)
+by_names w dir path [] all = refl
+by_names w dir path (m ∷ members) all =
+    ap (λ x. x ∷ members) all.0 ∙ ap (λ ms. member w dir path m.name ∷ ms) (by_names w dir path members all.1)
 
 -- Members whose names are those of the rows in order are the members of the rows in that order.
-pub in_name_order : (w : World) (path : WebPath) (rows : List Row) (members : List Child) → AllByRecursion (StandsIn w.tree path.names) rows → AllByRecursion (λ (m : Child). m ≡ member w path m.name) members
+pub in_name_order : (w : World) (dir : Names) (path : WebPath) (rows : List Row) (members : List Child) → AllByRecursion (StandsIn w.tree dir) rows
+    → AllByRecursion (λ (m : Child). m ≡ member w dir path m.name) members
     → map (λ (m : Child). m.name) members ≡ map name_of (in_order dir_first rows) → members ≡ map (child_of path) (in_order dir_first rows)
-in_name_order w path rows members stand all same =
-    by_names w path members all
-    ∙ (ap (map (member w path)) same
-    ∙ rows_members w path (in_order dir_first rows) (all_in_order (StandsIn w.tree path.names) dir_first rows stand))
+in_name_order w dir path rows members stand all same =
+    by_names w dir path members all
+    ∙ (ap (map (member w dir path)) same
+    ∙ rows_members w dir path (in_order dir_first rows) (all_in_order (StandsIn w.tree dir) dir_first rows stand))

@@ -1,8 +1,7 @@
--- What a look at a path finds in the told world, where the path is meant as it is written.
+-- What a look at a place finds in the told world.
 use Rattle.std.proofs.Common.{◌≡◌, ◌⊎◌, inl, inr, ◌&&◌, ◌-◌, Bool, true, false, cond, List, length, drop, Option, None, Some, Result, Ok, Err, refl, sym, ap, ◌∙◌}
 use Rattle.std.proofs.lemmas.List.{take-append-drop}
 use Rattle.dav_io.specs.Told.{Both}
-use Rattle.dav_core.specs.declared.error.FsError.{FsError}
 use Rattle.dav_core.specs.declared.error.FsError.TheVariants as fs
 use Rattle.dav_core.specs.declared.handle.DiskError.{DiskError}
 use Rattle.dav_core.specs.declared.handle.DiskError.TheVariants.{NotFound, Exists, NotDir, IsDir, NotEmpty, Failed, NoMemory}
@@ -10,21 +9,16 @@ use Rattle.dav_core.specs.declared.handle.Meta.{Meta}
 use Rattle.dav_core.specs.declared.tree.Kind.{Kind}
 use Rattle.dav_core.specs.declared.tree.Kind.TheVariants.{Dir, File, Link}
 use Rattle.dav_core.specs.declared.tree.Row.{Row}
-use Rattle.dav_core.specs.DavPath.{WebPath}
-use Rattle.dav_core.specs.Disk.{DiskState, IsCounted, IsMetaOf, MetaIn, MetasBy, Refused, way_to}
+use Rattle.dav_core.specs.Disk.{DiskState, IsCounted, IsMetaOf, MetaIn, Refused, way_to}
 use Rattle.dav_core.specs.Errors.{fs_error_of}
 use Rattle.dav_core.specs.Info.{Info, info_of, known}
 use Rattle.dav_core.specs.Path.{Names, parent_of}
 use Rattle.dav_core.specs.Tree.{is_file, is_link, is_linked, look}
-use Rattle.dav_core.specs.World.{SameBesidesOpens, World}
-use Rattle.dav_core.proofs.UnchangedLemmas.{same_besides}
+use Rattle.dav_core.specs.World.{World}
 use Rattle.dav_store.specs.Files.{Spoiled}
-use Rattle.dav_model.specs.declared.settings.Settings.{Settings}
-use Rattle.dav_model.specs.Finding.{resolved, stood_at}
+use Rattle.dav_model.specs.Finding.{stood_at}
 use Rattle.dav_model.specs.Head.{Stood, stood_in}
-use Rattle.dav_model.specs.Plans.{stands}
-use Rattle.dav_model.specs.Rules.{plain_rules}
-use Rattle.dav_model.proofs.PlainWalks.{linked_below, plain_resolved, unlinked_row}
+use Rattle.dav_model.proofs.PlainWalks.{linked_below, unlinked_row}
 use Rattle.dav_methods.specs.Follows.{Agrees, Finds}
 use Rattle.dav_local.specs.Files.{looked_as}
 use Rattle.dav_local.specs.Standing.{under_slash}
@@ -53,13 +47,7 @@ called_for T U V NotEmpty found s t r counted = inl r
 called_for T U V Failed found s t r counted = inr (inl (refl, counted.rose refl))
 called_for T U V NoMemory found s t r counted = inr (inr refl)
 
--- ---- paths
-
-pub stands_plain : (settings : Settings) (w : World) (path : WebPath) → stands (plain_rules settings) w path ≡ stood_at path.slash w (look w.tree path.names)
-stands_plain settings w path = ap (λ names. stood_at path.slash w (look w.tree names)) (plain_resolved settings w.tree path.names)
-
-pub clear_plain : (settings : Settings) (tree : List Row) (names : Names) → is_linked tree (resolved (plain_rules settings) tree names) ≡ false → is_linked tree names ≡ false
-clear_plain settings tree names clear = sym (ap (is_linked tree) (plain_resolved settings tree names)) ∙ clear
+-- ---- links
 
 no_link : (b : Bool) → (b ≡ true → ⊥) → b ≡ false
 no_link true h = absurd (h refl)
@@ -94,25 +82,10 @@ finds_kinds : (slash : Bool) (kind other : Kind) (info : Info) (there : Stood) �
     → Finds (cond (slash && is_file kind) (Err fs.Forbidden) (Ok there)) (under_slash slash other info)
 finds_kinds slash kind other info there clear e is = rw e (finds_by slash kind info there clear is)
 
-finds_in : (w : World) (path : WebPath) (answer : Result Meta DiskError) (s t : DiskState) → MetaIn path.names answer w → is_linked w.tree path.names ≡ false → IsCounted answer s t
-    → Finds (stood_at path.slash w (look w.tree path.names)) (looked_as path.slash answer) ⊎ Spoiled s (looked_as path.slash answer) t
-finds_in w path (Ok m) s t (row, there, is) clear counted =
-    inl (rw there (finds_kinds path.slash row.kind m.kind (info_of m) (stood_in w row) (unlinked_row w.tree path.names row there clear) is.kind (agrees m w row is)))
-finds_in w path (Err e) s t r clear counted =
-    elim (called_for Meta Row Info e (look w.tree path.names) s t r counted) [ inl f ↦ inl (rw f refl) | inr x ↦ inr x ]
-
--- a look at a path is one call of the disk, where `follows` says so with a link at its end followed
-abbrev LooksBy : Bool → DiskState → WebPath → Result Info FsError → DiskState → Type 0
-LooksBy follows s path result t = (answer : Result Meta DiskError) × MetasBy follows s path.names answer t × (result ≡ looked_as path.slash answer)
-
--- A look, of what stands there or of a link itself, finds what stands there.
-pub looks_told : (settings : Settings) (follows : Bool) (path : WebPath) (s : DiskState) (r : Result Info FsError) (t : DiskState) → LooksBy follows s path r t
-    → Both s.told t.told (λ v w. SameBesidesOpens v w
-    × (is_linked v.tree (resolved (plain_rules settings) v.tree path.names) ≡ false → Finds (stands (plain_rules settings) v path) r ⊎ Spoiled s r t))
-looks_told settings follows path s r t (answer, metas, is) =
-    both_stays s.told t.told _ metas.world (λ w told. (
-      same_besides w,
-      λ clear.
-          let free = clear_plain settings w.tree path.names clear in
-          rw (stands_plain settings w path, is) (finds_in w path answer s t (metas.told w told (clear_way follows w.tree path.names free)) free metas.asks.counted),
-    ))
+-- A look at a place, of what stands there or of a link itself, finds what stands there.
+pub finds_in : (slash : Bool) (w : World) (at : Names) (answer : Result Meta DiskError) (s t : DiskState) → MetaIn at answer w → is_linked w.tree at ≡ false → IsCounted answer s t
+    → Finds (stood_at slash w (look w.tree at)) (looked_as slash answer) ⊎ Spoiled s (looked_as slash answer) t
+finds_in slash w at (Ok m) s t (row, there, is) clear counted =
+    inl (rw there (finds_kinds slash row.kind m.kind (info_of m) (stood_in w row) (unlinked_row w.tree at row there clear) is.kind (agrees m w row is)))
+finds_in slash w at (Err e) s t r clear counted =
+    elim (called_for Meta Row Info e (look w.tree at) s t r counted) [ inl f ↦ inl (rw f refl) | inr x ↦ inr x ]

@@ -39,41 +39,36 @@ ghost use Rattle.dav_model.specs.Rules.{Learns, plain_rules};
 ghost use Rattle.dav_store.specs.Leads.{LeadsOn};
 ghost use Rattle.dav_store.specs.Members.{ShowsMembers};
 ghost use Rattle.dav_store.specs.Reached.{ShowsOn};
-ghost use Rattle.dav_store.specs.View.{the_listings, the_view};
 ghost use Rattle.dav_local_laws.specs.LocalStore.{IsLocalStore};
 ghost use Rattle.dav_local_laws.specs.Simple.{is_simple, opened, plain_ways};
 
 use dav_cache::RememberAny;
 use dav_core::{DavPath, Disk};
-use dav_local::{LocalFs, LocalFsDirEntry, LocalFsFile};
+use dav_local::{LocalFs, LocalFsFile};
 use dav_model::Settings;
-use dav_store::{DavDirEntry, DavFile, DavFileSystem, GuardedFileSystem};
+use dav_store::{DavFile, DavFileSystem};
 
 /// Each call of a local store, of its files and of its listings is one call of its disk at the place where its path is
 /// found, and how it finds paths stays.
 pub fn calls_are_local<D: Disk, R: RememberAny>(_fs: &LocalFs<D, R>)
-    ensures { IsLocalStore (the_view ⟦<LocalFs<D, R> as GuardedFileSystem<()>>⟧ D.Disk ⟦<LocalFsFile as DavFile<D>>⟧)
-        (the_listings ⟦<LocalFs<D, R> as GuardedFileSystem<()>>⟧ ⟦<LocalFsDirEntry as DavDirEntry<D>>⟧)
+    ensures { IsLocalStore ⟦<LocalFs<D, R> as DavFileSystem>⟧.view ⟦<LocalFs<D, R> as DavFileSystem>⟧.listings
         ⟦<LocalFsFile as DavFile<D>>⟧.writes (λ s. s.ways) (λ s. R.state s.memory) }
 {}
 
 /// The local store refuses few things, and fails only where its disk met a fault. Of a listing this counts from where
 /// it was begun.
 pub fn local_stores_refuse_few<D: Disk, R: RememberAny>(_fs: &LocalFs<D, R>)
-    ensures { RefusesUsually (the_view ⟦<LocalFs<D, R> as GuardedFileSystem<()>>⟧ D.Disk ⟦<LocalFsFile as DavFile<D>>⟧)
-        (the_listings ⟦<LocalFs<D, R> as GuardedFileSystem<()>>⟧ ⟦<LocalFsDirEntry as DavDirEntry<D>>⟧)
+    ensures { RefusesUsually ⟦<LocalFs<D, R> as DavFileSystem>⟧.view ⟦<LocalFs<D, R> as DavFileSystem>⟧.listings
         ⟦<LocalFsFile as DavFile<D>>⟧.writes tt }
 {
     calls_are_local(_fs)
 }
 
-/// From any state on in which it serves its disk's root, its names don't fold and the rules for macOS don't hold, the
-/// local store follows the rules by which each path is meant as it is written.
+/// From any state on the local store follows the rules of its ways, as far as its memory knows what is so.
 pub fn local_stores_follow_rules<D: Disk, R: RememberAny>(_fs: &LocalFs<D, R>, _settings: &Settings)
-    ensures { _fs.now.ways ≡ plain_ways
-        → Follows (the_view ⟦<LocalFs<D, R> as GuardedFileSystem<()>>⟧ D.Disk ⟦<LocalFsFile as DavFile<D>>⟧)
-        (the_listings ⟦<LocalFs<D, R> as GuardedFileSystem<()>>⟧ ⟦<LocalFsDirEntry as DavDirEntry<D>>⟧)
-        ⟦<LocalFsFile as DavFile<D>>⟧.writes tt (plain_rules _settings.now) _fs.now }
+    ensures { Follows ⟦<LocalFs<D, R> as DavFileSystem>⟧.view ⟦<LocalFs<D, R> as DavFileSystem>⟧.listings
+        ⟦<LocalFsFile as DavFile<D>>⟧.writes tt (rules_with _settings.now _fs.now.ways)
+        (knowledge_of (R.state _fs.now.memory)) _fs.now }
 {
     calls_are_local(_fs)
 }
@@ -82,14 +77,12 @@ pub fn local_stores_follow_rules<D: Disk, R: RememberAny>(_fs: &LocalFs<D, R>, _
 /// rules: in every run, whatever its memory knows and however many names fold alike.
 pub fn reads_are_right<D: Disk, R: RememberAny>(_fs: &LocalFs<D, R>)
     ensures { (q : Query) (t : LocalFs D R) (result : Given LocalFsFile) (reply : Reply)
-        → OpenOnlyHeld (the_view ⟦<LocalFs<D, R> as GuardedFileSystem<()>>⟧ D.Disk ⟦<LocalFsFile as DavFile<D>>⟧)
-        _fs.now result t
-        → Heard (the_view ⟦<LocalFs<D, R> as GuardedFileSystem<()>>⟧ D.Disk ⟦<LocalFsFile as DavFile<D>>⟧)
-        (the_listings ⟦<LocalFs<D, R> as GuardedFileSystem<()>>⟧ ⟦<LocalFsDirEntry as DavDirEntry<D>>⟧) q tt _fs.now
+        → OpenOnlyHeld ⟦<LocalFs<D, R> as DavFileSystem>⟧.view _fs.now result t
+        → Heard ⟦<LocalFs<D, R> as DavFileSystem>⟧.view ⟦<LocalFs<D, R> as DavFileSystem>⟧.listings q tt _fs.now
         result t
         → ((number : Option ℕ)
-        → IsOfNumber (the_view ⟦<LocalFs<D, R> as GuardedFileSystem<()>>⟧ D.Disk ⟦<LocalFsFile as DavFile<D>>⟧) number t
-        result → reply_at q.fields (or_zero number) result ≡ reply)
+        → IsOfNumber ⟦<LocalFs<D, R> as DavFileSystem>⟧.view number t result
+        → reply_at q.fields (or_zero number) result ≡ reply)
         → Reads (rules_with q.settings _fs.now.ways) (knowledge_of (R.state _fs.now.memory)) (D.state _fs.now.disk)
         (D.state t.disk) q reply }
 {
@@ -99,8 +92,7 @@ pub fn reads_are_right<D: Disk, R: RememberAny>(_fs: &LocalFs<D, R>)
 /// Where names don't fold and the rules for macOS don't hold, the local store asks its disk once to look, and at most
 /// once to open.
 pub fn local_stores_ask_once<D: Disk, R: RememberAny>(_fs: &LocalFs<D, R>)
-    ensures { AsksByOne (the_view ⟦<LocalFs<D, R> as GuardedFileSystem<()>>⟧ D.Disk ⟦<LocalFsFile as DavFile<D>>⟧)
-        (the_listings ⟦<LocalFs<D, R> as GuardedFileSystem<()>>⟧ ⟦<LocalFsDirEntry as DavDirEntry<D>>⟧)
+    ensures { AsksByOne ⟦<LocalFs<D, R> as DavFileSystem>⟧.view ⟦<LocalFs<D, R> as DavFileSystem>⟧.listings
         (λ s. is_simple s.ways) }
 {
     calls_are_local(_fs)
@@ -109,9 +101,8 @@ pub fn local_stores_ask_once<D: Disk, R: RememberAny>(_fs: &LocalFs<D, R>)
 /// Calls that write nothing leave how a local store finds paths, and what its memory knows after them it knew before,
 /// or the told world has it.
 pub fn reads_learn_what_stands<D: Disk, R: RememberAny>(_fs: &LocalFs<D, R>)
-    ensures { (t : LocalFs D R) → LeadsOn (the_view ⟦<LocalFs<D, R> as GuardedFileSystem<()>>⟧ D.Disk
-        ⟦<LocalFsFile as DavFile<D>>⟧)
-        (the_listings ⟦<LocalFs<D, R> as GuardedFileSystem<()>>⟧ ⟦<LocalFsDirEntry as DavDirEntry<D>>⟧) tt _fs.now t
+    ensures { (t : LocalFs D R) → LeadsOn ⟦<LocalFs<D, R> as DavFileSystem>⟧.view
+        ⟦<LocalFs<D, R> as DavFileSystem>⟧.listings tt _fs.now t
         → (t.ways ≡ _fs.now.ways) × Learns (D.state _fs.now.disk).told (knowledge_of (R.state _fs.now.memory))
         (knowledge_of (R.state t.memory)) }
 {
@@ -123,7 +114,7 @@ pub fn reads_learn_what_stands<D: Disk, R: RememberAny>(_fs: &LocalFs<D, R>)
 /// wanting.
 pub fn absent_names_cost_one_look<D: Disk, R: RememberAny>(_fs: &LocalFs<D, R>, _path: &DavPath)
     ensures { (result : Result Info FsError) (t : LocalFs D R)
-        → ⟦<LocalFs<D, R> as DavFileSystem>⟧.looks _fs.now _path.now result t
+        → ⟦<LocalFs<D, R> as DavFileSystem>⟧.view.looks _fs.now tt _path.now result t
         → _fs.now.ways.macos ≡ true → _fs.now.ways.folds ≡ false → _fs.now.ways.alone ≡ None
         → is_dot (or_empty (last_name _path.now.names)) ≡ true
         → RefusedNothing (D.state _fs.now.disk).faults (D.state t.disk).faults
@@ -138,14 +129,13 @@ pub fn absent_names_cost_one_look<D: Disk, R: RememberAny>(_fs: &LocalFs<D, R>, 
 pub fn whole_listings_are_sealed<D: Disk, R: RememberAny>(_fs: &LocalFs<D, R>)
     ensures gathers { (n o : LocalFs D R) (l k : LocalFsReadDir) (answers : List Answered) (b : BuilderState)
         → l.builder ≡ Some b
-        → Walked (the_view ⟦<LocalFs<D, R> as GuardedFileSystem<()>>⟧ D.Disk ⟦<LocalFsFile as DavFile<D>>⟧)
-        (the_listings ⟦<LocalFs<D, R> as GuardedFileSystem<()>>⟧ ⟦<LocalFsDirEntry as DavDirEntry<D>>⟧) n l answers o k
+        → Walked ⟦<LocalFs<D, R> as DavFileSystem>⟧.view ⟦<LocalFs<D, R> as DavFileSystem>⟧.listings n l answers o k
         → k.builder ≡ Some (gathered answers b) }
     ensures seals { (t : LocalFs D R) (k j : LocalFsReadDir) (b : BuilderState) (time : Time) (w : World)
         → k.builder ≡ Some b → may_settle b ≡ Some time → (D.state _fs.now.disk).told ≡ Some w
         → is_linked w.tree b.dir ≡ false → dir_time w.tree b.dir ≡ Some time
         → RefusedNothing (D.state _fs.now.disk).faults (D.state t.disk).faults
-        → ⟦<LocalFs<D, R> as DavFileSystem>⟧.lists_on _fs.now k (Ok None) t j
+        → ⟦<LocalFs<D, R> as DavFileSystem>⟧.listings.lists_on _fs.now k (Ok None) t j
         → SealedWith (R.state _fs.now.memory) b time _fs.now.moment (R.state t.memory) }
 {
     calls_are_local(_fs)
@@ -154,10 +144,8 @@ pub fn whole_listings_are_sealed<D: Disk, R: RememberAny>(_fs: &LocalFs<D, R>)
 /// Calls that read and write, whatever they answered, leave how a local store finds paths, and what its memory knows
 /// after them it knew before: what is listed on the way is about to change, and isn't remembered.
 pub fn calls_teach_nothing<D: Disk, R: RememberAny>(_fs: &LocalFs<D, R>)
-    ensures { (t : LocalFs D R) → Reached (the_view ⟦<LocalFs<D, R> as GuardedFileSystem<()>>⟧ D.Disk
-        ⟦<LocalFsFile as DavFile<D>>⟧)
-        (the_listings ⟦<LocalFs<D, R> as GuardedFileSystem<()>>⟧ ⟦<LocalFsDirEntry as DavDirEntry<D>>⟧)
-        ⟦<LocalFsFile as DavFile<D>>⟧.writes tt _fs.now t
+    ensures { (t : LocalFs D R) → Reached ⟦<LocalFs<D, R> as DavFileSystem>⟧.view
+        ⟦<LocalFs<D, R> as DavFileSystem>⟧.listings ⟦<LocalFsFile as DavFile<D>>⟧.writes tt _fs.now t
         → (t.ways ≡ _fs.now.ways) × LearnsNothing (R.state _fs.now.memory) (R.state t.memory) }
 {
     calls_are_local(_fs)
@@ -169,14 +157,12 @@ pub fn calls_teach_nothing<D: Disk, R: RememberAny>(_fs: &LocalFs<D, R>)
 pub fn local_stores_show_the_tree<D: Disk, R: RememberAny>(_fs: &LocalFs<D, R>)
     ensures opened { (w : World) (path : WebPath) → (D.state _fs.now.disk).told ≡ Some w → _fs.now.ways ≡ plain_ways
         → is_linked w.tree path.names ≡ false
-        → ShowsOn (the_view ⟦<LocalFs<D, R> as GuardedFileSystem<()>>⟧ D.Disk ⟦<LocalFsFile as DavFile<D>>⟧)
-        (the_listings ⟦<LocalFs<D, R> as GuardedFileSystem<()>>⟧ ⟦<LocalFsDirEntry as DavDirEntry<D>>⟧) _fs.now tt path
+        → ShowsOn ⟦<LocalFs<D, R> as DavFileSystem>⟧.view ⟦<LocalFs<D, R> as DavFileSystem>⟧.listings _fs.now tt path
         (opened w path) }
     ensures listed { (w : World) (path : WebPath) → (D.state _fs.now.disk).told ≡ Some w → _fs.now.ways ≡ plain_ways
         → HasNoLinks w path.names
-        → ShowsMembers (the_view ⟦<LocalFs<D, R> as GuardedFileSystem<()>>⟧ D.Disk ⟦<LocalFsFile as DavFile<D>>⟧)
-        (the_listings ⟦<LocalFs<D, R> as GuardedFileSystem<()>>⟧ ⟦<LocalFsDirEntry as DavDirEntry<D>>⟧) _fs.now tt path
-        (listed_in w path.names) }
+        → ShowsMembers ⟦<LocalFs<D, R> as DavFileSystem>⟧.view
+        ⟦<LocalFs<D, R> as DavFileSystem>⟧.listings _fs.now tt path (listed_in w path.names) }
 {
     calls_are_local(_fs)
 }

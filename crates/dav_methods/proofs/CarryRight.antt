@@ -2,6 +2,7 @@
 -- goes, and the last act comes to what the plan says.
 use Rattle.std.proofs.Common.{◌≡◌, ◌<◌, ◌⊎◌, ◌&&◌, ◌++◌, ℕ, List, [], ◌∷◌, length, Bool, true, false, not, cond, Option, None, Some, Result, Ok, Err, refl, sym, ap, subst, ◌∙◌, arith, inl, inr}
 use Rattle.dav_io.specs.Counts.{Rose}
+use Rattle.dav_io.specs.declared.failure.NoMemory.{NoMemory as Wanting}
 use Rattle.dav_io.proofs.ToldLemmas.{both_same, both_then}
 use Rattle.dav_core.specs.declared.dav_error.DavError.{DavError}
 use Rattle.dav_core.specs.declared.dav_error.DavError.TheVariants as dav
@@ -12,7 +13,7 @@ use Rattle.dav_core.specs.DavPath.{WebPath}
 use Rattle.dav_core.specs.Info.{Info}
 use Rattle.dav_core.specs.Path.{Names, is_front, parent_of, same_names}
 use Rattle.dav_core.specs.Statuses.{closes, status_of}
-use Rattle.dav_core.specs.Tree.{is_dir, is_file, is_linked, look}
+use Rattle.dav_core.specs.Tree.{is_dir, is_file, is_linked, look, row_at}
 use Rattle.dav_core.specs.World.{IsWorld, SameBesidesOpens, World}
 use Rattle.dav_core.proofs.UnchangedLemmas.{same_besides}
 use Rattle.dav_store.specs.View.{Listings, View}
@@ -22,18 +23,20 @@ use Rattle.dav_model.specs.declared.settings.Settings.{Settings}
 use Rattle.dav_model.specs.CarryPlans.{carries_link, carry_plan, carrying, clearing, has_link_about, method_of}
 use Rattle.dav_model.specs.Conditions.{Fields}
 use Rattle.dav_model.specs.Destination.{Asks, asked_by}
-use Rattle.dav_model.specs.Finding.{is_forbidden, resolved, stood_at}
+use Rattle.dav_model.specs.Finding.{resolved, stood_at}
 use Rattle.dav_model.specs.Due.{failure}
-use Rattle.dav_model.specs.Head.{Stood, refusal, stood_in}
+use Rattle.dav_model.specs.Head.{Reply, Stood, refusal, stood_in}
 use Rattle.dav_model.specs.Overlap.{overlap}
-use Rattle.dav_model.specs.Plans.{Act, Ask, Halt, Plan, above, first, has_link_below, has_parent, is_dir_found, is_found, is_too_deep, refused, refused_there, removing, stands, status_over, unless, unmet, when}
-use Rattle.dav_model.specs.Rules.{Rules, plain_rules}
-use Rattle.dav_model.specs.Written.{ByActs, EndsAs, PartOf, done_reply}
+use Rattle.dav_model.specs.Plans.{Act, Ask, Halt, Plan, above, first, has_link_below, has_parent, is_dir_found, is_found, keeps_file, refused, refused_there, removing, stands, status_over, unless, unmet, when}
+use Rattle.dav_model.specs.Rules.{Knowledge, Rules, plain_rules}
+use Rattle.dav_model.specs.Written.{ByActs, CarriesIn, EndsAs, PartOf, done_reply}
 use Rattle.dav_model.proofs.PlainWalks.{plain_resolved}
 use Rattle.dav_methods.specs.declared.work.Work.{Work}
 use Rattle.dav_methods.specs.declared.work.Work.TheVariants.{Whole}
 use Rattle.dav_methods.specs.Carrying.{Arrives, Carries, CopyMoves, Goes, Leaves, TakesPlace, may_leave, may_take_place, transfer}
-use Rattle.dav_methods.specs.Follows.{CarriedIn, Finds, Follows, Reached, Told, here, looks, looks_at_link}
+use Rattle.dav_methods.proofs.PlainFollows.{Follows, follows_plainly, plainly_apart, plainly_regular}
+use Rattle.dav_methods.specs.Follows as by
+use Rattle.dav_methods.specs.Follows.{CarriedIn, Finds, Reached, Told, answer_or, here, looks, looks_at_link}
 use Rattle.dav_methods.specs.Lines.{Given, Line, fails_when, is_dir_there, is_there, made, no_parent, refused_but_missing, silent}
 use Rattle.dav_methods.specs.Lines as the
 use Rattle.dav_methods.specs.Pouring.{Writes}
@@ -47,10 +50,10 @@ use Rattle.dav_methods.proofs.FreePlaces.{Free}
 use Rattle.dav_methods.proofs.LinesMatch.{above_unlinked, dir_found, first_two, match_two, missing_match, parent_match, refused_match, there_found, unmet_match, when_match}
 use Rattle.dav_methods.proofs.RemovalRun.{Ended, acts, began, both_with, gone_reached, removed, removed_whole}
 use Rattle.dav_methods.proofs.RemovalRun as run
-use Rattle.dav_methods.proofs.Stages.{At, Acts, Case, Clear, EndsFor, Right, at_first, at_map, both_known, ends_done, passed_stage, plain_are, seen_stage, stands_plainly}
+use Rattle.dav_methods.proofs.Stages.{At, Acts, Case, Clear, EndsFor, Right, at_first, at_map, both_known, ends_done, passed_stage, seen_stage, stands_plainly}
 use Rattle.dav_methods.proofs.TreeRows.{DirAt, above as above_row, false_or, front_of, look_row, not_both, parts_of, same_of, same_yes}
 use Rattle.dav_methods.proofs.WalkOrder.{In, paths_in}
-use Rattle.dav_methods.proofs.WorkCovers.{going, in_walked, walked}
+use Rattle.dav_methods.proofs.WorkCovers.{in_walked, walked}
 
 -- ---- lines
 
@@ -169,35 +172,49 @@ no_link settings tree path e = clear_of (is_linked tree path) (has_link_below tr
 
 -- ---- the plan of what is asked for
 
-abbrev pub carry_by : Asked → Settings → Ask → World → Plan
-carry_by asked settings ask v = carry_plan (plain_rules settings) v ask (Ok asked)
+abbrev pub carry_by : Asked → Rules → Ask → World → Plan
+carry_by asked rules ask v = carry_plan rules v ask (Ok asked)
 
-abbrev pub links_by : Asked → Settings → Ask → World → Bool
-links_by asked settings ask v = carries_link (plain_rules settings) v.tree ask.path (Ok asked)
+abbrev pub links_by : Asked → Rules → Ask → World → Bool
+links_by asked rules ask v = carries_link rules v.tree ask.path (Ok asked)
 
 -- what was found there goes
-clearing_found : (settings : Settings) (v : World) (to : WebPath) (stood : Stood) → stands (plain_rules settings) v to ≡ Ok stood
-    → clearing (plain_rules settings) v to ≡ acts_by (is_too_deep (going to.names v.tree)) (walked v.tree to.names)
-clearing_found settings v to stood e =
-    ap (λ (x : Result Stood FsError). cond (is_found x) (unless (when (is_forbidden (plain_rules settings) to) 403) (removing (plain_rules settings) v to)) []) e
-    ∙ removal_planned (plain_rules settings) v to refl refl
+clearing_found : (settings : Settings) (v : World) (to : WebPath) (stood : Stood) (x : run.Case) → x.top ≡ to.names → x.old ≡ v.tree → stands (plain_rules settings) v to ≡ Ok stood
+    → clearing (plain_rules settings) v to ≡ acts (plain_rules settings) x (walked v.tree x.top)
+clearing_found settings v to stood x top old e =
+    ap (λ (x : Result Stood FsError). cond (is_found x) (unless (when (keeps_file (plain_rules settings) to x) 403) (removing (plain_rules settings) v to)) []) e
+    ∙ removal_planned (plain_rules settings) v to x (top ∙ sym (plain_resolved settings v.tree to.names)) old
+
+-- under plain rules no row stays
+keeps_none : (settings : Settings) (o : Option Row) → run.keeps_row (plain_rules settings) o ≡ false
+keeps_none settings None = refl
+keeps_none settings (Some row) = refl
 
 clearing_missing : (settings : Settings) (v : World) (to : WebPath) → stands (plain_rules settings) v to ≡ Err fs.NotFound → clearing (plain_rules settings) v to ≡ []
 clearing_missing settings v to e =
-    ap (λ (x : Result Stood FsError). cond (is_found x) (unless (when (is_forbidden (plain_rules settings) to) 403) (removing (plain_rules settings) v to)) []) e
+    ap (λ (x : Result Stood FsError). cond (is_found x) (unless (when (keeps_file (plain_rules settings) to x) 403) (removing (plain_rules settings) v to)) []) e
 
 module _ {S C F L E : Type 0} (view : View S C F) (lists : Listings S C L E) (writes : Writes F) (c : C) (asked : Asked) where
-  abbrev pub Carry : Type 0
-  Carry = Case view lists writes c (carry_by asked) (links_by asked)
+  -- a request to a store that follows the rules by which each path is meant as it is written
+  pub record Carry : Type 0 where
+    pub settings : Settings
+    pub knows : Knowledge
+    pub ask : Ask
+    pub s : S
+    pub given : by.Follows view lists writes c (plain_rules settings) knows s
+    pub follows : Follows view lists writes c (plain_rules settings) s
+
+  abbrev pub case_of : Carry → Case view lists writes c (carry_by asked) (links_by asked)
+  case_of x = record { rules = plain_rules x.settings; knows = x.knows; ask = x.ask; s = x.s; follows = x.given }
 
   abbrev Sees : Carry → World → Type 0
-  Sees x v = Clear view lists writes c (carry_by asked) (links_by asked) x v
+  Sees x v = Clear view lists writes c (carry_by asked) (links_by asked) (case_of x) v
 
   abbrev Done : Carry → Given → S → Type 0
-  Done x r t = Right view lists writes c (carry_by asked) (links_by asked) x r t
+  Done x r t = Right view lists writes c (carry_by asked) (links_by asked) (case_of x) r t
 
   abbrev Known : Carry → S → (World → Type 0) → Type 0
-  Known x n P = At view lists writes c (carry_by asked) (links_by asked) x n P
+  Known x n P = At view lists writes c (carry_by asked) (links_by asked) (case_of x) n P
 
   abbrev Here : Carry → S → Type 0
   Here x n = Reached view lists writes c x.s n
@@ -229,22 +246,22 @@ module _ {S C F L E : Type 0} (view : View S C F) (lists : Listings S C L E) (wr
   -- ---- endings
 
   -- What acts come to is what is answered.
-  comes_ends : (x : Carry) (line : Line) (outcome : Outcome) (acts : List Act) (t : S) (v w : World) → (carry_by asked x.settings x.ask v).acts ≡ acts
-      → done_reply (carry_by asked x.settings x.ask v).done ≡ record { status = outcome.status; fields = outcome.fields; parts = [] }
-      → Came x line acts t v w → EndsFor view lists writes c (carry_by asked) (links_by asked) x (the.unless line outcome) t v w
+  comes_ends : (x : Carry) (line : Line) (outcome : Outcome) (acts : List Act) (t : S) (v w : World) → (carry_by asked (plain_rules x.settings) x.ask v).acts ≡ acts
+      → done_reply (carry_by asked (plain_rules x.settings) x.ask v).done ≡ record { status = outcome.status; fields = outcome.fields; parts = [] }
+      → Came x line acts t v w → EndsFor view lists writes c (carry_by asked) (links_by asked) (case_of x) (the.unless line outcome) t v w
   comes_ends x (Ok y) outcome acts t v w is done h result said =
-      ends_done view lists writes c (carry_by asked) (links_by asked) x outcome t v w done
-      (λ reply answered. subst (λ a. ByActs x.ask.fields a (carry_by asked x.settings x.ask v).done reply v w) (sym is)
-      (subst (λ z. ByActs x.ask.fields acts (carry_by asked x.settings x.ask v).done z v w) (sym answered) (done_acts x.ask.fields acts (carry_by asked x.settings x.ask v).done v w h))) result said
+      ends_done view lists writes c (carry_by asked) (links_by asked) (case_of x) outcome t v w done
+      (λ reply answered. subst (λ a. ByActs x.ask.fields a (carry_by asked (plain_rules x.settings) x.ask v).done reply v w) (sym is)
+      (subst (λ z. ByActs x.ask.fields acts (carry_by asked (plain_rules x.settings) x.ask v).done z v w) (sym answered) (done_acts x.ask.fields acts (carry_by asked (plain_rules x.settings) x.ask v).done v w h))) result said
   comes_ends x (Err d) outcome acts t v w is done h (Ok reply) said = by (h.said said.0)
     where
       by : Halted x.ask.fields (refusal x.ask.fields (status_of d) (closes d)) acts v w
           ⊎ ((refusal x.ask.fields (status_of d) (closes d) ≡ failure) × Rose (view.state x.s).faults (view.state t).faults × PartOf acts v w)
-          → EndsAs x.ask.fields (carry_by asked x.settings x.ask v) (Ok reply) (Rose (view.state x.s).faults (view.state t).faults) v w
+          → EndsAs x.ask.fields (carry_by asked (plain_rules x.settings) x.ask v) (Ok reply) (Rose (view.state x.s).faults (view.state t).faults) v w
       by (inl halted) =
-          inl (subst (λ a. ByActs x.ask.fields a (carry_by asked x.settings x.ask v).done reply v w) (sym is)
-          (subst (λ z. ByActs x.ask.fields acts (carry_by asked x.settings x.ask v).done z v w) (sym said.1)
-          (halted_acts x.ask.fields (refusal x.ask.fields (status_of d) (closes d)) acts (carry_by asked x.settings x.ask v).done v w halted)))
+          inl (subst (λ a. ByActs x.ask.fields a (carry_by asked (plain_rules x.settings) x.ask v).done reply v w) (sym is)
+          (subst (λ z. ByActs x.ask.fields acts (carry_by asked (plain_rules x.settings) x.ask v).done z v w) (sym said.1)
+          (halted_acts x.ask.fields (refusal x.ask.fields (status_of d) (closes d)) acts (carry_by asked (plain_rules x.settings) x.ask v).done v w halted)))
       by (inr (failed, rose, part)) = inr (said.1 ∙ failed, rose, subst (λ a. PartOf a v w) (sym is) part)
   comes_ends x (Err d) outcome acts t v w is done h (Err e) lacks = subst (λ a. PartOf a v w) (sym is) (h.short lacks)
 
@@ -275,7 +292,7 @@ module _ {S C F L E : Type 0} (view : View S C F) (lists : Listings S C L E) (wr
   SeesBoth x found there v = (SeesParent x found v × Finds (Stands x v asked.to) there) × (place_line x v ≡ None)
 
   abbrev Plans : Carry → (World → List (Option Halt)) → World → Type 0
-  Plans x lines v = Acts view lists writes c (carry_by asked) (links_by asked) x lines (all_acts x) v
+  Plans x lines v = Acts view lists writes c (carry_by asked) (links_by asked) (case_of x) lines (all_acts x) v
 
   from_links : (x : Carry) (v : World) → Sees x v → (is_linked v.tree x.ask.path.names ≡ false) × (has_link_below v.tree x.ask.path.names ≡ false)
   from_links x v clear =
@@ -321,7 +338,7 @@ module _ {S C F L E : Type 0} (view : View S C F) (lists : Listings S C L E) (wr
   plain x tree names = plain_resolved x.settings tree names
 
   abbrev Removal : Carry → List Work → Line → S → World → World → Type 0
-  Removal x works gone m u w = run.Goes view lists writes c (plain_rules x.settings) x.ask.fields x.s x.follows (plain x) works gone m u w
+  Removal x works gone m u w = run.Goes view lists writes c (plain_rules x.settings) x.ask.fields x.s x.knows x.given refl works gone m u w
 
   abbrev AfterGone : Carry → Line → World → World → Type 0
   AfterGone x (Ok y) v w = IsWorld w → Readies x v w
@@ -331,20 +348,24 @@ module _ {S C F L E : Type 0} (view : View S C F) (lists : Listings S C L E) (wr
       → SameBesidesOpens v u → Removal x (Whole asked.to dir ∷ []) gone m u w → Came x gone (clearing (plain_rules x.settings) v asked.to) m v w × AfterGone x gone v w
   cleared x found dir stood gone m v u w p is kind same goes =
       let f = found_at v asked.to stood (look v.tree asked.to.names) refl (sym (plain_stands x v asked.to) ∙ is) in
-      finish gone (removed_whole view lists writes c (plain_rules x.settings) x.ask.fields x.s x.follows (plain x) asked.to dir gone m v u w p.world (some_to x.ask.path.names asked.to.names p.apart) p.to_clear p.to_below
-      (record { row = f.row; in_tree = f.in_tree; at = f.at; kind = sym f.kind ∙ kind }) (λ e. f.slash (kind ∙ e) p.to_clear) same goes)
+      finish gone (removed_whole view lists writes c (plain_rules x.settings) x.ask.fields x.s x.knows x.given refl asked.to asked.to.names dir gone m v u w p.world
+      (some_to x.ask.path.names asked.to.names p.apart) refl p.to_clear p.to_below (plainly_apart (plain_rules x.settings) v (record { folds = refl; macos = refl; alone = refl })) (plain x v.tree asked.to.names)
+      (record { row = f.row; in_tree = f.in_tree; at = f.at; kind = sym f.kind ∙ kind }) (λ e. f.slash (kind ∙ e) p.to_clear)
+      (λ file. (refl, keeps_none x.settings (row_at v.tree asked.to.names))) same goes)
     where
+      going_all : run.Case
+      going_all = began asked.to asked.to.names v p.world (some_to x.ask.path.names asked.to.names p.apart) refl p.to_clear p.to_below
+
       deep : Names → Bool
-      deep path = is_too_deep (going asked.to.names v.tree) path
+      deep path = run.stops_in (plain_rules x.settings) going_all path
 
       to_go : List Names
       to_go = walked v.tree asked.to.names
 
-      finish : (line : Line) → Came x line (acts_by deep to_go) m v w × Ended view lists writes c (plain_rules x.settings) x.ask.fields x.s x.follows (plain x) line
-          (began asked.to.names v p.world (some_to x.ask.path.names asked.to.names p.apart) p.to_clear p.to_below) w
+      finish : (line : Line) → Came x line (acts_by deep to_go) m v w × Ended view lists writes c (plain_rules x.settings) x.ask.fields x.s x.knows x.given refl line going_all w
           → Came x line (clearing (plain_rules x.settings) v asked.to) m v w × AfterGone x line v w
       finish (Ok y) (done, left) = (
-        subst (λ a. AllDone a v w) (sym (clearing_found x.settings v asked.to stood is)) done,
+        subst (λ a. AllDone a v w) (sym (clearing_found x.settings v asked.to stood going_all refl refl is)) done,
         λ world. (
           record {
             world = world;
@@ -354,36 +375,36 @@ module _ {S C F L E : Type 0} (view : View S C F) (lists : Listings S C L E) (wr
           λ none. not_both (is_found (Stands x v asked.to)) (ap is_found is) none,
         ),
       )
-      finish (Err e) (came, left) = (subst (λ a. Came x (Err e) a m v w) (sym (clearing_found x.settings v asked.to stood is)) came, tt)
+      finish (Err e) (came, left) = (subst (λ a. Came x (Err e) a m v w) (sym (clearing_found x.settings v asked.to stood going_all refl refl is)) came, tt)
 
   -- ---- after all looks
 
   -- what was known of the world before, and what stands after the removal
   record Moved (x : Carry) (found : Result Info FsError) (v w : World) : Type 0 where
-    acts : (carry_by asked x.settings x.ask v).acts ≡ all_acts x v
-    done : done_reply (carry_by asked x.settings x.ask v).done ≡ record { status = silent.status; fields = silent.fields; parts = [] }
+    acts : (carry_by asked (plain_rules x.settings) x.ask v).acts ≡ all_acts x v
+    done : done_reply (carry_by asked (plain_rules x.settings) x.ask v).done ≡ record { status = silent.status; fields = silent.fields; parts = [] }
     prepared : Prepares x found v
     gone : AllDone (clearing (plain_rules x.settings) v asked.to) v w
     ready : Readies x v w
 
   over_done : (x : Carry) (v : World) (stood : Stood) → Stands x v asked.to ≡ Ok stood
-      → done_reply (carry_by asked x.settings x.ask v).done ≡ record { status = silent.status; fields = silent.fields; parts = [] }
+      → done_reply (carry_by asked (plain_rules x.settings) x.ask v).done ≡ record { status = silent.status; fields = silent.fields; parts = [] }
   over_done x v stood is = ap (λ (y : Result Stood FsError). done_reply (status_over y)) is
 
   new_done : (x : Carry) (v : World) → Stands x v asked.to ≡ Err fs.NotFound
-      → done_reply (carry_by asked x.settings x.ask v).done ≡ record { status = made.status; fields = made.fields; parts = [] }
+      → done_reply (carry_by asked (plain_rules x.settings) x.ask v).done ≡ record { status = made.status; fields = made.fields; parts = [] }
   new_done x v is = ap (λ (y : Result Stood FsError). done_reply (status_over y)) is
 
   replaced : (x : Carry) → GoesRight x asked.moving → (found : Result Info FsError) (info : Info) (gone : Line) (n m : S) (r : Given) (t : S) → Here x n
       → Known x n (λ v. Plans x (λ v. []) v × SeesBoth x found (Ok info) v) → Removes view lists c (Whole asked.to (is_dir info.kind) ∷ []) n gone m
       → Unless gone (Goes view lists c asked.moving asked (transfer x.ask.path asked found) silent) m r t → Done x r t
   replaced x right found info (Ok y) n m r t reached at removes goes =
-      let after = gone_reached view lists writes c (plain_rules x.settings) x.ask.fields x.s x.follows (plain x) (Whole asked.to (is_dir info.kind) ∷ []) n m (Ok y) removes refl reached in
+      let after = gone_reached view lists writes c (plain_rules x.settings) x.ask.fields x.s x.knows x.given refl (Whole asked.to (is_dir info.kind) ∷ []) n m (Ok y) removes refl reached in
       let (line, is, told) = right found silent m t r after goes in
       both_then (view.state x.s).told (view.state m).told (view.state t).told (λ v w. Sees x v → Moved x found v w) _ _
       (λ v k w before last clear. (let b = before clear in
       let l = last v b.prepared b.ready in
-      subst (λ z. EndsFor view lists writes c (carry_by asked) (links_by asked) x z t v w) (sym is)
+      subst (λ z. EndsFor view lists writes c (carry_by asked) (links_by asked) (case_of x) z t v w) (sym is)
       (comes_ends x line silent (all_acts x v) t v w b.acts b.done
       (comes_then view x.ask.fields x.s line (clearing (plain_rules x.settings) v asked.to) (last_acts x v) t v k w l.0 b.gone l.1))))
       (both_then (view.state x.s).told (view.state n).told (view.state m).told _ (λ u k. Removal x (Whole asked.to (is_dir info.kind) ∷ []) (Ok y) m u k × IsWorld k) (λ v w. Sees x v → Moved x found v w)
@@ -394,7 +415,7 @@ module _ {S C F L E : Type 0} (view : View S C F) (lists : Listings S C L E) (wr
       record { acts = known.0; done = over_done x v stood there; prepared = prepared; gone = came.0; ready = came.1 q.1 }))
       at
       (both_with (view.state n).told (view.state m).told _ IsWorld
-      (removed view lists writes c (plain_rules x.settings) x.ask.fields x.s x.follows (plain x) (Whole asked.to (is_dir info.kind) ∷ []) n m (Ok y) removes reached)
+      (removed view lists writes c (plain_rules x.settings) x.ask.fields x.s x.knows x.given refl (Whole asked.to (is_dir info.kind) ∷ []) n m (Ok y) removes reached)
       (λ k e. x.follows.trees m k after e)))
       told
   replaced x right found info (Err e) n m r t reached at removes (same, is) =
@@ -405,7 +426,7 @@ module _ {S C F L E : Type 0} (view : View S C F) (lists : Listings S C L E) (wr
       comes_ends x (Err e) silent (all_acts x v) m v w known.0 (over_done x v stood there)
       (comes_more view x.ask.fields x.s e (clearing (plain_rules x.settings) v asked.to) (last_acts x v) m v w came.0)))
       at
-      (removed view lists writes c (plain_rules x.settings) x.ask.fields x.s x.follows (plain x) (Whole asked.to (is_dir info.kind) ∷ []) n m (Err e) removes reached))
+      (removed view lists writes c (plain_rules x.settings) x.ask.fields x.s x.knows x.given refl (Whole asked.to (is_dir info.kind) ∷ []) n m (Err e) removes reached))
 
   after_looks : (x : Carry) → GoesRight x asked.moving → (found there : Result Info FsError) (n : S) (r : Given) (t : S) → Here x n
       → Known x n (λ v. Plans x (λ v. []) v × SeesBoth x found there v) → TakesPlace view lists c asked (transfer x.ask.path asked found) there n r t → Done x r t
@@ -427,7 +448,7 @@ module _ {S C F L E : Type 0} (view : View S C F) (lists : Listings S C L E) (wr
         λ none. free,
       ) in
       let l = last v prepared ready in
-      subst (λ z. EndsFor view lists writes c (carry_by asked) (links_by asked) x z t v w) (sym is)
+      subst (λ z. EndsFor view lists writes c (carry_by asked) (links_by asked) (case_of x) z t v w) (sym is)
       (comes_ends x line made (last_acts x v) t v w (known.0 ∙ ap (λ a. a ++ last_acts x v) (clearing_missing x.settings v asked.to missing)) (new_done x v missing)
       (comes_after view x.ask.fields x.s line (last_acts x v) t v u w l.0 p.0.0 l.1))))
       (both_with (view.state x.s).told (view.state n).told _ IsWorld at (λ u e. x.follows.trees n u reached e))
@@ -438,55 +459,55 @@ module _ {S C F L E : Type 0} (view : View S C F) (lists : Listings S C L E) (wr
   from_place : (x : Carry) → GoesRight x asked.moving → (found : Result Info FsError) (k : S) (r : Given) (t : S) → Here x k
       → Known x k (λ v. Plans x (λ v. place_line x v ∷ []) v × SeesParent x found v) → LooksAtLink view lists c asked.to (Arrives view lists c asked (transfer x.ask.path asked found)) k r t → Done x r t
   from_place x right found k r t reached at (there, n, look, next) =
-      seen_stage view lists writes c (carry_by asked) (links_by asked) x (Done x) (λ d t right. right) asked.to (may_take_place asked.replaces) (record { failed = refl; short = refl })
+      seen_stage view lists writes c (carry_by asked) (links_by asked) (case_of x) (Done x) (λ d t right. right) asked.to (may_take_place asked.replaces) (record { failed = refl; short = refl })
       (place_line x) (λ v. []) (all_acts x) (SeesParent x found)
       (λ v there finds. match_two (refused_but_missing there) (fails_when (is_there there && not asked.replaces) 412) (refused_there (Stands x v asked.to)) (when (is_found (Stands x v asked.to) && not asked.replaces) 412)
       (missing_match (Stands x v asked.to) there finds)
       (when_match (is_there there && not asked.replaces) (is_found (Stands x v asked.to) && not asked.replaces) 412 (ap (λ b. b && not asked.replaces) (there_found (Stands x v asked.to) there finds))))
       (λ v clear. ap (is_linked v.tree) (plain_resolved x.settings v.tree asked.to.names) ∙ (to_links x v clear).0)
-      (TakesPlace view lists c asked (transfer x.ask.path asked found) there) there k n r t reached (x.follows.looks_at_link k n asked.to there reached look) at
+      (TakesPlace view lists c asked (transfer x.ask.path asked found) there) there k n r t reached (x.given.looks_at_link k n asked.to there reached look) at
       (λ at goes. after_looks x right found there n r t (looks_at_link k n asked.to there reached look) at goes) next
 
   from_met : (x : Carry) → GoesRight x asked.moving → (found : Result Info FsError) (k : S) (r : Given) (t : S) → Here x k
       → Known x k (λ v. Plans x (λ v. unmet_line x v ∷ place_line x v ∷ []) v × SeesParent x found v)
       → Unless (the.unmet (method_of asked.moving) x.ask.fields found) (LooksAtLink view lists c asked.to (Arrives view lists c asked (transfer x.ask.path asked found))) k r t → Done x r t
   from_met x right found k r t reached at goes =
-      passed_stage view lists writes c (carry_by asked) (links_by asked) x (Done x) (λ d t right. right) (the.unmet (method_of asked.moving) x.ask.fields found)
+      passed_stage view lists writes c (carry_by asked) (links_by asked) (case_of x) (Done x) (λ d t right. right) (the.unmet (method_of asked.moving) x.ask.fields found)
       (unmet_line x) (λ v. place_line x v ∷ []) (all_acts x) (SeesParent x found) k
       (LooksAtLink view lists c asked.to (Arrives view lists c asked (transfer x.ask.path asked found))) r t
-      (at_map view lists writes c (carry_by asked) (links_by asked) x k _ _
+      (at_map view lists writes c (carry_by asked) (links_by asked) (case_of x) k _ _
       (λ v clear p. (p.0, inl (unmet_match (method_of asked.moving) x.ask.fields (Stands x v x.ask.path) found p.1.0.0, p.1))) at)
-      (λ at goes. from_place x right found k r t reached (at_map view lists writes c (carry_by asked) (links_by asked) x k _ _ (λ v clear p. (p.0, p.1.0)) at) goes) goes
+      (λ at goes. from_place x right found k r t reached (at_map view lists writes c (carry_by asked) (links_by asked) (case_of x) k _ _ (λ v clear p. (p.0, p.1.0)) at) goes) goes
 
   from_parent : (x : Carry) → GoesRight x asked.moving → (found : Result Info FsError) (m : S) (r : Given) (t : S) → Here x m
       → Known x m (λ v. Plans x (λ v. parent_line x v ∷ unmet_line x v ∷ place_line x v ∷ []) v × SeesSource x found v) → Leaves view lists c x.ask.path x.ask.fields asked found m r t → Done x r t
   from_parent x right found m r t reached at (up, k, look, next) =
-      seen_stage view lists writes c (carry_by asked) (links_by asked) x (Done x) (λ d t right. right) (the.above asked.to) no_parent (record { failed = refl; short = refl })
+      seen_stage view lists writes c (carry_by asked) (links_by asked) (case_of x) (Done x) (λ d t right. right) (the.above asked.to) no_parent (record { failed = refl; short = refl })
       (parent_line x) (λ v. unmet_line x v ∷ place_line x v ∷ []) (all_acts x) (SeesSource x found)
-      (λ v up finds. parent_match (Stands x v (above asked.to)) up (stands_plainly x.settings v (above asked.to)) finds)
+      (λ v up finds. parent_match (Stands x v (above asked.to)) up (stands_plainly (plain_rules x.settings) v (above asked.to)) finds)
       (λ v clear. ap (is_linked v.tree) (plain_resolved x.settings v.tree (above asked.to).names) ∙ above_unlinked v.tree asked.to.names (to_links x v clear).0)
       (Unless (the.unmet (method_of asked.moving) x.ask.fields found) (LooksAtLink view lists c asked.to (Arrives view lists c asked (transfer x.ask.path asked found))))
-      up m k r t reached (x.follows.looks m k (the.above asked.to) up reached look) at
+      up m k r t reached (x.given.looks m k (the.above asked.to) up reached look) at
       (λ at goes. from_met x right found k r t (looks m k (the.above asked.to) up reached look)
-      (at_map view lists writes c (carry_by asked) (links_by asked) x k _ _ (λ v clear p. (p.0, (p.1.0.0, p.1.1))) at) goes) next
+      (at_map view lists writes c (carry_by asked) (links_by asked) (case_of x) k _ _ (λ v clear p. (p.0, (p.1.0.0, p.1.1))) at) goes) next
 
   from_source : (x : Carry) → GoesRight x asked.moving → (r : Given) (t : S)
       → Looks view c x.ask.path (λ found. Unless (may_leave false x.ask.path asked.to found) (Leaves view lists c x.ask.path x.ask.fields asked found)) x.s r t → Done x r t
   from_source x right r t (found, m, look, next) =
-      seen_stage view lists writes c (carry_by asked) (links_by asked) x (Done x) (λ d t right. right) x.ask.path (may_leave false x.ask.path asked.to) (record { failed = refl; short = refl })
+      seen_stage view lists writes c (carry_by asked) (links_by asked) (case_of x) (Done x) (λ d t right. right) x.ask.path (may_leave false x.ask.path asked.to) (record { failed = refl; short = refl })
       (source_line x) (λ v. parent_line x v ∷ unmet_line x v ∷ place_line x v ∷ []) (all_acts x) (λ v. Unit {0})
       (λ v found finds. match_two (the.refused found) (fails_when (overlap false x.ask.path.names asked.to.names) 403) (refused (Stands x v x.ask.path)) (when (overlap false x.ask.path.names asked.to.names) 403)
       (refused_match (Stands x v x.ask.path) found finds) (when_match (overlap false x.ask.path.names asked.to.names) (overlap false x.ask.path.names asked.to.names) 403 refl))
       (λ v clear. ap (is_linked v.tree) (plain_resolved x.settings v.tree x.ask.path.names) ∙ (from_links x v clear).0)
-      (Leaves view lists c x.ask.path x.ask.fields asked found) found x.s m r t here (x.follows.looks x.s m x.ask.path found here look)
-      (at_first view lists writes c (carry_by asked) (links_by asked) x _ (λ v. (
+      (Leaves view lists c x.ask.path x.ask.fields asked found) found x.s m r t here (x.given.looks x.s m x.ask.path found here look)
+      (at_first view lists writes c (carry_by asked) (links_by asked) (case_of x) _ (λ v. (
         ap (λ l. unless l (all_acts x v))
             (four_lines (refused (Stands x v x.ask.path)) (when (overlap false x.ask.path.names asked.to.names) 403) (parent_line x v) (unmet_line x v) (refused_there (Stands x v asked.to))
             (when (is_found (Stands x v asked.to) && not asked.replaces) 412)),
         tt,
       )))
       (λ at goes. from_parent x right found m r t (looks x.s m x.ask.path found here look)
-      (at_map view lists writes c (carry_by asked) (links_by asked) x m _ _ (λ v clear p. (p.0, (p.1.0.1, p.1.1))) at) goes) next
+      (at_map view lists writes c (carry_by asked) (links_by asked) (case_of x) m _ _ (λ v clear p. (p.0, (p.1.0.1, p.1.1))) at) goes) next
 
   -- Where the last act comes to what the plan says, all does.
   pub carries_right : (x : Carry) → GoesRight x asked.moving → (r : Given) (t : S) → Carries view lists c x.ask.path x.ask.fields (Ok asked) x.s r t → Done x r t
@@ -517,29 +538,50 @@ module _ {S C F L E : Type 0} (view : View S C F) (lists : Listings S C L E) (wr
   short_right moving rules s ask v (Ok reply) (lacks, is) = cc
   short_right moving rules s ask v (Err x) lacks = inl (same_besides v)
 
-  right_ends : (asked : Asked) (moving : Bool) (rules : Rules) (ask : Ask) (s : S) (follows : Follows view lists writes c (plain_rules rules.settings) s) (r : Given) (t : S) (v w : World)
-      → Asks moving rules.settings.prefix ask.fields (Ok asked) → IsWorld v
-      → (Clear view lists writes c (carry_by asked) (links_by asked) (record { settings = rules.settings; ask = ask; s = s; follows = follows }) v
-      → EndsFor view lists writes c (carry_by asked) (links_by asked) (record { settings = rules.settings; ask = ask; s = s; follows = follows }) r t v w)
-      → CarriedIn view lists writes c (plain_rules rules.settings) moving ask s r t v w
-  right_ends asked moving rules ask s follows r t v w asks world ends (Ok reply) answers =
-      (Ok asked, asks, λ links. ends (record { world = world; links = links }) (Ok reply) answers)
-  right_ends asked moving rules ask s follows r t v w asks world ends (Err e) answers =
-      inr (Ok asked, asks, λ links. ends (record { world = world; links = links }) (Err e) answers)
+  right_ends : (asked : Asked) (moving : Bool) (ask : Ask) (x : Carry view lists writes c asked) → x.ask ≡ ask → (r : Given) (t : S) (v w : World)
+      → Asks moving x.settings.prefix ask.fields (Ok asked) → IsWorld v
+      → (Clear view lists writes c (carry_by asked) (links_by asked) (case_of view lists writes c asked x) v
+      → EndsFor view lists writes c (carry_by asked) (links_by asked) (case_of view lists writes c asked x) r t v w)
+      → CarriedIn view lists writes c (plain_rules x.settings) moving x.ask x.s r t v w
+  right_ends asked moving ask x same r t v w asks world ends result answers = by_result result answers
+    where
+      sees : carries_link (plain_rules x.settings) v.tree x.ask.path (Ok asked) ≡ false → Clear view lists writes c (carry_by asked) (links_by asked) (case_of view lists writes c asked x) v
+      sees links = record { world = world; regular = plainly_regular (plain_rules x.settings) x.knows v (record { folds = refl; macos = refl; alone = refl }); links = links }
+
+      own : Asks moving x.settings.prefix x.ask.fields (Ok asked)
+      own = subst (λ (z : Ask). Asks moving x.settings.prefix z.fields (Ok asked)) (sym same) asks
+
+      by_result : (result : Result Reply Wanting) → answer_or x.ask.fields r result → CarriesIn (plain_rules x.settings) moving x.ask result (Rose (view.state x.s).faults (view.state t).faults) v w
+      by_result (Ok reply) answers = (Ok asked, own, λ links. ends (sees links) (Ok reply) answers)
+      by_result (Err e) answers = inr (Ok asked, own, λ links. ends (sees links) (Err e) answers)
+
+  -- Rules by which each path is meant as it is written are the plain ones.
+  plain_are : (rules : Rules) → rules.folds ≡ false → rules.macos ≡ false → rules.alone ≡ None → rules ≡ plain_rules rules.settings
+  plain_are rules folds macos alone =
+      ap (λ b. record { settings = rules.settings; folds = b; macos = rules.macos; alone = rules.alone }) folds
+      ∙ (ap (λ b. record { settings = rules.settings; folds = false; macos = b; alone = rules.alone }) macos
+      ∙ ap (λ o. record { settings = rules.settings; folds = false; macos = false; alone = o }) alone)
 
   -- A COPY or a MOVE is right where its last act comes to what the plan says.
-  pub carried_right : (moving : Bool) → ((asked : Asked) (x : Carry view lists writes c asked) → asked.moving ≡ moving → GoesRight view lists writes c asked x moving) → (rules : Rules) (s : S)
-      → Follows view lists writes c rules s → rules.folds ≡ false → rules.macos ≡ false → rules.alone ≡ None → (ask : Ask) (r : Given) (t : S)
+  pub carried_right : (moving : Bool) → ((asked : Asked) (x : Carry view lists writes c asked) → asked.moving ≡ moving → GoesRight view lists writes c asked x moving) → (rules : Rules) (k : Knowledge) (s : S)
+      → by.Follows view lists writes c rules k s → rules.folds ≡ false → rules.macos ≡ false → rules.alone ≡ None → (ask : Ask) (r : Given) (t : S)
       → Next (CopyMoves view lists c moving rules.settings.prefix ask.path ask.fields) s r t → Told view lists writes c s t (CarriedIn view lists writes c rules moving ask s r t)
-  carried_right moving last rules s follows folds macos alone ask r t (inl (same, is)) =
+  carried_right moving last rules k s follows folds macos alone ask r t (inl (same, is)) =
       rw (same, is) (both_same (view.state s).told (view.state s).told _ (λ v. short_right moving rules s ask v) refl)
-  carried_right moving last rules s follows folds macos alone ask r t (inr (Err e, asks, (same, is))) =
+  carried_right moving last rules k s follows folds macos alone ask r t (inr (Err e, asks, (same, is))) =
       rw (same, is) (both_same (view.state s).told (view.state s).told _ (λ v. unchanged_right moving rules s ask v e asks) refl)
-  carried_right moving last rules s follows folds macos alone ask r t (inr (Ok asked, asks, goes)) =
+  carried_right moving last rules k s follows folds macos alone ask r t (inr (Ok asked, asks, goes)) =
       let same : rules ≡ plain_rules rules.settings = plain_are rules folds macos alone in
-      let plain = subst (λ z. Follows view lists writes c z s) same follows in
-      let x : Carry view lists writes c asked = record { settings = rules.settings; ask = ask; s = s; follows = plain } in
+      let given = subst (λ z. by.Follows view lists writes c z k s) same follows in
+      let x : Carry view lists writes c asked = record {
+        settings = rules.settings;
+        knows = k;
+        ask = ask;
+        s = s;
+        given = given;
+        follows = follows_plainly view lists writes c (plain_rules rules.settings) k s (record { folds = refl; macos = refl; alone = refl }) given;
+      } in
       let own : asked.moving ≡ moving = asked_moving moving rules.settings.prefix ask.fields asked asks in
       let right = carries_right view lists writes c asked x (subst (GoesRight view lists writes c asked x) (sym own) (last asked x own)) r t goes in
       subst (λ z. Told view lists writes c s t (CarriedIn view lists writes c z moving ask s r t)) (sym same)
-      (both_known (view.state s).told (view.state t).told _ _ (λ v w told ends. right_ends asked moving rules ask s plain r t v w asks (follows.trees s v here told) ends) right)
+      (both_known (view.state s).told (view.state t).told _ _ (λ v w told ends. right_ends asked moving ask x refl r t v w asks (follows.trees s v here told) ends) right)

@@ -30,7 +30,8 @@ use Rattle.dav_model.proofs.JoiningLemmas.{part_none}
 use Rattle.dav_methods.specs.declared.child.Child.{Child}
 use Rattle.dav_methods.specs.declared.transfer.Transfer.{Transfer}
 use Rattle.dav_methods.specs.Copying.{AfterMaking, Copies, CopiesBy, CopiesDir, Enters, goes, stops, transfers_in, done as no_work, short as cut_short}
-use Rattle.dav_methods.specs.Follows.{Calls, Follows, Reached, Told, child_of, children_in, copies, makes_dir}
+use Rattle.dav_methods.proofs.PlainFollows.{Follows}
+use Rattle.dav_methods.specs.Follows.{Calls, Reached, Told, child_of, children_in, copies, makes_dir}
 use Rattle.dav_methods.specs.Lines.{Line}
 use Rattle.dav_methods.specs.Pouring.{Writes}
 use Rattle.dav_methods.specs.Reading.{HasMembers, HasNoMembers}
@@ -42,7 +43,8 @@ use Rattle.dav_methods.proofs.CarryRight.{Prepared, some_from, some_to}
 use Rattle.dav_methods.proofs.CopyCovers.{CoversAll, FitsAll, dest, dest_below, dir_walk, file_walk, members_below, rows_cover, rows_fit, walk_of, walks_of}
 use Rattle.dav_methods.proofs.CopyWork.{Coming, HoldsRest, coming_made, coming_same, first_free, first_up, no_link_now, shorter, source_row}
 use Rattle.dav_methods.proofs.FreePlaces.{copying_free, making_free}
-use Rattle.dav_methods.proofs.RemovalRun.{all_left, both_with, members_reached}
+use Rattle.dav_methods.proofs.ListingsLead.{listed_on}
+use Rattle.dav_methods.proofs.RemovalRun.{all_left, both_with}
 use Rattle.dav_methods.proofs.RemovalWork.{StandsAs, no_link_below, unlinked}
 use Rattle.dav_methods.proofs.TreeRows.{Parts, above, all_in, at_row, dir_kind, false_or, filter_in, front_length, front_then, in_filter, not_both, only_row, parts_of}
 use Rattle.dav_methods.proofs.WalkOrder.{In, in_paths}
@@ -309,7 +311,7 @@ module _ {S C F L E : Type 0} (view : View S C F) (lists : Listings S C L E) (wr
       }))
       (made_told m k x (Ok y) reached call)
       (both_with (view.state k).told (view.state n).told _ IsWorld (follows.members k n x.from members_read (makes_dir m k x.to (Ok y) reached call) has)
-      (λ w e. follows.trees n w (members_reached view lists writes c rules fields start follows plain x.from members_read k n (makes_dir m k x.to (Ok y) reached call) has) e))
+      (λ w e. follows.trees n w (listed_on view lists writes c start k n x.from has.listed (makes_dir m k x.to (Ok y) reached call) has.was) e))
 
   -- ---- a file
 
@@ -378,7 +380,7 @@ module _ {S C F L E : Type 0} (view : View S C F) (lists : Listings S C L E) (wr
     subst (λ z. ToldIn m z (Steps (x ∷ works) rest)) (sym same) (subst (λ z. ToldIn m k (Steps (x ∷ works) z)) (sym is) (alone_step x works m k y reached dir shallow own call)),
   )
   entered false x works rest m k n y reached dir shallow own call (members_read, has, is) = (
-    members_reached view lists writes c rules fields start follows plain x.from members_read k n (makes_dir m k x.to (Ok y) reached call) has,
+    listed_on view lists writes c start k n x.from has.listed (makes_dir m k x.to (Ok y) reached call) has.was,
     subst (λ z. ToldIn m n (Steps (x ∷ works) z)) (sym is) (opened_step x members_read works m k n y reached dir shallow own call has),
   )
 

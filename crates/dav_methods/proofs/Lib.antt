@@ -13,14 +13,19 @@ mod WalkCopies
 mod LineRows
 pub mod AnswersListed
 pub mod EditsJoined
-mod Stages
+pub mod Stages
 mod LinesMatch
+mod AboveFree
+pub mod PlainFollows
 pub mod MakingFollows
 pub mod PutFollows
-mod OpenedFile
-mod WalkOrder
-mod TreeRows
+pub mod OpenedFile
+pub mod WalkOrder
+pub mod TreeRows
 mod RemovalWork
+mod ApartKept
+mod FoundStill
+mod Beneath
 mod WorkCovers
 mod ActsJoined
 pub mod ListingsLead

@@ -43,7 +43,7 @@ through_place (Some row) found o e = kind_place row.kind found o e
 some_place : (a o : Option Row) → ◌≡◌ {A = Result (Option Row) DiskError} (Ok a) (Ok o) → a ≡ o
 some_place a o e = cc
 
-place_row : (tree : List Row) (at names : Names) (o : Option Row) → place_from tree at names ≡ Ok o → row_at tree (at ++ names) ≡ o
+pub place_row : (tree : List Row) (at names : Names) (o : Option Row) → place_from tree at names ≡ Ok o → row_at tree (at ++ names) ≡ o
 place_row tree at [] o e = ap (row_at tree) (append-nil at) ∙ some_place (row_at tree at) o e
 place_row tree at (name ∷ names) o e =
     ap (row_at tree) (sym (append_assoc at (name ∷ []) names)) ∙ place_row tree (at ++ name ∷ []) names o (through_place (row_at tree at) (place_from tree (at ++ name ∷ []) names) o e)

@@ -27,14 +27,15 @@ use Rattle.dav_core.proofs.UnchangedLemmas.{same_besides, same_besides_then}
 use Rattle.dav_store.specs.Files.{Spoiled}
 use Rattle.dav_store.specs.View.{Listings, View}
 use Rattle.dav_model.specs.declared.outcome.Outcome.{Outcome}
-use Rattle.dav_model.specs.declared.settings.Settings.{Settings}
 use Rattle.dav_model.specs.Conditions.{Fields}
-use Rattle.dav_model.specs.Finding.{resolved, stood_at}
+use Rattle.dav_model.specs.Finding.{empty_file, has_slash, is_localized, is_virtual, resolved, stood_at}
 use Rattle.dav_model.specs.Head.{Reply, Stood, refusal}
 use Rattle.dav_model.specs.Plans.{Act, Ask, Halt, Plan, does, first, halts, line, meets_link, plan, stands, unless}
-use Rattle.dav_model.specs.Rules.{Rules, plain_rules}
+use Rattle.dav_model.specs.Rules.{Knowledge, Rules, SameDots}
+use Rattle.dav_model.specs.Folds.{dir_time, has_name}
+use Rattle.dav_model.specs.Valid.{IsRegular, no_twins}
 use Rattle.dav_model.specs.Written.{ByActs, EndsAs, PartOf, done_reply}
-use Rattle.dav_methods.specs.Follows.{Finds, Follows, LooksBy, Reached, RightIn, Told, answer_or, looks}
+use Rattle.dav_methods.specs.Follows.{Finds, Follows, LooksBy, Reached, RightIn, Told, answer_or, here, looks}
 use Rattle.dav_methods.specs.Lines.{Given, Line}
 use Rattle.dav_methods.specs.Pouring.{Writes}
 use Rattle.dav_methods.specs.Table.{Ends, Looks, Next, Run, Unless}
@@ -77,12 +78,20 @@ stood_same slash v u (Ok row) same = ap (λ (f : Option Stored). cond (slash && 
 stood_same slash v u (Err e) same = refl
 
 -- What stands somewhere depends on nothing that looks change.
-pub stands_same : (settings : Settings) (v u : World) (path : WebPath) → SameBesidesOpens v u → stands (plain_rules settings) u path ≡ stands (plain_rules settings) v path
-stands_same settings v u path same =
-    let at : Names = resolved (plain_rules settings) v.tree path.names in
-    ap (λ (tree : List Row). stood_at path.slash u (look tree (resolved (plain_rules settings) tree path.names))) same.tree
-    ∙ stood_same path.slash v u (look v.tree at)
-    (λ row e. (same.files row.number (inl (ap (λ tree. is_numbered tree row.number) same.tree ∙ found_numbered v.tree at row e))).1)
+pub stands_same : (rules : Rules) (v u : World) (path : WebPath) → SameBesidesOpens v u → stands rules u path ≡ stands rules v path
+stands_same rules v u path same =
+    let at : Names = resolved rules v.tree path.names in
+    let first = ap (λ (tree : List Row). cond (is_virtual rules path) (Ok empty_file) (cond ((rules.macos && is_localized (resolved rules tree path.names)) || false) (Err fs.NotFound)
+    (stood_at (has_slash rules.alone path) u (look tree (resolved rules tree path.names))))) same.tree in
+    let stood : stood_at (has_slash rules.alone path) u (look v.tree at) ≡ stood_at (has_slash rules.alone path) v (look v.tree at) =
+    stood_same (has_slash rules.alone path) v u (look v.tree at)
+    (λ row e. (same.files row.number (inl (ap (λ tree. is_numbered tree row.number) same.tree ∙ found_numbered v.tree at row e))).1) in
+    let second =
+    shown (is_virtual rules path) ((rules.macos && is_localized at) || false) (stood_at (has_slash rules.alone path) u (look v.tree at)) (stood_at (has_slash rules.alone path) v (look v.tree at)) stood in
+    first ∙ second
+  where
+    shown : (b l : Bool) (x y : Result Stood FsError) → x ≡ y → cond b (Ok empty_file) (cond l (Err fs.NotFound) x) ≡ cond b (Ok empty_file) (cond l (Err fs.NotFound) y)
+    shown b l x y e = ap (λ z. cond b (Ok empty_file) (cond l (Err fs.NotFound) z)) e
 
 slashed_could : (b : Bool) (there : Stood) (e : FsError) → cond b (Err fs.Forbidden) (Ok there) ≡ Err e → CouldRefuse e
 slashed_could true there e f = inr (let g : fs.Forbidden ≡ e = cc in sym g)
@@ -100,8 +109,23 @@ refused_could slash w path (Err d) e at f = by (look_err w.tree path d at)
     by (inr is) = inr (sym same ∙ ap fs_error_of is)
 
 -- A look is refused with NotFound or Forbidden alone.
-pub stands_plainly : (settings : Settings) (w : World) (path : WebPath) (e : FsError) → stands (plain_rules settings) w path ≡ Err e → CouldRefuse e
-stands_plainly settings w path e f = refused_could path.slash w (resolved (plain_rules settings) w.tree path.names) (look w.tree (resolved (plain_rules settings) w.tree path.names)) e refl f
+pub stands_plainly : (rules : Rules) (w : World) (path : WebPath) (e : FsError) → stands rules w path ≡ Err e → CouldRefuse e
+stands_plainly rules w path e f = by (is_virtual rules path) ((rules.macos && is_localized (resolved rules w.tree path.names)) || false) f
+  where
+    by : (v l : Bool) → cond v (Ok empty_file) (cond l (Err fs.NotFound) (stood_at (has_slash rules.alone path) w (look w.tree (resolved rules w.tree path.names)))) ≡ Err e → CouldRefuse e
+    by true l f = cc
+    by false true f = inl (let g : fs.NotFound ≡ e = cc in sym g)
+    by false false f = refused_could (has_slash rules.alone path) w (resolved rules w.tree path.names) (look w.tree (resolved rules w.tree path.names)) e refl f
+
+-- A world with the same tree is as regular.
+pub regular_same : (rules : Rules) (k : Knowledge) (v u : World) → u.tree ≡ v.tree → IsRegular rules k v → IsRegular rules k u
+regular_same rules k v u same regular = record {
+  apart = λ folds. ap no_twins same ∙ regular.apart folds;
+  sound = λ macos. let s = regular.sound macos in record {
+    closed = λ dir time e. s.closed dir time (subst (λ (tree : List Row). dir_time tree dir ≡ Some time) same e);
+    names = λ dir time has e f. subst (λ (tree : List Row). SameDots has (has_name tree dir)) (sym same) (s.names dir time has (subst (λ (tree : List Row). dir_time tree dir ≡ Some time) same e) f);
+  };
+}
 
 -- ---- links
 
@@ -164,27 +188,29 @@ refusal_same : (fields : Fields) (a b : ℕ) (x y : Bool) → a ≡ b → x ≡ 
 refusal_same fields a b x y e f = ap (λ n. refusal fields n x) e ∙ ap (refusal fields b) f
 
 -- The plan of a request by its method alone, and whether it meets a link.
-abbrev pub planned : Settings → Ask → World → Plan
-planned settings ask v = plan (plain_rules settings) v ask
+abbrev pub planned : Rules → Ask → World → Plan
+planned rules ask v = plan rules v ask
 
-abbrev pub linked : Settings → Ask → World → Bool
-linked settings ask v = meets_link ask.method v.tree (resolved (plain_rules settings) v.tree ask.path.names)
+abbrev pub linked : Rules → Ask → World → Bool
+linked rules ask v = meets_link ask.method v.tree (resolved rules v.tree ask.path.names)
 
-module _ {S C F L E : Type 0} (view : View S C F) (lists : Listings S C L E) (writes : Writes F) (c : C) (plans : Settings → Ask → World → Plan) (meets : Settings → Ask → World → Bool) where
+module _ {S C F L E : Type 0} (view : View S C F) (lists : Listings S C L E) (writes : Writes F) (c : C) (plans : Rules → Ask → World → Plan) (meets : Rules → Ask → World → Bool) where
   -- a request to a store that follows the rules of a plain one
   pub record Case : Type 0 where
-    pub settings : Settings
+    pub rules : Rules
+    pub knows : Knowledge
     pub ask : Ask
     pub s : S
-    pub follows : Follows view lists writes c (plain_rules settings) s
+    pub follows : Follows view lists writes c rules knows s
 
   abbrev pub plan_of : Case → World → Plan
-  plan_of x v = plans x.settings x.ask v
+  plan_of x v = plans x.rules x.ask v
 
   -- It meets no link.
   pub record Clear (x : Case) (v : World) : Type 0 where
     pub world : IsWorld v
-    pub links : meets x.settings x.ask v ≡ false
+    pub regular : IsRegular x.rules x.knows v
+    pub links : meets x.rules x.ask v ≡ false
 
   abbrev pub EndsFor : Case → Given → S → World → World → Type 0
   EndsFor x r t v w = (result : Result Reply Wanting) → answer_or x.ask.fields r result
@@ -305,20 +331,20 @@ module _ {S C F L E : Type 0} (view : View S C F) (lists : Listings S C L E) (wr
 
   -- what is known after a look
   pub looked : (x : Case) (P : World → Type 0) (path : WebPath) (found : Result Info FsError) (m n : S) → Reached view lists writes c x.s m
-      → Told view lists writes c m n (LooksBy view lists writes c (plain_rules x.settings) path m found n)
-      → ((v : World) → Clear x v → is_linked v.tree (resolved (plain_rules x.settings) v.tree path.names) ≡ false) → At x m P
-      → At x n (λ v. P v × (Finds (stands (plain_rules x.settings) v path) found ⊎ Spoiled (view.state x.s) found (view.state n)))
+      → Told view lists writes c m n (LooksBy view lists writes c x.rules x.knows path m found n)
+      → ((v : World) → Clear x v → is_linked v.tree (resolved x.rules v.tree path.names) ≡ false) → At x m P
+      → At x n (λ v. P v × (Finds (stands x.rules v path) found ⊎ Spoiled (view.state x.s) found (view.state n)))
   looked x P path found m n reached look free at =
       both_then (view.state x.s).told (view.state m).told (view.state n).told _ _ _
       (λ v u a p q. (
         same_besides_then v u a p.0 q.0,
-        λ clear. (p.1 clear, on v u p.0 (q.1 (subst (λ (tree : List Row). is_linked tree (resolved (plain_rules x.settings) tree path.names) ≡ false) (sym p.0.tree) (free v clear)))),
+        λ clear. (p.1 clear, on v u p.0 (q.1 (regular_same x.rules x.knows v u p.0.tree clear.regular) (subst (λ (tree : List Row). is_linked tree (resolved x.rules tree path.names) ≡ false) (sym p.0.tree) (free v clear)))),
       ))
       at look
     where
-      on : (v u : World) → SameBesidesOpens v u → Finds (stands (plain_rules x.settings) u path) found ⊎ Spoiled (view.state m) found (view.state n)
-          → Finds (stands (plain_rules x.settings) v path) found ⊎ Spoiled (view.state x.s) found (view.state n)
-      on v u same (inl finds) = inl (subst (λ y. Finds y found) (stands_same x.settings v u path same) finds)
+      on : (v u : World) → SameBesidesOpens v u → Finds (stands x.rules u path) found ⊎ Spoiled (view.state m) found (view.state n)
+          → Finds (stands x.rules v path) found ⊎ Spoiled (view.state x.s) found (view.state n)
+      on v u same (inl finds) = inl (subst (λ y. Finds y found) (stands_same x.rules v u path same) finds)
       on v u same (inr spoiled) = inr (spoiled_from x.s m n found (x.follows.counts m reached) spoiled)
 
   -- what a line says of a look that was spoiled
@@ -333,30 +359,30 @@ module _ {S C F L E : Type 0} (view : View S C F) (lists : Listings S C L E) (wr
   -- What follows a look, by its line, where more is known.
   pub seen_stage : (x : Case) (G : Given → S → Type 0) → Embeds x G → (path : WebPath) (judge : Result Info FsError → Line) → SaysFaults judge → (h : World → Option Halt)
       → (rest : World → List (Option Halt)) (more : World → List Act) (K : World → Type 0)
-      → ((v : World) (found : Result Info FsError) → Finds (stands (plain_rules x.settings) v path) found → Matches (judge found) (h v))
-      → ((v : World) → Clear x v → is_linked v.tree (resolved (plain_rules x.settings) v.tree path.names) ≡ false)
+      → ((v : World) (found : Result Info FsError) → Finds (stands x.rules v path) found → Matches (judge found) (h v))
+      → ((v : World) → Clear x v → is_linked v.tree (resolved x.rules v.tree path.names) ≡ false)
       → (run : Run S) (found : Result Info FsError) (m n : S) (r : Given) (t : S) → Reached view lists writes c x.s m
-      → Told view lists writes c m n (LooksBy view lists writes c (plain_rules x.settings) path m found n) → At x m (λ v. Acts x (λ v. h v ∷ rest v) more v × K v)
-      → (At x n (λ v. Acts x rest more v × ((K v × Finds (stands (plain_rules x.settings) v path) found) × (h v ≡ None))) → run n r t → G r t)
+      → Told view lists writes c m n (LooksBy view lists writes c x.rules x.knows path m found n) → At x m (λ v. Acts x (λ v. h v ∷ rest v) more v × K v)
+      → (At x n (λ v. Acts x rest more v × ((K v × Finds (stands x.rules v path) found) × (h v ≡ None))) → run n r t → G r t)
       → Next (Unless (judge found) run) n r t → G r t
   seen_stage x G embeds path judge says h rest more K agrees free run found m n r t reached look at on (inl short) =
       short_stage x G embeds _ n r t (looked x (λ v. Acts x (λ v. h v ∷ rest v) more v × K v) path found m n reached look free at) short
   seen_stage x G embeds path judge says h rest more K agrees free run found m n r t reached look at on (inr goes) =
-      passed_stage x G embeds (judge found) h rest more (λ v. K v × Finds (stands (plain_rules x.settings) v path) found) n run r t
+      passed_stage x G embeds (judge found) h rest more (λ v. K v × Finds (stands x.rules v path) found) n run r t
       (at_map x n _ _ (λ v clear p. (p.0.0, judged v p.0.1 p.1)) (looked x (λ v. Acts x (λ v. h v ∷ rest v) more v × K v) path found m n reached look free at)) on goes
     where
-      judged : (v : World) → K v → Finds (stands (plain_rules x.settings) v path) found ⊎ Spoiled (view.state x.s) found (view.state n)
-          → (Matches (judge found) (h v) × (K v × Finds (stands (plain_rules x.settings) v path) found)) ⊎ FailsAs x (judge found) n
+      judged : (v : World) → K v → Finds (stands x.rules v path) found ⊎ Spoiled (view.state x.s) found (view.state n)
+          → (Matches (judge found) (h v) × (K v × Finds (stands x.rules v path) found)) ⊎ FailsAs x (judge found) n
       judged v known (inl finds) = inl (agrees v found finds, (known, finds))
       judged v known (inr spoiled) = inr (fails_as x judge says found n spoiled)
 
   -- A look, its line, and what follows.
   pub look_stage : (x : Case) (G : Given → S → Type 0) → Embeds x G → (path : WebPath) (judge : Result Info FsError → Line) → SaysFaults judge → (h : World → Option Halt)
       → (rest : World → List (Option Halt)) (more : World → List Act)
-      → ((v : World) (found : Result Info FsError) → Finds (stands (plain_rules x.settings) v path) found → Matches (judge found) (h v))
-      → ((v : World) → Clear x v → is_linked v.tree (resolved (plain_rules x.settings) v.tree path.names) ≡ false)
+      → ((v : World) (found : Result Info FsError) → Finds (stands x.rules v path) found → Matches (judge found) (h v))
+      → ((v : World) → Clear x v → is_linked v.tree (resolved x.rules v.tree path.names) ≡ false)
       → (run : Result Info FsError → Run S) (m : S) (r : Given) (t : S) → Reached view lists writes c x.s m → At x m (Acts x (λ v. h v ∷ rest v) more)
-      → ((found : Result Info FsError) (n : S) → Reached view lists writes c x.s n → At x n (λ v. Acts x rest more v × Finds (stands (plain_rules x.settings) v path) found) → run found n r t → G r t)
+      → ((found : Result Info FsError) (n : S) → Reached view lists writes c x.s n → At x n (λ v. Acts x rest more v × Finds (stands x.rules v path) found) → run found n r t → G r t)
       → Looks view c path (λ found. Unless (judge found) (run found)) m r t → G r t
   look_stage x G embeds path judge says h rest more agrees free run m r t reached at on (found, n, look, next) =
       seen_stage x G embeds path judge says h rest more (λ v. Unit {0}) agrees free (run found) found m n r t reached (x.follows.looks m n path found reached look)
@@ -372,20 +398,11 @@ both_known None (Some b) P Q h p = absurd p
 both_known (Some a) None P Q h p = absurd p
 both_known (Some a) (Some b) P Q h p = h a b refl p
 
--- Rules by which each path is meant as it is written are the plain ones.
-pub plain_are : (rules : Rules) → rules.folds ≡ false → rules.macos ≡ false → rules.alone ≡ None → rules ≡ plain_rules rules.settings
-plain_are rules folds macos alone =
-    ap (λ b. record { settings = rules.settings; folds = b; macos = rules.macos; alone = rules.alone }) folds
-    ∙ (ap (λ b. record { settings = rules.settings; folds = false; macos = b; alone = rules.alone }) macos
-    ∙ ap (λ o. record { settings = rules.settings; folds = false; macos = false; alone = o }) alone)
-
 module _ {S C F L E : Type 0} (view : View S C F) (lists : Listings S C L E) (writes : Writes F) (c : C) where
   -- What ended as its plan says is right, by what holds of every told world.
-  pub right_in : ((s : S) (w : World) → (view.state s).told ≡ Some w → IsWorld w) → (rules : Rules) (s : S) → Follows view lists writes c rules s
-      → rules.folds ≡ false → rules.macos ≡ false → rules.alone ≡ None → (ask : Ask) (r : Given) (t : S)
-      → ((follows : Follows view lists writes c (plain_rules rules.settings) s) → Right view lists writes c planned linked (record { settings = rules.settings; ask = ask; s = s; follows = follows }) r t) → Told view lists writes c s t (RightIn view lists writes c rules ask s r t)
-  right_in worlds rules s follows folds macos alone ask r t right =
-      let plain : rules ≡ plain_rules rules.settings = plain_are rules folds macos alone in
-      subst (λ z. Told view lists writes c s t (RightIn view lists writes c z ask s r t)) (sym plain)
-      (both_known (view.state s).told (view.state t).told _ _ (λ v w told ends result answers links. ends (record { world = worlds s v told; links = links }) result answers)
-      (right (subst (λ z. Follows view lists writes c z s) plain follows)))
+  pub right_in : (rules : Rules) (k : Knowledge) (s : S) → (follows : Follows view lists writes c rules k s) → (ask : Ask) (r : Given) (t : S)
+      → Right view lists writes c planned linked (record { rules = rules; knows = k; ask = ask; s = s; follows = follows }) r t
+      → Told view lists writes c s t (λ v w. IsRegular rules k v → RightIn view lists writes c rules ask s r t v w)
+  right_in rules k s follows ask r t right =
+      both_known (view.state s).told (view.state t).told _ _
+      (λ v w told ends regular result answers links. ends (record { world = follows.trees s v here told; regular = regular; links = links }) result answers) right

@@ -5,15 +5,16 @@ use Rattle.dav_io.specs.Counts.{Rose}
 use Rattle.dav_core.specs.declared.error.FsError.{FsError}
 use Rattle.dav_core.specs.declared.error.FsError.TheVariants as fs
 use Rattle.dav_core.specs.declared.handle.OpenOptions.{OpenOptions}
+use Rattle.dav_core.specs.declared.method.DavMethod.{DavMethod}
 use Rattle.dav_core.specs.DavPath.{WebPath}
 use Rattle.dav_core.specs.Disk.{DiskState}
 use Rattle.dav_core.specs.Info.{Info}
-use Rattle.dav_core.specs.Statuses.{lacks_memory, status_of}
+use Rattle.dav_core.specs.Statuses.{closes, lacks_memory, status_of}
 use Rattle.dav_store.specs.declared.entry.ReadDirMeta.{ReadDirMeta}
 use Rattle.dav_store.specs.Members.{Answered, Walked}
 use Rattle.dav_store.specs.View.{View, Listings}
 use Rattle.dav_model.specs.WellFormed.{is_among}
-use Rattle.dav_model.specs.Written.{halt_statuses}
+use Rattle.dav_model.specs.Written.{MayEnd, halt_statuses, may_close}
 use Rattle.dav_methods.specs.Lines.{Given, made, silent}
 use Rattle.dav_methods.specs.Pouring.{Writes, WritesFile}
 
@@ -80,13 +81,14 @@ module _ {S C F L E : Type 0} (view : View S C F) (lists : Listings S C L E) (wr
 
 -- ---- answers
 
--- Done, or a refusal with a status of the list, where memory wasn't refused; 500 comes only where the count of faults
--- rose.
-abbrev pub IsAnswer : Type 0 → Given → Type 0
-IsAnswer rose (Ok outcome) = (outcome ≡ made) ⊎ (outcome ≡ silent)
-IsAnswer rose (Err e) = (lacks_memory e ≡ true)
-    ⊎ ((is_among (status_of e) halt_statuses ≡ true) × (status_of e ≡ 500 → rose))
+-- Done, or a refusal with a status of the method's, where memory wasn't refused; 500 comes only where the count of
+-- faults rose, and a close only with 405.
+abbrev pub IsAnswer : DavMethod → Type 0 → Given → Type 0
+IsAnswer method rose (Ok outcome) = ((outcome ≡ made) × MayEnd method 201) ⊎ ((outcome ≡ silent) × MayEnd method 204)
+IsAnswer method rose (Err e) = (lacks_memory e ≡ true)
+    ⊎ ((is_among (status_of e) (halt_statuses method) ≡ true) × (status_of e ≡ 500 → rose)
+    × (closes e ≡ true → (status_of e ≡ 405) × (may_close method ≡ true)))
 
 -- the same of the answer of a method between two stores
-abbrev pub Answers : {S C F : Type 0} → View S C F → S → Given → S → Type 0
-Answers view s r t = IsAnswer (Rose (view.state s).faults (view.state t).faults) r
+abbrev pub Answers : {S C F : Type 0} → DavMethod → View S C F → S → Given → S → Type 0
+Answers method view s r t = IsAnswer method (Rose (view.state s).faults (view.state t).faults) r

@@ -1,11 +1,12 @@
 -- A store that stands over a told disk by rules: what each of its calls does to the told world. Where a link stands on
 -- the way to a path nothing is said.
-use Rattle.std.specs.Prelude.{◌≤◌, ◌≡◌, ◌⊎◌, ◌+◌, ℕ, List, [], map, take, length, Bool, true, false, Option, None, Some, Result, Ok, Err}
+use Rattle.std.specs.Prelude.{◌≤◌, ◌≡◌, ◌⊎◌, ◌+◌, ◌||◌, ℕ, List, [], map, take, length, Bool, true, false, Option, None, Some, Result, Ok, Err}
 use Rattle.std.specs.List.{filter}
 use Rattle.dav_io.specs.Counts.{Rose}
 use Rattle.dav_io.specs.Told.{Both}
 use Rattle.dav_io.specs.declared.failure.NoMemory.{NoMemory as Wanting}
 use Rattle.dav_core.specs.declared.error.FsError.{FsError}
+use Rattle.dav_core.specs.declared.error.FsError.TheVariants.{Forbidden}
 use Rattle.dav_core.specs.declared.handle.OpenOptions.{OpenOptions}
 use Rattle.dav_core.specs.declared.tree.Row.{Row}
 use Rattle.dav_core.specs.Allowed.{Allowed, copying, moving, taking_dir, taking_file}
@@ -26,10 +27,11 @@ use Rattle.dav_store.specs.Leads.{ListedThrough}
 use Rattle.dav_store.specs.View.{View, Listings, Closes}
 use Rattle.dav_model.specs.CarryPlans.{method_of}
 use Rattle.dav_model.specs.Conditions.{Fields}
-use Rattle.dav_model.specs.Finding.{is_clear, resolved}
+use Rattle.dav_model.specs.Finding.{has_slash, is_clear, is_forbidden, resolved}
 use Rattle.dav_model.specs.Head.{Reply, Stood, refusal}
 use Rattle.dav_model.specs.Plans.{Ask, making, meets_link, plan, put_options, putting, stands}
-use Rattle.dav_model.specs.Rules.{Rules}
+use Rattle.dav_model.specs.Rules.{Knowledge, Rules}
+use Rattle.dav_model.specs.Valid.{IsRegular, TellsApart}
 use Rattle.dav_model.specs.Walks.{dir_first, in_order}
 use Rattle.dav_model.specs.Written.{CarriesIn, EndsAs}
 use Rattle.dav_methods.specs.declared.child.Child.{Child}
@@ -108,11 +110,11 @@ module _ {S C F L E : Type 0} (view : View S C F) (lists : Listings S C L E) (wr
         → Reached s n
     listed : (m n : S) (path : WebPath) → Reached s m → ListedThrough view lists DataSymlink m c path n → Reached s n
 
-  -- A look changes nothing, and finds what stands there, or was spoiled.
-  abbrev pub LooksBy : Rules → WebPath → S → Result Info FsError → S → World → World → Type 0
-  LooksBy rules path m r n v w = SameBesidesOpens v w
-      × (is_linked v.tree (resolved rules v.tree path.names) ≡ false → Finds (stands rules v path) r
-      ⊎ Spoiled (view.state m) r (view.state n))
+  -- A look changes nothing. In a world of a valid run it finds what stands there, or was spoiled.
+  abbrev pub LooksBy : Rules → Knowledge → WebPath → S → Result Info FsError → S → World → World → Type 0
+  LooksBy rules k path m r n v w = SameBesidesOpens v w
+      × (IsRegular rules k v → is_linked v.tree (resolved rules v.tree path.names) ≡ false
+      → Finds (stands rules v path) r ⊎ Spoiled (view.state m) r (view.state n))
 
   -- A call that changes what stands does what is allowed; or the tree calls for its refusal; or a fault or want of
   -- memory was met, which may leave a part.
@@ -139,19 +141,36 @@ module _ {S C F L E : Type 0} (view : View S C F) (lists : Listings S C L E) (wr
   WritesBy h bytes (Err e) o v w = (n : ℕ) × Edited
       (fills o.number (written o.place (take n bytes) (bytes_of v o.number))) v w
 
-  -- A directory is listed to its end: its members are those of the tree. It fails to be listed only by a fault or want
-  -- of memory.
+  -- A directory is listed to its end: its members are those of the tree, where each path is found in one place. It fails
+  -- to be listed only by a fault or want of memory.
   abbrev pub ListsBy : Rules → WebPath → List Child → World → World → Type 0
-  ListsBy rules path members v w = SameBesidesOpens v w × (is_clear v.tree (resolved rules v.tree path.names) ≡ true
+  ListsBy rules path members v w = SameBesidesOpens v w × (TellsApart rules v
+      → is_clear v.tree (resolved rules v.tree path.names) ≡ true
       → members ≡ children_in v.tree (resolved rules v.tree path.names) path)
 
   abbrev pub FailsToList : Rules → WebPath → S → FsError → S → World → World → Type 0
-  FailsToList rules path m e n v w = SameBesidesOpens v w × (is_clear v.tree (resolved rules v.tree path.names) ≡ true
+  FailsToList rules path m e n v w = SameBesidesOpens v w × (TellsApart rules v
+      → is_clear v.tree (resolved rules v.tree path.names) ≡ true
       → has_dir v.tree (resolved rules v.tree path.names) ≡ true → Spoiled {T = Unit} (view.state m) (Err e)
       (view.state n))
 
-  -- From here on each call does to the told world what the rules say.
-  pub record Follows (rules : Rules) (s : S) : Type 0 where
+  -- A call that a store refuses by the path alone, before it asks its disk; else this is said of it.
+  pub record UnlessShut {T : Type 0} (shut : Bool) (r : Result T FsError) (v w : World) (P : Type 0) : Type 0 where
+    pub refused : shut ≡ true → (r ≡ Err Forbidden) × SameBesidesOpens v w
+    pub called : shut ≡ false → P
+
+  -- Each path is found in one place, and no link stands on the way to it.
+  abbrev pub IfFound : Rules → World → WebPath → Type 0 → Type 0
+  IfFound rules v path P = TellsApart rules v → is_linked v.tree (resolved rules v.tree path.names) ≡ false → P
+
+  -- The same of two paths.
+  abbrev pub IfBothFound : Rules → World → WebPath → WebPath → Type 0 → Type 0
+  IfBothFound rules v from to P = TellsApart rules v → is_linked v.tree (resolved rules v.tree from.names) ≡ false
+      → is_linked v.tree (resolved rules v.tree to.names) ≡ false → P
+
+  -- From here on each call does to the told world what the rules say, where the memory knew so much. What it knows is
+  -- asked for by looks alone, which come before what a request changes.
+  pub record Follows (rules : Rules) (k : Knowledge) (s : S) : Type 0 where
     -- no count of faults falls
     pub counts : (n : S) → Reached s n → (view.state s).faults ≤ (view.state n).faults
     -- it folds names where the rules say so
@@ -159,34 +178,32 @@ module _ {S C F L E : Type 0} (view : View S C F) (lists : Listings S C L E) (wr
     -- the rows of each told world are a tree
     pub trees : (n : S) (w : World) → Reached s n → (view.state n).told ≡ Some w → IsWorld w
     pub looks : (m n : S) (path : WebPath) (r : Result Info FsError) → Reached s m → view.looks m c path r n
-        → Told m n (LooksBy rules path m r n)
+        → Told m n (LooksBy rules k path m r n)
     pub looks_at_link : (m n : S) (path : WebPath) (r : Result Info FsError) → Reached s m
         → view.looks_at_link m c path r n
-        → Told m n (LooksBy rules path m r n)
+        → Told m n (LooksBy rules k path m r n)
     pub makes_dir : (m n : S) (path : WebPath) (r : Result Unit FsError) → Reached s m → view.makes_dir m c path r n
-        → Told m n (λ v w. is_linked v.tree (resolved rules v.tree path.names) ≡ false
-        → Calls (making rules v path) m r n v w)
+        → Told m n (λ v w. UnlessShut (is_forbidden rules path) r v w
+        (IfFound rules v path (Calls (making rules v path) m r n v w)))
     pub removes_dir : (m n : S) (path : WebPath) (r : Result Unit FsError) → Reached s m → view.removes_dir m c path r n
-        → Told m n (λ v w. is_linked v.tree (resolved rules v.tree path.names) ≡ false
-        → Calls (taking_dir v.tree (resolved rules v.tree path.names)) m r n v w)
-    -- (a path without a final slash)
+        → Told m n (λ v w. IfFound rules v path
+        (Calls (taking_dir v.tree (resolved rules v.tree path.names)) m r n v w))
     pub removes_file : (m n : S) (path : WebPath) (r : Result Unit FsError) → Reached s m
         → view.removes_file m c path r n
-        → Told m n (λ v w. path.slash ≡ false → is_linked v.tree (resolved rules v.tree path.names) ≡ false
-        → Calls (taking_file v.tree (resolved rules v.tree path.names)) m r n v w)
+        → Told m n (λ v w. UnlessShut (is_forbidden rules path || has_slash rules.alone path) r v w
+        (IfFound rules v path (Calls (taking_file v.tree (resolved rules v.tree path.names)) m r n v w)))
     -- (where nothing stands at the destination: a store may make two edits of a move that replaces)
     pub renames : (m n : S) (from to : WebPath) (r : Result Unit FsError) → Reached s m → view.renames m c from to r n
-        → Told m n (λ v w. is_linked v.tree (resolved rules v.tree from.names) ≡ false
-        → is_linked v.tree (resolved rules v.tree to.names) ≡ false
-        → row_at v.tree (resolved rules v.tree to.names) ≡ None
-        → Calls (moving v.tree (resolved rules v.tree from.names) (resolved rules v.tree to.names)) m r n v w)
+        → Told m n (λ v w. UnlessShut (is_forbidden rules from || is_forbidden rules to) r v w
+        (IfBothFound rules v from to (row_at v.tree (resolved rules v.tree to.names) ≡ None
+        → Calls (moving v.tree (resolved rules v.tree from.names) (resolved rules v.tree to.names)) m r n v w)))
     pub copies : (m n : S) (from to : WebPath) (r : Result Unit FsError) → Reached s m → view.copies m c from to r n
-        → Told m n (λ v w. is_linked v.tree (resolved rules v.tree from.names) ≡ false
-        → is_linked v.tree (resolved rules v.tree to.names) ≡ false
-        → Calls (copying v (resolved rules v.tree from.names) (resolved rules v.tree to.names)) m r n v w)
+        → Told m n (λ v w. UnlessShut (is_forbidden rules from || is_forbidden rules to) r v w
+        (IfBothFound rules v from to
+        (Calls (copying v (resolved rules v.tree from.names) (resolved rules v.tree to.names)) m r n v w)))
     pub opens : (m n : S) (path : WebPath) (r : Result F FsError) → Reached s m → view.opens m c path put_options r n
-        → path.slash ≡ false
-        → Told m n (λ v w. is_linked v.tree (resolved rules v.tree path.names) ≡ false → OpensBy rules path m r n v w)
+        → Told m n (λ v w. UnlessShut (is_forbidden rules path || has_slash rules.alone path) r v w
+        (IfFound rules v path (OpensBy rules path m r n v w)))
     -- (a file that isn't opened to append, and whose place isn't behind its end)
     pub writes_file : (m n : S) (f g : F) (bytes : List ℕ) (r : Result Unit FsError) → Reached s m
         → WritesFile view writes m f bytes r n g
@@ -220,7 +237,7 @@ module _ {S C F L E : Type 0} (view : View S C F) (lists : Listings S C L E) (wr
   -- says, over a store that follows rules, which neither fold names nor are those of macOS, and finds each path as it
   -- is asked for.
   abbrev pub CarriesByPlan : Bool → Type 0
-  CarriesByPlan moves = (rules : Rules) (s : S) → Follows rules s
+  CarriesByPlan moves = (rules : Rules) (k : Knowledge) (s : S) → Follows rules k s
       → rules.folds ≡ false → rules.macos ≡ false → rules.alone ≡ None
       → (path : WebPath) (fields : Fields) (body : List ℕ) (r : Given) (t : S)
       → Next (CopyMoves view lists c moves rules.settings.prefix path fields) s r t

@@ -1,11 +1,10 @@
 //! COPY and MOVE: what stands at a path is copied or moved to another, in place of what stands there.
 ghost use Rattle.std.specs.Prelude.{◌≡◌, ◌⊎◌, Ok, Err};
-ghost use Rattle.dav_store.specs.Frames.{KeepsOpen};
-ghost use Rattle.dav_store.specs.View.{the_listings, the_view};
 ghost use Rattle.dav_methods.specs.Carrying.{Arrives, CopiesTo, CopyMoves, Goes, Leaves, MovesTo, Replaces};
 ghost use Rattle.dav_model.specs.CarryPlans.{method_of as the_method_of};
 ghost use Rattle.dav_methods.specs.Lines.{fails_when};
 ghost use Rattle.dav_model.specs.Overlap.{overlap};
+ghost use Rattle.dav_store.specs.View.{StaysOpen};
 ghost use Rattle.dav_methods.specs.Removing.{LooksAtLink};
 ghost use Rattle.dav_methods.specs.Table.{Next, Unless};
 
@@ -52,13 +51,10 @@ fn go<S: GuardedFileSystem<C>, C>(
     dir: bool,
     outcome: Outcome,
 ) -> Result<Outcome, DavError>
-    requires admits { S.admits fs.old }
-    ensures table { Goes (the_view S.GuardedFileSystem S.Disk.Disk S.File.DavFile)
-        (the_listings S.GuardedFileSystem S.Entry.DavDirEntry) credentials.now asked.now.moving asked.now
+    requires admits { S.view.admits fs.old }
+    ensures table { Goes S.view S.listings credentials.now asked.now.moving asked.now
         (record { from = path.now; to = asked.now.to; dir = dir }) outcome fs.old result fs.new }
-    ensures keeps { KeepsOpen (S.Disk.state (S.inside fs.old)) (S.Disk.state (S.inside fs.new)) }
-    ensures admits { S.admits fs.new }
-    ensures loan { S.Disk.loan (S.inside fs.new) ≡ S.Disk.loan (S.inside fs.old) }
+    ensures stays { StaysOpen S.view fs.old fs.new }
 {
     if asked.moving {
         return answer(line_of(fs.rename(path, &asked.to, credentials)), outcome);
@@ -77,13 +73,10 @@ fn replace<S: GuardedFileSystem<C>, C>(
     dir: bool,
     dir_there: bool,
 ) -> Result<Outcome, DavError>
-    requires admits { S.admits fs.old }
-    ensures table { Replaces (the_view S.GuardedFileSystem S.Disk.Disk S.File.DavFile)
-        (the_listings S.GuardedFileSystem S.Entry.DavDirEntry) credentials.now asked.now
+    requires admits { S.view.admits fs.old }
+    ensures table { Replaces S.view S.listings credentials.now asked.now
         (record { from = path.now; to = asked.now.to; dir = dir }) dir_there fs.old result fs.new }
-    ensures keeps { KeepsOpen (S.Disk.state (S.inside fs.old)) (S.Disk.state (S.inside fs.new)) }
-    ensures admits { S.admits fs.new }
-    ensures loan { S.Disk.loan (S.inside fs.new) ≡ S.Disk.loan (S.inside fs.old) }
+    ensures stays { StaysOpen S.view fs.old fs.new }
 {
     match remove_all(alloc, fs, credentials, &asked.to, dir_there) {
         Ok(()) => go(alloc, fs, credentials, asked, path, dir, silent(alloc)),
@@ -101,13 +94,10 @@ fn fill<S: GuardedFileSystem<C>, C>(
     dir: bool,
     refusal: FsError,
 ) -> Result<Outcome, DavError>
-    requires admits { S.admits fs.old }
-    ensures table { Next (Arrives (the_view S.GuardedFileSystem S.Disk.Disk S.File.DavFile)
-        (the_listings S.GuardedFileSystem S.Entry.DavDirEntry) credentials.now asked.now
+    requires admits { S.view.admits fs.old }
+    ensures table { Next (Arrives S.view S.listings credentials.now asked.now
         (record { from = path.now; to = asked.now.to; dir = dir }) (Err refusal)) fs.old result fs.new }
-    ensures keeps { KeepsOpen (S.Disk.state (S.inside fs.old)) (S.Disk.state (S.inside fs.new)) }
-    ensures admits { S.admits fs.new }
-    ensures loan { S.Disk.loan (S.inside fs.new) ≡ S.Disk.loan (S.inside fs.old) }
+    ensures stays { StaysOpen S.view fs.old fs.new }
 {
     pass_missing(refusal)?;
     let outcome = created(alloc)?;
@@ -123,15 +113,10 @@ fn arrive<S: GuardedFileSystem<C>, C>(
     path: &DavPath,
     dir: bool,
 ) -> Result<Outcome, DavError>
-    requires admits { S.admits fs.old }
-    ensures table { LooksAtLink (the_view S.GuardedFileSystem S.Disk.Disk S.File.DavFile)
-        (the_listings S.GuardedFileSystem S.Entry.DavDirEntry) credentials.now asked.now.to
-        (Arrives (the_view S.GuardedFileSystem S.Disk.Disk S.File.DavFile)
-        (the_listings S.GuardedFileSystem S.Entry.DavDirEntry) credentials.now asked.now
-        (record { from = path.now; to = asked.now.to; dir = dir })) fs.old result fs.new }
-    ensures keeps { KeepsOpen (S.Disk.state (S.inside fs.old)) (S.Disk.state (S.inside fs.new)) }
-    ensures admits { S.admits fs.new }
-    ensures loan { S.Disk.loan (S.inside fs.new) ≡ S.Disk.loan (S.inside fs.old) }
+    requires admits { S.view.admits fs.old }
+    ensures table { LooksAtLink S.view S.listings credentials.now asked.now.to (Arrives S.view S.listings
+        credentials.now asked.now (record { from = path.now; to = asked.now.to; dir = dir })) fs.old result fs.new }
+    ensures stays { StaysOpen S.view fs.old fs.new }
 {
     match fs.symlink_metadata(&asked.to, credentials) {
         Ok(meta) => {
@@ -154,15 +139,11 @@ fn arrive_if<S: GuardedFileSystem<C>, C>(
     dir: bool,
     may: Result<(), DavError>,
 ) -> Result<Outcome, DavError>
-    requires admits { S.admits fs.old }
-    ensures table { Next (Unless may (LooksAtLink (the_view S.GuardedFileSystem S.Disk.Disk S.File.DavFile)
-        (the_listings S.GuardedFileSystem S.Entry.DavDirEntry) credentials.now asked.now.to
-        (Arrives (the_view S.GuardedFileSystem S.Disk.Disk S.File.DavFile)
-        (the_listings S.GuardedFileSystem S.Entry.DavDirEntry) credentials.now asked.now
-        (record { from = path.now; to = asked.now.to; dir = dir })))) fs.old result fs.new }
-    ensures keeps { KeepsOpen (S.Disk.state (S.inside fs.old)) (S.Disk.state (S.inside fs.new)) }
-    ensures admits { S.admits fs.new }
-    ensures loan { S.Disk.loan (S.inside fs.new) ≡ S.Disk.loan (S.inside fs.old) }
+    requires admits { S.view.admits fs.old }
+    ensures table { Next (Unless may (LooksAtLink S.view S.listings credentials.now asked.now.to (Arrives S.view
+        S.listings credentials.now asked.now (record { from = path.now; to = asked.now.to; dir = dir }))))
+        fs.old result fs.new }
+    ensures stays { StaysOpen S.view fs.old fs.new }
 {
     match may {
         Ok(()) => arrive(alloc, fs, credentials, asked, path, dir),
@@ -180,13 +161,10 @@ fn leave<S: GuardedFileSystem<C>, C>(
     fields: &HeaderMap,
     meta: &S::Meta,
 ) -> Result<Outcome, DavError>
-    requires admits { S.admits fs.old }
-    ensures table { Next (Leaves (the_view S.GuardedFileSystem S.Disk.Disk S.File.DavFile)
-        (the_listings S.GuardedFileSystem S.Entry.DavDirEntry) credentials.now path.now fields.now asked.now
+    requires admits { S.view.admits fs.old }
+    ensures table { Next (Leaves S.view S.listings credentials.now path.now fields.now asked.now
         (Ok (S.Meta.info meta.now))) fs.old result fs.new }
-    ensures keeps { KeepsOpen (S.Disk.state (S.inside fs.old)) (S.Disk.state (S.inside fs.new)) }
-    ensures admits { S.admits fs.new }
-    ensures loan { S.Disk.loan (S.inside fs.new) ≡ S.Disk.loan (S.inside fs.old) }
+    ensures stays { StaysOpen S.view fs.old fs.new }
 {
     let above = asked.to.parent()?;
     pass_parent(fs, credentials, &above)?;
@@ -204,13 +182,10 @@ fn carry<S: GuardedFileSystem<C>, C>(
     fields: &HeaderMap,
     prefix: &str,
 ) -> Result<Outcome, DavError>
-    requires admits { S.admits fs.old }
-    ensures table { Next (CopyMoves (the_view S.GuardedFileSystem S.Disk.Disk S.File.DavFile)
-        (the_listings S.GuardedFileSystem S.Entry.DavDirEntry) credentials.now moving prefix.now path.now fields.now)
+    requires admits { S.view.admits fs.old }
+    ensures table { Next (CopyMoves S.view S.listings credentials.now moving prefix.now path.now fields.now)
         fs.old result fs.new }
-    ensures keeps { KeepsOpen (S.Disk.state (S.inside fs.old)) (S.Disk.state (S.inside fs.new)) }
-    ensures admits { S.admits fs.new }
-    ensures loan { S.Disk.loan (S.inside fs.new) ≡ S.Disk.loan (S.inside fs.old) }
+    ensures stays { StaysOpen S.view fs.old fs.new }
 {
     let asked = match asked(alloc, moving, fields, prefix) {
         Ok(asked) => asked,
@@ -251,13 +226,9 @@ pub fn copy<S: GuardedFileSystem<C>, C>(
     fields: &HeaderMap,
     prefix: &str,
 ) -> Result<Outcome, DavError>
-    requires admits { S.admits fs.old }
-    ensures table { CopiesTo (the_view S.GuardedFileSystem S.Disk.Disk S.File.DavFile)
-        (the_listings S.GuardedFileSystem S.Entry.DavDirEntry) credentials.now prefix.now path.now fields.now fs.old
-        result fs.new }
-    ensures keeps { KeepsOpen (S.Disk.state (S.inside fs.old)) (S.Disk.state (S.inside fs.new)) }
-    ensures admits { S.admits fs.new }
-    ensures loan { S.Disk.loan (S.inside fs.new) ≡ S.Disk.loan (S.inside fs.old) }
+    requires admits { S.view.admits fs.old }
+    ensures table { CopiesTo S.view S.listings credentials.now prefix.now path.now fields.now fs.old result fs.new }
+    ensures stays { StaysOpen S.view fs.old fs.new }
 {
     carry(alloc, fs, credentials, false, path, fields, prefix)
 }
@@ -272,13 +243,9 @@ pub fn move_to<S: GuardedFileSystem<C>, C>(
     fields: &HeaderMap,
     prefix: &str,
 ) -> Result<Outcome, DavError>
-    requires admits { S.admits fs.old }
-    ensures table { MovesTo (the_view S.GuardedFileSystem S.Disk.Disk S.File.DavFile)
-        (the_listings S.GuardedFileSystem S.Entry.DavDirEntry) credentials.now prefix.now path.now fields.now fs.old
-        result fs.new }
-    ensures keeps { KeepsOpen (S.Disk.state (S.inside fs.old)) (S.Disk.state (S.inside fs.new)) }
-    ensures admits { S.admits fs.new }
-    ensures loan { S.Disk.loan (S.inside fs.new) ≡ S.Disk.loan (S.inside fs.old) }
+    requires admits { S.view.admits fs.old }
+    ensures table { MovesTo S.view S.listings credentials.now prefix.now path.now fields.now fs.old result fs.new }
+    ensures stays { StaysOpen S.view fs.old fs.new }
 {
     carry(alloc, fs, credentials, true, path, fields, prefix)
 }

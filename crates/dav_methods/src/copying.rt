@@ -1,8 +1,7 @@
 // A copy of what stands at a path, a directory before its members.
 ghost use Rattle.std.specs.Prelude.{◌≡◌, ◌<◌, ◌∷◌, [], true, IfOk, Ok, Result};
 ghost use Rattle.dav_core.specs.declared.error.FsError.{FsError};
-ghost use Rattle.dav_store.specs.Frames.{KeepsOpen};
-ghost use Rattle.dav_store.specs.View.{the_listings, the_view};
+ghost use Rattle.dav_store.specs.View.{StaysOpen};
 ghost use Rattle.dav_methods.specs.Copying.{Copies};
 ghost use Rattle.dav_methods.specs.Lines.{above};
 ghost use Rattle.dav_methods.specs.Removing.{line_of as the_line_of};
@@ -28,12 +27,10 @@ fn copy_file<S: GuardedFileSystem<C>, C>(
     from: &DavPath,
     to: &DavPath,
 ) -> Result<(), DavError>
-    requires admits { S.admits fs.old }
-    ensures copies { (copied : Result Unit FsError) × S.copies fs.old credentials.now from.now to.now copied fs.new
+    requires admits { S.view.admits fs.old }
+    ensures copies { (copied : Result Unit FsError) × S.view.copies fs.old credentials.now from.now to.now copied fs.new
         × (result ≡ the_line_of copied) }
-    ensures keeps { KeepsOpen (S.Disk.state (S.inside fs.old)) (S.Disk.state (S.inside fs.new)) }
-    ensures admits { S.admits fs.new }
-    ensures loan { S.Disk.loan (S.inside fs.new) ≡ S.Disk.loan (S.inside fs.old) }
+    ensures stays { StaysOpen S.view fs.old fs.new }
 {
     line_of(fs.copy(from, to, credentials))
 }
@@ -47,16 +44,12 @@ fn copy_dir<S: GuardedFileSystem<C>, C>(
     ends: &Ends,
     works: &mut VecDeque<Pending>,
 ) -> Result<(), DavError>
-    requires admits { S.admits fs.old }
-    ensures copies { CopiesOn (the_view S.GuardedFileSystem S.Disk.Disk S.File.DavFile)
-        (the_listings S.GuardedFileSystem S.Entry.DavDirEntry) credentials.now alone
-        (transfer_dir ends.now ∷ transfers_at (ends_above ends.now) works.old.items) fs.old result fs.new
-        (transfers_at ends.now works.new.items) }
+    requires admits { S.view.admits fs.old }
+    ensures copies { CopiesOn S.view S.listings credentials.now alone (transfer_dir ends.now ∷ transfers_at
+        (ends_above ends.now) works.old.items) fs.old result fs.new (transfers_at ends.now works.new.items) }
     ensures lighter { result ≡ Ok tt → weight (works_at ends.now.from works.new.items [])
         < weight (Whole ends.now.from true ∷ works_at (above ends.now.from) works.old.items []) }
-    ensures keeps { KeepsOpen (S.Disk.state (S.inside fs.old)) (S.Disk.state (S.inside fs.new)) }
-    ensures admits { S.admits fs.new }
-    ensures loan { S.Disk.loan (S.inside fs.new) ≡ S.Disk.loan (S.inside fs.old) }
+    ensures stays { StaysOpen S.view fs.old fs.new }
 {
     pass_shallow(&ends.from)?;
     let Ok(()) = works.push_front(Pending::Up) else {
@@ -82,16 +75,12 @@ fn copy_member<S: GuardedFileSystem<C>, C>(
     member: &Member,
     works: &mut VecDeque<Pending>,
 ) -> Result<(), DavError>
-    requires admits { S.admits fs.old }
-    ensures copies { CopiesOn (the_view S.GuardedFileSystem S.Disk.Disk S.File.DavFile)
-        (the_listings S.GuardedFileSystem S.Entry.DavDirEntry) credentials.now alone
-        (transfers_at ends.old (Below member.now ∷ works.old.items)) fs.old result fs.new
-        (transfers_at ends.new works.new.items) }
+    requires admits { S.view.admits fs.old }
+    ensures copies { CopiesOn S.view S.listings credentials.now alone (transfers_at
+        ends.old (Below member.now ∷ works.old.items)) fs.old result fs.new (transfers_at ends.new works.new.items) }
     ensures lighter { result ≡ Ok tt → weight (works_at ends.new.from works.new.items [])
         < weight (works_at ends.old.from (Below member.now ∷ works.old.items) []) }
-    ensures keeps { KeepsOpen (S.Disk.state (S.inside fs.old)) (S.Disk.state (S.inside fs.new)) }
-    ensures admits { S.admits fs.new }
-    ensures loan { S.Disk.loan (S.inside fs.new) ≡ S.Disk.loan (S.inside fs.old) }
+    ensures stays { StaysOpen S.view fs.old fs.new }
 {
     let Ok(()) = ends.down(member) else {
         return Err(DavError::NoMemory);
@@ -114,16 +103,12 @@ fn copy_one<S: GuardedFileSystem<C>, C>(
     work: Pending,
     works: &mut VecDeque<Pending>,
 ) -> Result<(), DavError>
-    requires admits { S.admits fs.old }
-    ensures copies { CopiesOn (the_view S.GuardedFileSystem S.Disk.Disk S.File.DavFile)
-        (the_listings S.GuardedFileSystem S.Entry.DavDirEntry) credentials.now alone
-        (transfers_at ends.old (work ∷ works.old.items)) fs.old result fs.new
-        (transfers_at ends.new works.new.items) }
+    requires admits { S.view.admits fs.old }
+    ensures copies { CopiesOn S.view S.listings credentials.now alone
+        (transfers_at ends.old (work ∷ works.old.items)) fs.old result fs.new (transfers_at ends.new works.new.items) }
     ensures lighter { result ≡ Ok tt → weight (works_at ends.new.from works.new.items [])
         < weight (works_at ends.old.from (work ∷ works.old.items) []) }
-    ensures keeps { KeepsOpen (S.Disk.state (S.inside fs.old)) (S.Disk.state (S.inside fs.new)) }
-    ensures admits { S.admits fs.new }
-    ensures loan { S.Disk.loan (S.inside fs.new) ≡ S.Disk.loan (S.inside fs.old) }
+    ensures stays { StaysOpen S.view fs.old fs.new }
 {
     match work {
         Pending::Below(member) => {
@@ -145,13 +130,10 @@ fn copy_pending<S: GuardedFileSystem<C>, C>(
     ends: Ends,
     works: VecDeque<Pending>,
 ) -> Result<(), DavError>
-    requires admits { S.admits fs.old }
-    ensures copies { Copies (the_view S.GuardedFileSystem S.Disk.Disk S.File.DavFile)
-        (the_listings S.GuardedFileSystem S.Entry.DavDirEntry) credentials.now alone
+    requires admits { S.view.admits fs.old }
+    ensures copies { Copies S.view S.listings credentials.now alone
         (transfers_at ends works.items) fs.old result fs.new }
-    ensures keeps { KeepsOpen (S.Disk.state (S.inside fs.old)) (S.Disk.state (S.inside fs.new)) }
-    ensures admits { S.admits fs.new }
-    ensures loan { S.Disk.loan (S.inside fs.new) ≡ S.Disk.loan (S.inside fs.old) }
+    ensures stays { StaysOpen S.view fs.old fs.new }
 {
     let mut ends = ends;
     let mut works = works;
@@ -176,13 +158,9 @@ fn copy_tree<S: GuardedFileSystem<C>, C>(
     alone: bool,
     ends: Ends,
 ) -> Result<(), DavError>
-    requires admits { S.admits fs.old }
-    ensures copies { Copies (the_view S.GuardedFileSystem S.Disk.Disk S.File.DavFile)
-        (the_listings S.GuardedFileSystem S.Entry.DavDirEntry) credentials.now alone
-        (transfer_dir ends ∷ []) fs.old result fs.new }
-    ensures keeps { KeepsOpen (S.Disk.state (S.inside fs.old)) (S.Disk.state (S.inside fs.new)) }
-    ensures admits { S.admits fs.new }
-    ensures loan { S.Disk.loan (S.inside fs.new) ≡ S.Disk.loan (S.inside fs.old) }
+    requires admits { S.view.admits fs.old }
+    ensures copies { Copies S.view S.listings credentials.now alone (transfer_dir ends ∷ []) fs.old result fs.new }
+    ensures stays { StaysOpen S.view fs.old fs.new }
 {
     let mut works = VecDeque::new(alloc);
     match copy_dir(alloc, fs, credentials, alone, &ends, &mut works) {
@@ -211,13 +189,10 @@ pub fn copy_all<S: GuardedFileSystem<C>, C>(
     to: &DavPath,
     dir: bool,
 ) -> Result<(), DavError>
-    requires admits { S.admits fs.old }
-    ensures copies { Copies (the_view S.GuardedFileSystem S.Disk.Disk S.File.DavFile)
-        (the_listings S.GuardedFileSystem S.Entry.DavDirEntry) credentials.now alone
+    requires admits { S.view.admits fs.old }
+    ensures copies { Copies S.view S.listings credentials.now alone
         (record { from = from.now; to = to.now; dir = dir } ∷ []) fs.old result fs.new }
-    ensures keeps { KeepsOpen (S.Disk.state (S.inside fs.old)) (S.Disk.state (S.inside fs.new)) }
-    ensures admits { S.admits fs.new }
-    ensures loan { S.Disk.loan (S.inside fs.new) ≡ S.Disk.loan (S.inside fs.old) }
+    ensures stays { StaysOpen S.view fs.old fs.new }
 {
     if !dir {
         return copy_file(fs, credentials, from, to);

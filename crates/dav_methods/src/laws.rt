@@ -1,12 +1,12 @@
 //! Laws over the tables of the methods that write, each the contract of a function that does nothing.
-ghost use Rattle.std.specs.Prelude.{◌≡◌, ◌⊎◌, ℕ, List, None, false};
+ghost use Rattle.std.specs.Prelude.{◌≡◌, ◌⊎◌, ℕ, List};
 ghost use Rattle.dav_core.specs.declared.method.DavMethod.{DavMethod};
 ghost use Rattle.dav_core.specs.declared.method.DavMethod.TheVariants.{MkAddressbook, MkCalendar, MkCol, Put};
 ghost use Rattle.dav_core.specs.DavPath.{WebPath};
-ghost use Rattle.dav_store.specs.View.{the_listings, the_view};
 ghost use Rattle.dav_model.specs.Conditions.{Fields};
 ghost use Rattle.dav_model.specs.Plans.{Ask};
-ghost use Rattle.dav_model.specs.Rules.{Rules};
+ghost use Rattle.dav_model.specs.Rules.{Knowledge, Rules};
+ghost use Rattle.dav_model.specs.Valid.{IsRegular};
 ghost use Rattle.dav_methods.specs.Answers.{Answers, RefusesUsually};
 ghost use Rattle.dav_methods.specs.Changing.{Changes};
 ghost use Rattle.dav_methods.specs.Follows.{Follows, Reached, RightIn, Told};
@@ -16,66 +16,52 @@ ghost use Rattle.dav_methods.specs.Table.{MkCalendars, MkCols};
 
 use dav_store::GuardedFileSystem;
 
-/// Over a store that refuses few things a request that writes is answered 201, 204, or with a status of a short list,
-/// where memory isn't refused; and 500 only where a fault was met.
+/// Over a store that refuses few things a request that writes is answered as its method may be where all was done, or with
+/// a status of its method's list, where memory isn't refused; 500 only where a fault was met, and a close only with 405.
 pub fn answers_are_listed<S: GuardedFileSystem<C>, C>()
-    ensures mkcol { (c : C) → RefusesUsually (the_view S.GuardedFileSystem S.Disk.Disk S.File.DavFile)
-        (the_listings S.GuardedFileSystem S.Entry.DavDirEntry) S.File.writes c
+    ensures mkcol { (c : C) → RefusesUsually S.view S.listings S.File.writes c
         → (path : WebPath) (fields : Fields) (s t : S) (r : Given)
-        → MkCols (the_view S.GuardedFileSystem S.Disk.Disk S.File.DavFile) c path fields s r t
-        → Answers (the_view S.GuardedFileSystem S.Disk.Disk S.File.DavFile) s r t }
-    ensures mkcalendar { (c : C) → RefusesUsually (the_view S.GuardedFileSystem S.Disk.Disk S.File.DavFile)
-        (the_listings S.GuardedFileSystem S.Entry.DavDirEntry) S.File.writes c
+        → MkCols S.view c path fields s r t
+        → Answers MkCol S.view s r t }
+    ensures mkcalendar { (c : C) → RefusesUsually S.view S.listings S.File.writes c
         → (path : WebPath) (s t : S) (r : Given)
-        → MkCalendars (the_view S.GuardedFileSystem S.Disk.Disk S.File.DavFile) c path s r t
-        → Answers (the_view S.GuardedFileSystem S.Disk.Disk S.File.DavFile) s r t }
-    ensures put { (c : C) → RefusesUsually (the_view S.GuardedFileSystem S.Disk.Disk S.File.DavFile)
-        (the_listings S.GuardedFileSystem S.Entry.DavDirEntry) S.File.writes c
+        → MkCalendars S.view c path s r t
+        → Answers MkCalendar S.view s r t }
+    ensures mkaddressbook { (c : C) → RefusesUsually S.view S.listings S.File.writes c
+        → (path : WebPath) (s t : S) (r : Given)
+        → MkCalendars S.view c path s r t
+        → Answers MkAddressbook S.view s r t }
+    ensures put { (c : C) → RefusesUsually S.view S.listings S.File.writes c
         → (path : WebPath) (fields : Fields) (bytes : List ℕ) (s t : S) (r : Given)
-        → PutsWhole (the_view S.GuardedFileSystem S.Disk.Disk S.File.DavFile) S.File.writes c path fields bytes s r t
-        → Answers (the_view S.GuardedFileSystem S.Disk.Disk S.File.DavFile) s r t }
+        → PutsWhole S.view S.File.writes c path fields bytes s r t
+        → Answers Put S.view s r t }
 {}
 
-/// Over a store that follows its rules, by which each path is meant as it is written, a request that writes makes of a
-/// told world what its plan says, and is answered so.
+/// Over a store that follows its rules a request that makes a directory or puts a file makes of a world of a valid run
+/// what its plan says, and is answered so.
 pub fn writes_follow_their_plans<S: GuardedFileSystem<C>, C>()
-    ensures mkcol { (c : C) (rules : Rules) (s : S) → Follows (the_view S.GuardedFileSystem S.Disk.Disk S.File.DavFile)
-        (the_listings S.GuardedFileSystem S.Entry.DavDirEntry) S.File.writes c rules s
-        → rules.folds ≡ false → rules.macos ≡ false → rules.alone ≡ None
+    ensures mkcol { (c : C) (rules : Rules) (k : Knowledge) (s : S) → Follows S.view S.listings S.File.writes c rules k s
         → (ask : Ask) → ask.method ≡ MkCol → (r : Given) (t : S)
-        → MkCols (the_view S.GuardedFileSystem S.Disk.Disk S.File.DavFile) c ask.path ask.fields s r t
-        → Told (the_view S.GuardedFileSystem S.Disk.Disk S.File.DavFile)
-        (the_listings S.GuardedFileSystem S.Entry.DavDirEntry) S.File.writes c s t
-        (RightIn (the_view S.GuardedFileSystem S.Disk.Disk S.File.DavFile)
-        (the_listings S.GuardedFileSystem S.Entry.DavDirEntry) S.File.writes c rules ask s r t) }
-    ensures mkcalendar { (c : C) (rules : Rules) (s : S)
-        → Follows (the_view S.GuardedFileSystem S.Disk.Disk S.File.DavFile)
-        (the_listings S.GuardedFileSystem S.Entry.DavDirEntry) S.File.writes c rules s
-        → rules.folds ≡ false → rules.macos ≡ false → rules.alone ≡ None
+        → MkCols S.view c ask.path ask.fields s r t
+        → Told S.view S.listings S.File.writes c s t (λ v w. IsRegular rules k v
+        → RightIn S.view S.listings S.File.writes c rules ask s r t v w) }
+    ensures mkcalendar { (c : C) (rules : Rules) (k : Knowledge) (s : S)
+        → Follows S.view S.listings S.File.writes c rules k s
         → (ask : Ask) → (ask.method ≡ MkCalendar) ⊎ (ask.method ≡ MkAddressbook) → (r : Given) (t : S)
-        → MkCalendars (the_view S.GuardedFileSystem S.Disk.Disk S.File.DavFile) c ask.path s r t
-        → Told (the_view S.GuardedFileSystem S.Disk.Disk S.File.DavFile)
-        (the_listings S.GuardedFileSystem S.Entry.DavDirEntry) S.File.writes c s t
-        (RightIn (the_view S.GuardedFileSystem S.Disk.Disk S.File.DavFile)
-        (the_listings S.GuardedFileSystem S.Entry.DavDirEntry) S.File.writes c rules ask s r t) }
-    ensures put { (c : C) (rules : Rules) (s : S) → Follows (the_view S.GuardedFileSystem S.Disk.Disk S.File.DavFile)
-        (the_listings S.GuardedFileSystem S.Entry.DavDirEntry) S.File.writes c rules s
-        → rules.folds ≡ false → rules.macos ≡ false → rules.alone ≡ None
+        → MkCalendars S.view c ask.path s r t
+        → Told S.view S.listings S.File.writes c s t (λ v w. IsRegular rules k v
+        → RightIn S.view S.listings S.File.writes c rules ask s r t v w) }
+    ensures put { (c : C) (rules : Rules) (k : Knowledge) (s : S) → Follows S.view S.listings S.File.writes c rules k s
         → (ask : Ask) → ask.method ≡ Put → (r : Given) (t : S)
-        → PutsWhole (the_view S.GuardedFileSystem S.Disk.Disk S.File.DavFile) S.File.writes c ask.path ask.fields
-        ask.body s r t
-        → Told (the_view S.GuardedFileSystem S.Disk.Disk S.File.DavFile)
-        (the_listings S.GuardedFileSystem S.Entry.DavDirEntry) S.File.writes c s t
-        (RightIn (the_view S.GuardedFileSystem S.Disk.Disk S.File.DavFile)
-        (the_listings S.GuardedFileSystem S.Entry.DavDirEntry) S.File.writes c rules ask s r t) }
+        → PutsWhole S.view S.File.writes c ask.path ask.fields ask.body s r t
+        → Told S.view S.listings S.File.writes c s t (λ v w. IsRegular rules k v
+        → RightIn S.view S.listings S.File.writes c rules ask s r t v w) }
 {}
 
 /// The calls that a request that writes makes lead to the store that is left, whatever is answered.
 pub fn writes_lead_on<S: GuardedFileSystem<C>, C>()
     ensures { (c : C) (s t : S) (method : DavMethod) (prefix : List ℕ) (path : WebPath) (fields : Fields)
         (body : List ℕ)
-        → (r : Given) → Changes (the_view S.GuardedFileSystem S.Disk.Disk S.File.DavFile)
-        (the_listings S.GuardedFileSystem S.Entry.DavDirEntry) S.File.writes c method prefix path fields body s r t
-        → Reached (the_view S.GuardedFileSystem S.Disk.Disk S.File.DavFile)
-        (the_listings S.GuardedFileSystem S.Entry.DavDirEntry) S.File.writes c s t }
+        → (r : Given) → Changes S.view S.listings S.File.writes c method prefix path fields body s r t
+        → Reached S.view S.listings S.File.writes c s t }
 {}

@@ -2,8 +2,8 @@
 ghost use Rattle.std.specs.Prelude.{◌≡◌, ◌⊎◌, Result, Ok, Err, None, Some, option_map};
 ghost use Rattle.dav_core.specs.declared.error.FsError.{FsError};
 ghost use Rattle.dav_core.specs.Info.{Info};
-ghost use Rattle.dav_core.specs.Unchanged.{Keeps};
 ghost use Rattle.dav_model.specs.Conditions.{condition_of};
+ghost use Rattle.dav_store.specs.View.{Stays};
 ghost use Rattle.dav_methods.specs.Lines.{found_or_failed, may_delete, may_make as the_may_make, may_put as the_may_put, no_parent, refused_but_missing, with_status};
 
 use crate::conditions::if_match;
@@ -102,11 +102,9 @@ pub fn pass_parent<S: GuardedFileSystem<C>, C>(
     credentials: &C,
     above: &DavPath,
 ) -> Result<(), DavError>
-    ensures looks { (up : Result Info FsError) × S.looks fs.old credentials.now above.now up fs.new
+    ensures looks { (up : Result Info FsError) × S.view.looks fs.old credentials.now above.now up fs.new
         × (result ≡ no_parent up) }
-    ensures keeps { Keeps (S.Disk.state (S.inside fs.old)) (S.Disk.state (S.inside fs.new)) }
-    ensures admits { S.admits fs.old → S.admits fs.new }
-    ensures loan { S.Disk.loan (S.inside fs.new) ≡ S.Disk.loan (S.inside fs.old) }
+    ensures stays { Stays S.view fs.old fs.new }
 {
     match fs.metadata(above, credentials) {
         Ok(meta) => {

@@ -1,7 +1,5 @@
 //! MKCOL, MKCALENDAR and MKADDRESSBOOK: a directory is made.
-ghost use Rattle.std.specs.Prelude.{◌≡◌};
-ghost use Rattle.dav_store.specs.Frames.{KeepsOpen};
-ghost use Rattle.dav_store.specs.View.{the_view};
+ghost use Rattle.dav_store.specs.View.{StaysOpen};
 ghost use Rattle.dav_methods.specs.Table.{Below, EndsMade, MkCalendars, MkCols, Next, Unless};
 
 use crate::lines::{may_make, pass_parent, pass_unfailed};
@@ -19,11 +17,8 @@ fn make<S: GuardedFileSystem<C>, C>(
     credentials: &C,
     path: &DavPath,
 ) -> Result<Outcome, DavError>
-    ensures table { Next (EndsMade (the_view S.GuardedFileSystem S.Disk.Disk S.File.DavFile) credentials.now path.now)
-        fs.old result fs.new }
-    ensures keeps { KeepsOpen (S.Disk.state (S.inside fs.old)) (S.Disk.state (S.inside fs.new)) }
-    ensures admits { S.admits fs.old → S.admits fs.new }
-    ensures loan { S.Disk.loan (S.inside fs.new) ≡ S.Disk.loan (S.inside fs.old) }
+    ensures table { Next (EndsMade S.view credentials.now path.now) fs.old result fs.new }
+    ensures stays { StaysOpen S.view fs.old fs.new }
 {
     let outcome = created(alloc)?;
     match fs.create_dir(path, credentials) {
@@ -39,12 +34,9 @@ fn make_below<S: GuardedFileSystem<C>, C>(
     credentials: &C,
     path: &DavPath,
 ) -> Result<Outcome, DavError>
-    ensures table { Next (Below (the_view S.GuardedFileSystem S.Disk.Disk S.File.DavFile) credentials.now path.now
-        (EndsMade (the_view S.GuardedFileSystem S.Disk.Disk S.File.DavFile) credentials.now path.now))
+    ensures table { Next (Below S.view credentials.now path.now (EndsMade S.view credentials.now path.now))
         fs.old result fs.new }
-    ensures keeps { KeepsOpen (S.Disk.state (S.inside fs.old)) (S.Disk.state (S.inside fs.new)) }
-    ensures admits { S.admits fs.old → S.admits fs.new }
-    ensures loan { S.Disk.loan (S.inside fs.new) ≡ S.Disk.loan (S.inside fs.old) }
+    ensures stays { StaysOpen S.view fs.old fs.new }
 {
     let above = path.parent()?;
     pass_parent(fs, credentials, &above)?;
@@ -59,12 +51,9 @@ fn make_if<S: GuardedFileSystem<C>, C>(
     path: &DavPath,
     may: Result<(), DavError>,
 ) -> Result<Outcome, DavError>
-    ensures table { Next (Unless may (Below (the_view S.GuardedFileSystem S.Disk.Disk S.File.DavFile) credentials.now
-        path.now (EndsMade (the_view S.GuardedFileSystem S.Disk.Disk S.File.DavFile) credentials.now path.now)))
+    ensures table { Next (Unless may (Below S.view credentials.now path.now (EndsMade S.view credentials.now path.now)))
         fs.old result fs.new }
-    ensures keeps { KeepsOpen (S.Disk.state (S.inside fs.old)) (S.Disk.state (S.inside fs.new)) }
-    ensures admits { S.admits fs.old → S.admits fs.new }
-    ensures loan { S.Disk.loan (S.inside fs.new) ≡ S.Disk.loan (S.inside fs.old) }
+    ensures stays { StaysOpen S.view fs.old fs.new }
 {
     match may {
         Ok(()) => make_below(alloc, fs, credentials, path),
@@ -84,11 +73,8 @@ pub fn mkcol<S: GuardedFileSystem<C>, C>(
     path: &DavPath,
     fields: &HeaderMap,
 ) -> Result<Outcome, DavError>
-    ensures table { MkCols (the_view S.GuardedFileSystem S.Disk.Disk S.File.DavFile) credentials.now path.now
-        fields.now fs.old result fs.new }
-    ensures keeps { KeepsOpen (S.Disk.state (S.inside fs.old)) (S.Disk.state (S.inside fs.new)) }
-    ensures admits { S.admits fs.old → S.admits fs.new }
-    ensures loan { S.Disk.loan (S.inside fs.new) ≡ S.Disk.loan (S.inside fs.old) }
+    ensures table { MkCols S.view credentials.now path.now fields.now fs.old result fs.new }
+    ensures stays { StaysOpen S.view fs.old fs.new }
 {
     let Err(refusal) = fs.metadata(path, credentials) else {
         return Err(DavError::Status(StatusCode::METHOD_NOT_ALLOWED));
@@ -110,11 +96,8 @@ pub fn mkcalendar<S: GuardedFileSystem<C>, C>(
     path: &DavPath,
     _fields: &HeaderMap,
 ) -> Result<Outcome, DavError>
-    ensures table { MkCalendars (the_view S.GuardedFileSystem S.Disk.Disk S.File.DavFile) credentials.now path.now
-        fs.old result fs.new }
-    ensures keeps { KeepsOpen (S.Disk.state (S.inside fs.old)) (S.Disk.state (S.inside fs.new)) }
-    ensures admits { S.admits fs.old → S.admits fs.new }
-    ensures loan { S.Disk.loan (S.inside fs.new) ≡ S.Disk.loan (S.inside fs.old) }
+    ensures table { MkCalendars S.view credentials.now path.now fs.old result fs.new }
+    ensures stays { StaysOpen S.view fs.old fs.new }
 {
     match fs.metadata(path, credentials) {
         Ok(_) => Err(DavError::StatusClose(StatusCode::METHOD_NOT_ALLOWED)),

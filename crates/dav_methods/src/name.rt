@@ -7,7 +7,7 @@ use std::alloc::Global;
 use std::cmp::Ordering;
 use std::marker::Model;
 
-// A plain name. A contract sees it as the list of its bytes.
+/// A plain name. A contract sees it as the list of its bytes.
 #[derive(Drop)]
 pub struct Name {
     text: Text,
@@ -25,7 +25,7 @@ impl Model for Name {
 }
 
 impl Name {
-    // A copy of a plain name.
+    /// A copy of a plain name.
     pub fn copy(alloc: Global, name: &str) -> Result<Self, NoMemory>
         requires { is_plain name.now ≡ true }
         ensures { IfOk result (λ copy. copy ≡ name.now) }
@@ -35,12 +35,14 @@ impl Name {
         })
     }
 
+    /// Its text.
     pub fn as_text(&self) -> &Text
         ensures { result.now ≡ self.now }
     {
         &self.text
     }
 
+    /// Its characters.
     pub fn as_str(&self) -> &str
         ensures value { result.now ≡ self.now }
         ensures plain { is_plain self.now ≡ true }

@@ -1,7 +1,6 @@
 // What a walk below a directory still has to do.
 ghost use Rattle.std.specs.Prelude.{◌≡◌, ◌++◌, map, OnOk};
-ghost use Rattle.dav_store.specs.Frames.{KeepsOpen};
-ghost use Rattle.dav_store.specs.View.{the_listings, the_view};
+ghost use Rattle.dav_store.specs.View.{StaysOpen};
 ghost use Rattle.dav_methods.specs.declared.pending.Pending.TheVariants.{Below};
 ghost use Rattle.dav_methods.specs.Lines.{above as the_above};
 ghost use Rattle.dav_methods.specs.Reading.{child_named};
@@ -55,13 +54,10 @@ pub fn read_pending<S: GuardedFileSystem<C>, C>(
     path: &DavPath,
     works: &mut VecDeque<Pending>,
 ) -> Result<(), DavError>
-    requires admits { S.admits fs.old }
-    ensures reads { ReadsPending (the_view S.GuardedFileSystem S.Disk.Disk S.File.DavFile)
-        (the_listings S.GuardedFileSystem S.Entry.DavDirEntry) credentials.now path.now works.old.items fs.old
+    requires admits { S.view.admits fs.old }
+    ensures reads { ReadsPending S.view S.listings credentials.now path.now works.old.items fs.old
         result fs.new works.new.items }
-    ensures keeps { KeepsOpen (S.Disk.state (S.inside fs.old)) (S.Disk.state (S.inside fs.new)) }
-    ensures admits { S.admits fs.new }
-    ensures loan { S.Disk.loan (S.inside fs.new) ≡ S.Disk.loan (S.inside fs.old) }
+    ensures stays { StaysOpen S.view fs.old fs.new }
 {
     let members = match read_members(alloc, fs, credentials, path) {
         Ok(members) => members,

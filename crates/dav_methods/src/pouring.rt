@@ -1,6 +1,5 @@
 // The body of a PUT goes into a file.
 ghost use Rattle.std.specs.Prelude.{◌≡◌, ◌<◌, IsSome};
-ghost use Rattle.dav_store.specs.View.{the_view};
 ghost use Rattle.dav_methods.specs.Pouring.{Pours, TakesPiece, WritesFile, most_bytes};
 
 use dav_core::{DavError, FsError};
@@ -16,10 +15,9 @@ pub fn file_write<S: GuardedFileSystem<C>, C>(
     file: &mut S::File,
     bytes: &[u8],
 ) -> Result<(), FsError>
-    requires { IsSome ((S.Disk.state (S.inside fs.old)).live (S.File.handle file.old)) }
-    ensures writes { WritesFile (the_view S.GuardedFileSystem S.Disk.Disk S.File.DavFile) S.File.writes fs.old file.old
-        bytes.now result fs.new file.new }
-    ensures admits { S.admits fs.old → S.admits fs.new }
+    requires { IsSome ((S.view.state fs.old).live (S.view.handle file.old)) }
+    ensures writes { WritesFile S.view S.File.writes fs.old file.old bytes.now result fs.new file.new }
+    ensures admits { S.view.admits fs.old → S.view.admits fs.new }
 {
     file.write_bytes(fs.disk(), bytes)
 }
@@ -31,11 +29,10 @@ fn write_piece<S: GuardedFileSystem<C>, C>(
     piece: &[u8],
     total: u64,
 ) -> Result<u64, DavError>
-    requires live { IsSome ((S.Disk.state (S.inside fs.old)).live (S.File.handle file.old)) }
+    requires live { IsSome ((S.view.state fs.old).live (S.view.handle file.old)) }
     requires short { total < most_bytes }
-    ensures takes { TakesPiece (the_view S.GuardedFileSystem S.Disk.Disk S.File.DavFile) S.File.writes total fs.old
-        file.old piece.now result fs.new file.new }
-    ensures admits { S.admits fs.old → S.admits fs.new }
+    ensures takes { TakesPiece S.view S.File.writes total fs.old file.old piece.now result fs.new file.new }
+    ensures admits { S.view.admits fs.old → S.view.admits fs.new }
 {
     let sum = total.saturating_add(piece.len() as u64);
     if sum >= MOST_BYTES {
@@ -55,10 +52,10 @@ pub fn pour<S: GuardedFileSystem<C>, C, B: BodyReader>(
     file: &mut S::File,
     body: &mut B,
 ) -> Result<(), DavError>
-    requires { IsSome ((S.Disk.state (S.inside fs.old)).live (S.File.handle file.old)) }
-    ensures pours { Pours (the_view S.GuardedFileSystem S.Disk.Disk S.File.DavFile) S.File.writes fs.old file.old
+    requires { IsSome ((S.view.state fs.old).live (S.view.handle file.old)) }
+    ensures pours { Pours S.view S.File.writes fs.old file.old
         (B.state body.old) result fs.new file.new (B.state body.new) }
-    ensures admits { S.admits fs.old → S.admits fs.new }
+    ensures admits { S.view.admits fs.old → S.view.admits fs.new }
     ensures body_loan { B.loan body.new ≡ B.loan body.old }
 {
     let mut total: u64 = 0;

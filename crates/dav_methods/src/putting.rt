@@ -1,8 +1,6 @@
 //! PUT: a file gets the body of the request.
 ghost use Rattle.std.specs.Prelude.{◌≡◌, ◌⊎◌, true, IfOk, Ok, Err};
-ghost use Rattle.dav_core.specs.Unchanged.{Keeps};
-ghost use Rattle.dav_store.specs.Frames.{KeepsOpen};
-ghost use Rattle.dav_store.specs.View.{the_view};
+ghost use Rattle.dav_store.specs.View.{Stays, StaysOpen};
 ghost use Rattle.dav_methods.specs.Lines.{made, may_put, silent as the_silent, unless};
 ghost use Rattle.dav_methods.specs.Putting.{AfterChecks, AfterChecksWhole, MayPut, Puts, PutsWhole, put_options as the_put_options};
 
@@ -49,19 +47,21 @@ fn put_new(alloc: Global, fields: &HeaderMap, refusal: FsError) -> Result<Outcom
     answer(may_put_new(alloc, fields, refusal), outcome)
 }
 
-// Refuses a PUT before anything is opened, and gives the answer to be given where all goes well.
-fn check<S: GuardedFileSystem<C>, C>(
+/// Judges a PUT up to its precondition, before anything is opened, and gives the answer to be given where all goes well:
+/// 201 where nothing stands at the path, 204 where a file does.
+///
+/// Errors, in this order: 405 where a slash ends the path; 409 where no directory stands above, or the refusal of a
+/// look there that failed; a refused look at the path, unless nothing stands; 405 where a directory stands; 412 where a
+/// precondition isn't met; want of memory.
+pub fn judge_put<S: GuardedFileSystem<C>, C>(
     alloc: Global,
     fs: &mut S,
     credentials: &C,
     path: &DavPath,
     fields: &HeaderMap,
 ) -> Result<Outcome, DavError>
-    ensures table { MayPut (the_view S.GuardedFileSystem S.Disk.Disk S.File.DavFile) credentials.now path.now
-        fields.now fs.old result fs.new }
-    ensures keeps { Keeps (S.Disk.state (S.inside fs.old)) (S.Disk.state (S.inside fs.new)) }
-    ensures admits { S.admits fs.old → S.admits fs.new }
-    ensures loan { S.Disk.loan (S.inside fs.new) ≡ S.Disk.loan (S.inside fs.old) }
+    ensures table { MayPut S.view credentials.now path.now fields.now fs.old result fs.new }
+    ensures stays { Stays S.view fs.old fs.new }
 {
     if path.is_collection() {
         return Err(DavError::Status(StatusCode::METHOD_NOT_ALLOWED));
@@ -82,11 +82,9 @@ fn put_body<S: GuardedFileSystem<C>, C, B: BodyReader>(
     outcome: Outcome,
     body: &mut B,
 ) -> Result<Outcome, DavError>
-    ensures table { AfterChecks (the_view S.GuardedFileSystem S.Disk.Disk S.File.DavFile) S.File.writes
-        credentials.now (Ok outcome) path.now (B.state body.old) fs.old result fs.new (B.state body.new) }
-    ensures keeps { KeepsOpen (S.Disk.state (S.inside fs.old)) (S.Disk.state (S.inside fs.new)) }
-    ensures admits { S.admits fs.old → S.admits fs.new }
-    ensures loan { S.Disk.loan (S.inside fs.new) ≡ S.Disk.loan (S.inside fs.old) }
+    ensures table { AfterChecks S.view S.File.writes credentials.now (Ok outcome)
+        path.now (B.state body.old) fs.old result fs.new (B.state body.new) }
+    ensures stays { StaysOpen S.view fs.old fs.new }
     ensures body_loan { B.loan body.new ≡ B.loan body.old }
 {
     let mut file = match fs.open(path, put_options(), credentials) {
@@ -115,15 +113,13 @@ pub fn put<S: GuardedFileSystem<C>, C, B: BodyReader>(
     fields: &HeaderMap,
     body: &mut B,
 ) -> Result<Outcome, DavError>
-    ensures table { Puts (the_view S.GuardedFileSystem S.Disk.Disk S.File.DavFile) S.File.writes credentials.now
+    ensures table { Puts S.view S.File.writes credentials.now
         path.now fields.now (B.state body.old) fs.old result fs.new (B.state body.new) }
     ensures read { IfOk result (λ _. (B.state body.new).ended ≡ true) }
-    ensures keeps { KeepsOpen (S.Disk.state (S.inside fs.old)) (S.Disk.state (S.inside fs.new)) }
-    ensures admits { S.admits fs.old → S.admits fs.new }
-    ensures loan { S.Disk.loan (S.inside fs.new) ≡ S.Disk.loan (S.inside fs.old) }
+    ensures stays { StaysOpen S.view fs.old fs.new }
     ensures body_loan { B.loan body.new ≡ B.loan body.old }
 {
-    let outcome = match check(alloc, fs, credentials, path, fields) {
+    let outcome = match judge_put(alloc, fs, credentials, path, fields) {
         Ok(outcome) => outcome,
         Err(error) => return Err(error),
     };
@@ -138,11 +134,9 @@ fn put_bytes<S: GuardedFileSystem<C>, C>(
     outcome: Outcome,
     bytes: &[u8],
 ) -> Result<Outcome, DavError>
-    ensures table { AfterChecksWhole (the_view S.GuardedFileSystem S.Disk.Disk S.File.DavFile) S.File.writes
+    ensures table { AfterChecksWhole S.view S.File.writes
         credentials.now (Ok outcome) path.now bytes.now fs.old result fs.new }
-    ensures keeps { KeepsOpen (S.Disk.state (S.inside fs.old)) (S.Disk.state (S.inside fs.new)) }
-    ensures admits { S.admits fs.old → S.admits fs.new }
-    ensures loan { S.Disk.loan (S.inside fs.new) ≡ S.Disk.loan (S.inside fs.old) }
+    ensures stays { StaysOpen S.view fs.old fs.new }
 {
     let mut file = match fs.open(path, put_options(), credentials) {
         Ok(file) => file,
@@ -168,13 +162,10 @@ pub fn put_whole<S: GuardedFileSystem<C>, C>(
     fields: &HeaderMap,
     bytes: &[u8],
 ) -> Result<Outcome, DavError>
-    ensures table { PutsWhole (the_view S.GuardedFileSystem S.Disk.Disk S.File.DavFile) S.File.writes
-        credentials.now path.now fields.now bytes.now fs.old result fs.new }
-    ensures keeps { KeepsOpen (S.Disk.state (S.inside fs.old)) (S.Disk.state (S.inside fs.new)) }
-    ensures admits { S.admits fs.old → S.admits fs.new }
-    ensures loan { S.Disk.loan (S.inside fs.new) ≡ S.Disk.loan (S.inside fs.old) }
+    ensures table { PutsWhole S.view S.File.writes credentials.now path.now fields.now bytes.now fs.old result fs.new }
+    ensures stays { StaysOpen S.view fs.old fs.new }
 {
-    let outcome = match check(alloc, fs, credentials, path, fields) {
+    let outcome = match judge_put(alloc, fs, credentials, path, fields) {
         Ok(outcome) => outcome,
         Err(error) => return Err(error),
     };

@@ -7,9 +7,8 @@ ghost use Rattle.dav_core.specs.declared.error.FsError.{FsError};
 ghost use Rattle.dav_core.specs.DavPath.{WebPath};
 ghost use Rattle.dav_core.specs.Info.{Info};
 ghost use Rattle.dav_core.specs.Path.{is_plain};
-ghost use Rattle.dav_core.specs.Unchanged.{Keeps};
 ghost use Rattle.dav_store.specs.Listings.{HasLister, KeepsButLister};
-ghost use Rattle.dav_store.specs.View.{the_listings, the_view};
+ghost use Rattle.dav_store.specs.View.{Stays};
 ghost use Rattle.dav_methods.specs.Reading.{AddsChild, HasMembers, HasNoMembers, ReadRefused, ReadsAll};
 ghost use Rattle.dav_methods.specs.Walking.{members_at};
 
@@ -42,15 +41,12 @@ fn add_child<S: GuardedFileSystem<C>, C>(
     entry: &S::Entry,
     members: &mut Vec<Member>,
 ) -> Result<(), FsError>
-    requires admits { S.admits fs.old }
-    ensures told { (said : Result Info FsError)
-        × S.Entry.says entry.now (S.Disk.state (S.inside fs.old)) said (S.Disk.state (S.inside fs.new))
-        × ((path : WebPath) → AddsChild path (S.Entry.called entry.now) said (members_at path members.old.items) result
-        (members_at path members.new.items)) }
-    ensures store { fs.new ≡ S.with_disk fs.old (S.inside fs.new) }
-    ensures keeps { Keeps (S.Disk.state (S.inside fs.old)) (S.Disk.state (S.inside fs.new)) }
-    ensures admits { S.admits fs.new }
-    ensures loan { S.Disk.loan (S.inside fs.new) ≡ S.Disk.loan (S.inside fs.old) }
+    requires admits { S.view.admits fs.old }
+    ensures told { (said : Result Info FsError) × S.listings.says entry.now (S.view.state fs.old)
+        said (S.view.state fs.new) × ((path : WebPath) → AddsChild path (S.listings.called entry.now)
+        said (members_at path members.old.items) result (members_at path members.new.items)) }
+    ensures store { S.view.lends fs.old fs.new }
+    ensures stays { Stays S.view fs.old fs.new }
 {
     match entry_metadata::<S, C>(fs, entry) {
         Ok(meta) => match push_member(alloc, entry.name(), meta.is_dir(), members) {
@@ -67,20 +63,16 @@ fn read_to_end<S: GuardedFileSystem<C>, C>(
     fs: &mut S,
     dir: &mut S::Dir,
 ) -> Result<Vec<Member>, FsError>
-    requires live { HasLister (S.Disk.state (S.inside fs.old)) (S.lister dir.old) }
-    requires admits { S.admits fs.old }
+    requires live { HasLister (S.view.state fs.old) (S.listings.lister dir.old) }
+    requires admits { S.view.admits fs.old }
     ensures reads { (path : WebPath) → MatchResult result
-        (λ members. ReadsAll (the_view S.GuardedFileSystem S.Disk.Disk S.File.DavFile)
-        (the_listings S.GuardedFileSystem S.Entry.DavDirEntry) fs.old dir.old path (members_at path members.items)
-        fs.new dir.new)
-        (λ e. ReadRefused (the_view S.GuardedFileSystem S.Disk.Disk S.File.DavFile)
-        (the_listings S.GuardedFileSystem S.Entry.DavDirEntry) fs.old dir.old e fs.new dir.new) }
-    ensures live { HasLister (S.Disk.state (S.inside fs.new)) (S.lister dir.new) }
-    ensures admits { S.admits fs.new }
-    ensures lister { S.lister dir.new ≡ S.lister dir.old }
-    ensures keeps { KeepsButLister (S.lister dir.old) (S.Disk.state (S.inside fs.old))
-        (S.Disk.state (S.inside fs.new)) }
-    ensures loan { S.Disk.loan (S.inside fs.new) ≡ S.Disk.loan (S.inside fs.old) }
+        (λ members. ReadsAll S.view S.listings fs.old dir.old path (members_at path members.items) fs.new dir.new)
+        (λ e. ReadRefused S.view S.listings fs.old dir.old e fs.new dir.new) }
+    ensures live { HasLister (S.view.state fs.new) (S.listings.lister dir.new) }
+    ensures admits { S.view.admits fs.new }
+    ensures lister { S.listings.lister dir.new ≡ S.listings.lister dir.old }
+    ensures keeps { KeepsButLister (S.listings.lister dir.old) (S.view.state fs.old) (S.view.state fs.new) }
+    ensures loan { S.view.loan fs.new ≡ S.view.loan fs.old }
 {
     let mut members = Vec::new(alloc);
     'entries: loop {
@@ -113,24 +105,21 @@ fn in_order(read: Result<Vec<Member>, FsError>) -> Result<Vec<Member>, FsError>
     }
 }
 
-// The members of the directory at a path, in the order of their names, by bytes. Its listing is read to its end and
-// ended.
+/// The members of the directory at a path, in the order of their names, by bytes. Its listing is read to its end and
+/// ended.
+///
+/// Errors: the first refusal of the listing or of a member's metadata; want of memory.
 pub fn read_members<S: GuardedFileSystem<C>, C>(
     alloc: Global,
     fs: &mut S,
     credentials: &C,
     path: &DavPath,
 ) -> Result<Vec<Member>, FsError>
-    requires admits { S.admits fs.old }
-    ensures read { MatchResult result
-        (λ members. HasMembers (the_view S.GuardedFileSystem S.Disk.Disk S.File.DavFile)
-        (the_listings S.GuardedFileSystem S.Entry.DavDirEntry) fs.old credentials.now path.now
-        (members_at path.now members.items) fs.new)
-        (λ e. HasNoMembers (the_view S.GuardedFileSystem S.Disk.Disk S.File.DavFile)
-        (the_listings S.GuardedFileSystem S.Entry.DavDirEntry) fs.old credentials.now path.now e fs.new) }
-    ensures keeps { Keeps (S.Disk.state (S.inside fs.old)) (S.Disk.state (S.inside fs.new)) }
-    ensures admits { S.admits fs.new }
-    ensures loan { S.Disk.loan (S.inside fs.new) ≡ S.Disk.loan (S.inside fs.old) }
+    requires admits { S.view.admits fs.old }
+    ensures read { MatchResult result (λ members. HasMembers S.view
+        S.listings fs.old credentials.now path.now (members_at path.now members.items) fs.new)
+        (λ e. HasNoMembers S.view S.listings fs.old credentials.now path.now e fs.new) }
+    ensures stays { Stays S.view fs.old fs.new }
 {
     let mut dir = match fs.read_dir(path, ReadDirMeta::DataSymlink, credentials) {
         Ok(dir) => dir,

@@ -1,10 +1,10 @@
 //! Laws over the table of DELETE, each the contract of a function that does nothing.
-ghost use Rattle.std.specs.Prelude.{◌≡◌, ℕ, List, false, None};
+ghost use Rattle.std.specs.Prelude.{◌≡◌, ℕ, List, None};
 ghost use Rattle.dav_core.specs.declared.method.DavMethod.TheVariants.{Delete};
 ghost use Rattle.dav_core.specs.DavPath.{WebPath};
-ghost use Rattle.dav_store.specs.View.{the_listings, the_view};
 ghost use Rattle.dav_model.specs.Conditions.{Fields};
-ghost use Rattle.dav_model.specs.Rules.{Rules};
+ghost use Rattle.dav_model.specs.Rules.{Knowledge, Rules};
+ghost use Rattle.dav_model.specs.Valid.{IsRegular};
 ghost use Rattle.dav_methods.specs.Answers.{Answers, RefusesUsually};
 ghost use Rattle.dav_methods.specs.Follows.{Follows, RightIn, Told};
 ghost use Rattle.dav_methods.specs.Lines.{Given};
@@ -15,27 +15,21 @@ use dav_store::GuardedFileSystem;
 /// Over a store that refuses few things a DELETE is answered 204, or with a status of a short list, where memory isn't
 /// refused; and 500 only where a fault was met.
 pub fn removals_are_listed<S: GuardedFileSystem<C>, C>()
-    ensures { (c : C) → RefusesUsually (the_view S.GuardedFileSystem S.Disk.Disk S.File.DavFile)
-        (the_listings S.GuardedFileSystem S.Entry.DavDirEntry) S.File.writes c
+    ensures { (c : C) → RefusesUsually S.view S.listings S.File.writes c
         → (path : WebPath) (fields : Fields) (s t : S) (r : Given)
-        → Deletes (the_view S.GuardedFileSystem S.Disk.Disk S.File.DavFile)
-        (the_listings S.GuardedFileSystem S.Entry.DavDirEntry) c path fields s r t
-        → Answers (the_view S.GuardedFileSystem S.Disk.Disk S.File.DavFile) s r t }
+        → Deletes S.view S.listings c path fields s r t
+        → Answers Delete S.view s r t }
 {}
 
-/// Over a store that follows rules, which neither fold names nor are those of macOS, and finds each path as it is asked
-/// for, a DELETE is answered by its plan, and makes of the told world what the plan says: the members of a directory go
-/// before it in the order of their names; after a refusal what went before stays removed.
+/// Over a store that follows its rules, of which none is that each path names one file, a DELETE makes of a world of a
+/// valid run what its plan says, and is answered so: the members of a directory go before it in the order of their
+/// names; after a refusal what went before stays removed.
 pub fn removals_follow_their_plan<S: GuardedFileSystem<C>, C>()
-    ensures { (c : C) (rules : Rules) (s : S) → Follows (the_view S.GuardedFileSystem S.Disk.Disk S.File.DavFile)
-        (the_listings S.GuardedFileSystem S.Entry.DavDirEntry) S.File.writes c rules s
-        → rules.folds ≡ false → rules.macos ≡ false → rules.alone ≡ None
+    ensures { (c : C) (rules : Rules) (k : Knowledge) (s : S) → Follows S.view S.listings S.File.writes c rules k s
+        → rules.alone ≡ None
         → (path : WebPath) (fields : Fields) (body : List ℕ) (r : Given) (t : S)
-        → Deletes (the_view S.GuardedFileSystem S.Disk.Disk S.File.DavFile)
-        (the_listings S.GuardedFileSystem S.Entry.DavDirEntry) c path fields s r t
-        → Told (the_view S.GuardedFileSystem S.Disk.Disk S.File.DavFile)
-        (the_listings S.GuardedFileSystem S.Entry.DavDirEntry) S.File.writes c s t
-        (RightIn (the_view S.GuardedFileSystem S.Disk.Disk S.File.DavFile)
-        (the_listings S.GuardedFileSystem S.Entry.DavDirEntry) S.File.writes c rules
-        (record { method = Delete; path = path; fields = fields; body = body }) s r t) }
+        → Deletes S.view S.listings c path fields s r t
+        → Told S.view S.listings S.File.writes c s t (λ v w. IsRegular rules k v
+        → RightIn S.view S.listings S.File.writes c rules
+        (record { method = Delete; path = path; fields = fields; body = body }) s r t v w) }
 {}

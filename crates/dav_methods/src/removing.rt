@@ -1,7 +1,6 @@
 //! DELETE: what stands at a path is removed, a directory's members before it.
 ghost use Rattle.std.specs.Prelude.{◌≡◌, ◌<◌, ◌∷◌, [], List, true, Ok};
-ghost use Rattle.dav_store.specs.Frames.{KeepsOpen};
-ghost use Rattle.dav_store.specs.View.{the_listings, the_view};
+ghost use Rattle.dav_store.specs.View.{StaysOpen};
 ghost use Rattle.dav_methods.specs.Lines.{fails_when};
 ghost use Rattle.dav_methods.specs.Removing.{Deletes, Removes, RemovesAll, is_deep, is_root as the_is_root, line_of as the_line_of};
 ghost use Rattle.dav_methods.specs.Table.{Next, Unless};
@@ -54,18 +53,14 @@ fn remove_member<S: GuardedFileSystem<C>, C>(
     member: &Member,
     works: &mut VecDeque<Pending>,
 ) -> Result<(), DavError>
-    requires admits { S.admits fs.old }
+    requires admits { S.view.admits fs.old }
     requires slash { path.old.slash ≡ true }
-    ensures removes { (last : List Work) → RemovesOn (the_view S.GuardedFileSystem S.Disk.Disk S.File.DavFile)
-        (the_listings S.GuardedFileSystem S.Entry.DavDirEntry) credentials.now
-        (works_at path.old (Below member.now ∷ works.old.items) last) fs.old result fs.new
-        (works_at path.new works.new.items last) }
+    ensures removes { (last : List Work) → RemovesOn S.view S.listings credentials.now (works_at path.old
+        (Below member.now ∷ works.old.items) last) fs.old result fs.new (works_at path.new works.new.items last) }
     ensures slash { result ≡ Ok tt → path.new.slash ≡ true }
     ensures lighter { result ≡ Ok tt → weight (works_at path.new works.new.items [])
         < weight (works_at path.old (Below member.now ∷ works.old.items) []) }
-    ensures keeps { KeepsOpen (S.Disk.state (S.inside fs.old)) (S.Disk.state (S.inside fs.new)) }
-    ensures admits { S.admits fs.new }
-    ensures loan { S.Disk.loan (S.inside fs.new) ≡ S.Disk.loan (S.inside fs.old) }
+    ensures stays { StaysOpen S.view fs.old fs.new }
 {
     let Ok(()) = go_down(path, member) else {
         return Err(DavError::NoMemory);
@@ -91,18 +86,14 @@ fn remove_one<S: GuardedFileSystem<C>, C>(
     work: Pending,
     works: &mut VecDeque<Pending>,
 ) -> Result<(), DavError>
-    requires admits { S.admits fs.old }
+    requires admits { S.view.admits fs.old }
     requires slash { path.old.slash ≡ true }
-    ensures removes { (last : List Work) → RemovesOn (the_view S.GuardedFileSystem S.Disk.Disk S.File.DavFile)
-        (the_listings S.GuardedFileSystem S.Entry.DavDirEntry) credentials.now
-        (works_at path.old (work ∷ works.old.items) last) fs.old result fs.new
-        (works_at path.new works.new.items last) }
+    ensures removes { (last : List Work) → RemovesOn S.view S.listings credentials.now (works_at
+        path.old (work ∷ works.old.items) last) fs.old result fs.new (works_at path.new works.new.items last) }
     ensures slash { result ≡ Ok tt → path.new.slash ≡ true }
     ensures lighter { result ≡ Ok tt → weight (works_at path.new works.new.items [])
         < weight (works_at path.old (work ∷ works.old.items) []) }
-    ensures keeps { KeepsOpen (S.Disk.state (S.inside fs.old)) (S.Disk.state (S.inside fs.new)) }
-    ensures admits { S.admits fs.new }
-    ensures loan { S.Disk.loan (S.inside fs.new) ≡ S.Disk.loan (S.inside fs.old) }
+    ensures stays { StaysOpen S.view fs.old fs.new }
 {
     match work {
         Pending::Below(member) => remove_member(alloc, fs, credentials, path, &member, works),
@@ -122,14 +113,11 @@ fn remove_pending<S: GuardedFileSystem<C>, C>(
     path: DavPath,
     works: VecDeque<Pending>,
 ) -> Result<(), DavError>
-    requires admits { S.admits fs.old }
+    requires admits { S.view.admits fs.old }
     requires slash { path.slash ≡ true }
-    ensures removes { (last : List Work) → RemovesOn (the_view S.GuardedFileSystem S.Disk.Disk S.File.DavFile)
-        (the_listings S.GuardedFileSystem S.Entry.DavDirEntry) credentials.now
+    ensures removes { (last : List Work) → RemovesOn S.view S.listings credentials.now
         (works_at path works.items last) fs.old result fs.new last }
-    ensures keeps { KeepsOpen (S.Disk.state (S.inside fs.old)) (S.Disk.state (S.inside fs.new)) }
-    ensures admits { S.admits fs.new }
-    ensures loan { S.Disk.loan (S.inside fs.new) ≡ S.Disk.loan (S.inside fs.old) }
+    ensures stays { StaysOpen S.view fs.old fs.new }
 {
     let mut path = path;
     let mut works = works;
@@ -152,13 +140,10 @@ fn empty_dir<S: GuardedFileSystem<C>, C>(
     credentials: &C,
     path: &DavPath,
 ) -> Result<(), DavError>
-    requires admits { S.admits fs.old }
-    ensures removes { RemovesOn (the_view S.GuardedFileSystem S.Disk.Disk S.File.DavFile)
-        (the_listings S.GuardedFileSystem S.Entry.DavDirEntry) credentials.now (Whole path.now true ∷ []) fs.old
+    requires admits { S.view.admits fs.old }
+    ensures removes { RemovesOn S.view S.listings credentials.now (Whole path.now true ∷ []) fs.old
         result fs.new (Emptied path.now ∷ []) }
-    ensures keeps { KeepsOpen (S.Disk.state (S.inside fs.old)) (S.Disk.state (S.inside fs.new)) }
-    ensures admits { S.admits fs.new }
-    ensures loan { S.Disk.loan (S.inside fs.new) ≡ S.Disk.loan (S.inside fs.old) }
+    ensures stays { StaysOpen S.view fs.old fs.new }
 {
     pass_shallow(path)?;
     let Ok(mut below) = path.try_clone() else {
@@ -180,13 +165,9 @@ pub fn remove_all<S: GuardedFileSystem<C>, C>(
     path: &DavPath,
     dir: bool,
 ) -> Result<(), DavError>
-    requires admits { S.admits fs.old }
-    ensures removes { Removes (the_view S.GuardedFileSystem S.Disk.Disk S.File.DavFile)
-        (the_listings S.GuardedFileSystem S.Entry.DavDirEntry) credentials.now (Whole path.now dir ∷ []) fs.old
-        result fs.new }
-    ensures keeps { KeepsOpen (S.Disk.state (S.inside fs.old)) (S.Disk.state (S.inside fs.new)) }
-    ensures admits { S.admits fs.new }
-    ensures loan { S.Disk.loan (S.inside fs.new) ≡ S.Disk.loan (S.inside fs.old) }
+    requires admits { S.view.admits fs.old }
+    ensures removes { Removes S.view S.listings credentials.now (Whole path.now dir ∷ []) fs.old result fs.new }
+    ensures stays { StaysOpen S.view fs.old fs.new }
 {
     if !dir {
         return line_of(fs.remove_file(path, credentials));
@@ -206,12 +187,9 @@ fn delete_if<S: GuardedFileSystem<C>, C>(
     dir: bool,
     may: Result<(), DavError>,
 ) -> Result<Outcome, DavError>
-    requires admits { S.admits fs.old }
-    ensures table { Next (Unless may (RemovesAll (the_view S.GuardedFileSystem S.Disk.Disk S.File.DavFile)
-        (the_listings S.GuardedFileSystem S.Entry.DavDirEntry) credentials.now path.now dir)) fs.old result fs.new }
-    ensures keeps { KeepsOpen (S.Disk.state (S.inside fs.old)) (S.Disk.state (S.inside fs.new)) }
-    ensures admits { S.admits fs.new }
-    ensures loan { S.Disk.loan (S.inside fs.new) ≡ S.Disk.loan (S.inside fs.old) }
+    requires admits { S.view.admits fs.old }
+    ensures table { Next (Unless may (RemovesAll S.view S.listings credentials.now path.now dir)) fs.old result fs.new }
+    ensures stays { StaysOpen S.view fs.old fs.new }
 {
     if let Err(error) = may {
         return Err(error);
@@ -241,13 +219,9 @@ pub fn delete<S: GuardedFileSystem<C>, C>(
     path: &DavPath,
     fields: &HeaderMap,
 ) -> Result<Outcome, DavError>
-    requires admits { S.admits fs.old }
-    ensures table { Deletes (the_view S.GuardedFileSystem S.Disk.Disk S.File.DavFile)
-        (the_listings S.GuardedFileSystem S.Entry.DavDirEntry) credentials.now path.now fields.now fs.old result
-        fs.new }
-    ensures keeps { KeepsOpen (S.Disk.state (S.inside fs.old)) (S.Disk.state (S.inside fs.new)) }
-    ensures admits { S.admits fs.new }
-    ensures loan { S.Disk.loan (S.inside fs.new) ≡ S.Disk.loan (S.inside fs.old) }
+    requires admits { S.view.admits fs.old }
+    ensures table { Deletes S.view S.listings credentials.now path.now fields.now fs.old result fs.new }
+    ensures stays { StaysOpen S.view fs.old fs.new }
 {
     if is_root(path) {
         return Err(DavError::Status(StatusCode::FORBIDDEN));

@@ -1,5 +1,5 @@
 -- What a memory that is sound calls absent isn't there.
-use Rattle.std.proofs.Common.{◌≡◌, inl, inr, ◌||◌, Bool, true, false, cond, List, [], ◌∷◌, ◌++◌, Option, None, Some, Result, Ok, Err, refl, sym, ap, subst, ◌∙◌, append_assoc, append-nil}
+use Rattle.std.proofs.Common.{◌≡◌, ℕ, inl, inr, ◌||◌, Bool, true, false, cond, List, [], ◌∷◌, ◌++◌, Option, None, Some, Result, Ok, Err, refl, sym, ap, subst, ◌∙◌, append_assoc, append-nil}
 use Rattle.std.specs.List.{cons_option, list_any}
 use Rattle.std.specs.Str.{bytes_eq}
 use Rattle.std.proofs.lemmas.Slice.Eq.{slice_eq-Decides}
@@ -17,7 +17,9 @@ use Rattle.dav_core.proofs.Plain.{names_same}
 use Rattle.dav_model.specs.Folds.{Name, dir_time, dir_time_of, has_name, is_dot, member_name, names_in}
 use Rattle.dav_model.specs.Rules.{Rules, Knowledge, IsSound, MayDeny}
 use Rattle.dav_model.specs.Finding.{Finding, MayFind, stood_at}
+use Rattle.http.specs.Request.{body_of}
 use Rattle.dav_io.specs.Counts.{Rose}
+use Rattle.dav_io.specs.Told.{Both}
 use Rattle.dav_model.specs.Head.{Reply}
 use Rattle.dav_model.specs.Finding.{shown_in}
 use Rattle.dav_model.specs.Due.{Query, IsRight}
@@ -34,6 +36,7 @@ use Rattle.dav_io.specs.declared.failure.NoMemory.{NoMemory}
 use Rattle.dav_model.specs.Conditions.{Fields, fields_of}
 use Rattle.dav_model.specs.Due.{query}
 use Rattle.dav_model.specs.Trail.{target_of}
+use Rattle.dav_model.specs.Written.{Makes}
 use Rattle.dav_model.specs.Play.{Playing, Played, PlayedOn, Plays, Reads, Replies, RepliesByTree, Stage, Stands, StepByTree, EachByTree, MeetsNoLink}
 use Rattle.dav_model.proofs.JoiningLemmas.{step_rules}
 use Rattle.dav_model.proofs.Headline.{DeniesRightly, headline}
@@ -125,17 +128,28 @@ pub in_valid_run : (rules : Rules) (k : Knowledge) (s t : Point) (q : Query) (re
 in_valid_run rules k s t q reply w told apart sound clear reads =
     headline rules k s t q reply w told apart clear reads (λ may. denies_rightly rules k w may.finding may.may sound)
 
-replies_by_tree : (target : Target) (rules : Rules) (k : Knowledge) (s t : Point) (fields : Fields) (reply : Reply) → ((w : World) → s.told ≡ Some w → rules.folds ≡ true → Twinless w)
-    → ((w : World) → s.told ≡ Some w → rules.macos ≡ true → IsSound k w) → Replies target rules k s t fields reply → RepliesByTree target rules s t fields reply
-replies_by_tree (Refused status close) rules k s t fields reply apart sound is = is
-replies_by_tree Methods rules k s t fields reply apart sound is = is
-replies_by_tree (Writes method path) rules k s t fields reply apart sound is = is
-replies_by_tree (At method path) rules k s t fields reply apart sound reads = λ w told clear.
+both_known : {A : Type 0} (old new : Option A) (P Q : A → A → Type 0) → ((a b : A) → old ≡ Some a → P a b → Q a b) → Both old new P → Both old new Q
+both_known None None P Q h p = tt
+both_known None (Some b) P Q h p = absurd p
+both_known (Some a) None P Q h p = absurd p
+both_known (Some a) (Some b) P Q h p = h a b refl p
+
+replies_by_tree : (target : Target) (rules : Rules) (k : Knowledge) (s t : Point) (fields : Fields) (body : List ℕ) (reply : Reply) → ((w : World) → s.told ≡ Some w → rules.folds ≡ true → Twinless w)
+    → ((w : World) → s.told ≡ Some w → rules.macos ≡ true → IsSound k w) → Makes target rules k fields body (Ok reply) s t → Replies target rules k s t fields reply
+    → RepliesByTree target rules s t fields body reply
+replies_by_tree (Refused status close) rules k s t fields body reply apart sound makes is = is
+replies_by_tree Methods rules k s t fields body reply apart sound makes is = is
+replies_by_tree (Writes method path) rules k s t fields body reply apart sound makes is = (
+  is,
+  λ said. both_known s.told t.told _ _
+      (λ v w told made. made (record { apart = apart v told; sound = sound v told })) (makes said),
+)
+replies_by_tree (At method path) rules k s t fields body reply apart sound makes reads = λ w told clear.
     in_valid_run rules k s t (query rules.settings fields method path) reply w told (apart w told) (sound w told) clear reads
 
 step_by_tree : (p : Playing) (s t : Point) (x : Step) (a : Answer) (q : Playing) → ((w : World) → s.told ≡ Some w → p.rules.folds ≡ true → Twinless w)
     → ((w : World) → s.told ≡ Some w → p.rules.macos ≡ true → IsSound p.knows w) → (st : Stands p s t x a q) → StepByTree p s t x a q st
-step_by_tree p s t (Request request now) a q apart sound st = replies_by_tree (target_of p.rules request) p.rules p.knows s t (fields_of request) st.reply apart sound st.right
+step_by_tree p s t (Request request now) a q apart sound st = replies_by_tree (target_of p.rules request) p.rules p.knows s t (fields_of request) (body_of request) st.reply apart sound st.makes st.right
 step_by_tree p s t (Poll body) a q apart sound st = tt
 step_by_tree p s t (Abandon body) a q apart sound st = tt
 step_by_tree p s t (Purge now) a q apart sound st = tt

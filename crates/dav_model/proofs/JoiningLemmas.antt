@@ -27,7 +27,7 @@ use Rattle.http.specs.Request.{body_of}
 use Rattle.dav_model.specs.Conditions.{Fields, fields_of}
 use Rattle.dav_model.specs.Written.{Makes, MakesAs, PartOf, ask_of}
 use Rattle.dav_model.specs.Trail.{Point, Move, Goes, Leaves, is_writing, step_leaves, target_of, last_of, steps_of, answers_of, points_of}
-use Rattle.dav_model.specs.Valid.{Valid, Occurs}
+use Rattle.dav_model.specs.Valid.{IsRegular, Valid, Occurs}
 use Rattle.dav_model.specs.Play.{AreFull, AsksUnanswered, MakesUnanswered, Playing, Stage, Stands, Stepped, StaysOpen, Plays, Ends, Played, Learned}
 
 -- ---- lists
@@ -225,15 +225,15 @@ played_on_from xs ys a m b steps more old mid new result x y =
 -- ---- reading
 
 -- what is asked for changes nothing, unless it writes
-reads_keep : (target : Target) (rules : Rules) (fields : Fields) (body : List ℕ) (result : Result Reply NoMemory) (s t : Point) → not (is_writing target) ≡ true
-    → Makes target rules fields body result s t → Leaves s t
-reads_keep (Writes method path) rules fields body result s t e makes = cc
-reads_keep (At method path) rules fields body result s t e makes = makes
-reads_keep Methods rules fields body result s t e makes = makes
-reads_keep (Refused status close) rules fields body result s t e makes = makes
+reads_keep : (target : Target) (rules : Rules) (k : Knowledge) (fields : Fields) (body : List ℕ) (result : Result Reply NoMemory) (s t : Point) → not (is_writing target) ≡ true
+    → Makes target rules k fields body result s t → Leaves s t
+reads_keep (Writes method path) rules k fields body result s t e makes = cc
+reads_keep (At method path) rules k fields body result s t e makes = makes
+reads_keep Methods rules k fields body result s t e makes = makes
+reads_keep (Refused status close) rules k fields body result s t e makes = makes
 
 step_keeps : (p q : Playing) (s t : Point) (x : Step) (a : Answer) → step_leaves p.rules x ≡ true → Stands p s t x a q → Leaves s t
-step_keeps p q s t (Request request now) a e x = reads_keep (target_of p.rules request) p.rules (fields_of request) (body_of request) (Ok x.reply) s t e x.makes
+step_keeps p q s t (Request request now) a e x = reads_keep (target_of p.rules request) p.rules p.knows (fields_of request) (body_of request) (Ok x.reply) s t e x.makes
 step_keeps p q s t (Poll body) a e x = x.leaves
 step_keeps p q s t (Abandon body) a e (quiet, same, live, gets) = same
 step_keeps p q s t (Purge now) a e (d, same, x) = both_same s.told t.told SameBesidesOpens same_besides (ap (λ (z : Point). z.told) same)
@@ -341,26 +341,26 @@ kept_as writing.Move rules ask e rose v w same = inl same
 kept_as other rules ask e rose v w same = λ clear. part_none (plan rules v ask).acts v w same
 
 -- Where nothing changed, nothing of a plan was made.
-pub makes_kept : (target : Target) (rules : Rules) (fields : Fields) (body : List ℕ) (e : NoMemory) (s t : Point) → Leaves s t → Makes target rules fields body (Err e) s t
-makes_kept (Writes method path) rules fields body e s t leaves = λ folds macos alone.
-    both_map s.told t.told SameBesidesOpens (MakesAs method rules (ask_of method path fields body) (Err e) (Rose s.faults t.faults))
-    (kept_as method rules (ask_of method path fields body) e (Rose s.faults t.faults)) leaves
-makes_kept (At method path) rules fields body e s t leaves = leaves
-makes_kept Methods rules fields body e s t leaves = leaves
-makes_kept (Refused status close) rules fields body e s t leaves = leaves
+pub makes_kept : (target : Target) (rules : Rules) (k : Knowledge) (fields : Fields) (body : List ℕ) (e : NoMemory) (s t : Point) → Leaves s t → Makes target rules k fields body (Err e) s t
+makes_kept (Writes method path) rules k fields body e s t leaves = λ said.
+    both_map s.told t.told SameBesidesOpens (λ v w. IsRegular rules k v → MakesAs method rules (ask_of method path fields body) (Err e) (Rose s.faults t.faults) v w)
+    (λ v w same regular. kept_as method rules (ask_of method path fields body) e (Rose s.faults t.faults) v w same) leaves
+makes_kept (At method path) rules k fields body e s t leaves = leaves
+makes_kept Methods rules k fields body e s t leaves = leaves
+makes_kept (Refused status close) rules k fields body e s t leaves = leaves
 
-makes_unanswered : (rules : Rules) (step : Step) (e : NoMemory) (s : Point) → MakesUnanswered rules step e s s
-makes_unanswered rules (Request request now) e s = makes_kept (target_of rules request) rules (fields_of request) (body_of request) e s s (leaves_same s)
-makes_unanswered rules (Poll body) e s = leaves_same s
-makes_unanswered rules (Abandon body) e s = leaves_same s
-makes_unanswered rules (Purge now) e s = leaves_same s
-makes_unanswered rules Turn e s = leaves_same s
+makes_unanswered : (rules : Rules) (k : Knowledge) (step : Step) (e : NoMemory) (s : Point) → MakesUnanswered rules k step e s s
+makes_unanswered rules k (Request request now) e s = makes_kept (target_of rules request) rules k (fields_of request) (body_of request) e s s (leaves_same s)
+makes_unanswered rules k (Poll body) e s = leaves_same s
+makes_unanswered rules k (Abandon body) e s = leaves_same s
+makes_unanswered rules k (Purge now) e s = leaves_same s
+makes_unanswered rules k Turn e s = leaves_same s
 
 -- a step that was not begun leaves all as it was
 pub not_begun : (m : Stage) (step : Step) (e : NoMemory) → StaysOpen m.at m.playing → Stepped m step (Err e) m
 not_begun m step e held = record {
   goes = stays_goes m.at;
-  makes = λ f. makes_unanswered m.playing.rules step f m.at;
+  makes = λ f. makes_unanswered m.playing.rules m.playing.knows step f m.at;
   live = refl;
   knows = m.playing.knows;
   learns = learns_same m.at.told m.playing.knows m.playing.knows refl;

@@ -19,3 +19,4 @@ pub mod GateStatuses
 pub mod WellFormedRuns
 pub mod NoneUnder
 mod CarryPlanRows
+mod RemovalPlanRows

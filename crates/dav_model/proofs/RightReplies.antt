@@ -282,7 +282,7 @@ replies_framed (At method path) rules k s t fields reply reads =
 pub replies_sound : (target : Target) (rules : Rules) (k : Knowledge) (s t : Point) (fields : Fields) (reply : Reply) → Replies target rules k s t fields reply → HasSoundBody reply
 replies_sound (Refused status close) rules k s t fields reply is = refusal_sound fields status close reply is
 replies_sound Methods rules k s t fields reply is = subst HasSoundBody (sym is) (record { full = tt; bodiless = λ e. refl })
-replies_sound (Writes method path) rules k s t fields reply is = write_sound fields (Rose s.faults t.faults) reply is
+replies_sound (Writes method path) rules k s t fields reply is = write_sound method fields (Rose s.faults t.faults) reply is
 replies_sound (At method path) rules k s t fields reply reads =
     right_sound (query rules.settings fields method path) reads.shown (Rose s.faults t.faults) reply reads.right
 

@@ -30,7 +30,8 @@ use Rattle.dav_model.specs.Play.{Playing, PlayedOn, Plays, Replies, Stage, Stand
 use Rattle.dav_model.specs.Rules.{Knowledge, Rules}
 use Rattle.dav_model.specs.Shown.{Could, CouldShow, CouldStand, Shown}
 use Rattle.dav_model.specs.Trail.{Move, Point, answers_of, target_of}
-use Rattle.dav_model.specs.Written.{IsWriteReply, halt_statuses, made, silent}
+use Rattle.dav_core.specs.declared.method.DavMethod.TheVariants as writing
+use Rattle.dav_model.specs.Written.{IsWriteReply, halt_statuses, made, own_statuses, silent}
 use Rattle.dav_model.specs.WellFormed.{IsWellFormed, IsWellFormedAnswer, gate_statuses, is_among, reply_names, reply_statuses, right_statuses}
 use Rattle.dav_model.proofs.Courses.{course_holds}
 use Rattle.dav_model.proofs.FieldValues.{address_fits, date_fits, link_fits, tag_fits, type_fits}
@@ -175,15 +176,23 @@ gate_well_formed rules request status close is =
     let listed = gate_listed rules.settings true (head_of request) (body_of request) status close is in
     (listed, well_formed status (refusal (fields_of request) status close).fields (gate_is_listed status listed) (refusal_some (fields_of request) status close))
 
-halt_is_listed : (status : ℕ) → is_among status halt_statuses ≡ true → IsListed status
-halt_is_listed status e = among_all IsListed halt_statuses (refl, (refl, (refl, (refl, (refl, (refl, (refl, (refl, (refl, tt))))))))) status e
+own_are_listed : (method : DavMethod) → AllByRecursion IsListed (own_statuses method)
+own_are_listed writing.Put = (refl, (refl, tt))
+own_are_listed writing.MkCol = (refl, (refl, tt))
+own_are_listed writing.Delete = (refl, tt)
+own_are_listed writing.Copy = (refl, (refl, (refl, tt)))
+own_are_listed writing.Move = (refl, (refl, (refl, tt)))
+own_are_listed other = tt
+
+halt_is_listed : (method : DavMethod) (status : ℕ) → is_among status (halt_statuses method) ≡ true → IsListed status
+halt_is_listed method status e = among_all IsListed (halt_statuses method) (refl, (refl, (refl, (refl, (refl, own_are_listed method))))) status e
 
 -- what a request that writes is answered
-write_well_formed : (fields : Fields) (rose : Type 0) (reply : Reply) → IsWriteReply fields rose reply → IsWellFormed reply.status reply.fields
-write_well_formed fields rose reply (inl is) = subst (λ (r : Reply). IsWellFormed r.status r.fields) (sym is) (well_formed 201 made.fields refl made_some)
-write_well_formed fields rose reply (inr (inl is)) = subst (λ (r : Reply). IsWellFormed r.status r.fields) (sym is) (well_formed 204 silent.fields refl tt)
-write_well_formed fields rose reply (inr (inr halted)) = subst (λ (r : Reply). IsWellFormed r.status r.fields) (sym halted.is)
-    (well_formed halted.status (refusal fields halted.status halted.close).fields (halt_is_listed halted.status halted.listed) (refusal_some fields halted.status halted.close))
+write_well_formed : (method : DavMethod) (fields : Fields) (rose : Type 0) (reply : Reply) → IsWriteReply method fields rose reply → IsWellFormed reply.status reply.fields
+write_well_formed method fields rose reply (inl (is, may)) = subst (λ (r : Reply). IsWellFormed r.status r.fields) (sym is) (well_formed 201 made.fields refl made_some)
+write_well_formed method fields rose reply (inr (inl (is, may))) = subst (λ (r : Reply). IsWellFormed r.status r.fields) (sym is) (well_formed 204 silent.fields refl tt)
+write_well_formed method fields rose reply (inr (inr halted)) = subst (λ (r : Reply). IsWellFormed r.status r.fields) (sym halted.is)
+    (well_formed halted.status (refusal fields halted.status halted.close).fields (halt_is_listed method halted.status halted.listed) (refusal_some fields halted.status halted.close))
 
 replies_well_formed : (rules : Rules) (request : Asked) (k : Knowledge) (s t : Point) (reply : Reply) → Replies (target_of rules request) rules k s t (fields_of request) reply
     → IsWellFormed reply.status reply.fields
@@ -193,7 +202,7 @@ replies_well_formed rules request k s t reply replies = by_target (target_of rul
     by_target (Refused status close) e is = subst (λ (r : Reply). IsWellFormed r.status r.fields) (sym is) (gate_well_formed rules request status close e).1
     by_target Methods e is = subst (λ (r : Reply). IsWellFormed r.status r.fields) (sym is)
         (well_formed 200 (allowing rules.settings.allow false).fields refl (allowing_some rules.settings.allow false))
-    by_target (Writes method path) e is = write_well_formed (fields_of request) (Rose s.faults t.faults) reply is
+    by_target (Writes method path) e is = write_well_formed method (fields_of request) (Rose s.faults t.faults) reply is
     by_target (At method path) e reads =
         right_well_formed (query rules.settings (fields_of request) method path) reads.shown (Rose s.faults t.faults) reply reads.could reads.right
 

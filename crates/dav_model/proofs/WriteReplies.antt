@@ -10,17 +10,17 @@ use Rattle.dav_model.specs.Written.{IsWriteReply, made}
 use Rattle.dav_model.proofs.Framing.{framed_empty, refused_framed}
 use Rattle.dav_model.proofs.Nonempty.{sound_empty, sound_refused}
 
-pub write_framed : (method : DavMethod) (path : WebPath) (fields : Fields) (rose : Type 0) (reply : Reply) → IsWriteReply fields rose reply → IsFramed (Writes method path) reply
-write_framed method path fields rose reply (inl is) = subst (IsFramed (Writes method path)) (sym is) (framed_empty true made refl refl)
-write_framed method path fields rose reply (inr (inl is)) = subst (IsFramed (Writes method path)) (sym is) (λ value says. (let f : None ≡ Some value = says in cc))
+pub write_framed : (method : DavMethod) (path : WebPath) (fields : Fields) (rose : Type 0) (reply : Reply) → IsWriteReply method fields rose reply → IsFramed (Writes method path) reply
+write_framed method path fields rose reply (inl (is, may)) = subst (IsFramed (Writes method path)) (sym is) (framed_empty true made refl refl)
+write_framed method path fields rose reply (inr (inl (is, may))) = subst (IsFramed (Writes method path)) (sym is) (λ value says. (let f : None ≡ Some value = says in cc))
 write_framed method path fields rose reply (inr (inr halted)) = refused_framed (Writes method path) reply fields halted.status halted.close halted.is
 
-pub write_sound : (fields : Fields) (rose : Type 0) (reply : Reply) → IsWriteReply fields rose reply → HasSoundBody reply
-write_sound fields rose reply (inl is) = sound_empty reply (ap (λ (r : Reply). r.parts) is)
-write_sound fields rose reply (inr (inl is)) = sound_empty reply (ap (λ (r : Reply). r.parts) is)
-write_sound fields rose reply (inr (inr halted)) = sound_refused reply fields halted.status halted.close halted.is
+pub write_sound : (method : DavMethod) (fields : Fields) (rose : Type 0) (reply : Reply) → IsWriteReply method fields rose reply → HasSoundBody reply
+write_sound method fields rose reply (inl (is, may)) = sound_empty reply (ap (λ (r : Reply). r.parts) is)
+write_sound method fields rose reply (inr (inl (is, may))) = sound_empty reply (ap (λ (r : Reply). r.parts) is)
+write_sound method fields rose reply (inr (inr halted)) = sound_refused reply fields halted.status halted.close halted.is
 
-pub write_bare : (fields : Fields) (rose : Type 0) (reply : Reply) → IsWriteReply fields rose reply → reply.parts ≡ []
-write_bare fields rose reply (inl is) = ap (λ (r : Reply). r.parts) is
-write_bare fields rose reply (inr (inl is)) = ap (λ (r : Reply). r.parts) is
-write_bare fields rose reply (inr (inr halted)) = ap (λ (r : Reply). r.parts) halted.is
+pub write_bare : (method : DavMethod) (fields : Fields) (rose : Type 0) (reply : Reply) → IsWriteReply method fields rose reply → reply.parts ≡ []
+write_bare method fields rose reply (inl (is, may)) = ap (λ (r : Reply). r.parts) is
+write_bare method fields rose reply (inr (inl (is, may))) = ap (λ (r : Reply). r.parts) is
+write_bare method fields rose reply (inr (inr halted)) = ap (λ (r : Reply). r.parts) halted.is

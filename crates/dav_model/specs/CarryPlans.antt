@@ -18,7 +18,7 @@ use Rattle.dav_core.specs.World.{World, bytes_of}
 use Rattle.dav_model.specs.declared.asked.Asked.{Asked}
 use Rattle.dav_model.specs.Finding.{is_forbidden, resolved}
 use Rattle.dav_model.specs.Overlap.{overlap}
-use Rattle.dav_model.specs.Plans.{Act, Ask, Halt, Plan, does, first, halts, has_link_below, has_parent, is_deep_dir, is_dir_found, is_found, line, refused, refused_there, removing, stands, status_over, unless, unmet, when}
+use Rattle.dav_model.specs.Plans.{Act, Ask, Halt, Plan, does, first, halts, has_link_below, has_parent, is_deep_dir, is_dir_found, is_found, keeps_file, line, refused, refused_there, removing, stands, status_over, unless, unmet, when}
 use Rattle.dav_model.specs.Rules.{Rules}
 use Rattle.dav_model.specs.Walks.{dir_first, walk}
 
@@ -47,7 +47,7 @@ cleared rules w to = cond (is_found (stands rules w to)) (without (resolved rule
 
 abbrev pub clearing : Rules → World → WebPath → List Act
 clearing rules w to = cond (is_found (stands rules w to))
-    (unless (when (is_forbidden rules to) 403) (removing rules w to)) []
+    (unless (when (keeps_file rules to (stands rules w to)) 403) (removing rules w to)) []
 
 -- ---- MOVE
 

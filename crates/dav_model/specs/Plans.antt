@@ -18,7 +18,7 @@ use Rattle.dav_core.specs.Statuses.{fs_status}
 use Rattle.dav_core.specs.Tree.{is_dir, is_link, is_linked}
 use Rattle.dav_core.specs.World.{World}
 use Rattle.dav_model.specs.Conditions.{Fields, condition, strong}
-use Rattle.dav_model.specs.Finding.{exactly, is_forbidden, looked_at, resolved}
+use Rattle.dav_model.specs.Finding.{exactly, is_forbidden, is_localized, looked_at, resolved}
 use Rattle.dav_model.specs.Head.{Stood}
 use Rattle.dav_model.specs.Rules.{Rules}
 use Rattle.dav_model.specs.Walks.{members_first, walk}
@@ -199,23 +199,32 @@ is_deep_dir row = is_dir row.kind && nat_lt 65536 (length row.path)
 abbrev pub is_too_deep : List Row → Names → Bool
 is_too_deep rows path = list_any (λ row. is_deep_dir row && is_front row.path path) rows
 
-abbrev pub removal : List Row → Names → Act
-removal rows path = cond (is_too_deep rows path) (halts (line 403)) (does (takes path))
+-- A file that clients of macOS may not remove. (A directory of that name goes.)
+abbrev pub stays_localized : Rules → Row → Bool
+stays_localized rules row = rules.macos && (not (is_dir row.kind) && is_localized row.path)
+
+abbrev pub removal : Rules → List Row → Row → Act
+removal rules rows row = cond (stays_localized rules row || is_too_deep rows row.path) (halts (line 403))
+    (does (takes row.path))
 
 -- These rows go, in their order.
-abbrev pub removals : List Row → List Act
-removals rows = map (λ row. removal rows row.path) rows
+abbrev pub removals : Rules → List Row → List Act
+removals rules rows = map (removal rules rows) rows
 
 -- What stands at a path goes: members before their directory, in the order of their names.
 abbrev pub removing : Rules → World → WebPath → List Act
-removing rules w path = removals (walk members_first (resolved rules w.tree path.names) w.tree)
+removing rules w path = removals rules (walk members_first (resolved rules w.tree path.names) w.tree)
+
+-- What was found is a file whose name clients of macOS may not use.
+abbrev pub keeps_file : Rules → WebPath → Result Stood FsError → Bool
+keeps_file rules path found = is_forbidden rules path && not (is_dir_found found)
 
 abbrev pub may_delete : Rules → World → Ask → Option Halt
 may_delete rules w ask = first (
     when (is_root ask.path.names) 403
     ∷ refused (stands rules w ask.path)
     ∷ unmet Delete ask.fields (stands rules w ask.path)
-    ∷ when (is_forbidden rules ask.path) 403
+    ∷ when (keeps_file rules ask.path (stands rules w ask.path)) 403
     ∷ [])
 
 abbrev pub delete_plan : Rules → World → Ask → Plan

@@ -32,7 +32,8 @@ use Rattle.dav_model.specs.Rules.{Rules, Knowledge, Learns, Forgets, WasKnown, S
 use Rattle.dav_model.specs.Shown.{Shown, CouldShow}
 use Rattle.dav_model.specs.Trail.{Point, Move, Goes, Leaves, target_of, last_of, steps_of, answers_of, points_of}
 use Rattle.dav_model.specs.Valid.{Occurs, Valid}
-use Rattle.dav_model.specs.Written.{IsWriteReply, Makes}
+use Rattle.dav_model.specs.Plans.{Ask}
+use Rattle.dav_model.specs.Written.{IsSaidUnder, IsWriteReply, Makes, MakesAs, ask_of}
 
 -- A player as its answers show it.
 pub record Playing : Type 0 where
@@ -107,7 +108,7 @@ pub record Reads (rules : Rules) (k : Knowledge) (s t : Point) (q : Query) (repl
 abbrev pub Replies : Target → Rules → Knowledge → Point → Point → Fields → Reply → Type 0
 Replies (Refused status close) rules k s t fields reply = reply ≡ refusal fields status close
 Replies Methods rules k s t fields reply = reply ≡ allowing rules.settings.allow false
-Replies (Writes method path) rules k s t fields reply = IsWriteReply fields (Rose s.faults t.faults) reply
+Replies (Writes method path) rules k s t fields reply = IsWriteReply method fields (Rose s.faults t.faults) reply
 Replies (At method path) rules k s t fields reply = Reads rules k s t (query rules.settings fields method path) reply
 
 -- ---- steps
@@ -116,7 +117,7 @@ pub record Answered (p : Playing) (s t : Point) (request : Asked) (answer : Answ
   pub goes : Goes s t
   pub reply : Reply
   -- what it makes of the told world: nothing, unless it writes
-  pub makes : Makes (target_of p.rules request) p.rules (fields_of request) (body_of request) (Ok reply) s t
+  pub makes : Makes (target_of p.rules request) p.rules p.knows (fields_of request) (body_of request) (Ok reply) s t
   pub is : answer ≡ Replied reply.status reply.fields p.replies
   pub knows : Knowledge
   pub learns : Learns s.told p.knows knows
@@ -169,18 +170,18 @@ AsksUnanswered rules Turn before after = after ≡ before
 
 -- What a step makes of the told world that was refused memory: nothing, unless it is a request that writes, which may
 -- have been broken off on its way.
-abbrev pub MakesUnanswered : Rules → Step → NoMemory → Point → Point → Type 0
-MakesUnanswered rules (Request request now) e s t = Makes (target_of rules request) rules (fields_of request)
+abbrev pub MakesUnanswered : Rules → Knowledge → Step → NoMemory → Point → Point → Type 0
+MakesUnanswered rules k (Request request now) e s t = Makes (target_of rules request) rules k (fields_of request)
     (body_of request) (Err e) s t
-MakesUnanswered rules (Poll body) e s t = Leaves s t
-MakesUnanswered rules (Abandon body) e s t = Leaves s t
-MakesUnanswered rules (Purge now) e s t = Leaves s t
-MakesUnanswered rules Turn e s t = Leaves s t
+MakesUnanswered rules k (Poll body) e s t = Leaves s t
+MakesUnanswered rules k (Abandon body) e s t = Leaves s t
+MakesUnanswered rules k (Purge now) e s t = Leaves s t
+MakesUnanswered rules k Turn e s t = Leaves s t
 
 -- A step that was refused memory: the player is as it was, but for what its memory knows, and nothing else is live.
 pub record Refuses (p : Playing) (s t : Point) (step : Step) (q : Playing) : Type 0 where
   pub goes : Goes s t
-  pub makes : (e : NoMemory) → MakesUnanswered p.rules step e s t
+  pub makes : (e : NoMemory) → MakesUnanswered p.rules p.knows step e s t
   pub live : t.live ≡ s.live
   pub knows : Knowledge
   pub learns : Learns s.told p.knows knows
@@ -244,18 +245,24 @@ abbrev pub IsOfTree : Rules → Point → Point → Query → Reply → Type 0
 IsOfTree rules s t q reply = (w : World) → s.told ≡ Some w → MeetsNoLink rules w q
     → IsRight q (shown_in rules w) (Rose s.faults t.faults) reply
 
-abbrev pub RepliesByTree : Target → Rules → Point → Point → Fields → Reply → Type 0
-RepliesByTree (Refused status close) rules s t fields reply = reply ≡ refusal fields status close
-RepliesByTree Methods rules s t fields reply = reply ≡ allowing rules.settings.allow false
-RepliesByTree (Writes method path) rules s t fields reply = IsWriteReply fields (Rose s.faults t.faults) reply
-RepliesByTree (At method path) rules s t fields reply = IsOfTree rules s t
+-- The reply to a request that writes, and what it makes of the tree, are what its plan says.
+abbrev pub MakesOfTree : Rules → Point → Point → Ask → Reply → Type 0
+MakesOfTree rules s t ask reply = IsSaidUnder ask.method rules
+    → Both s.told t.told (MakesAs ask.method rules ask (Ok reply) (Rose s.faults t.faults))
+
+abbrev pub RepliesByTree : Target → Rules → Point → Point → Fields → List ℕ → Reply → Type 0
+RepliesByTree (Refused status close) rules s t fields body reply = reply ≡ refusal fields status close
+RepliesByTree Methods rules s t fields body reply = reply ≡ allowing rules.settings.allow false
+RepliesByTree (Writes method path) rules s t fields body reply = IsWriteReply method fields (Rose s.faults t.faults) reply
+    × MakesOfTree rules s t (ask_of method path fields body) reply
+RepliesByTree (At method path) rules s t fields body reply = IsOfTree rules s t
     (query rules.settings fields method path) reply
 
 -- The same of a step that was answered, if it is a request.
 abbrev pub StepByTree : (p : Playing) (s t : Point) (step : Step) (answer : Answer) (q : Playing)
     → Stands p s t step answer q → Type 0
 StepByTree p s t (Request request now) answer q st = RepliesByTree (target_of p.rules request) p.rules s t
-    (fields_of request) st.reply
+    (fields_of request) (body_of request) st.reply
 StepByTree p s t (Poll body) answer q st = Unit {0}
 StepByTree p s t (Abandon body) answer q st = Unit {0}
 StepByTree p s t (Purge now) answer q st = Unit {0}

@@ -1,109 +1,101 @@
--- The parts of a file that the value of a field `range` asks for. All sums are of unbounded numbers.
-use Rattle.std.specs.Prelude.{◌==◌, ◌||◌, ◌&&◌, ◌+◌, ◌-◌, ◌^◌, ◌<◌, ◌≤◌, ℕ, min, nat_le, nat_lt, Bool, false, not, List, [], ◌∷◌, length, take, drop, codes, Option, None, Some, option_map, option_and_then, if◌then◌else◌}
-use Rattle.std.specs.List.{filter_map, list_all, position, slice_split, AllByRecursion}
-use Rattle.std.specs.Str.{bytes_eq, all_ascii_digits}
-use Rattle.std.specs.Str.Parse.{digits_value, without_leading_plus}
+-- The parts of a file that the value of a field `range` asks for (RFC 9110, sections 14.1.1 and 14.1.2). All numbers
+-- are unbounded.
+use Rattle.std.specs.Prelude.{◌==◌, ◌&&◌, ◌+◌, ◌-◌, ◌<◌, ◌≤◌, ℕ, min, nat_le, nat_lt, Bool, true, false, not, List, [], ◌∷◌, length, take, drop, map, filter, codes, Option, None, Some, option_map, if◌then◌else◌}
+use Rattle.std.specs.List.{filter_map, list_any, position, slice_split, AllByRecursion}
+use Rattle.std.specs.Str.{all_ascii_digits, str_eq_ignore_ascii_case}
+use Rattle.std.specs.Str.Parse.{digits_value}
 use Rattle.dav_core.specs.Blanks.{trimmed}
 use Rattle.dav_model.specs.declared.ranges.Slice.{Slice}
+use Rattle.dav_model.specs.declared.ranges.Judged.{Judged}
+use Rattle.dav_model.specs.declared.ranges.Judged.TheVariants.{Unmet, Part, Everything}
 use Rattle.dav_model.specs.declared.ranges.Ranges.{Ranges}
 use Rattle.dav_model.specs.declared.ranges.Ranges.TheVariants.{Whole, Unsatisfiable, Parts}
 
--- Step 1. The value is visible ASCII with spaces and tabs, and begins with the unit. Another asks for nothing.
-abbrev pub is_text_byte : ℕ → Bool
-is_text_byte b = b == 9 || (nat_le 32 b && nat_le b 126)
+-- Step 1. A value begins with the unit, in any case. Another asks for nothing.
+abbrev pub has_unit : List ℕ → Bool
+has_unit value = str_eq_ignore_ascii_case (take 6 value) (codes "bytes=")
 
-abbrev pub begins_with_unit : List ℕ → Bool
-begins_with_unit value = bytes_eq (take 6 value) (codes "bytes=")
+-- Step 2. Behind the unit stand members between commas, without the spaces and tabs around them. Empty ones are
+-- dropped.
+abbrev pub members : List ℕ → List (List ℕ)
+members value = filter (λ m. not (length m == 0)) (map trimmed (slice_split (λ b. b == 44) (drop 6 value)))
 
-abbrev pub is_readable : List ℕ → Bool
-is_readable value = list_all is_text_byte value && begins_with_unit value
-
--- Step 2. Behind the unit stand pieces between commas.
-abbrev pub pieces : List ℕ → List (List ℕ)
-pieces value = slice_split (λ b. b == 44) (drop 6 value)
-
--- Step 3. A bound is open where nothing stands. Another is a number below 2^64 in decimal digits, before which a plus
--- may stand; or else it is refused.
+-- Step 3. A number is one or more decimal digits.
 abbrev pub number : List ℕ → Option ℕ
-number digits =
-    if not (length digits == 0) && (all_ascii_digits digits && nat_lt (digits_value 10 digits) (2 ^ 64))
-    then Some (digits_value 10 digits) else None
+number digits = if not (length digits == 0) && all_ascii_digits digits then Some (digits_value 10 digits) else None
 
-abbrev pub bound : List ℕ → Option (Option ℕ)
-bound [] = Some None
-bound (b ∷ bytes) = option_map (λ n. Some n) (number (without_leading_plus (b ∷ bytes)))
+-- what a member asks for: the bytes from a place on, up to another where it is said; or so many at the end
+pub data Asked : Type 0 where
+  From : (first : ℕ) (last : Option ℕ) → Asked
+  Back : (count : ℕ) → Asked
 
--- the places of the first byte and of the last; each may be open
-pub record Bounds : Type 0 where
-  pub first : Option ℕ
-  pub last : Option ℕ
+-- FIRST-, and FIRST-LAST where the last isn't below the first
+abbrev pub up_to : ℕ → Option ℕ → Option Asked
+up_to first None = None
+up_to first (Some last) = if nat_le first last then Some (From first (Some last)) else None
 
-abbrev pub both : Option (Option ℕ) → Option (Option ℕ) → Option Bounds
-both None last = None
-both (Some first) None = None
-both (Some first) (Some last) = Some (record { first = first; last = last })
+-- The first place stands in front of the dash; behind it stands nothing, or the last.
+abbrev pub asked_from : Option ℕ → List ℕ → Option Asked
+asked_from None last = None
+asked_from (Some first) [] = Some (From first None)
+asked_from (Some first) (b ∷ bytes) = up_to first (number (b ∷ bytes))
 
--- The bounds of a piece stand at both sides of its first dash. A piece without a dash is dropped, and one with a bound
--- that is refused.
-abbrev pub cut_at : Option ℕ → List ℕ → Option Bounds
-cut_at None piece = None
-cut_at (Some dash) piece = both (bound (take dash piece)) (bound (drop (dash + 1) piece))
+-- A member is read by its first dash. In front of it stands nothing, or the first place.
+abbrev pub asked_at : Option ℕ → List ℕ → Option Asked
+asked_at None member = None
+asked_at (Some dash) member =
+    if dash == 0 then option_map (λ n. Back n) (number (drop 1 member))
+    else asked_from (number (take dash member)) (drop (dash + 1) member)
 
-abbrev pub bounds_in : List ℕ → Option Bounds
-bounds_in piece = cut_at (position (λ b. b == 45) piece) piece
+abbrev pub asked : List ℕ → Option Asked
+asked member = asked_at (position (λ b. b == 45) member) member
 
--- Step 4. An end alone is a number of bytes, the last ones. The piece is dropped where there are fewer.
-abbrev pub from_end : ℕ → Option ℕ → Option ℕ → Option Bounds
-from_end len (Some first) last = Some (record { first = Some first; last = last })
-from_end len None None = Some (record { first = None; last = None })
-from_end len None (Some count) = if nat_le count len then Some (record { first = Some (len - count); last = None })
-    else None
-
--- what a piece asks for, without the spaces and tabs around it, unless it is dropped
-abbrev pub kept : ℕ → List ℕ → Option Bounds
-kept len piece = option_and_then (λ b. from_end len b.first b.last) (bounds_in (trimmed piece))
-
--- Step 5. A piece is valid where both bounds stand and the last is no less than the first, or where the end is open and
--- the start is at most the length.
-abbrev pub is_valid : ℕ → Option ℕ → Option ℕ → Bool
-is_valid len None last = false
-is_valid len (Some first) None = nat_le first len
-is_valid len (Some first) (Some last) = nat_le first last
+-- Step 4. What a member comes to in a file: nothing that is there, a slice of it, or all of a file that is empty.
 
 -- one past the last byte that is asked for and there
 abbrev pub end_of : ℕ → Option ℕ → ℕ
 end_of len None = len
 end_of len (Some last) = min (last + 1) len
 
--- The slice of a piece. There is none where the piece isn't valid, or starts at or past the end.
-abbrev pub slice_between : ℕ → Option ℕ → Option ℕ → Option Slice
-slice_between len None last = None
-slice_between len (Some first) last =
-    if is_valid len (Some first) last && nat_lt first len then Some (record {
-      start = first;
-      count = end_of len last - first;
-    }) else None
+abbrev pub judged : ℕ → Asked → Judged
+judged len (From first last) =
+    if nat_lt first len then Part (record { start = first; count = end_of len last - first }) else Unmet
+judged len (Back count) = if count == 0 then Unmet else (if len == 0 then Everything
+    else Part (record { start = len - count; count = min count len }))
 
-abbrev pub slice_of : ℕ → Bounds → Option Slice
-slice_of len bounds = slice_between len bounds.first bounds.last
+-- Step 5. One member that can't be read is enough for a value that asks for nothing, whatever the others are.
+abbrev pub with_one : Option Judged → Option (List Judged) → Option (List Judged)
+with_one None all = None
+with_one (Some one) all = option_map (λ more. one ∷ more) all
 
--- Step 6. One piece without a slice makes the whole value unsatisfiable. A value that leaves no piece asks for nothing.
-abbrev pub with_slice : Option Slice → Option (List Slice) → Option (List Slice)
-with_slice None slices = None
-with_slice (Some slice) slices = option_map (λ more. slice ∷ more) slices
+abbrev pub all_judged : ℕ → List (List ℕ) → Option (List Judged)
+all_judged len [] = Some []
+all_judged len (member ∷ more) = with_one (option_map (judged len) (asked member)) (all_judged len more)
 
-abbrev pub all_slices : ℕ → List Bounds → Option (List Slice)
-all_slices len [] = Some []
-all_slices len (bounds ∷ more) = with_slice (slice_of len bounds) (all_slices len more)
+-- Step 6. At least one member is there. An empty file of which the end is asked for is whole. Else the slices are the
+-- parts; where there is none, the value can't be met.
+abbrev pub is_everything : Judged → Bool
+is_everything Unmet = false
+is_everything (Part slice) = false
+is_everything Everything = true
 
-abbrev pub answer : Option (List Slice) → Ranges
-answer None = Unsatisfiable
+abbrev pub part_of : Judged → Option Slice
+part_of Unmet = None
+part_of (Part slice) = Some slice
+part_of Everything = None
+
+abbrev pub parts : List Slice → Ranges
+parts [] = Unsatisfiable
+parts (slice ∷ more) = Parts (slice ∷ more)
+
+abbrev pub answer : Option (List Judged) → Ranges
+answer None = Whole
 answer (Some []) = Whole
-answer (Some (slice ∷ more)) = Parts (slice ∷ more)
+answer (Some (one ∷ more)) = if list_any is_everything (one ∷ more) then Whole
+    else parts (filter_map part_of (one ∷ more))
 
 abbrev pub ranges_in : ℕ → List ℕ → Ranges
-ranges_in len value = if is_readable value then answer (all_slices len (filter_map (kept len) (pieces value)))
-    else Whole
+ranges_in len value = if has_unit value then answer (all_judged len (members value)) else Whole
 
 -- what the value of the first field `range` asks of a file of this length
 abbrev pub ranges : Option (List ℕ) → ℕ → Ranges

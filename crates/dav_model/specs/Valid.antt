@@ -23,6 +23,15 @@ no_twins (row ∷ rows) = list_all (λ other. not (are_twins row other)) rows &&
 abbrev pub Twinless : World → Type 0
 Twinless w = no_twins w.tree ≡ true
 
+-- The rules find each path in one place.
+abbrev pub TellsApart : Rules → World → Type 0
+TellsApart rules w = rules.folds ≡ true → Twinless w
+
+-- The rules do, and what the memory knows of the world is so: it is a world of a valid run.
+pub record IsRegular (rules : Rules) (k : Knowledge) (w : World) : Type 0 where
+  pub apart : TellsApart rules w
+  pub sound : rules.macos ≡ true → IsSound k w
+
 -- a point tells this world
 abbrev pub Occurs : World → List Point → Type 0
 Occurs w [] = ⊥

@@ -5,7 +5,7 @@ use Rattle.dav_io.specs.Told.{Both}
 use Rattle.dav_io.specs.declared.failure.NoMemory.{NoMemory}
 use Rattle.dav_core.specs.declared.dav_error.DavError.{DavError}
 use Rattle.dav_core.specs.declared.method.DavMethod.{DavMethod}
-use Rattle.dav_core.specs.declared.method.DavMethod.TheVariants.{Copy, Move}
+use Rattle.dav_core.specs.declared.method.DavMethod.TheVariants.{Copy, Delete, MkCol, Move, Put}
 use Rattle.dav_core.specs.DavPath.{WebPath}
 use Rattle.dav_core.specs.Edits.{Edit, Edited, IsPart}
 use Rattle.dav_core.specs.World.{World, SameBesidesOpens}
@@ -19,8 +19,9 @@ use Rattle.dav_model.specs.Due.{failure}
 use Rattle.dav_model.specs.Finding.{resolved}
 use Rattle.dav_model.specs.Head.{Reply, field, refusal}
 use Rattle.dav_model.specs.Plans.{Act, Ask, Plan, does, halts, meets_link, plan}
-use Rattle.dav_model.specs.Rules.{Rules}
+use Rattle.dav_model.specs.Rules.{Knowledge, Rules}
 use Rattle.dav_model.specs.Trail.{Leaves, Point}
+use Rattle.dav_model.specs.Valid.{IsRegular}
 use Rattle.dav_model.specs.WellFormed.{is_among}
 
 -- ---- answers
@@ -36,21 +37,53 @@ silent = record { status = 204; fields = []; parts = [] }
 abbrev pub done_reply : ℕ → Reply
 done_reply status = cond (status == 201) made silent
 
--- the statuses with which a request that writes is refused behind the gates
-abbrev pub halt_statuses : List ℕ
-halt_statuses = 400 ∷ 403 ∷ 404 ∷ 405 ∷ 409 ∷ 412 ∷ 413 ∷ 500 ∷ 501 ∷ []
+-- what is answered where all was done (only methods that write are asked for theirs)
+abbrev pub done_statuses : DavMethod → List ℕ
+done_statuses Delete = 204 ∷ []
+done_statuses Put = 201 ∷ 204 ∷ []
+done_statuses Copy = 201 ∷ 204 ∷ []
+done_statuses Move = 201 ∷ 204 ∷ []
+done_statuses other = 201 ∷ []
 
--- it is refused; 500 comes only where the disk failed
-pub record IsHalted (fields : Fields) (rose : Type 0) (reply : Reply) : Type 0 where
+-- The statuses with which a request that writes is refused behind the gates: those of each method, and its own. 400 is
+-- of fields that ask for nothing, 409 of a directory above that isn't there, and 412 of a precondition.
+abbrev pub own_statuses : DavMethod → List ℕ
+own_statuses Put = 409 ∷ 412 ∷ []
+own_statuses MkCol = 409 ∷ 412 ∷ []
+own_statuses Delete = 412 ∷ []
+own_statuses Copy = 400 ∷ 409 ∷ 412 ∷ []
+own_statuses Move = 400 ∷ 409 ∷ 412 ∷ []
+own_statuses other = []
+
+abbrev pub halt_statuses : DavMethod → List ℕ
+halt_statuses method = 403 ∷ 404 ∷ 405 ∷ 500 ∷ 501 ∷ own_statuses method
+
+-- Of the methods that write only MKCALENDAR and MKADDRESSBOOK close a connection.
+abbrev pub may_close : DavMethod → Bool
+may_close Put = false
+may_close MkCol = false
+may_close Delete = false
+may_close Copy = false
+may_close Move = false
+may_close other = true
+
+-- It is refused; 500 comes only where the disk failed, and a close only with 405, where something stands.
+pub record IsHalted (method : DavMethod) (fields : Fields) (rose : Type 0) (reply : Reply) : Type 0 where
   pub status : ℕ
   pub close : Bool
   pub is : reply ≡ refusal fields status close
-  pub listed : is_among status halt_statuses ≡ true
+  pub listed : is_among status (halt_statuses method) ≡ true
   pub failed : status ≡ 500 → rose
+  pub closes : close ≡ true → (status ≡ 405) × (may_close method ≡ true)
+
+-- A method may be answered so where all was done.
+abbrev pub MayEnd : DavMethod → ℕ → Type 0
+MayEnd method status = is_among status (done_statuses method) ≡ true
 
 -- what a request that writes may be answered in any run
-abbrev pub IsWriteReply : Fields → Type 0 → Reply → Type 0
-IsWriteReply fields rose reply = (reply ≡ made) ⊎ ((reply ≡ silent) ⊎ IsHalted fields rose reply)
+abbrev pub IsWriteReply : DavMethod → Fields → Type 0 → Reply → Type 0
+IsWriteReply method fields rose reply = ((reply ≡ made) × MayEnd method 201)
+    ⊎ (((reply ≡ silent) × MayEnd method 204) ⊎ IsHalted method fields rose reply)
 
 -- ---- worlds
 
@@ -103,11 +136,26 @@ MakesAs Copy rules ask = CarriesIn rules false ask
 MakesAs Move rules ask = CarriesIn rules true ask
 MakesAs other rules ask = MakesIn rules ask
 
--- Only a request that writes changes what stands. Of a store that finds names that fold alike, has the rules of macOS,
--- or serves one file alone, nothing is said.
-abbrev pub Makes : Target → Rules → Fields → List ℕ → Result Reply NoMemory → Point → Point → Type 0
-Makes (Writes method path) rules fields body result s t = rules.folds ≡ false → rules.macos ≡ false → rules.alone ≡ None
-    → Both s.told t.told (MakesAs method rules (ask_of method path fields body) result (Rose s.faults t.faults))
-Makes (At method path) rules fields body result s t = Leaves s t
-Makes Methods rules fields body result s t = Leaves s t
-Makes (Refused status close) rules fields body result s t = Leaves s t
+-- The rules by which each path is meant as it is written.
+pub record ArePlain (rules : Rules) : Type 0 where
+  pub folds : rules.folds ≡ false
+  pub macos : rules.macos ≡ false
+  pub alone : rules.alone ≡ None
+
+-- The rules under which it is said what a method makes. Of COPY and MOVE it is said where each path is meant as it is
+-- written; of DELETE but over one file that is served alone; of the others under all rules.
+abbrev pub IsSaidUnder : DavMethod → Rules → Type 0
+IsSaidUnder Delete rules = rules.alone ≡ None
+IsSaidUnder Copy rules = ArePlain rules
+IsSaidUnder Move rules = ArePlain rules
+IsSaidUnder other rules = Unit {0}
+
+-- Only a request that writes changes what stands. What it makes is said of each world of a valid run, with what the
+-- memory knew before it.
+abbrev pub Makes : Target → Rules → Knowledge → Fields → List ℕ → Result Reply NoMemory → Point → Point → Type 0
+Makes (Writes method path) rules k fields body result s t = IsSaidUnder method rules
+    → Both s.told t.told (λ v w. IsRegular rules k v
+    → MakesAs method rules (ask_of method path fields body) result (Rose s.faults t.faults) v w)
+Makes (At method path) rules k fields body result s t = Leaves s t
+Makes Methods rules k fields body result s t = Leaves s t
+Makes (Refused status close) rules k fields body result s t = Leaves s t

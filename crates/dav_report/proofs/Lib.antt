@@ -1,7 +1,7 @@
 pub mod Nested
 pub mod Steps
 pub mod Numbers
-pub mod Components
+pub mod FilterByFilter
 pub mod Found
 pub mod Texts
 pub mod ComponentKinds

@@ -1,7 +1,8 @@
 -- Calendar requests (RFC 4791 sections 7.8 to 7.10 and 9.7 to 9.11): what an element asks for.
-use Rattle.std.specs.Prelude.{ℕ, cond, List, [], Option, Some, None, option_map, codes}
+use Rattle.std.specs.Prelude.{◌&&◌, ℕ, Bool, true, cond, List, [], Option, Some, None, is_some, option_map, codes}
 use Rattle.std.specs.List.{flat_map}
 use Rattle.std.specs.Str.{bytes_eq}
+use Rattle.dav_calendar.specs.Moments.{moment}
 use Rattle.dav_lock.specs.Forests.{Forest, bare, then, element, text, comment, cdata, instruction}
 use Rattle.dav_lock.specs.declared.element.Element.{Element}
 use Rattle.dav_report.specs.Children.{named, first_of, last_of, attribute, each}
@@ -19,38 +20,54 @@ use Rattle.dav_report.specs.declared.caldav.resource.CalendarComponentType.TheVa
 abbrev pub time_range : Element → TimeRange
 time_range e = record { start = attribute (codes "start") e; end = attribute (codes "end") e }
 
--- the last `time-range`
-abbrev pub last_range : Forest → Option TimeRange
-last_range children = option_map time_range (last_of (named (codes "time-range") children))
+-- a bound of a range is missing, or a moment
+abbrev pub is_bound : Option (List ℕ) → Bool
+is_bound None = true
+is_bound (Some said) = is_some (moment said)
 
--- a filter of a property; nothing where it has no name
+-- the range of a `time-range` in a filter; nothing where a bound can't be read
+abbrev pub readable_range : Element → Option TimeRange
+readable_range e =
+    cond (is_bound (attribute (codes "start") e) && is_bound (attribute (codes "end") e)) (Some (time_range e)) None
+
+-- those in a filter, of which the last counts; nothing where one is at fault
+abbrev pub ranges : Forest → Option (List TimeRange)
+ranges children = each readable_range (named (codes "time-range") children)
+
+abbrev pub property_with : Element → Option (List ℕ) → Option (List TimeRange) → Option PropertyFilter
+property_with e (Some name) (Some ranges) = Some (record {
+  name = name;
+  is_not_defined = is_not_defined e.children;
+  text_match = last_match e.children;
+  time_range = last_of ranges;
+  param_filters = [];
+})
+property_with e (Some name) None = None
+property_with e None ranges = None
+
+-- a filter of a property; nothing where it has no name, or a range in it is at fault
 abbrev pub property_filter : Element → Option PropertyFilter
-property_filter e =
-    option_map (λ name. record {
-      name = name;
-      is_not_defined = is_not_defined e.children;
-      text_match = last_match e.children;
-      time_range = last_range e.children;
-      param_filters = [];
-    }) (attribute (codes "name") e)
+property_filter e = property_with e (attribute (codes "name") e) (ranges e.children)
 
 abbrev pub property_filters : Forest → Option (List PropertyFilter)
 property_filters children = each property_filter (named (codes "prop-filter") children)
 
-abbrev pub asked_with : Element → Option (List ℕ) → Option (List PropertyFilter) → Option Asked
-asked_with e (Some name) (Some filters) = Some (record {
+abbrev pub asked_with :
+    Element → Option (List ℕ) → Option (List PropertyFilter) → Option (List TimeRange) → Option Asked
+asked_with e (Some name) (Some filters) (Some ranges) = Some (record {
   name = name;
   is_not_defined = is_not_defined e.children;
-  time_range = last_range e.children;
+  time_range = last_of ranges;
   prop_filters = filters;
 })
-asked_with e (Some name) None = None
-asked_with e None filters = None
+asked_with e (Some name) (Some filters) None = None
+asked_with e (Some name) None ranges = None
+asked_with e None filters ranges = None
 
 -- what a filter of a component asks besides the filters of components in it; nothing where it has no name, or a filter
--- of a property in it has none
+-- of a property or a range in it is at fault
 abbrev pub asked : Element → Option Asked
-asked e = asked_with e (attribute (codes "name") e) (property_filters e.children)
+asked e = asked_with e (attribute (codes "name") e) (property_filters e.children) (ranges e.children)
 
 abbrev pub filter_then : Option Asked → Option Filters → Option Filters → Option Filters
 filter_then (Some a) (Some inner) (Some others) = Some (and_filter a inner others)

@@ -1,17 +1,19 @@
 //! Reading a calendar request.
-ghost use Rattle.std.specs.Prelude.{◌≡◌, IfOk, option_map};
-ghost use Rattle.dav_report.specs.Calendars.{time_range, last_range, property_filter, property_filters, asked, component_filters, outer_filters, calendar_query, free_busy};
+ghost use Rattle.std.specs.Prelude.{◌≡◌, ◌&&◌, IfOk, option_map};
+ghost use Rattle.dav_report.specs.Calendars.{time_range, is_bound as the_bound, readable_range, ranges, property_filter, property_filters, asked, component_filters, outer_filters, calendar_query, free_busy};
+ghost use Rattle.dav_report.specs.Children.{last_of};
 ghost use Rattle.dav_report.specs.FilterLists.{asked_by};
 
 use crate::ParameterFilters;
 use crate::caldav::{
     CalendarQuery, ComponentFilter, ComponentFilters, PropertyFilter, PropertyFilters, TimeRange,
 };
-use crate::children::{copy_attribute, element_named, first_named, has_named, last_named};
+use crate::children::{copy_attribute, element_named, first_named, has_named};
 use crate::filter_parts::{
-    FromElement, Outer, kept_filter, read_each, read_last_match, read_properties,
+    FromElement, Outer, kept_filter, later, read_each, read_last_match, read_properties,
 };
-use dav_io::NoMemory;
+use dav_calendar::read_moment;
+use dav_io::{NoMemory, Text};
 use dav_lock::{Element, Nodes, XmlNode, both};
 use std::alloc::Global;
 
@@ -27,12 +29,40 @@ fn read_range(element: &Element) -> Result<TimeRange, NoMemory>
     }
 }
 
-/// The range of the last `time-range`.
-fn read_last_range(children: &Nodes) -> Result<Option<TimeRange>, NoMemory>
-    ensures { IfOk result (λ read. read ≡ last_range children.now) }
+/// Whether a bound of a range is missing, or a moment.
+fn is_bound(text: &Option<Text>) -> bool
+    ensures { result ≡ the_bound text.now }
 {
-    match last_named(children, "time-range") {
-        Some(element) => Ok(Some(read_range(element)?)),
+    match text {
+        Some(text) => read_moment(text.as_slice()).is_some(),
+        None => true,
+    }
+}
+
+fn is_readable(range: &TimeRange) -> bool
+    ensures { result ≡ (the_bound range.now.start && the_bound range.now.end) }
+{
+    is_bound(&range.start) && is_bound(&range.end)
+}
+
+impl FromElement for TimeRange {
+    ghost asked = { readable_range };
+
+    fn read(_alloc: Global, element: &Element) -> Result<Option<Self>, NoMemory> {
+        let range = read_range(element)?;
+        if is_readable(&range) {
+            return Ok(Some(range));
+        }
+        Ok(None)
+    }
+}
+
+/// The range of the last `time-range`, where there is one; or nothing where a bound of any can't be read.
+fn read_last_range(alloc: Global, children: &Nodes) -> Result<Option<Option<TimeRange>>, NoMemory>
+    ensures { IfOk result (λ read. read ≡ option_map last_of (ranges children.now)) }
+{
+    match read_each(alloc, children, "time-range")? {
+        Some(ranges) => Ok(Some(later(None, ranges))),
         None => Ok(None),
     }
 }
@@ -51,27 +81,29 @@ impl FromElement for PropertyFilter {
     ghost asked = { property_filter };
 
     fn read(alloc: Global, element: &Element) -> Result<Option<Self>, NoMemory> {
-        match copy_attribute(element, "name")? {
-            Some(name) => {
-                let is_not_defined = has_named(&element.children, "is-not-defined");
-                let text_match = read_last_match(alloc, &element.children);
-                match both(text_match, read_last_range(&element.children)) {
-                    Ok((text_match, time_range)) => Ok(Some(PropertyFilter {
-                        name,
-                        is_not_defined,
-                        text_match,
-                        time_range,
-                        param_filters: ParameterFilters::empty(alloc),
-                    })),
-                    Err(error) => Err(error),
-                }
-            }
-            None => Ok(None),
+        let name = match copy_attribute(element, "name")? {
+            Some(name) => name,
+            None => return Ok(None),
+        };
+        let time_range = match read_last_range(alloc, &element.children)? {
+            Some(range) => range,
+            None => return Ok(None),
+        };
+        let is_not_defined = has_named(&element.children, "is-not-defined");
+        match read_last_match(alloc, &element.children) {
+            Ok(text_match) => Ok(Some(PropertyFilter {
+                name,
+                is_not_defined,
+                text_match,
+                time_range,
+                param_filters: ParameterFilters::empty(alloc),
+            })),
+            Err(error) => Err(error),
         }
     }
 }
 
-/// The filters of properties, or nothing where one has no name.
+/// The filters of properties, or nothing where one is at fault.
 fn read_property_filters(
     alloc: Global,
     children: &Nodes,
@@ -96,17 +128,17 @@ fn read_asked(alloc: Global, element: &Element) -> Result<Option<ComponentFilter
         Some(filters) => filters,
         None => return Ok(None),
     };
-    let is_not_defined = has_named(&element.children, "is-not-defined");
-    match read_last_range(&element.children) {
-        Ok(time_range) => Ok(Some(ComponentFilter {
-            name,
-            is_not_defined,
-            time_range,
-            prop_filters,
-            comp_filters: ComponentFilters::empty(alloc),
-        })),
-        Err(error) => Err(error),
-    }
+    let time_range = match read_last_range(alloc, &element.children)? {
+        Some(range) => range,
+        None => return Ok(None),
+    };
+    Ok(Some(ComponentFilter {
+        name,
+        is_not_defined: has_named(&element.children, "is-not-defined"),
+        time_range,
+        prop_filters,
+        comp_filters: ComponentFilters::empty(alloc),
+    }))
 }
 
 /// A filter of a component of which the filters in it are being read.

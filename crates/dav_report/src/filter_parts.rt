@@ -227,7 +227,7 @@ pub(crate) fn read_links(alloc: Global, children: &Nodes) -> Result<Names, NoMem
 }
 
 /// The last of the newer ones, or else the one that was kept.
-fn later<T: Drop>(kept: Option<T>, mut newer: Vec<T>) -> Option<T>
+pub(crate) fn later<T: Drop>(kept: Option<T>, mut newer: Vec<T>) -> Option<T>
     ensures { result ≡ option_or (last_of newer.items) kept }
 {
     match newer.pop() {

@@ -1,5 +1,5 @@
 //! Calendar and address book reports over element trees: their types, the elements that answers are made of, and the
-//! reading of a request (RFC 4791 and RFC 6352).
+//! reading of a request (RFC 4791 and RFC 6352). The components of calendar texts are those of `dav_calendar`.
 #![tactic(auto)]
 
 mod address_parts;
@@ -22,6 +22,7 @@ pub use answer::{Record, Records, Report};
 pub use content::{
     extract_calendar_uid, extract_vcard_fn, extract_vcard_uid, is_calendar_data, is_vcard_data,
 };
+pub use dav_calendar::{Component, Components, Properties, Property, overlaps, read_components};
 pub use element_ext::ElementExt;
 pub use element_iters::{Elements, ElementsInto};
 pub use error::ReportError;

@@ -22,7 +22,9 @@ fn is_named(element: &Element, name: &str) -> bool
 }
 
 /// The calendar report that this element asks for (RFC 4791 sections 7.8 to 7.10). It is `BadRequest` for an element of
-/// another name, for a filter without a name at any depth, and for a free-busy query without a range.
+/// another name, for a free-busy query without a range, and for a filter at any depth that has no name, or a
+/// `time-range` with a `start` or an `end` that is no moment (RFC 5545 sections 3.3.4 and 3.3.5). The range of a
+/// free-busy query isn't judged.
 pub fn parse_calendar_report(alloc: Global, root: &Element) -> Result<CalDavReportType, ReportError>
     ensures { Answers (calendar_report root.now) result }
 {

@@ -15,11 +15,6 @@ use Rattle.dav_store.specs.View.{View, Closes, Says, seen_in}
 use Rattle.dav_selection.specs.Pieces.{Appends, ClosesAfter, ReadSoFar, Touches}
 use Rattle.dav_selection.specs.Resources.{ReadsTo}
 
--- a disk put inside after another
-pub lends_over : {S D : Type 0} (with_disk : S → D → S) (inside : S → D) → ((s : S) (d e : D) → with_disk (with_disk s d) e ≡ with_disk s e)
-    → (a b c : S) → b ≡ with_disk a (inside b) → c ≡ with_disk b (inside c) → c ≡ with_disk a (inside c)
-lends_over with_disk inside over a b c first next = next ∙ (ap (λ s. with_disk s (inside c)) first ∙ over a (inside b) (inside c))
-
 rose_from : (a b c : ℕ) → a ≤ b → Rose b c → Rose a c
 rose_from a b c le (inl lt) = inl (omega arith)
 rose_from a b c le (inr full) = inr full

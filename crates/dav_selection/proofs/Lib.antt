@@ -1,10 +1,7 @@
-mod MatchingRows
 pub mod Lending
 pub mod Links
 pub mod Listed
-pub mod Parts
 pub mod Queries
-pub mod Values
 pub mod Walks
 pub mod Due
 pub mod Selected

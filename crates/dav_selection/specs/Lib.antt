@@ -1,4 +1,3 @@
-pub mod Matching
 pub mod Pieces
 pub mod Resources
 pub mod Answered

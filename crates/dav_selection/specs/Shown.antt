@@ -3,7 +3,6 @@ use Rattle.std.specs.Prelude.{◌≡◌, ◌⊎◌, ◌++◌, ◌∷◌, ℕ, Li
 use Rattle.std.specs.List.{flat_map}
 use Rattle.std.specs.List.Sorted.{IsPermutation}
 use Rattle.dav_io.specs.Counts.{Rose}
-use Rattle.dav_core.specs.declared.disk.Disk.{Ghosts as DiskGhosts}
 use Rattle.dav_core.specs.declared.error.FsError.{FsError}
 use Rattle.dav_core.specs.declared.error.FsError.TheVariants.{GeneralFailure}
 use Rattle.dav_core.specs.declared.member.Member.{Member}
@@ -11,14 +10,10 @@ use Rattle.dav_core.specs.declared.parse_error.ParseError.{ParseError}
 use Rattle.dav_core.specs.DavPath.{WebPath}
 use Rattle.dav_core.specs.Grammar.{parsed}
 use Rattle.dav_core.specs.Tree.{is_file}
-use Rattle.dav_core.specs.Unchanged.{Keeps}
-use Rattle.dav_store.specs.declared.entry.DavDirEntry.{Ghosts as EntryGhosts}
-use Rattle.dav_store.specs.declared.file.DavFile.{Ghosts as FileGhosts}
-use Rattle.dav_store.specs.declared.guarded.GuardedFileSystem.{Ghosts as StoreGhosts}
 use Rattle.dav_store.specs.Members.{ShowsMembers}
 use Rattle.dav_store.specs.Reached.{ShowsOn}
 use Rattle.dav_store.specs.Standing.{Standing}
-use Rattle.dav_store.specs.View.{View, Listings, the_view, the_listings}
+use Rattle.dav_store.specs.View.{Listings, Stays, View}
 use Rattle.dav_report.specs.declared.answer.Record.{Record}
 use Rattle.dav_report.specs.declared.answer.Report.{Report}
 use Rattle.dav_report.specs.declared.error.ReportError.{ReportError}
@@ -136,19 +131,15 @@ module _ {S C F L E : Type 0} (view : View S C F) (lists : Listings S C L E) (s 
   ShowsFor (follows asked) = All (λ href. ShowsBy (parsed href asked.prefix)) asked.hrefs
   ShowsFor (refuses e) = Unit {0}
 
-module _ {S C D M F L E : Type 0}
-    (store : StoreGhosts S C D M F L E) (disk : DiskGhosts D) (file : FileGhosts F D M) (entry : EntryGhosts E D M)
-  where
-    -- A selection over a store was answered.
-    pub record Selects (c : C) (q : Selection) (s : S) (result : Result Report ReportError) (t : S) : Type 0 where
-      -- These calls of the store gave the report.
-      pub table : Reports (the_view store disk file) (the_listings store entry) c q s result t ⊎ (result ≡ Err NoMemory)
-      -- It is right for what the store shows wherever the selection looks, or for what may stand in its place where a
-      -- fault was met.
-      pub shown : (stock : Stock) → ShowsFor (the_view store disk file) (the_listings store entry) s c stock q
-          → IsRight q stock (Rose (disk.state (store.inside s)).faults (disk.state (store.inside t)).faults) result
-          ⊎ (result ≡ Err NoMemory)
-      -- What was live or open before is as it was, and no file and no listing stays open.
-      pub keeps : Keeps (disk.state (store.inside s)) (disk.state (store.inside t))
-      pub admits : store.admits t
-      pub loan : disk.loan (store.inside t) ≡ disk.loan (store.inside s)
+module _ {S C F L E : Type 0} (view : View S C F) (lists : Listings S C L E) where
+  -- A selection over a store was answered.
+  pub record Selects (c : C) (q : Selection) (s : S) (result : Result Report ReportError) (t : S) : Type 0 where
+    -- These calls of the store gave the report.
+    pub table : Reports view lists c q s result t ⊎ (result ≡ Err NoMemory)
+    -- It is right for what the store shows wherever the selection looks, or for what may stand in its place where a
+    -- fault was met.
+    pub shown : (stock : Stock) → ShowsFor view lists s c stock q
+        → IsRight q stock (Rose (view.state s).faults (view.state t).faults) result ⊎ (result ≡ Err NoMemory)
+    -- What was live or open before is as it was, and no file and no listing stays open; what the store may remember
+    -- stays true.
+    pub stays : Stays view s t

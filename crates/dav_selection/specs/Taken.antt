@@ -6,7 +6,8 @@ use Rattle.dav_report.specs.declared.caldav.component_filter.ComponentFilter.{Co
 use Rattle.dav_report.specs.declared.carddav.property_filter.PropertyFilter.{PropertyFilter}
 use Rattle.dav_selection.specs.declared.wanted.Wanted.{Wanted}
 use Rattle.dav_selection.specs.declared.wanted.Wanted.TheVariants.{Calendars, Cards}
-use Rattle.dav_selection.specs.Matching.{address_passes, calendar_passes}
+use Rattle.dav_matching.specs.Calendars.{calendar_passes}
+use Rattle.dav_matching.specs.Cards.{address_passes}
 
 -- data of each kind, by how it begins and ends
 abbrev pub is_calendar : List ℕ → Bool

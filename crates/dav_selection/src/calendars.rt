@@ -33,8 +33,8 @@ pub fn calendar_report<S: GuardedFileSystem<C>, C>(
     fs: &mut S,
     credentials: &C,
 ) -> Result<Report, ReportError>
-    requires admits { S.admits fs.old }
-    ensures { Selects S.GuardedFileSystem S.Disk.Disk S.File.DavFile S.Entry.DavDirEntry credentials.now
+    requires admits { S.view.admits fs.old }
+    ensures { Selects S.view S.listings credentials.now
         (calendar_selection path.now prefix.now (report_asked root.now)) fs.old result fs.new }
 {
     match parse_calendar_report(alloc, root) {

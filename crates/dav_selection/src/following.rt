@@ -1,8 +1,7 @@
 // Following the links of a multiget.
 ghost use Rattle.std.specs.Prelude.{◌≡◌, ◌⊎◌, ◌++◌, IfOk, OnOk, Option, Ok, Err};
 ghost use Rattle.dav_io.specs.Counts.{Rose};
-ghost use Rattle.dav_core.specs.Unchanged.{Keeps};
-ghost use Rattle.dav_store.specs.View.{the_listings, the_view};
+ghost use Rattle.dav_store.specs.View.{Stays};
 ghost use Rattle.dav_selection.specs.Answered.{Answer, answer_given, is_given, unless};
 ghost use Rattle.dav_selection.specs.Reports.{Follows, Leads};
 ghost use Rattle.dav_selection.specs.Selection.{follows};
@@ -40,15 +39,10 @@ fn follow_link<S: GuardedFileSystem<C>, C>(
     href: &Text,
     records: &mut Vec<Record>,
 ) -> Result<bool, ReportError>
-    ensures table { ((answer : Option Answer)
-        × Leads (the_view S.GuardedFileSystem S.Disk.Disk S.File.DavFile) credentials.now prefix.now href.now
-        fs.old answer fs.new
+    ensures table { ((answer : Option Answer) × Leads S.view credentials.now prefix.now href.now fs.old answer fs.new
         × (records.new.items ≡ records.old.items ++ answer_given (taken wanted.entry) answer)
-        × (result ≡ Ok (is_given (answer_given (taken wanted.entry) answer))))
-        ⊎ (result ≡ Err ReportError.NoMemory) }
-    ensures keeps { Keeps (S.Disk.state (S.inside fs.old)) (S.Disk.state (S.inside fs.new)) }
-    ensures admits { S.admits fs.old → S.admits fs.new }
-    ensures loan { S.Disk.loan (S.inside fs.new) ≡ S.Disk.loan (S.inside fs.old) }
+        × (result ≡ Ok (is_given (answer_given (taken wanted.entry) answer)))) ⊎ (result ≡ Err ReportError.NoMemory) }
+    ensures stays { Stays S.view fs.old fs.new }
 {
     let path = match DavPath::from_str_and_prefix(alloc, href.as_str(), prefix) {
         Ok(path) => path,
@@ -79,17 +73,13 @@ pub(crate) fn follow<S: GuardedFileSystem<C>, C>(
     wanted: Wanted<'_>,
     hrefs: &Names,
 ) -> Result<Report, ReportError>
-    ensures table { Follows (the_view S.GuardedFileSystem S.Disk.Disk S.File.DavFile) credentials.now
-        (links_asked prefix.now hrefs.now wanted.entry) fs.old result fs.new ⊎ (result ≡ Err ReportError.NoMemory) }
-    ensures shown { (stock : Stock) → ShowsFor (the_view S.GuardedFileSystem S.Disk.Disk S.File.DavFile)
-        (the_listings S.GuardedFileSystem S.Entry.DavDirEntry) fs.old credentials.now stock
+    ensures table { Follows S.view credentials.now (links_asked prefix.now hrefs.now wanted.entry) fs.old result fs.new
+        ⊎ (result ≡ Err ReportError.NoMemory) }
+    ensures shown { (stock : Stock) → ShowsFor S.view S.listings fs.old credentials.now stock
         (follows (links_asked prefix.now hrefs.now wanted.entry))
         → IsFollowed (links_asked prefix.now hrefs.now wanted.entry) stock
-        (Rose (S.Disk.state (S.inside fs.old)).faults (S.Disk.state (S.inside fs.new)).faults) result
-        ⊎ (result ≡ Err ReportError.NoMemory) }
-    ensures keeps { Keeps (S.Disk.state (S.inside fs.old)) (S.Disk.state (S.inside fs.new)) }
-    ensures admits { S.admits fs.old → S.admits fs.new }
-    ensures loan { S.Disk.loan (S.inside fs.new) ≡ S.Disk.loan (S.inside fs.old) }
+        (Rose (S.view.state fs.old).faults (S.view.state fs.new).faults) result ⊎ (result ≡ Err ReportError.NoMemory) }
+    ensures stays { Stays S.view fs.old fs.new }
 {
     let mut records = Vec::new(alloc);
     let mut missing = Vec::new(alloc);

@@ -5,15 +5,13 @@ mod calendars;
 mod cards;
 mod following;
 pub mod laws;
-mod matching;
 mod reading;
 mod resource;
-mod texts;
 mod told;
 mod walking;
 mod wanted;
 
 pub use calendars::calendar_report;
 pub use cards::addressbook_report;
-pub use matching::{address_matches, calendar_matches};
+pub use dav_matching::{address_matches, calendar_matches};
 pub use told::{ReportKind, local_report, shows_the_tree};

@@ -1,10 +1,10 @@
 // Reading a resource of a store.
 ghost use Rattle.std.specs.Prelude.{◌≡◌, ◌⊎◌, ◌<◌, ◌≤◌, ◌+◌, IfOk, OnErr, IsSome, Some, Err, Ok, length, unwrap_or, [], true};
 ghost use Rattle.dav_core.specs.Disk.{Live, can_read};
-ghost use Rattle.dav_core.specs.Unchanged.{Keeps, KeepsBut};
+ghost use Rattle.dav_core.specs.Unchanged.{KeepsBut};
 ghost use Rattle.dav_store.specs.Files.{Spoiled};
 ghost use Rattle.dav_store.specs.Standing.{Seen};
-ghost use Rattle.dav_store.specs.View.{the_view};
+ghost use Rattle.dav_store.specs.View.{Stays};
 ghost use Rattle.dav_selection.specs.Pieces.{Appends, ClosesAfter, Touches};
 ghost use Rattle.dav_selection.specs.Resources.{AfterMeta, AfterOpen, Fetches, ReadsTo, content_of};
 
@@ -25,18 +25,16 @@ fn read_piece<S: GuardedFileSystem<C>, C>(
     buffer: &mut [u8],
     bytes: &mut Vec<u8>,
 ) -> Result<usize, FsError>
-    requires live { IsSome ((S.Disk.state (S.inside fs.old)).live (S.File.handle file.old)) }
+    requires live { IsSome ((S.view.state fs.old).live (S.view.handle file.old)) }
     requires some { 0 < left }
     requires room { 0 < length buffer.old }
-    ensures touches { Touches (the_view S.GuardedFileSystem S.Disk.Disk S.File.DavFile) fs.old file.old fs.new
-        file.new }
-    ensures refused { can_read ((S.Disk.state (S.inside fs.old)).live (S.File.handle file.old)) ≡ true
-        → OnErr result (Spoiled (S.Disk.state (S.inside fs.old)) result (S.Disk.state (S.inside fs.new))) }
+    ensures touches { Touches S.view fs.old file.old fs.new file.new }
+    ensures refused { can_read ((S.view.state fs.old).live (S.view.handle file.old)) ≡ true
+        → OnErr result (Spoiled (S.view.state fs.old) result (S.view.state fs.new)) }
     ensures within { IfOk result (λ n. n ≤ left) }
     ensures len { IfOk result (λ n. length bytes.new.items ≡ length bytes.old.items + n) }
-    ensures told { (f : Seen) → S.File.seen file.old (S.Disk.state (S.inside fs.old)) ≡ Some f
-        → Appends (the_view S.GuardedFileSystem S.Disk.Disk S.File.DavFile) f bytes.old.items result bytes.new.items
-        fs.new file.new }
+    ensures told { (f : Seen) → S.view.seen file.old (S.view.state fs.old) ≡ Some f
+        → Appends S.view f bytes.old.items result bytes.new.items fs.new file.new }
 {
     let most = left.min(buffer.len() as u64) as usize;
     prove!(most <= buffer.len());
@@ -56,9 +54,8 @@ fn read_to<S: GuardedFileSystem<C>, C>(
     file: &mut S::File,
     len: u64,
 ) -> Result<Octets, FsError>
-    requires live { IsSome ((S.Disk.state (S.inside fs.old)).live (S.File.handle file.old)) }
-    ensures { ReadsTo (the_view S.GuardedFileSystem S.Disk.Disk S.File.DavFile) fs.old file.old len result fs.new
-        file.new }
+    requires live { IsSome ((S.view.state fs.old).live (S.view.handle file.old)) }
+    ensures { ReadsTo S.view fs.old file.old len result fs.new file.new }
 {
     let mut bytes = Vec::new(alloc);
     let Ok(mut buffer) = vec![in alloc; 0u8; PIECE] else {
@@ -113,11 +110,10 @@ fn read_content<S: GuardedFileSystem<C>, C>(
     file: S::File,
     meta: &S::Meta,
 ) -> Result<Resource, Unread>
-    requires live { IsSome ((S.Disk.state (S.inside fs.old)).live (S.File.handle file)) }
-    ensures table { AfterMeta (the_view S.GuardedFileSystem S.Disk.Disk S.File.DavFile) (Ok (S.Meta.info meta.now)) file
-        fs.old result fs.new ⊎ (result ≡ Err Unread.NoMemory) }
-    ensures closed { ClosesAfter (the_view S.GuardedFileSystem S.Disk.Disk S.File.DavFile) (S.File.handle file) fs.old
-        fs.new }
+    requires live { IsSome ((S.view.state fs.old).live (S.view.handle file)) }
+    ensures table { AfterMeta S.view (Ok (S.Meta.info meta.now)) file fs.old result fs.new
+        ⊎ (result ≡ Err Unread.NoMemory) }
+    ensures closed { ClosesAfter S.view (S.view.handle file) fs.old fs.new }
 {
     if !meta.is_file() {
         file_close(fs, file);
@@ -135,10 +131,9 @@ fn read_file<S: GuardedFileSystem<C>, C>(
     fs: &mut S,
     file: S::File,
 ) -> Result<Resource, Unread>
-    requires live { IsSome ((S.Disk.state (S.inside fs.old)).live (S.File.handle file)) }
-    ensures table { AfterOpen (the_view S.GuardedFileSystem S.Disk.Disk S.File.DavFile) (Ok file) fs.old result fs.new }
-    ensures closed { ClosesAfter (the_view S.GuardedFileSystem S.Disk.Disk S.File.DavFile) (S.File.handle file) fs.old
-        fs.new }
+    requires live { IsSome ((S.view.state fs.old).live (S.view.handle file)) }
+    ensures table { AfterOpen S.view (Ok file) fs.old result fs.new }
+    ensures closed { ClosesAfter S.view (S.view.handle file) fs.old fs.new }
 {
     let mut file = file;
     match file_metadata(fs, &mut file) {
@@ -157,11 +152,8 @@ pub(crate) fn fetch<S: GuardedFileSystem<C>, C>(
     credentials: &C,
     path: &DavPath,
 ) -> Result<Resource, Unread>
-    ensures table { Fetches (the_view S.GuardedFileSystem S.Disk.Disk S.File.DavFile) credentials.now path.now fs.old
-        result fs.new }
-    ensures keeps { Keeps (S.Disk.state (S.inside fs.old)) (S.Disk.state (S.inside fs.new)) }
-    ensures admits { S.admits fs.old → S.admits fs.new }
-    ensures loan { S.Disk.loan (S.inside fs.new) ≡ S.Disk.loan (S.inside fs.old) }
+    ensures table { Fetches S.view credentials.now path.now fs.old result fs.new }
+    ensures stays { Stays S.view fs.old fs.new }
 {
     match fs.open(path, OpenOptions::read(), credentials) {
         Ok(file) => read_file(alloc, fs, file),

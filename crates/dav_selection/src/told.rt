@@ -4,7 +4,6 @@ ghost use Rattle.std.specs.Prelude.{◌≡◌, Some};
 ghost use Rattle.dav_io.specs.Counts.{Rose};
 ghost use Rattle.dav_core.specs.Unchanged.{Keeps};
 ghost use Rattle.dav_core.specs.World.{World};
-ghost use Rattle.dav_store.specs.View.{the_listings, the_view};
 ghost use Rattle.dav_local_laws.specs.Simple.{plain_ways};
 ghost use Rattle.dav_selection.specs.Selection.{Selection};
 ghost use Rattle.dav_selection.specs.Shown.{ShowsFor};
@@ -13,11 +12,11 @@ ghost use Rattle.dav_selection.specs.Told.{IsOf, MeetsNoLink, TellsTheTree, sele
 use crate::{addressbook_report, calendar_report};
 use dav_cache::RememberAny;
 use dav_core::{DavPath, Disk};
-use dav_local::{LocalFs, LocalFsDirEntry, LocalFsFile};
+use dav_local::LocalFs;
 use dav_local_laws::local_stores_show_the_tree;
 use dav_lock::Element;
 use dav_report::{Report, ReportError};
-use dav_store::{DavDirEntry, DavFile, GuardedFileSystem};
+use dav_store::DavFileSystem;
 use std::alloc::Global;
 
 /// Where the disk tells its world, each path is meant as it is written and no link is met, the store shows a selection
@@ -25,8 +24,7 @@ use std::alloc::Global;
 pub fn shows_the_tree<D: Disk, R: RememberAny>(_fs: &LocalFs<D, R>, _path: &DavPath)
     ensures { (w : World) → (D.state _fs.now.disk).told ≡ Some w → _fs.now.ways ≡ plain_ways → (q : Selection)
         → IsOf _path.now q → MeetsNoLink w q
-        → ShowsFor (the_view ⟦<LocalFs<D, R> as GuardedFileSystem<()>>⟧ D.Disk ⟦<LocalFsFile as DavFile<D>>⟧)
-        (the_listings ⟦<LocalFs<D, R> as GuardedFileSystem<()>>⟧ ⟦<LocalFsDirEntry as DavDirEntry<D>>⟧) _fs.now tt
+        → ShowsFor ⟦<LocalFs<D, R> as DavFileSystem>⟧.view ⟦<LocalFs<D, R> as DavFileSystem>⟧.listings _fs.now tt
         (stock_of w) q }
 {
     local_stores_show_the_tree(_fs);

@@ -5,9 +5,8 @@ ghost use Rattle.std.specs.List.{AllByRecursion};
 ghost use Rattle.std.specs.List.Sorted.{IsPermutation, IsSortedByKey};
 ghost use Rattle.std.specs.Ordering.{nat_cmp};
 ghost use Rattle.dav_io.specs.Counts.{Rose};
-ghost use Rattle.dav_core.specs.Unchanged.{Keeps};
 ghost use Rattle.dav_store.specs.Members.{IsNamedPlain};
-ghost use Rattle.dav_store.specs.View.{the_listings, the_view};
+ghost use Rattle.dav_store.specs.View.{Stays};
 ghost use Rattle.dav_selection.specs.declared.resource.Resource.{Resource};
 ghost use Rattle.dav_selection.specs.declared.resource.Unread.{Unread};
 ghost use Rattle.dav_selection.specs.Answered.{Wants};
@@ -58,13 +57,10 @@ pub(crate) fn visit<S: GuardedFileSystem<C>, C>(
     wanted: Wanted<'_>,
     records: &mut Vec<Record>,
 ) -> Result<bool, Unread>
-    ensures table { ((got : Result Resource Unread)
-        × Fetches (the_view S.GuardedFileSystem S.Disk.Disk S.File.DavFile) credentials.now path fs.old got fs.new
+    ensures table { ((got : Result Resource Unread) × Fetches S.view credentials.now path fs.old got fs.new
         × Adds (taken wanted.entry) (record { path = path; got = got }) records.old.items result records.new.items)
         ⊎ (result ≡ Err Unread.NoMemory) }
-    ensures keeps { Keeps (S.Disk.state (S.inside fs.old)) (S.Disk.state (S.inside fs.new)) }
-    ensures admits { S.admits fs.old → S.admits fs.new }
-    ensures loan { S.Disk.loan (S.inside fs.new) ≡ S.Disk.loan (S.inside fs.old) }
+    ensures stays { Stays S.view fs.old fs.new }
 {
     match fetch(alloc, fs, credentials, &path) {
         Ok(resource) => match add_wanted(alloc, wanted, path, resource, records) {
@@ -97,12 +93,10 @@ fn walk<S: GuardedFileSystem<C>, C>(
     members: &[Member],
 ) -> Result<Records, ReportError>
     requires plain { AllByRecursion IsNamedPlain members.now }
-    requires admits { S.admits fs.old }
-    ensures table { Selects (the_view S.GuardedFileSystem S.Disk.Disk S.File.DavFile) credentials.now
-        (sought dir.now limit wanted.entry) members.now fs.old result fs.new ⊎ (result ≡ Err ReportError.NoMemory) }
-    ensures keeps { Keeps (S.Disk.state (S.inside fs.old)) (S.Disk.state (S.inside fs.new)) }
-    ensures admits { S.admits fs.new }
-    ensures loan { S.Disk.loan (S.inside fs.new) ≡ S.Disk.loan (S.inside fs.old) }
+    requires admits { S.view.admits fs.old }
+    ensures table { Selects S.view credentials.now (sought dir.now limit wanted.entry) members.now fs.old result fs.new
+        ⊎ (result ≡ Err ReportError.NoMemory) }
+    ensures stays { Stays S.view fs.old fs.new }
 {
     let mut records = Vec::new(alloc);
     for member in members {
@@ -146,18 +140,13 @@ pub(crate) fn query_dir<S: GuardedFileSystem<C>, C>(
     wanted: Wanted<'_>,
     limit: Option<u32>,
 ) -> Result<Records, ReportError>
-    requires admits { S.admits fs.old }
-    ensures table { Queries (the_view S.GuardedFileSystem S.Disk.Disk S.File.DavFile)
-        (the_listings S.GuardedFileSystem S.Entry.DavDirEntry) credentials.now (sought dir.now limit wanted.entry)
-        fs.old result fs.new ⊎ (result ≡ Err ReportError.NoMemory) }
-    ensures shown { (stock : Stock) → ShowsDir (the_view S.GuardedFileSystem S.Disk.Disk S.File.DavFile)
-        (the_listings S.GuardedFileSystem S.Entry.DavDirEntry) fs.old credentials.now stock dir.now
-        → IsQueried (sought dir.now limit wanted.entry) (stock.listed dir.now) stock
-        (Rose (S.Disk.state (S.inside fs.old)).faults (S.Disk.state (S.inside fs.new)).faults) result
+    requires admits { S.view.admits fs.old }
+    ensures table { Queries S.view S.listings credentials.now (sought dir.now limit wanted.entry) fs.old result fs.new
         ⊎ (result ≡ Err ReportError.NoMemory) }
-    ensures keeps { Keeps (S.Disk.state (S.inside fs.old)) (S.Disk.state (S.inside fs.new)) }
-    ensures admits { S.admits fs.new }
-    ensures loan { S.Disk.loan (S.inside fs.new) ≡ S.Disk.loan (S.inside fs.old) }
+    ensures shown { (stock : Stock) → ShowsDir S.view S.listings fs.old credentials.now stock dir.now
+        → IsQueried (sought dir.now limit wanted.entry) (stock.listed dir.now) stock
+        (Rose (S.view.state fs.old).faults (S.view.state fs.new).faults) result ⊎ (result ≡ Err ReportError.NoMemory) }
+    ensures stays { Stays S.view fs.old fs.new }
 {
     let mut members = match read_members(alloc, fs, dir, credentials) {
         Ok(members) => members,

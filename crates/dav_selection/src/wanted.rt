@@ -5,10 +5,10 @@ ghost use Rattle.std.specs.Str.Lossy.{utf8_lossy};
 ghost use Rattle.dav_selection.specs.Answered.{given};
 ghost use Rattle.dav_selection.specs.Taken.{is_data as is_wanted_data, matches as is_match, taken};
 
-use crate::matching::{address_matches, calendar_matches};
 use crate::resource::Resource;
 use dav_core::DavPath;
 use dav_io::{NoMemory, Text};
+use dav_matching::{address_matches, calendar_matches};
 use dav_report::caldav::ComponentFilter;
 use dav_report::carddav::PropertyFilter;
 use dav_report::{Record, is_calendar_data, is_vcard_data};

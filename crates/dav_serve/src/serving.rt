@@ -1,5 +1,5 @@
 // Serving the requests of a source, one after the other.
-ghost use Rattle.std.specs.Prelude.{◌≡◌, ◌++◌, IfOk, IsSome, OnErr, []};
+ghost use Rattle.std.specs.Prelude.{◌≡◌, ◌++◌, IfOk, IsSome, OnErr, [], false};
 ghost use Rattle.dav_handler.specs.Player.{stage_of};
 ghost use Rattle.dav_local.specs.Shown.{knowledge_of};
 ghost use Rattle.dav_wire.specs.Answers.{refusal_text as the_refusal_text};
@@ -14,7 +14,7 @@ use crate::ending::Ending;
 use crate::exchange::{Ended, Spare, exchange, manner_of};
 use crate::words::Options;
 use dav_core::Disk;
-use dav_handler::{DavConfig, LocalFs, Player, RememberAny, Settings};
+use dav_handler::{LocalFs, Player, RememberAny, Settings};
 use dav_io::{Client, Clock, Moment, NoMemory, Sink};
 use dav_wire::{Flaw, Input, Output, ReadError, refusal_text};
 use http::Request;
@@ -31,7 +31,7 @@ struct Held {
 }
 
 // A player over the disk from its root on and a memory, by these settings, whose store finds names as the options say.
-// It gave no reply yet.
+// What it makes is its owner's alone. It gave no reply yet.
 fn player_over<D: Disk + Drop, R: RememberAny + Drop>(
     alloc: Global,
     disk: D,
@@ -39,16 +39,13 @@ fn player_over<D: Disk + Drop, R: RememberAny + Drop>(
     settings: Settings,
     options: &Options<'_>,
 ) -> Player<D, R>
+    ensures private { result.store.public ≡ false }
     ensures loan { D.loan result.store.disk ≡ D.loan disk }
     ensures stage { settings ≡ settings_by options.now
         → stage_of result ≡ ready (set_by options.now) (knowledge_of (R.state memory)) (D.state disk) }
 {
     let store = LocalFs::new(disk, memory, false, options.fold, options.macos);
-    let handler = DavConfig::new(alloc)
-        .settings(settings)
-        .filesystem(store)
-        .build_handler();
-    Player::new(handler)
+    Player::over(alloc, settings, store)
 }
 
 // Answers a request by a player of its own over the disk and the memory, so that no count of replies ever runs out.

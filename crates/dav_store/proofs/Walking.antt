@@ -33,6 +33,10 @@ walk_then own s m t p q = record {
       (q.listings n k ne (p.listers n ne ∙ is));
 }
 
+-- the same of a listing that holds the lister of another
+pub walk_on : (own before : Option ℕ) (s m t : DiskState) → before ≡ own → KeepsButLister own s m → KeepsButLister before m t → KeepsButLister own s t
+walk_on own before s m t same first next = walk_then own s m t first (subst (λ o. KeepsButLister o m t) same next)
+
 -- two calls of the listing after others
 pub walk_all : (own before after : Option ℕ) (s a m t : DiskState) → before ≡ own → after ≡ before → KeepsButLister own s a → KeepsButLister before a m
     → KeepsButLister after m t → KeepsButLister own s t

@@ -4,11 +4,10 @@ ghost use Rattle.std.specs.List.{AllByRecursion};
 ghost use Rattle.dav_core.specs.declared.error.FsError.{FsError};
 ghost use Rattle.dav_core.specs.declared.member.Member.{Member};
 ghost use Rattle.dav_core.specs.Info.{Info};
-ghost use Rattle.dav_core.specs.Unchanged.{Keeps};
 ghost use Rattle.dav_store.specs.Leads.{LeadsOn, ListedOn};
 ghost use Rattle.dav_store.specs.Listings.{HasLister, KeepsButLister};
 ghost use Rattle.dav_store.specs.Members.{IsNamedPlain, ReadOut, ReadsThere, RefusesThere, ShowsMembers, WalksOut, WasListed, member_said, told_of};
-ghost use Rattle.dav_store.specs.View.{the_listings, the_view};
+ghost use Rattle.dav_store.specs.View.{Stays};
 ghost use Rattle.dav_store.specs.declared.entry.ReadDirMeta.TheVariants.{Data};
 
 use crate::through::entry_metadata;
@@ -52,15 +51,12 @@ fn add_member<S: GuardedFileSystem<C>, C>(
     entry: &S::Entry,
     members: &mut Vec<Member>,
 ) -> Result<(), NoMemory>
-    requires admits { S.admits fs.old }
-    ensures told { (r : Result Info FsError)
-        × S.Entry.says entry.now (S.Disk.state (S.inside fs.old)) r (S.Disk.state (S.inside fs.new))
-        × OnOk result (members.new.items ≡ members.old.items ++ told_of (S.Entry.called entry.now) r) }
+    requires admits { S.view.admits fs.old }
+    ensures told { (r : Result Info FsError) × S.listings.says entry.now (S.view.state fs.old) r (S.view.state fs.new)
+        × OnOk result (members.new.items ≡ members.old.items ++ told_of (S.listings.called entry.now) r) }
     ensures plain { AllByRecursion IsNamedPlain members.old.items → AllByRecursion IsNamedPlain members.new.items }
-    ensures store { fs.new ≡ S.with_disk fs.old (S.inside fs.new) }
-    ensures keeps { Keeps (S.Disk.state (S.inside fs.old)) (S.Disk.state (S.inside fs.new)) }
-    ensures admits { S.admits fs.new }
-    ensures loan { S.Disk.loan (S.inside fs.new) ≡ S.Disk.loan (S.inside fs.old) }
+    ensures store { S.view.lends fs.old fs.new }
+    ensures stays { Stays S.view fs.old fs.new }
 {
     let Ok(meta) = entry_metadata::<S, C>(fs, entry) else {
         return Ok(());
@@ -74,19 +70,16 @@ fn add_member<S: GuardedFileSystem<C>, C>(
 // Asks a listing on behind a fault, up to its end, where a store ends what it gathered. What it still gives is passed
 // over.
 fn run_out<S: GuardedFileSystem<C>, C>(fs: &mut S, dir: &mut S::Dir) -> Result<(), FsError>
-    requires live { HasLister (S.Disk.state (S.inside fs.old)) (S.lister dir.old) }
-    requires admits { S.admits fs.old }
-    ensures ends { OnOk result (ReadOut (the_view S.GuardedFileSystem S.Disk.Disk S.File.DavFile)
-        (the_listings S.GuardedFileSystem S.Entry.DavDirEntry) fs.old dir.old fs.new dir.new) }
-    ensures live { HasLister (S.Disk.state (S.inside fs.new)) (S.lister dir.new) }
-    ensures admits { S.admits fs.new }
-    ensures lister { S.lister dir.new ≡ S.lister dir.old }
-    ensures keeps { KeepsButLister (S.lister dir.old) (S.Disk.state (S.inside fs.old))
-        (S.Disk.state (S.inside fs.new)) }
-    ensures on { ListedOn (the_view S.GuardedFileSystem S.Disk.Disk S.File.DavFile)
-        (the_listings S.GuardedFileSystem S.Entry.DavDirEntry) fs.old dir.old fs.new dir.new }
+    requires live { HasLister (S.view.state fs.old) (S.listings.lister dir.old) }
+    requires admits { S.view.admits fs.old }
+    ensures ends { OnOk result (ReadOut S.view S.listings fs.old dir.old fs.new dir.new) }
+    ensures live { HasLister (S.view.state fs.new) (S.listings.lister dir.new) }
+    ensures admits { S.view.admits fs.new }
+    ensures lister { S.listings.lister dir.new ≡ S.listings.lister dir.old }
+    ensures keeps { KeepsButLister (S.listings.lister dir.old) (S.view.state fs.old) (S.view.state fs.new) }
+    ensures on { ListedOn S.view S.listings fs.old dir.old fs.new dir.new }
     ensures error { IfErr result (λ e. e ≡ FsError.NoMemory) }
-    ensures loan { S.Disk.loan (S.inside fs.new) ≡ S.Disk.loan (S.inside fs.old) }
+    ensures loan { S.view.loan fs.new ≡ S.view.loan fs.old }
 {
     'entries: loop {
         match fs.next_entry(dir) {
@@ -105,20 +98,17 @@ fn read_on<S: GuardedFileSystem<C>, C>(
     fs: &mut S,
     dir: &mut S::Dir,
 ) -> Result<Vec<Member>, FsError>
-    requires live { HasLister (S.Disk.state (S.inside fs.old)) (S.lister dir.old) }
-    requires admits { S.admits fs.old }
-    ensures walks { IfOk result (λ members. WalksOut (the_view S.GuardedFileSystem S.Disk.Disk S.File.DavFile)
-        (the_listings S.GuardedFileSystem S.Entry.DavDirEntry) fs.old dir.old members.items fs.new dir.new) }
+    requires live { HasLister (S.view.state fs.old) (S.listings.lister dir.old) }
+    requires admits { S.view.admits fs.old }
+    ensures walks { IfOk result (λ members. WalksOut S.view S.listings fs.old dir.old members.items fs.new dir.new) }
     ensures plain { IfOk result (λ members. AllByRecursion IsNamedPlain members.items) }
-    ensures live { HasLister (S.Disk.state (S.inside fs.new)) (S.lister dir.new) }
-    ensures admits { S.admits fs.new }
-    ensures lister { S.lister dir.new ≡ S.lister dir.old }
-    ensures keeps { KeepsButLister (S.lister dir.old) (S.Disk.state (S.inside fs.old))
-        (S.Disk.state (S.inside fs.new)) }
-    ensures on { ListedOn (the_view S.GuardedFileSystem S.Disk.Disk S.File.DavFile)
-        (the_listings S.GuardedFileSystem S.Entry.DavDirEntry) fs.old dir.old fs.new dir.new }
+    ensures live { HasLister (S.view.state fs.new) (S.listings.lister dir.new) }
+    ensures admits { S.view.admits fs.new }
+    ensures lister { S.listings.lister dir.new ≡ S.listings.lister dir.old }
+    ensures keeps { KeepsButLister (S.listings.lister dir.old) (S.view.state fs.old) (S.view.state fs.new) }
+    ensures on { ListedOn S.view S.listings fs.old dir.old fs.new dir.new }
     ensures error { IfErr result (λ e. e ≡ FsError.NoMemory) }
-    ensures loan { S.Disk.loan (S.inside fs.new) ≡ S.Disk.loan (S.inside fs.old) }
+    ensures loan { S.view.loan fs.new ≡ S.view.loan fs.old }
 {
     let mut members = Vec::new(alloc);
     'entries: loop {
@@ -150,24 +140,18 @@ pub fn read_members<S: GuardedFileSystem<C>, C>(
     path: &DavPath,
     credentials: &C,
 ) -> Result<Vec<Member>, FsError>
-    requires admits { S.admits fs.old }
-    ensures listed { IfOk result (λ members. WasListed (the_view S.GuardedFileSystem S.Disk.Disk S.File.DavFile)
-        (the_listings S.GuardedFileSystem S.Entry.DavDirEntry) fs.old credentials.now path.now members.items fs.new) }
+    requires admits { S.view.admits fs.old }
+    ensures listed { IfOk
+        result (λ members. WasListed S.view S.listings fs.old credentials.now path.now members.items fs.new) }
     ensures plain { IfOk result (λ members. AllByRecursion IsNamedPlain members.items) }
-    ensures refused { IfErr result (λ e. S.lists fs.old credentials.now path.now Data (Err e) fs.new
-        ⊎ (e ≡ FsError.NoMemory)) }
+    ensures refused { IfErr result
+        (λ e. S.listings.lists fs.old credentials.now path.now Data (Err e) fs.new ⊎ (e ≡ FsError.NoMemory)) }
     ensures shown { (found : Result (List Member) FsError)
-        → ShowsMembers (the_view S.GuardedFileSystem S.Disk.Disk S.File.DavFile)
-        (the_listings S.GuardedFileSystem S.Entry.DavDirEntry) fs.old credentials.now path.now found
-        → MatchResult result
-        (λ members. ReadsThere found (S.Disk.state (S.inside fs.old)).faults members.items
-        (S.Disk.state (S.inside fs.new)).faults)
-        (λ e. RefusesThere found (S.Disk.state (S.inside fs.old)) e (S.Disk.state (S.inside fs.new))) }
-    ensures keeps { Keeps (S.Disk.state (S.inside fs.old)) (S.Disk.state (S.inside fs.new)) }
-    ensures leads { LeadsOn (the_view S.GuardedFileSystem S.Disk.Disk S.File.DavFile)
-        (the_listings S.GuardedFileSystem S.Entry.DavDirEntry) credentials.now fs.old fs.new }
-    ensures admits { S.admits fs.new }
-    ensures loan { S.Disk.loan (S.inside fs.new) ≡ S.Disk.loan (S.inside fs.old) }
+        → ShowsMembers S.view S.listings fs.old credentials.now path.now found
+        → MatchResult result (λ members. ReadsThere found (S.view.state fs.old).faults members.items
+        (S.view.state fs.new).faults) (λ e. RefusesThere found (S.view.state fs.old) e (S.view.state fs.new)) }
+    ensures stays { Stays S.view fs.old fs.new }
+    ensures leads { LeadsOn S.view S.listings credentials.now fs.old fs.new }
 {
     let mut dir = match fs.read_dir(path, ReadDirMeta::Data, credentials) {
         Ok(dir) => dir,

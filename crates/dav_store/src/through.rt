@@ -2,7 +2,7 @@
 ghost use Rattle.std.specs.Prelude.{◌<◌, length, IsSome};
 ghost use Rattle.dav_core.specs.Unchanged.{Keeps};
 ghost use Rattle.dav_store.specs.Standing.{info_in};
-ghost use Rattle.dav_store.specs.View.{the_view, Lent, Says, Seeks, Reads, Closes};
+ghost use Rattle.dav_store.specs.View.{Lent, Says, Seeks, Reads, Closes};
 
 use crate::{DavDirEntry, DavFile, GuardedFileSystem};
 use dav_core::FsError;
@@ -12,9 +12,8 @@ pub fn file_metadata<S: GuardedFileSystem<C>, C>(
     fs: &mut S,
     file: &mut S::File,
 ) -> Result<S::Meta, FsError>
-    requires { IsSome ((S.Disk.state (S.inside fs.old)).live (S.File.handle file.old)) }
-    ensures { Says (the_view S.GuardedFileSystem S.Disk.Disk S.File.DavFile) fs.old file.old
-        (info_in S.Meta.info result) fs.new file.new }
+    requires { IsSome ((S.view.state fs.old).live (S.view.handle file.old)) }
+    ensures { Says S.view fs.old file.old (info_in S.Meta.info result) fs.new file.new }
 {
     file.metadata(fs.disk())
 }
@@ -25,9 +24,8 @@ pub fn file_seek<S: GuardedFileSystem<C>, C>(
     file: &mut S::File,
     place: u64,
 ) -> Result<u64, FsError>
-    requires { IsSome ((S.Disk.state (S.inside fs.old)).live (S.File.handle file.old)) }
-    ensures { Seeks (the_view S.GuardedFileSystem S.Disk.Disk S.File.DavFile) fs.old file.old place result fs.new
-        file.new }
+    requires { IsSome ((S.view.state fs.old).live (S.view.handle file.old)) }
+    ensures { Seeks S.view fs.old file.old place result fs.new file.new }
 {
     file.seek(fs.disk(), place)
 }
@@ -38,18 +36,17 @@ pub fn file_read<S: GuardedFileSystem<C>, C>(
     file: &mut S::File,
     into: &mut [u8],
 ) -> Result<usize, FsError>
-    requires live { IsSome ((S.Disk.state (S.inside fs.old)).live (S.File.handle file.old)) }
+    requires live { IsSome ((S.view.state fs.old).live (S.view.handle file.old)) }
     requires room { 0 < length into.old }
-    ensures { Reads (the_view S.GuardedFileSystem S.Disk.Disk S.File.DavFile) fs.old file.old into.new result fs.new
-        file.new }
+    ensures { Reads S.view fs.old file.old into.new result fs.new file.new }
 {
     file.read_into(fs.disk(), into)
 }
 
 /// Ends the file.
 pub fn file_close<S: GuardedFileSystem<C>, C>(fs: &mut S, file: S::File)
-    requires { IsSome ((S.Disk.state (S.inside fs.old)).live (S.File.handle file)) }
-    ensures { Closes (the_view S.GuardedFileSystem S.Disk.Disk S.File.DavFile) fs.old file fs.new }
+    requires { IsSome ((S.view.state fs.old).live (S.view.handle file)) }
+    ensures { Closes S.view fs.old file fs.new }
 {
     file.close(fs.disk())
 }
@@ -59,12 +56,11 @@ pub fn entry_metadata<S: GuardedFileSystem<C>, C>(
     fs: &mut S,
     entry: &S::Entry,
 ) -> Result<S::Meta, FsError>
-    requires { S.admits fs.old }
-    ensures says { S.Entry.says entry.now (S.Disk.state (S.inside fs.old)) (info_in S.Meta.info result)
-        (S.Disk.state (S.inside fs.new)) }
-    ensures lent { Lent (the_view S.GuardedFileSystem S.Disk.Disk S.File.DavFile) fs.old fs.new }
-    ensures keeps { Keeps (S.Disk.state (S.inside fs.old)) (S.Disk.state (S.inside fs.new)) }
-    ensures admits { S.admits fs.new }
+    requires { S.view.admits fs.old }
+    ensures says { S.listings.says entry.now (S.view.state fs.old) (info_in S.Meta.info result) (S.view.state fs.new) }
+    ensures lent { Lent S.view fs.old fs.new }
+    ensures keeps { Keeps (S.view.state fs.old) (S.view.state fs.new) }
+    ensures admits { S.view.admits fs.new }
 {
     entry.metadata(fs.disk())
 }

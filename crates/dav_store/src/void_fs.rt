@@ -33,8 +33,8 @@ pub fn is_voidfs<S: GuardedFileSystem<C>, C>(fs: &S) -> bool
 }
 
 impl<C> GuardedFileSystem<C> for VoidFs<C> {
-    ghost use Rattle.std.specs.Prelude.{None, cond, false, refl, true};
-    ghost use Rattle.dav_store.specs.Void.{GivesOnce, Unbuilt};
+    ghost use Rattle.std.specs.Prelude.{◌≡◌, None, codes, cond, false, refl, true};
+    ghost use Rattle.dav_store.specs.Void.{GivesOnce, Unbuilt, no_disk_state, no_handle};
 
     type Disk = NoDisk;
 
@@ -52,35 +52,35 @@ impl<C> GuardedFileSystem<C> for VoidFs<C> {
 
     ghost with_now = { λ s _. s };
 
-    ghost folding = { λ _. false };
-
     ghost void = { λ _. true };
 
-    ghost looks = { λ s _ _ result t. Unbuilt s result t };
+    ghost view = { record {
+      state = λ s. no_disk_state s.disk.faults s.disk.asked;
+      loan = λ _. None;
+      admits = λ _. Unit {0};
+      lends = λ s t. t ≡ record s { disk = t.disk };
+      looks = λ s _ _ result t. Unbuilt s result t;
+      looks_at_link = λ s _ _ result t. Unbuilt s result t;
+      opens = λ s _ _ _ result t. Unbuilt s result t;
+      makes_dir = λ s _ _ result t. Unbuilt s result t;
+      removes_dir = λ s _ _ result t. Unbuilt s result t;
+      removes_file = λ s _ _ result t. Unbuilt s result t;
+      renames = λ s _ _ _ result t. Unbuilt s result t;
+      copies = λ s _ _ _ result t. Unbuilt s result t;
+      folding = λ _. false;
+      handle = λ _. no_handle;
+      seen = λ _ _. None;
+    } };
 
-    ghost looks_at_link = { λ s _ _ result t. Unbuilt s result t };
-
-    ghost opens = { λ s _ _ _ result t. Unbuilt s result t };
-
-    ghost lister = { λ _. None };
-
-    ghost to_come = { λ d _. cond d.over 0 1 };
-
-    ghost lists = { λ s _ _ _ result t. Unbuilt s result t };
-
-    ghost lists_on = { λ s d result t e. GivesOnce d.over result e.over × (t ≡ s) };
-
-    ghost ends_list = { λ s _ t. t ≡ s };
-
-    ghost makes_dir = { λ s _ _ result t. Unbuilt s result t };
-
-    ghost removes_dir = { λ s _ _ result t. Unbuilt s result t };
-
-    ghost removes_file = { λ s _ _ result t. Unbuilt s result t };
-
-    ghost renames = { λ s _ _ _ result t. Unbuilt s result t };
-
-    ghost copies = { λ s _ _ _ result t. Unbuilt s result t };
+    ghost listings = { record {
+      lister = λ _. None;
+      to_come = λ d _. cond d.over 0 1;
+      lists = λ s _ _ _ result t. Unbuilt s result t;
+      lists_on = λ s d result t e. GivesOnce d.over result e.over × (t ≡ s);
+      ends_list = λ s _ t. t ≡ s;
+      called = λ _. codes "void";
+      says = λ _ s result t. Unbuilt s result t;
+    } };
 
     fn disk(&mut self) -> &mut NoDisk {
         &mut self.disk
@@ -162,7 +162,18 @@ impl<C> GuardedFileSystem<C> for VoidFs<C> {
 
     ghost puts_back = { λ s. refl };
 
-    ghost admits_lent = { λ s d keeps admits. admits };
+    ghost admits_lent = { λ s t lent keeps admits. admits };
 
-    ghost admits_written = { λ s d keeps admits. admits };
+    ghost admits_written = { λ s t lent keeps admits. admits };
+
+    ghost fits = { record {
+      state = λ s. refl;
+      loan = λ s. refl;
+      lends = λ s d. refl;
+      lent = λ s t lends. lends;
+      handle = λ f. refl;
+      seen = λ f s. refl;
+      called = λ e. refl;
+      says = λ e s r t said. said;
+    } };
 }

@@ -7,10 +7,31 @@ use dav_io::NoMemory;
 use dav_serve::run::run;
 use std::io::ErrorKind;
 use std::process::ExitCode;
-use std::{env, io};
+use std::{env, fs, io};
 
-const USAGE: &str =
-    "usage: davserve ROOT serve [--prefix P] [--autoindex] [--indexfile NAME] [--bufsize N] [--fold] [--macos], or davserve ROOT bench SEED";
+const USAGE: &str = "usage: davserve ROOT serve [OPTION].., or davserve ROOT bench SEED";
+
+// What `--help` says behind the usage.
+const HELP: &str = "
+  ROOT serve          serves the folder ROOT to the requests on standard input, and answers on standard output
+  ROOT bench SEED     plays a large input, made from the number SEED from 0 to 399, over a disk in memory
+
+Options of serve, in any order, each at most once:
+  --autoindex         a directory is answered with a page of its entries
+  --indexfile NAME    the file of this name stands for its directory, which is 404 without one
+  --prefix P          the folder stands under this path, as /dav; all other paths are 404
+  --fold              a name that doesn't stand in a directory as it is asked is found where it folds alike
+  --macos             the rules for clients of macOS hold
+  --bufsize N         most bytes of a file in one piece of a body, up to 1048576; 0, the default, is 16384
+
+It writes: whoever gives it requests may read, change and remove what the folder has.
+
+Alone, as the only word:
+  --help              this text
+  --version           the name and its version
+
+Status: 0 answered, 2 the words are not understood, 3 reading, 4 writing, or 5 the disk failed, 6 the input is no
+valid request, 7 too many bytes were read, 101 out of memory.";
 
 // What stands in the words behind the program's name.
 enum Arguments {
@@ -49,6 +70,25 @@ fn root_of(words: &[String]) -> &str {
     }
 }
 
+// Whether a folder can be seen at a path.
+fn is_folder(rt: &HostRuntime, path: &str) -> bool {
+    match fs::metadata(rt, path) {
+        Ok(found) => found.is_dir(),
+        Err(_) => false,
+    }
+}
+
+// Says in a line where no folder stands that is to be served. It is served all the same, since one may come.
+fn warn(rt: &HostRuntime, words: &[String]) {
+    if let [root, verb, ..] = words {
+        if verb.as_str() == "serve" && !is_folder(rt, root.as_str()) {
+            let _ = eprintln!(rt;
+                "davserve: no folder can be seen at {root:?}: nothing is found there until there is one"
+            );
+        }
+    }
+}
+
 // Makes the outside, and runs over it.
 fn serve(rt: &HostRuntime, words: &[String]) -> Result<u8, NoMemory> {
     let mut disk = HostDisk::new(rt.alloc(), rt, root_of(words))?;
@@ -68,8 +108,7 @@ fn serve(rt: &HostRuntime, words: &[String]) -> Result<u8, NoMemory> {
 // What a status says, in a line.
 fn line_of(status: u8) -> &'static str {
     match status {
-        2 =>
-            "davserve: the words are not understood; usage: davserve ROOT serve [--prefix P] [--autoindex] [--indexfile NAME] [--bufsize N] [--fold] [--macos], or davserve ROOT bench SEED",
+        2 => "davserve: the words are not understood; davserve --help tells them",
         3 => "davserve: reading the requests failed",
         4 => "davserve: writing the answers failed",
         5 => "davserve: the disk failed in the middle of a body",
@@ -89,7 +128,9 @@ fn ends(rt: &HostRuntime, status: u8) -> ExitCode {
 // Names the words that aren't understood, in one line whatever they hold, and those that are.
 fn refuses(rt: &HostRuntime, words: &[String]) -> ExitCode {
     let _ = match words.join(rt.alloc(), " ") {
-        Ok(text) => eprintln!(rt; "davserve: not understood: {text:?}; {USAGE}"),
+        Ok(text) => eprintln!(rt;
+            "davserve: not understood: {text:?}; {USAGE}; davserve --help tells more"
+        ),
         Err(_) => eprintln!(rt; "{}", line_of(2)),
     };
     ExitCode::from(2)
@@ -97,6 +138,13 @@ fn refuses(rt: &HostRuntime, words: &[String]) -> ExitCode {
 
 fn say(rt: &HostRuntime, text: &str) -> ExitCode {
     match println!(rt; "{text}") {
+        Ok(()) => ExitCode::from(0),
+        Err(_) => ends(rt, 4),
+    }
+}
+
+fn say_help(rt: &HostRuntime) -> ExitCode {
+    match println!(rt; "{USAGE}\n{HELP}") {
         Ok(()) => ExitCode::from(0),
         Err(_) => ends(rt, 4),
     }
@@ -112,11 +160,12 @@ fn main(rt: HostRuntime) -> ExitCode {
         }
     };
     if is_word(&words, "--help") {
-        return say(&rt, USAGE);
+        return say_help(&rt);
     }
     if is_word(&words, "--version") {
         return say(&rt, "davserve 0.1.0");
     }
+    warn(&rt, &words);
     match serve(&rt, &words) {
         Ok(2) => refuses(&rt, &words),
         Ok(status) => ends(&rt, status),

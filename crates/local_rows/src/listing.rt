@@ -20,10 +20,10 @@ const MOST: u64 = 10_000;
 
 // Asks a listing for so many answers at most, and adds the names. A fault is told, and the listing asked on.
 fn list_on<S: GuardedFileSystem<()>>(store: &mut S, dir: &mut S::Dir, most: u64, line: &mut Line)
-    requires live { HasLister (S.Disk.state (S.inside store.old)) (S.lister dir.old) }
-    requires admits { S.admits store.old }
-    ensures live { HasLister (S.Disk.state (S.inside store.new)) (S.lister dir.new) }
-    ensures lister { S.lister dir.new ≡ S.lister dir.old }
+    requires live { HasLister (S.view.state store.old) (S.listings.lister dir.old) }
+    requires admits { S.view.admits store.old }
+    ensures live { HasLister (S.view.state store.new) (S.listings.lister dir.new) }
+    ensures lister { S.listings.lister dir.new ≡ S.listings.lister dir.old }
 {
     'entries: for _ in 0..most.min(MOST) {
         line.add(" ");
@@ -59,8 +59,8 @@ fn change<S: GuardedFileSystem<()>>(
     dir: &S::Dir,
     outer: &Outer,
 ) -> Result<(), DiskError>
-    requires { HasLister (S.Disk.state (S.inside store.old)) (S.lister dir.now) }
-    ensures { HasLister (S.Disk.state (S.inside store.new)) (S.lister dir.now) }
+    requires { HasLister (S.view.state store.old) (S.listings.lister dir.now) }
+    ensures { HasLister (S.view.state store.new) (S.listings.lister dir.now) }
 {
     let _dir = dir;
     make_outer(store.disk(), outer)

@@ -4,21 +4,22 @@
 //! `vcard-uid` and `vcard-fn`. `making.rt`, `values.rt`, `levels.rt` and `locks.rt` have the others.
 
 use crate::texts::{tell_maybe, tell_whether};
-use crate::{filters, levels, locks, making, trees, values};
+use crate::{filters, levels, locks, making, values};
 use dav_io::{NoMemory, Text};
 use dav_lock::Element;
 use dav_report::*;
 use dav_rows::{Line, unescaped, word};
+use dav_tree_rows::root;
 use std::alloc::Global;
 
 /// Adds the answer to a row.
 pub fn answer(alloc: Global, line: &mut Line, row: &str) {
     match word(row, 0) {
-        "calendar" => match trees::root(alloc, row, 1) {
+        "calendar" => match root(alloc, row, 1) {
             Ok(root) => calendar(alloc, line, &root),
             Err(_) => line.refuse(),
         },
-        "addresses" => match trees::root(alloc, row, 1) {
+        "addresses" => match root(alloc, row, 1) {
             Ok(root) => addresses(alloc, line, &root),
             Err(_) => line.refuse(),
         },

@@ -2,11 +2,11 @@
 //! copy of the tree, and `filter-levels TREE` of the filter in a copy of the calendar report. Each counts along the
 //! first child.
 
-use crate::trees;
 use dav_lock::Element;
 use dav_report::caldav::{CalDavReportType, ComponentFilter};
 use dav_report::{ElementExt, parse_calendar_report};
 use dav_rows::Line;
+use dav_tree_rows::root;
 use std::alloc::Global;
 
 fn tree_levels(root: &Element) -> u64 {
@@ -33,7 +33,7 @@ fn filter_levels(outer: &ComponentFilter) -> u64 {
 
 /// Adds the levels of the copy of a tree.
 pub fn tell_copy(alloc: Global, line: &mut Line, row: &str) {
-    match trees::root(alloc, row, 1) {
+    match root(alloc, row, 1) {
         Ok(root) => match root.try_clone() {
             Ok(copy) => line.add_number("", tree_levels(&copy)),
             Err(_) => line.refuse(),
@@ -44,7 +44,7 @@ pub fn tell_copy(alloc: Global, line: &mut Line, row: &str) {
 
 /// Adds the levels of the filter that a calendar query asks with.
 pub fn tell_filter(alloc: Global, line: &mut Line, row: &str) {
-    match trees::root(alloc, row, 1) {
+    match root(alloc, row, 1) {
         Ok(root) => tell_asked(alloc, line, &root),
         Err(_) => line.refuse(),
     }

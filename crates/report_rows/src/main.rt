@@ -1,8 +1,8 @@
 //! Calls what reads and makes the elements of calendars, address books and locks, and prints what each call answers, a
 //! row a line.
 //!
-//! A row is a call, and words behind it, with blanks between them. `trees.rt` says how words make an element tree, and
-//! `dav_rows` how a word writes a text.
+//! A row is a call, and words behind it, with blanks between them. `dav_tree_rows` says how words make an element tree,
+//! and `dav_rows` how a word writes a text.
 #![tactic(auto)]
 
 mod answers;
@@ -11,7 +11,6 @@ mod levels;
 mod locks;
 mod making;
 mod texts;
-mod trees;
 mod values;
 
 use dav_rows::Line;

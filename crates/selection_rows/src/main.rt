@@ -8,15 +8,14 @@
 //! `rename PATH PATH` and `remove PATH` are turns of the outside. (It has none within a request, as no call of a report
 //! makes one: no row changes a resource between its metadata and its bytes.)
 //!
-//! A request is `calendar PATH PREFIX TREE` or `cards PATH PREFIX TREE`, its tree as `trees.rt` has it; a prefix `-` is
-//! empty. It is answered with path, entity tag and text of each record, and what is missing; or with its error. How
+//! A request is `calendar PATH PREFIX TREE` or `cards PATH PREFIX TREE`, its tree as `dav_tree_rows` has it; a prefix
+//! `-` is empty. It is answered with path, entity tag and text of each record, and what is missing; or with its error. How
 //! often the disk was asked comes last.
 #![tactic(auto)]
 
 mod disks;
 mod texts;
 mod told;
-mod trees;
 
 use anyhow::Result;
 use dav_cache::Forget;

@@ -1,7 +1,6 @@
 //! What a request selects, in words.
 
 use crate::texts::{tell, tell_text};
-use crate::trees;
 use anyhow::Result;
 use dav_cache::Forget;
 use dav_core::DavPath;
@@ -10,6 +9,7 @@ use dav_local::LocalFs;
 use dav_report::{Record, Report, ReportError};
 use dav_rows::word;
 use dav_selection::{addressbook_report, calendar_report};
+use dav_tree_rows::root as tree_of;
 use std::alloc::Global;
 
 fn prefix_of(word: &str) -> &str {
@@ -21,7 +21,7 @@ fn selected(
     fs: &mut LocalFs<MemDisk, Forget>,
     row: &str,
 ) -> Result<std::result::Result<Report, ReportError>> {
-    let root = trees::root(alloc, row, 3)?;
+    let root = tree_of(alloc, row, 3)?;
     let prefix = prefix_of(word(row, 2));
     let path = DavPath::from_str_and_prefix(alloc, word(row, 1), prefix)?;
     if word(row, 0) == "cards" {

@@ -286,10 +286,10 @@ fn list_on<S: GuardedFileSystem<()>>(
     entries: &mut Vec<S::Entry>,
     line: &mut Line,
 )
-    requires live { HasLister (S.Disk.state (S.inside store.old)) (S.lister dir.old) }
-    requires admits { S.admits store.old }
-    ensures live { HasLister (S.Disk.state (S.inside store.new)) (S.lister dir.new) }
-    ensures lister { S.lister dir.new ≡ S.lister dir.old }
+    requires live { HasLister (S.view.state store.old) (S.listings.lister dir.old) }
+    requires admits { S.view.admits store.old }
+    ensures live { HasLister (S.view.state store.new) (S.listings.lister dir.new) }
+    ensures lister { S.listings.lister dir.new ≡ S.listings.lister dir.old }
 {
     'entries: for _ in 0..MOST_ENTRIES {
         match store.next_entry(dir) {

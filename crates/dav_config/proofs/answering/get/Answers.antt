@@ -6,7 +6,7 @@ use Rattle.dav_config.proofs.answering.get.Goals as goal
 
 pub returns-in-Ok-clause-done : goal.returns-in-Ok-clause-done
 returns-in-Ok-clause-done g c =
-    given_over (the_served g.S.GuardedFileSystem g.S.Disk.Disk g.S.File.DavFile g.S.Entry.DavDirEntry)
+    given_over (the_served g.S.GuardedFileSystem g.S.File.DavFile)
     (query c.args.settings.now c.args.fields.now c.args.method c.args.path.now) c.args.credentials.now
     c.give.result c.args.fs.now c.handle_get.new.fs c.give.new.fs (Ok c.in-Ok.given) (λ e. cc)
     (record {
@@ -22,11 +22,11 @@ returns-in-Ok-clause-done g c =
 
 pub returns-in-Ok-clause-memory : goal.returns-in-Ok-clause-memory
 returns-in-Ok-clause-memory g c =
-    undone_where c.give.result g.S.File.DavFile.handle _ _ _ c.in-Ok.given.1.file c.in-Ok.ensures.life.1 c.give.ensures.closed
+    undone_where c.give.result g.S.GuardedFileSystem.view.handle _ _ _ c.in-Ok.given.1.file c.in-Ok.ensures.life.1 c.give.ensures.closed
 
 pub returns-in-Err-clause-done : goal.returns-in-Err-clause-done
 returns-in-Err-clause-done g c =
-    refused_over (the_served g.S.GuardedFileSystem g.S.Disk.Disk g.S.File.DavFile g.S.Entry.DavDirEntry)
+    refused_over (the_served g.S.GuardedFileSystem g.S.File.DavFile)
     (query c.args.settings.now c.args.fields.now c.args.method c.args.path.now) c.args.credentials.now
     c.refuse.result c.args.fs.now c.handle_get.new.fs c.in-Err.error
     (record {

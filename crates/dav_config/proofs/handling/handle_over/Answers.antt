@@ -14,5 +14,5 @@ answer-requires-clause-writes g c =
 
 pub returns-in-Ok-clause-done : goal.returns-in-Ok-clause-done
 returns-in-Ok-clause-done g c =
-    handled (the_served g.S.GuardedFileSystem g.S.Disk.Disk g.S.File.DavFile g.S.Entry.DavDirEntry) c.answer.result c.in-Ok.target (asking_of c.args.asked.now)
+    handled (the_served g.S.GuardedFileSystem g.S.File.DavFile) c.answer.result c.in-Ok.target (asking_of c.args.asked.now)
     _ (g.B.BodyReader.state c.target.new.body) _ (rw (← c.is_stored-stored.ensures) c.in-Ok.ensures.done) c.answer.ensures.done

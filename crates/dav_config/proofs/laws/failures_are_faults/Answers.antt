@@ -3,4 +3,4 @@ use Rattle.dav_config.proofs.Failures.{handled_failed}
 use Rattle.dav_config.proofs.laws.failures_are_faults.Goals as goal
 
 pub returns : goal.returns
-returns g c = handled_failed (the_served g.S.GuardedFileSystem g.S.Disk.Disk g.S.File.DavFile g.S.Entry.DavDirEntry)
+returns g c = handled_failed (the_served g.S.GuardedFileSystem g.S.File.DavFile)

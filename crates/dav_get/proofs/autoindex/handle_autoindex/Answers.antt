@@ -1,7 +1,6 @@
 use Rattle.std.proofs.Common.{[], Bool, ap, subst, ◌∙◌}
 use Rattle.std.specs.Prelude.{OnOk}
 use Rattle.dav_page.specs.Listed.{AreSound}
-use Rattle.dav_store.specs.View.{the_listings, the_view}
 use Rattle.dav_model.specs.Conditions.{Fields}
 use Rattle.dav_model.specs.Due.{query}
 use Rattle.dav_model.specs.Head.{is_get}
@@ -16,5 +15,5 @@ returns-clause-page g c number =
     (ap is_get c.method_for.ensures ∙ method_is c.args.head)
     (subst (λ (fields : Fields). OnOk c.get_page.result (IsIndexReply (is_get c.method_for.result) c.args.path.now (AreSound c.args.path.now) (reply_at fields number c.get_page.result)))
     c.new-fields.ensures
-    (page_sound (the_view g.S.GuardedFileSystem g.S.Disk.Disk g.S.File.DavFile) (the_listings g.S.GuardedFileSystem g.S.Entry.DavDirEntry)
+    (page_sound g.S.GuardedFileSystem.view g.S.GuardedFileSystem.listings
     (query c.args.settings.now c.new-fields.result c.method_for.result c.args.path.now) c.args.credentials.now number c.get_page.result c.args.fs.now c.get_page.new.fs c.get_page.ensures.table))

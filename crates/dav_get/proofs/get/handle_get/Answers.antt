@@ -1,6 +1,5 @@
 use Rattle.std.proofs.Common.{inl, inr}
 use Rattle.dav_model.specs.Due.{query}
-use Rattle.dav_store.specs.View.{the_listings, the_view}
 use Rattle.dav_get.proofs.Asking.{gets_asks}
 use Rattle.dav_get.proofs.Framing.{gets_framed, gets_sound}
 use Rattle.dav_get.proofs.HeardIsRight.{heard_right}
@@ -9,23 +8,23 @@ use Rattle.dav_get.proofs.get.handle_get.Goals as goal
 
 pub returns-clause-framed : goal.returns-clause-framed
 returns-clause-framed g c = λ number.
-    gets_framed (the_view g.S.GuardedFileSystem g.S.Disk.Disk g.S.File.DavFile) (the_listings g.S.GuardedFileSystem g.S.Entry.DavDirEntry) (query c.args.settings.now c.args.fields.now c.args.method c.args.path.now) c.args.credentials.now number c.args.fs.now c.get_once.result c.get_once.new.fs c.get_once.ensures.table
+    gets_framed g.S.GuardedFileSystem.view g.S.GuardedFileSystem.listings (query c.args.settings.now c.args.fields.now c.args.method c.args.path.now) c.args.credentials.now number c.args.fs.now c.get_once.result c.get_once.new.fs c.get_once.ensures.table
 
 pub returns-clause-sound : goal.returns-clause-sound
 returns-clause-sound g c = λ number.
-    gets_sound (the_view g.S.GuardedFileSystem g.S.Disk.Disk g.S.File.DavFile) (the_listings g.S.GuardedFileSystem g.S.Entry.DavDirEntry) (query c.args.settings.now c.args.fields.now c.args.method c.args.path.now) c.args.credentials.now number c.args.fs.now c.get_once.result c.get_once.new.fs c.get_once.ensures.table
+    gets_sound g.S.GuardedFileSystem.view g.S.GuardedFileSystem.listings (query c.args.settings.now c.args.fields.now c.args.method c.args.path.now) c.args.credentials.now number c.args.fs.now c.get_once.result c.get_once.new.fs c.get_once.ensures.table
 
 pub returns-clause-heard : goal.returns-clause-heard
 returns-clause-heard g c =
-    gets_heard (the_view g.S.GuardedFileSystem g.S.Disk.Disk g.S.File.DavFile) (the_listings g.S.GuardedFileSystem g.S.Entry.DavDirEntry) (query c.args.settings.now c.args.fields.now c.args.method c.args.path.now) c.args.credentials.now c.args.fs.now c.get_once.result c.get_once.new.fs c.get_once.ensures.table
+    gets_heard g.S.GuardedFileSystem.view g.S.GuardedFileSystem.listings (query c.args.settings.now c.args.fields.now c.args.method c.args.path.now) c.args.credentials.now c.args.fs.now c.get_once.result c.get_once.new.fs c.get_once.ensures.table
 
 pub returns-clause-right : goal.returns-clause-right
 returns-clause-right g c = λ looked opened listed shows.
-    elim (gets_heard (the_view g.S.GuardedFileSystem g.S.Disk.Disk g.S.File.DavFile) (the_listings g.S.GuardedFileSystem g.S.Entry.DavDirEntry) (query c.args.settings.now c.args.fields.now c.args.method c.args.path.now) c.args.credentials.now c.args.fs.now c.get_once.result c.get_once.new.fs c.get_once.ensures.table) [
+    elim (gets_heard g.S.GuardedFileSystem.view g.S.GuardedFileSystem.listings (query c.args.settings.now c.args.fields.now c.args.method c.args.path.now) c.args.credentials.now c.args.fs.now c.get_once.result c.get_once.new.fs c.get_once.ensures.table) [
       | inl none ↦ inl none
-      | inr heard ↦ inr (heard_right (the_view g.S.GuardedFileSystem g.S.Disk.Disk g.S.File.DavFile) (the_listings g.S.GuardedFileSystem g.S.Entry.DavDirEntry) (query c.args.settings.now c.args.fields.now c.args.method c.args.path.now) looked opened listed c.args.credentials.now c.args.fs.now c.get_once.result c.get_once.new.fs shows c.get_once.ensures.life heard)
+      | inr heard ↦ inr (heard_right g.S.GuardedFileSystem.view g.S.GuardedFileSystem.listings (query c.args.settings.now c.args.fields.now c.args.method c.args.path.now) looked opened listed c.args.credentials.now c.args.fs.now c.get_once.result c.get_once.new.fs shows c.get_once.ensures.life heard)
     ]
 
 pub returns-clause-asks : goal.returns-clause-asks
 returns-clause-asks g c = λ holds few here.
-    gets_asks (the_view g.S.GuardedFileSystem g.S.Disk.Disk g.S.File.DavFile) (the_listings g.S.GuardedFileSystem g.S.Entry.DavDirEntry) (query c.args.settings.now c.args.fields.now c.args.method c.args.path.now) holds few c.args.credentials.now c.args.fs.now c.get_once.result c.get_once.new.fs here c.get_once.ensures.life c.get_once.ensures.table
+    gets_asks g.S.GuardedFileSystem.view g.S.GuardedFileSystem.listings (query c.args.settings.now c.args.fields.now c.args.method c.args.path.now) holds few c.args.credentials.now c.args.fs.now c.get_once.result c.get_once.new.fs here c.get_once.ensures.life c.get_once.ensures.table

@@ -10,7 +10,7 @@ pub returns-in-Err-clause-done : goal.returns-in-Err-clause-done
 returns-in-Err-clause-done g c = record {
   stays = stays_same (over_of g.D.Disk.state g.R.Remember.state c.args.settings.now c.args.store.now);
   keeps = open_same (g.D.Disk.state c.args.store.now.disk);
-  makes = λ e. makes_kept (target_of (rules_with c.args.settings.now c.args.store.now.ways) c.args.request.now) (rules_with c.args.settings.now c.args.store.now.ways) _ _ e
+  makes = λ e. makes_kept (target_of (rules_with c.args.settings.now c.args.store.now.ways) c.args.request.now) (rules_with c.args.settings.now c.args.store.now.ways) _ _ _ e
       (g.D.Disk.state c.args.store.now.disk) (g.D.Disk.state c.args.store.now.disk) (leaves_same (g.D.Disk.state c.args.store.now.disk));
   asks = gate_none (target_of (rules_with c.args.settings.now c.args.store.now.ways) c.args.request.now) (g.D.Disk.state c.args.store.now.disk).asked;
 }

@@ -1,7 +1,8 @@
+use Rattle.dav_local.specs.Shown.{knowledge_of}
 use Rattle.dav_local.specs.Ways.{rules_with}
 use Rattle.dav_handler.specs.By.{by_store}
 use Rattle.dav_handler.proofs.Answering.{stays_write}
-use Rattle.dav_handler.proofs.Changing.{did_change, ways_plain, write_done, write_refused}
+use Rattle.dav_handler.proofs.Changing.{did_change, write_done, write_refused}
 use Rattle.dav_handler.proofs.found.write_at.Goals as goal
 
 pub returns-in-Ok-clause-done : goal.returns-in-Ok-clause-done
@@ -12,8 +13,8 @@ returns-in-Ok-clause-done g c =
     (stays_write c.args.settings.now c.args.store.now.ways c.change.new.store.ways (g.R.Remember.state c.args.store.now.memory) (g.R.Remember.state c.change.new.store.memory) (g.D.Disk.state c.args.store.now.disk)
     (g.D.Disk.state c.change.new.store.disk) taught.0 taught.1)
     c.in-Ok.outcome c.alone.result
-    (did_change _ _ _ tt c.local_stores_refuse_few.ensures (λ s w told. g.met.D.Disk.world s.disk w told) _ c.args.path.now (record { fields = c.args.fields.now; body = c.args.body.now }) c.args.store.now _ c.change.new.store
-    (rules_with c.args.settings.now c.args.store.now.ways) c.as_str-prefix.ensures.value (λ plain. c.local_stores_follow_rules.ensures (ways_plain c.args.store.now.ways plain)) c.args.method c.in-Ok.ensures.table c.in-Ok.ensures.keeps)
+    (did_change _ _ _ tt c.local_stores_refuse_few.ensures _ c.args.path.now (record { fields = c.args.fields.now; body = c.args.body.now }) c.args.store.now _ c.change.new.store
+    (rules_with c.args.settings.now c.args.store.now.ways) (knowledge_of (g.R.Remember.state c.args.store.now.memory)) c.as_str-prefix.ensures.value c.local_stores_follow_rules.ensures c.args.method c.in-Ok.ensures.table c.in-Ok.ensures.keeps)
     c.alone.ensures.outcome c.alone.ensures.body
 
 pub returns-in-Err-clause-done : goal.returns-in-Err-clause-done
@@ -24,6 +25,6 @@ returns-in-Err-clause-done g c =
     (stays_write c.args.settings.now c.args.store.now.ways c.change.new.store.ways (g.R.Remember.state c.args.store.now.memory) (g.R.Remember.state c.change.new.store.memory) (g.D.Disk.state c.args.store.now.disk)
     (g.D.Disk.state c.change.new.store.disk) taught.0 taught.1)
     c.in-Err.error c.refuse.result
-    (did_change _ _ _ tt c.local_stores_refuse_few.ensures (λ s w told. g.met.D.Disk.world s.disk w told) _ c.args.path.now (record { fields = c.args.fields.now; body = c.args.body.now }) c.args.store.now _ c.change.new.store
-    (rules_with c.args.settings.now c.args.store.now.ways) c.as_str-prefix.ensures.value (λ plain. c.local_stores_follow_rules.ensures (ways_plain c.args.store.now.ways plain)) c.args.method c.in-Err.ensures.table c.in-Err.ensures.keeps)
+    (did_change _ _ _ tt c.local_stores_refuse_few.ensures _ c.args.path.now (record { fields = c.args.fields.now; body = c.args.body.now }) c.args.store.now _ c.change.new.store
+    (rules_with c.args.settings.now c.args.store.now.ways) (knowledge_of (g.R.Remember.state c.args.store.now.memory)) c.as_str-prefix.ensures.value c.local_stores_follow_rules.ensures c.args.method c.in-Err.ensures.table c.in-Err.ensures.keeps)
     c.refuse.ensures

@@ -1,14 +1,13 @@
 use Rattle.std.specs.Prelude.{true}
 use Rattle.dav_core.specs.declared.method.DavMethod.TheVariants.{Move}
-use Rattle.dav_store.specs.View.{the_listings, the_view}
 use Rattle.dav_methods.proofs.CarryRight.{carried_right}
 use Rattle.dav_methods.proofs.MoveDone.{moves_right}
 use Rattle.dav_methods.proofs.carry_plan_laws.moves_follow_their_plan.Goals as goal
 
 pub returns : goal.returns
 returns g c =
-    λ credentials rules s follows folds macos alone path fields body r t run.
-    carried_right (the_view g.S.GuardedFileSystem g.S.Disk.Disk g.S.File.DavFile) (the_listings g.S.GuardedFileSystem g.S.Entry.DavDirEntry) g.S.File.DavFile.writes credentials
+    λ credentials rules k s follows folds macos alone path fields body r t run.
+    carried_right g.S.GuardedFileSystem.view g.S.GuardedFileSystem.listings g.S.File.DavFile.writes credentials
     true
-    (λ asked x own. moves_right (the_view g.S.GuardedFileSystem g.S.Disk.Disk g.S.File.DavFile) (the_listings g.S.GuardedFileSystem g.S.Entry.DavDirEntry) g.S.File.DavFile.writes credentials asked x)
-    rules s follows folds macos alone (record { method = Move; path = path; fields = fields; body = body }) r t run
+    (λ asked x own. moves_right g.S.GuardedFileSystem.view g.S.GuardedFileSystem.listings g.S.File.DavFile.writes credentials asked x)
+    rules k s follows folds macos alone (record { method = Move; path = path; fields = fields; body = body }) r t run

@@ -1,5 +1,5 @@
-use Rattle.dav_methods.proofs.KeptOpen.{open_after}
+use Rattle.dav_store.proofs.Staying.{stays_after}
 use Rattle.dav_methods.proofs.carrying.arrive.Goals as goal
 
-pub returns-else-not-asked-clause-keeps : goal.returns-else-not-asked-clause-keeps
-returns-else-not-asked-clause-keeps g c = open_after _ _ _ c.symlink_metadata.ensures.keeps c.replace.ensures.keeps
+pub returns-else-not-asked-clause-stays : goal.returns-else-not-asked-clause-stays
+returns-else-not-asked-clause-stays g c = stays_after _ _ _ _ c.symlink_metadata.ensures.stays c.replace.ensures.stays

@@ -1,12 +1,12 @@
-use Rattle.std.specs.Prelude.{false, true}
-use Rattle.dav_store.specs.View.{the_listings, the_view}
+use Rattle.std.proofs.Common.{false, true, refl}
+use Rattle.dav_core.specs.declared.method.DavMethod.TheVariants.{Copy, Move}
 use Rattle.dav_methods.proofs.CopiesListed.{carry_listed}
 use Rattle.dav_methods.proofs.copy_laws.copies_are_listed.Goals as goal
 
 pub returns-clause-copy : goal.returns-clause-copy
 returns-clause-copy g ctx c few prefix path fields s t r run =
-    (carry_listed (the_view g.S.GuardedFileSystem g.S.Disk.Disk g.S.File.DavFile) (the_listings g.S.GuardedFileSystem g.S.Entry.DavDirEntry) g.S.File.DavFile.writes c few false prefix path fields s r t run).answers
+    (carry_listed Copy g.S.GuardedFileSystem.view g.S.GuardedFileSystem.listings g.S.File.DavFile.writes c few refl refl refl refl refl false prefix path fields s r t run).answers
 
 pub returns-clause-moved : goal.returns-clause-moved
 returns-clause-moved g ctx c few prefix path fields s t r run =
-    (carry_listed (the_view g.S.GuardedFileSystem g.S.Disk.Disk g.S.File.DavFile) (the_listings g.S.GuardedFileSystem g.S.Entry.DavDirEntry) g.S.File.DavFile.writes c few true prefix path fields s r t run).answers
+    (carry_listed Move g.S.GuardedFileSystem.view g.S.GuardedFileSystem.listings g.S.File.DavFile.writes c few refl refl refl refl refl true prefix path fields s r t run).answers

@@ -1,25 +1,23 @@
 use Rattle.std.proofs.Common.{Ok, Err, [], refl, ap, ◌∙◌, arith}
-use Rattle.dav_store.specs.View.{the_listings, the_view}
+use Rattle.dav_store.proofs.Staying.{stays_same, stays_then}
 use Rattle.dav_methods.specs.Walking.{transfers_at, works_at}
 use Rattle.dav_methods.specs.Weights.{weight}
-use Rattle.dav_methods.proofs.KeptOpen.{open_same, open_then}
 use Rattle.dav_methods.proofs.WalkCopies.{none_pending, pending_goes, pending_stops}
 use Rattle.dav_methods.proofs.copying.copy_pending.Goals as goal
 
 pub works-init : goal.works-init
-works-init g c = record { copies = λ r t h. h; keeps = open_same _; admits = c.requires.admits; loan = refl }
+works-init g c = record { copies = λ r t h. h; stays = stays_same _ _; admits = c.requires.admits }
 
 pub works-preserved : goal.works-preserved
 works-preserved g c =
     let before = c.works.invariant in
     record {
       copies = λ r t h. before.copies r t
-          (pending_goes (the_view g.S.GuardedFileSystem g.S.Disk.Disk g.S.File.DavFile) (the_listings g.S.GuardedFileSystem g.S.Entry.DavDirEntry) c.args.credentials.now c.args.alone c.works.ends c.copy_one.new.ends
+          (pending_goes g.S.GuardedFileSystem.view g.S.GuardedFileSystem.listings c.args.credentials.now c.args.alone c.works.ends c.copy_one.new.ends
           c.works.works.items c.pop_front.new.self.items c.copy_one.new.works.items c.in-Some.work c.works.fs c.copy_one.new.fs t r c.in-Some.ensures.items
           c.in-Ok.ensures.copies h);
-      keeps = open_then _ _ _ before.keeps c.copy_one.ensures.keeps;
-      admits = c.copy_one.ensures.admits;
-      loan = c.copy_one.ensures.loan ∙ before.loan;
+      stays = stays_then _ _ _ _ before.stays c.copy_one.ensures.stays;
+      admits = c.copy_one.ensures.stays.admits before.admits;
     }
 
 pub works-smaller : goal.works-smaller
@@ -28,14 +26,14 @@ works-smaller g c = omega (arith, c.in-Ok.ensures.lighter refl, ap (λ ws. weigh
 pub returns-in-Err-clause-copies : goal.returns-in-Err-clause-copies
 returns-in-Err-clause-copies g c =
     c.works.invariant.copies (Err c.in-Err.error) c.copy_one.new.fs
-    (pending_stops (the_view g.S.GuardedFileSystem g.S.Disk.Disk g.S.File.DavFile) (the_listings g.S.GuardedFileSystem g.S.Entry.DavDirEntry) c.args.credentials.now c.args.alone c.works.ends c.works.works.items
+    (pending_stops g.S.GuardedFileSystem.view g.S.GuardedFileSystem.listings c.args.credentials.now c.args.alone c.works.ends c.works.works.items
     c.pop_front.new.self.items c.in-Some.work (transfers_at c.copy_one.new.ends c.copy_one.new.works.items) c.works.fs c.copy_one.new.fs c.in-Err.error c.in-Some.ensures.items c.in-Err.ensures.copies)
 
-pub returns-in-Err-clause-keeps : goal.returns-in-Err-clause-keeps
-returns-in-Err-clause-keeps g c = open_then _ _ _ c.works.invariant.keeps c.copy_one.ensures.keeps
+pub returns-in-Err-clause-stays : goal.returns-in-Err-clause-stays
+returns-in-Err-clause-stays g c = stays_then _ _ _ _ c.works.invariant.stays c.copy_one.ensures.stays
 
 pub returns-in-None-clause-copies : goal.returns-in-None-clause-copies
 returns-in-None-clause-copies g c =
     c.works.invariant.copies (Ok tt) c.works.fs
-    (none_pending (the_view g.S.GuardedFileSystem g.S.Disk.Disk g.S.File.DavFile) (the_listings g.S.GuardedFileSystem g.S.Entry.DavDirEntry) c.args.credentials.now c.args.alone c.works.ends
+    (none_pending g.S.GuardedFileSystem.view g.S.GuardedFileSystem.listings c.args.credentials.now c.args.alone c.works.ends
     c.works.works.items c.works.fs (omega (arith, c.in-None.ensures.cases.0, c.works.works.ok.0)))

@@ -1,6 +1,5 @@
 use Rattle.std.proofs.Common.{◌≡◌, []}
-use Rattle.dav_store.specs.Frames.{KeepsOpen}
-use Rattle.dav_store.specs.View.{the_listings, the_view}
+use Rattle.dav_store.specs.View.{StaysOpen}
 use Rattle.dav_methods.specs.Copying.{Copies}
 use Rattle.dav_methods.specs.Lines.{Line}
 use Rattle.dav_methods.specs.Walking.{transfers_at, works_at}
@@ -11,13 +10,12 @@ use Rattle.dav_methods.proofs.copying.copy_pending.Given as goal
 abbrev pub invariant-works : goal.invariant-works
 invariant-works g l = record {
   copies : (r : Line) (t : g.row.S.Denot)
-      → Copies (the_view g.S.GuardedFileSystem g.S.Disk.Disk g.S.File.DavFile) (the_listings g.S.GuardedFileSystem g.S.Entry.DavDirEntry) l.credentials l.alone
+      → Copies g.S.GuardedFileSystem.view g.S.GuardedFileSystem.listings l.credentials l.alone
       (transfers_at l.ends l.works.items) l.fs r t
-      → Copies (the_view g.S.GuardedFileSystem g.S.Disk.Disk g.S.File.DavFile) (the_listings g.S.GuardedFileSystem g.S.Entry.DavDirEntry) l.credentials l.alone
+      → Copies g.S.GuardedFileSystem.view g.S.GuardedFileSystem.listings l.credentials l.alone
       (transfers_at l.initial.ends l.initial.works.items) l.initial.fs r t;
-  keeps : KeepsOpen (g.S.Disk.Disk.state (g.S.GuardedFileSystem.inside l.initial.fs)) (g.S.Disk.Disk.state (g.S.GuardedFileSystem.inside l.fs));
-  admits : g.S.GuardedFileSystem.admits l.fs;
-  loan : g.S.Disk.Disk.loan (g.S.GuardedFileSystem.inside l.fs) ≡ g.S.Disk.Disk.loan (g.S.GuardedFileSystem.inside l.initial.fs);
+  stays : StaysOpen g.S.GuardedFileSystem.view l.initial.fs l.fs;
+  admits : g.S.GuardedFileSystem.view.admits l.fs;
 }
 
 abbrev pub decreases-works : goal.decreases-works

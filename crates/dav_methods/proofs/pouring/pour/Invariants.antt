@@ -1,14 +1,13 @@
 use Rattle.std.proofs.Common.{◌≡◌, ◌-◌}
-use Rattle.dav_store.specs.View.{the_view}
 use Rattle.dav_methods.specs.Pouring.{most_bytes}
 use Rattle.dav_methods.proofs.PiecesWritten.{SoFar}
 use Rattle.dav_methods.proofs.pouring.pour.Given as goal
 
 abbrev pub invariant-pieces : goal.invariant-pieces
 invariant-pieces g l = record {
-  far : SoFar (the_view g.S.GuardedFileSystem g.S.Disk.Disk g.S.File.DavFile) g.S.File.DavFile.writes l.initial.fs l.initial.file (g.B.BodyReader.state l.initial.body) l.total
+  far : SoFar g.S.GuardedFileSystem.view g.S.File.DavFile.writes l.initial.fs l.initial.file (g.B.BodyReader.state l.initial.body) l.total
       l.fs l.file (g.B.BodyReader.state l.body);
-  admits : g.S.GuardedFileSystem.admits l.initial.fs → g.S.GuardedFileSystem.admits l.fs;
+  admits : g.S.GuardedFileSystem.view.admits l.initial.fs → g.S.GuardedFileSystem.view.admits l.fs;
   body_loan : g.B.BodyReader.loan l.body ≡ g.B.BodyReader.loan l.initial.body;
 }
 

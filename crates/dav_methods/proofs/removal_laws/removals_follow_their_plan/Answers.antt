@@ -1,9 +1,8 @@
-use Rattle.dav_store.specs.View.{the_listings, the_view}
 use Rattle.dav_methods.proofs.DeleteRight.{deletes_right}
 use Rattle.dav_methods.proofs.removal_laws.removals_follow_their_plan.Goals as goal
 
 pub returns : goal.returns
 returns g c =
-    λ credentials rules s follows folds macos alone path fields body r t deletes.
-    deletes_right (the_view g.S.GuardedFileSystem g.S.Disk.Disk g.S.File.DavFile) (the_listings g.S.GuardedFileSystem g.S.Entry.DavDirEntry) g.S.File.DavFile.writes
-    credentials rules path fields body s follows folds macos alone r t deletes
+    λ credentials rules k s follows alone path fields body r t deletes.
+    deletes_right g.S.GuardedFileSystem.view g.S.GuardedFileSystem.listings g.S.File.DavFile.writes
+    credentials rules path fields body s k follows alone r t deletes

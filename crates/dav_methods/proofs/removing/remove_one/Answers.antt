@@ -1,5 +1,4 @@
 use Rattle.std.proofs.Common.{◌∷◌, subst, sym}
-use Rattle.dav_store.specs.View.{the_listings, the_view}
 use Rattle.dav_methods.specs.declared.pending.Pending.{Pending}
 use Rattle.dav_methods.specs.Walking.{RemovesOn, works_at}
 use Rattle.dav_methods.proofs.WalkRemoves.{dir_done}
@@ -7,8 +6,8 @@ use Rattle.dav_methods.proofs.removing.remove_one.Goals as goal
 
 pub returns-in-Up-clause-removes : goal.returns-in-Up-clause-removes
 returns-in-Up-clause-removes g c = λ last.
-    subst (λ (work : Pending). RemovesOn (the_view g.S.GuardedFileSystem g.S.Disk.Disk g.S.File.DavFile) (the_listings g.S.GuardedFileSystem g.S.Entry.DavDirEntry) c.args.credentials.now
+    subst (λ (work : Pending). RemovesOn g.S.GuardedFileSystem.view g.S.GuardedFileSystem.listings c.args.credentials.now
     (works_at c.args.path.now (work ∷ c.args.works.now.items) last) c.args.fs.now c.line_of-gone.result c.remove_dir.new.self
     (works_at c.pop_segment.new.self c.args.works.now.items last)) (sym c.in-Up.is)
-    (dir_done (the_view g.S.GuardedFileSystem g.S.Disk.Disk g.S.File.DavFile) (the_listings g.S.GuardedFileSystem g.S.Entry.DavDirEntry) c.args.credentials.now c.args.path.now c.pop_segment.new.self c.args.works.now.items last c.args.fs.now c.remove_dir.new.self
+    (dir_done g.S.GuardedFileSystem.view g.S.GuardedFileSystem.listings c.args.credentials.now c.args.path.now c.pop_segment.new.self c.args.works.now.items last c.args.fs.now c.remove_dir.new.self
     c.line_of-gone.result c.pop_segment.ensures (c.remove_dir.result, c.remove_dir.ensures.done, c.line_of-gone.ensures))

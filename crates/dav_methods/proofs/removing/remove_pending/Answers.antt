@@ -1,26 +1,24 @@
 use Rattle.std.proofs.Common.{Err, [], refl, ap, ◌∙◌, arith}
-use Rattle.dav_store.specs.View.{the_listings, the_view}
+use Rattle.dav_store.proofs.Staying.{stays_same, stays_then}
 use Rattle.dav_methods.specs.Walking.{works_at}
 use Rattle.dav_methods.specs.Weights.{weight}
-use Rattle.dav_methods.proofs.KeptOpen.{open_same, open_then}
 use Rattle.dav_methods.proofs.WalkRemoves.{none_pending, pending_goes, pending_stops}
 use Rattle.dav_methods.proofs.removing.remove_pending.Goals as goal
 
 pub works-init : goal.works-init
-works-init g c = record { removes = λ last r t h. h; slash = c.requires.slash; keeps = open_same _; admits = c.requires.admits; loan = refl }
+works-init g c = record { removes = λ last r t h. h; slash = c.requires.slash; stays = stays_same _ _; admits = c.requires.admits }
 
 pub works-preserved : goal.works-preserved
 works-preserved g c =
     let before = c.works.invariant in
     record {
       removes = λ last r t h. before.removes last r t
-          (pending_goes (the_view g.S.GuardedFileSystem g.S.Disk.Disk g.S.File.DavFile) (the_listings g.S.GuardedFileSystem g.S.Entry.DavDirEntry) c.args.credentials.now c.works.path c.remove_one.new.path
+          (pending_goes g.S.GuardedFileSystem.view g.S.GuardedFileSystem.listings c.args.credentials.now c.works.path c.remove_one.new.path
           c.works.works.items c.pop_front.new.self.items c.remove_one.new.works.items c.in-Some.work last c.works.fs c.remove_one.new.fs t r c.in-Some.ensures.items
           (c.in-Ok.ensures.removes last) h);
       slash = c.in-Ok.ensures.slash refl;
-      keeps = open_then _ _ _ before.keeps c.remove_one.ensures.keeps;
-      admits = c.remove_one.ensures.admits;
-      loan = c.remove_one.ensures.loan ∙ before.loan;
+      stays = stays_then _ _ _ _ before.stays c.remove_one.ensures.stays;
+      admits = c.remove_one.ensures.stays.admits before.admits;
     }
 
 pub works-smaller : goal.works-smaller
@@ -29,14 +27,14 @@ works-smaller g c = omega (arith, c.in-Ok.ensures.lighter refl, ap (λ ws. weigh
 pub returns-in-Err-clause-removes : goal.returns-in-Err-clause-removes
 returns-in-Err-clause-removes g c = λ last.
     c.works.invariant.removes last (Err c.in-Err.error) c.remove_one.new.fs
-    (pending_stops (the_view g.S.GuardedFileSystem g.S.Disk.Disk g.S.File.DavFile) (the_listings g.S.GuardedFileSystem g.S.Entry.DavDirEntry) c.args.credentials.now c.works.path c.works.works.items
+    (pending_stops g.S.GuardedFileSystem.view g.S.GuardedFileSystem.listings c.args.credentials.now c.works.path c.works.works.items
     c.pop_front.new.self.items c.in-Some.work last (works_at c.remove_one.new.path c.remove_one.new.works.items last) c.works.fs c.remove_one.new.fs c.in-Err.error c.in-Some.ensures.items (c.in-Err.ensures.removes last))
 
-pub returns-in-Err-clause-keeps : goal.returns-in-Err-clause-keeps
-returns-in-Err-clause-keeps g c = open_then _ _ _ c.works.invariant.keeps c.remove_one.ensures.keeps
+pub returns-in-Err-clause-stays : goal.returns-in-Err-clause-stays
+returns-in-Err-clause-stays g c = stays_then _ _ _ _ c.works.invariant.stays c.remove_one.ensures.stays
 
 pub returns-in-None-clause-removes : goal.returns-in-None-clause-removes
 returns-in-None-clause-removes g c = λ last r t h.
     c.works.invariant.removes last r t
-    (none_pending (the_view g.S.GuardedFileSystem g.S.Disk.Disk g.S.File.DavFile) (the_listings g.S.GuardedFileSystem g.S.Entry.DavDirEntry) c.args.credentials.now c.works.path
+    (none_pending g.S.GuardedFileSystem.view g.S.GuardedFileSystem.listings c.args.credentials.now c.works.path
     c.works.works.items last c.works.fs t r (omega (arith, c.in-None.ensures.cases.0, c.works.works.ok.0)) h)

@@ -1,6 +1,5 @@
 use Rattle.std.proofs.Common.{◌≡◌, List, [], true}
-use Rattle.dav_store.specs.Frames.{KeepsOpen}
-use Rattle.dav_store.specs.View.{the_listings, the_view}
+use Rattle.dav_store.specs.View.{StaysOpen}
 use Rattle.dav_methods.specs.declared.work.Work.{Work}
 use Rattle.dav_methods.specs.Lines.{Line}
 use Rattle.dav_methods.specs.Removing.{Removes}
@@ -12,14 +11,13 @@ use Rattle.dav_methods.proofs.removing.remove_pending.Given as goal
 abbrev pub invariant-works : goal.invariant-works
 invariant-works g l = record {
   removes : (last : List Work) (r : Line) (t : g.row.S.Denot)
-      → Removes (the_view g.S.GuardedFileSystem g.S.Disk.Disk g.S.File.DavFile) (the_listings g.S.GuardedFileSystem g.S.Entry.DavDirEntry) l.credentials
+      → Removes g.S.GuardedFileSystem.view g.S.GuardedFileSystem.listings l.credentials
       (works_at l.path l.works.items last) l.fs r t
-      → Removes (the_view g.S.GuardedFileSystem g.S.Disk.Disk g.S.File.DavFile) (the_listings g.S.GuardedFileSystem g.S.Entry.DavDirEntry) l.credentials
+      → Removes g.S.GuardedFileSystem.view g.S.GuardedFileSystem.listings l.credentials
       (works_at l.initial.path l.initial.works.items last) l.initial.fs r t;
   slash : l.path.slash ≡ true;
-  keeps : KeepsOpen (g.S.Disk.Disk.state (g.S.GuardedFileSystem.inside l.initial.fs)) (g.S.Disk.Disk.state (g.S.GuardedFileSystem.inside l.fs));
-  admits : g.S.GuardedFileSystem.admits l.fs;
-  loan : g.S.Disk.Disk.loan (g.S.GuardedFileSystem.inside l.fs) ≡ g.S.Disk.Disk.loan (g.S.GuardedFileSystem.inside l.initial.fs);
+  stays : StaysOpen g.S.GuardedFileSystem.view l.initial.fs l.fs;
+  admits : g.S.GuardedFileSystem.view.admits l.fs;
 }
 
 abbrev pub decreases-works : goal.decreases-works

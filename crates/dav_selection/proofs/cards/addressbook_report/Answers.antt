@@ -4,7 +4,5 @@ pub returns-in-Ok-AddressBookMultiget : goal.returns-in-Ok-AddressBookMultiget
 returns-in-Ok-AddressBookMultiget g c = rw (c.in-Ok-AddressBookMultiget.ensures, c.in-Ok-AddressBookMultiget.field-0-is) (record {
   table = c.follow.ensures.table;
   shown = λ stock shows. c.follow.ensures.shown stock shows;
-  keeps = c.follow.ensures.keeps;
-  admits = c.follow.ensures.admits c.requires.admits;
-  loan = c.follow.ensures.loan;
+  stays = c.follow.ensures.stays;
 })

@@ -1,7 +1,6 @@
 use Rattle.std.proofs.Common.{◌≡◌, ◌++◌, [], refl, inl, ◌∙◌}
 use Rattle.std.proofs.lemmas.List.{take_all}
-use Rattle.dav_core.proofs.UnchangedLemmas.{keeps_same, keeps_then}
-use Rattle.dav_store.specs.View.{the_listings, the_view}
+use Rattle.dav_store.proofs.Staying.{reads_same, reads_then}
 use Rattle.dav_selection.specs.Answered.{unless}
 use Rattle.dav_selection.specs.Reports.{began}
 use Rattle.dav_selection.specs.Taken.{taken}
@@ -13,9 +12,7 @@ use Rattle.dav_selection.proofs.following.follow.Goals as goal
 pub loop-href-init : goal.loop-href-init
 loop-href-init g c = record {
   links = ([], began, refl, c.new-records.ensures.items, c.new-missing.ensures.items);
-  keeps = keeps_same _;
-  admits = λ a. a;
-  loan = refl;
+  stays = reads_same _ _;
 }
 
 pub loop-href-preserved : goal.loop-href-preserved
@@ -23,19 +20,17 @@ loop-href-preserved g c =
     let before = c.loop-href.invariant in
     let noted = ok_then c.note.result (c.note.new.missing.items ≡ c.loop-href.missing.items ++ unless c.in-Ok.given c.href-item.result) c.if-is_err.ensures.value c.note.ensures in
     record {
-      links = links_more (the_view g.S.GuardedFileSystem g.S.Disk.Disk g.S.File.DavFile) c.args.credentials.now (taken c.args.wanted) c.args.prefix.now c.as_slice-href-items.result.now c.args.fs.now c.loop-href.fs
+      links = links_more g.S.GuardedFileSystem.view c.args.credentials.now (taken c.args.wanted) c.args.prefix.now c.as_slice-href-items.result.now c.args.fs.now c.loop-href.fs
           c.follow_link.new.fs c.loop-href.href-index c.href-item.result c.href-item.result c.in-Ok.given c.loop-href.records.items c.follow_link.new.records.items c.loop-href.missing.items
           c.note.new.missing.items before.links c.in-Ok.ensures.table c.loop-href-test.true c.href-item.is noted;
-      keeps = keeps_then _ _ _ before.keeps c.in-Ok.ensures.keeps;
-      admits = λ a. c.in-Ok.ensures.admits (before.admits a);
-      loan = c.in-Ok.ensures.loan ∙ before.loan;
+      stays = reads_then _ _ _ _ before.stays c.in-Ok.ensures.stays;
     }
 
-pub returns-in-Err-clause-keeps : goal.returns-in-Err-clause-keeps
-returns-in-Err-clause-keeps g c = keeps_then _ _ _ c.loop-href.invariant.keeps c.in-Err.ensures.keeps
+pub returns-in-Err-clause-stays : goal.returns-in-Err-clause-stays
+returns-in-Err-clause-stays g c = reads_then _ _ _ _ c.loop-href.invariant.stays c.in-Err.ensures.stays
 
-pub returns-then-is_err-clause-keeps : goal.returns-then-is_err-clause-keeps
-returns-then-is_err-clause-keeps g c = keeps_then _ _ _ c.loop-href.invariant.keeps c.in-Ok.ensures.keeps
+pub returns-then-is_err-clause-stays : goal.returns-then-is_err-clause-stays
+returns-then-is_err-clause-stays g c = reads_then _ _ _ _ c.loop-href.invariant.stays c.in-Ok.ensures.stays
 
 pub returns-clause-table : goal.returns-clause-table
 returns-clause-table g c =
@@ -49,5 +44,5 @@ returns-clause-table g c =
     })
 
 pub returns-clause-shown : goal.returns-clause-shown
-returns-clause-shown g c = λ stock shows. followed_or (the_view g.S.GuardedFileSystem g.S.Disk.Disk g.S.File.DavFile) (the_listings g.S.GuardedFileSystem g.S.Entry.DavDirEntry)
+returns-clause-shown g c = λ stock shows. followed_or g.S.GuardedFileSystem.view g.S.GuardedFileSystem.listings
     c.args.fs.now c.args.credentials.now stock (links_asked c.args.prefix.now c.args.hrefs.now c.args.wanted) c.loop-href.fs _ (returns-clause-table g c) shows

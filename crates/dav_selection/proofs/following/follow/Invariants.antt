@@ -1,6 +1,5 @@
 use Rattle.std.proofs.Common.{◌≡◌, List, map, take}
-use Rattle.dav_core.specs.Unchanged.{Keeps}
-use Rattle.dav_store.specs.View.{the_view}
+use Rattle.dav_store.specs.View.{Stays}
 use Rattle.dav_selection.specs.Answered.{Link, linked, missing}
 use Rattle.dav_selection.specs.Reports.{Followed}
 use Rattle.dav_selection.specs.Taken.{taken}
@@ -8,9 +7,7 @@ use Rattle.dav_selection.proofs.following.follow.Given as goal
 
 abbrev pub invariant-loop-href : goal.invariant-loop-href
 invariant-loop-href g l = record {
-  links : (links : List Link) × Followed (the_view g.S.GuardedFileSystem g.S.Disk.Disk g.S.File.DavFile) l.credentials l.prefix l.initial.fs links l.fs
+  links : (links : List Link) × Followed g.S.GuardedFileSystem.view l.credentials l.prefix l.initial.fs links l.fs
       × (map (λ (k : Link). k.href) links ≡ take l.href-index l.href-items) × (l.records.items ≡ linked (taken l.wanted) links) × (l.missing.items ≡ missing (taken l.wanted) links);
-  keeps : Keeps (g.S.Disk.Disk.state (g.S.GuardedFileSystem.inside l.initial.fs)) (g.S.Disk.Disk.state (g.S.GuardedFileSystem.inside l.fs));
-  admits : g.S.GuardedFileSystem.admits l.initial.fs → g.S.GuardedFileSystem.admits l.fs;
-  loan : g.S.Disk.Disk.loan (g.S.GuardedFileSystem.inside l.fs) ≡ g.S.Disk.Disk.loan (g.S.GuardedFileSystem.inside l.initial.fs);
+  stays : Stays g.S.GuardedFileSystem.view l.initial.fs l.fs;
 }

@@ -1,16 +1,15 @@
 use Rattle.std.proofs.Common.{◌≡◌, ◌+◌, ◌<◌, length, vec_len, Some}
 use Rattle.dav_store.specs.Standing.{Seen}
-use Rattle.dav_store.specs.View.{the_view}
 use Rattle.dav_selection.specs.Pieces.{ReadSoFar, Touches}
 use Rattle.dav_selection.proofs.reading.read_to.Given as goal
 
 abbrev pub invariant-pieces : goal.invariant-pieces
 invariant-pieces g l = record {
-  touches : Touches (the_view g.S.GuardedFileSystem g.S.Disk.Disk g.S.File.DavFile) l.initial.fs l.initial.file l.fs l.file;
+  touches : Touches g.S.GuardedFileSystem.view l.initial.fs l.initial.file l.fs l.file;
   room : 0 < vec_len l.buffer;
   count : length l.bytes.items + l.left ≡ l.len;
-  told : (f : Seen) → g.S.File.DavFile.seen l.initial.file (g.S.Disk.Disk.state (g.S.GuardedFileSystem.inside l.initial.fs)) ≡ Some f
-      → ReadSoFar (the_view g.S.GuardedFileSystem g.S.Disk.Disk g.S.File.DavFile) f l.bytes.items l.fs l.file;
+  told : (f : Seen) → g.S.GuardedFileSystem.view.seen l.initial.file (g.S.GuardedFileSystem.view.state l.initial.fs) ≡ Some f
+      → ReadSoFar g.S.GuardedFileSystem.view f l.bytes.items l.fs l.file;
 }
 
 abbrev pub decreases-pieces : goal.decreases-pieces

@@ -1,6 +1,5 @@
 use Rattle.std.proofs.Common.{◌≡◌, List, length}
-use Rattle.dav_core.specs.Unchanged.{Keeps}
-use Rattle.dav_store.specs.View.{the_view}
+use Rattle.dav_store.specs.View.{Stays}
 use Rattle.dav_selection.specs.Answered.{Answer, records}
 use Rattle.dav_selection.specs.Reports.{Walks}
 use Rattle.dav_selection.specs.Taken.{taken}
@@ -9,9 +8,7 @@ use Rattle.dav_selection.proofs.walking.walk.Given as goal
 
 abbrev pub invariant-loop-member : goal.invariant-loop-member
 invariant-loop-member g l = record {
-  walk : (answers : List Answer) × Walks (the_view g.S.GuardedFileSystem g.S.Disk.Disk g.S.File.DavFile) l.credentials (sought l.dir l.limit l.wanted) l.members l.initial.fs answers l.fs
+  walk : (answers : List Answer) × Walks g.S.GuardedFileSystem.view l.credentials (sought l.dir l.limit l.wanted) l.members l.initial.fs answers l.fs
       × (length answers ≡ l.member-index) × (l.records.items ≡ records (taken l.wanted) answers);
-  keeps : Keeps (g.S.Disk.Disk.state (g.S.GuardedFileSystem.inside l.initial.fs)) (g.S.Disk.Disk.state (g.S.GuardedFileSystem.inside l.fs));
-  admits : g.S.GuardedFileSystem.admits l.fs;
-  loan : g.S.Disk.Disk.loan (g.S.GuardedFileSystem.inside l.fs) ≡ g.S.Disk.Disk.loan (g.S.GuardedFileSystem.inside l.initial.fs);
+  stays : Stays g.S.GuardedFileSystem.view l.initial.fs l.fs;
 }

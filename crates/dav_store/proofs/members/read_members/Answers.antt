@@ -1,8 +1,7 @@
-use Rattle.std.proofs.Common.{Err, subst, arith}
+use Rattle.std.proofs.Common.{Err, subst, ◌∙◌, arith}
 use Rattle.dav_store.specs.Leads.{listed, none, unlisted}
 use Rattle.dav_store.specs.Listings.{EndsList}
 use Rattle.dav_store.specs.Shows.{here}
-use Rattle.dav_store.specs.View.{the_listings, the_view}
 use Rattle.dav_store.proofs.Reading.{refuses_there, shown_by}
 use Rattle.dav_store.proofs.Walking.{walk_leaves}
 use Rattle.dav_store.proofs.members.read_members.Goals as goal
@@ -12,20 +11,24 @@ returns-in-Err-clause-shown g c = λ found shows. refuses_there {L = g.row.S-Dir
     (shows.begins c.args.fs.now c.read_dir.new.self (Err c.in-Err.error) here c.in-Err.ensures.done)
 
 pub returns-clause-shown : goal.returns-clause-shown
-returns-clause-shown g c = λ found shows. shown_by (the_view g.S.GuardedFileSystem g.S.Disk.Disk g.S.File.DavFile) (the_listings g.S.GuardedFileSystem g.S.Entry.DavDirEntry)
+returns-clause-shown g c = λ found shows. shown_by g.S.GuardedFileSystem.view g.S.GuardedFileSystem.listings
     (λ members. members.items) found c.args.fs.now c.read_dir.new.self c.read_on-members.new.fs c.end_dir.new.self c.args.credentials.now c.args.path.now c.in-Ok.dir
     c.read_on-members.new.dir c.read_on-members.result c.in-Ok.ensures.done c.read_on-members.ensures.walks c.read_on-members.ensures.error c.end_dir.ensures.done
-    c.in-Ok.ensures.one.keeps.counts (omega (arith, c.end_dir.ensures.ends.counts)) shows
+    c.in-Ok.ensures.stays.keeps.keeps.counts (omega (arith, c.end_dir.ensures.stays.keeps.counts)) shows
 
-pub returns-clause-keeps : goal.returns-clause-keeps
-returns-clause-keeps g c =
-    let ended = subst (λ own. EndsList (g.S.Disk.Disk.state (g.S.GuardedFileSystem.inside c.read_on-members.new.fs)) own
-    (g.S.Disk.Disk.state (g.S.GuardedFileSystem.inside c.end_dir.new.self)))
-    c.read_on-members.ensures.lister c.end_dir.ensures.ends in
-    walk_leaves (g.S.GuardedFileSystem.lister c.in-Ok.dir) _ _ _ _ c.in-Ok.ensures.one c.read_on-members.ensures.keeps ended
+pub returns-clause-stays : goal.returns-clause-stays
+returns-clause-stays g c =
+    let ended = subst (λ own. EndsList (g.S.GuardedFileSystem.view.state c.read_on-members.new.fs) own
+    (g.S.GuardedFileSystem.view.state c.end_dir.new.self))
+    c.read_on-members.ensures.lister c.end_dir.ensures.stays.keeps in
+    record {
+      keeps = walk_leaves (g.S.GuardedFileSystem.listings.lister c.in-Ok.dir) _ _ _ _ c.in-Ok.ensures.stays.keeps c.read_on-members.ensures.keeps ended;
+      admits = λ a. c.end_dir.ensures.stays.admits c.read_on-members.ensures.admits;
+      loan = c.end_dir.ensures.stays.loan ∙ (c.read_on-members.ensures.loan ∙ c.in-Ok.ensures.stays.loan);
+    }
 
 pub returns-in-Err-clause-leads : goal.returns-in-Err-clause-leads
-returns-in-Err-clause-leads g c = unlisted _ _ _ _ none c.in-Err.ensures.done c.in-Err.ensures.one.world
+returns-in-Err-clause-leads g c = unlisted _ _ _ _ none c.in-Err.ensures.done c.in-Err.ensures.stays.keeps.world
 
 pub returns-clause-leads : goal.returns-clause-leads
 returns-clause-leads g c =
@@ -37,4 +40,4 @@ returns-clause-leads g c =
       over = c.read_on-members.new.dir;
       on = c.read_on-members.ensures.on;
       ended = c.end_dir.ensures.done;
-    }) (returns-clause-keeps g c).world
+    }) (returns-clause-stays g c).keeps.world

@@ -3,7 +3,7 @@ use Rattle.dav_store.specs.Leads.{begun as just_begun, goes_on, says}
 use Rattle.dav_store.specs.Members.{begun, goes}
 use Rattle.dav_store.proofs.Leading.{on_then}
 use Rattle.dav_store.proofs.Reading.{lister_kept, step_keeps, told_then}
-use Rattle.dav_store.proofs.Walking.{walk_all, walk_same}
+use Rattle.dav_store.proofs.Walking.{walk_on, walk_all, walk_same}
 use Rattle.dav_store.proofs.members.read_on.Goals as goal
 
 pub entries-init : goal.entries-init
@@ -24,30 +24,30 @@ entries-preserved g c =
     let added = c.in-Ok.ensures in
     let answers = before.walk.0 in
     let r = added.told.0 in
-    let name = g.S.Entry.DavDirEntry.called c.in-Ok-Some.entry in
+    let name = g.S.GuardedFileSystem.listings.called c.in-Ok-Some.entry in
     record {
-      live = lister_kept (g.S.GuardedFileSystem.lister c.entries.dir) (g.S.GuardedFileSystem.lister c.next_entry.new.dir) (g.S.Disk.Disk.state (g.S.GuardedFileSystem.inside c.next_entry.new.self))
-          (g.S.Disk.Disk.state (g.S.GuardedFileSystem.inside c.add_member.new.fs)) c.next_entry.ensures.lister added.keeps.listers c.next_entry.ensures.goes_on.live;
-      admits = added.admits;
+      live = lister_kept (g.S.GuardedFileSystem.listings.lister c.entries.dir) (g.S.GuardedFileSystem.listings.lister c.next_entry.new.dir) (g.S.GuardedFileSystem.view.state c.next_entry.new.self)
+          (g.S.GuardedFileSystem.view.state c.add_member.new.fs) c.next_entry.ensures.lister added.stays.keeps.listers c.next_entry.ensures.stays.keeps.live;
+      admits = added.stays.admits (c.next_entry.ensures.stays.admits before.admits);
       lister = c.next_entry.ensures.lister ∙ before.lister;
-      keeps = step_keeps _ _ _ _ _ _ before.lister before.keeps c.next_entry.ensures.goes_on.keeps added.keeps;
-      loan = added.loan ∙ (c.next_entry.ensures.loan ∙ before.loan);
+      keeps = step_keeps _ _ _ _ _ _ before.lister before.keeps c.next_entry.ensures.stays.keeps.keeps added.stays.keeps;
+      loan = added.stays.loan ∙ (c.next_entry.ensures.stays.loan ∙ before.loan);
       walk = (
         answers ++ record { name = name; meta = r } ∷ [],
         goes answers c.entries.fs c.next_entry.new.self c.add_member.new.fs c.entries.dir c.next_entry.new.dir c.in-Ok-Some.entry r before.walk.1
-            (rw c.in-Ok-Some.field-0-is at c.in-Ok-Some.ensures.done) added.told.1 added.store added.keeps,
+            (rw c.in-Ok-Some.field-0-is at c.in-Ok-Some.ensures.done) added.told.1 added.store added.stays.keeps,
         told_then answers name r c.entries.members.items c.add_member.new.members.items added.told.2 before.walk.2,
       );
       plain = added.plain before.plain;
-      on = says _ _ _ _ _ _ _ before.on (rw c.in-Ok-Some.field-0-is at c.in-Ok-Some.ensures.done) added.told.1 added.store added.keeps;
+      on = says _ _ _ _ _ _ _ before.on (rw c.in-Ok-Some.field-0-is at c.in-Ok-Some.ensures.done) added.told.1 added.store added.stays.keeps;
     }
 
 pub returns-in_default-clause-keeps : goal.returns-in_default-clause-keeps
 returns-in_default-clause-keeps g c =
-    step_keeps _ _ _ _ _ _ c.entries.invariant.lister c.entries.invariant.keeps c.next_entry.ensures.goes_on.keeps c.add_member.ensures.keeps
+    step_keeps _ _ _ _ _ _ c.entries.invariant.lister c.entries.invariant.keeps c.next_entry.ensures.stays.keeps.keeps c.add_member.ensures.stays.keeps
 
 pub returns-in_default-clause-on : goal.returns-in_default-clause-on
-returns-in_default-clause-on g c = says _ _ _ _ _ _ _ c.entries.invariant.on (rw c.in-Ok-Some.field-0-is at c.in-Ok-Some.ensures.done) c.add_member.ensures.told.1 c.add_member.ensures.store c.add_member.ensures.keeps
+returns-in_default-clause-on g c = says _ _ _ _ _ _ _ c.entries.invariant.on (rw c.in-Ok-Some.field-0-is at c.in-Ok-Some.ensures.done) c.add_member.ensures.told.1 c.add_member.ensures.store c.add_member.ensures.stays.keeps
 
 pub returns-in-Ok-None-clause-on : goal.returns-in-Ok-None-clause-on
 returns-in-Ok-None-clause-on g c = goes_on _ _ _ _ _ c.entries.invariant.on c.next_entry.ensures.done
@@ -71,13 +71,13 @@ returns-in-Ok-run_out-clause-walks g c =
       runs_out = c.in-Ok-run_out.ensures.ends;
       told = before.walk.2;
       from = before.keeps.counts;
-      on = c.next_entry.ensures.goes_on.keeps.counts;
+      on = c.next_entry.ensures.stays.keeps.keeps.counts;
       out = c.run_out.ensures.keeps.counts;
     }
 
 pub returns-in-Ok-run_out-clause-keeps : goal.returns-in-Ok-run_out-clause-keeps
 returns-in-Ok-run_out-clause-keeps g c =
-    walk_all _ _ _ _ _ _ _ c.entries.invariant.lister c.next_entry.ensures.lister c.entries.invariant.keeps c.next_entry.ensures.goes_on.keeps c.run_out.ensures.keeps
+    walk_all _ _ _ _ _ _ _ c.entries.invariant.lister c.next_entry.ensures.lister c.entries.invariant.keeps c.next_entry.ensures.stays.keeps.keeps c.run_out.ensures.keeps
 
 pub returns-in-Ok-run_out-clause-on : goal.returns-in-Ok-run_out-clause-on
 returns-in-Ok-run_out-clause-on g c =
@@ -85,8 +85,14 @@ returns-in-Ok-run_out-clause-on g c =
 
 pub returns-in-Err-run_out-clause-keeps : goal.returns-in-Err-run_out-clause-keeps
 returns-in-Err-run_out-clause-keeps g c =
-    walk_all _ _ _ _ _ _ _ c.entries.invariant.lister c.next_entry.ensures.lister c.entries.invariant.keeps c.next_entry.ensures.goes_on.keeps c.run_out.ensures.keeps
+    walk_all _ _ _ _ _ _ _ c.entries.invariant.lister c.next_entry.ensures.lister c.entries.invariant.keeps c.next_entry.ensures.stays.keeps.keeps c.run_out.ensures.keeps
 
 pub returns-in-Err-run_out-clause-on : goal.returns-in-Err-run_out-clause-on
 returns-in-Err-run_out-clause-on g c =
     on_then _ _ _ _ _ _ (goes_on _ _ _ _ _ c.entries.invariant.on c.next_entry.ensures.done) _ _ c.run_out.ensures.on
+
+pub returns-in-Ok-None-clause-keeps : goal.returns-in-Ok-None-clause-keeps
+returns-in-Ok-None-clause-keeps g c = walk_on _ _ _ _ _ c.entries.invariant.lister c.entries.invariant.keeps c.next_entry.ensures.stays.keeps.keeps
+
+pub returns-in-Err-NoMemory-clause-keeps : goal.returns-in-Err-NoMemory-clause-keeps
+returns-in-Err-NoMemory-clause-keeps g c = walk_on _ _ _ _ _ c.entries.invariant.lister c.entries.invariant.keeps c.next_entry.ensures.stays.keeps.keeps

@@ -1,4 +1,4 @@
-use Rattle.std.proofs.Common.{◌≡◌, false, rules, arith}
+use Rattle.std.proofs.Common.{◌≡◌, ◌∙◌, false, rules, arith}
 use Rattle.dav_core.specs.Writing.{reading}
 use Rattle.dav_local.specs.Calls.{is_shut}
 use Rattle.dav_local.specs.Ways.{is_known}
@@ -14,5 +14,9 @@ returns-then-not-is_known-clause-done g c =
     let how : c.args.options ≡ reading = first_of (search rules, grind arith, cc) in
     (open_asked _ _ _ c.names.result.now c.args.options _ (λ w told. g.met.D.Disk.world c.args.self.now.disk w told) open_ how known c.names.ensures.value c.open_alike.ensures.done, c.open_alike.ensures.stays)
 
-pub returns-clause-one : goal.returns-clause-one
-returns-clause-one g c = opens_after (λ f. f.handle.0) seen_by c.args.options _ _ _ _ c.in_ok-found.ensures.done.keeps c.open_at.ensures.one
+pub returns-clause-stays : goal.returns-clause-stays
+returns-clause-stays g c = record {
+  keeps = opens_after (λ f. f.handle.0) seen_by c.args.options _ _ _ _ c.in_ok-found.ensures.done.keeps c.open_at.ensures.one;
+  admits = λ a. a;
+  loan = c.open_at.ensures.loan ∙ c.in_ok-found.ensures.loan;
+}

@@ -1,5 +1,10 @@
+use Rattle.std.proofs.Common.{◌∙◌}
 use Rattle.dav_local.proofs.Framing.{open_after}
 use Rattle.dav_local.proofs.store.LocalFsDavFileSystem.rename.Goals as goal
 
-pub returns-clause-keeps : goal.returns-clause-keeps
-returns-clause-keeps g c = open_after _ _ _ c.in_ok-first.ensures.done.keeps (open_after _ _ _ c.in_ok-second.ensures.done.keeps c.move_at.ensures.keeps)
+pub returns-clause-stays : goal.returns-clause-stays
+returns-clause-stays g c = record {
+  keeps = open_after _ _ _ c.in_ok-first.ensures.done.keeps (open_after _ _ _ c.in_ok-second.ensures.done.keeps c.move_at.ensures.keeps);
+  admits = λ a. a;
+  loan = c.move_at.ensures.loan ∙ (c.in_ok-second.ensures.loan ∙ c.in_ok-first.ensures.loan);
+}

@@ -1,6 +1,6 @@
 use Rattle.std.proofs.Common.{◌≡◌, Some, None}
 use Rattle.dav_report.specs.Calendars.{component_filters}
-use Rattle.dav_report.proofs.Components.{outer_read, outer_faulty}
+use Rattle.dav_report.proofs.FilterByFilter.{outer_read, outer_faulty}
 use Rattle.dav_report.proofs.calendar_parts.ComponentFilterOuter.read_all.Goals as goal
 
 pub returns-in-Some : goal.returns-in-Some

@@ -1,0 +1,81 @@
+"""The wanted rows of `selection_rows`: calendar and address book requests to a local store. Only requests are
+answered."""
+from calls import FS_TEXTS
+from disk import SECOND, Disk
+from model import FsError, path_of
+from report_rows import root
+from reports import Bad, FreeBusy, selected
+from store import Store
+from texts import number, print_wanted, unescaped, word
+
+SIGNS = {"\n": "\\n", "\r": "\\r", "\t": "\\t", " ": "\\_", "\\": "\\\\"}
+
+
+def names_of(text):
+    return path_of(text).names
+
+
+def change(disk, words):
+    """The disk that a row leaves."""
+    kind = words[0]
+    if kind == "new":
+        return Disk()
+    if kind == "dir":
+        disk.add(names_of(words[1]), number(words[2]), SECOND)
+    elif kind in ("file", "raw", "long"):
+        text = unescaped(word(words, 3))
+        if kind == "long":
+            text = unescaped(word(words, 4)) * number(words[3]) + unescaped(word(words, 5))
+        data = bytes(ord(c) for c in text if ord(c) < 256) if kind == "raw" else text.encode()
+        disk.add(names_of(words[1]), number(words[2]), SECOND, data)
+    elif kind == "fail":
+        disk.fails.add(disk.asked + number(words[1]))
+    elif kind == "short":
+        disk.shorts = [number(w) for w in words[1:]]
+    elif kind in ("cut", "rename", "remove"):
+        third = {"cut": number, "rename": names_of}.get(kind, lambda _: None)(word(words, 2) or "/")
+        disk.scripts.append([(kind, names_of(words[1]), third)])
+        disk.turn()
+    return disk
+
+
+def told(store, words):
+    prefix = "" if words[2] == "-" else words[2]
+    records, missing = selected(store, root(words[3:]), path_of(words[1], prefix), prefix, words[0] == "cards")
+    line = "selected"
+    for record in records:
+        text = "".join(SIGNS.get(c, c) for c in record.text)
+        line += f" {record.path.with_prefix()} {record.tag} {text}"
+    return line + "".join(" missing " + link for link in missing)
+
+
+def answer(disk, words):
+    before = disk.asked
+    try:
+        line = told(Store(disk), words)
+    except FsError as error:
+        line = FS_TEXTS[error.name]
+    except Bad:
+        line = "the request is no report"
+    except FreeBusy:
+        line = "free-busy times are not told"
+    return f"{line} ({disk.asked - before})"
+
+
+def is_answered(row):
+    return row.split(" ")[0] in ("calendar", "cards")
+
+
+def wanted_all(rows):
+    disk, lines = Disk(), []
+    for row in rows:
+        words = row.split(" ")
+        if is_answered(row):
+            lines.append(answer(disk, words))
+        else:
+            disk = change(disk, words)
+    return lines
+
+
+if __name__ == "__main__":
+    print_wanted(wanted_all)

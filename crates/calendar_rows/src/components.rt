@@ -1,0 +1,74 @@
+//! Components in words: `b|NAME` begins one, `p|NAME|VALUE` is a property of it, and `/` ends it. Texts are written as
+//! words write them.
+use dav_calendar::{Component, Components};
+use dav_io::{NoMemory, Text};
+use dav_rows::Line;
+use std::alloc::Global;
+
+fn tell_char(line: &mut Line, c: char) {
+    match c {
+        '\n' => line.add("\\n"),
+        '\r' => line.add("\\r"),
+        '\t' => line.add("\\t"),
+        ' ' => line.add("\\_"),
+        '\\' => line.add("\\\\"),
+        _ => line.add_value(&c),
+    }
+}
+
+fn tell_text(line: &mut Line, mark: &str, text: &Text) {
+    line.add(mark);
+    for c in text.as_str().chars() {
+        tell_char(line, c);
+    }
+}
+
+fn tell_begin(line: &mut Line, component: &Component) {
+    tell_text(line, " b|", &component.name);
+    for property in component.properties.as_slice() {
+        tell_text(line, " p|", &property.name);
+        tell_text(line, "|", &property.value);
+    }
+}
+
+/// Adds components, with those in them.
+pub fn tell_all(alloc: Global, line: &mut Line, found: &Components) -> Result<(), NoMemory> {
+    line.add("tree");
+    let mut waiting = Vec::new(alloc);
+    waiting.push(found.as_slice())?;
+    for _ in 0..u64::MAX {
+        let (first, others) = match waiting.pop() {
+            Some([first, others @ ..]) => (first, others),
+            Some([]) => {
+                if !waiting.is_empty() {
+                    line.add(" /");
+                }
+                continue;
+            }
+            None => break,
+        };
+        waiting.push(others)?;
+        tell_begin(line, first);
+        waiting.push(first.children.as_slice())?;
+    }
+    Ok(())
+}
+
+/// Adds how many components there are, with those in others.
+pub fn count_all(alloc: Global, line: &mut Line, found: &Components) -> Result<(), NoMemory> {
+    let mut count: u64 = 0;
+    let mut waiting = Vec::new(alloc);
+    waiting.push(found.as_slice())?;
+    for _ in 0..u64::MAX {
+        let (first, others) = match waiting.pop() {
+            Some([first, others @ ..]) => (first, others),
+            Some([]) => continue,
+            None => break,
+        };
+        count = count.saturating_add(1);
+        waiting.push(others)?;
+        waiting.push(first.children.as_slice())?;
+    }
+    line.add_number("", count);
+    Ok(())
+}

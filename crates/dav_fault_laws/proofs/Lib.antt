@@ -1,0 +1,4 @@
+pub mod WholeRuns
+pub mod Dates
+pub mod Places
+pub mod RowsLeft

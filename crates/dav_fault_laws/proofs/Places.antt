@@ -1,0 +1,154 @@
+-- Members of a directory have places of their own.
+use Rattle.std.proofs.Common.{◌≡◌, ◌==◌, ◌+◌, ◌-◌, ◌&&◌, ℕ, zero, suc, Bool, true, false, not, cond, List, [], ◌∷◌, ◌++◌, length, map, take, Option, None, Some, refl, sym, ap, ◌∙◌, arith, length-append}
+use Rattle.std.specs.List.{AllByRecursion, filter, list_all, slice_get}
+use Rattle.std.proofs.Math.Seq.{get_or-append_seam}
+use Rattle.std.proofs.lemmas.List.{append_cancel_right}
+use Rattle.std.proofs.lemmas.Option.{slice_get-get_or}
+use Rattle.std.specs.Str.{bytes_eq}
+use Rattle.std.proofs.lemmas.Bool.{and_parts}
+use Rattle.std.proofs.lemmas.Bool.Decides.{nat_tests}
+use Rattle.std.proofs.lemmas.Slice.Eq.{bytes_eq-Decides}
+use Rattle.dav_core.specs.declared.member.Member.{Member}
+use Rattle.dav_core.specs.declared.tree.Row.{Row}
+use Rattle.dav_core.specs.DavPath.{final_slash, last_name}
+use Rattle.dav_core.specs.Listing.{name_of, or_empty, stands_in}
+use Rattle.dav_core.specs.Members.{member_of, members}
+use Rattle.dav_core.specs.Path.{Names, is_front, same_names}
+use Rattle.dav_core.specs.Tree.{has_dir, is_apart, is_dir, is_free, is_placed}
+use Rattle.dav_core.specs.World.{IsWorld, World}
+use Rattle.dav_disk.proofs.Trees.{false_or, not_both, not_true, same_refl, same_yes}
+use Rattle.dav_page.specs.Listed.{place_of}
+
+-- ---- paths of rows in a directory
+
+nothing : (path : Names) → length path ≡ 0 → path ≡ []
+nothing [] e = refl
+nothing (x ∷ path) e = absurd (omega arith)
+
+last_at : (path : Names) (n : ℕ) → length path ≡ n + 1 → (x : List ℕ) × (path ≡ take n path ++ x ∷ [])
+last_at [] n e = absurd (omega arith)
+last_at (x ∷ path) zero e = let none : length path ≡ 0 = omega arith in (x, ap (λ names. x ∷ names) (nothing path none))
+last_at (x ∷ path) (suc n) e = let rest = last_at path n (omega arith) in (rest.0, ap (λ names. x ∷ names) rest.1)
+
+-- the last name of what is pushed
+last_pushed : (dir : Names) (name : List ℕ) → or_empty (last_name (dir ++ name ∷ [])) ≡ name
+last_pushed dir name =
+    let long : length (dir ++ name ∷ []) ≡ length dir + 1 = length-append dir (name ∷ []) in
+    let place : length (dir ++ name ∷ []) - 1 ≡ length dir = omega (arith, long) in
+    ap or_empty (ap (slice_get (dir ++ name ∷ [])) place ∙ (slice_get-get_or (dir ++ name ∷ []) (length dir) name (omega (arith, long)) ∙ ap (λ x. Some x) (get_or-append_seam dir name [] name)))
+
+-- a path in a directory, by the name behind it
+path_by : (dir : Names) (x : List ℕ) (row : Row) → row.path ≡ take (length dir) row.path ++ x ∷ [] → dir ≡ take (length dir) row.path → row.path ≡ dir ++ name_of row ∷ []
+path_by dir x row is front =
+    let path : row.path ≡ dir ++ x ∷ [] = is ∙ ap (λ z. z ++ x ∷ []) (sym front) in
+    path ∙ ap (λ z. dir ++ z ∷ []) (sym (ap (λ z. or_empty (last_name z)) path ∙ last_pushed dir x))
+
+path_in : (dir : Names) (row : Row) → stands_in dir row ≡ true → row.path ≡ dir ++ name_of row ∷ []
+path_in dir row stands =
+    let p = and_parts (length row.path == length dir + 1) (is_front dir row.path) stands in
+    let long : length row.path ≡ length dir + 1 = grind (arith, nat_tests, p.0) in
+    let last = last_at row.path (length dir) long in
+    path_by dir last.0 row last.1 (same_yes dir (take (length dir) row.path) p.1)
+
+-- ---- places
+
+-- a name with a slash behind it or not, by a kind, is told by the name
+same_shown : (a b : List ℕ) (slash : Bool) → a ++ final_slash slash ≡ b ++ final_slash slash → a ≡ b
+same_shown a b slash e = append_cancel_right a b (final_slash slash) e
+
+abbrev first : List ℕ → ℕ
+first [] = 0
+first (b ∷ text) = b
+
+abbrev behind : List ℕ → List ℕ
+behind [] = []
+behind (b ∷ text) = text
+
+same_place : (m n : Member) → place_of m ≡ place_of n → m.name ≡ n.name
+same_place m n e = by_kinds (is_dir m.kind) (is_dir n.kind) (ap first e) (ap behind e)
+  where
+    by_kinds : (a b : Bool) → ◌≡◌ {A = ℕ} (cond a 0 1) (cond b 0 1) → m.name ++ final_slash a ≡ n.name ++ final_slash b → m.name ≡ n.name
+    by_kinds true true one rest = same_shown m.name n.name true rest
+    by_kinds true false one rest = absurd (omega (arith, one))
+    by_kinds false true one rest = absurd (omega (arith, one))
+    by_kinds false false one rest = same_shown m.name n.name false rest
+
+abbrev pub alike : Member → Member → Bool
+alike m n = bytes_eq (place_of m) (place_of n)
+
+pub alike_itself : (m : Member) → alike m m ≡ true
+alike_itself m = (bytes_eq-Decides (place_of m) (place_of m)).1 refl
+
+-- No place stands twice.
+abbrev pub Apart : List Member → Type 0
+Apart [] = Unit {0}
+Apart (m ∷ ms) = AllByRecursion (λ n. alike n m ≡ false) ms × Apart ms
+
+rows_apart : (w : World) (dir : Names) (r : Row) (rows : List Row) → is_free rows r ≡ true → stands_in dir r ≡ true
+    → AllByRecursion (λ n. alike n (member_of w r) ≡ false) (map (member_of w) (filter (stands_in dir) rows))
+rows_apart w dir r [] free stands = tt
+rows_apart w dir r (s ∷ rows) free stands = by_row (stands_in dir s) refl (rows_apart w dir r rows parts.1 stands)
+  where
+    parts : ((not (same_names s.path r.path) && not (s.number == r.number)) ≡ true) × (is_free rows r ≡ true)
+    parts = and_parts (not (same_names s.path r.path) && not (s.number == r.number)) (is_free rows r) free
+
+    other : same_names s.path r.path ≡ false
+    other = not_true (same_names s.path r.path) (and_parts (not (same_names s.path r.path)) (not (s.number == r.number)) parts.0).0
+
+    apart : stands_in dir s ≡ true → alike (member_of w s) (member_of w r) ≡ false
+    apart there = false_or (alike (member_of w s) (member_of w r)) (λ e.
+        let name : name_of s ≡ name_of r = same_place (member_of w s) (member_of w r) ((bytes_eq-Decides (place_of (member_of w s)) (place_of (member_of w r))).0 e) in
+        let path : s.path ≡ r.path = path_in dir s there ∙ (ap (λ z. dir ++ z ∷ []) name ∙ sym (path_in dir r stands)) in
+        not_both (same_names s.path r.path) (same_refl s.path r.path path) other)
+
+    by_row : (b : Bool) → stands_in dir s ≡ b → AllByRecursion (λ n. alike n (member_of w r) ≡ false) (map (member_of w) (filter (stands_in dir) rows))
+        → AllByRecursion (λ n. alike n (member_of w r) ≡ false) (map (member_of w) (cond b (s ∷ filter (stands_in dir) rows) (filter (stands_in dir) rows)))
+    by_row true e later = (apart e, later)
+    by_row false e later = later
+
+apart_in : (w : World) (dir : Names) (rows : List Row) → is_apart rows ≡ true → Apart (map (member_of w) (filter (stands_in dir) rows))
+apart_in w dir [] e = tt
+apart_in w dir (r ∷ rows) e = by_row (stands_in dir r) refl (apart_in w dir rows parts.1)
+  where
+    parts : (is_free rows r ≡ true) × (is_apart rows ≡ true)
+    parts = and_parts (is_free rows r) (is_apart rows) e
+
+    by_row : (b : Bool) → stands_in dir r ≡ b → Apart (map (member_of w) (filter (stands_in dir) rows))
+        → Apart (map (member_of w) (cond b (r ∷ filter (stands_in dir) rows) (filter (stands_in dir) rows)))
+    by_row true e later = (rows_apart w dir r rows parts.0 e, later)
+    by_row false e later = later
+
+pub members_apart : (w : World) (dir : Names) → IsWorld w → Apart (members w dir)
+members_apart w dir is =
+    let t = and_parts (has_dir w.tree []) (list_all (is_placed w.tree) w.tree && is_apart w.tree) is.tree in
+    apart_in w dir w.tree (and_parts (list_all (is_placed w.tree) w.tree) (is_apart w.tree) t.1).1
+
+-- ---- a member by its place
+
+-- the member that has a place
+abbrev pub found : List Member → List ℕ → Option Member
+found [] k = None
+found (m ∷ ms) k = cond (bytes_eq k (place_of m)) (Some m) (found ms k)
+
+abbrev pub IsFound : List Member → Member → Type 0
+IsFound all m = found all (place_of m) ≡ Some m
+
+found_later : (m : Member) (ms xs : List Member) → AllByRecursion (λ n. alike n m ≡ false) xs → AllByRecursion (IsFound ms) xs → AllByRecursion (IsFound (m ∷ ms)) xs
+found_later m ms [] others all = tt
+found_later m ms (x ∷ xs) others all = (ap (λ b. cond b (Some m) (found ms (place_of x))) others.0 ∙ all.0, found_later m ms xs others.1 all.1)
+
+pub all_found : (ms : List Member) → Apart ms → AllByRecursion (IsFound ms) ms
+all_found [] apart = tt
+all_found (m ∷ ms) apart =
+    (ap (λ b. cond b (Some m) (found ms (place_of m))) (alike_itself m), found_later m ms ms apart.0 (all_found ms apart.1))
+
+abbrev member_or : Option Member → Member → Member
+member_or None d = d
+member_or (Some m) d = m
+
+-- members that are found by one place are one
+pub one_found : (all : List Member) (m n : Member) → IsFound all m → IsFound all n → alike m n ≡ true → m ≡ n
+one_found all m n p q e =
+    let place : place_of m ≡ place_of n = (bytes_eq-Decides (place_of m) (place_of n)).0 e in
+    let both : Some m ≡ Some n = sym p ∙ (ap (found all) place ∙ q) in
+    ap (λ o. member_or o m) both

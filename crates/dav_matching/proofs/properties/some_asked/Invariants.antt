@@ -1,0 +1,7 @@
+use Rattle.std.proofs.Common.{◌≡◌, drop}
+use Rattle.std.specs.List.{list_any}
+use Rattle.dav_matching.specs.Properties.{is_asked}
+use Rattle.dav_matching.proofs.properties.some_asked.Given as goal
+
+abbrev pub invariant-loop-property : goal.invariant-loop-property
+invariant-loop-property l = list_any (is_asked l.filter) l.fn.properties ≡ list_any (is_asked l.filter) (drop l.property-index l.properties)

@@ -1,0 +1,4 @@
+pub mod Texts
+pub mod Cards
+pub mod Properties
+pub mod Calendars

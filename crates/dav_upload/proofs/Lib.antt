@@ -1,0 +1,12 @@
+pub mod Moving
+pub mod Hiding
+pub mod Making
+pub mod PieceHeld
+pub mod Tokens
+pub mod Beside
+pub mod Kept
+pub mod Stands
+pub mod Ends
+pub mod Closing
+pub mod MembersTaken
+pub mod Chains

@@ -1,0 +1,9 @@
+pub mod Names
+pub mod Shown
+pub mod Pieces
+pub mod Kept
+pub mod Standing
+pub mod Ends
+pub mod Uploading
+pub mod Takes
+pub mod Steps

@@ -1,0 +1,33 @@
+-- An upload that stands in a world.
+use Rattle.std.specs.Prelude.{◌≡◌, ◌≢◌, ℕ, List, length, Bool, true, false, Option, Some, IsSome}
+use Rattle.dav_core.specs.declared.tree.Row.{Row}
+use Rattle.dav_core.specs.declared.tree.Kind.TheVariants.{File}
+use Rattle.dav_core.specs.Disk.{Live}
+use Rattle.dav_core.specs.Path.{Names}
+use Rattle.dav_core.specs.Tree.{row_at}
+use Rattle.dav_core.specs.World.{OpenFile, World, bytes_of}
+use Rattle.dav_upload.specs.Names.{is_hidden_path}
+use Rattle.dav_upload.specs.Pieces.{upload_options}
+use Rattle.dav_upload.specs.Shown.{IsUnseen}
+
+-- At the hidden path stands a file, which the handle has open and no other live one. No row that is shown is that file.
+-- Where the upload isn't broken, the file has the pieces in order, and the place is behind them.
+pub record StandsIn (live : ℕ → Option Live) (w : World) (hidden : Names) (h : ℕ) (broken : Bool) (pieces : List ℕ)
+    : Type 0 where
+  pub lives : IsSome (live h)
+  pub how : (l : Live) → live h ≡ Some l → l.how ≡ upload_options
+  pub held : OpenFile
+  pub opens : w.opens h ≡ Some held
+  pub row : Row
+  pub at : row_at w.tree hidden ≡ Some row
+  pub kind : row.kind ≡ File
+  pub number : row.number ≡ held.number
+  pub hides : is_hidden_path hidden ≡ true
+  pub unseen : IsUnseen w held.number
+  pub apart : (k : ℕ) (l : Live) (o : OpenFile) → live k ≡ Some l → w.opens k ≡ Some o → o.number ≡ held.number → k ≡ h
+  pub whole : broken ≡ false → (bytes_of w held.number ≡ pieces) × (held.place ≡ length pieces)
+
+-- Each other handle is live as it was, and has open what it had.
+pub record OthersOpen (own : ℕ) (live then : ℕ → Option Live) (v w : World) : Type 0 where
+  pub lives : (k : ℕ) → k ≢ own → then k ≡ live k
+  pub opens : (k : ℕ) (l : Live) → k ≢ own → live k ≡ Some l → w.opens k ≡ v.opens k

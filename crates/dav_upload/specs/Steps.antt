@@ -1,0 +1,40 @@
+-- What the steps of an upload make of a told world.
+use Rattle.std.specs.Prelude.{◌≡◌, ◌≢◌, ◌⊎◌, ◌++◌, ℕ, List, [], Bool, true, false, Option, Result, Ok, Err}
+use Rattle.dav_core.specs.Disk.{Live}
+use Rattle.dav_core.specs.Path.{Names, parent_of}
+use Rattle.dav_core.specs.Tree.{is_linked}
+use Rattle.dav_core.specs.World.{World}
+use Rattle.dav_model.specs.declared.outcome.Outcome.{Outcome}
+use Rattle.dav_upload.specs.declared.error.UploadError.{UploadError}
+use Rattle.dav_upload.specs.declared.upload.Upload.{Upload}
+use Rattle.dav_upload.specs.Names.{is_hidden_path}
+use Rattle.dav_upload.specs.Shown.{IsCommitted, SameShown}
+use Rattle.dav_upload.specs.Standing.{StandsIn}
+
+-- The target of an upload is no hidden name, and its hidden path stands beside it.
+pub record IsBeside (target hidden : Names) : Type 0 where
+  pub shows : is_hidden_path target ≡ false
+  pub beside : parent_of hidden ≡ parent_of target
+  pub named : target ≢ []
+
+-- no link stands on the way to the two paths
+pub record IsClear (w : World) (target hidden : Names) : Type 0 where
+  pub to_target : is_linked w.tree target ≡ false
+  pub to_hidden : is_linked w.tree hidden ≡ false
+
+-- What is shown stays where an upload begins. At Ok it stands, with no piece yet.
+abbrev pub Began : {F : Type 0} → (F → ℕ) → (ℕ → Option Live) → Result (Upload F) UploadError → World → World → Type 0
+Began handle live (Ok u) v w = SameShown v w
+    × StandsIn live w u.hidden.names (handle u.file) u.broken []
+Began handle live (Err e) v w = SameShown v w
+
+-- What is shown stays where a commit was refused, or the target is a file of all pieces. At Ok it is the latter.
+abbrev pub Committed : Names → Bool → List ℕ → Result Outcome UploadError → World → World → Type 0
+Committed target broken pieces (Ok outcome) v w = (broken ≡ false) × IsCommitted v target pieces w
+Committed target true pieces (Err e) v w = SameShown v w
+Committed target false pieces (Err e) v w = SameShown v w ⊎ IsCommitted v target pieces w
+
+-- A piece leaves what is shown, and its upload stands: with the piece behind the others, or broken.
+abbrev pub Pieced : {F : Type 0} → (F → ℕ) → (ℕ → Option Live) → Upload F → List ℕ → List ℕ → World → World → Type 0
+Pieced handle live u pieces bytes v w = SameShown v w
+    × StandsIn live w u.hidden.names (handle u.file) u.broken (pieces ++ bytes)

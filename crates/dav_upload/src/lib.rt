@@ -1,0 +1,17 @@
+//! Uploads: whole or not at all.
+#![tactic(auto)]
+
+mod error;
+mod laws;
+mod names;
+mod sweeping;
+mod upload;
+
+pub use error::UploadError;
+pub use laws::{
+    edits_keep_bytes, hidden_edits_are_unseen, moves_commit, pieces_are_held, pieces_stand_behind,
+    removals_are_unseen, tokens_are_hidden, uploads_are_whole, uploads_stand_on,
+};
+pub use names::{is_hidden, is_taken};
+pub use sweeping::sweep;
+pub use upload::{Upload, abort, begin, commit, piece};
