@@ -136,8 +136,8 @@ impl Cache {
         *self.entries.allocator()
     }
 
-    // The folded path and the path that its entry tells.
-    fn place_of(&self, path: &FsPath) -> Result<Option<(FoldedPath, FsPath)>, NoMemory>
+    /// The folded path and the path that its entry tells. The order stays.
+    pub fn place_of(&self, path: &FsPath) -> Result<Option<(FoldedPath, FsPath)>, NoMemory>
         ensures value { IfOk result (λ found. found ≡ option_map (λ e. (fold_path path.now, e.path))
             (lookup (same_path (fold_path path.now)) self.now.entries)) }
         ensures folds { IfOk result (λ found. IfSome found (λ f. fold_path f.1 ≡ fold_path path.now)) }
@@ -185,7 +185,7 @@ impl Cache {
     }
 
     /// Brings the key's entry to the front.
-    pub(crate) fn promote(&mut self, key: &FoldedPath)
+    pub fn promote(&mut self, key: &FoldedPath)
         ensures { self.new ≡ record self.old
             { entries = entries.promoted key.now (lookup (same_path key.now) self.old.entries) self.old.entries } }
     {
@@ -194,7 +194,7 @@ impl Cache {
     }
 
     /// Takes the key's entry out.
-    pub(crate) fn remove(&mut self, key: &FoldedPath)
+    pub fn remove(&mut self, key: &FoldedPath)
         ensures { self.new ≡ record self.old { entries = entries.without (same_path key.now) self.old.entries } }
     {
         no_key_stands_twice(&self.entries);

@@ -196,7 +196,7 @@ impl DuCache {
     }
 
     /// Tells a proof what each cache keeps of its entries. It is known where a field is read.
-    pub(crate) fn are_counted(&self)
+    pub fn are_counted(&self)
         ensures { dots.AreCounted self.now.next self.now.entries }
     {
         let _next = self.next;

@@ -21,7 +21,7 @@ pub use cache::{Cache, PathEntry};
 pub use du_cache::{DuCache, Sealed};
 pub use event::{Event, Told};
 pub use folding::{FoldedPath, fold, fold_text};
-pub use key::{DuEntry, DuKey};
+pub use key::{DuEntry, DuKey, dir_key, name_key};
 pub use owned::Owned;
 pub use place::{Listing, Names, Place};
 pub use remember::{Forget, Remember, RememberAny};

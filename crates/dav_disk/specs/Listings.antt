@@ -5,14 +5,14 @@ use Rattle.std.specs.Ordering.{nat_cmp}
 use Rattle.std.specs.Cmp.Lexicographic.{slice_cmp}
 use Rattle.std.specs.List.Sorted.{IsPermutation, IsSorted}
 use Rattle.std.specs.BTreeMap.{BTreeMap}
-use Rattle.std.specs.Rc.{rc_value}
+use Rattle.std.specs.Arc.{arc_value}
 use Rattle.dav_core.specs.Path.{Names}
 use Rattle.dav_core.specs.World.{put, at_key}
 use Rattle.dav_disk.specs.declared.listing.Listing.{Listing}
 
 -- the names that are still to come
 abbrev pub names_left : Listing → Names
-names_left l = drop l.given (rc_value l.names).items
+names_left l = drop l.given (arc_value l.names).items
 
 -- the names that a lister has to come
 abbrev pub listing_at : BTreeMap ℕ Listing → ℕ → Option Names

@@ -1,7 +1,7 @@
 // Rows in their order, which are found by their paths.
 ghost use Rattle.std.specs.Prelude.{◌≡◌, ◌++◌, ◌∷◌, [], map, option_map, IfOk, OnOk, OnErr, true};
 ghost use Rattle.std.specs.List.Sorted.{IsPermutation};
-ghost use Rattle.std.specs.Rc.{rc_value};
+ghost use Rattle.std.specs.Arc.{arc_value};
 ghost use Rattle.dav_core.specs.Changes.{timed_row, without};
 ghost use Rattle.dav_core.specs.Edits.{timed_number};
 ghost use Rattle.dav_core.specs.Listing.{names_in as the_names_in};
@@ -15,7 +15,7 @@ use dav_core::{FileTime, Row};
 use dav_io::{NoMemory, Text};
 use std::alloc::Global;
 use std::marker::Model;
-use std::rc::Rc;
+use std::sync::Arc;
 
 // Rows with the places at which they stand. A contract sees the rows.
 #[derive(Drop)]
@@ -130,10 +130,10 @@ impl IndexedRows {
     }
 
     // The names in a directory, in order of their bytes.
-    pub fn names_in(&mut self, alloc: Global, dir: &[Text]) -> Result<Rc<Vec<Text>>, NoMemory>
+    pub fn names_in(&mut self, alloc: Global, dir: &[Text]) -> Result<Arc<Vec<Text>>, NoMemory>
         requires { is_tree self.old ≡ true }
-        ensures each { IfOk result (λ names. IsPermutation (the_names_in self.old dir.now) (rc_value names).items) }
-        ensures sorted { IfOk result (λ names. AreSorted (rc_value names).items) }
+        ensures each { IfOk result (λ names. IsPermutation (the_names_in self.old dir.now) (arc_value names).items) }
+        ensures sorted { IfOk result (λ names. AreSorted (arc_value names).items) }
         ensures rows { self.new ≡ self.old }
     {
         Ok(self.places.names(alloc, dir)?)

@@ -1,28 +1,28 @@
 // An open listing of a disk in memory.
 ghost use Rattle.std.specs.Prelude.{◌≡◌, ◌++◌, ◌<◌, ◌^◌, [], None, Some, IfOk, IfSome, IfNone, OnErr, length, true, option_to_list};
 ghost use Rattle.std.specs.List.{AllPass};
-ghost use Rattle.std.specs.Rc.{rc_value};
+ghost use Rattle.std.specs.Arc.{arc_value};
 ghost use Rattle.dav_core.specs.Path.{is_plain};
 
 use dav_io::{NoMemory, Text};
-use std::rc::Rc;
+use std::sync::Arc;
 
 // An open listing: the names that stood in its directory when it began, which it may share with others, and how many
 // of them were given.
 #[derive(Drop)]
 pub struct Listing {
-    names: Rc<Vec<Text>>,
+    names: Arc<Vec<Text>>,
     given: usize,
-    ghost plain: { AllPass is_plain (rc_value names).items },
+    ghost plain: { AllPass is_plain (arc_value names).items },
 }
 
 impl Listing {
     ghost use Rattle.dav_disk.specs.Listings.{names_left};
 
     // These names are to come.
-    pub fn new(names: Rc<Vec<Text>>) -> Self
-        requires { AllPass is_plain (rc_value names).items }
-        ensures { names_left result ≡ (rc_value names).items }
+    pub fn new(names: Arc<Vec<Text>>) -> Self
+        requires { AllPass is_plain (arc_value names).items }
+        ensures { names_left result ≡ (arc_value names).items }
     {
         Listing { names, given: 0 }
     }

@@ -4,7 +4,7 @@ ghost use Rattle.std.specs.Option.{ForSome};
 ghost use Rattle.std.specs.BTreeMap.{keys, IsOrdered};
 ghost use Rattle.std.specs.Cmp.Lexicographic.{slice_cmp};
 ghost use Rattle.std.specs.Ordering.{nat_cmp};
-ghost use Rattle.std.specs.Rc.{rc_value};
+ghost use Rattle.std.specs.Arc.{arc_value};
 ghost use Rattle.std.proofs.Props.{props};
 ghost use Rattle.dav_disk.specs.Members.{AreNamesIn};
 
@@ -12,13 +12,13 @@ use dav_core::copied_names;
 use dav_io::{NoMemory, Text};
 use std::alloc::Global;
 use std::collections::BTreeMap;
-use std::rc::Rc;
+use std::sync::Arc;
 
 // The names in the directory that was listed last, in order of their bytes.
 #[derive(Drop)]
 struct Listed {
     dir: Vec<Text>,
-    names: Rc<Vec<Text>>,
+    names: Arc<Vec<Text>>,
 }
 
 // For each directory, the places of its members by their names. What was listed last is kept until a name gets a place,
@@ -27,7 +27,7 @@ struct Listed {
 pub struct Places {
     dirs: BTreeMap<Vec<Text>, BTreeMap<Text, usize>>,
     listed: Option<Listed>,
-    ghost last: { ForSome listed (λ l. AreNamesIn dirs l.dir.items (rc_value l.names).items) } by { Prim.hlevel props },
+    ghost last: { ForSome listed (λ l. AreNamesIn dirs l.dir.items (arc_value l.names).items) } by { Prim.hlevel props },
 }
 
 // The names of members, in order of their bytes.
@@ -117,8 +117,8 @@ impl Places {
     }
 
     // The names that have a place in a directory, in order of their bytes.
-    pub fn names(&mut self, alloc: Global, dir: &[Text]) -> Result<Rc<Vec<Text>>, NoMemory>
-        ensures names { IfOk result (λ names. AreNamesIn self.old.dirs dir.now (rc_value names).items) }
+    pub fn names(&mut self, alloc: Global, dir: &[Text]) -> Result<Arc<Vec<Text>>, NoMemory>
+        ensures names { IfOk result (λ names. AreNamesIn self.old.dirs dir.now (arc_value names).items) }
         ensures kept { self.new.dirs ≡ self.old.dirs }
     {
         if let Some(listed) = &self.listed {
@@ -126,7 +126,7 @@ impl Places {
                 return Ok(listed.names.clone()?);
             }
         }
-        let names = Rc::new(alloc, self.copied_names(alloc, dir)?)?;
+        let names = Arc::new(alloc, self.copied_names(alloc, dir)?)?;
         self.listed = Some(Listed {
             dir: copied_names(alloc, dir)?,
             names: names.clone()?,

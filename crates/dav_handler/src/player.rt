@@ -78,6 +78,13 @@ impl<D: Disk, R: RememberAny> Player<D, R> {
         self.store.disk()
     }
 
+    /// Lends the memory of the store.
+    pub fn memory(&mut self) -> &mut R
+        ensures value { result.now ≡ self.old.store.memory }
+    {
+        self.store.memory()
+    }
+
     /// How many replies it gave.
     pub fn replies(&self) -> u32
         ensures { result ≡ (playing_of self.now).replies }

@@ -49,6 +49,13 @@ impl<T: Drop> Items<T> {
         self.items.as_slice()
     }
 
+    /// The values in their order, as they were kept: whoever adds many makes room for each by the `Vec`.
+    pub fn into_vec(self) -> Vec<T>
+        ensures { result.items ≡ self }
+    {
+        self.items
+    }
+
     /// Adds a value after the others. Where memory is refused, nothing changes.
     pub fn push(&mut self, item: T) -> Result<(), NoMemory>
         ensures ok { OnOk result (self.new ≡ self.old ++ item ∷ []) }
