@@ -213,10 +213,7 @@ fn add_field(
         Err(HeaderNameError::Invalid) => unreachable!("the name was read as one"),
         Err(HeaderNameError::OutOfMemory) => return Err(NoMemory),
     };
-    let value = match HeaderValue::from_shared(value) {
-        Ok(value) => value,
-        Err(_) => unreachable!("the value was read as one"),
-    };
+    let value = HeaderValue::from_known_valid(value);
     match headers.append(name, value) {
         Ok(_) => Ok(()),
         Err(HeaderMapError::MaxSizeReached) => unreachable!("there is room"),
