@@ -23,7 +23,7 @@ slash_utf8 : is_utf8 (codes "/") ≡ true
 unfolding is_utf8 chars lib.Utf8.encode
 slash_utf8 = refl
 
-slashed_utf8 : (at name : List ℕ) → is_utf8 at ≡ true → is_utf8 name ≡ true → is_utf8 (at ++ slashed name) ≡ true
+pub slashed_utf8 : (at name : List ℕ) → is_utf8 at ≡ true → is_utf8 name ≡ true → is_utf8 (at ++ slashed name) ≡ true
 slashed_utf8 at name x y = joined_utf8 at (slashed name) x (joined_utf8 (codes "/") name slash_utf8 y)
 
 flat_more : {A : Type 0} (f : A → List ℕ) (xs : List A) (x : A) → flat_map f (xs ++ x ∷ []) ≡ flat_map f xs ++ f x
@@ -90,7 +90,7 @@ last_is front last =
     ∙ slice_get-get_or (front ++ last ∷ []) (length front) [] (omega (arith, long))
     ∙ ap Some (get_or-append_seam front last [] [])
 
-crumbs_read : (at : List ℕ) (names : Names) → is_utf8 at ≡ true → list_all is_utf8 names ≡ true
+pub crumbs_read : (at : List ℕ) (names : Names) → is_utf8 at ≡ true → list_all is_utf8 names ≡ true
     → AllZip IsCrumb (map written_crumb (crumbs_from at names)) (crumbs_from at names)
 crumbs_read at [] u all = tt
 crumbs_read at (name ∷ []) u all = tt

@@ -3,6 +3,7 @@ pub mod Found
 pub mod Free
 pub mod Hundredths
 pub mod PageOnce
+pub mod PagesRead
 mod PageRows
 pub mod Written
 pub mod Shown

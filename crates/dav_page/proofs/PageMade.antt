@@ -12,7 +12,7 @@ use Rattle.std.proofs.lemmas.List.Sorted.{All-permutation}
 use Rattle.dav_core.specs.declared.member.Member.{Member}
 use Rattle.dav_core.specs.DavPath.{WebPath, last_name, link_of, shown}
 use Rattle.dav_page.specs.declared.row.PageRow.{PageRow}
-use Rattle.dav_page.specs.Index.{HasHead, IsIndex, IsRowText}
+use Rattle.dav_page.specs.Index.{HasHead, IsIndex, IsRowText, page_of, written_row}
 use Rattle.dav_page.specs.Listed.{AreRows, AreSound, HasPlainName, IsRowOf, all_names, crumbs_from, has_plain_name, is_visible, place_of}
 use Rattle.dav_page.specs.Pages.{IsRow, PageTexts, RowTexts, after_rows, before_heading, before_rows, before_title, heading_text, row_text}
 use Rattle.dav_page.proofs.Crumbs.{joined_utf8}
@@ -21,6 +21,7 @@ use Rattle.dav_page.proofs.Crumbs.{joined_utf8}
 record AreTaken (dir : WebPath) (listed : List Member) (rows : List (List ℕ)) : Type 0 where
   pub texts : List RowTexts
   pub taken : List PageRow
+  pub written : texts ≡ map written_row taken
   pub spells : rows ≡ map row_text texts
   pub utf8 : is_utf8 (flat_map (λ t. t) rows) ≡ true
   pub reads : AllZip IsRow texts taken
@@ -31,32 +32,33 @@ unfolding is_utf8 chars
 nothing_utf8 = refl
 
 rows_taken : (dir : WebPath) (listed : List Member) (rows : List (List ℕ)) → AllZip (IsRowText dir) listed rows → AreTaken dir listed rows
-rows_taken dir [] [] h = record { texts = []; taken = []; spells = refl; utf8 = nothing_utf8; reads = tt; of = tt }
+rows_taken dir [] [] h = record { texts = []; taken = []; written = refl; spells = refl; utf8 = nothing_utf8; reads = tt; of = tt }
 rows_taken dir [] (row ∷ rows) h = elim h [ ]
 rows_taken dir (m ∷ listed) [] h = elim h [ ]
 rows_taken dir (m ∷ listed) (row ∷ rows) h = let more = rows_taken dir listed rows h.1 in record {
   texts = h.0.texts ∷ more.texts;
   taken = h.0.row ∷ more.taken;
+  written = ap₂ (λ r rs. r ∷ rs) h.0.written more.written;
   spells = ap₂ (λ r rs. r ∷ rs) h.0.spells more.spells;
   utf8 = joined_utf8 row (flat_map (λ t. t) rows) h.0.utf8 more.utf8;
   reads = (h.0.reads, more.reads);
   of = (h.0.of, more.of);
 }
 
-joined_rows : (texts : List RowTexts) → flat_map (λ t. t) (map row_text texts) ≡ flat_map row_text texts
+pub joined_rows : (texts : List RowTexts) → flat_map (λ t. t) (map row_text texts) ≡ flat_map row_text texts
 joined_rows [] = refl
 joined_rows (r ∷ texts) = ap (λ t. row_text r ++ t) (joined_rows texts)
 
-regroup : (a b c d e rest : List ℕ) → (a ++ (b ++ (c ++ (d ++ e)))) ++ rest ≡ a ++ (b ++ (c ++ (d ++ (e ++ rest))))
+pub regroup : (a b c d e rest : List ℕ) → (a ++ (b ++ (c ++ (d ++ e)))) ++ rest ≡ a ++ (b ++ (c ++ (d ++ (e ++ rest))))
 regroup a b c d e rest =
     append_assoc a (b ++ (c ++ (d ++ e))) rest
     ∙ ap (λ t. a ++ t) (append_assoc b (c ++ (d ++ e)) rest ∙ ap (λ t. b ++ t) (append_assoc c (d ++ e) rest ∙ ap (λ t. c ++ t) (append_assoc d e rest)))
 
-end_utf8 : is_utf8 after_rows ≡ true
+pub end_utf8 : is_utf8 after_rows ≡ true
 unfolding is_utf8 chars lib.Utf8.encode
 end_utf8 = refl
 
-joined : (head : List ℕ) (rows : List (List ℕ))
+pub joined : (head : List ℕ) (rows : List (List ℕ))
     → flat_map (λ t. t) (head ∷ (rows ++ after_rows ∷ [])) ≡ head ++ (flat_map (λ t. t) rows ++ after_rows)
 joined head rows =
     ap (λ t. head ++ t) (flat_map-append (λ t. t) rows (after_rows ∷ []) ∙ ap (λ t. flat_map (λ t. t) rows ++ t) (append-nil after_rows))
@@ -73,7 +75,10 @@ index_made dir all listed head rows texts h once order zip e =
     h.spells ∙ ap (λ t. before_title ++ (h.title ++ (before_heading ++ (t ++ before_rows)))) h.leads.spells in
     let whole : flat_map (λ t. t) texts ≡ head ++ (flat_map (λ t. t) rows ++ after_rows) = ap (flat_map (λ t. t)) e ∙ joined head rows in
     record {
-      page = record { title = link_of (shown dir); crumbs = crumbs_from [] (all_names dir); last = last_name (all_names dir); rows = r.taken };
+      page = page_of dir r.taken;
+      written = e ∙ ap₂ (λ a b. a ∷ (b ++ after_rows ∷ []))
+          (h.spells ∙ ap₂ (λ t w. before_title ++ (t ++ (before_heading ++ (w ++ before_rows)))) h.titled h.headed)
+          (r.spells ∙ ap (map row_text) r.written);
       reads = record {
         utf8 =
             ap is_utf8 whole
@@ -115,4 +120,4 @@ plain_listed all listed h once =
 -- Its rows are those of some members with plain names, whatever they are.
 pub index_sound : (dir : WebPath) (all : List Member) (texts : List (List ℕ)) → AllByRecursion HasPlainName all
     → IsIndex dir (AreRows dir all) texts → IsIndex dir (AreSound dir) texts
-index_sound dir all texts plain i = record { page = i.page; reads = i.reads; pieces = i.pieces; of = i.of; rows = (all, plain, i.rows) }
+index_sound dir all texts plain i = record { page = i.page; written = i.written; reads = i.reads; pieces = i.pieces; of = i.of; rows = (all, plain, i.rows) }

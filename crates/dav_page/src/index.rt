@@ -1,7 +1,7 @@
 ghost use Rattle.std.specs.Prelude.{◌≡◌, ◌++◌, IfOk, true};
 ghost use Rattle.std.specs.List.{list_all};
 ghost use Rattle.dav_core.specs.DavPath.{link_of as the_link_of, shown};
-ghost use Rattle.dav_page.specs.Index.{HasHead, IsIndex};
+ghost use Rattle.dav_page.specs.Index.{HasHead, IsIndex, name_text};
 ghost use Rattle.dav_page.specs.Listed.{AreRows, AreSound, has_plain_name};
 ghost use Rattle.dav_page.specs.Pages.{IsTitle, after_rows};
 
@@ -16,7 +16,8 @@ use std::alloc::Global;
 
 // The title of a directory's page.
 fn title_text(alloc: Global, dir: &DavPath) -> Result<Text, NoMemory>
-    ensures { IfOk result (λ text. IsTitle text (the_link_of (shown dir.now))) }
+    ensures text { IfOk result (λ text. text ≡ name_text (the_link_of (shown dir.now))) }
+    ensures reads { IfOk result (λ text. IsTitle text (the_link_of (shown dir.now))) }
 {
     let link = dir.as_url_string()?;
     Ok(Text::new(encode_minimal(alloc, link.as_str())?))
@@ -57,7 +58,8 @@ pub fn has_plain_names(members: &[Member]) -> bool
 }
 
 /// The index page of a directory with these members, in pieces: its head, one text a row, and its end. Joined they
-/// are the page, and its rows lead to nothing outside the directory.
+/// are the page, and its rows lead to nothing outside the directory. Each byte is settled: a link is what
+/// `as_url_string` gives of a path, and a name or the title what `encode_minimal` makes of it.
 ///
 /// Members whose names begin with a dot aren't shown. Directories come first; within a kind the lesser name does, by
 /// its bytes, where a directory's name has a slash behind it. A time before 1970 or after 9999 is shown as unknown.

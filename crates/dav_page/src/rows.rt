@@ -1,12 +1,13 @@
 // The rows of a page.
 ghost use Rattle.std.specs.Prelude.{◌≡◌, ◌++◌, IfOk, OnOk, IsUtf8, List, ℕ, true, codes};
 ghost use Rattle.std.specs.List.{AllZip, AllByRecursion};
-ghost use Rattle.dav_core.specs.DavPath.{last_name};
+ghost use Rattle.dav_core.specs.DavPath.{last_name, link_of as the_link_of};
 ghost use Rattle.dav_core.specs.Path.{is_plain};
 ghost use Rattle.dav_page.specs.Listed as listed;
 ghost use Rattle.dav_page.specs.Listed.{HasPlainName};
 ghost use Rattle.dav_page.specs.Pages as form;
 ghost use Rattle.dav_page.specs.Pages.{IsName, Leads};
+ghost use Rattle.dav_page.specs.Index as index;
 ghost use Rattle.dav_page.specs.Index.{IsRowText};
 ghost use Rattle.dav_page.specs.Cuts.{row_texts};
 
@@ -19,14 +20,16 @@ use std::alloc::Global;
 
 // The text of a link that leads to a path.
 pub(crate) fn link_text(alloc: Global, path: &str) -> Result<Text, NoMemory>
-    ensures { IfOk result (λ link. Leads link path.now) }
+    ensures text { IfOk result (λ link. link ≡ the_link_of path.now) }
+    ensures reads { IfOk result (λ link. Leads link path.now) }
 {
     Ok(link_of(alloc, path)?)
 }
 
 // The text of a name.
 pub(crate) fn name_text(alloc: Global, name: &str) -> Result<Text, NoMemory>
-    ensures { IfOk result (λ text. IsName text name.now) }
+    ensures text { IfOk result (λ text. text ≡ index.name_text name.now) }
+    ensures reads { IfOk result (λ text. IsName text name.now) }
 {
     Ok(Text::new(encode_minimal(alloc, name)?))
 }

@@ -10,6 +10,8 @@ returns c = record {
   spells = c.new-text.ensures ∙ (c.in_ok-format.ensures.ok
       ∙ ap₂ (λ t h. before_title ++ (t ++ (before_heading ++ (h ++ before_rows)))) c.as_str.ensures.value c.as_str-2.ensures.value);
   utf8 = is_utf8-from_IsUtf8 _ (search rules);
-  names = c.in_ok-title.ensures;
+  titled = c.in_ok-title.ensures.text;
+  headed = c.in_ok-heading.ensures.text;
+  names = c.in_ok-title.ensures.reads;
   leads = c.in_ok-heading.ensures.reads;
 }
