@@ -3,7 +3,8 @@
 
 The model knows only a map of paths to bytes, or to None for a directory. It is told by the definitions in prose: where
 names fold a name is found as it is asked, or else by one that folds alike; under the rules for macOS two files of the
-root are empty for all who look, and what is named `.localized` isn't there, and no file of these names is made or goes.
+root are empty for all who look, and what is named `.localized` isn't there, and no file of these names is made or goes;
+but what is found by another spelling of `.localized`, which no look shows, gives way to what is moved or copied there.
 
     writing.py input    the rows
     writing.py output   what the driver is to write
@@ -21,9 +22,19 @@ class Refused(Exception):
         self.status, self.closes = status, closes
 
 
+# what stands at the beginning where the rules for macOS hold: no request makes what no look shows
+HIDDEN = {
+    ("sub",): None,
+    ("sub", ".localized"): b"h1",
+    (".localized",): b"h2",
+    ("b",): None,
+    ("b", ".localized"): None,
+}
+
+
 class Model:
     def __init__(self, folds, macos):
-        self.folds, self.macos, self.tree = folds, macos, {(): None}
+        self.folds, self.macos, self.tree = folds, macos, {(): None, **(HIDDEN if macos else {})}
 
     # ---- where a path is found
 
@@ -179,19 +190,30 @@ class Model:
             raise Refused(403)
         new = self.found(to)
         if new in self.tree:
-            raise Hidden()
+            self.gives_way(new, source is None)
         below = {p: b for p, b in self.tree.items() if p[: len(at)] == at}
         for p in below:
             del self.tree[p]
         for p, b in below.items():
             self.tree[new + p[len(at):]] = b
 
+    def gives_way(self, at, dir):
+        """What no look shows: a file gives way to what is moved there, an empty directory to a directory."""
+        if self.tree[at] is None:
+            if not dir:
+                raise Refused(FORBIDDEN)
+            if any(p[:-1] == at for p in self.tree if p):
+                raise Refused(405)
+        del self.tree[at]
+
     def copy(self, names, slash, at, to, to_slash, source, alone):
         if source is not None and self.is_forbidden(names, slash):
             raise Refused(403)
         new = self.found(to)
         if new in self.tree:
-            raise Hidden()
+            if source is None or self.tree[new] is None:
+                raise Refused(405 if source is None else FORBIDDEN)
+            del self.tree[new]
         rows = [p for p in self.tree if p == at or (not alone and p[: len(at)] == at)]
         for p in sorted(rows, key=lambda p: [n.encode() for n in p]):
             rest, there = list(p[len(at):]), self.tree[p]
@@ -203,10 +225,6 @@ class Model:
             self.tree[new + tuple(rest)] = there
 
 
-class Hidden(Exception):
-    """A destination that no look shows stands: the lists have none."""
-
-
 def url(names, slash):
     return "/" + "/".join(names) + ("/" if slash and names else "")
 
@@ -215,8 +233,8 @@ def path_of(pick, deep):
     return [pick.choice(NAMES) for _ in range(pick.randint(1, deep))]
 
 
-def request(pick, number):
-    """A request: its method, and what the model is asked."""
+def request(pick, number, hidden):
+    """A request: its method, and what the model is asked. Where `hidden` says so a destination may be what no look shows."""
     method = pick.choice(["PUT", "PUT", "PUT", "MKCOL", "MKCOL", "MKCALENDAR", "DELETE", "DELETE", "COPY", "MOVE", "MOVE"])
     names, slash = path_of(pick, 3), pick.random() < 0.1
     if pick.random() < 0.03:
@@ -231,6 +249,9 @@ def request(pick, number):
     if method == "DELETE":
         return f"DELETE {url(names, slash)}", lambda m: m.delete(names, slash)
     to, to_slash = path_of(pick, 3), pick.random() < 0.1
+    if hidden and pick.random() < 0.3:
+        to = list(pick.choice(list(HIDDEN)))
+        to[-1] = pick.choice([str.upper, str.title, str.swapcase])(to[-1])
     replaces, alone = pick.random() < 0.7, method == "COPY" and pick.random() < 0.2
     words = f"{method} {url(names, slash)} destination:{url(to, to_slash)}"
     words += "" if replaces else " overwrite:F"
@@ -239,28 +260,29 @@ def request(pick, number):
 
 
 def answered(step, number, model):
-    before = dict(model.tree)
     try:
         status, closes = step(model), False
     except Refused as e:
         status, closes = e.status, e.closes
-    except Hidden:
-        model.tree = before
-        return None
     fields = "" if status == 204 else " connection=close; content-length=0" if closes else " content-length=0"
     return f"{status} {number}{fields}"
+
+
+def standing():
+    """The parts that set what stands at the beginning."""
+    for number, (path, there) in enumerate(HIDDEN.items(), 900):
+        yield f"dir {url(path, False)} {number} 1" if there is None else f"file {url(path, False)} {number} 1 {there.decode()}"
 
 
 def row(seed, folds, macos, memory, steps):
     pick, model = random.Random(seed), Model(folds, macos)
     asks, answers = [], []
-    while len(asks) < steps:
-        words, step = request(pick, len(asks))
-        answer = answered(step, len(asks), model)
-        if answer is not None:
-            asks.append(words)
-            answers.append(answer)
+    for number in range(steps):
+        words, step = request(pick, number, folds and macos)
+        asks.append(words)
+        answers.append(answered(step, number, model))
     sets = ["uncounted"] + [f"set memory {memory} {memory}"] * (memory > 0) + ["folds"] * folds + ["macos"] * macos
+    sets += standing() if macos else []
     return " | ".join(sets + asks), " | ".join(answers + ["failed 0"])
 
 

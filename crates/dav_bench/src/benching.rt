@@ -10,16 +10,12 @@ use crate::making::make_disk;
 use crate::playing::counts_over;
 use crate::report::report;
 use dav_disk::SureDisk;
-use dav_handler::{DavConfig, LocalFs, Player, RememberAny};
+use dav_handler::{DavConfig, LocalFs, Player, Remember};
 use dav_io::{NoMemory, Sink};
 use std::alloc::Global;
 
 // A player over a disk, by which names fold. Nothing is set, and it gave no reply yet.
-fn player_over<R: RememberAny + Drop>(
-    alloc: Global,
-    disk: SureDisk,
-    memory: R,
-) -> Player<SureDisk, R>
+fn player_over<R: Remember + Drop>(alloc: Global, disk: SureDisk, memory: R) -> Player<SureDisk, R>
     ensures ready { (m : ℕ) → IsBench m (sure_world disk) → IsReady m (stage_of result) }
     ensures replies { (playing_of result).replies ≡ 0 }
 {
@@ -32,7 +28,7 @@ fn player_over<R: RememberAny + Drop>(
 /// where the sink failed. There are eight directories `Dir0`, `Dir1` and so on, each with one file more than the
 /// number: `File0`, `File1` and so on. File j of directory i has 10(i+1)+j bytes. Twice each file is asked for, by a
 /// name that folds like its own, and the body of the answer is polled twice.
-pub fn bench<R: RememberAny + Drop, K: Sink>(
+pub fn bench<R: Remember + Drop, K: Sink>(
     alloc: Global,
     seed: u32,
     memory: R,
@@ -47,7 +43,7 @@ pub fn bench<R: RememberAny + Drop, K: Sink>(
     let counts = counts_over(alloc, &mut player, m);
     let (disk, _) = player.into_parts();
     match counts {
-        Ok(counts) => report(alloc, counts, disk.listings(), sink),
+        Ok(counts) => report(alloc, counts, &disk, sink),
         Err(refused) => Err(refused),
     }
 }

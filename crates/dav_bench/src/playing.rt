@@ -9,7 +9,7 @@ ghost use Rattle.dav_bench.specs.Tree.{length_of, upto};
 use crate::asking::request_for;
 use crate::counting::Counts;
 use dav_disk::{SureDisk, sure_disks_fail_for_want_of_room};
-use dav_handler::{Player, RememberAny, Step, play};
+use dav_handler::{Player, Remember, Step, play};
 use dav_io::{Moment, NoMemory};
 use std::alloc::Global;
 
@@ -26,7 +26,7 @@ fn steps_for(alloc: Global, i: u64, j: u64, body: u32) -> Result<Vec<Step>, NoMe
 }
 
 // Asks for file j of directory i, and counts the answers.
-fn ask<R: RememberAny>(
+fn ask<R: Remember>(
     alloc: Global,
     player: &mut Player<SureDisk, R>,
     m: u64,
@@ -53,7 +53,7 @@ fn ask<R: RememberAny>(
 }
 
 // Asks for the files of directory i.
-fn ask_dir<R: RememberAny>(
+fn ask_dir<R: Remember>(
     alloc: Global,
     player: &mut Player<SureDisk, R>,
     m: u64,
@@ -76,7 +76,7 @@ fn ask_dir<R: RememberAny>(
 }
 
 // Asks for each file once.
-fn ask_all<R: RememberAny>(
+fn ask_all<R: Remember>(
     alloc: Global,
     player: &mut Player<SureDisk, R>,
     m: u64,
@@ -97,7 +97,7 @@ fn ask_all<R: RememberAny>(
 }
 
 // Asks for each file twice, and counts the answers.
-pub fn counts_over<R: RememberAny>(
+pub fn counts_over<R: Remember>(
     alloc: Global,
     player: &mut Player<SureDisk, R>,
     m: u64,

@@ -1,9 +1,11 @@
 // What is written of the large input.
 ghost use Rattle.std.specs.Prelude.{◌≡◌, IfOk, string_bytes};
+ghost use Rattle.dav_disk.specs.Sure.{listings_of};
 ghost use Rattle.dav_bench.specs.Counting.{totals_of};
 ghost use Rattle.dav_bench.specs.Report.{Reports, lines};
 
 use crate::counting::Counts;
+use dav_disk::SureDisk;
 use dav_io::{NoMemory, Sink, put_all};
 use std::alloc::Global;
 
@@ -21,16 +23,18 @@ fn text_of(alloc: Global, counts: Counts, listings: u64) -> Result<String, NoMem
     Ok(format!(in alloc; "{front}bytes {bytes}\nlistings {listings}\n")?)
 }
 
-// Writes the five lines: status 0, or 4 where the sink failed.
+// Writes the five lines, by what was counted and what the disk says that it listed: status 0, or 4 where the sink
+// failed.
 pub fn report<K: Sink>(
     alloc: Global,
     counts: Counts,
-    listings: u64,
+    disk: &SureDisk,
     sink: &mut K,
 ) -> Result<u8, NoMemory>
-    ensures { Reports (lines (totals_of counts listings)) (K.stream sink.old) result (K.stream sink.new) }
+    ensures { Reports (lines (totals_of counts (listings_of disk.now))) (K.stream sink.old) result
+        (K.stream sink.new) }
 {
-    let text = text_of(alloc, counts, listings)?;
+    let text = text_of(alloc, counts, disk.listings())?;
     match put_all(sink, text.as_bytes()) {
         Ok(()) => Ok(0),
         Err(_) => Ok(4),

@@ -1,6 +1,6 @@
 ghost use Rattle.std.specs.Prelude.{◌≡◌, [], ◌∷◌, ◌++◌, Some, OnOk, OnErr, true};
 ghost use Rattle.std.specs.List.{list_all};
-ghost use Rattle.dav_cache.specs.Trees.{FileTime as Time, is_dot};
+ghost use Rattle.dav_cache.specs.Trees.{is_dot};
 ghost use Rattle.dav_cache.specs.Entries.{are_sealable, dir_key, in_order};
 ghost use Rattle.dav_cache.specs.Memory.{SealsIn};
 ghost use Rattle.dav_cache.specs.Core.{one_time as the_one_time};
@@ -94,8 +94,6 @@ impl DUCacheBuilder {
         memory: &mut R,
         now: Moment,
     ) -> Result<(), NoMemory>
-        requires { (time : Time) → builder.may_settle self.old ≡ Some time
-            → R.may_seal memory.old self.old.dir time self.old.names }
         ensures done { builder.Finishes R.state self.old.finished
             (record { builder = self.old; disk = D.state disk.old; memory = memory.old }) now result
             (record { builder = self.new; disk = D.state disk.new; memory = memory.new }) }
@@ -118,7 +116,6 @@ impl DUCacheBuilder {
 
     // Seals the names with a time that the directory has.
     fn seal_into<R: Remember>(&mut self, memory: &mut R, time: FileTime, now: Moment) -> Sealed
-        requires { R.may_seal memory.old self.old.dir time self.old.names }
         ensures sealed { SealsIn (R.state memory.old) (dir_key self.old.dir) time self.old.names now result
             (R.state memory.new) }
         ensures same { self.new ≡ self.old }

@@ -24,5 +24,5 @@ pub use folding::{FoldedPath, fold, fold_text};
 pub use key::{DuEntry, DuKey, dir_key, name_key};
 pub use owned::Owned;
 pub use place::{Listing, Names, Place};
-pub use remember::{Forget, Remember, RememberAny};
+pub use remember::{Forget, Remember};
 pub use world::World;

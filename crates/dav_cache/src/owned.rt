@@ -1,7 +1,7 @@
 ghost use Rattle.std.specs.Prelude.{◌≡◌, ◌<◌, [], IfOk};
 ghost use Rattle.dav_cache.specs.Memory.{memory_of};
 
-use crate::{Cache, DuCache, DuKey, Remember, RememberAny, Sealed};
+use crate::{Cache, DuCache, DuKey, Remember, Sealed};
 use dav_core::{Disk, FileTime, FsPath, Handle, Meta};
 use dav_io::{Moment, NoMemory, Text};
 use std::alloc::Global;
@@ -49,10 +49,6 @@ impl Owned {
     {
         &self.dots
     }
-}
-
-impl RememberAny for Owned {
-    ghost seals = { λ _ _ _ _. tt };
 }
 
 impl Remember for Owned {

@@ -1,6 +1,5 @@
-ghost use Rattle.std.specs.Prelude.{◌≡◌, ◌<◌, List, None, Ok, Option, false, true, IfOk, OnOk, OnErr};
+ghost use Rattle.std.specs.Prelude.{◌≡◌, ◌<◌, None, Ok, Option, false, true, IfOk, OnOk, OnErr};
 ghost use Rattle.dav_cache.specs.declared.du_cache.Sealed.{Sealed};
-ghost use Rattle.dav_cache.specs.Trees.{Name, Names, FileTime as Time};
 ghost use Rattle.dav_cache.specs.Entries.{are_sealable};
 ghost use Rattle.dav_cache.specs.Memory as memory;
 ghost use Rattle.dav_cache.specs.Memory.{MemoryState};
@@ -18,9 +17,6 @@ pub trait Remember {
     /// What contracts see of the memory.
     ghost state: { Self → MemoryState };
 
-    /// Whether it may be sealed with these names for a directory path and a time. Each call keeps it.
-    ghost may_seal: { Self → Names → Time → List Name → Type 0 } = { λ _ _ _ _. Unit {0} };
-
     /// Looks a path up, and asks the disk what stands where it was found.
     fn get<D: Disk>(
         &mut self,
@@ -32,9 +28,7 @@ pub trait Remember {
             (state self.new) (D.state disk.new)) }
         ensures err { OnErr result (self.new ≡ self.old) }
         ensures unasked { OnErr result (D.state disk.new ≡ D.state disk.old) }
-        ensures loan { D.loan disk.new ≡ D.loan disk.old }
-        ensures may { (dir : Names) (time : Time) (names : List Name) → may_seal self.old dir time names
-            → may_seal self.new dir time names };
+        ensures loan { D.loan disk.new ≡ D.loan disk.old };
 
     /// Looks a path up as `get` does, and opens for reading what stands where it was found.
     fn get_open<D: Disk>(
@@ -47,16 +41,12 @@ pub trait Remember {
             (state self.new) (D.state disk.new)) }
         ensures err { OnErr result (self.new ≡ self.old) }
         ensures unasked { OnErr result (D.state disk.new ≡ D.state disk.old) }
-        ensures loan { D.loan disk.new ≡ D.loan disk.old }
-        ensures may { (dir : Names) (time : Time) (names : List Name) → may_seal self.old dir time names
-            → may_seal self.new dir time names };
+        ensures loan { D.loan disk.new ≡ D.loan disk.old };
 
     /// Remembers where a path is. A moment is in nanoseconds.
     fn insert(&mut self, alloc: Global, path: &FsPath, now: Moment) -> Result<(), NoMemory>
         ensures done { OnOk result (memory.Inserts (state self.old) path.now now (state self.new)) }
-        ensures err { OnErr result (self.new ≡ self.old) }
-        ensures may { (dir : Names) (time : Time) (names : List Name) → may_seal self.old dir time names
-            → may_seal self.new dir time names };
+        ensures err { OnErr result (self.new ≡ self.old) };
 
     /// Whether the name is known to be absent from the directory, as the disk has it now. To be asked of names that
     /// begin with `._`, since no others are sealed.
@@ -71,9 +61,7 @@ pub trait Remember {
             (state self.new) (D.state disk.new)) }
         ensures err { OnErr result (self.new ≡ self.old) }
         ensures unasked { OnErr result (D.state disk.new ≡ D.state disk.old) }
-        ensures loan { D.loan disk.new ≡ D.loan disk.old }
-        ensures may { (dir : Names) (time : Time) (names : List Name) → may_seal self.old dir time names
-            → may_seal self.new dir time names };
+        ensures loan { D.loan disk.new ≡ D.loan disk.old };
 
     /// Remembers the names of a directory that begin with `._`, as it had them at this time.
     fn seal(
@@ -86,31 +74,16 @@ pub trait Remember {
     ) -> Sealed
         requires dir { dir.now.name ≡ None }
         requires names { are_sealable names.now ≡ true }
-        requires may { may_seal self.old dir.now.dir time names.now }
-        ensures done { memory.SealsIn (state self.old) dir.now time names.now now result (state self.new) }
-        ensures may { (dir : Names) (time : Time) (names : List Name) → may_seal self.old dir time names
-            → may_seal self.new dir time names };
+        ensures done { memory.SealsIn (state self.old) dir.now time names.now now result (state self.new) };
 
     /// Forgets what is old.
     fn purge(&mut self, now: Moment)
-        ensures done { memory.Purges (state self.old) now (state self.new) }
-        ensures may { (dir : Names) (time : Time) (names : List Name) → may_seal self.old dir time names
-            → may_seal self.new dir time names };
-}
-
-/// A memory that may be sealed with any names. What a store listed may be remembered in such a one, whatever it was.
-pub trait RememberAny: Remember {
-    ghost seals: { (memory : Self) (dir : Names) (time : Time) (names : List Name)
-        → Self.Remember.may_seal memory dir time names };
+        ensures done { memory.Purges (state self.old) now (state self.new) };
 }
 
 /// A memory that remembers nothing.
 #[derive(Clone, Copy, Debug)]
 pub struct Forget;
-
-impl RememberAny for Forget {
-    ghost seals = { λ _ _ _ _. tt };
-}
 
 impl Remember for Forget {
     ghost state = { λ _. memory.nothing_kept };

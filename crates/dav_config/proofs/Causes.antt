@@ -98,7 +98,7 @@ module _ {S C F L E : Type 0} (view : View S C F) (lists : Listings S C L E) (q 
       address_led (is_file info.kind && is_set q.settings.redirect) number info g m l t o e is general (omega arith) heard
 
   file_led : (path : WebPath) (answer : Result F FsError) (number : Option ℕ) (m x t : S) (o : Result Stood FsError) (e : FsError) → o ≡ Err e → e ≡ fs.GeneralFailure
-      → view.opens m c path reading answer x → OpensOne view.handle view.seen reading (view.state m) answer (view.state x)
+      → view.opens m c path reading answer x → OpensOne view.file reading (view.state m) answer (view.state x)
       → HearsFile view q answer number x o t → Led (opening path) m t
   file_led path (Ok file) number m x t o e is general opens one (told, (said, g, l, says, heard)) =
       inr (meta_led said number file g m x l t o e is general one.others.counts says heard)
@@ -108,7 +108,7 @@ module _ {S C F L E : Type 0} (view : View S C F) (lists : Listings S C L E) (q 
 
 module _ {S C F L E : Type 0} (view : View S C F) (lists : Listings S C L E) (q : Query) (c : C) where
   opened_led : (path : WebPath) (answer : Result F FsError) (number : Option ℕ) (m x t : S) (o : Result Stood FsError) (rose : Type 0) (reply : Reply) → WasHad o
-      → view.opens m c path reading answer x → OpensOne view.handle view.seen reading (view.state m) answer (view.state x)
+      → view.opens m c path reading answer x → OpensOne view.file reading (view.state m) answer (view.state x)
       → HearsFile view (asked_at q path) answer number x o t → IsPlacedOr q (due_opened path o) rose reply → reply.status ≡ 500 → Led view lists q c (opening path) m t
   opened_led path answer number m x t (Ok stood) rose reply had opens one heard right e =
       let (close, is) = placed_fails q (due_sent stood.kind path stood) rose reply right e in sent_stands stood.kind path stood close is

@@ -6,7 +6,7 @@ use Rattle.http.specs.Response.{head_of}
 use Rattle.dav_core.specs.Disk.{DiskState}
 use Rattle.dav_core.proofs.UnchangedLemmas.{keeps_same}
 use Rattle.dav_store.specs.declared.body_reader.BodyReader.{Ghosts as ReaderGhosts}
-use Rattle.dav_store.specs.Standing.{Seen}
+use Rattle.dav_store.specs.FileView.{FileView}
 use Rattle.dav_body.specs.Bodies.{MayPoll}
 use Rattle.dav_body.specs.declared.body.BodyType.{BodyType}
 use Rattle.dav_body.specs.declared.fault.BodyFault.{BodyFault}
@@ -34,18 +34,18 @@ some_may : {F S D : Type 0} (may : GetBody F → D → Type 0) (inside : S → D
 some_may may inside answered r all None becomes = tt
 some_may may inside answered r all (Some s) becomes = collected_may may answered r all (inside s) becomes
 
-module _ {S C F L E D : Type 0} (served : Served S C F L E) (handle : F → ℕ) (seen : F → DiskState → Option Seen) (state : D → DiskState) (loan : D → Option GName)
+module _ {S C F L E D : Type 0} (served : Served S C F L E) (files : FileView F) (state : D → DiskState) (loan : D → Option GName)
     (inside : S → D)
   where
     -- over the store that was given
     pub with_given : {B X : Type 0} (result : Result (Responded F) X) (reader : ReaderGhosts B) (asking : Asking C) (config old new : Option S) (given : S) (body : B)
-        → IfOk result (λ r. HandlesGiven served handle seen state loan inside reader asking given body r) → config ≡ Some given → new ≡ old
-        → IfOk result (λ r. HandlesWith served handle seen state loan inside reader asking config old body r new)
+        → IfOk result (λ r. HandlesGiven served files state loan inside reader asking given body r) → config ≡ Some given → new ≡ old
+        → IfOk result (λ r. HandlesWith served files state loan inside reader asking config old body r new)
     with_given (Ok r) reader asking config old new given body handles is same = rw is (handles, same)
     with_given (Err e) reader asking config old new given body handles is same = tt
 
     pub given_may : {B X : Type 0} (result : Result (Responded F) X) (reader : ReaderGhosts B) (asking : Asking C) (store : Option S) (given : S) (body : B)
-        (may : GetBody F → D → Type 0) → IfOk result (λ r. HandlesGiven served handle seen state loan inside reader asking given body r)
+        (may : GetBody F → D → Type 0) → IfOk result (λ r. HandlesGiven served files state loan inside reader asking given body r)
         → IfOk result (λ r. IfSome store (λ s. MayPoll may (inner_of r) (inside s)))
     given_may (Ok r) reader asking store given body may handles = some_may may inside handles.answered r handles.gathers.all store handles.gathers.becomes
     given_may (Err e) reader asking store given body may handles = tt
@@ -53,7 +53,7 @@ module _ {S C F L E D : Type 0} (served : Served S C F L E) (handle : F → ℕ)
     -- over the handler's own
     pub with_own : {B X : Type 0} (result : Result (Responded F) X) (reader : ReaderGhosts B) (asking : Asking C) (config old new : Option S) (body : B)
         → IfOk result (λ r. HandlesAll served reader asking old body r new) → config ≡ None
-        → IfOk result (λ r. HandlesWith served handle seen state loan inside reader asking config old body r new)
+        → IfOk result (λ r. HandlesWith served files state loan inside reader asking config old body r new)
     with_own (Ok r) reader asking config old new body handles is = rw is handles
     with_own (Err e) reader asking config old new body handles is = tt
 

@@ -9,6 +9,7 @@ use Rattle.dav_model.specs.declared.target.Target.TheVariants.{At, Methods, Refu
 use Rattle.dav_body.specs.Bodies.{MayPoll}
 use Rattle.dav_body.specs.declared.body.BodyType.{BodyType}
 use Rattle.dav_body.specs.declared.body.BodyType.TheVariants.{Empty}
+use Rattle.dav_store.specs.FileView.{FileView, SameFiles}
 use Rattle.dav_store.specs.declared.body_reader.BodyReader.{Ghosts as ReaderGhosts}
 use Rattle.dav_store.specs.Standing.{Seen}
 use Rattle.dav_get.specs.declared.body.GetBody.{GetBody}
@@ -26,10 +27,9 @@ pub told_empty : {F : Type 0} (fields : Fields) (given : Written) (r : Responded
 told_empty fields (Ok outcome) r bare = bare.body
 told_empty fields (Err e) r tells = tells.1.body
 
--- a body that is held, by other names of handles and of what is seen
-pub held_as : {F : Type 0} (handle other : F → ℕ) (seen shown : F → DiskState → Option Seen) → ((f : F) → handle f ≡ other f) → ((f : F) (s : DiskState) → seen f s ≡ shown f s)
-    → (s : DiskState) (b : GetBody F) → IsHeld handle seen s b → IsHeld other shown s b
-held_as handle other seen shown same same_seen s b held = record {
+-- a body that is held, by another view of its file
+pub held_as : {F : Type 0} (one other : FileView F) → SameFiles one other → (s : DiskState) (b : GetBody F) → IsHeld one s b → IsHeld other s b
+held_as one other same s b held = record {
   parts = held.parts;
   needs = held.needs;
   over = held.over;
@@ -37,24 +37,24 @@ held_as handle other seen shown same same_seen s b held = record {
   room = held.room;
   file = λ h is.
       let at = held.file h is in record {
-        live = subst (λ n. can_read (s.live n) ≡ true) (same h.file) at.live;
-        place = λ f stands. at.place f (same_seen h.file s ∙ stands);
+        live = subst (λ n. can_read (s.live n) ≡ true) (same.handle h.file) at.live;
+        reads = same.reads_from h.file s at.reads;
+        place = λ f stands. at.place f (same.seen h.file s ∙ stands);
       };
 }
 
-module _ {S C F L E D : Type 0} (served : Served S C F L E) (handle : F → ℕ) (seen : F → DiskState → Option Seen) (state : D → DiskState) (inside : S → D)
-    (same : (s : S) → served.view.state s ≡ state (inside s)) (same_handle : (f : F) → served.view.handle f ≡ handle f)
-    (same_seen : (f : F) (s : DiskState) → served.view.seen f s ≡ seen f s)
+module _ {S C F L E D : Type 0} (served : Served S C F L E) (files : FileView F) (state : D → DiskState) (inside : S → D)
+    (same : (s : S) → served.view.state s ≡ state (inside s)) (same_files : SameFiles served.view.file files)
   where
     -- such a body may be polled with this disk
     abbrev May : BodyType (GetBody F) → D → Type 0
-    May inner d = MayPoll (λ (b : GetBody F) (d : D). IsHeld handle seen (state d) b) inner d
+    May inner d = MayPoll (λ (b : GetBody F) (d : D). IsHeld files (state d) b) inner d
 
     given_may : (fields : Fields) (given : Given F) (r : Responded F) (s t : S) → OpenOnlyHeld served.view s given t → Responds fields given r → May (inner_of r) (inside t)
     given_may fields (Ok given) r s t life responds =
         subst (λ (inner : BodyType (GetBody F)). May inner (inside t)) (sym responds.body)
-        (held_as served.view.handle handle served.view.seen seen same_handle same_seen (state (inside t)) given.1
-        (subst (λ (x : DiskState). IsHeld served.view.handle served.view.seen x given.1) (same t) life.0))
+        (held_as served.view.file files same_files (state (inside t)) given.1
+        (subst (λ (x : DiskState). IsHeld served.view.file x given.1) (same t) life.0))
     given_may fields (Err e) r s t life bare = subst (λ (inner : BodyType (GetBody F)). May inner (inside t)) (sym bare.body) tt
 
     -- a response without a body may be polled with any disk

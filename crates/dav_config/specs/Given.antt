@@ -7,7 +7,7 @@ use Rattle.dav_io.specs.Counts.{Rose}
 use Rattle.dav_core.specs.Disk.{DiskState}
 use Rattle.dav_model.specs.Due.{failure}
 use Rattle.dav_store.specs.declared.body_reader.BodyReader.{Ghosts as ReaderGhosts}
-use Rattle.dav_store.specs.Standing.{Seen}
+use Rattle.dav_store.specs.FileView.{FileView}
 use Rattle.dav_body.specs.declared.body.BodyType.{BodyType}
 use Rattle.dav_body.specs.declared.body.BodyType.TheVariants.{Bytes, AsyncStream as Stream, Empty}
 use Rattle.dav_body.specs.declared.fault.BodyFault.{BodyFault}
@@ -45,19 +45,19 @@ file_of Empty = None
 abbrev pub EndsBody : {F : Type 0} → (F → ℕ) → DiskState → BodyType (GetBody F) → DiskState → Type 0
 EndsBody handle s body t = Closes handle s (file_of body) t
 
-module _ {F D : Type 0} (handle : F → ℕ) (seen : F → DiskState → Option Seen) (state : D → DiskState)
+module _ {F D : Type 0} (files : FileView F) (state : D → DiskState)
     (loan : D → Option GName) where
   -- what a poll of a body with the disk gives
   abbrev pub PollGives : BodyType (GetBody F) → D → Option (Result (List ℕ) BodyFault) → BodyType (GetBody F) → D
       → Type 0
-  PollGives = BodyGives (λ b d told c e. StepGives handle seen (state d) b told (state e) c × (loan e ≡ loan d)) ends_of
+  PollGives = BodyGives (λ b d told c e. StepGives files (state d) b told (state e) c × (loan e ≡ loan d)) ends_of
 
   -- A body was collected with the disk, and ended.
   pub record Drains (body : BodyType (GetBody F)) (d : D) (all : Result (List ℕ) BodyFault) (e : D) : Type 0 where
     pub rest : BodyType (GetBody F)
     pub polled : D
     pub collects : Collects PollGives body d all rest polled
-    pub ends : EndsBody handle (state polled) rest (state e)
+    pub ends : EndsBody files.handle (state polled) rest (state e)
 
 -- ---- a store that is given
 
@@ -75,12 +75,12 @@ module _ {S C F L E : Type 0} (served : Served S C F L E) where
   StaysWith asking None old new = Stays served asking old new
   StaysWith asking (Some given) old new = Ends asking given × (new ≡ old)
 
-module _ {S C F L E D : Type 0} (served : Served S C F L E) (handle : F → ℕ) (seen : F → DiskState → Option Seen)
-    (state : D → DiskState) (loan : D → Option GName) (inside : S → D) where
+module _ {S C F L E D : Type 0} (served : Served S C F L E) (files : FileView F) (state : D → DiskState)
+    (loan : D → Option GName) (inside : S → D) where
   -- An answer's body was collected with the store's disk, and the answer made of it.
   pub record Gathers (answered : Responded F) (s : S) (r : Responded F) (t : S) : Type 0 where
     pub all : Result (List ℕ) BodyFault
-    pub drains : Drains handle seen state loan (inner_of answered) (inside s) all (inside t)
+    pub drains : Drains files state loan (inner_of answered) (inside s) all (inside t)
     pub becomes : IsCollected (head_of answered) all r
 
   -- A request was answered over the store that is given with it, and the answer gathered.

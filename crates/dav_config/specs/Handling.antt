@@ -51,7 +51,7 @@ abbrev pub the_served : {S C D M F L E : Type 0} â†’ StoreGhosts S C D M F L E â
 the_served store file = record {
   view = store.view;
   lists = store.listings;
-  writes = file.writes;
+  writes = file.view.writes;
   void = store.void;
   with_now = store.with_now;
 }

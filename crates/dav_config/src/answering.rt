@@ -81,11 +81,10 @@ fn give<S: GuardedFileSystem<C>, C>(
     outcome: Outcome,
     body: GetBody<S::File>,
 ) -> Answered<S::File>
-    requires { IsHeld S.view.handle S.view.seen (S.view.state fs.old) body }
+    requires { IsHeld S.view.file (S.view.state fs.old) body }
     ensures done { IfOk result (Gave (outcome, body)) }
     ensures same { IfOk result (λ _. fs.new ≡ fs.old) }
-    ensures admits { S.view.admits fs.old → S.view.admits fs.new }
-    ensures closed { OnErr result (Closes S.view.handle (S.view.state fs.old) body.file (S.view.state fs.new)) }
+    ensures closed { OnErr result (Closes S.view.file.handle (S.view.state fs.old) body.file (S.view.state fs.new)) }
     ensures loan { S.view.loan fs.new ≡ S.view.loan fs.old }
 {
     match head_said(alloc, outcome.status, outcome.fields.as_slice()) {
@@ -119,11 +118,9 @@ fn get<S: GuardedFileSystem<C>, C>(
     path: &DavPath,
     fields: &HeaderMap,
 ) -> Answered<S::File>
-    requires admits { S.view.admits fs.old }
     ensures done { IfOk result (λ r. GivesOver (the_served S.GuardedFileSystem S.File.DavFile)
         (query settings.now fields.now method path.now) credentials.now fs.old r fs.new) }
     ensures memory { OnErr result (Keeps (S.view.state fs.old) (S.view.state fs.new)) }
-    ensures admits { S.view.admits fs.new }
     ensures loan { S.view.loan fs.new ≡ S.view.loan fs.old }
 {
     match handle_get(alloc, settings, fs, credentials, method, path, fields) {
@@ -143,7 +140,6 @@ pub fn answer<S: GuardedFileSystem<C>, C, B: BodyReader>(
     body: &mut B,
     target: &Target,
 ) -> Answered<S::File>
-    requires admits { IfSome store.old S.view.admits }
     requires stored { IsAt target.now → IsSome store.old }
     requires writes { IsWritten target.now (head_of asked.now.head.now) }
     ensures done { IfOk result (λ r. AnswersTo (the_served S.GuardedFileSystem S.File.DavFile)
@@ -151,7 +147,6 @@ pub fn answer<S: GuardedFileSystem<C>, C, B: BodyReader>(
         (record { store = store.new; body = B.state body.new })) }
     ensures memory { OnErr result
         (Stays (the_served S.GuardedFileSystem S.File.DavFile) (asking_of asked.entry.now) store.old store.new) }
-    ensures admits { IfSome store.new S.view.admits }
     ensures body_loan { B.loan body.new ≡ B.loan body.old }
 {
     match target {
@@ -176,13 +171,11 @@ fn answer_over<S: GuardedFileSystem<C>, C>(
     method: DavMethod,
     path: &DavPath,
 ) -> Answered<S::File>
-    requires admits { S.view.admits fs.old }
     ensures done { IfOk result (λ r. GivesOver (the_served S.GuardedFileSystem S.File.DavFile)
         (query asked.entry.now.settings.now (head_of asked.entry.now.head.now).headers method path.now)
         asked.entry.now.credentials.now (S.with_now fs.old asked.entry.now.now) r fs.new) }
     ensures moment { SetsMoment (the_served S.GuardedFileSystem S.File.DavFile) fs.old asked.entry.now.now }
     ensures memory { OnErr result (Keeps (S.view.state fs.old) (S.view.state fs.new)) }
-    ensures admits { S.view.admits fs.new }
     ensures loan { S.view.loan fs.new ≡ S.view.loan fs.old }
 {
     fs.set_now(asked.now);

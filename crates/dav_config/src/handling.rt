@@ -60,13 +60,11 @@ pub fn handle_over<S: GuardedFileSystem<C>, C, B: BodyReader>(
     store: &mut Option<S>,
     body: &mut B,
 ) -> Answered<S::File>
-    requires { IfSome store.old S.view.admits }
     ensures done { IfOk result (λ r. Handles (the_served S.GuardedFileSystem S.File.DavFile) (asking_of asked.entry.now)
         (record { store = store.old; body = B.state body.old }) r
         (record { store = store.new; body = B.state body.new })) }
     ensures memory { OnErr result
         (Stays (the_served S.GuardedFileSystem S.File.DavFile) (asking_of asked.entry.now) store.old store.new) }
-    ensures admits { IfSome store.new S.view.admits }
     ensures loan { B.loan body.new ≡ B.loan body.old }
 {
     let stored = is_stored(store);
@@ -85,14 +83,12 @@ pub fn handle_by<S: GuardedFileSystem<C>, C, B: BodyReader + Drop>(
     req: Request<B>,
     now: Moment,
 ) -> Answered<S::File>
-    requires { IfSome store.old S.view.admits }
     ensures done { IfOk result (λ r. HandlesAll (the_served S.GuardedFileSystem S.File.DavFile) B.BodyReader
         (asking settings.now (head_of req) credentials.now now) store.old (body_of req) r store.new) }
     ensures may { IfOk result (λ r. IfSome store.new
-        (λ s. MayPoll (λ b d. IsHeld S.File.handle S.File.seen (S.Disk.state d) b) (inner_of r) (S.inside s))) }
+        (λ s. MayPoll (λ b d. IsHeld S.File.view (S.Disk.state d) b) (inner_of r) (S.inside s))) }
     ensures memory { OnErr result (Stays (the_served S.GuardedFileSystem S.File.DavFile)
         (asking settings.now (head_of req) credentials.now now) store.old store.new) }
-    ensures admits { IfSome store.new S.view.admits }
 {
     let (parts, reader) = req.into_parts();
     let mut body = reader;

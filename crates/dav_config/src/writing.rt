@@ -25,9 +25,8 @@ fn perform<S: GuardedFileSystem<C>, C, B: BodyReader>(
     path: &DavPath,
     body: &mut B,
 ) -> Result<Outcome, DavError>
-    requires admits { S.view.admits fs.old }
     requires writes { the_writes method ≡ true }
-    ensures table { ByMethod S.view S.listings S.File.writes asked.entry.now.credentials.now method
+    ensures table { ByMethod S.view S.listings S.File.view.writes asked.entry.now.credentials.now method
         (order asked.entry.now.settings.now.prefix method path.now (head_of asked.entry.now.head.now).headers)
         (B.state body.old) fs.old result fs.new (B.state body.new) }
     ensures stays { StaysOpen S.view fs.old fs.new }
@@ -67,14 +66,12 @@ pub fn write_over<S: GuardedFileSystem<C>, C, B: BodyReader>(
     path: &DavPath,
     body: &mut B,
 ) -> Answered<S::File>
-    requires admits { S.view.admits fs.old }
     requires writes { the_writes method ≡ true }
-    ensures done { IfOk result (λ r. WritesOver S.view S.listings S.File.writes asked.entry.now.credentials.now
+    ensures done { IfOk result (λ r. WritesOver S.view S.listings S.File.view.writes asked.entry.now.credentials.now
         (order asked.entry.now.settings.now.prefix method path.now (head_of asked.entry.now.head.now).headers)
         (B.state body.old) (S.with_now fs.old asked.entry.now.now) r fs.new (B.state body.new)) }
     ensures moment { SetsMoment (the_served S.GuardedFileSystem S.File.DavFile) fs.old asked.entry.now.now }
     ensures memory { OnErr result (KeepsOpen (S.view.state fs.old) (S.view.state fs.new)) }
-    ensures admits { S.view.admits fs.new }
     ensures loan { S.view.loan fs.new ≡ S.view.loan fs.old }
     ensures body_loan { B.loan body.new ≡ B.loan body.old }
 {

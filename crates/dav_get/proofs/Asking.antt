@@ -123,7 +123,7 @@ for_stays q info =
 
 -- ---- the table
 
-module _ {S C F : Type 0} (view : View S C F) (q : Query) (b : ℕ) where
+module _ {S C F : Type 0} (view : View S C F) (q : Query) (b : ℕ) (files : view.file.asks_once) where
   -- So many calls were asked.
   abbrev Asked : ℕ → S → Type 0
   Asked n s = (view.state s).asked ≡ more_by n b
@@ -207,7 +207,7 @@ module _ {S C F : Type 0} (view : View S C F) (q : Query) (b : ℕ) where
     directed = λ no is. absurd (stays (sym (sends_status info sent (record { file = file; place = 0 }) s answer t row) ∙ is));
   }
   sends_asks r n info sent (Some start) file s answer t placed stays at was some most (sought, g, m, seeks, row) =
-      moved_asks r n info sent sought (record { file = g; place = start }) m answer t (some_start sent start at) (once n s m was seeks.done.asked) some most row
+      moved_asks r n info sent sought (record { file = g; place = start }) m answer t (some_start sent start at) (once n s m was (seeks.asks files)) some most row
 
   file_asks : (r : Bool) (n : ℕ) (info : Info) (file : F) (s : S) (result : Given F) (t : S) → Asked n s → 3 ≤ n → n ≤ cond r 4 3 → SendsFile view q info file s result t → Done r result t
   file_asks r n info file s (Err e) t was some most row = absurd row
@@ -300,7 +300,7 @@ module _ {S C F L E : Type 0} (view : View S C F) (lists : Listings S C L E) (q 
   refused_status status false = refl
 
   -- the client is sent to a path with a final slash
-  directed_asks : (r : Bool) (b : ℕ) (path : WebPath) (result : Given F) (t : S) → Asked view q b 1 t → Directs path result → Done view q b r result t
+  directed_asks : (r : Bool) (b : ℕ) (path : WebPath) (result : Given F) (t : S) → Asked view q b few.files 1 t → Directs path result → Done view q b few.files r result t
   directed_asks r b path (Err e) t was directs = absurd directs
   directed_asks r b path (Ok answer) t was (is, empty) =
       let status : answer.0.status ≡ 302 = ap (λ (o : Outcome). o.status) is in
@@ -322,33 +322,33 @@ module _ {S C F L E : Type 0} (view : View S C F) (lists : Listings S C L E) (q 
   unless_page true r status before after le asks = le
   unless_page false r status before after le asks = asks
 
-  told : (b : ℕ) (result : Given F) (t : S) → b ≤ (view.state t).asked → Done view q b (is_set q.settings.redirect) result t → Told b result t
+  told : (b : ℕ) (result : Given F) (t : S) → b ≤ (view.state t).asked → Done view q b few.files (is_set q.settings.redirect) result t → Told b result t
   told b result t le (inl none) = inl none
   told b result t le (inr asks) = inr (unless_page (is_of_page (fields_given q.fields result)) (is_set q.settings.redirect) (status_given result) b (view.state t).asked le asks)
 
-  listing_asks : (b : ℕ) (answer : Result (List Member) FsError) (c : C) (s : S) (result : Given F) (t : S) → holds s ≡ true → b ≤ (view.state t).asked → Asked view q b 1 s
+  listing_asks : (b : ℕ) (answer : Result (List Member) FsError) (c : C) (s : S) (result : Given F) (t : S) → holds s ≡ true → b ≤ (view.state t).asked → Asked view q b few.files 1 s
       → IsListing view lists (is_get q.method) c q.path s answer t → AfterListing answer q result → Told b result t
   listing_asks b (Err e) c s result t here le was refuses is = elim (few.refuses_list s t c q.path e here refuses) [
-    | inl none ↦ told b result t le (refused view q b (is_set q.settings.redirect) 1 e result t (none ∙ was) (omega arith) (omega arith) is)
-    | inr one ↦ told b result t le (refused view q b (is_set q.settings.redirect) 2 e result t (once view q b 1 s t was one) (omega arith) (omega arith) is)
+    | inl none ↦ told b result t le (refused view q b few.files (is_set q.settings.redirect) 1 e result t (none ∙ was) (omega arith) (omega arith) is)
+    | inr one ↦ told b result t le (refused view q b few.files (is_set q.settings.redirect) 2 e result t (once view q b few.files 1 s t was one) (omega arith) (omega arith) is)
   ]
   listing_asks b (Ok members) c s (Err e) t here le was read row = absurd row
   listing_asks b (Ok members) c s (Ok r) t here le was read (is, body) =
       inr (subst (λ (o : Outcome). AsksUnlessPage (is_of_page o.fields) (is_set q.settings.redirect) o.status b (view.state t).asked) (sym is) le)
 
-  course_asks : (b : ℕ) (co : Course) (c : C) (s : S) (result : Given F) (t : S) → holds s ≡ true → b ≤ (view.state t).asked → IsRefusing co → Asked view q b 1 s → ByCourse view lists co q c s result t → Told b result t
+  course_asks : (b : ℕ) (co : Course) (c : C) (s : S) (result : Given F) (t : S) → holds s ≡ true → b ≤ (view.state t).asked → IsRefusing co → Asked view q b few.files 1 s → ByCourse view lists co q c s result t → Told b result t
   course_asks b (refusing status close) c s result t here le other was (same, is) =
-      told b result t le (error view q b (is_set q.settings.redirect) 1 (refused_as status close) result t (ap (λ (x : S). (view.state x).asked) same ∙ was) (omega arith) (omega arith)
+      told b result t le (error view q b few.files (is_set q.settings.redirect) 1 (refused_as status close) result t (ap (λ (x : S). (view.state x).asked) same ∙ was) (omega arith) (omega arith)
       (subst IsOther (sym (refused_status status close)) other) is)
   course_asks b directing c s result t here le other was (same, directs) =
       told b result t le (directed_asks (is_set q.settings.redirect) b q.path result t (ap (λ (x : S). (view.state x).asked) same ∙ was) directs)
   course_asks b listing c s result t here le other was (answer, listed, keeps, row) = listing_asks b answer c s result t here le was listed row
   course_asks b (opening path) c s result t here le other was (opened, m, opens, one, row) =
-      told b result t le (open_asks view (asked_at q path) b opened s m result t was (few.opens s m c path opened here opens) row)
+      told b result t le (open_asks view (asked_at q path) b few.files opened s m result t was (few.opens s m c path opened here opens) row)
 
-  look_asks : (b : ℕ) (look : Result Info FsError) (c : C) (s : S) (result : Given F) (t : S) → holds s ≡ true → b ≤ (view.state t).asked → Asked view q b 1 s → AfterLook view lists look q c s result t → Told b result t
+  look_asks : (b : ℕ) (look : Result Info FsError) (c : C) (s : S) (result : Given F) (t : S) → holds s ≡ true → b ≤ (view.state t).asked → Asked view q b few.files 1 s → AfterLook view lists look q c s result t → Told b result t
   look_asks b (Err e) c s result t here le was (same, is) =
-      told b result t le (refused view q b (is_set q.settings.redirect) 1 e result t (ap (λ (x : S). (view.state x).asked) same ∙ was) (omega arith) (omega arith) is)
+      told b result t le (refused view q b few.files (is_set q.settings.redirect) 1 e result t (ap (λ (x : S). (view.state x).asked) same ∙ was) (omega arith) (omega arith) is)
   look_asks b (Ok info) c s result t here le was row = course_asks b (course q info.kind) c s result t here le (refusing_other info) was row
 
   known_asks : (known : Bool) (c : C) (s : S) (result : Given F) (t : S) → holds s ≡ true → (view.state s).asked ≤ (view.state t).asked → ByWellKnown view lists known q c s result t
@@ -363,7 +363,7 @@ module _ {S C F L E : Type 0} (view : View S C F) (lists : Listings S C L E) (q 
   only_asked s t (Err e) keeps = keeps.asked
   only_asked s t (Ok r) life = by r.1.file life.1
     where
-      by : (file : Option (OpenAt F)) → OpensOnly view.handle (view.state s) file (view.state t) → (view.state s).asked ≤ (view.state t).asked
+      by : (file : Option (OpenAt F)) → OpensOnly view.file.handle (view.state s) file (view.state t) → (view.state s).asked ≤ (view.state t).asked
       by None keeps = keeps.asked
       by (Some h) opens = opens.0.asked
 

@@ -7,7 +7,7 @@ use Rattle.dav_core.specs.Disk.{DiskState}
 use Rattle.dav_model.specs.declared.ranges.Slice.{Slice}
 use Rattle.dav_model.specs.declared.answer.Answer.{Answer}
 use Rattle.dav_model.specs.declared.answer.Answer.TheVariants.{Broken, Piece}
-use Rattle.dav_store.specs.Standing.{Seen}
+use Rattle.dav_store.specs.FileView.{FileView}
 use Rattle.dav_get.specs.declared.part.BodyPart.{BodyPart}
 use Rattle.dav_get.specs.declared.part.BodyPart.TheVariants.{Text, Slice as SliceOf}
 use Rattle.dav_get.specs.declared.open_at.OpenAt.{OpenAt}
@@ -40,26 +40,26 @@ first_has_room most room left slice parts is all = let both : list_all (has_room
 no_slice : {X : Type 0} (left : List BodyPart) → list_any is_slice left ≡ true → left ≡ [] → X
 no_slice left has over = let e : false ≡ true = sym (ap (list_any is_slice) over) ∙ has in cc
 
-module _ {F : Type 0} (handle : F → ℕ) (seen : F → DiskState → Option Seen) where
-  pub text_polls : (s t : DiskState) (b c : GetBody F) (bytes : List ℕ) (rest : List BodyPart) → left_of b ≡ Text bytes ∷ rest → IsHeld handle seen s b
-      → left_of c ≡ rest → Passes handle s b (left_of c) t c.file → c.most ≡ b.most → length c.buffer.items ≡ length b.buffer.items
-      → (piece : List ℕ) → piece ≡ bytes → Polls handle seen s b (Piece piece) t c
+module _ {F : Type 0} (files : FileView F) where
+  pub text_polls : (s t : DiskState) (b c : GetBody F) (bytes : List ℕ) (rest : List BodyPart) → left_of b ≡ Text bytes ∷ rest → IsHeld files s b
+      → left_of c ≡ rest → Passes files.handle s b (left_of c) t c.file → c.most ≡ b.most → length c.buffer.items ≡ length b.buffer.items
+      → (piece : List ℕ) → piece ≡ bytes → Polls files s b (Piece piece) t c
   text_polls s t b c bytes rest is held left passes most room piece same =
       let all = rw is at held.parts in
       let later = later_parts (Text bytes) rest all in record {
-        disk = passes_touch handle seen s t b (left_of c) c.file passes;
+        disk = passes_touch files s t b (left_of c) c.file passes;
         takes = rw (is, same) (refl, left);
-        asks = rw is (passes_ask handle seen s t b (left_of c) c.file passes);
-        held = held_then handle seen s t b c held passes (rw left later.1) (λ has. rw is (rw left at has)) (rw left (rw is at held.room)) most room;
+        asks = rw is (passes_ask files s t b (left_of c) c.file passes);
+        held = held_then files s t b c held passes (rw left later.1) (λ has. rw is (rw left at has)) (rw left (rw is at held.room)) most room;
         bound = rw (is, same) (omega arith);
         most = most;
         room = room;
       }
 
   -- a body whose file was used, before its slice moves on
-  pub held_filled : (s m : DiskState) (b c : GetBody F) (slice : Slice) (most : ℕ) (buffer : List ℕ) (n : ℕ) (h g : OpenAt F) → IsHeld handle seen s b
-      → Fills handle seen s h slice most buffer (Some n) m g → b.file ≡ Some h → c.file ≡ Some g → left_of c ≡ left_of b → (left_of b ≡ [] → ⊥)
-      → c.most ≡ b.most → length c.buffer.items ≡ length b.buffer.items → IsHeld handle seen m c
+  pub held_filled : (s m : DiskState) (b c : GetBody F) (slice : Slice) (most : ℕ) (buffer : List ℕ) (n : ℕ) (h g : OpenAt F) → IsHeld files s b
+      → Fills files s h slice most buffer (Some n) m g → b.file ≡ Some h → c.file ≡ Some g → left_of c ≡ left_of b → (left_of b ≡ [] → ⊥)
+      → c.most ≡ b.most → length c.buffer.items ≡ length b.buffer.items → IsHeld files m c
   held_filled s m b c slice most buffer n h g held fills before after left some same room = record {
     parts = rw left held.parts;
     needs = λ has. rw after refl;
@@ -70,16 +70,16 @@ module _ {F : Type 0} (handle : F → ℕ) (seen : F → DiskState → Option Se
   }
 
   pub fill_touches : (s m : DiskState) (file other : Option (OpenAt F)) (slice : Slice) (most : ℕ) (buffer : List ℕ) (result : Option ℕ) (h g : OpenAt F)
-      → Fills handle seen s h slice most buffer result m g → file ≡ Some h → other ≡ Some g → TouchesOwn handle seen s file m other
+      → Fills files s h slice most buffer result m g → file ≡ Some h → other ≡ Some g → TouchesOwn files s file m other
   fill_touches s m file other slice most buffer result h g fills before after = rw (before, after) (fills.keeps, fills.same, fills.live, fills.stands)
 
   pub slice_polls : (s m t : DiskState) (b d c : GetBody F) (slice : Slice) (rest : List BodyPart) (most : ℕ) (buffer : List ℕ) (n : ℕ) (h g : OpenAt F)
-      → left_of b ≡ SliceOf slice ∷ rest → IsHeld handle seen s b → most ≡ b.most
-      → Fills handle seen s h slice most buffer (Some n) m g → b.file ≡ Some h → d.file ≡ Some g → left_of d ≡ left_of b
+      → left_of b ≡ SliceOf slice ∷ rest → IsHeld files s b → most ≡ b.most
+      → Fills files s h slice most buffer (Some n) m g → b.file ≡ Some h → d.file ≡ Some g → left_of d ≡ left_of b
       → d.most ≡ b.most → length d.buffer.items ≡ length b.buffer.items
       → length buffer ≡ length b.buffer.items
-      → left_of c ≡ passed slice n rest → Passes handle m d (left_of c) t c.file → c.most ≡ d.most → length c.buffer.items ≡ length d.buffer.items
-      → (piece : List ℕ) → piece ≡ take n buffer → Polls handle seen s b (Piece piece) t c
+      → left_of c ≡ passed slice n rest → Passes files.handle m d (left_of c) t c.file → c.most ≡ d.most → length c.buffer.items ≡ length d.buffer.items
+      → (piece : List ℕ) → piece ≡ take n buffer → Polls files s b (Piece piece) t c
   slice_polls s m t b d c slice rest most buffer n h g is held size fills before after same dm dr len left passes cm cr piece front =
       let all = rw is at held.parts in
       let parts = later_parts (SliceOf slice) rest all in
@@ -87,9 +87,9 @@ module _ {F : Type 0} (handle : F → ℕ) (seen : F → DiskState → Option Se
       let within : n ≤ slice.count = fills.answer.1 in
       let some : 0 < n = fills.answer.2 in
       let long : length (take n buffer) ≡ n = grind (arith, common_steps) in
-      let there : IsHeld handle seen m d = held_filled s m b d slice most buffer n h g held fills before after same (λ none. let e : SliceOf slice ∷ rest ≡ [] = sym is ∙ none in cc) dm dr in
+      let there : IsHeld files m d = held_filled s m b d slice most buffer n h g held fills before after same (λ none. let e : SliceOf slice ∷ rest ≡ [] = sym is ∙ none in cc) dm dr in
       record {
-        disk = touches_then handle seen s m t b.file d.file c.file (fill_touches s m b.file d.file slice most buffer (Some n) h g fills before after) (passes_touch handle seen m t d (left_of c) c.file passes);
+        disk = touches_then files s m t b.file d.file c.file (fill_touches s m b.file d.file slice most buffer (Some n) h g fills before after) (passes_touch files m t d (left_of c) c.file passes);
         takes = rw (is, front) (inl (
           take n buffer,
           refl,
@@ -98,8 +98,8 @@ module _ {F : Type 0} (handle : F → ℕ) (seen : F → DiskState → Option Se
           rw long within,
           rw long left,
         ));
-        asks = rw (is, before, passes_ask handle seen m t d (left_of c) c.file passes) fills.asks;
-        held = held_then handle seen m t d c there passes (rw left (moved_is_part _ slice n rest refl parts.0 within parts.1)) (λ has. rw (same, is) refl)
+        asks = rw (is, before, passes_ask files m t d (left_of c) c.file passes) fills.asks;
+        held = held_then files m t d c there passes (rw left (moved_is_part _ slice n rest refl parts.0 within parts.1)) (λ has. rw (same, is) refl)
             (rw (left, dm, dr) (moved_has_room _ b.most (length b.buffer.items) slice n rest refl (rw is at held.room))) cm cr;
         bound = rw (is, front, long) (omega arith);
         most = cm ∙ dm;
@@ -108,11 +108,11 @@ module _ {F : Type 0} (handle : F → ℕ) (seen : F → DiskState → Option Se
 
   -- the disk failed, and the file was closed
   pub broken_polls : (s m t : DiskState) (b c : GetBody F) (slice : Slice) (rest : List BodyPart) (most : ℕ) (buffer : List ℕ) (h g : OpenAt F)
-      → left_of b ≡ SliceOf slice ∷ rest → Fills handle seen s h slice most buffer None m g → b.file ≡ Some h → Closes handle m (Some g) t
-      → left_of c ≡ [] → c.file ≡ None → c.most ≡ b.most → length c.buffer.items ≡ length b.buffer.items → Polls handle seen s b Broken t c
+      → left_of b ≡ SliceOf slice ∷ rest → Fills files s h slice most buffer None m g → b.file ≡ Some h → Closes files.handle m (Some g) t
+      → left_of c ≡ [] → c.file ≡ None → c.most ≡ b.most → length c.buffer.items ≡ length b.buffer.items → Polls files s b Broken t c
   broken_polls s m t b c slice rest most buffer h g is fills before closes over none cm cr = record {
-    disk = touches_then handle seen s m t b.file (Some g) c.file (fill_touches s m b.file (Some g) slice most buffer None h g fills before refl)
-        (rw none (closes_touch handle seen m t (Some g) closes));
+    disk = touches_then files s m t b.file (Some g) c.file (fill_touches s m b.file (Some g) slice most buffer None h g fills before refl)
+        (rw none (closes_touch files m t (Some g) closes));
     takes = rw is (inr (refl, over, rw closes.counts fills.answer));
     asks = rw (is, before, closes.asked) fills.asks;
     held = record {
@@ -130,7 +130,7 @@ module _ {F : Type 0} (handle : F → ℕ) (seen : F → DiskState → Option Se
 
   -- another buffer of the same length changes nothing of a poll
   pub polls_over : (s t : DiskState) (b c d : GetBody F) (answer : Answer) → left_of d ≡ left_of c → d.file ≡ c.file → d.most ≡ c.most
-      → length d.buffer.items ≡ length c.buffer.items → Polls handle seen s b answer t c → Polls handle seen s b answer t d
+      → length d.buffer.items ≡ length c.buffer.items → Polls files s b answer t c → Polls files s b answer t d
   polls_over s t b c d answer left file most room polls = record {
     disk = rw file polls.disk;
     takes = rw left polls.takes;

@@ -10,7 +10,7 @@ use Rattle.dav_model.specs.declared.ranges.Slice.{Slice}
 use Rattle.dav_model.specs.declared.answer.Answer.{Answer}
 use Rattle.dav_model.specs.declared.answer.Answer.TheVariants.{Piece}
 use Rattle.dav_model.specs.Bodies.{slice, PieceOf, Polls as PollsParts}
-use Rattle.dav_store.specs.Standing.{Seen}
+use Rattle.dav_store.specs.FileView.{FileView}
 use Rattle.dav_get.specs.declared.part.BodyPart.{BodyPart}
 use Rattle.dav_get.specs.declared.part.BodyPart.TheVariants.{Text, Slice as SliceOf}
 use Rattle.dav_get.specs.declared.open_at.OpenAt.{OpenAt}
@@ -24,21 +24,21 @@ passed_parts : (b : Bool) (number : ℕ) (part : Slice) (n : ℕ) (parts : List 
 passed_parts true number part n parts e = refl
 passed_parts false number part n parts e = refl
 
-module _ {F : Type 0} (handle : F → ℕ) (seen : F → DiskState → Option Seen) where
+module _ {F : Type 0} (files : FileView F) where
   -- The number stays.
-  pub number_stays : (s t : DiskState) (f g : Option (OpenAt F)) (number : ℕ) → TouchesOwn handle seen s f t g → HasNumber seen s f number → HasNumber seen t g number
+  pub number_stays : (s t : DiskState) (f g : Option (OpenAt F)) (number : ℕ) → TouchesOwn files s f t g → HasNumber files.seen s f number → HasNumber files.seen t g number
   number_stays s t None None number touches has h k is told = cc
   number_stays s t None (Some g) number touches has h k is told = absurd touches
   number_stays s t (Some f) None number touches has h k is told = cc
   number_stays s t (Some f) (Some g) number touches has h k is told =
       let e : h ≡ g = cc in
-      let (j, at, same) = told_before (seen f.file s) (seen g.file t) (λ a b. b.stands ≡ a.stands) k touches.3 (rw e at told) in
+      let (j, at, same) = told_before (files.seen f.file s) (files.seen g.file t) (λ a b. b.stands ≡ a.stands) k touches.3 (rw e at told) in
       ap (λ st. st.number) same ∙ has f j refl at
 
   -- the bytes of the world are those that are seen
   bytes_right : (s : DiskState) (file : Option (OpenAt F)) (told : Option World) (number most : ℕ) (part : Slice) (piece : List ℕ)
-      → is_some file ≡ true → StandsIn seen s told file → HasNumber seen s file number
-      → ((h : OpenAt F) → file ≡ Some h → IsPieceOf seen s h part most piece)
+      → is_some file ≡ true → StandsIn files.seen s told file → HasNumber files.seen s file number
+      → ((h : OpenAt F) → file ≡ Some h → IsPieceOf files.seen s h part most piece)
       → (w : World) → told ≡ Some w → PieceOf s.whole most (drop part.start (bytes_of w number)) part.count piece
   bytes_right s None told number most part piece some stands has are w e = cc
   bytes_right s (Some h) told number most part piece some stands has are w e =
@@ -47,8 +47,8 @@ module _ {F : Type 0} (handle : F → ℕ) (seen : F → DiskState → Option Se
       rw (sym (bytes ∙ ap (bytes_of w) same)) ((are h refl).told f at)
 
   pub takes_right : (s t : DiskState) (b : GetBody F) (left : List BodyPart) (answer : Answer) (rest : List BodyPart) (told : Option World) (number : ℕ)
-      → (list_any is_slice left ≡ true → is_some b.file ≡ true) → StandsIn seen s told b.file → HasNumber seen s b.file number
-      → Takes seen s b (Rose s.faults t.faults) left answer rest
+      → (list_any is_slice left ≡ true → is_some b.file ≡ true) → StandsIn files.seen s told b.file → HasNumber files.seen s b.file number
+      → Takes files.seen s b (Rose s.faults t.faults) left answer rest
       → PollsParts told s.whole b.most (Rose s.faults t.faults) (parts_of number left) answer (parts_of number rest)
   takes_right s t b [] answer rest told number needs stands has (end, none) = (end, ap (parts_of number) none)
   takes_right s t b (Text bytes ∷ parts) answer rest told number needs stands has (is, left) = inl (bytes, is, (refl, ap (parts_of number) left))
@@ -65,7 +65,7 @@ module _ {F : Type 0} (handle : F → ℕ) (seen : F → DiskState → Option Se
         ),
       )
 
-  pub polls_right : (s t : DiskState) (b c : GetBody F) (answer : Answer) → IsHeld handle seen s b → Polls handle seen s b answer t c → IsPolled handle seen s b answer t c
+  pub polls_right : (s t : DiskState) (b c : GetBody F) (answer : Answer) → IsHeld files s b → Polls files s b answer t c → IsPolled files s b answer t c
   polls_right s t b c answer held polls = record {
     does = polls;
     right = λ told parts stands has. (
@@ -76,5 +76,5 @@ module _ {F : Type 0} (handle : F → ℕ) (seen : F → DiskState → Option Se
   }
 
   -- the same piece
-  pub same_piece : (s t : DiskState) (b c : GetBody F) (piece other : List ℕ) → piece ≡ other → IsPolled handle seen s b (Piece other) t c → IsPolled handle seen s b (Piece piece) t c
+  pub same_piece : (s t : DiskState) (b c : GetBody F) (piece other : List ℕ) → piece ≡ other → IsPolled files s b (Piece other) t c → IsPolled files s b (Piece piece) t c
   same_piece s t b c piece other is polled = rw is polled

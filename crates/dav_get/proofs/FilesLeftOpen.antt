@@ -53,12 +53,12 @@ module _ {S C F : Type 0} (view : View S C F) where
 
   only_new : (n : ℕ) (s m t : S) → KeepsBut n (view.state s) (view.state m) → (view.state s).live n ≡ None
       → ((l : Live) → (view.state m).live n ≡ Some l → l.how ≡ reading)
-      → (held : Option (OpenAt F)) → ((h : OpenAt F) → held ≡ Some h → IsAt view.handle view.seen (view.state t) h)
-      → KeptOrClosed view n m held t → OpensOnly view.handle (view.state s) held (view.state t)
+      → (held : Option (OpenAt F)) → ((h : OpenAt F) → held ≡ Some h → IsAt view.file (view.state t) h)
+      → KeptOrClosed view n m held t → OpensOnly view.file.handle (view.state s) held (view.state t)
   only_new n s m t keeps fresh how None at kept =
       closed_again n (view.state s) (view.state t) (but_then n (view.state s) (view.state m) (view.state t) keeps kept.0) fresh kept.1
   only_new n s m t keeps fresh how (Some h) at kept =
-      let same : (view.state t).live (view.handle h.file) ≡ (view.state m).live n = ap (view.state t).live kept.1 ∙ kept.2 in
+      let same : (view.state t).live (view.file.handle h.file) ≡ (view.state m).live n = ap (view.state t).live kept.1 ∙ kept.2 in
       let can : can_read ((view.state m).live n) ≡ true = ap can_read (sym same) ∙ (at h refl).live in (
         subst (λ j. KeepsBut j (view.state s) (view.state t)) (sym kept.1) (but_then n (view.state s) (view.state m) (view.state t) keeps kept.0),
         ap (view.state s).live kept.1 ∙ fresh,
@@ -75,17 +75,17 @@ module _ {S C F : Type 0} (view : View S C F) where
   life_world n s (Err e) t life = life.0.world
 
   -- The file in hand was opened before.
-  pub opened_before : (how : OpenOptions) (s m t : S) (file : F) (result : Given F) → how ≡ reading → IsOpened how (view.state s) (view.handle file) (view.seen file (view.state m)) (view.state m)
-      → HeldOrClosed view (view.handle file) m result t → OpenOnlyHeld view s result t
+  pub opened_before : (how : OpenOptions) (s m t : S) (file : F) (result : Given F) → how ≡ reading → IsOpened how (view.state s) (view.file.handle file) (view.file.seen file (view.state m)) (view.state m)
+      → HeldOrClosed view (view.file.handle file) m result t → OpenOnlyHeld view s result t
   opened_before how s m t file (Ok r) is opened life =
-      (life.0, only_new (view.handle file) s m t (opened.kept is) opened.fresh (λ l at. opened.options l at ∙ is) r.1.file life.0.file life.1)
+      (life.0, only_new (view.file.handle file) s m t (opened.kept is) opened.fresh (λ l at. opened.options l at ∙ is) r.1.file life.0.file life.1)
   opened_before how s m t file (Err e) is opened life =
-      closed_again (view.handle file) (view.state s) (view.state t) (but_then (view.handle file) (view.state s) (view.state m) (view.state t) (opened.kept is) life.0) opened.fresh life.1
+      closed_again (view.file.handle file) (view.state s) (view.state t) (but_then (view.file.handle file) (view.state s) (view.state m) (view.state t) (opened.kept is) life.0) opened.fresh life.1
 
-  only_before : (s m t : S) (held : Option (OpenAt F)) → Keeps (view.state s) (view.state m) → OpensOnly view.handle (view.state m) held (view.state t) → OpensOnly view.handle (view.state s) held (view.state t)
+  only_before : (s m t : S) (held : Option (OpenAt F)) → Keeps (view.state s) (view.state m) → OpensOnly view.file.handle (view.state m) held (view.state t) → OpensOnly view.file.handle (view.state s) held (view.state t)
   only_before s m t None keeps only = keeps_then (view.state s) (view.state m) (view.state t) keeps only
   only_before s m t (Some h) keeps only =
-      (but_then (view.handle h.file) (view.state s) (view.state m) (view.state t) (keeps_but (view.handle h.file) (view.state s) (view.state m) keeps) only.0, sym (keeps.live (view.handle h.file)) ∙ only.1, only.2)
+      (but_then (view.file.handle h.file) (view.state s) (view.state m) (view.state t) (keeps_but (view.file.handle h.file) (view.state s) (view.state m) keeps) only.0, sym (keeps.live (view.file.handle h.file)) ∙ only.1, only.2)
 
   -- A look came before.
   pub looked_before : (s m t : S) (result : Given F) → Keeps (view.state s) (view.state m) → OpenOnlyHeld view m result t → OpenOnlyHeld view s result t

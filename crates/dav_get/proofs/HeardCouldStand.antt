@@ -183,7 +183,7 @@ module _ {S C F L E : Type 0} (view : View S C F) (lists : Listings S C L E) (q 
         right = λ looked. fit_at q path (due_opened path found.opened) Rises (reply_at {F = F} q.fields (or_zero number) result) found.right;
       }
     where
-      opened_counts : (answer : Result F FsError) → OpensOne view.handle view.seen reading (view.state m) answer (view.state x)
+      opened_counts : (answer : Result F FsError) → OpensOne view.file reading (view.state m) answer (view.state x)
           → (view.state m).faults ≤ (view.state x).faults
       opened_counts (Ok f) one = one.others.counts
       opened_counts (Err e) one = one.others.counts

@@ -31,7 +31,7 @@ use Rattle.dav_get.proofs.HeardCouldStand.{file_opened, listing_found, placed}
 use Rattle.dav_get.proofs.HeardIsRight.{Settled, bare_settled, failed_looked, fit_at, open_settled, page_settled, settled_at, unlisted_settled}
 use Rattle.dav_get.proofs.TableIsHeard.{placed_at}
 
-opened_counts : {S C F : Type 0} (view : View S C F) (m x : S) (answer : Result F FsError) → OpensOne view.handle view.seen reading (view.state m) answer (view.state x)
+opened_counts : {S C F : Type 0} (view : View S C F) (m x : S) (answer : Result F FsError) → OpensOne view.file reading (view.state m) answer (view.state x)
     → (view.state m).faults ≤ (view.state x).faults
 opened_counts view m x (Ok f) one = one.others.counts
 opened_counts view m x (Err e) one = one.others.counts
@@ -63,8 +63,8 @@ module _ {S C F L E : Type 0} (view : View S C F) (lists : Listings S C L E) (q 
   -- ---- a path that was opened
 
   pub opened_fits : (path : WebPath) (opened : Result Standing FsError) (answer : Result F FsError) (number : Option ℕ) (o : Result Stood FsError) (m x : S)
-      → OpensThere view.seen opened answer (view.state x) ⊎ Spoiled (view.state m) answer (view.state x) → (view.state s).faults ≤ (view.state m).faults
-      → OpensOne view.handle view.seen reading (view.state m) answer (view.state x) → WasHad o → IsOfNumber view number t result
+      → OpensThere view.file.seen opened answer (view.state x) ⊎ Spoiled (view.state m) answer (view.state x) → (view.state s).faults ≤ (view.state m).faults
+      → OpensOne view.file reading (view.state m) answer (view.state x) → WasHad o → IsOfNumber view number t result
       → Heard (due_opened path o) number → HearsFile view (asked_at q path) answer number x o t → Fits (due_opened path (found_as opened))
   opened_fits path opened answer number o m x opens before one had named right heard =
       settled_fits (due_opened path (found_as opened)) (number_in opened)
@@ -79,7 +79,7 @@ module _ {S C F L E : Type 0} (view : View S C F) (lists : Listings S C L E) (q 
     pub fits : Fits (due_opened path opened)
 
   pub opened_could : RefusesFew view lists → (c : C) (path : WebPath) (answer : Result F FsError) (number : Option ℕ) (o : Result Stood FsError) (m x : S) → view.opens m c path reading answer x
-      → (view.state s).faults ≤ (view.state m).faults → OpensOne view.handle view.seen reading (view.state m) answer (view.state x) → WasHad o → IsOfNumber view number t result
+      → (view.state s).faults ≤ (view.state m).faults → OpensOne view.file reading (view.state m) answer (view.state x) → WasHad o → IsOfNumber view number t result
       → Heard (due_opened path o) number → HearsFile view (asked_at q path) answer number x o t → CouldOpen path
   opened_could few c path answer number o m x opens before one had named right heard =
       let found = file_opened view (asked_at q path) s result t number o had

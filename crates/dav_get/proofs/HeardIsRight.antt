@@ -216,7 +216,7 @@ module _ {S C F : Type 0} (view : View S C F) (q : Query) where
 
     -- what is opened
     pub open_settled : (opened : Result Standing FsError) (answer : Result F FsError) (number : Option ℕ) (o : Result Stood FsError) (m x : S) → k ≡ number_in opened
-        → OpensThere view.seen opened answer (view.state x) ⊎ Spoiled (view.state m) answer (view.state x)
+        → OpensThere view.file.seen opened answer (view.state x) ⊎ Spoiled (view.state m) answer (view.state x)
         → (view.state s).faults ≤ (view.state m).faults → (view.state m).faults ≤ (view.state x).faults
         → WasHad o → IsOfNumber view number t result → IsPlacedOr q (due_opened q.path o) Risen (reply_at q.fields (or_zero number) result)
         → HearsFile view q answer number x o t → Settled (due_opened q.path (found_as opened))
@@ -259,7 +259,7 @@ module _ {S C F L E : Type 0} (view : View S C F) (lists : Listings S C L E) (q 
     -- what is heard and shown of a path that is opened
     abbrev OpensAs : (WebPath → Result Standing FsError) → C → S → WebPath → Type 0
     OpensAs opened c m path = (answer : Result F FsError) (x : S) → view.opens m c path reading answer x
-        → OpensThere view.seen (opened path) answer (view.state x) ⊎ Spoiled (view.state m) answer (view.state x)
+        → OpensThere view.file.seen (opened path) answer (view.state x) ⊎ Spoiled (view.state m) answer (view.state x)
 
     -- where nothing changed, a page has no file
     page_named : (x : Given F) → OpenOnlyHeld view s x t → Keeps (view.state s) (view.state t) → IsOfNumber view (Some k) t x
@@ -353,7 +353,7 @@ module _ {S C F L E : Type 0} (view : View S C F) (lists : Listings S C L E) (q 
         (open_settled view (asked_at q path) s result t life k (opened path) answer number o m x (key path refl) (shows path refl answer x opens) before.counts (opened_counts answer one) had named
         (placed_at (asked_at q path) q.path (due_opened path o) (Rose (view.state s).faults (view.state t).faults) (reply_at q.fields (or_zero number) result) right) hears)
       where
-        opened_counts : (answer : Result F FsError) → OpensOne view.handle view.seen reading (view.state m) answer (view.state x)
+        opened_counts : (answer : Result F FsError) → OpensOne view.file reading (view.state m) answer (view.state x)
             → (view.state m).faults ≤ (view.state x).faults
         opened_counts (Ok f) one = one.others.counts
         opened_counts (Err e) one = one.others.counts

@@ -9,7 +9,7 @@ use Rattle.dav_core.specs.Disk.{DiskState}
 use Rattle.dav_core.specs.Unchanged.{Keeps}
 use Rattle.dav_page.specs.declared.row.PageRow.{PageRow}
 use Rattle.dav_page.specs.Listed.{AreRows}
-use Rattle.dav_store.specs.Standing.{Seen}
+use Rattle.dav_store.specs.FileView.{FileView}
 use Rattle.dav_store.specs.View.{View}
 use Rattle.dav_model.specs.Conditions.{Fields}
 use Rattle.dav_model.specs.declared.outcome.Outcome.{Outcome}
@@ -67,7 +67,7 @@ pub index_rows : {F : Type 0} (fields : Fields) (n : ℕ) (gives : Bool) (dir : 
 index_rows fields n gives dir P Q result to is = record { status = is.status; fields = is.fields; parts = by gives is.parts }
   where
     by : (gives : Bool) → IsIndexBody gives dir P (reply_at fields n result).parts → IsIndexBody gives dir Q (reply_at fields n result).parts
-    by true (texts, are, index) = (texts, are, record { page = index.page; reads = index.reads; pieces = index.pieces; of = index.of; rows = to index.page.rows index.rows })
+    by true (texts, are, index) = (texts, are, record { page = index.page; written = index.written; reads = index.reads; pieces = index.pieces; of = index.of; rows = to index.page.rows index.rows })
     by false none = none
 
 -- A page is the same under any number.
@@ -116,9 +116,9 @@ page_room : {F : Type 0} (gives : Bool) (dir : WebPath) (members : List Member) 
 page_room true dir members b (texts, index, left, none) = ap (list_all (has_room b.most (length b.buffer.items))) left ∙ texts_room b.most (length b.buffer.items) texts
 page_room false dir members b (left, none) = ap (list_all (has_room b.most (length b.buffer.items))) left
 
-page_held : {F : Type 0} (handle : F → ℕ) (seen : F → DiskState → Option Seen) (s : DiskState) (gives : Bool) (dir : WebPath) (members : List Member) (b : GetBody F)
-    → IsPageBody gives dir members b → IsHeld handle seen s b
-page_held handle seen s gives dir members b body =
+page_held : {F : Type 0} (files : FileView F) (s : DiskState) (gives : Bool) (dir : WebPath) (members : List Member) (b : GetBody F)
+    → IsPageBody gives dir members b → IsHeld files s b
+page_held files s gives dir members b body =
     let whole = page_whole gives dir members b body in
     let none = page_file gives dir members b body in
     record {
@@ -135,8 +135,8 @@ pub page_life : {S C F : Type 0} (view : View S C F) (q : Query) (members : List
     → Keeps (view.state s) (view.state t) → OpenOnlyHeld view s result t
 page_life view q members s (Err e) t row keeps = keeps
 page_life view q members s (Ok r) t (is, body) keeps = (
-  page_held view.handle view.seen (view.state t) (is_get q.method) q.path members r.1 body,
-  subst (λ file. OpensOnly view.handle (view.state s) file (view.state t)) (sym (page_file (is_get q.method) q.path members r.1 body)) keeps,
+  page_held view.file (view.state t) (is_get q.method) q.path members r.1 body,
+  subst (λ file. OpensOnly view.file.handle (view.state s) file (view.state t)) (sym (page_file (is_get q.method) q.path members r.1 body)) keeps,
 )
 
 pub page_most : {F : Type 0} (q : Query) (members : List Member) (most : ℕ) (result : Given F) → GivesPage q members result → HasMost most result
@@ -147,5 +147,5 @@ page_most q members most (Ok r) (is, body) = λ e. absurd (true≢false (sym e �
 pub no_file_kept : {S C F : Type 0} (view : View S C F) (s : S) (r : Answer F) (t : S) (h : OpenAt F) → OpenOnlyHeld view s (Ok r) t → Keeps (view.state s) (view.state t)
     → r.1.file ≡ Some h → ⊥
 no_file_kept view s r t h life keeps is =
-    let (but, free, live) = subst (λ file. OpensOnly view.handle (view.state s) file (view.state t)) is life.1 in
-    no_file ((view.state t).live (view.handle h.file)) read_file (keeps.live (view.handle h.file) ∙ free) live
+    let (but, free, live) = subst (λ file. OpensOnly view.file.handle (view.state s) file (view.state t)) is life.1 in
+    no_file ((view.state t).live (view.file.handle h.file)) read_file (keeps.live (view.file.handle h.file) ∙ free) live

@@ -89,7 +89,7 @@ module _ {S C F : Type 0} (view : View S C F) where
 
     -- where the file is moved to the first part
     sought_right : (sought : Result ℕ FsError) (number : Option ℕ) (file g : F) (start : ℕ) (s m : S) (answer : Answer F) (t : S)
-        → first_place (sent_for q info) ≡ Some start → number_told (seen_in view s file) ≡ number → can_read ((view.state s).live (view.handle file)) ≡ true
+        → first_place (sent_for q info) ≡ Some start → number_told (seen_in view s file) ≡ number → can_read ((view.state s).live (view.file.handle file)) ≡ true
         → Seeks view s file start sought m g → Sends view q info (sent_after sought (sent_for q info)) (record { file = g; place = start }) m answer t
         → Right number s answer t
     sought_right (Ok n) number file g start s m answer t first told live seeks row =
@@ -112,7 +112,7 @@ module _ {S C F : Type 0} (view : View S C F) where
         }
 
     moved_right : (place : Option ℕ) (number : Option ℕ) (file : F) (s : S) (answer : Answer F) (t : S)
-        → first_place (sent_for q info) ≡ place → number_told (seen_in view s file) ≡ number → can_read ((view.state s).live (view.handle file)) ≡ true
+        → first_place (sent_for q info) ≡ place → number_told (seen_in view s file) ≡ number → can_read ((view.state s).live (view.file.handle file)) ≡ true
         → IfMoved view place file s (λ sought held m. Sends view q info (sent_after sought (sent_for q info)) held m answer t) → Right number s answer t
     moved_right None number file s answer t first told live row = record {
       right = inl (sends_right number (sent_for q info) (record { file = file; place = 0 }) s answer t row);
@@ -124,5 +124,5 @@ module _ {S C F : Type 0} (view : View S C F) where
 
     -- A row that sends of the file what is called for is right, or the file couldn't be placed.
     pub placed_right : (number : Option ℕ) (file : F) (s : S) (answer : Answer F) (t : S) → number_told (seen_in view s file) ≡ number
-        → can_read ((view.state s).live (view.handle file)) ≡ true → SendsFrom view q info (sent_for q info) file s answer t → Right number s answer t
+        → can_read ((view.state s).live (view.file.handle file)) ≡ true → SendsFrom view q info (sent_for q info) file s answer t → Right number s answer t
     placed_right number file s answer t told live row = moved_right (first_place (sent_for q info)) number file s answer t refl told live row

@@ -146,7 +146,7 @@ module _ {S C F : Type 0} (view : View S C F) (q : Query) where
     -- a regular file is sent
     sends_leads : (P : Result Stood FsError → Type 0) (g : F) (s : S) (result : Given F) (t : S) → is_file info.kind ≡ true
         → ((view.state s).faults ≤ (view.state t).faults → P (Ok (stood_heard number info None)))
-        → number_told (seen_in view s g) ≡ number → can_read ((view.state s).live (view.handle g)) ≡ true
+        → number_told (seen_in view s g) ≡ number → can_read ((view.state s).live (view.file.handle g)) ≡ true
         → SendsFile view q info g s result t → Leading number P s result t
     sends_leads P g s (Err e) t regular hears told live row = absurd row
     sends_leads P g s (Ok answer) t regular hears told live row =
@@ -189,7 +189,7 @@ module _ {S C F : Type 0} (view : View S C F) (q : Query) where
 
     -- a file that is asked for its address
     asked_leads : (said : Result (Option (List ℕ)) FsError) (file g : F) (s m : S) (result : Given F) (t : S) → is_file info.kind ≡ true → is_set q.settings.redirect ≡ true
-        → number_told (seen_in view s file) ≡ number → can_read ((view.state s).live (view.handle file)) ≡ true
+        → number_told (seen_in view s file) ≡ number → can_read ((view.state s).live (view.file.handle file)) ≡ true
         → Redirects view s file said m g → AfterRedirect view said q info g m result t
         → Leading number (λ opened. HearsAddress view q true number info file s opened t) s result t
     asked_leads (Err e) file g s m result t regular set told live asked (closed, is) =
@@ -200,14 +200,14 @@ module _ {S C F : Type 0} (view : View S C F) (q : Query) where
         (λ counts. (Ok (Some address), g, m, asked, refl, counts)) row)
     asked_leads (Ok None) file g s m result t regular set told live asked row =
         let told2 = ap number_told asked.done.same ∙ told in
-        let live2 : can_read ((view.state m).live (view.handle g)) ≡ true =
-        ap (λ h. can_read ((view.state m).live h)) asked.handle ∙ ap can_read (asked.done.keeps.live (view.handle file)) ∙ live in
+        let live2 : can_read ((view.state m).live (view.file.handle g)) ≡ true =
+        ap (λ h. can_read ((view.state m).live h)) asked.handle ∙ ap can_read (asked.done.keeps.live (view.file.handle file)) ∙ live in
         led_before number (λ opened. HearsAddress view q true number info file s opened t) (λ opened. HearsAddress view q true number info file s opened t) s m result t asked.done.keeps.counts (λ opened h. h)
         (sends_leads (λ opened. HearsAddress view q true number info file s opened t) g m result t regular
         (λ counts. (Ok None, g, m, asked, refl, counts)) told2 live2 row)
 
     by_redirect_leads : (b : Bool) (file : F) (s : S) (result : Given F) (t : S) → is_file info.kind ≡ true → is_set q.settings.redirect ≡ b
-        → number_told (seen_in view s file) ≡ number → can_read ((view.state s).live (view.handle file)) ≡ true
+        → number_told (seen_in view s file) ≡ number → can_read ((view.state s).live (view.file.handle file)) ≡ true
         → ByRedirect view b q info file s result t → Leading number (λ opened. HearsAddress view q b number info file s opened t) s result t
     by_redirect_leads false file s result t regular set told live row =
         sends_leads (λ opened. HearsAddress view q false number info file s opened t) file s result t regular (λ counts. (refl, counts)) told live row
@@ -215,7 +215,7 @@ module _ {S C F : Type 0} (view : View S C F) (q : Query) where
         asked_leads said file g s m result t regular set told live asked row
 
     by_file_leads : (b : Bool) (file : F) (s : S) (result : Given F) (t : S) → is_file info.kind ≡ b
-        → number_told (seen_in view s file) ≡ number → (is_file info.kind ≡ true → can_read ((view.state s).live (view.handle file)) ≡ true)
+        → number_told (seen_in view s file) ≡ number → (is_file info.kind ≡ true → can_read ((view.state s).live (view.file.handle file)) ≡ true)
         → ByFile view b q info file s result t
         → Leading number (λ opened. HearsAddress view q (b && is_set q.settings.redirect) number info file s opened t) s result t
     by_file_leads true file s result t regular told live row = by_redirect_leads (is_set q.settings.redirect) file s result t regular refl told (live regular) row
@@ -231,16 +231,16 @@ module _ {S C F : Type 0} (view : View S C F) (q : Query) where
 
   -- the metadata of a file that was opened
   meta_leads : (said : Result Info FsError) (number : Option ℕ) (file g : F) (s m : S) (result : Given F) (t : S) → number_told (seen_in view s file) ≡ number
-      → IsSome ((view.state s).live (view.handle file)) → ((l : Live) → (view.state s).live (view.handle file) ≡ Some l → l.how ≡ reading)
+      → IsSome ((view.state s).live (view.file.handle file)) → ((l : Live) → (view.state s).live (view.file.handle file) ≡ Some l → l.how ≡ reading)
       → SaysOf view s file said m g → IfOk said CouldSay → AfterMeta view said q g m result t
       → Leading number (λ opened. HearsMeta view q said number g m opened t) m result t
   meta_leads (Err e) number file g s m result t told some how says could (closed, is) =
       refused_leads e number _ m result t (refl, closed_counts m g t closed) is
   meta_leads (Ok info) number file g s m result t told some how says could row =
       let told2 = ap number_told says.done.same ∙ told in
-      let live2 : is_file info.kind ≡ true → can_read ((view.state m).live (view.handle g)) ≡ true =
-      λ regular. ap (λ h. can_read ((view.state m).live h)) says.handle ∙ ap can_read (says.done.keeps.live (view.handle file))
-      ∙ reads_of ((view.state s).live (view.handle file)) info.kind some how says.done.kind regular in
+      let live2 : is_file info.kind ≡ true → can_read ((view.state m).live (view.file.handle g)) ≡ true =
+      λ regular. ap (λ h. can_read ((view.state m).live h)) says.handle ∙ ap can_read (says.done.keeps.live (view.file.handle file))
+      ∙ reads_of ((view.state s).live (view.file.handle file)) info.kind some how says.done.kind regular in
       led_before number (λ opened. HearsAddress view q (is_file info.kind && is_set q.settings.redirect) number info g m opened t)
       (λ opened. HearsMeta view q (Ok info) number g m opened t) m m result t (omega arith) (λ opened h. (could, h))
       (by_file_leads number info (is_file info.kind) g m result t refl told2 live2 row)
@@ -253,7 +253,7 @@ module _ {S C F : Type 0} (view : View S C F) (q : Query) where
   some_number P number s result t (inl none) = inl none
   some_number P number s result t (inr led) = inr (number, led)
 
-  file_leads : (answer : Result F FsError) (s m : S) (result : Given F) (t : S) → OpensOne view.handle view.seen reading (view.state s) answer (view.state m)
+  file_leads : (answer : Result F FsError) (s m : S) (result : Given F) (t : S) → OpensOne view.file reading (view.state s) answer (view.state m)
       → AfterOpen view answer q m result t → LeadsOn (λ number opened. HearsFile view q answer number m opened t) m result t
   file_leads (Err e) s m result t one (same, is) =
       some_number (λ number opened. HearsFile view q (Err e) number m opened t) None m result t
@@ -298,7 +298,7 @@ module _ {S C F L E : Type 0} (view : View S C F) (lists : Listings S C L E) (q 
 
     opened_heard : (path : WebPath) (info : Info) (answer : Result F FsError) (s m k : S) (result : Given F) (t : S) → course q info.kind ≡ opening path
         → view.looks s c q.path (Ok info) m → Keeps (view.state s) (view.state m)
-        → view.opens m c path reading answer k → OpensOne view.handle view.seen reading (view.state m) answer (view.state k) → (view.state m).faults ≤ (view.state k).faults
+        → view.opens m c path reading answer k → OpensOne view.file reading (view.state m) answer (view.state k) → (view.state m).faults ≤ (view.state k).faults
         → LeadsOn view (asked_at q path) (λ number opened. HearsFile view (asked_at q path) answer number k opened t) k result t → Hearing s result t
     opened_heard path info answer s m k result t is looks keeps opens one counts (inl none) = inl none
     opened_heard path info answer s m k result t is looks keeps opens one counts (inr (number, led)) =
@@ -352,7 +352,7 @@ module _ {S C F L E : Type 0} (view : View S C F) (lists : Listings S C L E) (q 
     course_heard (opening path) info s m result t is looks keeps (answer, k, opens, one, row) =
         opened_heard path info answer s m k result t is looks keeps opens one (opened_counts answer one) (file_leads view (asked_at q path) answer m k result t one row)
       where
-        opened_counts : (answer : Result F FsError) → OpensOne view.handle view.seen reading (view.state m) answer (view.state k)
+        opened_counts : (answer : Result F FsError) → OpensOne view.file reading (view.state m) answer (view.state k)
             → (view.state m).faults ≤ (view.state k).faults
         opened_counts (Ok f) one = one.others.counts
         opened_counts (Err e) one = one.others.counts

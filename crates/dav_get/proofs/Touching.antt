@@ -5,6 +5,7 @@ use Rattle.std.specs.List.{list_all, list_any}
 use Rattle.dav_io.proofs.ToldLemmas.{both_then, both_same}
 use Rattle.dav_core.specs.Disk.{DiskState}
 use Rattle.dav_core.proofs.UnchangedLemmas.{keeps_same, keeps_but, but_then}
+use Rattle.dav_store.specs.FileView.{FileView}
 use Rattle.dav_store.specs.Standing.{Seen}
 use Rattle.dav_get.specs.declared.part.BodyPart.{BodyPart}
 use Rattle.dav_get.specs.declared.part.BodyPart.TheVariants.{Text}
@@ -34,63 +35,63 @@ same_stands a = both_same a a (λ f g. g.stands ≡ f.stands) (λ f. refl) refl
 stands_then : (a b c : Option Seen) → SameStands a b → SameStands b c → SameStands a c
 stands_then a b c p q = both_then a b c (λ f g. g.stands ≡ f.stands) (λ f g. g.stands ≡ f.stands) (λ f g. g.stands ≡ f.stands) (λ f g h e k. k ∙ e) p q
 
-module _ {F : Type 0} (handle : F → ℕ) (seen : F → DiskState → Option Seen) where
-  pub touches_none : (s : DiskState) (file : Option (OpenAt F)) → TouchesOwn handle seen s file s file
+module _ {F : Type 0} (files : FileView F) where
+  pub touches_none : (s : DiskState) (file : Option (OpenAt F)) → TouchesOwn files s file s file
   touches_none s None = refl
-  touches_none s (Some h) = (keeps_but (handle h.file) s s (keeps_same s), refl, refl, same_stands (seen h.file s))
+  touches_none s (Some h) = (keeps_but (files.handle h.file) s s (keeps_same s), refl, refl, same_stands (files.seen h.file s))
 
-  pub touches_then : (s m t : DiskState) (f g k : Option (OpenAt F)) → TouchesOwn handle seen s f m g → TouchesOwn handle seen m g t k → TouchesOwn handle seen s f t k
+  pub touches_then : (s m t : DiskState) (f g k : Option (OpenAt F)) → TouchesOwn files s f m g → TouchesOwn files m g t k → TouchesOwn files s f t k
   touches_then s m t None None None p q = q ∙ p
   touches_then s m t None None (Some k) p q = absurd q
   touches_then s m t None (Some g) k p q = absurd p
   touches_then s m t (Some h) None None (keeps, closed) q = rw q (keeps, closed)
   touches_then s m t (Some h) None (Some k) p q = absurd q
   touches_then s m t (Some h) (Some g) None (keeps, same, live, stands) (more, closed) =
-      (but_then (handle h.file) s m t keeps (rw same at more), rw same at closed)
+      (but_then (files.handle h.file) s m t keeps (rw same at more), rw same at closed)
   touches_then s m t (Some h) (Some g) (Some k) (keeps, same, live, stands) (more, still, alive, also) =
-      (but_then (handle h.file) s m t keeps (rw same at more), still ∙ same, (rw same at alive) ∙ live, stands_then _ _ _ stands also)
+      (but_then (files.handle h.file) s m t keeps (rw same at more), still ∙ same, (rw same at alive) ∙ live, stands_then _ _ _ stands also)
 
-  pub closes_touch : (s t : DiskState) (file : Option (OpenAt F)) → Closes handle s file t → TouchesOwn handle seen s file t None
+  pub closes_touch : (s t : DiskState) (file : Option (OpenAt F)) → Closes files.handle s file t → TouchesOwn files s file t None
   closes_touch s t None same = same
   closes_touch s t (Some h) closed = (closed.keeps, closed.live)
 
-  pub passes_touch : (s t : DiskState) (b : GetBody F) (left : List BodyPart) (file : Option (OpenAt F)) → Passes handle s b left t file → TouchesOwn handle seen s b.file t file
+  pub passes_touch : (s t : DiskState) (b : GetBody F) (left : List BodyPart) (file : Option (OpenAt F)) → Passes files.handle s b left t file → TouchesOwn files s b.file t file
   passes_touch s t b [] file (none, closes) = rw none (closes_touch s t b.file closes)
   passes_touch s t b (part ∷ parts) file (same, still) = rw (same, still) (touches_none s b.file)
 
   -- What closes a file asks nothing.
-  pub closes_ask : (s t : DiskState) (file : Option (OpenAt F)) → Closes handle s file t → t.asked ≡ s.asked
+  pub closes_ask : (s t : DiskState) (file : Option (OpenAt F)) → Closes files.handle s file t → t.asked ≡ s.asked
   closes_ask s t None same = ap (λ (x : DiskState). x.asked) same
   closes_ask s t (Some h) closed = closed.asked
 
-  pub passes_ask : (s t : DiskState) (b : GetBody F) (left : List BodyPart) (file : Option (OpenAt F)) → Passes handle s b left t file → t.asked ≡ s.asked
+  pub passes_ask : (s t : DiskState) (b : GetBody F) (left : List BodyPart) (file : Option (OpenAt F)) → Passes files.handle s b left t file → t.asked ≡ s.asked
   passes_ask s t b [] file (none, closes) = closes_ask s t b.file closes
   passes_ask s t b (part ∷ parts) file (same, still) = ap (λ (x : DiskState). x.asked) still
 
   -- something is left, and nothing was done
-  pub goes_on : (s : DiskState) (b : GetBody F) (left : List BodyPart) → (left ≡ [] → ⊥) → Passes handle s b left s b.file
+  pub goes_on : (s : DiskState) (b : GetBody F) (left : List BodyPart) → (left ≡ [] → ⊥) → Passes files.handle s b left s b.file
   goes_on s b [] some = absurd (some refl)
   goes_on s b (part ∷ parts) some = (refl, refl)
 
-  needs_then : (s t : DiskState) (b : GetBody F) (left : List BodyPart) (file : Option (OpenAt F)) → Passes handle s b left t file
+  needs_then : (s t : DiskState) (b : GetBody F) (left : List BodyPart) (file : Option (OpenAt F)) → Passes files.handle s b left t file
       → (list_any is_slice left ≡ true → is_some b.file ≡ true) → list_any is_slice left ≡ true → is_some file ≡ true
   needs_then s t b [] file passes needs has = cc
   needs_then s t b (part ∷ parts) file (same, still) needs has = rw same (needs has)
 
-  over_then : (s t : DiskState) (b : GetBody F) (left : List BodyPart) (file : Option (OpenAt F)) → Passes handle s b left t file → left ≡ [] → is_some file ≡ false
+  over_then : (s t : DiskState) (b : GetBody F) (left : List BodyPart) (file : Option (OpenAt F)) → Passes files.handle s b left t file → left ≡ [] → is_some file ≡ false
   over_then s t b [] file (none, closes) over = rw none refl
   over_then s t b (part ∷ parts) file passes over = cc
 
-  file_then : (s t : DiskState) (b : GetBody F) (left : List BodyPart) (file : Option (OpenAt F)) → Passes handle s b left t file
-      → ((h : OpenAt F) → b.file ≡ Some h → IsAt handle seen s h) → (h : OpenAt F) → file ≡ Some h → IsAt handle seen t h
+  file_then : (s t : DiskState) (b : GetBody F) (left : List BodyPart) (file : Option (OpenAt F)) → Passes files.handle s b left t file
+      → ((h : OpenAt F) → b.file ≡ Some h → IsAt files s h) → (h : OpenAt F) → file ≡ Some h → IsAt files t h
   file_then s t b [] file (none, closes) at h is = cc
   file_then s t b (part ∷ parts) file (same, still) at h is = rw still (at h (sym same ∙ is))
 
   -- a body stays held where it goes on
-  pub held_then : (s t : DiskState) (b c : GetBody F) → IsHeld handle seen s b → Passes handle s b (left_of c) t c.file
+  pub held_then : (s t : DiskState) (b c : GetBody F) → IsHeld files s b → Passes files.handle s b (left_of c) t c.file
       → list_all is_part (left_of c) ≡ true → (list_any is_slice (left_of c) ≡ true → list_any is_slice (left_of b) ≡ true)
       → list_all (has_room b.most (length b.buffer.items)) (left_of c) ≡ true
-      → c.most ≡ b.most → length c.buffer.items ≡ length b.buffer.items → IsHeld handle seen t c
+      → c.most ≡ b.most → length c.buffer.items ≡ length b.buffer.items → IsHeld files t c
   held_then s t b c held passes parts slices fit most room = record {
     parts = parts;
     needs = needs_then s t b (left_of c) c.file passes (λ has. held.needs (slices has));

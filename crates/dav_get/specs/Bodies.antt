@@ -10,6 +10,7 @@ use Rattle.dav_model.specs.declared.answer.Answer.{Answer}
 use Rattle.dav_model.specs.declared.answer.Answer.TheVariants.{Piece, End, Broken}
 use Rattle.dav_model.specs.Bodies.{Part, Polls as PollsParts, text as as_text, slice as as_slice, zeros_size}
 use Rattle.dav_model.specs.Calls.{AsksToRead, is_piece}
+use Rattle.dav_store.specs.FileView.{FileView}
 use Rattle.dav_store.specs.Standing.{Seen}
 use Rattle.dav_store.specs.Files.{FileCloses}
 use Rattle.dav_get.specs.declared.part.BodyPart.{BodyPart}
@@ -59,14 +60,13 @@ pub record IsRoom (left : List BodyPart) (size len capacity : ℕ) : Type 0 wher
 
 -- What a body keeps: no part that is left is empty; its file is held where a slice is left, with room for its pieces,
 -- and only while a part is left; the file is live, regular and opened for reading, at the place that is noted.
-pub record IsHeld {F : Type 0} (handle : F → ℕ) (seen : F → DiskState → Option Seen) (s : DiskState)
-    (b : GetBody F) : Type 0 where
+pub record IsHeld {F : Type 0} (files : FileView F) (s : DiskState) (b : GetBody F) : Type 0 where
   pub parts : list_all is_part (left_of b) ≡ true
   pub needs : list_any is_slice (left_of b) ≡ true → is_some b.file ≡ true
   pub over : left_of b ≡ [] → is_some b.file ≡ false
   pub some : list_any is_slice (left_of b) ≡ true → 0 < b.most
   pub room : list_all (has_room b.most (length b.buffer.items)) (left_of b) ≡ true
-  pub file : (h : OpenAt F) → b.file ≡ Some h → IsAt handle seen s h
+  pub file : (h : OpenAt F) → b.file ≡ Some h → IsAt files s h
 
 -- The file is closed, where there is one.
 abbrev pub Closes : {F : Type 0} → (F → ℕ) → DiskState → Option (OpenAt F) → DiskState → Type 0
@@ -96,13 +96,14 @@ Takes {F} seen s b cause (SliceOf slice ∷ parts) answer rest =
     ⊎ ((answer ≡ Broken) × (rest ≡ []) × cause)
 
 -- No other file is touched. The body's own is the same, or closed.
-abbrev pub TouchesOwn : {F : Type 0} → (F → ℕ) → (F → DiskState → Option Seen) → DiskState → Option (OpenAt F)
-    → DiskState → Option (OpenAt F) → Type 0
-TouchesOwn handle seen s None t None = t ≡ s
-TouchesOwn handle seen s None t (Some g) = ⊥
-TouchesOwn handle seen s (Some h) t None = KeepsBut (handle h.file) s t × (t.live (handle h.file) ≡ None)
-TouchesOwn handle seen s (Some h) t (Some g) = KeepsBut (handle h.file) s t × (handle g.file ≡ handle h.file)
-    × (t.live (handle h.file) ≡ s.live (handle h.file)) × SameStands (seen h.file s) (seen g.file t)
+abbrev pub TouchesOwn : {F : Type 0} → FileView F → DiskState → Option (OpenAt F) → DiskState → Option (OpenAt F)
+    → Type 0
+TouchesOwn files s None t None = t ≡ s
+TouchesOwn files s None t (Some g) = ⊥
+TouchesOwn files s (Some h) t None = KeepsBut (files.handle h.file) s t × (t.live (files.handle h.file) ≡ None)
+TouchesOwn files s (Some h) t (Some g) = KeepsBut (files.handle h.file) s t
+    × (files.handle g.file ≡ files.handle h.file) × (t.live (files.handle h.file) ≡ s.live (files.handle h.file))
+    × SameStands (files.seen h.file s) (files.seen g.file t)
 
 -- P, where a piece is given
 abbrev pub IfPiece : Answer → (List ℕ → Type 0) → Type 0
@@ -110,21 +111,21 @@ IfPiece (Piece piece) P = P piece
 IfPiece answer P = Unit {0}
 
 -- Which calls of the disk a poll asks: none for a text or at the end, and for a slice those by which its next bytes are
--- read.
-abbrev pub Asks : {F : Type 0} → Option (OpenAt F) → List BodyPart → Answer → ℕ → ℕ → Type 0
-Asks file [] answer before after = after ≡ before
-Asks file (Text bytes ∷ parts) answer before after = after ≡ before
-Asks None (SliceOf slice ∷ parts) answer before after = ⊥
-Asks (Some h) (SliceOf slice ∷ parts) answer before after = AsksToRead h.place slice.start
-    (is_piece answer) before after
+-- read, where each move and each read of the file asks one.
+abbrev pub Asks : {F : Type 0} → Type 0 → Option (OpenAt F) → List BodyPart → Answer → ℕ → ℕ → Type 0
+Asks once file [] answer before after = after ≡ before
+Asks once file (Text bytes ∷ parts) answer before after = after ≡ before
+Asks once None (SliceOf slice ∷ parts) answer before after = ⊥
+Asks once (Some h) (SliceOf slice ∷ parts) answer before after = once
+    → AsksToRead h.place slice.start (is_piece answer) before after
 
 -- what a poll does
-pub record Polls {F : Type 0} (handle : F → ℕ) (seen : F → DiskState → Option Seen) (s : DiskState) (b : GetBody F)
+pub record Polls {F : Type 0} (files : FileView F) (s : DiskState) (b : GetBody F)
     (answer : Answer) (t : DiskState) (c : GetBody F) : Type 0 where
-  pub disk : TouchesOwn handle seen s b.file t c.file
-  pub takes : Takes seen s b (Rose s.faults t.faults) (left_of b) answer (left_of c)
-  pub held : IsHeld handle seen t c
-  pub asks : Asks b.file (left_of b) answer s.asked t.asked
+  pub disk : TouchesOwn files s b.file t c.file
+  pub takes : Takes files.seen s b (Rose s.faults t.faults) (left_of b) answer (left_of c)
+  pub held : IsHeld files t c
+  pub asks : Asks files.asks_once b.file (left_of b) answer s.asked t.asked
   pub bound : IfPiece answer (λ piece. length piece ≤ next_most_of (left_of b) (length b.buffer.items))
   pub most : c.most ≡ b.most
   pub room : length c.buffer.items ≡ length b.buffer.items
@@ -149,11 +150,11 @@ StandsIn {F} seen s told file = (w : World) (h : OpenAt F) → told ≡ Some w �
 
 -- What a poll does, and that it is a poll of the parts that are left: in every run for their lengths, and for the bytes
 -- of a world in which the file stands.
-pub record IsPolled {F : Type 0} (handle : F → ℕ) (seen : F → DiskState → Option Seen) (s : DiskState) (b : GetBody F)
+pub record IsPolled {F : Type 0} (files : FileView F) (s : DiskState) (b : GetBody F)
     (answer : Answer) (t : DiskState) (c : GetBody F) : Type 0 where
-  pub does : Polls handle seen s b answer t c
-  pub right : (told : Option World) (parts : List Part) → StandsIn seen s told b.file → HasParts seen s parts b
-      → (rest : List Part) × HasParts seen t rest c
+  pub does : Polls files s b answer t c
+  pub right : (told : Option World) (parts : List Part) → StandsIn files.seen s told b.file
+      → HasParts files.seen s parts b → (rest : List Part) × HasParts files.seen t rest c
       × PollsParts told s.whole b.most (Rose s.faults t.faults) parts answer rest
 
 -- the text that stands first
@@ -182,10 +183,10 @@ IsInside GivenEnd c = Unit {0}
 IsInside GivenBroken c = Unit {0}
 
 -- The same is left of the same file.
-pub record SameLeft {F : Type 0} (handle : F → ℕ) (seen : F → DiskState → Option Seen) (s : DiskState) (b : GetBody F)
+pub record SameLeft {F : Type 0} (files : FileView F) (s : DiskState) (b : GetBody F)
     (t : DiskState) (c : GetBody F) : Type 0 where
-  pub disk : TouchesOwn handle seen s b.file t c.file
+  pub disk : TouchesOwn files s b.file t c.file
   pub left : left_of c ≡ left_of b
-  pub held : IsHeld handle seen t c
+  pub held : IsHeld files t c
   pub most : c.most ≡ b.most
   pub room : length c.buffer.items ≡ length b.buffer.items

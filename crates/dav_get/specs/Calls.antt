@@ -20,7 +20,7 @@ AsksToOpen (Ok file) s t = AsksOnce s t
 AsksToOpen (Err e) s t = AsksAtMostOnce s t
 
 -- Where this holds of the store, which a look leaves, the store asks its disk once to look at a path, unless memory is
--- refused, and at most once to open it; where it refuses a listing, at most once.
+-- refused, and at most once to open it; where it refuses a listing, at most once. Its files ask it once for each move.
 pub record AsksByOne {S C F L E : Type 0} (view : View S C F) (lists : Listings S C L E) (holds : S → Bool)
     : Type 0 where
   pub looks : (s t : S) (c : C) (path : WebPath) (r : Result Info FsError) → holds s ≡ true → view.looks s c path r t
@@ -33,6 +33,7 @@ pub record AsksByOne {S C F L E : Type 0} (view : View S C F) (lists : Listings 
   pub refuses_list : (s t : S) (c : C) (path : WebPath) (e : FsError) → holds s ≡ true
       → lists.lists s c path Data (Err e) t
       → AsksAtMostOnce (view.state s) (view.state t)
+  pub files : view.file.asks_once
 
 -- the status of an answer
 abbrev pub status_given : {F : Type 0} → Given F → ℕ

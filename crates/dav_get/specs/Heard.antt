@@ -97,7 +97,7 @@ module _ {S C F L E : Type 0} (view : View S C F) (lists : Listings S C L E) (q 
   HearsCourse directing c number s opened listed t = Counts view q s t
   HearsCourse (opening path) c number s opened listed t = (answer : Result F FsError) × (m : S)
       × view.opens s c path reading answer m
-      × OpensOne view.handle view.seen reading (view.state s) answer (view.state m)
+      × OpensOne view.file reading (view.state s) answer (view.state m)
       × HearsFile view (asked_at q path) answer number m opened t
   HearsCourse listing c number s opened listed t = IsListing view lists (is_get q.method) c q.path s listed t
       × Keeps (view.state s) (view.state t)

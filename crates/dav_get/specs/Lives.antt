@@ -19,17 +19,17 @@ module _ {S C F : Type 0} (view : View S C F) where
   -- the file in hand is the body's, or is closed
   abbrev pub KeptOrClosed : ℕ → S → Option (OpenAt F) → S → Type 0
   KeptOrClosed n s None t = KeepsBut n (view.state s) (view.state t) × ((view.state t).live n ≡ None)
-  KeptOrClosed n s (Some h) t = KeepsBut n (view.state s) (view.state t) × (view.handle h.file ≡ n)
+  KeptOrClosed n s (Some h) t = KeepsBut n (view.state s) (view.state t) × (view.file.handle h.file ≡ n)
       × ((view.state t).live n ≡ (view.state s).live n)
 
   abbrev pub HeldOrClosed : ℕ → S → Given F → S → Type 0
-  HeldOrClosed n s (Ok r) t = IsHeld view.handle view.seen (view.state t) r.1 × KeptOrClosed n s r.1.file t
+  HeldOrClosed n s (Ok r) t = IsHeld view.file (view.state t) r.1 × KeptOrClosed n s r.1.file t
   HeldOrClosed n s (Err e) t = KeepsBut n (view.state s) (view.state t) × ((view.state t).live n ≡ None)
 
   -- Nothing is open that wasn't, but the body's file.
   abbrev pub OpenOnlyHeld : S → Given F → S → Type 0
-  OpenOnlyHeld s (Ok r) t = IsHeld view.handle view.seen (view.state t) r.1
-      × OpensOnly view.handle (view.state s) r.1.file (view.state t)
+  OpenOnlyHeld s (Ok r) t = IsHeld view.file (view.state t) r.1
+      × OpensOnly view.file.handle (view.state s) r.1.file (view.state t)
   OpenOnlyHeld s (Err e) t = Keeps (view.state s) (view.state t)
 
 -- where slices of a file are left, a piece has at most so many bytes

@@ -141,7 +141,8 @@ module _ {S C F : Type 0} (view : View S C F) where
   -- the file was asked for its address
   pub record Redirects (s : S) (file : F) (result : Result (Option (List ℕ)) FsError) (t : S) (after : F) : Type 0 where
     pub done : FileRedirects (view.state s) (seen_in view s file) result (view.state t) (seen_in view t after)
-    pub handle : view.handle after ≡ view.handle file
+    pub reads_from : view.file.reads_from file (view.state s) → view.file.reads_from after (view.state t)
+    pub handle : view.file.handle after ≡ view.file.handle file
     pub lent : Lent view s t
 
   -- A body of these parts has the file at its place; where there are none, it is closed.
@@ -207,7 +208,7 @@ module _ {S C F : Type 0} (view : View S C F) where
   -- What is at the path is opened.
   abbrev pub Opens : Query → C → S → Given F → S → Type 0
   Opens q c s result t = (opened : Result F FsError) × (m : S) × view.opens s c q.path reading opened m
-      × OpensOne view.handle view.seen reading (view.state s) opened (view.state m) × AfterOpen opened q m result t
+      × OpensOne view.file reading (view.state s) opened (view.state m) × AfterOpen opened q m result t
 
 -- The body of a directory's page: its texts. HEAD has none.
 abbrev pub IsPageBody : {F : Type 0} → Bool → WebPath → List Member → GetBody F → Type 0

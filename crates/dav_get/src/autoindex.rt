@@ -37,7 +37,6 @@ fn list<S: GuardedFileSystem<C>, C>(
     credentials: &C,
     asked: &Asked<'_>,
 ) -> Result<Vec<Member>, FsError>
-    requires admits { S.view.admits fs.old }
     ensures listed { MatchResult result (λ members. IsListing S.view
         S.listings (the_is_get asked.now.method) credentials.now asked.now.path.now fs.old (Ok members.items) fs.new)
         (λ e. IsListing S.view S.listings (the_is_get asked.now.method) credentials.now
@@ -137,14 +136,12 @@ fn list_page<S: GuardedFileSystem<C>, C>(
     credentials: &C,
     asked: &Asked<'_>,
 ) -> Given<S::File>
-    requires admits { S.view.admits fs.old }
     ensures table { Lists S.view S.listings (asked_of asked.now) credentials.now fs.old result fs.new
         ⊎ (result ≡ Err DavError.NoMemory) }
     ensures leads { LeadsOn S.view S.listings credentials.now fs.old fs.new }
     ensures life { OpenOnlyHeld S.view fs.old result fs.new }
     ensures most { HasMost (read_size_of asked.now.settings.now.read_buf_size) result }
     ensures loan { S.view.loan fs.new ≡ S.view.loan fs.old }
-    ensures admits { S.view.admits fs.new }
 {
     match list(alloc, fs, credentials, asked) {
         Ok(members) => give_page(alloc, asked, members),
@@ -159,14 +156,12 @@ pub(crate) fn get_page<S: GuardedFileSystem<C>, C>(
     credentials: &C,
     asked: &Asked<'_>,
 ) -> Given<S::File>
-    requires admits { S.view.admits fs.old }
     ensures table { ByCourse S.view S.listings (page_course asked.now.settings.now) (asked_of asked.now)
         credentials.now fs.old result fs.new ⊎ (result ≡ Err DavError.NoMemory) }
     ensures leads { LeadsOn S.view S.listings credentials.now fs.old fs.new }
     ensures life { OpenOnlyHeld S.view fs.old result fs.new }
     ensures most { HasMost (read_size_of asked.now.settings.now.read_buf_size) result }
     ensures loan { S.view.loan fs.new ≡ S.view.loan fs.old }
-    ensures admits { S.view.admits fs.new }
 {
     if may_list(asked.settings) {
         return list_page(alloc, fs, credentials, asked);
@@ -199,14 +194,12 @@ pub fn handle_autoindex<S: GuardedFileSystem<C>, C>(
     path: &DavPath,
     head: bool,
 ) -> Given<S::File>
-    requires admits { S.view.admits fs.old }
     ensures table { ByCourse S.view S.listings (page_course settings.now) (query settings.now
         [] (the_method_for head) path.now) credentials.now fs.old result fs.new ⊎ (result ≡ Err DavError.NoMemory) }
     ensures page { (number : ℕ) → OnOk result (IsIndexReply (not head) path.now (AreSound path.now)
         (reply_at [] number result)) }
     ensures leads { LeadsOn S.view S.listings credentials.now fs.old fs.new }
     ensures life { OpenOnlyHeld S.view fs.old result fs.new }
-    ensures admits { S.view.admits fs.new }
     ensures loan { S.view.loan fs.new ≡ S.view.loan fs.old }
 {
     let fields = HeaderMap::new(alloc);

@@ -104,8 +104,8 @@ impl<F> GetBody<F> {
     fn end<D: Disk>(&mut self, disk: &mut D)
     where
         F: DavFile<D>,
-        requires { IfSome self.old.file (λ h. IsSome ((D.state disk.old).live (F.handle h.file))) }
-        ensures done { Closes F.handle (D.state disk.old) self.old.file (D.state disk.new) }
+        requires { IfSome self.old.file (λ h. IsSome ((D.state disk.old).live (F.view.handle h.file))) }
+        ensures done { Closes F.view.handle (D.state disk.old) self.old.file (D.state disk.new) }
         ensures rest { self.new ≡ record self.old { file = None } }
         ensures loan { D.loan disk.new ≡ D.loan disk.old }
     {
@@ -120,8 +120,9 @@ impl<F> GetBody<F> {
     where
         F: DavFile<D>,
         requires next { self.old.next < vec_len self.old.parts }
-        requires live { IfSome self.old.file (λ h. IsSome ((D.state disk.old).live (F.handle h.file))) }
-        ensures done { Passes F.handle (D.state disk.old) self.old (left_of self.new) (D.state disk.new) self.new.file }
+        requires live { IfSome self.old.file (λ h. IsSome ((D.state disk.old).live (F.view.handle h.file))) }
+        ensures done { Passes F.view.handle (D.state disk.old) self.old (left_of self.new) (D.state disk.new)
+            self.new.file }
         ensures parts { self.new.parts ≡ self.old.parts }
         ensures next { self.new.next ≡ self.old.next + 1 }
         ensures most { self.new.most ≡ self.old.most }
@@ -141,8 +142,9 @@ impl<F> GetBody<F> {
         requires next { self.old.next < vec_len self.old.parts }
         requires within { count ≤ slice.count }
         requires fits { slice.start + slice.count < 2 ^ 64 }
-        requires live { IfSome self.old.file (λ h. IsSome ((D.state disk.old).live (F.handle h.file))) }
-        ensures done { Passes F.handle (D.state disk.old) self.old (left_of self.new) (D.state disk.new) self.new.file }
+        requires live { IfSome self.old.file (λ h. IsSome ((D.state disk.old).live (F.view.handle h.file))) }
+        ensures done { Passes F.view.handle (D.state disk.old) self.old (left_of self.new) (D.state disk.new)
+            self.new.file }
         ensures left { left_of self.new ≡ passed slice count (drop (self.old.next + 1) self.old.parts.items) }
         ensures most { self.new.most ≡ self.old.most }
         ensures buffer { self.new.buffer ≡ self.old.buffer }
@@ -162,8 +164,8 @@ impl<F> GetBody<F> {
     pub(crate) fn give_up<D: Disk>(&mut self, disk: &mut D)
     where
         F: DavFile<D>,
-        requires { IfSome self.old.file (λ h. IsSome ((D.state disk.old).live (F.handle h.file))) }
-        ensures done { Closes F.handle (D.state disk.old) self.old.file (D.state disk.new) }
+        requires { IfSome self.old.file (λ h. IsSome ((D.state disk.old).live (F.view.handle h.file))) }
+        ensures done { Closes F.view.handle (D.state disk.old) self.old.file (D.state disk.new) }
         ensures left { left_of self.new ≡ [] }
         ensures file { self.new.file ≡ None }
         ensures most { self.new.most ≡ self.old.most }
@@ -178,8 +180,8 @@ impl<F> GetBody<F> {
     fn step<D: Disk>(&mut self, disk: &mut D) -> Given
     where
         F: DavFile<D>,
-        requires { IsHeld F.handle F.seen (D.state disk.old) self.old }
-        ensures done { Polls F.handle F.seen (D.state disk.old) self.old (answer_of result self.new)
+        requires { IsHeld F.view (D.state disk.old) self.old }
+        ensures done { Polls F.view (D.state disk.old) self.old (answer_of result self.new)
             (D.state disk.new) self.new }
         ensures inside { IsInside result self.new }
         ensures loan { D.loan disk.new ≡ D.loan disk.old }
@@ -204,10 +206,10 @@ impl<F> GetBody<F> {
     fn step_slice<D: Disk>(&mut self, disk: &mut D, slice: Slice) -> Given
     where
         F: DavFile<D>,
-        requires held { IsHeld F.handle F.seen (D.state disk.old) self.old }
+        requires held { IsHeld F.view (D.state disk.old) self.old }
         requires next { self.old.next < vec_len self.old.parts }
         requires slice { left_of self.old ≡ SlicePart slice ∷ drop (self.old.next + 1) self.old.parts.items }
-        ensures done { Polls F.handle F.seen (D.state disk.old) self.old (answer_of result self.new)
+        ensures done { Polls F.view (D.state disk.old) self.old (answer_of result self.new)
             (D.state disk.new) self.new }
         ensures inside { IsInside result self.new }
         ensures loan { D.loan disk.new ≡ D.loan disk.old }
@@ -234,8 +236,8 @@ impl<F> GetBody<F> {
     pub fn poll_piece<'a, D: Disk>(&'a mut self, disk: &mut D) -> Polled<'a>
     where
         F: DavFile<D>,
-        requires { IsHeld F.handle F.seen (D.state disk.old) self.old }
-        ensures* ends { sem 𝓛 (EndsPolled F.row F.handle F.seen (D.state disk.old)
+        requires { IsHeld F.view (D.state disk.old) self.old }
+        ensures* ends { sem 𝓛 (EndsPolled F.row F.view (D.state disk.old)
             (D.state disk.new) self.entry self.old result) }
         ensures bound { IfPiece (answer_in result) (λ piece. length piece ≤ next_most_of (left_of self.old)
             (vec_len self.old.buffer)) }
@@ -273,9 +275,9 @@ impl<F> GetBody<F> {
     pub fn take_piece<D: Disk>(&mut self, disk: &mut D, room: Vec<u8>) -> Answer
     where
         F: DavFile<D>,
-        requires held { IsHeld F.handle F.seen (D.state disk.old) self.old }
+        requires held { IsHeld F.view (D.state disk.old) self.old }
         requires room { IsRoom (left_of self.old) (vec_len self.old.buffer) (vec_len room) (vec_capacity room) }
-        ensures done { IsPolled F.handle F.seen (D.state disk.old) self.old result (D.state disk.new) self.new }
+        ensures done { IsPolled F.view (D.state disk.old) self.old result (D.state disk.new) self.new }
         ensures loan { D.loan disk.new ≡ D.loan disk.old }
     {
         match self.step(disk) {
@@ -296,8 +298,8 @@ impl<F> GetBody<F> {
     pub fn close<D: Disk>(self, disk: &mut D)
     where
         F: DavFile<D>,
-        requires { IsHeld F.handle F.seen (D.state disk.old) self }
-        ensures done { Closes F.handle (D.state disk.old) self.file (D.state disk.new) }
+        requires { IsHeld F.view (D.state disk.old) self }
+        ensures done { Closes F.view.handle (D.state disk.old) self.file (D.state disk.new) }
         ensures loan { D.loan disk.new ≡ D.loan disk.old }
     {
         let GetBody {

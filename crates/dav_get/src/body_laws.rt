@@ -12,7 +12,7 @@ use dav_store::DavFile;
 /// A body that is at its end, or broke, gives the end at each later poll, and asks the disk nothing. Others may change
 /// the disk between two polls.
 pub fn ended_bodies_stay<F: DavFile<D>, D: Disk>()
-    ensures { (s t u v : DiskState) (b c d : GetBody F) (answer later : Answer) → Polls F.handle F.seen s b answer t c
+    ensures { (s t u v : DiskState) (b c d : GetBody F) (answer later : Answer) → Polls F.view s b answer t c
         → (answer ≡ End) ⊎ (answer ≡ Broken)
-        → Polls F.handle F.seen u c later v d → (later ≡ End) × (v ≡ u) }
+        → Polls F.view u c later v d → (later ≡ End) × (v ≡ u) }
 {}

@@ -21,8 +21,8 @@ impl<F> GetBody<F> {
     fn take<D: Disk>(&mut self, alloc: Global, disk: &mut D) -> Result<Option<Bytes>, BodyFault>
     where
         F: DavFile<D>,
-        requires { IsHeld F.handle F.seen (D.state disk.old) self.old }
-        ensures done { Takes F.handle F.seen (D.state disk.old) self.old (item_of result) (D.state disk.new) self.new }
+        requires { IsHeld F.view (D.state disk.old) self.old }
+        ensures done { Takes F.view (D.state disk.old) self.old (item_of result) (D.state disk.new) self.new }
         ensures loan { D.loan disk.new ≡ D.loan disk.old }
     {
         if self.next >= self.parts.len() {
@@ -52,10 +52,10 @@ impl<F> GetBody<F> {
     ) -> Result<Option<Bytes>, BodyFault>
     where
         F: DavFile<D>,
-        requires held { IsHeld F.handle F.seen (D.state disk.old) self.old }
+        requires held { IsHeld F.view (D.state disk.old) self.old }
         requires next { self.old.next < vec_len self.old.parts }
         requires slice { left_of self.old ≡ SlicePart slice ∷ drop (self.old.next + 1) self.old.parts.items }
-        ensures done { Takes F.handle F.seen (D.state disk.old) self.old (item_of result) (D.state disk.new) self.new }
+        ensures done { Takes F.view (D.state disk.old) self.old (item_of result) (D.state disk.new) self.new }
         ensures loan { D.loan disk.new ≡ D.loan disk.old }
     {
         let Some(open) = &mut self.file else {
@@ -80,10 +80,10 @@ impl<F> GetBody<F> {
     ) -> Result<Option<Bytes>, BodyFault>
     where
         F: DavFile<D>,
-        requires { IsHeld F.handle F.seen (D.state disk.old) self.old }
-        ensures done { StepGives F.handle F.seen (D.state disk.old) self.old (item_of result)
+        requires { IsHeld F.view (D.state disk.old) self.old }
+        ensures done { StepGives F.view (D.state disk.old) self.old (item_of result)
             (D.state disk.new) self.new }
-        ensures held { IsHeld F.handle F.seen (D.state disk.new) self.new }
+        ensures held { IsHeld F.view (D.state disk.new) self.new }
         ensures fewer { IfItem (item_of result) (most_of self.new < most_of self.old) }
         ensures no_more { most_of self.new ≤ most_of self.old }
         ensures same { IfGoesOn ends_of (item_of result) (most_of self.new ≡ most_of self.old) }
@@ -98,9 +98,9 @@ impl<F: DavFile<D>, D: Disk> Steps<D> for GetBody<F> {
 
     type Error = BodyFault;
 
-    ghost may_resume = { λ b d. IsHeld F.handle F.seen (D.state d) b };
+    ghost may_resume = { λ b d. IsHeld F.view (D.state d) b };
 
-    ghost gives = { λ b d told c e. StepGives F.handle F.seen (D.state d) b told (D.state e) c
+    ghost gives = { λ b d told c e. StepGives F.view (D.state d) b told (D.state e) c
         × (D.loan e ≡ D.loan d) };
 
     ghost most = { most_of };

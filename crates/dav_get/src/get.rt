@@ -46,10 +46,10 @@ type Given<F> = Result<(Outcome, GetBody<F>), DavError>;
 
 // Closes the file, and answers this error.
 fn give_up<S: GuardedFileSystem<C>, C>(fs: &mut S, file: S::File, error: DavError) -> Given<S::File>
-    requires { IsSome ((S.view.state fs.old).live (S.view.handle file)) }
+    requires { IsSome ((S.view.state fs.old).live (S.view.file.handle file)) }
     ensures closed { Closes S.view fs.old file fs.new }
     ensures error { result ≡ Err error }
-    ensures life { HeldOrClosed S.view (S.view.handle file) fs.old result fs.new }
+    ensures life { HeldOrClosed S.view (S.view.file.handle file) fs.old result fs.new }
     ensures loan { S.view.loan fs.new ≡ S.view.loan fs.old }
     ensures store { S.view.lends fs.old fs.new }
 {
@@ -64,10 +64,10 @@ fn answer_alone<S: GuardedFileSystem<C>, C>(
     file: S::File,
     outcome: Outcome,
 ) -> Given<S::File>
-    requires { IsSome ((S.view.state fs.old).live (S.view.handle file)) }
+    requires { IsSome ((S.view.state fs.old).live (S.view.file.handle file)) }
     ensures closed { Closes S.view fs.old file fs.new }
     ensures given { GivesBody (λ answer. (answer.0 ≡ outcome) × IsEmpty answer.1) result }
-    ensures life { HeldOrClosed S.view (S.view.handle file) fs.old result fs.new }
+    ensures life { HeldOrClosed S.view (S.view.file.handle file) fs.old result fs.new }
     ensures loan { S.view.loan fs.new ≡ S.view.loan fs.old }
     ensures store { S.view.lends fs.old fs.new }
 {
@@ -85,12 +85,12 @@ fn hold<S: GuardedFileSystem<C>, C>(
     prepared: Prepared,
     size: usize,
 ) -> (Outcome, GetBody<S::File>)
-    requires at { IsAt S.view.handle S.view.seen (S.view.state fs.old) held }
+    requires at { IsAt S.view.file (S.view.state fs.old) held }
     requires some { 0 < size }
     requires ready { AreReady size prepared.parts.items prepared.buffer }
     ensures outcome { result.0 ≡ prepared.outcome }
     ensures holds { Holds S.view prepared.parts.items held fs.old result.1 fs.new }
-    ensures life { HeldOrClosed S.view (S.view.handle held.file) fs.old (Ok result) fs.new }
+    ensures life { HeldOrClosed S.view (S.view.file.handle held.file) fs.old (Ok result) fs.new }
     ensures most { HasMost size (Ok result) }
     ensures loan { S.view.loan fs.new ≡ S.view.loan fs.old }
     ensures store { S.view.lends fs.old fs.new }
@@ -116,11 +116,11 @@ fn send<S: GuardedFileSystem<C>, C>(
     meta: &S::Meta,
     sent: &Sent,
 ) -> Given<S::File>
-    requires at { IsAt S.view.handle S.view.seen (S.view.state fs.old) held }
+    requires at { IsAt S.view.file (S.view.state fs.old) held }
     requires within { IsSentOf (S.Meta.info meta.now).len sent.now }
     ensures table { GivesBody (λ answer. Sends S.view (asked_of asked.now)
         (S.Meta.info meta.now) sent.now held fs.old answer fs.new) result ⊎ (result ≡ Err DavError.NoMemory) }
-    ensures life { HeldOrClosed S.view (S.view.handle held.file) fs.old result fs.new }
+    ensures life { HeldOrClosed S.view (S.view.file.handle held.file) fs.old result fs.new }
     ensures most { HasMost (read_size_of asked.now.settings.now.read_buf_size) result }
     ensures loan { S.view.loan fs.new ≡ S.view.loan fs.old }
     ensures store { S.view.lends fs.old fs.new }
@@ -141,12 +141,13 @@ fn send_from<S: GuardedFileSystem<C>, C>(
     meta: &S::Meta,
     sent: &Sent,
 ) -> Given<S::File>
-    requires live { can_read ((S.view.state fs.old).live (S.view.handle file)) ≡ true }
-    requires place { (f : Seen) → S.view.seen file (S.view.state fs.old) ≡ Some f → f.place ≡ 0 }
+    requires live { can_read ((S.view.state fs.old).live (S.view.file.handle file)) ≡ true }
+    requires place { (f : Seen) → S.view.file.seen file (S.view.state fs.old) ≡ Some f → f.place ≡ 0 }
     requires within { IsSentOf (S.Meta.info meta.now).len sent.now }
+    requires reads_from { S.view.file.reads_from file (S.view.state fs.old) }
     ensures table { GivesBody (λ answer. SendsFrom S.view (asked_of asked.now)
         (S.Meta.info meta.now) sent.now file fs.old answer fs.new) result ⊎ (result ≡ Err DavError.NoMemory) }
-    ensures life { HeldOrClosed S.view (S.view.handle file) fs.old result fs.new }
+    ensures life { HeldOrClosed S.view (S.view.file.handle file) fs.old result fs.new }
     ensures most { HasMost (read_size_of asked.now.settings.now.read_buf_size) result }
     ensures loan { S.view.loan fs.new ≡ S.view.loan fs.old }
     ensures store { S.view.lends fs.old fs.new }
@@ -169,10 +170,10 @@ fn send_unplaced<S: GuardedFileSystem<C>, C>(
     asked: &Asked<'_>,
     meta: &S::Meta,
 ) -> Given<S::File>
-    requires { IsSome ((S.view.state fs.old).live (S.view.handle held.file)) }
+    requires { IsSome ((S.view.state fs.old).live (S.view.file.handle held.file)) }
     ensures table { GivesBody (λ answer. Sends S.view (asked_of asked.now)
         (S.Meta.info meta.now) Unsatisfied held fs.old answer fs.new) result ⊎ (result ≡ Err DavError.NoMemory) }
-    ensures life { HeldOrClosed S.view (S.view.handle held.file) fs.old result fs.new }
+    ensures life { HeldOrClosed S.view (S.view.file.handle held.file) fs.old result fs.new }
     ensures most { HasMost (read_size_of asked.now.settings.now.read_buf_size) result }
     ensures loan { S.view.loan fs.new ≡ S.view.loan fs.old }
     ensures store { S.view.lends fs.old fs.new }
@@ -189,7 +190,7 @@ fn file_redirect<S: GuardedFileSystem<C>, C>(
     fs: &mut S,
     file: &mut S::File,
 ) -> Result<Option<Text>, FsError>
-    requires { IsSome ((S.view.state fs.old).live (S.view.handle file.old)) }
+    requires { IsSome ((S.view.state fs.old).live (S.view.file.handle file.old)) }
     ensures { Redirects S.view fs.old file.old result fs.new file.new }
 {
     file.redirect_url(alloc, fs.disk())
@@ -203,11 +204,12 @@ fn send_file<S: GuardedFileSystem<C>, C>(
     asked: &Asked<'_>,
     meta: &S::Meta,
 ) -> Given<S::File>
-    requires live { can_read ((S.view.state fs.old).live (S.view.handle file)) ≡ true }
-    requires place { (f : Seen) → S.view.seen file (S.view.state fs.old) ≡ Some f → f.place ≡ 0 }
+    requires live { can_read ((S.view.state fs.old).live (S.view.file.handle file)) ≡ true }
+    requires place { (f : Seen) → S.view.file.seen file (S.view.state fs.old) ≡ Some f → f.place ≡ 0 }
+    requires reads_from { S.view.file.reads_from file (S.view.state fs.old) }
     ensures table { SendsFile S.view (asked_of asked.now) (S.Meta.info meta.now) file fs.old result fs.new
         ⊎ (result ≡ Err DavError.NoMemory) }
-    ensures life { HeldOrClosed S.view (S.view.handle file) fs.old result fs.new }
+    ensures life { HeldOrClosed S.view (S.view.file.handle file) fs.old result fs.new }
     ensures most { HasMost (read_size_of asked.now.settings.now.read_buf_size) result }
     ensures loan { S.view.loan fs.new ≡ S.view.loan fs.old }
     ensures store { S.view.lends fs.old fs.new }
@@ -226,10 +228,10 @@ fn send_away<S: GuardedFileSystem<C>, C>(
     meta: &S::Meta,
     address: &Text,
 ) -> Given<S::File>
-    requires { IsSome ((S.view.state fs.old).live (S.view.handle file)) }
+    requires { IsSome ((S.view.state fs.old).live (S.view.file.handle file)) }
     ensures table { SendsAway S.view (S.Meta.info meta.now) address.now file fs.old result fs.new
         ⊎ (result ≡ Err DavError.NoMemory) }
-    ensures life { HeldOrClosed S.view (S.view.handle file) fs.old result fs.new }
+    ensures life { HeldOrClosed S.view (S.view.file.handle file) fs.old result fs.new }
     ensures loan { S.view.loan fs.new ≡ S.view.loan fs.old }
     ensures store { S.view.lends fs.old fs.new }
 {
@@ -253,11 +255,12 @@ fn give_file<S: GuardedFileSystem<C>, C>(
     asked: &Asked<'_>,
     meta: &S::Meta,
 ) -> Given<S::File>
-    requires live { can_read ((S.view.state fs.old).live (S.view.handle file)) ≡ true }
-    requires place { (f : Seen) → S.view.seen file (S.view.state fs.old) ≡ Some f → f.place ≡ 0 }
+    requires live { can_read ((S.view.state fs.old).live (S.view.file.handle file)) ≡ true }
+    requires place { (f : Seen) → S.view.file.seen file (S.view.state fs.old) ≡ Some f → f.place ≡ 0 }
+    requires reads_from { S.view.file.reads_from file (S.view.state fs.old) }
     ensures table { ByRedirect S.view (is_set asked.now.settings.now.redirect)
         (asked_of asked.now) (S.Meta.info meta.now) file fs.old result fs.new ⊎ (result ≡ Err DavError.NoMemory) }
-    ensures life { HeldOrClosed S.view (S.view.handle file) fs.old result fs.new }
+    ensures life { HeldOrClosed S.view (S.view.file.handle file) fs.old result fs.new }
     ensures most { HasMost (read_size_of asked.now.settings.now.read_buf_size) result }
     ensures loan { S.view.loan fs.new ≡ S.view.loan fs.old }
     ensures store { S.view.lends fs.old fs.new }
@@ -290,11 +293,12 @@ fn get_file<S: GuardedFileSystem<C>, C>(
     file: S::File,
     asked: &Asked<'_>,
 ) -> Given<S::File>
-    requires live { IsSome ((S.view.state fs.old).live (S.view.handle file)) }
-    requires reads { (l : Live) → (S.view.state fs.old).live (S.view.handle file) ≡ Some l → l.how ≡ reading }
-    requires place { (f : Seen) → S.view.seen file (S.view.state fs.old) ≡ Some f → f.place ≡ 0 }
+    requires live { IsSome ((S.view.state fs.old).live (S.view.file.handle file)) }
+    requires reads { (l : Live) → (S.view.state fs.old).live (S.view.file.handle file) ≡ Some l → l.how ≡ reading }
+    requires place { (f : Seen) → S.view.file.seen file (S.view.state fs.old) ≡ Some f → f.place ≡ 0 }
+    requires reads_from { S.view.file.reads_from file (S.view.state fs.old) }
     ensures table { GetsFile S.view (asked_of asked.now) file fs.old result fs.new ⊎ (result ≡ Err DavError.NoMemory) }
-    ensures life { HeldOrClosed S.view (S.view.handle file) fs.old result fs.new }
+    ensures life { HeldOrClosed S.view (S.view.file.handle file) fs.old result fs.new }
     ensures most { HasMost (read_size_of asked.now.settings.now.read_buf_size) result }
     ensures loan { S.view.loan fs.new ≡ S.view.loan fs.old }
     ensures store { S.view.lends fs.old fs.new }
@@ -323,7 +327,6 @@ fn open_file<S: GuardedFileSystem<C>, C>(
     ensures life { OpenOnlyHeld S.view fs.old result fs.new }
     ensures most { HasMost (read_size_of asked.now.settings.now.read_buf_size) result }
     ensures loan { S.view.loan fs.new ≡ S.view.loan fs.old }
-    ensures admits { S.view.admits fs.old → S.view.admits fs.new }
 {
     match fs.open(asked.path, OpenOptions::read(), credentials) {
         Ok(file) => get_file(alloc, fs, file, asked),
@@ -345,7 +348,6 @@ fn get_index<S: GuardedFileSystem<C>, C>(
     ensures life { OpenOnlyHeld S.view fs.old result fs.new }
     ensures most { HasMost (read_size_of asked.now.settings.now.read_buf_size) result }
     ensures loan { S.view.loan fs.new ≡ S.view.loan fs.old }
-    ensures admits { S.view.admits fs.old → S.view.admits fs.new }
 {
     if !is_plain(name.as_slice()) {
         return Err(DavError::Status(StatusCode::NOT_FOUND));
@@ -371,14 +373,12 @@ fn get_dir<S: GuardedFileSystem<C>, C>(
     credentials: &C,
     asked: &Asked<'_>,
 ) -> Given<S::File>
-    requires admits { S.view.admits fs.old }
     ensures table { ByCourse S.view S.listings (dir_course (asked_of asked.now) asked.now.path.now.slash)
         (asked_of asked.now) credentials.now fs.old result fs.new ⊎ (result ≡ Err DavError.NoMemory) }
     ensures leads { LeadsOn S.view S.listings credentials.now fs.old fs.new }
     ensures life { OpenOnlyHeld S.view fs.old result fs.new }
     ensures most { HasMost (read_size_of asked.now.settings.now.read_buf_size) result }
     ensures loan { S.view.loan fs.new ≡ S.view.loan fs.old }
-    ensures admits { S.view.admits fs.new }
 {
     if asked.path.is_collection() {
         return match &asked.settings.indexfile {
@@ -402,14 +402,12 @@ fn look<S: GuardedFileSystem<C>, C>(
     credentials: &C,
     asked: &Asked<'_>,
 ) -> Given<S::File>
-    requires admits { S.view.admits fs.old }
     ensures table { ByWellKnown S.view S.listings false (asked_of asked.now) credentials.now fs.old result fs.new
         ⊎ (result ≡ Err DavError.NoMemory) }
     ensures leads { LeadsOn S.view S.listings credentials.now fs.old fs.new }
     ensures life { OpenOnlyHeld S.view fs.old result fs.new }
     ensures most { HasMost (read_size_of asked.now.settings.now.read_buf_size) result }
     ensures loan { S.view.loan fs.new ≡ S.view.loan fs.old }
-    ensures admits { S.view.admits fs.new }
 {
     match fs.metadata(asked.path, credentials) {
         Ok(meta) => {
@@ -463,7 +461,6 @@ pub fn handle_get<S: GuardedFileSystem<C>, C>(
     path: &DavPath,
     fields: &HeaderMap,
 ) -> Given<S::File>
-    requires admits { S.view.admits fs.old }
     ensures table { Gets S.view S.listings (query settings.now fields.now method path.now)
         credentials.now fs.old result fs.new ⊎ (result ≡ Err DavError.NoMemory) }
     ensures framed { (number : ℕ) → IsFramed (At method path.now) (reply_at fields.now number result) }
@@ -484,7 +481,6 @@ pub fn handle_get<S: GuardedFileSystem<C>, C>(
     ensures life { OpenOnlyHeld S.view fs.old result fs.new }
     ensures most { HasMost (read_size_of settings.now.read_buf_size) result }
     ensures loan { S.view.loan fs.new ≡ S.view.loan fs.old }
-    ensures admits { S.view.admits fs.new }
 {
     let asked = Asked {
         settings,
@@ -502,14 +498,12 @@ fn get_once<S: GuardedFileSystem<C>, C>(
     credentials: &C,
     asked: &Asked<'_>,
 ) -> Given<S::File>
-    requires admits { S.view.admits fs.old }
     ensures table { Gets S.view S.listings (asked_of asked.now) credentials.now fs.old result fs.new
         ⊎ (result ≡ Err DavError.NoMemory) }
     ensures leads { LeadsOn S.view S.listings credentials.now fs.old fs.new }
     ensures life { OpenOnlyHeld S.view fs.old result fs.new }
     ensures most { HasMost (read_size_of asked.now.settings.now.read_buf_size) result }
     ensures loan { S.view.loan fs.new ≡ S.view.loan fs.old }
-    ensures admits { S.view.admits fs.new }
 {
     if !is_well_known(asked) {
         return look(alloc, fs, credentials, asked);

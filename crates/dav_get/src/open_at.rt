@@ -30,8 +30,8 @@ impl<F> OpenAt<F> {
     fn move_to<D: Disk>(&mut self, disk: &mut D, start: u64) -> bool
     where
         F: DavFile<D>,
-        requires { IsAt F.handle F.seen (D.state disk.old) self.old }
-        ensures done { Moves F.handle F.seen (D.state disk.old) self.old start result (D.state disk.new) self.new }
+        requires { IsAt F.view (D.state disk.old) self.old }
+        ensures done { Moves F.view (D.state disk.old) self.old start result (D.state disk.new) self.new }
         ensures loan { D.loan disk.new ≡ D.loan disk.old }
     {
         if self.place == start {
@@ -54,13 +54,13 @@ impl<F> OpenAt<F> {
     ) -> Option<usize>
     where
         F: DavFile<D>,
-        requires at { IsAt F.handle F.seen (D.state disk.old) self.old }
+        requires at { IsAt F.view (D.state disk.old) self.old }
         requires here { self.old.place ≡ slice.start }
         requires slice { 0 < slice.count }
         requires fits { slice.start + slice.count < 2 ^ 64 }
         requires some { 0 < most }
         requires room { has_room most (length into.old) (SlicePart slice) ≡ true }
-        ensures done { Fills F.handle F.seen (D.state disk.old) self.old slice most into.new result
+        ensures done { Fills F.view (D.state disk.old) self.old slice most into.new result
             (D.state disk.new) self.new }
         ensures loan { D.loan disk.new ≡ D.loan disk.old }
     {
@@ -91,12 +91,12 @@ impl<F> OpenAt<F> {
     ) -> Option<usize>
     where
         F: DavFile<D>,
-        requires at { IsAt F.handle F.seen (D.state disk.old) self.old }
+        requires at { IsAt F.view (D.state disk.old) self.old }
         requires slice { 0 < slice.count }
         requires fits { slice.start + slice.count < 2 ^ 64 }
         requires some { 0 < most }
         requires room { has_room most (length into.old) (SlicePart slice) ≡ true }
-        ensures done { Fills F.handle F.seen (D.state disk.old) self.old slice most into.new result
+        ensures done { Fills F.view (D.state disk.old) self.old slice most into.new result
             (D.state disk.new) self.new }
         ensures loan { D.loan disk.new ≡ D.loan disk.old }
     {

@@ -35,6 +35,7 @@ use Rattle.dav_store.specs.Leads.{LeadsOn}
 use Rattle.dav_store.specs.View.{Listings, View}
 use Rattle.dav_local.specs.declared.file.LocalFsFile.{LocalFsFile}
 use Rattle.dav_local.specs.declared.ways.Ways.{Ways}
+use Rattle.dav_local.specs.LocalFiles.{local_file}
 use Rattle.dav_local.specs.Files.{seen_by}
 use Rattle.dav_local.specs.Shown.{knowledge_of}
 use Rattle.dav_local.specs.Ways.{rules_with}
@@ -128,9 +129,9 @@ lacks_none e memory is = let f : true ≡ false = sym (ap lacks_memory is) ∙ m
 
 -- ---- a GET or HEAD
 
-module _ {S C : Type 0} (view : View S C LocalFsFile) (seen : view.seen ≡ seen_by) (s m : S) where
+module _ {S C : Type 0} (view : View S C LocalFsFile) (seen : view.file.seen ≡ seen_by) (s m : S) where
   -- what is open for the answer
-  holds_given : (most : ℕ) (r : Outcome × Body) (given : Option Body) → Gives (view.state m) r.1 given (view.state m) → IsHeld handle_of seen_by (view.state m) r.1
+  holds_given : (most : ℕ) (r : Outcome × Body) (given : Option Body) → Gives (view.state m) r.1 given (view.state m) → IsHeld local_file (view.state m) r.1
       → OpensOnly handle_of (view.state s) r.1.file (view.state m) → HasMost most (Ok r) → TellsLive (view.state m) → HoldsOnly most (view.state s) given (view.state m)
   holds_given most r None (same, none, file) held opens size tells =
       open_kept (view.state s) (view.state m) (subst (λ f. OpensOnly handle_of (view.state s) f (view.state m)) file opens)
@@ -139,7 +140,7 @@ module _ {S C : Type 0} (view : View S C LocalFsFile) (seen : view.seen ≡ seen
       (opens, record { held = held; size = size; told = body_told (view.state s) (view.state m) r.1.file tells opens })
 
   -- the reply is what was given, by the number of its file
-  same_given : (fields : Fields) (r : Outcome × Body) (found : Found) → found.outcome ≡ r.0 → Gives (view.state m) r.1 found.body (view.state m) → IsHeld handle_of seen_by (view.state m) r.1
+  same_given : (fields : Fields) (r : Outcome × Body) (found : Found) → found.outcome ≡ r.0 → Gives (view.state m) r.1 found.body (view.state m) → IsHeld local_file (view.state m) r.1
       → (number : Option ℕ) → IsOfNumber view number m (Ok r) → reply_at {F = LocalFsFile} fields (or_zero number) (Ok r) ≡ reply_of (view.state m) found
   same_given fields r found outcome gives held number file =
       let here : parts_of (number_in (view.state m) r.1.file) (left_of r.1) ≡ parts_of (or_zero number) (left_of r.1) =
@@ -175,7 +176,7 @@ AsksSimply rules method path status fields s t = rules.folds ≡ false → rules
 -- What calls that write nothing led to, of which the store's law says what they teach.
 module _ {S C L E : Type 0} (view : View S C LocalFsFile) (lists : Listings S C L E) (c : C) (a b : By) (s m : S) (leads : LeadsOn view lists c s m)
     (teaches : LeadsOn view lists c s m → Stays (record { by = a; disk = view.state s }) (record { by = b; disk = view.state m }))
-    (seen : view.seen ≡ seen_by) (method : DavMethod) (path : WebPath) (said : Said) where
+    (seen : view.file.seen ≡ seen_by) (method : DavMethod) (path : WebPath) (said : Said) where
   abbrev before : Over
   before = record { by = a; disk = view.state s }
 
@@ -184,7 +185,7 @@ module _ {S C L E : Type 0} (view : View S C LocalFsFile) (lists : Listings S C 
       → ((reply : Reply) → ((number : Option ℕ) → IsOfNumber view number m (Ok r) → reply_at {F = LocalFsFile} said.fields (or_zero number) (Ok r) ≡ reply)
       → Reads a.rules a.knows (view.state s) (view.state m) (query a.rules.settings said.fields method path) reply)
       → AsksSimply a.rules method path r.0.status r.0.fields (view.state s) (view.state m)
-      → IsHeld handle_of seen_by (view.state m) r.1 → OpensOnly handle_of (view.state s) r.1.file (view.state m) → HasMost (read_size_of a.rules.settings.read_buf_size) (Ok r)
+      → IsHeld local_file (view.state m) r.1 → OpensOnly handle_of (view.state s) r.1.file (view.state m) → HasMost (read_size_of a.rules.settings.read_buf_size) (Ok r)
       → found.outcome ≡ r.0 → Gives (view.state m) r.1 found.body t → Answers before said (At method path) found (record { by = b; disk = t })
   given_answers tells r t found reads asks held opens size outcome gives =
       let same = given_state (view.state m) t r.1 found.body gives in

@@ -17,6 +17,7 @@ use Rattle.dav_store.specs.Files.{LeavesOpen, SameSeen}
 use Rattle.dav_store.specs.Frames.{KeepsOpen}
 use Rattle.dav_store.specs.Standing.{Seen}
 use Rattle.dav_local.specs.declared.file.LocalFsFile.{LocalFsFile}
+use Rattle.dav_local.specs.LocalFiles.{local_file}
 use Rattle.dav_local.specs.Files.{seen_by}
 use Rattle.dav_local.specs.LocalStays.{local_stays}
 use Rattle.dav_local.specs.Standing.{seen_in, seen_with}
@@ -73,7 +74,7 @@ number_file s t (Some h) leaves = number_after (seen_by h.file s) (seen_by h.fil
 
 pub open_stays : (most : ℕ) (s t : DiskState) (b : Body) → Leaves s t b → IsOpen most s b → IsOpen most t b
 open_stays most s t b leaves is = record {
-  held = held_stays handle_of seen_by local_stays s t b leaves is.held;
+  held = held_stays local_file local_stays (λ f s t leaves reads. reads) s t b leaves is.held;
   size = is.size;
   told = λ w h told file.
       let same = leaves h file in
@@ -145,10 +146,10 @@ handle_none None e = refl
 handle_none (Some h) e = cc
 
 -- A body with a slice left holds its file, and one with nothing left holds none.
-pub body_needs : (s : DiskState) (b : Body) → IsHeld handle_of seen_by s b → has_slice (parts_in s (Some b)) ≡ true → is_some (held_by (Some b)) ≡ true
+pub body_needs : (s : DiskState) (b : Body) → IsHeld local_file s b → has_slice (parts_in s (Some b)) ≡ true → is_some (held_by (Some b)) ≡ true
 body_needs s b held has = handle_some b.file (held.needs (sym (slices_same (number_in s b.file) (left_of b)) ∙ has))
 
-pub body_over : (s : DiskState) (b : Body) → IsHeld handle_of seen_by s b → parts_in s (Some b) ≡ [] → held_by (Some b) ≡ None
+pub body_over : (s : DiskState) (b : Body) → IsHeld local_file s b → parts_in s (Some b) ≡ [] → held_by (Some b) ≡ None
 body_over s b held none = handle_none b.file (held.over (none_left (number_in s b.file) (left_of b) none))
 
 -- no part is empty

@@ -5,9 +5,9 @@ use Rattle.dav_core.specs.World.{put}
 use Rattle.dav_core.specs.Disk.{DiskState, Live}
 use Rattle.dav_core.proofs.UnchangedLemmas.{equal_keys, other_keys}
 use Rattle.dav_model.specs.Play.{Lets, Takes}
+use Rattle.dav_local.specs.LocalFiles.{local_file}
 use Rattle.dav_local.specs.declared.file.LocalFsFile.{LocalFsFile}
 use Rattle.dav_store.specs.Frames.{KeepsOpen}
-use Rattle.dav_local.specs.Files.{seen_by}
 use Rattle.dav_methods.proofs.KeptOpen.{open_kept}
 use Rattle.dav_get.specs.declared.open_at.OpenAt.{OpenAt}
 use Rattle.dav_get.specs.Bodies.{Closes, TouchesOwn}
@@ -44,7 +44,7 @@ holds_takes most s t None keeps = keeps_live s t keeps
 holds_takes most s t (Some b) holds = opens_takes s t b.file holds.0
 
 -- what a poll leaves open is the file of its body, or less
-pub touches_lets : (s t : DiskState) (f g : Option (OpenAt LocalFsFile)) → TouchesOwn handle_of seen_by s f t g → Lets (handle_in f) (handle_in g) s.live t.live
+pub touches_lets : (s t : DiskState) (f g : Option (OpenAt LocalFsFile)) → TouchesOwn local_file s f t g → Lets (handle_in f) (handle_in g) s.live t.live
 touches_lets s t None None same = (refl, ap (λ (x : DiskState). x.live) same)
 touches_lets s t None (Some g) touches = absurd touches
 touches_lets s t (Some f) None (keeps, gone) = put_by (handle_of f.file) None s.live t.live gone (λ n ne. keeps.live n ne)

@@ -21,6 +21,7 @@ use Rattle.dav_model.specs.Trail.{Goes}
 use Rattle.dav_model.specs.Play.{Lets, Stepped}
 use Rattle.dav_store.specs.Standing.{Seen}
 use Rattle.dav_local.specs.declared.file.LocalFsFile.{LocalFsFile}
+use Rattle.dav_local.specs.LocalFiles.{local_file}
 use Rattle.dav_local.specs.Files.{seen_by}
 use Rattle.dav_local.specs.Standing.{seen_in, seen_with}
 use Rattle.dav_local.proofs.ByRules.{bytes_seen}
@@ -50,7 +51,7 @@ slices_before s b cause [] answer rest (is, none) has = let f : false ≡ true =
 slices_before s b cause (Text bytes ∷ parts) answer rest (is, left) has = sym (ap (list_any is_slice) left) ∙ has
 slices_before s b cause (SliceOf part ∷ parts) answer rest takes has = refl
 
-touched_seen : (s t : DiskState) (f g : Option (OpenAt LocalFsFile)) (w : World) → TouchesOwn handle_of seen_by s f t g → t.told ≡ Some w
+touched_seen : (s t : DiskState) (f g : Option (OpenAt LocalFsFile)) (w : World) → TouchesOwn local_file s f t g → t.told ≡ Some w
     → ((v : World) (h : OpenAt LocalFsFile) → s.told ≡ Some v → f ≡ Some h → is_some (seen_by h.file s) ≡ true) → (k : OpenAt LocalFsFile) → g ≡ Some k → is_some (seen_by k.file t) ≡ true
 touched_seen s t None None w touches told was k e = cc
 touched_seen s t None (Some g) w touches told was k e = absurd touches
@@ -66,14 +67,14 @@ stands_number None (Some g) same = absurd same
 stands_number (Some f) None same = absurd same
 stands_number (Some f) (Some g) same = ap (λ st. st.number) same
 
-touched_parts : (s t : DiskState) (f g : Option (OpenAt LocalFsFile)) (left : List BodyPart) → TouchesOwn handle_of seen_by s f t g → (list_any is_slice left ≡ true → is_some g ≡ true)
+touched_parts : (s t : DiskState) (f g : Option (OpenAt LocalFsFile)) (left : List BodyPart) → TouchesOwn local_file s f t g → (list_any is_slice left ≡ true → is_some g ≡ true)
     → parts_of (number_in t g) left ≡ parts_of (number_in s f) left
 touched_parts s t None None left touches needs = refl
 touched_parts s t None (Some g) left touches needs = absurd touches
 touched_parts s t (Some f) None left touches needs = texts_any 0 (number_in s (Some f)) left (no_slices (list_any is_slice left) needs)
 touched_parts s t (Some f) (Some g) left (keeps, same, live, stands) needs = ap (λ n. parts_of n left) (stands_number (seen_by f.file s) (seen_by g.file t) stands)
 
-touched_handle : (s t : DiskState) (f g : Option (OpenAt LocalFsFile)) (k : OpenAt LocalFsFile) → TouchesOwn handle_of seen_by s f t g → g ≡ Some k
+touched_handle : (s t : DiskState) (f g : Option (OpenAt LocalFsFile)) (k : OpenAt LocalFsFile) → TouchesOwn local_file s f t g → g ≡ Some k
     → (h : OpenAt LocalFsFile) × (f ≡ Some h) × (handle_of k.file ≡ handle_of h.file)
 touched_handle s t None None k touches e = cc
 touched_handle s t None (Some g) k touches e = absurd touches
@@ -117,36 +118,36 @@ asks_few place start came before after asks = few (place == start) came refl ask
     few false false e asks = asks.there (λ same. grind (arith, nat_tests))
 
 -- The place that is noted in a body is that of its file in a told world.
-asks_told : (s : DiskState) (file : Option (OpenAt LocalFsFile)) (left : List BodyPart) (number : ℕ) (answer : Answer) (after : ℕ) → ((h : OpenAt LocalFsFile) → file ≡ Some h → IsAt handle_of seen_by s h)
-    → ((w : World) (h : OpenAt LocalFsFile) → s.told ≡ Some w → file ≡ Some h → is_some (seen_by h.file s) ≡ true) → Asks file left answer s.asked after
+asks_told : (s : DiskState) (file : Option (OpenAt LocalFsFile)) (left : List BodyPart) (number : ℕ) (answer : Answer) (after : ℕ) → ((h : OpenAt LocalFsFile) → file ≡ Some h → IsAt local_file s h)
+    → ((w : World) (h : OpenAt LocalFsFile) → s.told ≡ Some w → file ≡ Some h → is_some (seen_by h.file s) ≡ true) → Asks (Unit {0}) file left answer s.asked after
     → AsksToPoll s.told (handle_in file) (parts_of number left) answer s.asked after
 asks_told s file [] number answer after at told asks = asks
 asks_told s file (Text bytes ∷ parts) number answer after at told asks = asks
 asks_told s None (SliceOf part ∷ parts) number answer after at told asks = absurd asks
 asks_told s (Some h) (SliceOf part ∷ parts) number answer after at told asks = record {
-  few = asks_few h.place part.start (is_piece answer) s.asked after asks;
+  few = asks_few h.place part.start (is_piece answer) s.asked after (asks tt);
   by_place = λ w e. (
       let (f, seen) = some_is (seen_by h.file s) (told w h e refl) in
-      (h.place, place_seen h.file s w f e seen ∙ ap Some ((at h refl).place f seen), asks)
+      (h.place, place_seen h.file s w f e seen ∙ ap Some ((at h refl).place f seen), asks tt)
       );
 }
 
 module _ (most : ℕ) (s t : DiskState) (b c : Body) (answer : Answer) where
-  pub polled_open : IsOpen most s b → Polls handle_of seen_by s b answer t c → IsOpen most t c
+  pub polled_open : IsOpen most s b → Polls local_file s b answer t c → IsOpen most t c
   polled_open is polls = record {
     held = polls.held;
     size = λ has. polls.most ∙ is.size (slices_before s b (Rose s.faults t.faults) (left_of b) answer (left_of c) polls.takes has);
     told = λ w h told file. touched_seen s t b.file c.file w polls.disk told is.told h file;
   }
 
-  polled_parts : IsOpen most s b → Polls handle_of seen_by s b answer t c → PollsParts s.told s.whole most (Rose s.faults t.faults) (parts_in s (Some b)) answer (parts_in t (Some c))
+  polled_parts : IsOpen most s b → Polls local_file s b answer t c → PollsParts s.told s.whole most (Rose s.faults t.faults) (parts_in s (Some b)) answer (parts_in t (Some c))
   polled_parts is polls =
       polls_most s.told s.whole b.most most s.faults t.faults (number_in s b.file) (left_of b) answer (parts_in t (Some c)) is.size
       (subst (λ z. PollsParts s.told s.whole b.most (Rose s.faults t.faults) (parts_of (number_in s b.file) (left_of b)) answer z)
       (sym (touched_parts s t b.file c.file (left_of c) polls.disk polls.held.needs))
-      (takes_right handle_of seen_by s t b (left_of b) answer (left_of c) s.told (number_in s b.file) is.held.needs (stands_in most s b is) (has_number s b.file) polls.takes))
+      (takes_right local_file s t b (left_of b) answer (left_of c) s.told (number_in s b.file) is.held.needs (stands_in most s b is) (has_number s b.file) polls.takes))
 
-  polled_asks : IsOpen most s b → Polls handle_of seen_by s b answer t c → AsksToPoll s.told (held_by (Some b)) (parts_in s (Some b)) answer s.asked t.asked
+  polled_asks : IsOpen most s b → Polls local_file s b answer t c → AsksToPoll s.told (held_by (Some b)) (parts_in s (Some b)) answer s.asked t.asked
   polled_asks is polls = asks_told s b.file (left_of b) (number_in s b.file) answer t.asked is.held.file is.told polls.asks
 
 pub stay_goes : (s t : DiskState) (file : Option (OpenAt LocalFsFile)) → OthersStay s file t → Goes s t
@@ -174,7 +175,7 @@ none_some : (c : Body) → None ≡ Some c → ⊥
 none_some c e = cc
 
 module _ (by : By) (s t : DiskState) (at : ℕ → Option Body) (replies k : ℕ) (answer : Answer) (b c : Body) (p : IsPlaying (read_size_of by.rules.settings.read_buf_size) s at replies)
-    (there : at k ≡ Some b) (polls : Polls handle_of seen_by s b answer t c) where
+    (there : at k ≡ Some b) (polls : Polls local_file s b answer t c) where
   others : Others s t at k
   others = others_leave (read_size_of by.rules.settings.read_buf_size) s t at replies k b b.file refl p there (touches_others s t b.file c.file polls.disk)
 
@@ -254,7 +255,7 @@ pub polled : (by : By) (s t u : DiskState) (at mid new : ℕ → Option Body) (r
 polled by s t u at mid new replies k answer p polls sweeps same =
     poll_steps by s t at replies k answer polls.before polls.now p polls.there polls.polled.does u new same (subst (λ z. Sweeps z k new) polls.are sweeps)
 
-held_at : (s : DiskState) (x : Option Body) (c : Body) → x ≡ Some c → IsHeld handle_of seen_by s c → IsHeldBody x s
+held_at : (s : DiskState) (x : Option Body) (c : Body) → x ≡ Some c → IsHeld local_file s c → IsHeldBody x s
 held_at s x c e held = subst (λ z. IsHeldBody z s) (sym e) held
 
 -- a body that was polled is held still

@@ -11,8 +11,8 @@ use Rattle.dav_model.specs.Play.{AreFull, HasOpen, StaysOpen}
 use Rattle.dav_store.specs.Files.{LeavesOpen}
 use Rattle.dav_store.specs.Frames.{KeepsOpen}
 use Rattle.dav_methods.proofs.KeptOpen.{open_kept}
+use Rattle.dav_local.specs.LocalFiles.{local_file}
 use Rattle.dav_local.specs.declared.file.LocalFsFile.{LocalFsFile}
-use Rattle.dav_local.specs.Files.{seen_by}
 use Rattle.dav_get.specs.declared.open_at.OpenAt.{OpenAt}
 use Rattle.dav_get.specs.Bodies.{Closes, TouchesOwn, left_of}
 use Rattle.dav_get.specs.Lives.{OpensOnly}
@@ -130,7 +130,7 @@ abbrev pub OthersStay : DiskState → Option (OpenAt LocalFsFile) → DiskState 
 OthersStay s None t = t ≡ s
 OthersStay s (Some h) t = KeepsBut (handle_of h.file) s t
 
-pub touches_others : (s t : DiskState) (f g : Option (OpenAt LocalFsFile)) → TouchesOwn handle_of seen_by s f t g → OthersStay s f t
+pub touches_others : (s t : DiskState) (f g : Option (OpenAt LocalFsFile)) → TouchesOwn local_file s f t g → OthersStay s f t
 touches_others s t None None touches = touches
 touches_others s t None (Some g) touches = absurd touches
 touches_others s t (Some f) None touches = touches.0

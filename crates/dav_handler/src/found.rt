@@ -5,24 +5,24 @@ ghost use Rattle.dav_model.specs.Allowing.{allowing};
 ghost use Rattle.dav_model.specs.Head.{refusal as the_refusal};
 ghost use Rattle.dav_model.specs.Trail.{target_of};
 ghost use Rattle.dav_model.specs.declared.target.Target.TheVariants.{At, Writes};
-ghost use Rattle.dav_local.specs.Files.{seen_by};
+ghost use Rattle.dav_local.specs.LocalFiles.{local_file};
+ghost use Rattle.dav_local.specs.Made.{MadeAt};
 ghost use Rattle.dav_local.specs.Ways.{rules_with};
 ghost use Rattle.dav_store.specs.Frames.{KeepsOpen};
 ghost use Rattle.dav_methods.specs.Changing.{Changes};
 ghost use Rattle.dav_handler.specs.By.{over_of};
 ghost use Rattle.dav_handler.specs.Found.{Finds, Gives, IsAlone, IsRefusedBy, said_in};
-ghost use Rattle.dav_handler.specs.Held.{handle_of};
 
 use crate::gates::target;
-use dav_cache::RememberAny;
+use dav_cache::Remember;
 use dav_config::{refused, refused_by};
 use dav_core::{DavError, DavMethod, DavMethodSet, DavPath, Disk};
 use dav_get::{GetBody, handle_get};
 use dav_io::{NoMemory, Octets};
 use dav_local::{LocalFs, LocalFsFile};
 use dav_local_laws::{
-    calls_teach_nothing, local_stores_ask_once, local_stores_follow_rules, local_stores_refuse_few,
-    reads_are_right, reads_learn_what_stands,
+    calls_teach_nothing, entries_have_the_moment, local_stores_ask_once, local_stores_follow_rules,
+    local_stores_refuse_few, reads_are_right, reads_learn_what_stands,
 };
 use dav_methods::{copy, delete, mkcalendar, mkcol, move_to, options, put_whole, writes_lead_on};
 use dav_model::{Outcome, Settings, Target};
@@ -79,12 +79,12 @@ fn refuse(alloc: Global, fields: &HeaderMap, error: DavError) -> Result<Found, N
 }
 
 // Gives a body of which something is left; another is ended.
-fn give<D: Disk, R: RememberAny>(
+fn give<D: Disk, R: Remember>(
     store: &mut LocalFs<D, R>,
     outcome: Outcome,
     body: GetBody<LocalFsFile>,
 ) -> Found
-    requires { IsHeld handle_of seen_by (D.state store.old.disk) body }
+    requires { IsHeld local_file (D.state store.old.disk) body }
     ensures outcome { result.outcome ≡ outcome }
     ensures gives { Gives (D.state store.old.disk) body result.body (D.state store.new.disk) }
     ensures rest { store.new ≡ record store.old { disk = store.new.disk } }
@@ -104,7 +104,7 @@ fn give<D: Disk, R: RememberAny>(
 }
 
 // What stands at a path, by GET or HEAD.
-fn find_at<D: Disk, R: RememberAny>(
+fn find_at<D: Disk, R: Remember>(
     alloc: Global,
     settings: &Settings,
     store: &mut LocalFs<D, R>,
@@ -115,11 +115,13 @@ fn find_at<D: Disk, R: RememberAny>(
     ensures done { (body : List ℕ) → Finds (over_of D.state R.state settings.now store.old)
         (record { fields = fields.now; body = body }) (At method path.now) result
         (over_of D.state R.state settings.now store.new) }
+    ensures made { MadeAt store.old.moment (R.state store.old.memory) (R.state store.new.memory) }
     ensures loan { D.loan store.new.disk ≡ D.loan store.old.disk }
 {
     reads_are_right(store);
     reads_learn_what_stands(store);
     local_stores_ask_once(store);
+    entries_have_the_moment(store);
     match handle_get(alloc, settings, store, &(), method, path, fields) {
         Ok(given) => {
             let (outcome, body) = given;
@@ -130,7 +132,7 @@ fn find_at<D: Disk, R: RememberAny>(
 }
 
 // What a method that writes is answered, of a request whose body is in memory. The prefix is that of a destination.
-fn change<D: Disk, R: RememberAny>(
+fn change<D: Disk, R: Remember>(
     alloc: Global,
     store: &mut LocalFs<D, R>,
     method: DavMethod,
@@ -140,7 +142,7 @@ fn change<D: Disk, R: RememberAny>(
     prefix: &str,
 ) -> Result<Outcome, DavError>
     ensures table { Changes ⟦<LocalFs<D, R> as DavFileSystem>⟧.view ⟦<LocalFs<D, R> as DavFileSystem>⟧.listings
-        ⟦<LocalFsFile as DavFile<D>>⟧.writes tt method prefix.now path.now fields.now body.now store.old result
+        ⟦<LocalFsFile as DavFile<D>>⟧.view.writes tt method prefix.now path.now fields.now body.now store.old result
         store.new }
     ensures keeps { KeepsOpen (D.state store.old.disk) (D.state store.new.disk) }
     ensures loan { D.loan store.new.disk ≡ D.loan store.old.disk }
@@ -156,7 +158,7 @@ fn change<D: Disk, R: RememberAny>(
 }
 
 // What a method makes of a path: one that writes. The laws of the store say what its table means.
-fn write_at<D: Disk, R: RememberAny>(
+fn write_at<D: Disk, R: Remember>(
     alloc: Global,
     settings: &Settings,
     store: &mut LocalFs<D, R>,
@@ -168,11 +170,13 @@ fn write_at<D: Disk, R: RememberAny>(
     ensures done { Finds (over_of D.state R.state settings.now store.old)
         (record { fields = fields.now; body = body.now }) (Writes method path.now) result
         (over_of D.state R.state settings.now store.new) }
+    ensures made { MadeAt store.old.moment (R.state store.old.memory) (R.state store.new.memory) }
     ensures loan { D.loan store.new.disk ≡ D.loan store.old.disk }
 {
     local_stores_refuse_few(store);
     local_stores_follow_rules(store, settings);
     calls_teach_nothing(store);
+    entries_have_the_moment(store);
     writes_lead_on::<LocalFs<D, R>, ()>();
     let prefix = settings.prefix.as_str();
     match change(alloc, store, method, path, fields, body, prefix) {
@@ -182,7 +186,7 @@ fn write_at<D: Disk, R: RememberAny>(
 }
 
 // What is answered to what is asked for.
-fn find<D: Disk, R: RememberAny>(
+fn find<D: Disk, R: Remember>(
     alloc: Global,
     settings: &Settings,
     store: &mut LocalFs<D, R>,
@@ -193,6 +197,7 @@ fn find<D: Disk, R: RememberAny>(
     ensures done { Finds (over_of D.state R.state settings.now store.old)
         (record { fields = fields.now; body = body.now }) target.now result
         (over_of D.state R.state settings.now store.new) }
+    ensures made { MadeAt store.old.moment (R.state store.old.memory) (R.state store.new.memory) }
     ensures loan { D.loan store.new.disk ≡ D.loan store.old.disk }
 {
     match target {
@@ -206,7 +211,7 @@ fn find<D: Disk, R: RememberAny>(
 }
 
 /// What a request finds.
-pub fn find_for<D: Disk, R: RememberAny>(
+pub fn find_for<D: Disk, R: Remember>(
     alloc: Global,
     settings: &Settings,
     store: &mut LocalFs<D, R>,
@@ -215,6 +220,7 @@ pub fn find_for<D: Disk, R: RememberAny>(
     ensures done { Finds (over_of D.state R.state settings.now store.old) (said_in request.now)
         (target_of (rules_with settings.now store.old.ways) request.now) result
         (over_of D.state R.state settings.now store.new) }
+    ensures made { MadeAt store.old.moment (R.state store.old.memory) (R.state store.new.memory) }
     ensures loan { D.loan store.new.disk ≡ D.loan store.old.disk }
 {
     match target(alloc, settings, request) {

@@ -7,7 +7,7 @@ mod gates;
 mod player;
 mod playing;
 
-pub use dav_cache::{Forget, Remember, RememberAny};
+pub use dav_cache::{Forget, Remember};
 pub use dav_config::{DavConfig, DavHandler};
 pub use dav_local::LocalFs;
 pub use dav_model::{Answer, Settings, Step};

@@ -6,10 +6,11 @@ ghost use Rattle.dav_handler.specs.By.{by_store};
 ghost use Rattle.dav_handler.specs.Held.{IsPlaying, body_at};
 ghost use Rattle.dav_handler.specs.Purging.{PurgesBy};
 ghost use Rattle.dav_cache.specs.Memory.{Purges};
+ghost use Rattle.dav_local.specs.Made.{MadeAt};
 
 use crate::bodies::{Bodies, end_body, hold_body, no_bodies, open_body, poll_body, sweep};
 use crate::found::{Found, find_for};
-use dav_cache::RememberAny;
+use dav_cache::Remember;
 use dav_config::DavHandler;
 use dav_core::Disk;
 use dav_io::{Moment, NoMemory, Octets};
@@ -22,7 +23,7 @@ use std::mem;
 
 /// Answers steps over a disk. It numbers its replies from 0, and keeps the body of each reply of which something is
 /// left.
-pub struct Player<D: Disk, R: RememberAny> {
+pub struct Player<D: Disk, R: Remember> {
     alloc: Global,
     settings: Settings,
     store: LocalFs<D, R>,
@@ -31,9 +32,11 @@ pub struct Player<D: Disk, R: RememberAny> {
     ghost ok: { IsPlaying (read_size_of settings.read_buf_size) (D.state store.disk) (body_at bodies) replies },
 }
 
-impl<D: Disk, R: RememberAny> Player<D, R> {
+impl<D: Disk, R: Remember> Player<D, R> {
     ghost use Rattle.dav_handler.specs.Player.{playing_by, playing_of, stage_of};
     ghost use Rattle.dav_model.specs.Play.{AreFull, StaysOpen, Stepped};
+    ghost use Rattle.dav_model.specs.Still.{knowing_at};
+    ghost use Rattle.dav_local.specs.Shown.{knowledge_of};
     ghost use Rattle.dav_model.specs.declared.step.Step.TheVariants.{Abandon, Poll, Purge, Turn, Request as Asks};
 
     /// A player over the store of a handler, which has one, by the handler's settings. It gave no reply yet.
@@ -83,6 +86,16 @@ impl<D: Disk, R: RememberAny> Player<D, R> {
         ensures value { result.now ≡ self.old.store.memory }
     {
         self.store.memory()
+    }
+
+    /// Puts another memory in the place of the store's, and gives that one back.
+    pub fn replace_memory(&mut self, memory: R) -> R
+        ensures value { result ≡ self.old.store.memory }
+        ensures memory { self.new.store.memory ≡ memory }
+        ensures stage { stage_of self.new ≡ knowing_at (knowledge_of (R.state memory)) (stage_of self.old) }
+        ensures loan { D.loan self.new.store.disk ≡ D.loan self.old.store.disk }
+    {
+        mem::replace(self.store.memory(), memory)
     }
 
     /// How many replies it gave.
@@ -150,10 +163,12 @@ impl<D: Disk, R: RememberAny> Player<D, R> {
         Answer::Done
     }
 
-    /// A request, as its step is answered. A file that was opened for it is held by its body, or closed again.
+    /// A request, as its step is answered. A file that was opened for it is held by its body, or closed again. What the
+    /// memory of the store remembers anew has the request's moment.
     pub fn request(&mut self, request: &Request<Octets>, now: Moment) -> Result<Answer, NoMemory>
         requires { self.old.replies + 1 < 2 ^ 32 }
         ensures done { Stepped (stage_of self.old) (Asks request.now now) result (stage_of self.new) }
+        ensures made { MadeAt now (R.state self.old.store.memory) (R.state self.new.store.memory) }
         ensures loan { D.loan self.new.store.disk ≡ D.loan self.old.store.disk }
     {
         DavFileSystem::set_now(&mut self.store, now);
@@ -241,7 +256,7 @@ fn reply(outcome: Outcome, body: u32) -> Answer
 }
 
 // A turn of the outside, by the disk of the store.
-fn turn_disk<D: Disk, R: RememberAny>(store: &mut LocalFs<D, R>) -> Result<(), NoMemory>
+fn turn_disk<D: Disk, R: Remember>(store: &mut LocalFs<D, R>) -> Result<(), NoMemory>
     ensures done { Turns (D.state store.old.disk) result (D.state store.new.disk) }
     ensures rest { store.new ≡ record store.old { disk = store.new.disk } }
     ensures loan { D.loan store.new.disk ≡ D.loan store.old.disk }

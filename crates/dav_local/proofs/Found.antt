@@ -165,6 +165,7 @@ parent_root p dir others none same = record {
   refused = tt;
   alike = refl;
   stood = λ w told is clear. (let here = root_clear w.tree (tree_parts w.tree is) in (here.row, ap (look w.tree) (sym same ∙ no_names others none) ∙ here.stands));
+  first = inl (sym same ∙ no_names others none);
   rows = rows_same p p refl;
 }
 
@@ -180,17 +181,27 @@ parent_unknown p m q dir found (Err e) recalls is finds = record {
   refused = spoiled_after p m q e recalls.keeps finds.refused;
   alike = tt;
   stood = tt;
+  first = tt;
   rows = rows_then p m q recalls.keeps recalls.rows finds.rows;
 }
 parent_unknown p m q dir found (Ok None) recalls is finds =
-    record { keeps = place_then p m q recalls.keeps finds.keeps; refused = tt; alike = tt; stood = tt; rows = rows_then p m q recalls.keeps recalls.rows finds.rows }
+    record { keeps = place_then p m q recalls.keeps finds.keeps; refused = tt; alike = tt; stood = tt; first = tt; rows = rows_then p m q recalls.keeps recalls.rows finds.rows }
 parent_unknown p m q dir found (Ok (Some at)) recalls is finds = record {
   keeps = place_then p m q recalls.keeps finds.keeps;
   refused = tt;
   alike = finds.alike;
   stood = stands_on p m at recalls.keeps finds.stood;
+  first = finds.first;
   rows = rows_then p m q recalls.keeps recalls.rows finds.rows;
 }
+
+-- What is recalled of it comes to the front.
+pub parent_recalled : (p q : Place) (dir at : Names) (found : Option Names) → Recalls p dir (Ok found) q → found ≡ Some at → FindsParent p dir (Ok (Some at)) q
+parent_recalled p q dir at found recalls is = finds (subst (λ f. Recalls p dir (Ok f) q) is recalls)
+  where
+    finds : Recalls p dir (Ok (Some at)) q → FindsParent p dir (Ok (Some at)) q
+    finds recalls =
+        record { keeps = recalls.keeps; refused = tt; alike = recalls.alike; stood = recalls.stood; first = inr recalls.first; rows = recalls.rows }
 
 -- What stands is remembered after the disk was asked.
 rows_on : (p : Place) (t : DiskState) (at : Names) (q : Place) → Keeps p.disk t → KeepsPlace (record p { disk = t }) q → StandsIn p.disk at → (StandsIn t at → RemembersIn (record p { disk = t }) q)
@@ -205,6 +216,7 @@ parent_stands p q t dir m metas keeps remembers = record {
   refused = tt;
   alike = refl;
   stood = there;
+  first = inr remembers.first;
   rows = rows_on p t dir q keeps remembers.keeps (stands_without_links p.disk dir there) remembers.rows;
 }
   where
@@ -218,15 +230,16 @@ parent_starved p q t dir m e metas keeps remembers = record {
   refused = inr (ap (λ x. Err x) (error_of e remembers.starved));
   alike = tt;
   stood = tt;
+  first = tt;
   rows = rows_on p t dir q keeps remembers.keeps (stands_without_links p.disk dir (λ w told is clear. (let (row, stands, meta) = metas.told w told clear in (row, stands)))) remembers.rows;
 }
 
 pub parent_failed : (p : Place) (t : DiskState) (dir : Names) → Keeps p.disk t → Rose p.disk.faults t.faults → FindsParent p dir (Err FsError.GeneralFailure) (record p { disk = t })
 parent_failed p t dir keeps rose =
-    record { keeps = place_disk p t keeps; refused = inl (refl, rose); alike = tt; stood = tt; rows = rows_same p (record p { disk = t }) refl }
+    record { keeps = place_disk p t keeps; refused = inl (refl, rose); alike = tt; stood = tt; first = tt; rows = rows_same p (record p { disk = t }) refl }
 
 pub parent_missing : (p : Place) (t : DiskState) (dir : Names) → Keeps p.disk t → FindsParent p dir (Ok None) (record p { disk = t })
-parent_missing p t dir keeps = record { keeps = place_disk p t keeps; refused = tt; alike = tt; stood = tt; rows = rows_same p (record p { disk = t }) refl }
+parent_missing p t dir keeps = record { keeps = place_disk p t keeps; refused = tt; alike = tt; stood = tt; first = tt; rows = rows_same p (record p { disk = t }) refl }
 
 -- ---- a member of the directory
 

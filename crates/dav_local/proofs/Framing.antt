@@ -8,7 +8,7 @@ use Rattle.dav_core.specs.Unchanged.{Keeps, SameListing, SameOpen}
 use Rattle.dav_core.proofs.UnchangedLemmas.{but_then, keeps_but, keeps_then, same_listing_then, same_open_then}
 use Rattle.dav_store.specs.Frames.{KeepsOpen, KeepsOpenBut, OpensOne}
 use Rattle.dav_store.specs.Listings.{HasNone, ListsOne}
-use Rattle.dav_store.specs.Standing.{Seen}
+use Rattle.dav_store.specs.FileView.{FileView}
 use Rattle.dav_store.proofs.Reading.{keeps_lister}
 use Rattle.dav_store.proofs.Walking.{walk_then}
 
@@ -41,20 +41,20 @@ but_after own s m t p q = record {
 }
 
 -- a file that was opened after a path was found
-pub opens_after : {F : Type 0} (handle : F → ℕ) (seen : F → DiskState → Option Seen) (how : OpenOptions) (s m t : DiskState) (r : Result F FsError) → Keeps s m → OpensOne handle seen how m r t
-    → OpensOne handle seen how s r t
-opens_after handle seen how s m t (Ok file) keeps opened = record {
-  others = but_after (handle file) s m t keeps opened.others;
-  kept = λ reads. but_then (handle file) s m t (keeps_but (handle file) s m keeps) (opened.kept reads);
-  fresh = (let same : m.live (handle file) ≡ s.live (handle file) = keeps.live (handle file) in sym_then same opened.fresh);
+pub opens_after : {F : Type 0} (view : FileView F) (how : OpenOptions) (s m t : DiskState) (r : Result F FsError) → Keeps s m → OpensOne view how m r t
+    → OpensOne view how s r t
+opens_after view how s m t (Ok file) keeps opened = record {
+  others = but_after (view.handle file) s m t keeps opened.others;
+  kept = λ reads. but_then (view.handle file) s m t (keeps_but (view.handle file) s m keeps) (opened.kept reads);
+  fresh = (let same : m.live (view.handle file) ≡ s.live (view.handle file) = keeps.live (view.handle file) in sym_then same opened.fresh);
   live = opened.live;
   options = opened.options;
   place = opened.place;
 }
   where
-    sym_then : m.live (handle file) ≡ s.live (handle file) → m.live (handle file) ≡ None → s.live (handle file) ≡ None
+    sym_then : m.live (view.handle file) ≡ s.live (view.handle file) → m.live (view.handle file) ≡ None → s.live (view.handle file) ≡ None
     sym_then same none = rw same at none
-opens_after handle seen how s m t (Err e) keeps opened = record { others = open_after s m t keeps opened.others; kept = λ reads. keeps_then s m t keeps (opened.kept reads) }
+opens_after view how s m t (Err e) keeps opened = record { others = open_after s m t keeps opened.others; kept = λ reads. keeps_then s m t keeps (opened.kept reads) }
 
 -- a listing that was begun after a path was found
 pub lists_after : {L : Type 0} (lister : L → Option ℕ) (s m t : DiskState) (r : Result L FsError) → Keeps s m → ListsOne lister m r t → ListsOne lister s r t

@@ -8,6 +8,7 @@ pub mod Memories
 pub mod Rows
 pub mod Stepping
 pub mod Coming
+pub mod Dating
 pub mod Recalling
 pub mod Found
 pub mod Resolved

@@ -17,9 +17,11 @@ use Rattle.dav_store.proofs.Reading.{rose_from}
 use Rattle.dav_cache.specs.Entries.{PathCache, Paths}
 use Rattle.dav_cache.specs.Memory.{LearnsNothing, MayDeny, MemoryState}
 use Rattle.dav_model.specs.Folds.{Name, fold_name, fold_path}
+use Rattle.dav_local.specs.Made.{MadeAt}
 use Rattle.dav_local.specs.Places.{Place}
 use Rattle.dav_local.specs.Remembering.{AllPaths, HasFirst, IsFirst, RemembersRows, has_link}
 use Rattle.dav_local.specs.Walking.{IsAlikeIn, KeepsPlace, RemembersIn, StandsAt, StandsIn}
+use Rattle.dav_local.proofs.Dating.{made_same, made_then}
 
 -- ---- what is known
 
@@ -46,7 +48,15 @@ denied_before a b dir time name learns (inr is_open) = inr (sym (learns.same_ope
 -- ---- places
 
 pub place_same : (p : Place) → KeepsPlace p p
-place_same p = record { ways = refl; keeps = keeps_same p.disk; learns = learns_none p.memory; dots = refl; tells = refl }
+place_same p = record {
+  ways = refl;
+  keeps = keeps_same p.disk;
+  learns = learns_none p.memory;
+  dots = refl;
+  tells = refl;
+  moment = refl;
+  made = made_same p.moment p.memory p.memory refl refl;
+}
 
 pub place_then : (p m q : Place) → KeepsPlace p m → KeepsPlace m q → KeepsPlace p q
 place_then p m q first then = record {
@@ -55,11 +65,21 @@ place_then p m q first then = record {
   learns = learns_then p.memory m.memory q.memory first.learns then.learns;
   dots = then.dots ∙ first.dots;
   tells = then.tells ∙ first.tells;
+  moment = then.moment ∙ first.moment;
+  made = made_then p.moment p.memory m.memory q.memory first.made (subst (λ now. MadeAt now m.memory q.memory) first.moment then.made);
 }
 
 -- the disk alone was asked
 pub place_disk : (p : Place) (t : DiskState) → Keeps p.disk t → KeepsPlace p (record p { disk = t })
-place_disk p t keeps = record { ways = refl; keeps = keeps; learns = learns_none p.memory; dots = refl; tells = refl }
+place_disk p t keeps = record {
+  ways = refl;
+  keeps = keeps;
+  learns = learns_none p.memory;
+  dots = refl;
+  tells = refl;
+  moment = refl;
+  made = made_same p.moment p.memory p.memory refl refl;
+}
 
 -- The world that is told then has the tree that was told first.
 pub same_tree : (p m : Place) (w : World) → KeepsPlace p m → p.disk.told ≡ Some w → (v : World) × (m.disk.told ≡ Some v) × (v.tree ≡ w.tree)

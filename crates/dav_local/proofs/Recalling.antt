@@ -23,9 +23,11 @@ use Rattle.dav_cache.specs.Entries.{PathCache, Paths, inserted, without}
 use Rattle.dav_cache.specs.Memory.{Gets, GetsBy, Inserts, LearnsNothing, MemoryState}
 use Rattle.dav_cache.specs.Trees.{same_path, fold_name as kept_name, fold_path as kept_path}
 use Rattle.dav_model.specs.Folds.{fold_path}
+use Rattle.dav_local.specs.Made.{MadeAt}
 use Rattle.dav_local.specs.Places.{Place}
-use Rattle.dav_local.specs.Remembering.{AllPaths, IsFirst, IsRemembered}
+use Rattle.dav_local.specs.Remembering.{AllPaths, IsFirst, IsNewFirst, IsRemembered}
 use Rattle.dav_local.specs.Walking.{KeepsPlace, Recalls, Remembers, RemembersIn}
+use Rattle.dav_local.proofs.Dating.{made_got, made_inserted, made_same}
 use Rattle.dav_local.proofs.Keeping.{asked_keeps}
 use Rattle.dav_local.proofs.Memories.{learns_none, rows_same}
 
@@ -42,7 +44,7 @@ both_tell (Some x) (Some y) P both = refl
 
 -- ---- a path is looked up
 
-abbrev path_of : {A : Type 0} → Option (Names × A) → Option Names
+abbrev pub path_of : {A : Type 0} → Option (Names × A) → Option Names
 path_of None = None
 path_of (Some f) = Some f.0
 
@@ -127,7 +129,7 @@ module _ {A : Type 0} (call : DiskState → Names → Result A DiskError → Dis
   got_rows p q names found gets = λ w test told is links stands all. got_paths test p.memory.paths q.memory.paths names p.disk q.disk found gets.paths all
 
 -- What is remembered is found, with one call of the disk.
-got_held : (p : Place) (names at : Names) (found : Option (Names × Meta)) (m : MemoryState) (t : DiskState) → Gets p.memory names p.disk found m t → RefusedNothing p.disk.faults t.faults
+pub got_held : (p : Place) (names at : Names) (found : Option (Names × Meta)) (m : MemoryState) (t : DiskState) → Gets p.memory names p.disk found m t → RefusedNothing p.disk.faults t.faults
     → IsRemembered p names at → (path_of found ≡ Some at) × AsksOnce p.disk t
 got_held p names at found m t gets nothing held =
     let (d, now, looks) = told_after p.memory.paths m.paths (λ a b. Looks (lookup (same_path (kept_path names)) a.entries) a names p.disk found b t) held.cache gets.paths held.tells in
@@ -142,22 +144,24 @@ got_held p names at found m t gets nothing held =
         absurd (no_refusal e (look held.world.tree held.entry.path) held.row metas.only (metas.told held.world held.told (ap (is_linked held.world.tree) held.place ∙ held.clear))
         (ap (look held.world.tree) held.place ∙ held.stands) (fault_rose e metas))
 
-got_place : (p q : Place) (names : Names) (found : Option (Names × Meta)) → q.ways ≡ p.ways → Gets p.memory names p.disk found q.memory q.disk → KeepsPlace p q
-got_place p q names found ways gets = record {
+got_place : (p q : Place) (names : Names) (found : Option (Names × Meta)) → q.ways ≡ p.ways → q.moment ≡ p.moment → Gets p.memory names p.disk found q.memory q.disk → KeepsPlace p q
+got_place p q names found ways moment gets = record {
   ways = ways;
   keeps = asked_keeps p.disk q.disk gets.asks;
   learns = gets.learns;
   dots = gets.dots;
   tells = both_tell p.memory.paths q.memory.paths (λ a b. Looks (lookup (same_path (kept_path names)) a.entries) a names p.disk found b q.disk) gets.paths;
+  moment = moment;
+  made = made_got Seeing p.moment p.memory q.memory names p.disk q.disk found gets;
 }
 
-pub recalls_found : (p q : Place) (names at : Names) (meta : Meta) (found : Option (Names × Meta)) → q.ways ≡ p.ways → Gets p.memory names p.disk found q.memory q.disk → found ≡ Some (at, meta)
+pub recalls_found : (p q : Place) (names at : Names) (meta : Meta) (found : Option (Names × Meta)) → q.ways ≡ p.ways → q.moment ≡ p.moment → Gets p.memory names p.disk found q.memory q.disk → found ≡ Some (at, meta)
     → Recalls p names (Ok (Some at)) q
-recalls_found p q names at meta found ways gets is = recalls (subst (λ f. Gets p.memory names p.disk f q.memory q.disk) is gets)
+recalls_found p q names at meta found ways moment gets is = recalls (subst (λ f. Gets p.memory names p.disk f q.memory q.disk) is gets)
   where
     recalls : Gets p.memory names p.disk (Some (at, meta)) q.memory q.disk → Recalls p names (Ok (Some at)) q
     recalls gets = record {
-      keeps = got_place p q names (Some (at, meta)) ways gets;
+      keeps = got_place p q names (Some (at, meta)) ways moment gets;
       starved = tt;
       alike = sym (same_folds at) ∙ gets.folds ∙ same_folds names;
       stood = λ w told is clear. (let (row, stands, same) = gets.stood.told w told clear in (row, stands));
@@ -166,12 +170,12 @@ recalls_found p q names at meta found ways gets is = recalls (subst (λ f. Gets 
       rows = got_rows Seeing p q names (Some (at, meta)) gets;
     }
 
-pub recalls_none : (p q : Place) (names : Names) (found : Option (Names × Meta)) → q.ways ≡ p.ways → Gets p.memory names p.disk found q.memory q.disk → found ≡ None → Recalls p names (Ok None) q
-recalls_none p q names found ways gets is = recalls (subst (λ f. Gets p.memory names p.disk f q.memory q.disk) is gets)
+pub recalls_none : (p q : Place) (names : Names) (found : Option (Names × Meta)) → q.ways ≡ p.ways → q.moment ≡ p.moment → Gets p.memory names p.disk found q.memory q.disk → found ≡ None → Recalls p names (Ok None) q
+recalls_none p q names found ways moment gets is = recalls (subst (λ f. Gets p.memory names p.disk f q.memory q.disk) is gets)
   where
     recalls : Gets p.memory names p.disk None q.memory q.disk → Recalls p names (Ok None) q
     recalls gets = record {
-      keeps = got_place p q names None ways gets;
+      keeps = got_place p q names None ways moment gets;
       starved = tt;
       alike = tt;
       stood = tt;
@@ -180,18 +184,20 @@ recalls_none p q names found ways gets is = recalls (subst (λ f. Gets p.memory 
       rows = got_rows Seeing p q names None gets;
     }
 
-place_as : (p q : Place) → q.ways ≡ p.ways → q.memory ≡ p.memory → q.disk ≡ p.disk → KeepsPlace p q
-place_as p q ways memory disk = record {
+place_as : (p q : Place) → q.ways ≡ p.ways → q.moment ≡ p.moment → q.memory ≡ p.memory → q.disk ≡ p.disk → KeepsPlace p q
+place_as p q ways moment memory disk = record {
   ways = ways;
   keeps = subst (λ d. Keeps p.disk d) (sym disk) (keeps_same p.disk);
   learns = subst (λ m. LearnsNothing p.memory m) (sym memory) (learns_none p.memory);
   dots = ap (λ (m : MemoryState). m.dots) memory;
   tells = ap (λ (m : MemoryState). is_some m.paths) memory;
+  moment = moment;
+  made = made_same p.moment p.memory q.memory (ap (λ (m : MemoryState). m.paths) memory) (ap (λ (m : MemoryState). m.dots) memory);
 }
 
-pub recalls_starved : (p q : Place) (names : Names) → q.ways ≡ p.ways → q.memory ≡ p.memory → q.disk ≡ p.disk → Recalls p names (Err FsError.NoMemory) q
-recalls_starved p q names ways memory disk = record {
-  keeps = place_as p q ways memory disk;
+pub recalls_starved : (p q : Place) (names : Names) → q.ways ≡ p.ways → q.moment ≡ p.moment → q.memory ≡ p.memory → q.disk ≡ p.disk → Recalls p names (Err FsError.NoMemory) q
+recalls_starved p q names ways moment memory disk = record {
+  keeps = place_as p q ways moment memory disk;
   starved = (refl, disk);
   alike = tt;
   stood = tt;
@@ -208,6 +214,12 @@ told_first None (Some b) at now both = absurd both
 told_first (Some a) None at now both = absurd both
 told_first (Some a) (Some b) at now both = subst (λ (c : PathCache). IsFirst at at c.entries) (sym both) (same_folds at, refl)
 
+told_new : (old new : Option PathCache) (at : Names) (now : Moment) → Both old new (λ a b. b ≡ record a { entries = inserted a.size at now a.entries }) → IfSome new (λ c. IsNewFirst now at c.entries)
+told_new None None at now both = tt
+told_new None (Some b) at now both = absurd both
+told_new (Some a) None at now both = absurd both
+told_new (Some a) (Some b) at now both = subst (λ (c : PathCache). IsNewFirst now at c.entries) (sym both) (same_folds at, refl)
+
 told_paths : (test : Names → Bool) (old new : Option PathCache) (at : Names) (now : Moment) → Both old new (λ a b. b ≡ record a { entries = inserted a.size at now a.entries }) → test at ≡ true
     → IfSome old (λ c. AllPaths test c.entries) → IfSome new (λ c. AllPaths test c.entries)
 told_paths test None None at now both holds all = tt
@@ -217,21 +229,25 @@ told_paths test (Some a) (Some b) at now both holds all =
     subst (λ (c : PathCache). AllPaths test c.entries) (sym both)
     (holds, paths_take test (a.size - 1) (without (same_path (kept_path at)) a.entries) (paths_without test (same_path (kept_path at)) a.entries all))
 
-pub remembers_at : (p q : Place) (at : Names) (now : Moment) → q.ways ≡ p.ways → q.disk ≡ p.disk → Inserts p.memory at now q.memory → Remembers p at (Ok tt) q
-remembers_at p q at now ways disk inserts = record {
+pub remembers_at : (p q : Place) (at : Names) (now : Moment) → q.ways ≡ p.ways → q.moment ≡ p.moment → q.disk ≡ p.disk → now ≡ p.moment → Inserts p.memory at now q.memory
+    → Remembers p at (Ok tt) q
+remembers_at p q at now ways moment disk same inserts = record {
   keeps = record {
     ways = ways;
     keeps = subst (λ d. Keeps p.disk d) (sym disk) (keeps_same p.disk);
     learns = inserts.learns;
     dots = inserts.dots;
     tells = both_tell p.memory.paths q.memory.paths (λ a b. b ≡ record a { entries = inserted a.size at now a.entries }) inserts.paths;
+    moment = moment;
+    made = subst (λ then. MadeAt then p.memory q.memory) same (made_inserted now p.memory q.memory at inserts);
   };
   starved = tt;
   first = told_first p.memory.paths q.memory.paths at now inserts.paths;
+  new = subst (λ then. IfSome q.memory.paths (λ c. IsNewFirst then at c.entries)) same (told_new p.memory.paths q.memory.paths at now inserts.paths);
   rows = λ there w test told is links stands all.
       let (row, here) = there w told is links in told_paths test p.memory.paths q.memory.paths at now inserts.paths (stands at row here) all;
 }
 
-pub remembers_starved : (p q : Place) (at : Names) → q.ways ≡ p.ways → q.memory ≡ p.memory → q.disk ≡ p.disk → Remembers p at (Err FsError.NoMemory) q
-remembers_starved p q at ways memory disk =
-    record { keeps = place_as p q ways memory disk; starved = refl; first = tt; rows = λ there. rows_same p q (ap (λ (m : MemoryState). m.paths) memory) }
+pub remembers_starved : (p q : Place) (at : Names) → q.ways ≡ p.ways → q.moment ≡ p.moment → q.memory ≡ p.memory → q.disk ≡ p.disk → Remembers p at (Err FsError.NoMemory) q
+remembers_starved p q at ways moment memory disk =
+    record { keeps = place_as p q ways moment memory disk; starved = refl; first = tt; new = tt; rows = λ there. rows_same p q (ap (λ (m : MemoryState). m.paths) memory) }

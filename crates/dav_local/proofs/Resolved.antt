@@ -18,6 +18,7 @@ use Rattle.dav_local.specs.Remembering.{SavesWork}
 use Rattle.dav_local.specs.Resolving.{Leads, Resolves, StandsFor, found_at}
 use Rattle.dav_local.specs.Walking.{EndsAt, Walks}
 use Rattle.dav_local.specs.Ways.{Ways, is_known, resolved_by, rules_of}
+use Rattle.dav_local.proofs.Dating.{made_same}
 use Rattle.dav_local.proofs.Memories.{learns_none}
 
 unfolded : (tree : List Row) (names : Names) → IsLoose false tree [] names names
@@ -39,6 +40,8 @@ resolves_known p names at known is = record {
   keeps = keeps_same p.disk;
   learns = learns_none p.memory;
   dots = refl;
+  moment = refl;
+  made = made_same p.moment p.memory p.memory refl refl;
   refused = tt;
   known = λ e. (refl, is);
   starved = λ e. tt;
@@ -71,6 +74,8 @@ resolves_walked p q names (Err e) worlds alone folds walks = record {
   keeps = walks.keeps.keeps;
   learns = walks.keeps.learns;
   dots = walks.keeps.dots;
+  moment = walks.keeps.moment;
+  made = walks.keeps.made;
   refused = walks.refused;
   known = λ e. absurd (not_known p.ways alone folds e);
   starved = λ e. absurd (not_known p.ways alone folds e);
@@ -82,6 +87,8 @@ resolves_walked p q names (Ok at) worlds alone folds walks = record {
   keeps = walks.keeps.keeps;
   learns = walks.keeps.learns;
   dots = walks.keeps.dots;
+  moment = walks.keeps.moment;
+  made = walks.keeps.made;
   refused = tt;
   known = λ e. absurd (not_known p.ways alone folds e);
   starved = λ e. tt;
@@ -109,6 +116,8 @@ copy_starved p q names at resolves = record {
   keeps = resolves.keeps;
   learns = resolves.learns;
   dots = resolves.dots;
+  moment = resolves.moment;
+  made = resolves.made;
   refused = inr refl;
   known = λ e. ((resolves.known e).0, tt);
   starved = λ e. refl;

@@ -1,8 +1,8 @@
 -- The call by which a path is found is the call that is asked for there.
-use Rattle.std.proofs.Common.{◌≡◌, ◌&&◌, ◌||◌, ◌⊎◌, inl, inr, Bool, true, false, not, Option, None, Some, Result, Ok, Err, refl, sym, ap, subst, ◌∙◌}
+use Rattle.std.proofs.Common.{◌≡◌, ◌≤◌, ◌&&◌, ◌||◌, ◌⊎◌, inl, inr, Bool, true, false, not, Option, None, Some, option_map, Result, Ok, Err, refl, sym, ap, subst, ◌∙◌, arith}
 use Rattle.std.specs.Map.{lookup}
 use Rattle.std.specs.Option.{is_some, unwrap_or}
-use Rattle.dav_io.specs.Counts.{Rose}
+use Rattle.dav_io.specs.Counts.{RefusedNothing, Rose}
 use Rattle.dav_io.proofs.ToldLemmas.{told_after}
 use Rattle.dav_core.specs.declared.error.FsError.{FsError}
 use Rattle.dav_core.specs.declared.handle.DiskError.{DiskError}
@@ -19,6 +19,7 @@ use Rattle.dav_core.specs.Path.{Names}
 use Rattle.dav_core.specs.Unchanged.{Keeps}
 use Rattle.dav_core.specs.World.{IsWorld, World}
 use Rattle.dav_core.proofs.UnchangedLemmas.{keeps_same}
+use Rattle.dav_store.specs.Files.{AsksOnce}
 use Rattle.dav_store.specs.Frames.{OpensOne}
 use Rattle.dav_cache.specs.Calls.{LooksBy, Opening, Seeing}
 use Rattle.dav_cache.specs.Memory.{Gets, GetsBy, GetsOpen}
@@ -27,18 +28,21 @@ use Rattle.dav_model.specs.Finding.{has_slash, is_localized, is_virtual}
 use Rattle.dav_model.specs.Folds.{fold_path, is_dot}
 use Rattle.dav_local.specs.Calls.{Finds, IsOpening, Looks, LooksAt, TellsAbsent, is_shut}
 use Rattle.dav_local.specs.declared.file.LocalFsFile.{LocalFsFile}
-use Rattle.dav_local.specs.Files.{filed, seen_by}
+use Rattle.dav_local.specs.Files.{filed}
+use Rattle.dav_local.specs.LocalFiles.{local_file}
 use Rattle.dav_local.specs.Places.{Place}
-use Rattle.dav_local.specs.Seeing.{AnswersSeen, FindsAlike, OpensAt, OpensThere, is_judged}
+use Rattle.dav_local.specs.Saving.{SavesAt, SavesLook, SeesOnce, is_judged}
+use Rattle.dav_local.specs.Seeing.{AnswersSeen, FindsAlike, OpensAt, OpensThere}
 use Rattle.dav_local.specs.Walking.{Misses, RecallsBy, StandsAt, Walks}
 use Rattle.dav_local.specs.Ways.{is_known, rules_of}
 use Rattle.dav_local.proofs.Coming.{walk_starved}
+use Rattle.dav_local.proofs.Dating.{made_got}
 use Rattle.dav_local.proofs.Framing.{keeps_open, opens_after}
 use Rattle.dav_local.proofs.Found.{alike_ends, walk_whole, walks_after}
 use Rattle.dav_local.proofs.Keeping.{metas_keep}
-use Rattle.dav_local.proofs.Memories.{place_disk, rows_same}
+use Rattle.dav_local.proofs.Memories.{error_of, place_disk, rows_same}
 use Rattle.dav_local.proofs.Opened.{opened_one, unopened_keeps}
-use Rattle.dav_local.proofs.Recalling.{both_tell, got_first, got_rows, recalls_starved, same_folds}
+use Rattle.dav_local.proofs.Recalling.{both_tell, got_first, got_held, got_rows, path_of, recalls_starved, same_folds}
 use Rattle.dav_local.proofs.Resolved.{resolves_walked}
 use Rattle.dav_local.proofs.Rows.{tree_parts}
 
@@ -47,7 +51,7 @@ use Rattle.dav_local.proofs.Rows.{tree_parts}
 -- What was found by a call was found before it, with the disk as it was.
 walks_before : (p q : Place) (names at : Names) → Walks p names (Ok at) q → Walks p names (Ok at) (record q { disk = p.disk })
 walks_before p q names at walks = record {
-  keeps = record { ways = walks.keeps.ways; keeps = keeps_same p.disk; learns = walks.keeps.learns; dots = walks.keeps.dots; tells = walks.keeps.tells };
+  keeps = record { ways = walks.keeps.ways; keeps = keeps_same p.disk; learns = walks.keeps.learns; dots = walks.keeps.dots; tells = walks.keeps.tells; moment = walks.keeps.moment; made = walks.keeps.made };
   refused = tt;
   alike = walks.alike;
   told = walks.told;
@@ -57,7 +61,7 @@ walks_before p q names at walks = record {
 
 walks_asked : (p q : Place) (names at : Names) → Walks p names (Ok at) (record q { disk = p.disk }) → Keeps p.disk q.disk → Walks p names (Ok at) q
 walks_asked p q names at walks keeps = record {
-  keeps = record { ways = walks.keeps.ways; keeps = keeps; learns = walks.keeps.learns; dots = walks.keeps.dots; tells = walks.keeps.tells };
+  keeps = record { ways = walks.keeps.ways; keeps = keeps; learns = walks.keeps.learns; dots = walks.keeps.dots; tells = walks.keeps.tells; moment = walks.keeps.moment; made = walks.keeps.made };
   refused = tt;
   alike = walks.alike;
   told = walks.told;
@@ -68,15 +72,17 @@ walks_asked p q names at walks keeps = record {
 -- ---- what the memory has
 
 -- What is found by a call was found before it.
-got_walks : {A : Type 0} (call : DiskState → Names → Result A DiskError → DiskState → Type 0) (p q : Place) (names : Names) (f : Names × A) → q.ways ≡ p.ways
+got_walks : {A : Type 0} (call : DiskState → Names → Result A DiskError → DiskState → Type 0) (p q : Place) (names : Names) (f : Names × A) → q.ways ≡ p.ways → q.moment ≡ p.moment
     → GetsBy call p.memory names p.disk (Some f) q.memory q.disk → StandsAt p.disk f.0 → Walks p names (Ok f.0) (record q { disk = p.disk })
-got_walks call p q names f ways gets stands = record {
+got_walks call p q names f ways moment gets stands = record {
   keeps = record {
     ways = ways;
     keeps = keeps_same p.disk;
     learns = gets.learns;
     dots = gets.dots;
     tells = both_tell p.memory.paths q.memory.paths (λ a b. LooksBy call (lookup (same_path (kept_path names)) a.entries) a names p.disk (Some f) b q.disk) gets.paths;
+    moment = moment;
+    made = made_got call p.moment p.memory q.memory names p.disk q.disk (Some f) gets;
   };
   refused = tt;
   alike = alike;
@@ -89,14 +95,16 @@ got_walks call p q names f ways gets stands = record {
     alike = sym (same_folds f.0) ∙ gets.folds ∙ same_folds names
 
 got_misses : {A : Type 0} (call : DiskState → Names → Result A DiskError → DiskState → Type 0) → ((s t : DiskState) (path : Names) (e : DiskError) → call s path (Err e) t → Keeps s t)
-    → (p q : Place) (names : Names) → q.ways ≡ p.ways → GetsBy call p.memory names p.disk None q.memory q.disk → Misses p q
-got_misses call refused p q names ways gets = record {
+    → (p q : Place) (names : Names) → q.ways ≡ p.ways → q.moment ≡ p.moment → GetsBy call p.memory names p.disk None q.memory q.disk → Misses p q
+got_misses call refused p q names ways moment gets = record {
   keeps = record {
     ways = ways;
     keeps = by_call (gets.refused refl);
     learns = gets.learns;
     dots = gets.dots;
     tells = both_tell p.memory.paths q.memory.paths (λ a b. LooksBy call (lookup (same_path (kept_path names)) a.entries) a names p.disk None b q.disk) gets.paths;
+    moment = moment;
+    made = made_got call p.moment p.memory q.memory names p.disk q.disk None gets;
   };
   rows = got_rows call p q names None gets;
 }
@@ -105,10 +113,10 @@ got_misses call refused p q names ways gets = record {
     by_call (inl same) = subst (Keeps p.disk) (sym same) (keeps_same p.disk)
     by_call (inr (path, e, called)) = refused p.disk q.disk path e called
 
-pub recalls_seen : (p q : Place) (names : Names) (found : Option (Names × Meta)) → q.ways ≡ p.ways → Gets p.memory names p.disk found q.memory q.disk → RecallsBy Seeing p names (Ok found) q
-recalls_seen p q names None ways gets = got_misses Seeing (λ s t path e metas. metas_keep true s path (Err e) t metas) p q names ways gets
-recalls_seen p q names (Some f) ways gets =
-    (got_walks Seeing p q names f ways gets (λ w told is clear. let (row, stands, same) = gets.stood.told w told clear in (row, stands)), gets.stood)
+pub recalls_seen : (p q : Place) (names : Names) (found : Option (Names × Meta)) → q.ways ≡ p.ways → q.moment ≡ p.moment → Gets p.memory names p.disk found q.memory q.disk → RecallsBy Seeing p names (Ok found) q
+recalls_seen p q names None ways moment gets = got_misses Seeing (λ s t path e metas. metas_keep true s path (Err e) t metas) p q names ways moment gets
+recalls_seen p q names (Some f) ways moment gets =
+    (got_walks Seeing p q names f ways moment gets (λ w told is clear. let (row, stands, same) = gets.stood.told w told clear in (row, stands)), gets.stood)
 
 opened_stands : (s : DiskState) (path : Names) (h : Handle) (t : DiskState) → Opens s path reading (Ok h) t → StandsAt s path
 opened_stands s path h t opens = λ w told is clear.
@@ -116,16 +124,16 @@ opened_stands s path h t opens = λ w told is clear.
     let (number, changed, held, stands) = opened in
     let (row, there, numbered, kind) = stands clear in (row, there)
 
-pub recalls_opened : (p q : Place) (names : Names) (found : Option (Names × Handle)) → q.ways ≡ p.ways → GetsOpen p.memory names p.disk found q.memory q.disk
+pub recalls_opened : (p q : Place) (names : Names) (found : Option (Names × Handle)) → q.ways ≡ p.ways → q.moment ≡ p.moment → GetsOpen p.memory names p.disk found q.memory q.disk
     → RecallsBy Opening p names (Ok found) q × OpensThere p.disk (Ok found) q.disk
-recalls_opened p q names None ways gets =
-    let misses = got_misses Opening (λ s t path e opens. unopened_keeps s path e t opens) p q names ways gets in (misses, misses.keeps.keeps)
-recalls_opened p q names (Some f) ways gets =
-    ((got_walks Opening p q names f ways gets (opened_stands p.disk f.0 f.1 q.disk gets.stood), gets.stood), opened_one p.disk f.0 f.1 q.disk gets.stood)
+recalls_opened p q names None ways moment gets =
+    let misses = got_misses Opening (λ s t path e opens. unopened_keeps s path e t opens) p q names ways moment gets in (misses, misses.keeps.keeps)
+recalls_opened p q names (Some f) ways moment gets =
+    ((got_walks Opening p q names f ways moment gets (opened_stands p.disk f.0 f.1 q.disk gets.stood), gets.stood), opened_one p.disk f.0 f.1 q.disk gets.stood)
 
-pub recalls_nothing : (p q : Place) (names : Names) → q.ways ≡ p.ways → q.memory ≡ p.memory → q.disk ≡ p.disk → Walks p names (Err FsError.NoMemory) q
-recalls_nothing p q names ways memory disk =
-    let recalls = recalls_starved p q names ways memory disk in walk_starved p q names recalls.keeps recalls.rows
+pub recalls_nothing : (p q : Place) (names : Names) → q.ways ≡ p.ways → q.moment ≡ p.moment → q.memory ≡ p.memory → q.disk ≡ p.disk → Walks p names (Err FsError.NoMemory) q
+recalls_nothing p q names ways moment memory disk =
+    let recalls = recalls_starved p q names ways moment memory disk in walk_starved p q names recalls.keeps recalls.rows
 
 -- ---- a call after a path was found by folding
 
@@ -196,6 +204,40 @@ look_here p q t names meta slash r metas keeps answers =
     let walks = walk_whole p t names meta metas keeps in
     look_found p (record p { disk = t }) q names names meta slash r (walks_before p (record p { disk = t }) names names walks) metas answers
 
+-- ---- what a look saves
+
+pub sees_once : (p q : Place) (names : Names) (found : Option (Names × Meta)) → Gets p.memory names p.disk found q.memory q.disk → SeesOnce p names (Ok found) q
+sees_once p q names found gets = record {
+  starved = tt;
+  saved = λ nothing at held. by_found at found (got_held p names at found q.memory q.disk gets nothing held);
+}
+  where
+    by_found : (at : Names) (found : Option (Names × Meta)) → (path_of found ≡ Some at) × AsksOnce p.disk q.disk → (option_map (λ (f : Names × Meta). f.0) found ≡ Some at) × AsksOnce p.disk q.disk
+    by_found at None both = both
+    by_found at (Some f) both = both
+
+nothing_so_far : (s m t : DiskState) → RefusedNothing s.faults t.faults → s.faults ≤ m.faults → m.faults ≤ t.faults → RefusedNothing s.faults m.faults
+nothing_so_far s m t nothing first then = record { same = omega (arith, nothing.same, first, then); room = omega (arith, nothing.room, then) }
+
+-- What the memory has costs the call by which it was seen.
+pub look_saved : (p m q : Place) (names there : Names) (meta : Meta) (slash : Bool) (found : Option (Names × Meta)) (r : Result Info FsError) → SeesOnce p names (Ok found) m
+    → found ≡ Some (there, meta) → m.ways ≡ p.ways → AnswersSeen there meta slash m r q → Keeps p.disk m.disk → Keeps m.disk q.disk → SavesAt p names r q
+look_saved p m q names there meta slash found r sees is ways answers first then = λ known nothing at held judged.
+    let (same, once) = sees.saved (nothing_so_far p.disk m.disk q.disk nothing first.counts then.counts) at held in
+    let here : at ≡ there = (let e : Some at ≡ Some there = sym same ∙ ap (option_map (λ (f : Names × Meta). f.0)) is in cc) in
+    let (answer, still) = answers.seen (ap (λ w. is_judged w there) ways ∙ ap (is_judged p.ways) (sym here) ∙ judged) in
+    inl (subst (λ (d : DiskState). AsksOnce p.disk d) (sym (ap (λ (x : Place). x.disk) still)) once)
+
+-- Else the path isn't remembered.
+pub look_unknown : (p m q : Place) (names : Names) (found : Option (Names × Meta)) (r : Result Info FsError) → SeesOnce p names (Ok found) m → found ≡ None → Keeps p.disk m.disk → Keeps m.disk q.disk
+    → SavesAt p names r q
+look_unknown p m q names found r sees is first then = λ known nothing at held judged.
+    let (same, once) = sees.saved (nothing_so_far p.disk m.disk q.disk nothing first.counts then.counts) at held in
+    let never : ◌≡◌ {A = Option Names} None (Some at) = sym (ap (option_map (λ (f : Names × Meta). f.0)) is) ∙ same in cc
+
+pub look_starved : (p q : Place) (names : Names) (e : FsError) → SeesOnce p names (Err e) q → SavesAt p names (Err e) q
+look_starved p q names e sees = λ known nothing at held judged. inr (let (is, same) = sees.starved in (ap (λ x. Err x) (error_of e is), same))
+
 -- ---- openings
 
 -- The opening by which the path was found is the one that was asked for.
@@ -236,19 +278,19 @@ open_there p m t names at found how r walks here is (answer, opens, said) =
     (Ok at, m, subst (λ z. Walks p names (Ok z) m) (sym here) walks, (answer, t, subst (λ o. Opens m.disk at o answer t) is opens, said, refl))
 
 pub opened_recalled : (s t : DiskState) (at : Names) (h : Handle) (found : Option (Names × Handle)) → OpensThere s (Ok found) t → found ≡ Some (at, h)
-    → OpensOne (λ (f : LocalFsFile). f.handle.0) seen_by reading s (Ok (record { handle = h })) t
+    → OpensOne local_file reading s (Ok (record { handle = h })) t
 opened_recalled s t at h found opens is = subst (λ f. OpensThere s (Ok f) t) is opens
 
 pub opened_unknown : (s m t : DiskState) (found : Option (Names × Handle)) (r : Result LocalFsFile FsError) → OpensThere s (Ok found) m → found ≡ None
-    → OpensOne (λ (f : LocalFsFile). f.handle.0) seen_by reading m r t → OpensOne (λ (f : LocalFsFile). f.handle.0) seen_by reading s r t
-opened_unknown s m t found r opens is one = opens_after (λ (f : LocalFsFile). f.handle.0) seen_by reading s m t r (subst (λ f. OpensThere s (Ok f) m) is opens) one
+    → OpensOne local_file reading m r t → OpensOne local_file reading s r t
+opened_unknown s m t found r opens is one = opens_after local_file reading s m t r (subst (λ f. OpensThere s (Ok f) m) is opens) one
 
-pub opened_there : (s m t : DiskState) (how : OpenOptions) (r : Result LocalFsFile FsError) → Keeps s m → how ≡ reading → OpensOne (λ (f : LocalFsFile). f.handle.0) seen_by how m r t
-    → OpensOne (λ (f : LocalFsFile). f.handle.0) seen_by reading s r t
+pub opened_there : (s m t : DiskState) (how : OpenOptions) (r : Result LocalFsFile FsError) → Keeps s m → how ≡ reading → OpensOne local_file how m r t
+    → OpensOne local_file reading s r t
 opened_there s m t how r keeps is one =
-    opens_after (λ (f : LocalFsFile). f.handle.0) seen_by reading s m t r keeps (subst (λ o. OpensOne (λ (f : LocalFsFile). f.handle.0) seen_by o m r t) is one)
+    opens_after local_file reading s m t r keeps (subst (λ o. OpensOne local_file o m r t) is one)
 
-pub opened_nothing : (s t : DiskState) (e : FsError) → Keeps s t → OpensOne (λ (f : LocalFsFile). f.handle.0) seen_by reading s (Err e) t
+pub opened_nothing : (s t : DiskState) (e : FsError) → Keeps s t → OpensOne local_file reading s (Err e) t
 opened_nothing s t e keeps = record { others = keeps_open s t keeps; kept = λ is. keeps }
 
 -- ---- the calls of the store

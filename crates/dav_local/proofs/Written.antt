@@ -1,5 +1,5 @@
 -- What is written to a file by writes of the disk is what a store's file promises.
-use Rattle.std.proofs.Common.{◌≡◌, ◌≢◌, ◌<◌, ◌≤◌, ◌⊎◌, ℕ, List, [], ◌++◌, length, take, drop, Bool, true, Option, Result, Ok, Err, OnErr, refl, sym, ap, subst, ◌∙◌, inl, inr, arith}
+use Rattle.std.proofs.Common.{◌≡◌, ◌≢◌, ◌<◌, ◌≤◌, ◌⊎◌, ℕ, List, [], ◌++◌, length, take, drop, Bool, true, false, Option, Result, Ok, Err, OnErr, refl, sym, ap, subst, ◌∙◌, inl, inr, arith}
 use Rattle.std.proofs.lemmas.List.{take-append-drop, take-append-le, length-take-le}
 use Rattle.bytes.specs.Unread.{IsChunkOf}
 use Rattle.dav_io.specs.Counts.{Rose}
@@ -23,7 +23,7 @@ use Rattle.dav_store.specs.Standing.{Seen}
 use Rattle.dav_local.specs.Standing.{seen_at}
 use Rattle.dav_local.specs.Writing.{WritesAll}
 use Rattle.dav_local.specs.Writing.WritesAll.{nothing, refused, more}
-use Rattle.dav_local.proofs.WrittenFiles.{PartWritten, refused_told, then_writes, wrote_told}
+use Rattle.dav_local.proofs.WrittenFiles.{PartWritten, refused_told, shut_told, then_writes, wrote_told}
 
 -- ---- what is kept
 
@@ -180,6 +180,16 @@ all_told h s from result t (more a m b xs piece n r chunk writes rest) =
     (wrote_told a.told m.told (a.live h) (m.live h) h piece n same writes.told)
     (all_told h m (drop n xs) r b rest)
 
+all_shut : (h : ℕ) (s : DiskState) (from : List ℕ) (result : Result Unit FsError) (t : DiskState) → WritesAll h s from result t → can_write (s.live h) ≡ false
+    → seen_at t h ≡ seen_at s h
+all_shut h s from result t (nothing a) shut = refl
+all_shut h s from result t (refused a b xs piece e chunk some writes) shut =
+    shut_told a.told b.told (a.live h) (b.live h) h piece (Err e) (ap (λ (f : ℕ → Option Live). f h) writes.live) shut writes.told
+all_shut h s from result t (more a m b xs piece n r chunk writes rest) shut =
+    let same = ap (λ (f : ℕ → Option Live). f h) writes.live in
+    all_shut h m (drop n xs) r b rest (ap can_write same ∙ shut)
+    ∙ shut_told a.told m.told (a.live h) (m.live h) h piece (Ok n) same shut writes.told
+
 -- A file that is written so keeps what a store's file promises.
 pub all_written : (h : ℕ) (s : DiskState) (from : List ℕ) (result : Result Unit FsError) (t : DiskState) → WritesAll h s from result t
     → FileWrites s h (seen_at s h) from result t (seen_at t h)
@@ -188,5 +198,6 @@ all_written h s from result t all = record {
   live = all_live h s from result t all;
   world = all_leave h s from result t all;
   refused = all_refused h s from result t all;
+  shut = all_shut h s from result t all;
   told = all_told h s from result t all;
 }

@@ -177,3 +177,23 @@ refused_told None (Some w) k l h from e same both = absurd both
 refused_told (Some v) None k l h from e same both = absurd both
 refused_told (Some v) (Some w) None l h from e same left = rw same tt
 refused_told (Some v) (Some w) (Some k) l h from e same left = rw same (may_show v w h k from (refused_leaves (Some k) h from e v w left))
+
+-- What wasn't opened for writing shows what it did.
+same_shown : (x y : Option Seen) → Both x y (λ f g. g ≡ f) → y ≡ x
+same_shown None None both = refl
+same_shown None (Some g) both = absurd both
+same_shown (Some f) None both = absurd both
+same_shown (Some f) (Some g) same = ap Some same
+
+may_shut : (v w : World) (h : ℕ) (l : Live) (from : List ℕ) → can_write (Some l) ≡ false → MayWrite (Some l) h from v w → seen_with (Some w) (Some l) h ≡ seen_with (Some v) (Some l) h
+may_shut v w h l from shut (inl (same, opens)) = same_shown (seen_with (Some v) (Some l) h) (seen_with (Some w) (Some l) h) (left_shows v w h l same opens)
+may_shut v w h l from shut (inr (can, n, wrote)) = cc
+
+pub shut_told : (a b : Option World) (k l : Option Live) (h : ℕ) (from : List ℕ) (r : Result ℕ DiskError) → l ≡ k → can_write k ≡ false → Both a b (WrittenIn k h from r)
+    → seen_with b l h ≡ seen_with a k h
+shut_told None None k l h from r same shut both = refl
+shut_told None (Some w) k l h from r same shut both = absurd both
+shut_told (Some v) None k l h from r same shut both = absurd both
+shut_told (Some v) (Some w) None l h from r same shut both = rw same refl
+shut_told (Some v) (Some w) (Some k) l h from (Ok n) same shut (can, wrote) = cc
+shut_told (Some v) (Some w) (Some k) l h from (Err e) same shut left = rw same (may_shut v w h k from shut (refused_leaves (Some k) h from e v w left))

@@ -3,6 +3,7 @@ pub mod Files
 pub mod Metadata
 pub mod Writing
 pub mod Entries
+pub mod LocalFiles
 pub mod LocalStays
 pub mod Ways
 pub mod Places
@@ -10,7 +11,9 @@ pub mod Resolving
 pub mod Remembering
 pub mod Walking
 pub mod Listing
+pub mod Made
 pub mod Gathering
 pub mod Calls
+pub mod Saving
 pub mod Seeing
 pub mod Shown

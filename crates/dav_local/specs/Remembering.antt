@@ -3,6 +3,7 @@ use Rattle.std.specs.Prelude.{◌≡◌, ◌⊎◌, List, [], ◌∷◌, Bool, t
 use Rattle.std.specs.List.{list_any}
 use Rattle.std.specs.Map.{lookup}
 use Rattle.dav_io.specs.Counts.{RefusedNothing}
+use Rattle.dav_io.specs.declared.clock.Moment.{Moment}
 use Rattle.dav_core.specs.declared.error.FsError.{FsError}
 use Rattle.dav_core.specs.declared.error.FsError.TheVariants.{NoMemory}
 use Rattle.dav_core.specs.declared.handle.DiskError.{DiskError}
@@ -12,7 +13,7 @@ use Rattle.dav_core.specs.Tree.{is_link, is_linked, look}
 use Rattle.dav_core.specs.World.{World}
 use Rattle.dav_store.specs.Files.{AsksOnce}
 use Rattle.dav_cache.specs.declared.cache.PathEntry.{PathEntry}
-use Rattle.dav_cache.specs.Entries.{PathCache, Paths}
+use Rattle.dav_cache.specs.Entries.{PathCache, Paths, whole_seconds}
 use Rattle.dav_cache.specs.Memory.{MemoryState}
 use Rattle.dav_cache.specs.Trees.{same_path}
 use Rattle.dav_model.specs.Folds.{fold_path}
@@ -67,6 +68,15 @@ IsFirst names at (e ∷ es) = (e.0 ≡ fold_path names) × (e.1.path ≡ at)
 -- the first entry of the cache, where the memory tells it
 abbrev pub HasFirst : Names → Names → MemoryState → Type 0
 HasFirst names at memory = IfSome memory.paths (λ c. IsFirst names at c.entries)
+
+-- The first entry is what is remembered of this path at this moment, in whole seconds.
+abbrev pub IsNewFirst : Moment → Names → Paths → Type 0
+IsNewFirst now at [] = ⊥
+IsNewFirst now at (e ∷ es) = (e.0 ≡ fold_path at) × (e.1 ≡ record { path = at; secs = whole_seconds now.0 })
+
+-- the first entry of the cache, where the memory tells it
+abbrev pub HasNewFirst : Moment → Names → MemoryState → Type 0
+HasNewFirst now at memory = IfSome memory.paths (λ c. IsNewFirst now at c.entries)
 
 -- Work kept: with folding, what is found elsewhere than it is asked is the first entry of the cache afterwards.
 abbrev pub KeepsWork : Place → Names → Result Names FsError → Place → Type 0

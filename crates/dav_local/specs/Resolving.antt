@@ -12,6 +12,7 @@ use Rattle.dav_store.specs.Files.{Spoiled}
 use Rattle.dav_model.specs.Finding.{EndsLoosely, or_walk}
 use Rattle.dav_model.specs.Folds.{fold_path}
 use Rattle.dav_cache.specs.Memory.{LearnsNothing}
+use Rattle.dav_local.specs.Made.{MadeAt}
 use Rattle.dav_local.specs.Places.{Place}
 use Rattle.dav_local.specs.Ways.{Ways, is_known}
 
@@ -39,6 +40,9 @@ pub record Resolves (p : Place) (names : Names) (result : Result Names FsError) 
   pub keeps : Keeps p.disk q.disk
   pub learns : LearnsNothing p.memory q.memory
   pub dots : q.memory.dots ≡ p.memory.dots
+  pub moment : q.moment ≡ p.moment
+  -- what is remembered anew has the store's moment
+  pub made : MadeAt p.moment p.memory q.memory
   pub refused : OnErr result (Spoiled p.disk result q.disk)
   pub known : is_known p.ways ≡ true → (q ≡ p) × IfOk result (λ at. at ≡ or_walk p.ways.alone names)
   pub starved : is_known p.ways ≡ true → OnErr result (result ≡ Err NoMemory)

@@ -19,8 +19,9 @@ use Rattle.dav_store.specs.Listings.{IsListed, KeepsButLister}
 use Rattle.dav_cache.specs.Memory.{LearnsNothing, MemoryState}
 use Rattle.dav_model.specs.Finding.{IsLoose, IsOf, is_alike}
 use Rattle.dav_model.specs.Folds.{Name, fold_name, fold_path}
+use Rattle.dav_local.specs.Made.{MadeAt}
 use Rattle.dav_local.specs.Places.{Place}
-use Rattle.dav_local.specs.Remembering.{AllRemembered, HasFirst, IsRemembered, StandsElsewhere, has_link}
+use Rattle.dav_local.specs.Remembering.{AllRemembered, HasFirst, HasNewFirst, IsRemembered, StandsElsewhere, has_link}
 
 -- A listing was begun, or nothing changed.
 abbrev pub BeginsOne : DiskState → Result Lister DiskError → DiskState → Type 0
@@ -95,6 +96,8 @@ pub record KeepsPlace (p q : Place) : Type 0 where
   pub learns : LearnsNothing p.memory q.memory
   pub dots : q.memory.dots ≡ p.memory.dots
   pub tells : is_some q.memory.paths ≡ is_some p.memory.paths
+  pub moment : q.moment ≡ p.moment
+  pub made : MadeAt p.moment p.memory q.memory
 
 -- A row stands there, where that is told and no link stands on the way.
 abbrev pub StandsAt : DiskState → Names → Type 0
@@ -128,6 +131,7 @@ pub record Remembers (p : Place) (at : Names) (result : Result Unit FsError) (q 
   pub keeps : KeepsPlace p q
   pub starved : OnErr result (result ≡ Err NoMemory)
   pub first : OnOk result (HasFirst at at q.memory)
+  pub new : OnOk result (HasNewFirst p.moment at q.memory)
   pub rows : StandsIn p.disk at → RemembersIn p q
 
 -- A step of a walk, as above.
@@ -140,12 +144,13 @@ pub record StepsOn (p : Place) (at : Names) (name : Name) (result : Result (Opti
       → StepsTo w.tree at name found)
   pub rows : StandsIn p.disk at → RemembersIn p q
 
--- A directory is found for a path: what stands there folds alike.
+-- A directory is found for a path: what stands there folds alike, and is remembered first, unless it is the root.
 pub record FindsParent (p : Place) (dir : Names) (result : Result (Option Names) FsError) (q : Place) : Type 0 where
   pub keeps : KeepsPlace p q
   pub refused : OnErr result (Spoiled p.disk result q.disk)
   pub alike : IfOk result (λ found. IfSome found (λ at. fold_path at ≡ fold_path dir))
   pub stood : IfOk result (λ found. IfSome found (λ at. StandsAt p.disk at))
+  pub first : IfOk result (λ found. IfSome found (λ at. (dir ≡ []) ⊎ HasFirst dir at q.memory))
   pub rows : RemembersIn p q
 
 -- A row in the directory is remembered, or none folds like the name, which is appended as it is asked.

@@ -6,7 +6,8 @@ ghost use Rattle.dav_core.specs.Disk.{DiskState, Opens};
 ghost use Rattle.dav_core.specs.Writing.{Copies, CreatesDir, RemovesDir, RemovesFile, Renames};
 ghost use Rattle.dav_store.specs.Frames.{KeepsOpen, OpensOne};
 ghost use Rattle.dav_local.specs.Calls.{AfterMove, MakesMissing, MovesAgain, found_dir};
-ghost use Rattle.dav_local.specs.Files.{done_by, filed, seen_by};
+ghost use Rattle.dav_local.specs.Files.{done_by, filed};
+ghost use Rattle.dav_local.specs.LocalFiles.{local_file};
 
 use crate::LocalFsFile;
 use crate::lists::look;
@@ -22,7 +23,7 @@ pub fn open_at<D: Disk>(
 ) -> Result<LocalFsFile, FsError>
     ensures done { (answer : Result Handle DiskError)
         × Opens (D.state disk.old) at.now options answer (D.state disk.new) × (result ≡ filed answer) }
-    ensures one { OpensOne (λ f. f.handle.0) seen_by options (D.state disk.old) result (D.state disk.new) }
+    ensures one { OpensOne local_file options (D.state disk.old) result (D.state disk.new) }
     ensures loan { D.loan disk.new ≡ D.loan disk.old }
 {
     match disk.open(at, options, public) {

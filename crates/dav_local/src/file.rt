@@ -29,16 +29,12 @@ impl LocalFsFile {
 
 impl<D: Disk> DavFile<D> for LocalFsFile {
     ghost use Rattle.dav_local.specs.Files.{AsksMeta, AsksRead, AsksSeek, seen_by};
+    ghost use Rattle.dav_local.specs.LocalFiles.{local_file};
     ghost use Rattle.dav_local.specs.LocalStays.{local_stays};
-    ghost use Rattle.dav_local.specs.Writing.{WritesAll};
 
     type Meta = LocalFsMetaData;
 
-    ghost handle = { λ f. f.handle.0 };
-
-    ghost seen = { seen_by };
-
-    ghost writes = { λ f s from result g t. WritesAll f.handle.0 s from result t × (g ≡ f) };
+    ghost view = { local_file };
 
     /// Its metadata as it is now, by one call of the disk.
     fn metadata(&mut self, disk: &mut D) -> Result<LocalFsMetaData, FsError>
@@ -123,4 +119,6 @@ impl<D: Disk> DavFile<D> for LocalFsFile {
     }
 
     ghost stays = { local_stays };
+
+    ghost reads_on = { λ f s t leaves reads. reads };
 }

@@ -17,6 +17,7 @@ ghost use Rattle.dav_local.specs.contracts.fs.LocalFs.{the_row};
 ghost use Rattle.dav_local.specs.Files.{local_info};
 ghost use Rattle.dav_local.specs.Places.{Stays, place_of};
 ghost use Rattle.dav_local.specs.Remembering.{KeepsWork, RemembersRows, SavesWork};
+ghost use Rattle.dav_local.specs.Saving.{SavesLook};
 ghost use Rattle.dav_local.specs.Resolving.{Resolves};
 ghost use Rattle.dav_local.specs.Ways.{resolved_by, rules_of};
 
@@ -234,6 +235,8 @@ impl<D: Disk, R: Remember> LocalFs<D, R> {
     pub(crate) fn look(&mut self, path: &DavPath, follows: bool) -> Result<LocalFsMetaData, FsError>
         ensures done { Looks follows (place_of D.state R.state self.old) path.now (info_in local_info result)
             (place_of D.state R.state self.new) }
+        ensures saved { follows ≡ true → SavesLook (place_of D.state R.state self.old) path.now
+            (info_in local_info result) (place_of D.state R.state self.new) }
         ensures keeps { Keeps (D.state self.old.disk) (D.state self.new.disk) }
         ensures stays { Stays self.old self.new }
         ensures loan { D.loan self.new.disk ≡ D.loan self.old.disk }

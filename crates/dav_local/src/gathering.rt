@@ -9,7 +9,7 @@ ghost use Rattle.dav_local.specs.Places.{Place, Stays, place_of};
 
 use crate::listing::{Reading, begin, next};
 use crate::{LocalFs, LocalFsDirEntry};
-use dav_cache::{DUCacheBuilder, RememberAny};
+use dav_cache::{DUCacheBuilder, Remember};
 use dav_core::{Disk, FsError, FsPath, Lister};
 use dav_io::NoMemory;
 use dav_store::ReadDirMeta;
@@ -117,7 +117,7 @@ impl LocalFsReadDir {
 }
 
 // Ends what a listing gathered, where it did: the memory is sealed with it.
-fn finish<D: Disk, R: RememberAny>(
+fn finish<D: Disk, R: Remember>(
     fs: &mut LocalFs<D, R>,
     dir: &mut LocalFsReadDir,
 ) -> Result<Option<LocalFsDirEntry>, FsError>
@@ -138,7 +138,7 @@ fn finish<D: Disk, R: RememberAny>(
 }
 
 // The next entry.
-pub fn next_in<D: Disk, R: RememberAny>(
+pub fn next_in<D: Disk, R: Remember>(
     fs: &mut LocalFs<D, R>,
     dir: &mut LocalFsReadDir,
 ) -> Result<Option<LocalFsDirEntry>, FsError>

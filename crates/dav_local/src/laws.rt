@@ -27,13 +27,13 @@ ghost use Rattle.dav_local.specs.Standing.{HasNoLinks, seen_at};
 ghost use Rattle.dav_local.specs.Ways.{Ways, rules_with};
 
 use crate::{LocalFs, LocalFsFile};
-use dav_cache::RememberAny;
+use dav_cache::Remember;
 use dav_core::{DavPath, Disk};
 use dav_store::DavFileSystem;
 
 /// Over a told disk each look is answered by the rules for a place where a loose walk of the path ends, whatever the
 /// memory knows and however many names fold alike.
-pub fn looks_are_by_the_rules<D: Disk, R: RememberAny>(_fs: &LocalFs<D, R>, _path: &DavPath)
+pub fn looks_are_by_the_rules<D: Disk, R: Remember>(_fs: &LocalFs<D, R>, _path: &DavPath)
     ensures { (w : World) (result : Result Info FsError) (t : LocalFs D R)
         → (D.state _fs.now.disk).told ≡ Some w
         → ⟦<LocalFs<D, R> as DavFileSystem>⟧.view.looks _fs.now tt _path.now result t
@@ -42,7 +42,7 @@ pub fn looks_are_by_the_rules<D: Disk, R: RememberAny>(_fs: &LocalFs<D, R>, _pat
 {}
 
 /// Over a told disk each opening for reading likewise.
-pub fn openings_are_by_the_rules<D: Disk, R: RememberAny>(_fs: &LocalFs<D, R>, _path: &DavPath)
+pub fn openings_are_by_the_rules<D: Disk, R: Remember>(_fs: &LocalFs<D, R>, _path: &DavPath)
     ensures { (w : World) (result : Result LocalFsFile FsError) (t : LocalFs D R)
         → (D.state _fs.now.disk).told ≡ Some w
         → ⟦<LocalFs<D, R> as DavFileSystem>⟧.view.opens _fs.now tt _path.now reading result t
@@ -50,7 +50,7 @@ pub fn openings_are_by_the_rules<D: Disk, R: RememberAny>(_fs: &LocalFs<D, R>, _
 {}
 
 /// Over a told disk each beginning of a listing likewise.
-pub fn listings_are_by_the_rules<D: Disk, R: RememberAny>(_fs: &LocalFs<D, R>, _path: &DavPath)
+pub fn listings_are_by_the_rules<D: Disk, R: Remember>(_fs: &LocalFs<D, R>, _path: &DavPath)
     ensures { (w : World) (wanted : ReadDirMeta) (result : Result LocalFsReadDir FsError) (t : LocalFs D R)
         → (D.state _fs.now.disk).told ≡ Some w
         → ⟦<LocalFs<D, R> as DavFileSystem>⟧.listings.lists _fs.now tt _path.now wanted result t
@@ -60,7 +60,7 @@ pub fn listings_are_by_the_rules<D: Disk, R: RememberAny>(_fs: &LocalFs<D, R>, _
 /// Over a told disk, a walk over the listing of a directory, where no link stands on the way to it or at one of its
 /// members, is told of its members, each once. It ends where all were given, for want of memory, or because of a fault
 /// that was met since the listing was asked for.
-pub fn walks_tell_the_members<D: Disk, R: RememberAny>(_fs: &LocalFs<D, R>, _path: &DavPath)
+pub fn walks_tell_the_members<D: Disk, R: Remember>(_fs: &LocalFs<D, R>, _path: &DavPath)
     ensures each { (w : World) (n o : LocalFs D R) (l k : LocalFsReadDir) (answers : List Answered)
         → (D.state _fs.now.disk).told ≡ Some w
         → ⟦<LocalFs<D, R> as DavFileSystem>⟧.listings.lists _fs.now tt _path.now Data (Ok l) n

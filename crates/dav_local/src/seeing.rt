@@ -7,8 +7,10 @@ ghost use Rattle.dav_cache.specs.Calls.{Opening, Seeing};
 ghost use Rattle.dav_store.specs.Frames.{OpensOne};
 ghost use Rattle.dav_store.specs.Standing.{info_in};
 ghost use Rattle.dav_local.specs.Calls.{LooksAt};
-ghost use Rattle.dav_local.specs.Files.{local_info, seen_by};
+ghost use Rattle.dav_local.specs.Files.{local_info};
+ghost use Rattle.dav_local.specs.LocalFiles.{local_file};
 ghost use Rattle.dav_local.specs.Places.{Stays, place_of};
+ghost use Rattle.dav_local.specs.Saving.{SavesAt, SeesOnce};
 ghost use Rattle.dav_local.specs.Seeing.{AnswersSeen, FindsAlike, OpensAt, OpensThere};
 ghost use Rattle.dav_local.specs.Walking.{RecallsBy};
 
@@ -30,6 +32,8 @@ impl<D: Disk, R: Remember> LocalFs<D, R> {
     ) -> Result<LocalFsMetaData, FsError>
         ensures done { FindsAlike (place_of D.state R.state self.old) path.now (LooksAt true slash)
             (info_in local_info result) (place_of D.state R.state self.new) }
+        ensures saved { SavesAt (place_of D.state R.state self.old) path.now (info_in local_info result)
+            (place_of D.state R.state self.new) }
         ensures keeps { Keeps (D.state self.old.disk) (D.state self.new.disk) }
         ensures stays { Stays self.old self.new }
         ensures loan { D.loan self.new.disk ≡ D.loan self.old.disk }
@@ -44,6 +48,8 @@ impl<D: Disk, R: Remember> LocalFs<D, R> {
     // Where the memory has a path, and what stands there, if something does.
     fn recall_seen(&mut self, path: &FsPath) -> Result<Option<(FsPath, Meta)>, FsError>
         ensures done { RecallsBy Seeing (place_of D.state R.state self.old) path.now result
+            (place_of D.state R.state self.new) }
+        ensures once { SeesOnce (place_of D.state R.state self.old) path.now result
             (place_of D.state R.state self.new) }
         ensures keeps { Keeps (D.state self.old.disk) (D.state self.new.disk) }
         ensures stays { Stays self.old self.new }
@@ -107,7 +113,7 @@ impl<D: Disk, R: Remember> LocalFs<D, R> {
     pub(crate) fn open_alike(&mut self, path: &FsPath) -> Result<LocalFsFile, FsError>
         ensures done { FindsAlike (place_of D.state R.state self.old) path.now (OpensAt reading) result
             (place_of D.state R.state self.new) }
-        ensures one { OpensOne (λ f. f.handle.0) seen_by reading (D.state self.old.disk) result
+        ensures one { OpensOne local_file reading (D.state self.old.disk) result
             (D.state self.new.disk) }
         ensures stays { Stays self.old self.new }
         ensures loan { D.loan self.new.disk ≡ D.loan self.old.disk }
@@ -137,7 +143,7 @@ impl<D: Disk, R: Remember> LocalFs<D, R> {
     fn open_on_disk(&mut self, path: &FsPath) -> Result<LocalFsFile, FsError>
         ensures done { FindsAlike (place_of D.state R.state self.old) path.now (OpensAt reading) result
             (place_of D.state R.state self.new) }
-        ensures one { OpensOne (λ f. f.handle.0) seen_by reading (D.state self.old.disk) result
+        ensures one { OpensOne local_file reading (D.state self.old.disk) result
             (D.state self.new.disk) }
         ensures stays { Stays self.old self.new }
         ensures loan { D.loan self.new.disk ≡ D.loan self.old.disk }

@@ -2,11 +2,11 @@
 // path and the disk what stands there as it is asked; then likewise for the directory above it, of which the members
 // are listed; and without that directory it is walked from the root. What is found elsewhere than it is asked is
 // remembered.
-ghost use Rattle.std.specs.Prelude.{◌≡◌, Result, true};
+ghost use Rattle.std.specs.Prelude.{◌≡◌, OnOk, Result, true};
 ghost use Rattle.dav_core.specs.declared.error.FsError.{FsError};
 ghost use Rattle.dav_core.specs.Path.{Names, is_plain};
 ghost use Rattle.dav_local.specs.Places.{Stays, place_of};
-ghost use Rattle.dav_local.specs.Remembering.{KeepsWork, RemembersRows, SavesCalls, SavesWork};
+ghost use Rattle.dav_local.specs.Remembering.{HasFirst, KeepsWork, RemembersRows, SavesCalls, SavesWork};
 ghost use Rattle.dav_local.specs.Resolving.{Resolves, StandsFor, found_at};
 ghost use Rattle.dav_local.specs.Walking.{FindsParent, Recalls, Remembers, StepsOn, TakesMember, Walks};
 
@@ -171,6 +171,7 @@ impl<D: Disk, R: Remember> LocalFs<D, R> {
         requires { is_plain name.now ≡ true }
         ensures done { StepsOn (place_of D.state R.state self.old) at.now name.now result
             (place_of D.state R.state self.new) }
+        ensures first { last ≡ true → OnOk result (HasFirst at.now at.now (R.state self.new.memory)) }
         ensures stays { Stays self.old self.new }
         ensures loan { D.loan self.new.disk ≡ D.loan self.old.disk }
     {

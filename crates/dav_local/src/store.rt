@@ -3,22 +3,24 @@ ghost use Rattle.dav_local.specs.Calls.{AsksToCopy, AsksToMake, AsksToMove, Asks
 ghost use Rattle.dav_local.specs.Calls.{BeginsAt, Finds, IsOpening, Looks};
 ghost use Rattle.dav_local.specs.Gathering.{GivesNext, dir_to_come};
 ghost use Rattle.dav_local.specs.Entries.{Says};
-ghost use Rattle.dav_local.specs.Files.{seen_by};
+ghost use Rattle.dav_local.specs.LocalFiles.{local_file};
 ghost use Rattle.dav_local.specs.Places.{Stays, place_of};
+ghost use Rattle.dav_local.specs.Saving.{SavesLook};
 
 use crate::acts::{copy_at, make_at, move_at, open_at, take_dir_at, take_file_at};
 use crate::gathering::{begin_dir, next_in};
 use crate::lists::end_list;
 use crate::walk::at_or;
 use crate::{LocalFs, LocalFsDirEntry, LocalFsFile, LocalFsMetaData, LocalFsReadDir};
-use dav_cache::RememberAny;
+use dav_cache::Remember;
 use dav_core::{DavPath, Disk, FsError, OpenOptions};
 use dav_io::Moment;
 use dav_store::{DavFileSystem, ReadDirMeta};
 
-impl<D: Disk, R: RememberAny> DavFileSystem for LocalFs<D, R> {
+impl<D: Disk, R: Remember> DavFileSystem for LocalFs<D, R> {
     ghost use Rattle.std.specs.Prelude.{true, false};
     ghost use Rattle.dav_core.specs.Listing.{EndsListing};
+    ghost use Rattle.dav_store.specs.FileView.{same_files};
 
     type Disk = D;
 
@@ -41,10 +43,10 @@ impl<D: Disk, R: RememberAny> DavFileSystem for LocalFs<D, R> {
     ghost view = { record {
       state = λ s. D.state s.disk;
       loan = λ s. D.loan s.disk;
-      admits = λ _. Unit {0};
       lends = λ s t. t ≡ record s { disk = t.disk };
       looks = λ s _ path result t. Looks true (place_of D.state R.state s) path result
-          (place_of D.state R.state t) × Stays s t;
+          (place_of D.state R.state t) × Stays s t × SavesLook (place_of D.state R.state s) path result
+          (place_of D.state R.state t);
       looks_at_link = λ s _ path result t. Looks false (place_of D.state R.state s) path result
           (place_of D.state R.state t) × Stays s t;
       opens = λ s _ path how result t. IsOpening (place_of D.state R.state s) path how result
@@ -60,8 +62,7 @@ impl<D: Disk, R: RememberAny> DavFileSystem for LocalFs<D, R> {
       copies = λ s _ from to result t. AsksToCopy (place_of D.state R.state s) from to result
           (place_of D.state R.state t) × Stays s t;
       folding = λ s. s.ways.folds;
-      handle = λ f. f.handle.0;
-      seen = seen_by;
+      file = local_file;
     } };
 
     ghost listings = { record {
@@ -175,17 +176,12 @@ impl<D: Disk, R: RememberAny> DavFileSystem for LocalFs<D, R> {
 
     ghost puts_back = { λ s. refl };
 
-    ghost admits_lent = { λ s t lent keeps admits. admits };
-
-    ghost admits_written = { λ s t lent keeps admits. admits };
-
     ghost fits = { record {
       state = λ s. refl;
       loan = λ s. refl;
       lends = λ s d. refl;
       lent = λ s t lends. lends;
-      handle = λ f. refl;
-      seen = λ f s. refl;
+      file = same_files local_file;
       called = λ e. refl;
       says = λ e s r t said. said;
     } };

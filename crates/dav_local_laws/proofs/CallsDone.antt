@@ -58,7 +58,7 @@ module _ {S C F L E : Type 0} (view : View S C F) (lists : Listings S C L E) (wr
 
   -- ---- opening
 
-  module _ (file : Handle → F) (own : (h : Handle) → view.handle (file h) ≡ h.0) where
+  module _ (file : Handle → F) (own : (h : Handle) → view.file.handle (file h) ≡ h.0) where
     abbrev pub filed_as : Result Handle DiskError → Result F FsError
     filed_as (Ok h) = Ok (file h)
     filed_as (Err e) = Err (fs_error_of e)

@@ -19,6 +19,8 @@ pub mod LocalLooks
 pub mod LocalCalls
 pub mod LocalMoves
 pub mod LocalFollows
+pub mod LocalLoosely
 pub mod LocalLeads
 pub mod LocalShows
 pub mod LocalSeals
+pub mod LocalDates

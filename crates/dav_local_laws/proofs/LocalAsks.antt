@@ -3,6 +3,7 @@
 use Rattle.std.proofs.Common.{◌≡◌, ◌⊎◌, ◌&&◌, ◌||◌, inl, inr, Bool, true, false, not, codes, [], ◌∷◌, Result, Ok, Err, refl, sym, ap, subst, ◌∙◌}
 use Rattle.std.specs.Option.{is_some}
 use Rattle.dav_io.specs.Counts.{one_more}
+use Rattle.dav_io.specs.declared.clock.Moment.{Moment}
 use Rattle.dav_core.specs.declared.error.FsError.{FsError}
 use Rattle.dav_core.specs.declared.error.FsError.TheVariants as fs
 use Rattle.dav_core.specs.DavPath.{WebPath, last_name}
@@ -75,10 +76,10 @@ opened_asks at p q o (answer, t, opens, is, ends) = by o (ap (λ (x : Place). x.
 shut_asks : (p q : Place) (o : Result LocalFsFile FsError) (e : FsError) → o ≡ Err e → q ≡ p → AsksToOpen o p.disk q.disk
 shut_asks p q o e is same = subst (λ o. AsksToOpen o p.disk q.disk) (sym is) (inl (same_asked p q same))
 
-module _ {S C : Type 0} (view : View S C LocalFsFile) (lists : Listings S C LocalFsReadDir LocalFsDirEntry) (writes : Writes LocalFsFile) (ways : S → Ways) (memory : S → MemoryState)
-    (local : IsLocalStore view lists writes ways memory) where
+module _ {S C : Type 0} (view : View S C LocalFsFile) (lists : Listings S C LocalFsReadDir LocalFsDirEntry) (writes : Writes LocalFsFile) (ways : S → Ways) (memory : S → MemoryState) (moment : S → Moment)
+    (local : IsLocalStore view lists writes ways memory moment) where
   abbrev at : S → Place
-  at s = place view lists writes ways memory s
+  at s = place view lists writes ways memory moment s
 
   look_asks : (s t : S) (c : C) (path : WebPath) (r : Result Info FsError) → is_simple (ways s) ≡ true → view.looks s c path r t → AsksToGive r (view.state s) (view.state t)
   look_asks s t c path r simple h =
@@ -125,4 +126,5 @@ module _ {S C : Type 0} (view : View S C LocalFsFile) (lists : Listings S C Loca
     stays = λ s t c path r simple h. ap is_simple (local.looks s t c path r h).1 ∙ simple;
     opens = λ s t c path o simple h. open_asks s t c path o simple h;
     refuses_list = λ s t c path e simple h. list_asks s t c path e simple h;
+    files = local.once;
   }

@@ -8,6 +8,7 @@ use Rattle.std.specs.List.Sorted.{IsPermutation}
 use Rattle.dav_io.specs.Counts.{Rose}
 use Rattle.dav_io.specs.Told.{Both}
 use Rattle.dav_io.proofs.ToldLemmas.{both_map}
+use Rattle.dav_io.specs.declared.clock.Moment.{Moment}
 use Rattle.dav_core.specs.declared.error.FsError.{FsError}
 use Rattle.dav_core.specs.declared.handle.DiskError.{DiskError}
 use Rattle.dav_core.specs.declared.handle.DiskError.TheVariants.{NotFound, Exists, NotDir, IsDir, NotEmpty, Failed, NoMemory}
@@ -36,7 +37,7 @@ use Rattle.dav_model.specs.Valid.{TellsApart}
 use Rattle.dav_model.specs.Walks.{dir_first, in_order}
 use Rattle.dav_model.proofs.LooseWalks.{found_exactly}
 use Rattle.dav_methods.specs.declared.child.Child.{Child}
-use Rattle.dav_methods.specs.Follows.{Calls, FailsToList, Follows, IfBothFound, IfFound, ListsBy, LooksBy, OpensBy, Reached, Told, UnlessShut, child_of, children_in}
+use Rattle.dav_methods.specs.Follows.{Calls, FailsToList, Follows, IfBothFound, IfPlaced, IfFound, ListsBy, LooksBy, OpensBy, Reached, Told, UnlessShut, child_of, children_in}
 use Rattle.dav_methods.specs.Pouring.{Writes, WritesFile}
 use Rattle.dav_methods.specs.Reading.{AllSaid, HasMembers, HasNoMembers, MembersUnread, ReadRefused, child_named, child_said, children_said}
 use Rattle.dav_cache.specs.Memory.{LearnsNothing, MemoryState}
@@ -160,13 +161,13 @@ why_spoiled : (s t : DiskState) (e : FsError) → WhyRefused s.faults t.faults e
 why_spoiled s t e (inl none) = inr (ap Err none)
 why_spoiled s t e (inr (is, rose)) = inl (ap Err is, rose)
 
-module _ {S C : Type 0} (view : View S C LocalFsFile) (lists : Listings S C LocalFsReadDir LocalFsDirEntry) (writes : Writes LocalFsFile) (c : C) (ways : S → Ways) (memory : S → MemoryState)
-    (local : IsLocalStore view lists writes ways memory) (settings : Settings) where
+module _ {S C : Type 0} (view : View S C LocalFsFile) (lists : Listings S C LocalFsReadDir LocalFsDirEntry) (writes : Writes LocalFsFile) (c : C) (ways : S → Ways) (memory : S → MemoryState) (moment : S → Moment)
+    (local : IsLocalStore view lists writes ways memory moment) (settings : Settings) where
   abbrev at : S → Place
-  at s = place view lists writes ways memory s
+  at s = place view lists writes ways memory moment s
 
-  writes_file_told : (m n : S) (f g : LocalFsFile) (bytes : List ℕ) (r : Result Unit FsError) → WritesFile view writes m f bytes r n g → appends ((view.state m).live (view.handle f)) ≡ false
-      → Told view lists writes c m n (WrittenFrom (view.handle f) bytes r)
+  writes_file_told : (m n : S) (f g : LocalFsFile) (bytes : List ℕ) (r : Result Unit FsError) → WritesFile view writes m f bytes r n g → appends ((view.state m).live (view.file.handle f)) ≡ false
+      → Told view lists writes c m n (WrittenFrom (view.file.handle f) bytes r)
   writes_file_told m n f g bytes r h end =
       let (all, same) = local.writes_file f g (view.state m) (view.state n) bytes r h.done in
       let own = local.handle f in
@@ -176,10 +177,10 @@ module _ {S C : Type 0} (view : View S C LocalFsFile) (lists : Listings S C Loca
   -- ---- listings
 
   abbrev listings : ListsLocal view lists
-  listings = lists_local view lists writes ways memory local
+  listings = lists_local view lists writes ways memory moment local
 
   next : (s t : S) (d e : LocalFsReadDir) (r : Result (Option LocalFsDirEntry) FsError) → lists.lists_on s d r t e → Next (view.state s) d r (view.state t) e
-  next s t d e r on = next_local view lists writes ways memory local s t d e r on
+  next s t d e r on = next_local view lists writes ways memory moment local s t d e r on
 
   abbrev rules : S → Rules
   rules m = rules_with settings (ways m)
@@ -338,37 +339,37 @@ module _ {S C : Type 0} (view : View S C LocalFsFile) (lists : Listings S C Loca
 
   pub local_follows : (s : S) → Follows view lists writes c (rules_with settings (ways s)) (knowledge_of (memory s)) s
   local_follows s = record {
-    counts = λ n reached. reached_counts view lists writes c (local_usual view lists writes c ways memory local) s n reached;
+    counts = λ n reached. reached_counts view lists writes c (local_usual view lists writes c ways memory moment local) s n reached;
     folds = λ n reached. local.folding n ∙ ap (λ (w : Ways). w.folds) (stays n reached);
     trees = λ n w reached told. local.worlds n w told;
-    looks = λ m n path r reached h. look_as m n path r reached (look_told view lists writes c ways memory local settings m n path r (memory s) (learns m reached) h);
-    looks_at_link = λ m n path r reached h. look_as m n path r reached (look_at_link_told view lists writes c ways memory local settings m n path r (memory s) (learns m reached) h);
+    looks = λ m n path r reached h. look_as m n path r reached (look_told view lists writes c ways memory moment local settings m n path r (memory s) (learns m reached) h);
+    looks_at_link = λ m n path r reached h. look_as m n path r reached (look_at_link_told view lists writes c ways memory moment local settings m n path r (memory s) (learns m reached) h);
     makes_dir = λ m n path r reached h. subst (λ x. Told view lists writes c m n (λ v w. UnlessShut view lists writes c (is_forbidden x path) r v w (IfFound view lists writes c x v path
-        (Calls view lists writes c (making x v path) m r n v w)))) (same m reached) (make_told view lists writes c ways memory local settings m n path r h);
+        (Calls view lists writes c (making x v path) m r n v w)))) (same m reached) (make_told view lists writes c ways memory moment local settings m n path r h);
     removes_dir = λ m n path r reached h. subst (λ (x : Rules). Told view lists writes c m n (λ v w. IfFound view lists writes c x v path
-        (Calls view lists writes c (taking_dir v.tree (resolved x v.tree path.names)) m r n v w))) (same m reached) (take_dir_told view lists writes c ways memory local settings m n path r h);
+        (Calls view lists writes c (taking_dir v.tree (resolved x v.tree path.names)) m r n v w))) (same m reached) (take_dir_told view lists writes c ways memory moment local settings m n path r h);
     removes_file = λ m n path r reached h. subst (λ (x : Rules). Told view lists writes c m n (λ v w. UnlessShut view lists writes c (is_forbidden x path || has_slash x.alone path) r v w
         (IfFound view lists writes c x v path (Calls view lists writes c (taking_file v.tree (resolved x v.tree path.names)) m r n v w))))
-        (same m reached) (take_file_told view lists writes c ways memory local settings m n path r h);
+        (same m reached) (take_file_told view lists writes c ways memory moment local settings m n path r h);
     renames = λ m n from to r reached h. subst (λ (x : Rules). Told view lists writes c m n (λ v w. UnlessShut view lists writes c (is_forbidden x from || is_forbidden x to) r v w
-        (IfBothFound view lists writes c x v from to (row_at v.tree (resolved x v.tree to.names) ≡ None
-        → Calls view lists writes c (moving v.tree (resolved x v.tree from.names) (resolved x v.tree to.names)) m r n v w))))
-        (same m reached) (move_told view lists writes c ways memory local settings m n from to r h);
+        (IfBothFound view lists writes c x v from to (IfPlaced view lists writes c v (resolved x v.tree from.names) (resolved x v.tree to.names)
+        (Calls view lists writes c (moving v.tree (resolved x v.tree from.names) (resolved x v.tree to.names)) m r n v w)))))
+        (same m reached) (move_told view lists writes c ways memory moment local settings m n from to r h);
     copies = λ m n from to r reached h. subst (λ (x : Rules). Told view lists writes c m n (λ v w. UnlessShut view lists writes c (is_forbidden x from || is_forbidden x to) r v w
         (IfBothFound view lists writes c x v from to (Calls view lists writes c (copying v (resolved x v.tree from.names) (resolved x v.tree to.names)) m r n v w))))
-        (same m reached) (copy_told view lists writes c ways memory local settings m n from to r h);
+        (same m reached) (copy_told view lists writes c ways memory moment local settings m n from to r h);
     opens = λ m n path r reached h. subst (λ (x : Rules). Told view lists writes c m n (λ v w. UnlessShut view lists writes c (is_forbidden x path || has_slash x.alone path) r v w
-        (IfFound view lists writes c x v path (OpensBy view lists writes c x path m r n v w)))) (same m reached) (open_told view lists writes c ways memory local settings m n path r h);
+        (IfFound view lists writes c x v path (OpensBy view lists writes c x path m r n v w)))) (same m reached) (open_told view lists writes c ways memory moment local settings m n path r h);
     writes_file = λ m n f g bytes r reached h end. writes_file_told m n f g bytes r h end;
     members = λ m n path read reached has. subst (λ x. Told view lists writes c m n (ListsBy view lists writes c x path read)) (same m reached) (members_told m n path read has);
     no_members = λ m n path e reached hasnt. subst (λ x. Told view lists writes c m n (FailsToList view lists writes c x path m e n)) (same m reached) (no_members_told m n path e hasnt);
   }
     where
       stays : (m : S) → Reached view lists writes c s m → ways m ≡ ways s
-      stays m reached = (calls_remain view lists writes ways memory local c s m reached).0
+      stays m reached = (calls_remain view lists writes ways memory moment local c s m reached).0
 
       learns : (m : S) → Reached view lists writes c s m → LearnsNothing (memory s) (memory m)
-      learns m reached = (calls_remain view lists writes ways memory local c s m reached).1
+      learns m reached = (calls_remain view lists writes ways memory moment local c s m reached).1
 
       same : (m : S) → Reached view lists writes c s m → rules m ≡ rules s
       same m reached = ap (rules_with settings) (stays m reached)

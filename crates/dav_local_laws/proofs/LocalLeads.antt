@@ -1,6 +1,7 @@
 -- What a local store may remember after its calls was known before them, and it finds paths as before.
 use Rattle.std.proofs.Common.{◌≡◌, ◌||◌, Bool, true, false, Option, None, Some, Result, Ok, Err, refl, sym, ap, subst, ◌∙◌}
 use Rattle.dav_io.specs.declared.failure.NoMemory.{NoMemory as Starved}
+use Rattle.dav_io.specs.declared.clock.Moment.{Moment}
 use Rattle.dav_core.specs.declared.error.FsError.{FsError}
 use Rattle.dav_core.specs.declared.handle.OpenOptions.{OpenOptions}
 use Rattle.dav_core.specs.DavPath.{WebPath}
@@ -119,10 +120,10 @@ copy_learns p q from to r both = both_learn p q from to _ r (λ at into k asks. 
 move_learns : (p q : Place) (from to : WebPath) (r : Result Unit FsError) → AsksToMove p from to r q → LearnsNothing p.memory q.memory
 move_learns p q from to r both = both_learn p q from to MovesAt r (λ at into k (answer, m, renames, t, after, ends). learns_same (record k { disk = t }) q ends) both
 
-module _ {S C : Type 0} (view : View S C LocalFsFile) (lists : Listings S C LocalFsReadDir LocalFsDirEntry) (writes : Writes LocalFsFile) (ways : S → Ways) (memory : S → MemoryState)
-    (local : IsLocalStore view lists writes ways memory) where
+module _ {S C : Type 0} (view : View S C LocalFsFile) (lists : Listings S C LocalFsReadDir LocalFsDirEntry) (writes : Writes LocalFsFile) (ways : S → Ways) (memory : S → MemoryState) (moment : S → Moment)
+    (local : IsLocalStore view lists writes ways memory moment) where
   abbrev at : S → Place
-  at s = place view lists writes ways memory s
+  at s = place view lists writes ways memory moment s
 
   -- How paths are found stays, and what is known was known before.
   abbrev pub Remains : S → S → Type 0
@@ -155,16 +156,16 @@ module _ {S C : Type 0} (view : View S C LocalFsFile) (lists : Listings S C Loca
   pub local_remains : (c : C) (s t : S) → LeadsOn view lists c s t → RemainsTold s t
   local_remains c s t by_none = (refl, nothing_learned (view.state s).told (memory s) (memory s) (learns_none (memory s)))
   local_remains c s t (by_look m n path r before call same) =
-      let (h, stays) = local.looks m n c path r call in
+      let (h, stays, timed, saved) = local.looks m n c path r call in
       nothing_then c s m n before (local_remains c s m before) stays (look_learns true (at m) (at n) path r h)
   local_remains c s t (by_open m n path r before call same) =
-      let (h, stays) = local.opens m n c path _ r call in
+      let (h, stays, timed) = local.opens m n c path _ r call in
       nothing_then c s m n before (local_remains c s m before) stays (open_learns (at m) (at n) path _ r h)
   local_remains c s t (by_no_list m n path e before call same) =
-      let (h, stays) = local.begins m n c path Data (Err e) call in
+      let (h, stays, timed) = local.begins m n c path Data (Err e) call in
       nothing_then c s m n before (local_remains c s m before) stays (begin_learns (at m) (at n) path.names Data (Err e) h)
   local_remains c s t (by_list m n path before through same) =
-      told_then c s m n before (local_remains c s m before) (listing_learns view lists writes ways memory local m n c path through)
+      told_then c s m n before (local_remains c s m before) (listing_learns view lists writes ways memory moment local m n c path through)
   local_remains c s t (by_lend m n before call same) =
       let (stays, learns) = lent_remains m n (local.lends m n call) in
       nothing_then c s m n before (local_remains c s m before) stays learns
@@ -174,7 +175,7 @@ module _ {S C : Type 0} (view : View S C LocalFsFile) (lists : Listings S C Loca
   -- A listing that gathers nothing teaches nothing.
   next_plain : (m n : S) (l k : LocalFsReadDir) (r : Result (Option LocalFsDirEntry) FsError) → l.builder ≡ None → lists.lists_on m l r n k → Remains m n × (k.builder ≡ None)
   next_plain m n l k r none on =
-      let (now, gives) = local.goes_on m n l k r on in
+      let (now, gives, here, timed) = local.goes_on m n l k r on in
       let (given, t, f, first, follows) = gives in
       let (is, same, whole) = subst (λ b. AfterNext b given now (record (at m) { disk = t }) (record l { reading = f }) r (at n) k) none follows in (
         (ap (λ (x : Place). x.ways) same, learns_same (record (at m) { disk = t }) (at n) same),
@@ -201,36 +202,36 @@ module _ {S C : Type 0} (view : View S C LocalFsFile) (lists : Listings S C Loca
   pub calls_remain : (c : C) (s t : S) → Reached view lists writes c s t → Remains s t
   calls_remain c s t on.here = (refl, learns_none (memory s))
   calls_remain c s t (on.looks m n path r before call) =
-      let (h, stays) = local.looks m n c path r call in
+      let (h, stays, timed, saved) = local.looks m n c path r call in
       called_remains s m n (calls_remain c s m before) stays (look_learns true (at m) (at n) path r h)
   calls_remain c s t (on.looks_at_link m n path r before call) =
-      let (h, stays) = local.looks_at_link m n c path r call in
+      let (h, stays, timed) = local.looks_at_link m n c path r call in
       called_remains s m n (calls_remain c s m before) stays (look_learns false (at m) (at n) path r h)
   calls_remain c s t (on.opens m n path how r before call) =
-      let (h, stays) = local.opens m n c path how r call in
+      let (h, stays, timed) = local.opens m n c path how r call in
       called_remains s m n (calls_remain c s m before) stays (open_learns (at m) (at n) path how r h)
   calls_remain c s t (on.writes_file m n f g bytes r before call) = remains_then s m n (calls_remain c s m before) (lent_remains m n (local.lends m n call.lent.store))
   calls_remain c s t (on.ends_file m n f before call) = remains_then s m n (calls_remain c s m before) (lent_remains m n (local.lends m n call.lent.store))
   calls_remain c s t (on.makes_dir m n path r before call) =
-      let (h, stays) = local.makes_dir m n c path r call in
+      let (h, stays, timed) = local.makes_dir m n c path r call in
       called_remains s m n (calls_remain c s m before) stays (make_learns (at m) (at n) path r h)
   calls_remain c s t (on.removes_dir m n path r before call) =
-      let (h, stays) = local.removes_dir m n c path r call in
+      let (h, stays, timed) = local.removes_dir m n c path r call in
       called_remains s m n (calls_remain c s m before) stays (take_dir_learns (at m) (at n) path r h)
   calls_remain c s t (on.removes_file m n path r before call) =
-      let (h, stays) = local.removes_file m n c path r call in
+      let (h, stays, timed) = local.removes_file m n c path r call in
       called_remains s m n (calls_remain c s m before) stays (take_file_learns (at m) (at n) path r h)
   calls_remain c s t (on.renames m n from to r before call) =
-      let (h, stays) = local.renames m n c from to r call in
+      let (h, stays, timed) = local.renames m n c from to r call in
       called_remains s m n (calls_remain c s m before) stays (move_learns (at m) (at n) from to r h)
   calls_remain c s t (on.copies m n from to r before call) =
-      let (h, stays) = local.copies m n c from to r call in
+      let (h, stays, timed) = local.copies m n c from to r call in
       called_remains s m n (calls_remain c s m before) stays (copy_learns (at m) (at n) from to r h)
   calls_remain c s t (on.unlisted m n path e before call) =
-      let (h, stays) = local.begins m n c path DataSymlink (Err e) call in
+      let (h, stays, timed) = local.begins m n c path DataSymlink (Err e) call in
       called_remains s m n (calls_remain c s m before) stays (begin_learns (at m) (at n) path.names DataSymlink (Err e) h)
   calls_remain c s t (on.listed m n path before through) =
-      let (h, stays) = local.begins m through.begin c path DataSymlink (Ok through.listing) through.begins in
+      let (h, stays, timed) = local.begins m through.begin c path DataSymlink (Ok through.listing) through.begins in
       let begun_so = called_remains s m through.begin (calls_remain c s m before) stays (begin_learns (at m) (at through.begin) path.names DataSymlink (Ok through.listing) h) in
       let (remains, still) = listed_plain through.begin through.listing through.after through.over (begun_plain through.listing (at m) (at through.begin) path.names h) through.on in
       remains_then s through.after n (remains_then s through.begin through.after begun_so remains) (lent_remains through.after n (local.ends through.after n through.over through.ended).1)

@@ -278,10 +278,10 @@ finish_learns told dir s t k f b c false now p q sealed u fin st first (answer, 
 
 -- ---- one call of a listing
 
-module _ {S C : Type 0} (view : View S C LocalFsFile) (lists : Listings S C LocalFsReadDir LocalFsDirEntry) (writes : Writes LocalFsFile) (ways : S → Ways) (memory : S → MemoryState)
-    (local : IsLocalStore view lists writes ways memory) where
+module _ {S C : Type 0} (view : View S C LocalFsFile) (lists : Listings S C LocalFsReadDir LocalFsDirEntry) (writes : Writes LocalFsFile) (ways : S → Ways) (memory : S → MemoryState) (moment : S → Moment)
+    (local : IsLocalStore view lists writes ways memory moment) where
   abbrev at : S → Place
-  at s = place view lists writes ways memory s
+  at s = place view lists writes ways memory moment s
 
   -- What was learned from a listing so far, and where it stands.
   record Led (told : Option World) (dir : Names) (from : S) (n : S) (k : LocalFsReadDir) : Type 0 where
@@ -325,7 +325,7 @@ module _ {S C : Type 0} (view : View S C LocalFsFile) (lists : Listings S C Loca
 
   next_led : (told : Option World) (dir : Names) (from m n : S) (l k : LocalFsReadDir) (r : Result (Option LocalFsDirEntry) FsError) → Led told dir from m l → lists.lists_on m l r n k → Led told dir from n k
   next_led told dir from m n l k r before on =
-      let (now, gives) = local.goes_on m n l k r on in
+      let (now, gives, here, timed) = local.goes_on m n l k r on in
       let (given, t, f, first, follows) = gives in
       let step = after_led told dir m n l k l.builder given r now t f refl before.stands first follows in
       record {
@@ -340,7 +340,7 @@ module _ {S C : Type 0} (view : View S C LocalFsFile) (lists : Listings S C Loca
   asked_same told dir m n o l k e r b st on said w now clear = elim (st.names w now clear) [
     | inl idle ↦ inl idle
     | inr g ↦ (
-        let first = next_entry (view.state m) (view.state n) l k e (next_local view lists writes ways memory local m n l k (Ok (Some e)) on) in
+        let first = next_entry (view.state m) (view.state n) l k e (next_local view lists writes ways memory moment local m n l k (Ok (Some e)) on) in
         let one = entry_given g.begun g.given (view.state m) (view.state n) l.reading k.reading e g.front first in
         inr (says_read g.begun (g.begun.dir ++ e.name ∷ []) (view.state n).faults e.meta (view.state n) (view.state o) r one.told (local.says (view.state n) (view.state o) e r said)).0)
   ]
@@ -359,7 +359,7 @@ module _ {S C : Type 0} (view : View S C LocalFsFile) (lists : Listings S C Loca
     where
       gathered : (b c : BuilderState) → l.builder ≡ Some b → k.builder ≡ Some c → is_idle c ≡ is_idle b
       gathered b c lb kc =
-          let (now, gives) = local.goes_on m n l k (Ok (Some e)) on in
+          let (now, gives, here, timed) = local.goes_on m n l k (Ok (Some e)) on in
           let (given, t, f, first, follows) = gives in
           by_given now t f given (subst (λ x. AfterNext x given now (record (at m) { disk = t }) (record l { reading = f }) (Ok (Some e)) (at n) k) lb follows)
         where
@@ -376,7 +376,7 @@ module _ {S C : Type 0} (view : View S C LocalFsFile) (lists : Listings S C Loca
       by : (lb kb : Option BuilderState) → l.builder ≡ lb → k.builder ≡ kb → StandsFor told dir (view.state m) l.reading lb → StandsFor told dir (view.state n) k.reading kb → StandsFor told dir (view.state o) k.reading kb
       by lb None le ke before after = tt
       by None (Some c) le ke before after =
-          let (now, gives) = local.goes_on m n l k (Ok (Some e)) on in
+          let (now, gives, here, timed) = local.goes_on m n l k (Ok (Some e)) on in
           let (given, t, f, first, follows) = gives in
           let (is, same, whole) = subst (λ x. AfterNext x given now (record (at m) { disk = t }) (record l { reading = f }) (Ok (Some e)) (at n) k) le follows in
           let never : None ≡ Some c = sym (ap (λ (d : LocalFsReadDir). d.builder) whole ∙ le) ∙ ke in cc
@@ -423,7 +423,7 @@ module _ {S C : Type 0} (view : View S C LocalFsFile) (lists : Listings S C Loca
       to_come : (b : BuilderState) → b.names ≡ [] → (w : World) → (view.state m).told ≡ Some w → is_linked w.tree l.reading.path ≡ false → Finds (at m) path.names (BeginsAt Data) (Ok l) (at n)
           → Gathered w l.reading.path (view.state n) l.reading b
       to_come b none w now clear (found, k, resolves, after) =
-          let g = began view lists (lists_local view lists writes ways memory local) true (at m) (at n) w path n l found k now resolves after refl clear in
+          let g = began view lists (lists_local view lists writes ways memory moment local) true (at m) (at n) w path n l found k now resolves after refl clear in
           record {
             begun = g.begun;
             world = g.world;

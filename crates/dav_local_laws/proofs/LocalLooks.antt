@@ -3,6 +3,7 @@ use Rattle.std.proofs.Common.{◌≡◌, ◌≤◌, ◌⊎◌, inl, inr, ◌&&�
 use Rattle.dav_io.specs.declared.failure.NoMemory.{NoMemory as Starved}
 use Rattle.dav_io.specs.Told.{Both}
 use Rattle.dav_io.proofs.ToldLemmas.{both_same, both_then, told_after}
+use Rattle.dav_io.specs.declared.clock.Moment.{Moment}
 use Rattle.dav_core.specs.declared.error.FsError.{FsError}
 use Rattle.dav_core.specs.declared.error.FsError.TheVariants as fs
 use Rattle.dav_core.specs.declared.handle.DiskError.{DiskError}
@@ -113,10 +114,10 @@ virtual_finds rules v path r virtual is =
     (subst (λ there. Found there (Ok empty_info)) (sym (ap (λ b. shown b (rules.macos && is_localized (resolved rules v.tree path.names)) (stood_at (has_slash rules.alone path) v (look v.tree (resolved rules v.tree path.names)))) virtual))
     (record { kind = refl; modified = refl; tag = refl }))
 
-module _ {S C : Type 0} (view : View S C LocalFsFile) (lists : Listings S C LocalFsReadDir LocalFsDirEntry) (writes : Writes LocalFsFile) (c : C) (ways : S → Ways) (memory : S → MemoryState)
-    (local : IsLocalStore view lists writes ways memory) (settings : Settings) where
+module _ {S C : Type 0} (view : View S C LocalFsFile) (lists : Listings S C LocalFsReadDir LocalFsDirEntry) (writes : Writes LocalFsFile) (c : C) (ways : S → Ways) (memory : S → MemoryState) (moment : S → Moment)
+    (local : IsLocalStore view lists writes ways memory moment) (settings : Settings) where
   abbrev at : S → Place
-  at s = place view lists writes ways memory s
+  at s = place view lists writes ways memory moment s
 
   abbrev rules : S → Rules
   rules m = rules_with settings (ways m)

@@ -1,8 +1,9 @@
--- What a move of a local store makes of the told world where nothing stands at the destination: what one call of the disk makes.
--- Where a directory was to take a file's place it is asked again, which then is refused as before.
+-- What a move of a local store makes of the told world where no directory is to take the place of a file: what one call of the disk
+-- makes. Where that is refused as it would be for a file, it is asked again, and refused as before.
 use Rattle.std.proofs.Common.{◌≡◌, ◌≤◌, inl, inr, ◌||◌, Bool, true, false, List, None, Some, Result, Ok, Err, refl, sym, ap, subst, ◌∙◌, arith}
 use Rattle.dav_io.specs.Told.{Both}
 use Rattle.dav_io.proofs.ToldLemmas.{both_map, both_then}
+use Rattle.dav_io.specs.declared.clock.Moment.{Moment}
 use Rattle.dav_core.specs.declared.error.FsError.{FsError}
 use Rattle.dav_core.specs.declared.handle.DiskError.{DiskError}
 use Rattle.dav_core.specs.declared.handle.DiskError.TheVariants.{NotFound, Exists, NotDir, IsDir, NotEmpty, Failed, NoMemory}
@@ -19,7 +20,7 @@ use Rattle.dav_store.specs.View.{Listings, View}
 use Rattle.dav_model.specs.declared.settings.Settings.{Settings}
 use Rattle.dav_model.specs.Finding.{is_forbidden, resolved}
 use Rattle.dav_model.specs.Rules.{Rules}
-use Rattle.dav_methods.specs.Follows.{Calls, IfBothFound, Told, UnlessShut}
+use Rattle.dav_methods.specs.Follows.{Calls, IfBothFound, IfPlaced, Told, UnlessShut}
 use Rattle.dav_methods.specs.Pouring.{Writes}
 use Rattle.dav_cache.specs.Memory.{MemoryState}
 use Rattle.dav_local.specs.declared.entry.LocalFsDirEntry.{LocalFsDirEntry}
@@ -57,16 +58,16 @@ none_taken u x path answer none does = by answer does
     by (Ok y) (edit, allowed, edited) = let never : Err refused.0 ≡ Ok edit = sym refused.1 ∙ allowed in cc
     by (Err e) (called, left) = left_called false refused.0 u x (subst (λ a. LeftBy false a u x) refused.1 left)
 
-module _ {S C : Type 0} (view : View S C LocalFsFile) (lists : Listings S C LocalFsReadDir LocalFsDirEntry) (writes : Writes LocalFsFile) (c : C) (ways : S → Ways) (memory : S → MemoryState)
-    (local : IsLocalStore view lists writes ways memory) (settings : Settings) where
+module _ {S C : Type 0} (view : View S C LocalFsFile) (lists : Listings S C LocalFsReadDir LocalFsDirEntry) (writes : Writes LocalFsFile) (c : C) (ways : S → Ways) (memory : S → MemoryState) (moment : S → Moment)
+    (local : IsLocalStore view lists writes ways memory moment) (settings : Settings) where
   abbrev at : S → Place
-  at s = place view lists writes ways memory s
+  at s = place view lists writes ways memory moment s
 
   -- from the state of the disk in which both places were found
   module _ (m n : S) (d : DiskState) (within : (view.state m).faults ≤ d.faults) (r : Result Unit FsError) (from into : Names) where
-    -- nothing stands at the destination, and no link on either way
+    -- no link stands on either way, and no directory is to take the place of a file
     abbrev IfClear : World → Type 0 → Type 0
-    IfClear v P = is_linked v.tree from ≡ false → is_linked v.tree into ≡ false → row_at v.tree into ≡ None → P
+    IfClear v P = is_linked v.tree from ≡ false → is_linked v.tree into ≡ false → IfPlaced view lists writes c v from into P
 
     abbrev Moved : World → World → Type 0
     Moved v w = IfClear v (Calls view lists writes c (moving v.tree from into) m r n v w)
@@ -94,7 +95,7 @@ module _ {S C : Type 0} (view : View S C LocalFsFile) (lists : Listings S C Loca
         → (is_linked u.tree into ≡ false → DoesIn false (taking_file u.tree into) removal u x)
         → Renamed again x w → Again u w
     moved_again removal again k le renames is u x w takes moves clear free nothing refused =
-        let same = none_taken u x into removal nothing (takes free) in
+        let same = none_taken u x into removal (nothing refused) (takes free) in
         let does = subst (λ a. DoesIn true a again x w) (ap (λ t. moving t from into) same.tree ∙ refused)
         (moves (ap (λ t. is_linked t from) same.tree ∙ clear) (ap (λ t. is_linked t into) same.tree ∙ free)) in
         refused_before r u x w same (rw is (calls_from view lists writes c true (Err NotDir) again m n k x w does le renames.asks.counted))
@@ -115,7 +116,7 @@ module _ {S C : Type 0} (view : View S C LocalFsFile) (lists : Listings S C Loca
     then_moved v u w does again clear free nothing =
         let (refused, left) = does clear free in
         let same : SameBesidesOpens v u = left_called true NotDir v u (subst (λ a. LeftBy true a v u) refused left) in
-        let after = again (ap (λ t. is_linked t from) same.tree ∙ clear) (ap (λ t. is_linked t into) same.tree ∙ free) (ap (λ t. row_at t into) same.tree ∙ nothing)
+        let after = again (ap (λ t. is_linked t from) same.tree ∙ clear) (ap (λ t. is_linked t into) same.tree ∙ free) (λ e. ap (λ t. row_at t into) same.tree ∙ nothing refused)
         (ap (λ t. moving t from into) same.tree ∙ refused) in
         subst (λ a. Calls view lists writes c a m r n v w) (sym refused) (refused_before r v u w same after)
 
@@ -144,17 +145,18 @@ module _ {S C : Type 0} (view : View S C LocalFsFile) (lists : Listings S C Loca
   abbrev rules : S → Rules
   rules m = rules_with settings (ways m)
 
-  -- the move is one where both paths are found, no link is met on either way and nothing stands at the destination
+  -- the move is one where both paths are found, no link is met on either way and no directory is to take the place of a file
   abbrev pub MovedBetween : S → S → WebPath → WebPath → Result Unit FsError → World → World → Type 0
-  MovedBetween m n from to r v w = IfBothFound view lists writes c (rules m) v from to (row_at v.tree (resolved (rules m) v.tree to.names) ≡ None
-      → Calls view lists writes c (moving v.tree (resolved (rules m) v.tree from.names) (resolved (rules m) v.tree to.names)) m r n v w)
+  MovedBetween m n from to r v w = IfBothFound view lists writes c (rules m) v from to
+      (IfPlaced view lists writes c v (resolved (rules m) v.tree from.names) (resolved (rules m) v.tree to.names)
+      (Calls view lists writes c (moving v.tree (resolved (rules m) v.tree from.names) (resolved (rules m) v.tree to.names)) m r n v w))
 
   moved_at : (m n : S) (from to : WebPath) (r : Result Unit FsError) (one other : Names) (q : Place)
-      → Both (view.state m).told q.disk.told (LedToBoth view lists writes c ways memory local settings m from to one other) → (view.state m).faults ≤ q.disk.faults
+      → Both (view.state m).told q.disk.told (LedToBoth view lists writes c ways memory moment local settings m from to one other) → (view.state m).faults ≤ q.disk.faults
       → MovesAt one other q r (at n) → Told view lists writes c m n (MovedBetween m n from to r)
   moved_at m n from to r one other q led le (answer, k, renames, t, after, ends) =
       let same : view.state n ≡ t = ap (λ (x : Place). x.disk) ends in
-      both_then (view.state m).told q.disk.told (view.state n).told (LedToBoth view lists writes c ways memory local settings m from to one other) (Moved m n q.disk le r one other) (MovedBetween m n from to r)
+      both_then (view.state m).told q.disk.told (view.state n).told (LedToBoth view lists writes c ways memory moment local settings m from to one other) (Moved m n q.disk le r one other) (MovedBetween m n from to r)
       (λ v u w p moved apart free beyond nothing.
       let here = found_there settings (ways m) v from.names one apart free p.first in
       let into = found_there settings (ways m) v to.names other apart beyond p.second in
@@ -164,15 +166,17 @@ module _ {S C : Type 0} (view : View S C LocalFsFile) (lists : Listings S C Loca
       (calls_before view lists writes c (moving u.tree one other) m n r v u w (moving_numbered u.tree one other) p.same
       (moved (ap (λ (tree : List Row). is_linked tree one) p.same.tree ∙ (ap (is_linked v.tree) here ∙ free))
       (ap (λ (tree : List Row). is_linked tree other) p.same.tree ∙ (ap (is_linked v.tree) into ∙ beyond))
-      (ap (λ (tree : List Row). row_at tree other) p.same.tree ∙ (ap (row_at v.tree) into ∙ nothing)))))))
+      (λ refused. ap (λ (tree : List Row). row_at tree other) p.same.tree ∙ (ap (row_at v.tree) into
+      ∙ nothing (ap (λ z. moving v.tree z (resolved (rules m) v.tree to.names)) (sym here) ∙ (ap (moving v.tree one) (sym into)
+      ∙ (ap (λ (tree : List Row). moving tree one other) (sym p.same.tree) ∙ refused))))))))))
       led
       (moved_by m n q.disk le r one other answer k renames (subst (AfterMove answer one other k r) (sym same) after))
 
   pub move_told : (m n : S) (from to : WebPath) (r : Result Unit FsError) → view.renames m c from to r n
       → Told view lists writes c m n (λ v w. UnlessShut view lists writes c (is_forbidden (rules m) from || is_forbidden (rules m) to) r v w (MovedBetween m n from to r v w))
   move_told m n from to r h =
-      unless_told view lists writes c ways memory local settings (is_forbidden (rules_of (ways m)) from || is_forbidden (rules_of (ways m)) to) m n _ r (MovedBetween m n from to r) (local.renames m n c from to r h).0
-      (found_both view lists writes c ways memory local settings m n from to r MovesAt (MovedBetween m n from to r)
+      unless_told view lists writes c ways memory moment local settings (is_forbidden (rules_of (ways m)) from || is_forbidden (rules_of (ways m)) to) m n _ r (MovedBetween m n from to r) (local.renames m n c from to r h).0
+      (found_both view lists writes c ways memory moment local settings m n from to r MovesAt (MovedBetween m n from to r)
       (λ e k q v w le spoiled is ends same apart free beyond nothing.
-      calls_spoiled view lists writes c ways memory local settings m n (moving v.tree (resolved (rules m) v.tree from.names) (resolved (rules m) v.tree to.names)) e r k q v w le spoiled is ends same)
+      calls_spoiled view lists writes c ways memory moment local settings m n (moving v.tree (resolved (rules m) v.tree from.names) (resolved (rules m) v.tree to.names)) e r k q v w le spoiled is ends same)
       (λ one other q led le moves. moved_at m n from to r one other q led le moves))

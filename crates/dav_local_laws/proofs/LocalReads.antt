@@ -5,6 +5,7 @@ use Rattle.std.specs.List.{AllByRecursion, filter, list_all}
 use Rattle.dav_io.specs.Counts.{Rose}
 use Rattle.dav_io.specs.declared.failure.NoMemory.{NoMemory as Starved}
 use Rattle.dav_io.proofs.ToldLemmas.{told_after}
+use Rattle.dav_io.specs.declared.clock.Moment.{Moment}
 use Rattle.dav_core.specs.declared.error.FsError.{FsError}
 use Rattle.dav_core.specs.declared.error.FsError.TheVariants as fs
 use Rattle.dav_core.specs.declared.handle.DiskError.{DiskError}
@@ -252,10 +253,10 @@ later : (from last end : ℕ) (all : List Member) (answers : List Answered) → 
 later from last end all answers (inl long) le = inl long
 later from last end all answers (inr rose) le = inr (rose_on from last end rose le)
 
-module _ {S C : Type 0} (view : View S C LocalFsFile) (lists : Listings S C LocalFsReadDir LocalFsDirEntry) (writes : Writes LocalFsFile) (ways : S → Ways) (memory : S → MemoryState)
-    (local : IsLocalStore view lists writes ways memory) where
+module _ {S C : Type 0} (view : View S C LocalFsFile) (lists : Listings S C LocalFsReadDir LocalFsDirEntry) (writes : Writes LocalFsFile) (ways : S → Ways) (memory : S → MemoryState) (moment : S → Moment)
+    (local : IsLocalStore view lists writes ways memory moment) where
   abbrev at : S → Place
-  at s = place view lists writes ways memory s
+  at s = place view lists writes ways memory moment s
 
   pub refuses_few : RefusesFew view lists
   refuses_few = record {
@@ -429,7 +430,7 @@ module _ {S C : Type 0} (view : View S C LocalFsFile) (lists : Listings S C Loca
           -- ---- a path that is opened
 
           module _ (path : WebPath) (answer : Result LocalFsFile FsError) (x : S) (opens : view.opens m c path reading answer x)
-              (one : OpensOne view.handle view.seen reading (view.state m) answer (view.state x)) (hears : HearsFile view (asked_at q path) answer h.number x h.opened t)
+              (one : OpensOne view.file reading (view.state m) answer (view.state x)) (hears : HearsFile view (asked_at q path) answer h.number x h.opened t)
               (heard : HeardTo (due_opened path h.opened)) (is : course q info.kind ≡ opening path) where
             abbrev v : Later
             v = later_world
@@ -553,7 +554,7 @@ module _ {S C : Type 0} (view : View S C LocalFsFile) (lists : Listings S C Loca
                       let at_end : was.listing.reading.path ≡ end = l_so.at_end was.listing refl (no_links later_world.now end clear_now).way in
                       let links = subst (HasNoLinks later_world.now) (sym at_end) (no_links later_world.now end clear_now) in
                       let begins_so = (local.begins m was.begin c q.path Data (Ok was.listing) was.begins).0 in
-                      let listings = lists_local view lists writes ways memory local in
+                      let listings = lists_local view lists writes ways memory moment local in
                       let of = walk_told view lists listings true (at m) (at was.begin) later_world.now q.path was.begin was.walks.place was.listing was.walks.left was.walks.answers
                       later_world.told_now later_world.is_world begins_so refl links was.walks.walk in
                       let ends = walk_ends view lists listings true (at m) (at was.begin) later_world.now q.path was.begin was.walks.place was.walks.behind was.listing was.walks.left was.walks.rest was.walks.answers was.walks.last
@@ -609,7 +610,7 @@ module _ {S C : Type 0} (view : View S C LocalFsFile) (lists : Listings S C Loca
           by_known known_page (subst (λ b. HeardTo (cond b known (due_looked (shown_heard h.looked h.opened h.listed) q (looked_of h.looked)))) known_page h.right)
       by_well_known false plain =
           let (m, looks, keeps, hears) = h.hears plain in
-          let (so, stays) = local.looks s m c q.path h.looked looks in
+          let (so, stays, timed, saved) = local.looks s m c q.path h.looked looks in
           by_look plain m keeps stays h.looked (looks_by_rules (at s) (at m) w q.path h.looked told so) looks hears
           (subst (λ b. HeardTo (cond b known (due_looked (shown_heard h.looked h.opened h.listed) q (looked_of h.looked)))) plain h.right) h.looked_had
 

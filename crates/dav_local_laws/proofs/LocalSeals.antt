@@ -128,10 +128,10 @@ module _ (p : Place) (path : Names) (known : IsKnownAbsent p path) (t : DiskStat
       by : (d : DotCache) → Denies (Some known.entry) known.cache (parent_of path) (or_empty (last_name path)) p.disk absent d t → (absent ≡ true) × AsksOnce p.disk t
       by d (answer, metas, is, new) = (is ∙ rw (found_so answer metas, concluded) refl, metas.asks.asked)
 
-module _ {S C : Type 0} (view : View S C LocalFsFile) (lists : Listings S C LocalFsReadDir LocalFsDirEntry) (writes : Writes LocalFsFile) (ways : S → Ways) (memory : S → MemoryState)
-    (local : IsLocalStore view lists writes ways memory) where
+module _ {S C : Type 0} (view : View S C LocalFsFile) (lists : Listings S C LocalFsReadDir LocalFsDirEntry) (writes : Writes LocalFsFile) (ways : S → Ways) (memory : S → MemoryState) (moment : S → Moment)
+    (local : IsLocalStore view lists writes ways memory moment) where
   abbrev at : S → Place
-  at s = place view lists writes ways memory s
+  at s = place view lists writes ways memory moment s
 
   memory_asked : (s : S) (path : WebPath) → (ways s).macos ≡ true → is_dot (or_empty (last_name path.names)) ≡ true → asks_memory (ways s) path.names ≡ true
   memory_asked s path macos dot = rw (macos, dot) refl
@@ -181,7 +181,7 @@ module _ {S C : Type 0} (view : View S C LocalFsFile) (lists : Listings S C Loca
 
   entry_gathered : (m n : S) (l k : LocalFsReadDir) (e : LocalFsDirEntry) (b : BuilderState) → l.builder ≡ Some b → lists.lists_on m l (Ok (Some e)) n k → k.builder ≡ Some (with_name e.name b)
   entry_gathered m n l k e b is on =
-      let (now, gives) = local.goes_on m n l k (Ok (Some e)) on in
+      let (now, gives, here, timed) = local.goes_on m n l k (Ok (Some e)) on in
       let (given, t, f, first, follows) = gives in
       by now t f given (subst (λ x. AfterNext x given now (record (at m) { disk = t }) (record l { reading = f }) (Ok (Some e)) (at n) k) is follows)
     where

@@ -1,5 +1,6 @@
 -- A local store over a told disk shows what stands in the world, where each path is meant as it is written.
 use Rattle.std.proofs.Common.{◌≡◌, ◌⊎◌, inl, inr, List, Bool, true, false, Option, None, Some, Result, Ok, Err, refl, sym, ap, subst, ◌∙◌, if◌then◌else◌}
+use Rattle.dav_io.specs.declared.clock.Moment.{Moment}
 use Rattle.dav_core.specs.declared.error.FsError.{FsError}
 use Rattle.dav_core.specs.declared.error.FsError.TheVariants.{Forbidden}
 use Rattle.dav_core.specs.declared.handle.DiskError.{DiskError}
@@ -58,13 +59,13 @@ members_ok : (w : World) (dir : Names) (stands : Result Row DiskError) (all : Li
 members_ok w dir (Ok row) all is = cc
 members_ok w dir (Err e) all is = cc
 
-module _ {S C : Type 0} (view : View S C LocalFsFile) (lists : Listings S C LocalFsReadDir LocalFsDirEntry) (writes : Writes LocalFsFile) (ways : S → Ways) (memory : S → MemoryState)
-    (local : IsLocalStore view lists writes ways memory) where
+module _ {S C : Type 0} (view : View S C LocalFsFile) (lists : Listings S C LocalFsReadDir LocalFsDirEntry) (writes : Writes LocalFsFile) (ways : S → Ways) (memory : S → MemoryState) (moment : S → Moment)
+    (local : IsLocalStore view lists writes ways memory moment) where
   abbrev at : S → Place
-  at s = place view lists writes ways memory s
+  at s = place view lists writes ways memory moment s
 
   abbrev listings : ListsLocal view lists
-  listings = lists_local view lists writes ways memory local
+  listings = lists_local view lists writes ways memory moment local
 
   -- ---- what stays
 
@@ -74,18 +75,18 @@ module _ {S C : Type 0} (view : View S C LocalFsFile) (lists : Listings S C Loca
   walk_ways : (n : S) (l : LocalFsReadDir) (answers : List Answered) (o : S) (k : LocalFsReadDir) → Walked view lists n l answers o k → ways o ≡ ways n
   walk_ways n l answers o k begun = refl
   walk_ways n l answers o k (goes before m p q d j e r walk on said lent keeps) =
-      same_ways p q (local.lends p q lent) ∙ (next_ways view lists writes ways memory local m p d j (Ok (Some e)) on ∙ walk_ways n l before m d walk)
+      same_ways p q (local.lends p q lent) ∙ (next_ways view lists writes ways memory moment local m p d j (Ok (Some e)) on ∙ walk_ways n l before m d walk)
 
   listed_ways : (b : S) (first : LocalFsReadDir) (n : S) (l : LocalFsReadDir) → ListedOn view lists b first n l → ways n ≡ ways b
   listed_ways b first n l just_begun = refl
-  listed_ways b first n l (goes_further m p k j r before call) = next_ways view lists writes ways memory local m p k j r call ∙ listed_ways b first m k before
+  listed_ways b first n l (goes_further m p k j r before call) = next_ways view lists writes ways memory moment local m p k j r call ∙ listed_ways b first m k before
   listed_ways b first n l (says_on m p q k j e r before gives said lent keeps) =
-      same_ways p q (local.lends p q lent) ∙ (next_ways view lists writes ways memory local m p k j (Ok (Some e)) gives ∙ listed_ways b first m k before)
+      same_ways p q (local.lends p q lent) ∙ (next_ways view lists writes ways memory moment local m p k j (Ok (Some e)) gives ∙ listed_ways b first m k before)
 
   out_ways : (last : Result (Option LocalFsDirEntry) FsError) (b : S) (l : LocalFsReadDir) (t : S) (over : LocalFsReadDir) → RunsOut view lists last b l t over → ways t ≡ ways b
   out_ways (Ok None) b l t over (same, on) = ap ways same
   out_ways (Ok (Some e)) b l t over never = absurd never
-  out_ways (Err e) b l t over (m, k, on, ends) = next_ways view lists writes ways memory local m t k over (Ok None) ends ∙ listed_ways b l m k on
+  out_ways (Err e) b l t over (m, k, on, ends) = next_ways view lists writes ways memory moment local m t k over (Ok None) ends ∙ listed_ways b l m k on
 
   -- A reader's calls leave how paths are found.
   reached_ways : (s : S) (c : C) (t : S) → Reached view lists s c t → ways t ≡ ways s
@@ -98,7 +99,7 @@ module _ {S C : Type 0} (view : View S C LocalFsFile) (lists : Listings S C Loca
       let w = was.walks in
       same_ways was.after n (local.ends was.after n was.over was.ended).1
       ∙ (out_ways w.last w.behind w.rest was.after was.over w.runs_out
-      ∙ (next_ways view lists writes ways memory local w.place w.behind w.left w.rest w.last w.ends
+      ∙ (next_ways view lists writes ways memory moment local w.place w.behind w.left w.rest w.last w.ends
       ∙ (walk_ways was.begin was.listing w.answers w.place w.left w.walk
       ∙ ((local.begins m was.begin c path Data (Ok was.listing) was.begins).1 ∙ reached_ways s c m before))))
 
@@ -116,11 +117,11 @@ module _ {S C : Type 0} (view : View S C LocalFsFile) (lists : Listings S C Loca
   looked_stays s c t plain here = (plain, refl)
   looked_stays s c t plain (looks m n path r before call) =
       let (still, told) = looked_stays s c m plain before in
-      let (look, same) = local.looks m n c path r call in
+      let (look, same, timed, saved) = local.looks m n c path r call in
       (same ∙ still, look_world true m n path r still look ∙ told)
   looked_stays s c t plain (looks_at_link m n path r before call) =
       let (still, told) = looked_stays s c m plain before in
-      let (look, same) = local.looks_at_link m n c path r call in
+      let (look, same, timed) = local.looks_at_link m n c path r call in
       (same ∙ still, look_world false m n path r still look ∙ told)
 
   -- ---- openings
@@ -147,7 +148,7 @@ module _ {S C : Type 0} (view : View S C LocalFsFile) (lists : Listings S C Loca
   pub local_shows_on : (s : S) (c : C) (path : WebPath) (w : World) → ways s ≡ plain_ways → (view.state s).told ≡ Some w → is_linked w.tree path.names ≡ false → ShowsOn view lists s c path (opened w path)
   local_shows_on s c path w plain told clear = λ m n o reached opens.
       let (v, now, same) = reached_world view lists s c m w reached told in
-      let (opening, stays) = local.opens m n c path reading o opens in
+      let (opening, stays, timed) = local.opens m n c path reading o opens in
       subst (λ seen. OpensThere seen (opened w path) o (view.state n) ⊎ Spoiled (view.state m) o (view.state n)) (sym local.seen)
       (opened_by_slash m n path o w v (reached_ways s c m reached ∙ plain) (local.worlds s w told) same now clear opening path.slash refl)
 

@@ -498,13 +498,13 @@ writing_usual h s bytes r t (writes_more a m b from piece n result chunk writes 
 
 -- ---- the store
 
-module _ {S C : Type 0} (view : View S C LocalFsFile) (lists : Listings S C LocalFsReadDir LocalFsDirEntry) (writes : Writes LocalFsFile) (c : C) (ways : S → Ways) (memory : S → MemoryState)
-    (local : IsLocalStore view lists writes ways memory) where
+module _ {S C : Type 0} (view : View S C LocalFsFile) (lists : Listings S C LocalFsReadDir LocalFsDirEntry) (writes : Writes LocalFsFile) (c : C) (ways : S → Ways) (memory : S → MemoryState) (moment : S → Moment)
+    (local : IsLocalStore view lists writes ways memory moment) where
   abbrev at : S → Place
-  at s = place view lists writes ways memory s
+  at s = place view lists writes ways memory moment s
 
   next : (s t : S) (d e : LocalFsReadDir) (r : Result (Option LocalFsDirEntry) FsError) → lists.lists_on s d r t e → Next (view.state s) d r (view.state t) e
-  next s t d e r on = next_local view lists writes ways memory local s t d e r on
+  next s t d e r on = next_local view lists writes ways memory moment local s t d e r on
 
   walk_sane : (from : ℕ) (n : S) (l : LocalFsReadDir) (answers : List Answered) (s : S) (k : LocalFsReadDir) → Sane from (view.state n).faults l.reading → Walked view lists n l answers s k → Sane from (view.state s).faults k.reading
   walk_sane from n l answers s k sane begun = sane

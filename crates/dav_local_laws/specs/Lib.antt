@@ -1,3 +1,4 @@
 pub mod Simple
 pub mod LocalStore
 pub mod Sealed
+pub mod Loosely

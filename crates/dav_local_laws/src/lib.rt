@@ -17,6 +17,7 @@ ghost use Rattle.dav_store.specs.Members.{Answered, Walked};
 ghost use Rattle.dav_local_laws.specs.Sealed.{DeniedAtOnce, IsKnownAbsent, SealedWith, gathered};
 ghost use Rattle.dav_cache.specs.Memory.{LearnsNothing};
 ghost use Rattle.dav_core.specs.DavPath.{WebPath};
+ghost use Rattle.dav_core.specs.Path.{Names};
 ghost use Rattle.dav_core.specs.Tree.{is_linked};
 ghost use Rattle.dav_core.specs.World.{World};
 ghost use Rattle.dav_get.specs.Calls.{AsksByOne};
@@ -24,15 +25,18 @@ ghost use Rattle.dav_get.specs.Heard.{Heard};
 ghost use Rattle.dav_get.specs.Lives.{OpenOnlyHeld};
 ghost use Rattle.dav_get.specs.Right.{IsOfNumber, or_zero, reply_at};
 ghost use Rattle.dav_get.specs.Table.{Given};
+ghost use Rattle.dav_local.specs.Made.{MadeAt};
+ghost use Rattle.dav_local.specs.Remembering.{IsRemembered};
+ghost use Rattle.dav_local.specs.Saving.{AsksOneCall, is_judged};
 ghost use Rattle.dav_local.specs.Shown.{knowledge_of};
 ghost use Rattle.dav_local.specs.Standing.{HasNoLinks};
-ghost use Rattle.dav_local.specs.Ways.{rules_with};
+ghost use Rattle.dav_local.specs.Ways.{rules_of, rules_with};
 ghost use Rattle.dav_local.specs.declared.file.LocalFsFile.{LocalFsFile};
 ghost use Rattle.dav_local.specs.declared.fs.LocalFs.{LocalFs};
 ghost use Rattle.dav_methods.specs.Answers.{RefusesUsually};
 ghost use Rattle.dav_methods.specs.Follows.{Follows, Reached};
 ghost use Rattle.dav_model.specs.Due.{Query};
-ghost use Rattle.dav_model.specs.Finding.{listed_in};
+ghost use Rattle.dav_model.specs.Finding.{is_virtual, listed_in};
 ghost use Rattle.dav_model.specs.Head.{Reply};
 ghost use Rattle.dav_model.specs.Play.{Reads};
 ghost use Rattle.dav_model.specs.Rules.{Learns, plain_rules};
@@ -40,9 +44,10 @@ ghost use Rattle.dav_store.specs.Leads.{LeadsOn};
 ghost use Rattle.dav_store.specs.Members.{ShowsMembers};
 ghost use Rattle.dav_store.specs.Reached.{ShowsOn};
 ghost use Rattle.dav_local_laws.specs.LocalStore.{IsLocalStore};
+ghost use Rattle.dav_local_laws.specs.Loosely.{FollowsLoosely};
 ghost use Rattle.dav_local_laws.specs.Simple.{is_simple, opened, plain_ways};
 
-use dav_cache::RememberAny;
+use dav_cache::Remember;
 use dav_core::{DavPath, Disk};
 use dav_local::{LocalFs, LocalFsFile};
 use dav_model::Settings;
@@ -50,32 +55,43 @@ use dav_store::{DavFile, DavFileSystem};
 
 /// Each call of a local store, of its files and of its listings is one call of its disk at the place where its path is
 /// found, and how it finds paths stays.
-pub fn calls_are_local<D: Disk, R: RememberAny>(_fs: &LocalFs<D, R>)
+pub fn calls_are_local<D: Disk, R: Remember>(_fs: &LocalFs<D, R>)
     ensures { IsLocalStore ⟦<LocalFs<D, R> as DavFileSystem>⟧.view ⟦<LocalFs<D, R> as DavFileSystem>⟧.listings
-        ⟦<LocalFsFile as DavFile<D>>⟧.writes (λ s. s.ways) (λ s. R.state s.memory) }
+        ⟦<LocalFsFile as DavFile<D>>⟧.view.writes (λ s. s.ways) (λ s. R.state s.memory)
+        (λ s. s.moment) }
 {}
 
 /// The local store refuses few things, and fails only where its disk met a fault. Of a listing this counts from where
 /// it was begun.
-pub fn local_stores_refuse_few<D: Disk, R: RememberAny>(_fs: &LocalFs<D, R>)
+pub fn local_stores_refuse_few<D: Disk, R: Remember>(_fs: &LocalFs<D, R>)
     ensures { RefusesUsually ⟦<LocalFs<D, R> as DavFileSystem>⟧.view ⟦<LocalFs<D, R> as DavFileSystem>⟧.listings
-        ⟦<LocalFsFile as DavFile<D>>⟧.writes tt }
+        ⟦<LocalFsFile as DavFile<D>>⟧.view.writes tt }
 {
     calls_are_local(_fs)
 }
 
 /// From any state on the local store follows the rules of its ways, as far as its memory knows what is so.
-pub fn local_stores_follow_rules<D: Disk, R: RememberAny>(_fs: &LocalFs<D, R>, _settings: &Settings)
+pub fn local_stores_follow_rules<D: Disk, R: Remember>(_fs: &LocalFs<D, R>, _settings: &Settings)
     ensures { Follows ⟦<LocalFs<D, R> as DavFileSystem>⟧.view ⟦<LocalFs<D, R> as DavFileSystem>⟧.listings
-        ⟦<LocalFsFile as DavFile<D>>⟧.writes tt (rules_with _settings.now _fs.now.ways)
+        ⟦<LocalFsFile as DavFile<D>>⟧.view.writes tt (rules_with _settings.now _fs.now.ways)
         (knowledge_of (R.state _fs.now.memory)) _fs.now }
+{
+    calls_are_local(_fs)
+}
+
+/// In every run, also where names of a directory fold alike and a path may mean more than one, each call of the local
+/// store that changes what stands does what the tree allows at one place where a loose walk of its path may end, where no
+/// link stands on the way there. So it touches nothing else.
+pub fn local_stores_follow_loosely<D: Disk, R: Remember>(_fs: &LocalFs<D, R>, _settings: &Settings)
+    ensures { FollowsLoosely ⟦<LocalFs<D, R> as DavFileSystem>⟧.view ⟦<LocalFs<D, R> as DavFileSystem>⟧.listings
+        ⟦<LocalFsFile as DavFile<D>>⟧.view.writes tt (rules_with _settings.now _fs.now.ways) _fs.now }
 {
     calls_are_local(_fs)
 }
 
 /// What a GET or HEAD answers by what it heard of the local store is right for something that the store may show by its
 /// rules: in every run, whatever its memory knows and however many names fold alike.
-pub fn reads_are_right<D: Disk, R: RememberAny>(_fs: &LocalFs<D, R>)
+pub fn reads_are_right<D: Disk, R: Remember>(_fs: &LocalFs<D, R>)
     ensures { (q : Query) (t : LocalFs D R) (result : Given LocalFsFile) (reply : Reply)
         → OpenOnlyHeld ⟦<LocalFs<D, R> as DavFileSystem>⟧.view _fs.now result t
         → Heard ⟦<LocalFs<D, R> as DavFileSystem>⟧.view ⟦<LocalFs<D, R> as DavFileSystem>⟧.listings q tt _fs.now
@@ -91,7 +107,7 @@ pub fn reads_are_right<D: Disk, R: RememberAny>(_fs: &LocalFs<D, R>)
 
 /// Where names don't fold and the rules for macOS don't hold, the local store asks its disk once to look, and at most
 /// once to open.
-pub fn local_stores_ask_once<D: Disk, R: RememberAny>(_fs: &LocalFs<D, R>)
+pub fn local_stores_ask_once<D: Disk, R: Remember>(_fs: &LocalFs<D, R>)
     ensures { AsksByOne ⟦<LocalFs<D, R> as DavFileSystem>⟧.view ⟦<LocalFs<D, R> as DavFileSystem>⟧.listings
         (λ s. is_simple s.ways) }
 {
@@ -100,7 +116,7 @@ pub fn local_stores_ask_once<D: Disk, R: RememberAny>(_fs: &LocalFs<D, R>)
 
 /// Calls that write nothing leave how a local store finds paths, and what its memory knows after them it knew before,
 /// or the told world has it.
-pub fn reads_learn_what_stands<D: Disk, R: RememberAny>(_fs: &LocalFs<D, R>)
+pub fn reads_learn_what_stands<D: Disk, R: Remember>(_fs: &LocalFs<D, R>)
     ensures { (t : LocalFs D R) → LeadsOn ⟦<LocalFs<D, R> as DavFileSystem>⟧.view
         ⟦<LocalFs<D, R> as DavFileSystem>⟧.listings tt _fs.now t
         → (t.ways ≡ _fs.now.ways) × Learns (D.state _fs.now.disk).told (knowledge_of (R.state _fs.now.memory))
@@ -112,7 +128,7 @@ pub fn reads_learn_what_stands<D: Disk, R: RememberAny>(_fs: &LocalFs<D, R>)
 /// A look at a name that begins with `._`, where the rules for macOS hold and names don't fold, costs one call of the
 /// disk where the memory knows the name to be absent and the disk refuses nothing. It finds nothing then, or memory was
 /// wanting.
-pub fn absent_names_cost_one_look<D: Disk, R: RememberAny>(_fs: &LocalFs<D, R>, _path: &DavPath)
+pub fn absent_names_cost_one_look<D: Disk, R: Remember>(_fs: &LocalFs<D, R>, _path: &DavPath)
     ensures { (result : Result Info FsError) (t : LocalFs D R)
         → ⟦<LocalFs<D, R> as DavFileSystem>⟧.view.looks _fs.now tt _path.now result t
         → _fs.now.ways.macos ≡ true → _fs.now.ways.folds ≡ false → _fs.now.ways.alone ≡ None
@@ -124,9 +140,38 @@ pub fn absent_names_cost_one_look<D: Disk, R: RememberAny>(_fs: &LocalFs<D, R>, 
     calls_are_local(_fs)
 }
 
+/// A look at a path that is remembered, where names fold, costs the one call of the disk by which it is found, where the
+/// disk refuses nothing, unless memory was wanting before it. A name that the rules for macOS judge may cost another.
+pub fn remembered_paths_cost_one_look<D: Disk, R: Remember>(_fs: &LocalFs<D, R>, _path: &DavPath)
+    ensures { (at : Names) (result : Result Info FsError) (t : LocalFs D R)
+        → ⟦<LocalFs<D, R> as DavFileSystem>⟧.view.looks _fs.now tt _path.now result t
+        → _fs.now.ways.folds ≡ true → _fs.now.ways.alone ≡ None
+        → is_virtual (rules_of _fs.now.ways) _path.now ≡ false
+        → RefusedNothing (D.state _fs.now.disk).faults (D.state t.disk).faults
+        → IsRemembered (place_of D.state R.state _fs.now) _path.now.names at → is_judged _fs.now.ways at ≡ false
+        → AsksOneCall (place_of D.state R.state _fs.now) result (place_of D.state R.state t) }
+{
+    calls_are_local(_fs)
+}
+
+/// The calls of a local store leave its moment, and what its memory remembers anew in them has it: a path in whole
+/// seconds, and a directory and its names in nanoseconds.
+pub fn entries_have_the_moment<D: Disk, R: Remember>(_fs: &LocalFs<D, R>)
+    ensures reads { (t : LocalFs D R) → LeadsOn ⟦<LocalFs<D, R> as DavFileSystem>⟧.view
+        ⟦<LocalFs<D, R> as DavFileSystem>⟧.listings tt _fs.now t
+        → (t.moment ≡ _fs.now.moment)
+        × MadeAt _fs.now.moment (R.state _fs.now.memory) (R.state t.memory) }
+    ensures writes { (t : LocalFs D R) → Reached ⟦<LocalFs<D, R> as DavFileSystem>⟧.view
+        ⟦<LocalFs<D, R> as DavFileSystem>⟧.listings ⟦<LocalFsFile as DavFile<D>>⟧.view.writes tt _fs.now t
+        → (t.moment ≡ _fs.now.moment)
+        × MadeAt _fs.now.moment (R.state _fs.now.memory) (R.state t.memory) }
+{
+    calls_are_local(_fs)
+}
+
 /// A listing that gathers names gathers each that it gives. Where its directory had a known time before it and has it
 /// at its end, nothing was refused, and no fault was noted, the memory is sealed with what was gathered.
-pub fn whole_listings_are_sealed<D: Disk, R: RememberAny>(_fs: &LocalFs<D, R>)
+pub fn whole_listings_are_sealed<D: Disk, R: Remember>(_fs: &LocalFs<D, R>)
     ensures gathers { (n o : LocalFs D R) (l k : LocalFsReadDir) (answers : List Answered) (b : BuilderState)
         → l.builder ≡ Some b
         → Walked ⟦<LocalFs<D, R> as DavFileSystem>⟧.view ⟦<LocalFs<D, R> as DavFileSystem>⟧.listings n l answers o k
@@ -143,9 +188,9 @@ pub fn whole_listings_are_sealed<D: Disk, R: RememberAny>(_fs: &LocalFs<D, R>)
 
 /// Calls that read and write, whatever they answered, leave how a local store finds paths, and what its memory knows
 /// after them it knew before: what is listed on the way is about to change, and isn't remembered.
-pub fn calls_teach_nothing<D: Disk, R: RememberAny>(_fs: &LocalFs<D, R>)
+pub fn calls_teach_nothing<D: Disk, R: Remember>(_fs: &LocalFs<D, R>)
     ensures { (t : LocalFs D R) → Reached ⟦<LocalFs<D, R> as DavFileSystem>⟧.view
-        ⟦<LocalFs<D, R> as DavFileSystem>⟧.listings ⟦<LocalFsFile as DavFile<D>>⟧.writes tt _fs.now t
+        ⟦<LocalFs<D, R> as DavFileSystem>⟧.listings ⟦<LocalFsFile as DavFile<D>>⟧.view.writes tt _fs.now t
         → (t.ways ≡ _fs.now.ways) × LearnsNothing (R.state _fs.now.memory) (R.state t.memory) }
 {
     calls_are_local(_fs)
@@ -154,7 +199,7 @@ pub fn calls_teach_nothing<D: Disk, R: RememberAny>(_fs: &LocalFs<D, R>)
 /// Where the disk tells its world and each path is meant as it is written, the local store shows what stands in the
 /// world: what is opened at each path on the way to which no link stands, also after looks, openings for reading, calls
 /// of open files and listings; and the members of a directory, where no link stands on the way to it or at one of them.
-pub fn local_stores_show_the_tree<D: Disk, R: RememberAny>(_fs: &LocalFs<D, R>)
+pub fn local_stores_show_the_tree<D: Disk, R: Remember>(_fs: &LocalFs<D, R>)
     ensures opened { (w : World) (path : WebPath) → (D.state _fs.now.disk).told ≡ Some w → _fs.now.ways ≡ plain_ways
         → is_linked w.tree path.names ≡ false
         → ShowsOn ⟦<LocalFs<D, R> as DavFileSystem>⟧.view ⟦<LocalFs<D, R> as DavFileSystem>⟧.listings _fs.now tt path

@@ -80,7 +80,7 @@ module _ (verb : DavMethod) where
   fs_listed rose fs.Forbidden u f = inr (refl, not_500 403 refl, λ c. cc)
   fs_listed rose fs.Exists u f = inr (refl, not_500 405 refl, λ c. cc)
   fs_listed rose fs.GeneralFailure u f = inr (refl, (λ e. f refl), λ c. cc)
-  fs_listed rose fs.NotImplemented u f = inr (refl, not_500 501 refl, λ c. cc)
+  fs_listed rose fs.NotImplemented u f = cc
   fs_listed rose fs.NoMemory u f = inl refl
   fs_listed rose fs.InsufficientStorage u f = cc
   fs_listed rose fs.LoopDetected u f = cc

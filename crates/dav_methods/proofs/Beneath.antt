@@ -17,7 +17,7 @@ use Rattle.dav_methods.proofs.TreeRows.{Parts, above, at_row, false_or, front_of
 use Rattle.dav_methods.proofs.WalkOrder.{In, paths}
 
 -- a row stands at each path on the way to one that stands
-row_on_way : (tree : List Row) (parts : Parts tree) (path : Names) (r : Row) → In r tree → is_front path r.path ≡ true → (d : Row) × (row_at tree path ≡ Some d)
+pub row_on_way : (tree : List Row) (parts : Parts tree) (path : Names) (r : Row) → In r tree → is_front path r.path ≡ true → (d : Row) × (row_at tree path ≡ Some d)
 row_on_way tree parts path r i front = by (same_names path r.path) refl
   where
     by : (b : Bool) → same_names path r.path ≡ b → (d : Row) × (row_at tree path ≡ Some d)
@@ -64,7 +64,7 @@ was_there p [] top i = i
 was_there p (x ∷ rows) top i = one_there top x (without p rows) rows (is_front p x.path) (was_there p rows top) i
 
 module _ (rules : Rules) (alone : rules.alone ≡ None) where
-  walks : (tree : List Row) (names : Names) → resolved rules tree names ≡ resolved_from rules.folds tree [] names
+  pub walks : (tree : List Row) (names : Names) → resolved rules tree names ≡ resolved_from rules.folds tree [] names
   walks tree names = ap (λ o. or_walk o (resolved_from rules.folds tree [] names)) alone
 
   -- What stands below the place of a path is found there.

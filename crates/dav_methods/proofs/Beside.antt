@@ -34,6 +34,16 @@ apart_of from to e = by (is_front from to) (is_front to from) refl refl e
     by false true p q e = cc
     by false false p q e = record { one = p; two = q }
 
+some_names : (a b : Names) → is_front a b ≡ false → 0 < length a
+some_names [] b e = not_both (is_front [] b) (front_of [] b b refl) e
+some_names (name ∷ a) b e = omega arith
+
+pub some_to : (from to : Names) → Apart from to → 0 < length to
+some_to from to apart = some_names to from apart.two
+
+pub some_from : (from to : Names) → Apart from to → 0 < length from
+some_from from to apart = some_names from to apart.one
+
 -- no path lies below both
 pub apart_below : {P : Type 0} (from to p : Names) → Apart from to → is_front from p ≡ true → is_front to p ≡ true → P
 apart_below {P = P} from to p apart e f = by (cases_lt (length from) (length to))

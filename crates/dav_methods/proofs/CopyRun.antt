@@ -37,9 +37,9 @@ use Rattle.dav_methods.specs.Pouring.{Writes}
 use Rattle.dav_methods.specs.Reading.{HasMembers, HasNoMembers}
 use Rattle.dav_methods.specs.Removing.{is_deep, line_of}
 use Rattle.dav_methods.proofs.ActsJoined.{Comes, FillsNone, comes_after, comes_behind, comes_more, halted_comes, short_comes, spoiled_comes}
-use Rattle.dav_methods.proofs.Beside.{front_up}
+use Rattle.dav_methods.proofs.Beside.{front_up, some_from, some_to}
 use Rattle.dav_methods.proofs.CallDone.{call_comes, call_done}
-use Rattle.dav_methods.proofs.CarryRight.{Prepared, some_from, some_to}
+use Rattle.dav_methods.proofs.CopyReady.{Prepared}
 use Rattle.dav_methods.proofs.CopyCovers.{CoversAll, FitsAll, dest, dest_below, dir_walk, file_walk, members_below, rows_cover, rows_fit, walk_of, walks_of}
 use Rattle.dav_methods.proofs.CopyWork.{Coming, HoldsRest, coming_made, coming_same, first_free, first_up, no_link_now, shorter, source_row}
 use Rattle.dav_methods.proofs.FreePlaces.{copying_free, making_free}

@@ -31,7 +31,7 @@ use Rattle.dav_model.specs.Finding.{empty_file, has_slash, is_forbidden, is_loca
 use Rattle.dav_model.specs.Head.{Stood, refusal, stood_in}
 use Rattle.dav_model.specs.Plans.{Act, Ask, Halt, delete_plan, does, failing, first, halts, has_link_below, is_dir_found, is_too_deep, line, plan, refused, removal, removals, removing, stands, stays_localized, unless, unmet, when}
 use Rattle.dav_model.specs.Rules.{Knowledge, Rules}
-use Rattle.dav_model.specs.Valid.{IsRegular}
+use Rattle.dav_model.specs.Valid.{IsRegular, TellsApart}
 use Rattle.dav_model.specs.Walks.{members_first, walk}
 use Rattle.dav_model.specs.Written.{ByActs, EndsAs, PartOf}
 use Rattle.dav_model.proofs.JoiningLemmas.{part_none}
@@ -47,7 +47,7 @@ use Rattle.dav_methods.specs.Removing as own
 use Rattle.dav_methods.specs.Table.{Next, Unless}
 use Rattle.dav_methods.proofs.ActsJoined.{Comes, Halted, act_by, acts_by, done_acts, halted_acts, halted_comes, short_comes, spoiled_comes}
 use Rattle.dav_methods.proofs.FoundStill.{found_length}
-use Rattle.dav_methods.proofs.RemovalRun.{Case, Goes, acts, began, deep_in, keeps_file_row, keeps_row, removed, removed_whole, stops_in}
+use Rattle.dav_methods.proofs.RemovalRun.{Case, Ended, Goes, acts, began, deep_in, keeps_file_row, keeps_row, removed, removed_whole, stops_in}
 use Rattle.dav_methods.proofs.RemovalWork.{StandsAs}
 use Rattle.dav_methods.proofs.TreeRows.{at_row, in_filter, not_both, only_row, parts_of, row_at_in}
 use Rattle.dav_methods.proofs.WalkOrder.{In, from_order, paths}
@@ -246,7 +246,7 @@ hidden_by true x there e = cc
 hidden_by false x there e = (refl, e)
 
 -- a look that found something in the tree, and no file that stands for none
-seen_stood : (rules : Rules) (w : World) (path : WebPath) (there : Stood) → rules.alone ≡ None → is_virtual rules path ≡ false → stands rules w path ≡ Ok there
+pub seen_stood : (rules : Rules) (w : World) (path : WebPath) (there : Stood) → rules.alone ≡ None → is_virtual rules path ≡ false → stands rules w path ≡ Ok there
     → ((rules.macos && is_localized (resolved rules w.tree path.names)) ≡ false) × (stood_at path.slash w (look w.tree (resolved rules w.tree path.names)) ≡ Ok there)
 seen_stood rules w path there alone plain is =
     let at : Names = resolved rules w.tree path.names in
@@ -256,7 +256,7 @@ seen_stood rules w path there alone plain is =
     (sym (or_no (rules.macos && is_localized at)) ∙ unhidden, sym (ap (λ (o : Option Names). stood_at (has_slash o path) w (look w.tree at)) alone) ∙ stood)
 
 -- the empty file is no directory, and its name is one that stays
-virtual_file : (rules : Rules) (w : World) (path : WebPath) (there : Stood) → is_virtual rules path ≡ true → stands rules w path ≡ Ok there → is_dir there.kind ≡ false
+pub virtual_file : (rules : Rules) (w : World) (path : WebPath) (there : Stood) → is_virtual rules path ≡ true → stands rules w path ≡ Ok there → is_dir there.kind ≡ false
 virtual_file rules w path there virtual is =
     let at : Names = resolved rules w.tree path.names in
     let shown : Ok empty_file ≡ Ok there =
@@ -348,7 +348,7 @@ module _ {S C F L E : Type 0} (view : View S C F) (lists : Listings S C L E) (wr
   none_more works a b line e (stops work others rest x y d one) = cc
 
   -- what the removal of such a file comes to: it is refused
-  abbrev Stays : Line → World → World → Type 0
+  abbrev pub Stays : Line → World → World → Type 0
   Stays all u w = SameBesidesOpens u w × ((all ≡ Err dav.NoMemory) ⊎ (all ≡ Err (of_fs fs.Forbidden)))
 
   shut_or : (b : Bool) → is_forbidden rules path ≡ true → (is_forbidden rules path || b) ≡ true
@@ -359,7 +359,7 @@ module _ {S C F L E : Type 0} (view : View S C F) (lists : Listings S C L E) (wr
   Removal m gone n v w = UnlessShut view lists writes c (is_forbidden rules path || has_slash rules.alone path) gone v w
       (IfFound view lists writes c rules v path (Calls view lists writes c (taking_file v.tree (top_in v)) m gone n v w))
 
-  stays_told : (works : List Work) (m t : S) (all : Line) → works ≡ Whole path false ∷ [] → is_forbidden rules path ≡ true → Reached view lists writes c start m → Removes view lists c works m all t → ToldIn m t (Stays all)
+  pub stays_told : (works : List Work) (m t : S) (all : Line) → works ≡ Whole path false ∷ [] → is_forbidden rules path ≡ true → Reached view lists writes c start m → Removes view lists c works m all t → ToldIn m t (Stays all)
   stays_told works m t all e shut reached (no_work x) = cc
   stays_told works m t all e shut reached (cut_short others x) = both_same (view.state x).told (view.state x).told (Stays (Err dav.NoMemory)) (λ w. (same_besides w, inl refl)) refl
   stays_told works m t all e shut reached (goes work others rest x n y l one more) = by work others one more (let f : work ≡ Whole path false = cc in f) (let f : others ≡ [] = cc in f)
@@ -401,35 +401,32 @@ module _ {S C F L E : Type 0} (view : View S C F) (lists : Listings S C L E) (wr
       by (inr e) =
           subst (λ z. Came z (halts (line 403) ∷ []) t v w) (sym e) (halted_comes view fields start (of_fs fs.Forbidden) (line 403) [] t v w refl refl both_kept)
 
-  -- No line fits: what stands there goes.
-  removes_right : (all : Line) (m t : S) (found : Result Info FsError) (v u w : World) → IsWorld v → 0 < length path.names → IsRegular rules k v → is_linked v.tree (top_in v) ≡ false
-      → has_link_below v.tree (top_in v) ≡ false → SameBesidesOpens v u → (pass : Passed (is_forbidden rules path) fields (stands rules v path) found)
-      → (is_forbidden rules path && not (is_dir pass.there.kind)) ≡ false → Goes view lists writes c rules fields start k follows alone (Whole path (is_dir_there found) ∷ []) all t u w
-      → Right (the.unless all the.silent) t v w
-  removes_right all m t found v u w world some regular clear below same pass open_at work_goes =
+  -- What stands there goes, where no file of its name stays.
+  pub goes_whole : (all : Line) (t : S) (there : Stood) (v u w : World) → IsWorld v → 0 < length path.names → TellsApart rules v → is_linked v.tree (top_in v) ≡ false
+      → has_link_below v.tree (top_in v) ≡ false → SameBesidesOpens v u → stands rules v path ≡ Ok there
+      → (is_forbidden rules path && not (is_dir there.kind)) ≡ false → Goes view lists writes c rules fields start k follows alone (Whole path (is_dir there.kind) ∷ []) all t u w
+      → (x : Case) × (x.top ≡ top_in v) × (x.old ≡ v.tree) × Came all (acts rules x (walked v.tree (top_in v))) t v w × Ended view lists writes c rules fields start k follows alone all x w
+  goes_whole all t there v u w world some apart clear below same was open_at work_goes =
       let top : Names = top_in v in
       let plain = no_virtual (is_virtual rules path) refl in
-      let seen = seen_stood rules v path pass.there alone plain pass.was in
-      let stood = found_at v (record path { names = top }) pass.there (look v.tree top) refl seen.1 in
-      let dir : is_dir stood.row.kind ≡ is_dir_there found = sym (pass.dir ∙ stood.kind) in
+      let seen = seen_stood rules v path there alone plain was in
+      let stood = found_at v (record path { names = top }) there (look v.tree top) refl seen.1 in
       let long : length path.names ≡ length top = sym (ap length (ap (λ o. or_walk o (resolved_from rules.folds v.tree [] path.names)) alone) ∙ found_length rules.folds v.tree path.names) in
       let some_top : 0 < length top = subst (λ n. 0 < n) long some in
-      let x : Case = began path top v world some_top long clear below in
-      let came = (removed_whole view lists writes c rules fields start k follows alone path top (is_dir_there found) all t v u w world some_top long clear below regular.apart refl
-      (record { row = stood.row; in_tree = stood.in_tree; at = stood.at; kind = dir }) (λ e. stood.slash (sym pass.dir ∙ e) clear)
-      (λ file. (no_name (is_dir pass.there.kind) refl file stood, keeps_file_row rules v.tree (parts_of v.tree world.tree) top file ∙ seen.0)) same work_goes).0 in
-      right_of all t v w (acts rules x (walked v.tree top))
-      (plan_lines rules v path fields body some ∙ (ap (λ o. unless o (removing rules v path)) (pass.last ∙ ap (λ b. when b 403) open_at) ∙ planned rules v path x refl refl)) came
+      let both = removed_whole view lists writes c rules fields start k follows alone path top (is_dir there.kind) all t v u w world some_top long clear below apart refl
+      (record { row = stood.row; in_tree = stood.in_tree; at = stood.at; kind = sym stood.kind }) (λ e. stood.slash e clear)
+      (λ file. (no_name (is_dir there.kind) refl file stood, keeps_file_row rules v.tree (parts_of v.tree world.tree) top file ∙ seen.0)) same work_goes in
+      (began path top v world some_top long clear below, refl, refl, both.0, both.1)
     where
       no_virtual : (b : Bool) → is_virtual rules path ≡ b → is_virtual rules path ≡ false
       no_virtual false e = e
       no_virtual true e =
-          let file = virtual_file rules v path pass.there e pass.was in
-          let shut : (is_forbidden rules path && not (is_dir pass.there.kind)) ≡ true =
-          ap (λ b. (b || (rules.macos && is_localized path.names)) && not (is_dir pass.there.kind)) e ∙ ap not file in
-          not_both (is_forbidden rules path && not (is_dir pass.there.kind)) shut open_at
+          let file = virtual_file rules v path there e was in
+          let shut : (is_forbidden rules path && not (is_dir there.kind)) ≡ true =
+          ap (λ b. (b || (rules.macos && is_localized path.names)) && not (is_dir there.kind)) e ∙ ap not file in
+          not_both (is_forbidden rules path && not (is_dir there.kind)) shut open_at
 
-      no_name : (d : Bool) → is_dir pass.there.kind ≡ d → StandsAs v.tree (top_in v) false → (f : Found v (record path { names = top_in v }) pass.there) → is_forbidden rules path ≡ false
+      no_name : (d : Bool) → is_dir there.kind ≡ d → StandsAs v.tree (top_in v) false → (f : Found v (record path { names = top_in v }) there) → is_forbidden rules path ≡ false
       no_name false e file f = and_open (is_forbidden rules path) (ap (λ b. is_forbidden rules path && not b) (sym e) ∙ open_at)
         where
           and_open : (a : Bool) → (a && true) ≡ false → a ≡ false
@@ -438,6 +435,18 @@ module _ {S C F L E : Type 0} (view : View S C F) (lists : Listings S C L E) (wr
       no_name true e file f =
           let one : file.row ≡ f.row = only_row v.tree file.row f.row (parts_of v.tree world.tree) file.in_tree f.in_tree (file.at ∙ sym f.at) in
           not_both (is_dir file.row.kind) (ap (λ (r : Row). is_dir r.kind) one ∙ (sym f.kind ∙ e)) file.kind
+
+  -- No line fits: what stands there goes.
+  removes_right : (all : Line) (m t : S) (found : Result Info FsError) (v u w : World) → IsWorld v → 0 < length path.names → IsRegular rules k v → is_linked v.tree (top_in v) ≡ false
+      → has_link_below v.tree (top_in v) ≡ false → SameBesidesOpens v u → (pass : Passed (is_forbidden rules path) fields (stands rules v path) found)
+      → (is_forbidden rules path && not (is_dir pass.there.kind)) ≡ false → Goes view lists writes c rules fields start k follows alone (Whole path (is_dir_there found) ∷ []) all t u w
+      → Right (the.unless all the.silent) t v w
+  removes_right all m t found v u w world some regular clear below same pass open_at work_goes =
+      let (x, top, old, came, ended) = goes_whole all t pass.there v u w world some regular.apart clear below same pass.was open_at
+      (subst (λ d. Goes view lists writes c rules fields start k follows alone (Whole path d ∷ []) all t u w) pass.dir work_goes) in
+      right_of all t v w (acts rules x (walked v.tree (top_in v)))
+      (plan_lines rules v path fields body some ∙ (ap (λ o. unless o (removing rules v path)) (pass.last ∙ ap (λ b. when b 403) open_at)
+      ∙ (planned rules v path x top old ∙ ap (λ z. acts rules x (walked v.tree z)) top))) came
 
   -- whether the last line fits
   removes_later : (m t : S) (found : Result Info FsError) (r : Given) → 0 < length path.names → Reached view lists writes c start m → may_delete fields found ≡ Ok tt

@@ -20,35 +20,35 @@ or_true false = refl
 module _ {S C F : Type 0} (view : View S C F) (writes : Writes F) (c : C) where
   -- a file was opened, the body went into it, and it was closed
   pub put_ends : (path : WebPath) (outcome : Outcome) (b n : BodyState) (s m k t : S) (how : OpenOptions) (f h : F) (ended : Line) (r : Given) → how ≡ put_options
-      → view.opens s c path how (Ok f) m → OpensOne view.handle view.seen how (view.state s) (Ok f) (view.state m) → Pours view writes m f b ended k h n
+      → view.opens s c path how (Ok f) m → OpensOne view.file how (view.state s) (Ok f) (view.state m) → Pours view writes m f b ended k h n
       → Closes view k h t → r ≡ unless ended outcome → AfterChecks view writes c (Ok outcome) path b s r t n
   put_ends path outcome b n s m k t how f h ended r same opens one pours closes is = (
     Ok f,
     m,
     subst (λ o. view.opens s c path o (Ok f) m) same opens,
-    subst (λ o. OpensOne view.handle view.seen o (view.state s) (Ok f) (view.state m)) same one,
+    subst (λ o. OpensOne view.file o (view.state s) (Ok f) (view.state m)) same one,
     record { ended = ended; full = k; file = h; pours = pours; closes = closes; answer = is },
   )
 
   -- no file was opened
   pub put_refused : (path : WebPath) (outcome : Outcome) (b : BodyState) (s m : S) (how : OpenOptions) (e : FsError) (r : Given) → how ≡ put_options
-      → view.opens s c path how (Err e) m → OpensOne view.handle view.seen how (view.state s) (Err e) (view.state m) → r ≡ Err (of_fs e)
+      → view.opens s c path how (Err e) m → OpensOne view.file how (view.state s) (Err e) (view.state m) → r ≡ Err (of_fs e)
       → AfterChecks view writes c (Ok outcome) path b s r m b
   put_refused path outcome b s m how e r same opens one is = (
     Err e,
     m,
     subst (λ o. view.opens s c path o (Err e) m) same opens,
-    subst (λ o. OpensOne view.handle view.seen o (view.state s) (Err e) (view.state m)) same one,
+    subst (λ o. OpensOne view.file o (view.state s) (Err e) (view.state m)) same one,
     ((refl, is), refl),
   )
 
   -- Nothing is left open.
-  pub put_leaves : (s m k t : S) (how : OpenOptions) (f h : F) → OpensOne view.handle view.seen how (view.state s) (Ok f) (view.state m) → FileStays view m f k h → Closes view k h t
+  pub put_leaves : (s m k t : S) (how : OpenOptions) (f h : F) → OpensOne view.file how (view.state s) (Ok f) (view.state m) → FileStays view m f k h → Closes view k h t
       → KeepsOpen (view.state s) (view.state t)
   put_leaves s m k t how f h one stays closes =
-      let own = view.handle f in
+      let own = view.file.handle f in
       let shut : KeepsOpenBut own (view.state k) (view.state t) = subst (λ n. KeepsOpenBut n (view.state k) (view.state t)) stays.handle
-      (but_kept (view.handle h) (view.state k) (view.state t) closes.done.keeps) in
+      (but_kept (view.file.handle h) (view.state k) (view.state t) closes.done.keeps) in
       open_closed own (view.state s) (view.state t)
       (but_then own (view.state s) (view.state m) (view.state t) one.others (but_then own (view.state m) (view.state k) (view.state t) stays.keeps shut))
       one.fresh (subst (λ n. (view.state t).live n ≡ None) stays.handle closes.done.live)

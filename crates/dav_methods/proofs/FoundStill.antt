@@ -47,7 +47,7 @@ below_at folds at name row e =
           (drop (length row.path - 1) row.path, sym (take-append-drop (length row.path - 1) row.path) ∙ ap (λ z. z ++ drop (length row.path - 1) row.path) (names_same (parent_of row.path) at q.0)))
     ]
 
-loose_below : (folds : Bool) (tree : List Row) (at names end : Names) → IsLoose folds tree at names end → (x : Names) × (end ≡ at ++ x)
+pub loose_below : (folds : Bool) (tree : List Row) (at names end : Names) → IsLoose folds tree at names end → (x : Names) × (end ≡ at ++ x)
 loose_below folds tree at [] end walk = ([], walk ∙ sym (append-nil at))
 loose_below folds tree at (name ∷ names) end (inl (next, of, alike, walk)) =
     let p = loose_below folds tree next.path names end walk in
@@ -130,7 +130,7 @@ found_timed h same folds tree at (name ∷ names) =
 
 -- ---- what is found folds like what is asked
 
-fold_append : (a b : Names) → fold_path (a ++ b) ≡ fold_path a ++ fold_path b
+pub fold_append : (a b : Names) → fold_path (a ++ b) ≡ fold_path a ++ fold_path b
 fold_append [] b = refl
 fold_append (name ∷ a) b = ap (λ z. fold_name name ∷ z) (fold_append a b)
 
@@ -160,7 +160,7 @@ on_folds folds tree at name names (Some next) e up =
     ∙ (sym (fold_append (at ++ name ∷ []) names) ∙ ap fold_path (append_assoc at (name ∷ []) names))))
 
 -- Where a path is found folds like the path.
-found_folds : (folds : Bool) (tree : List Row) (at names : Names) → fold_path (resolved_from folds tree at names) ≡ fold_path (at ++ names)
+pub found_folds : (folds : Bool) (tree : List Row) (at names : Names) → fold_path (resolved_from folds tree at names) ≡ fold_path (at ++ names)
 found_folds folds tree at [] = ap fold_path (sym (append-nil at))
 found_folds folds tree at (name ∷ names) = on_folds folds tree at name names (member folds tree at name) refl (λ next. found_folds folds tree next names)
 

@@ -48,12 +48,14 @@ none_at rows p none = by (row_at rows p) refl
     by None e = refl
     by (Some r) e = let (i, at) = row_at_in rows p r e in absurd (none r i at)
 
-pub free_place : (rows : List Row) (to : Names) → Parts rows → 0 < length to → DirAt rows (parent_of to) → ((r : Row) → In r rows → r.path ≡ to → ⊥) → place rows to ≡ Ok None
-free_place rows to parts some d none =
+-- below a directory what is found is the row
+pub row_place : (rows : List Row) (to : Names) → Parts rows → 0 < length to → DirAt rows (parent_of to) → place rows to ≡ Ok (row_at rows to)
+row_place rows to parts some d =
     let (last, is) = last_parted to some in
-    ap (place_from rows []) is
-    ∙ (places rows d.row [] (parent_of to) last parts d.in_tree d.dir d.at
-    ∙ (ap (λ p. Ok (row_at rows p)) (sym is) ∙ ap Ok (none_at rows to none)))
+    ap (place_from rows []) is ∙ (places rows d.row [] (parent_of to) last parts d.in_tree d.dir d.at ∙ ap (λ p. Ok (row_at rows p)) (sym is))
+
+pub free_place : (rows : List Row) (to : Names) → Parts rows → 0 < length to → DirAt rows (parent_of to) → ((r : Row) → In r rows → r.path ≡ to → ⊥) → place rows to ≡ Ok None
+free_place rows to parts some d none = row_place rows to parts some d ∙ ap Ok (none_at rows to none)
 
 pub none_of_free : (to : Names) (rows : List Row) → Free to rows → (r : Row) → In r rows → r.path ≡ to → ⊥
 none_of_free to rows free r i at = not_both (is_front to r.path) (subst (λ p. is_front to p ≡ true) (sym at) (front_itself to)) (free r i)

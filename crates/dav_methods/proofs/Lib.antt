@@ -25,6 +25,7 @@ pub mod TreeRows
 mod RemovalWork
 mod ApartKept
 mod FoundStill
+mod PlaceCleared
 mod Beneath
 mod WorkCovers
 mod ActsJoined
@@ -39,6 +40,7 @@ pub mod MoveDone
 mod CopyOrder
 mod CopyCovers
 mod CopyWork
+mod CopyReady
 mod CopyRun
 pub mod CopyActs
 pub mod RemovalsListed

@@ -12,18 +12,18 @@ use Rattle.dav_methods.proofs.KeptOpen.{but_same, but_then}
 
 module _ {S C F : Type 0} (view : View S C F) where
   pub stays_same : (s : S) (f : F) → FileStays view s f s f
-  stays_same s f = record { handle = refl; keeps = but_same (view.handle f) (view.state s); live = refl; loan = refl }
+  stays_same s f = record { handle = refl; keeps = but_same (view.file.handle f) (view.state s); live = refl; loan = refl }
 
   pub stays_then : (s m t : S) (f g h : F) → FileStays view s f m g → FileStays view m g t h → FileStays view s f t h
   stays_then s m t f g h p q = record {
     handle = q.handle ∙ p.handle;
-    keeps = but_then (view.handle f) (view.state s) (view.state m) (view.state t) p.keeps (subst (λ n. KeepsOpenBut n (view.state m) (view.state t)) p.handle q.keeps);
+    keeps = but_then (view.file.handle f) (view.state s) (view.state m) (view.state t) p.keeps (subst (λ n. KeepsOpenBut n (view.state m) (view.state t)) p.handle q.keeps);
     live = subst (λ n. (view.state t).live n ≡ (view.state m).live n) p.handle q.live ∙ p.live;
     loan = q.loan ∙ p.loan;
   }
 
   -- The file is live still.
-  pub still_live : (s t : S) (f h : F) → FileStays view s f t h → IsSome ((view.state s).live (view.handle f)) → IsSome ((view.state t).live (view.handle h))
+  pub still_live : (s t : S) (f h : F) → FileStays view s f t h → IsSome ((view.state s).live (view.file.handle f)) → IsSome ((view.state t).live (view.file.handle h))
   still_live s t f h stays live = subst (λ n. IsSome ((view.state t).live n)) (sym stays.handle) (subst (λ (l : Option Live). IsSome l) (sym stays.live) live)
 
 module _ {S C F : Type 0} (view : View S C F) (writes : Writes F) where

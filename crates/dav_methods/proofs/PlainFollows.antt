@@ -96,9 +96,9 @@ module _ {S C F L E : Type 0} (view : View S C F) (lists : Listings S C L E) (wr
     -- (a file that isn't opened to append, and whose place isn't behind its end)
     pub writes_file : (m n : S) (f g : F) (bytes : List ℕ) (r : Result Unit FsError) → Reached view lists writes c s m
         → WritesFile view writes m f bytes r n g
-        → appends ((view.state m).live (view.handle f)) ≡ false
-        → Told view lists writes c m n (λ v w. (o : OpenFile) → v.opens (view.handle f) ≡ Some o → o.place ≤ length (bytes_of v o.number)
-        → WritesBy view lists writes c (view.handle f) bytes r o v w)
+        → appends ((view.state m).live (view.file.handle f)) ≡ false
+        → Told view lists writes c m n (λ v w. (o : OpenFile) → v.opens (view.file.handle f) ≡ Some o → o.place ≤ length (bytes_of v o.number)
+        → WritesBy view lists writes c (view.file.handle f) bytes r o v w)
     pub members : (m n : S) (path : WebPath) (members : List Child) → Reached view lists writes c s m
         → HasMembers view lists m c path members n
         → Told view lists writes c m n (ListsBy rules path members)
@@ -122,7 +122,8 @@ module _ {S C F L E : Type 0} (view : View S C F) (lists : Listings S C L E) (wr
         (λ v w p flat. p.called (neither (is_forbidden rules path) (has_slash rules.alone path) (not_forbidden rules path plain) (no_slash rules path plain flat)) (plainly_apart rules v plain))
         (follows.removes_file m n path r reached h);
     renames = λ m n from to r reached h. told_map m n _ _
-        (λ v w p. p.called (neither (is_forbidden rules from) (is_forbidden rules to) (not_forbidden rules from plain) (not_forbidden rules to plain)) (plainly_apart rules v plain))
+        (λ v w p clear beyond nothing. p.called (neither (is_forbidden rules from) (is_forbidden rules to) (not_forbidden rules from plain) (not_forbidden rules to plain)) (plainly_apart rules v plain)
+        clear beyond (λ refused. nothing))
         (follows.renames m n from to r reached h);
     copies = λ m n from to r reached h. told_map m n _ _
         (λ v w p. p.called (neither (is_forbidden rules from) (is_forbidden rules to) (not_forbidden rules from plain) (not_forbidden rules to plain)) (plainly_apart rules v plain))

@@ -195,8 +195,8 @@ module _ {S C F L E : Type 0} (view : View S C F) (lists : Listings S C L E) (wr
     open_at : is_forbidden x.rules x.ask.path ≡ false
     row : Row
     into : Into x.ask.fields (putting x.rules v x.ask.path) x.ask.body v a row
-    place : a.opens (view.handle f) ≡ Some (at_start row.number)
-    kind : kind_at (view.state n) (view.handle f) ≡ Some row.kind
+    place : a.opens (view.file.handle f) ≡ Some (at_start row.number)
+    kind : kind_at (view.state n) (view.file.handle f) ≡ Some row.kind
 
   opened_as : (x : Case view lists writes c planned linked) (outcome : Outcome) (m n : S) (f : F) (v u a : World) → Clear view lists writes c planned linked x v → SameBesidesOpens v u → Known x outcome v
       → x.ask.path.slash ≡ false → Opening x m (Ok f) n u a → Opened x outcome n f v a
@@ -212,7 +212,7 @@ module _ {S C F L E : Type 0} (view : View S C F) (lists : Listings S C L E) (wr
         row = row;
         into = put_into x.ask.fields x.ask.body at v u a row edit clear.world same (free_here view lists writes c x v clear) (sym (putting_same x v u same) ∙ allows) did
             (subst (λ (tree : List Row). row_at a.tree (resolved x.rules tree x.ask.path.names) ≡ Some row) same.tree found)
-            (inr (view.handle f, ap (option_map (λ (o : OpenFile). o.number)) place));
+            (inr (view.file.handle f, ap (option_map (λ (o : OpenFile). o.number)) place));
         place = place;
         kind = kind;
       }
@@ -229,18 +229,18 @@ module _ {S C F L E : Type 0} (view : View S C F) (lists : Listings S C L E) (wr
     row : Row
     a : World
     into : Into x.ask.fields (putting x.rules v x.ask.path) x.ask.body v a row
-    kind : kind_at (view.state n) (view.handle f) ≡ Some row.kind
-    did : WritesBy view lists writes c (view.handle f) x.ask.body ended (at_start row.number) a b
+    kind : kind_at (view.state n) (view.file.handle f) ≡ Some row.kind
+    did : WritesBy view lists writes c (view.file.handle f) x.ask.body ended (at_start row.number) a b
 
   filled_as : (x : Case view lists writes c planned linked) (outcome : Outcome) (n : S) (f : F) (ended : Result Unit FsError) (v a b : World) → Opened x outcome n f v a
-      → ((o : OpenFile) → a.opens (view.handle f) ≡ Some o → o.place ≤ length (bytes_of a o.number) → WritesBy view lists writes c (view.handle f) x.ask.body ended o a b)
+      → ((o : OpenFile) → a.opens (view.file.handle f) ≡ Some o → o.place ≤ length (bytes_of a o.number) → WritesBy view lists writes c (view.file.handle f) x.ask.body ended o a b)
       → Filled x outcome n f ended v b
   filled_as x outcome n f ended v a b opened goes =
       record { known = opened.known; open_at = opened.open_at; row = opened.row; a = a; into = opened.into; kind = opened.kind; did = goes (at_start opened.row.number) opened.place (omega arith) }
 
   written_right : (x : Case view lists writes c planned linked) (outcome : Outcome) (n t : S) (f : F) (ended : Result Unit FsError) (v b w : World)
-      → (can_write ((view.state n).live (view.handle f)) ≡ true → OnErr ended (Spoiled (view.state x.s) ended (view.state t)))
-      → ((l : Live) → (view.state n).live (view.handle f) ≡ Some l → l.how ≡ put_options) → Filled x outcome n f ended v b → SameBesidesOpens b w
+      → (can_write ((view.state n).live (view.file.handle f)) ≡ true → OnErr ended (Spoiled (view.state x.s) ended (view.state t)))
+      → ((l : Live) → (view.state n).live (view.file.handle f) ≡ Some l → l.how ≡ put_options) → Filled x outcome n f ended v b → SameBesidesOpens b w
       → EndsFor view lists writes c planned linked x (answer_unless (line_of ended) outcome) t v w
   written_right x outcome n t f (Ok y) v b w refused how filled same =
       let acts = passed x v outcome filled.into.edit filled.known filled.open_at filled.into.allows in
@@ -249,7 +249,7 @@ module _ {S C F L E : Type 0} (view : View S C F) (lists : Listings S C L E) (wr
       (filled.into.whole w (fill_of filled.row.number x.ask.body filled.a b w filled.into.empty filled.did.0 same) (plan_of view lists writes c planned linked x v).done reply is))
   written_right x outcome n t f (Err e) v b w refused how filled same =
       let acts = passed x v outcome filled.into.edit filled.known filled.open_at filled.into.allows in
-      let can = live_can ((view.state n).live (view.handle f)) filled.row.kind filled.kind filled.into.kind how in
+      let can = live_can ((view.state n).live (view.file.handle f)) filled.row.kind filled.kind filled.into.kind how in
       let (count, edited) = filled.did in
       ends_spoiled view lists writes c planned linked {T = Unit} x e t v w (refused can)
       (subst (λ acts. PartOf acts v w) (sym acts)
@@ -262,7 +262,7 @@ module _ {S C F L E : Type 0} (view : View S C F) (lists : Listings S C L E) (wr
   still_spoiled (Err e) s n k t le same (inr f) = inr f
 
   opened_stage : (x : Case view lists writes c planned linked) (outcome : Outcome) (opened : Result F FsError) (m n : S) (r : Given) (t : S) → x.ask.path.slash ≡ false → Reached view lists writes c x.s m
-      → At view lists writes c planned linked x m (Known x outcome) → view.opens m c x.ask.path put_options opened n → OpensOne view.handle view.seen put_options (view.state m) opened (view.state n)
+      → At view lists writes c planned linked x m (Known x outcome) → view.opens m c x.ask.path put_options opened n → OpensOne view.file put_options (view.state m) opened (view.state n)
       → AfterOpeningWhole view writes c opened outcome x.ask.body n r t → Right view lists writes c planned linked x r t
   opened_stage x outcome (Err e) m n r t slash reached at call one ends =
       rw (ends.0, ends.1) (both_then (view.state x.s).told (view.state m).told (view.state n).told _ _ _
@@ -273,7 +273,7 @@ module _ {S C F L E : Type 0} (view : View S C F) (lists : Listings S C L E) (wr
       (λ v u a p q clear. opened_as x outcome m n f v u a clear p.0 (p.1 clear) slash q) at (x.follows.opens m n x.ask.path (Ok f) reached call) in
       let second_world = both_then (view.state x.s).told (view.state n).told (view.state into.full).told _ _ (λ v b. Clear view lists writes c planned linked x v → Filled x outcome n f into.ended v b)
       (λ v a b p q clear. filled_as x outcome n f into.ended v a b (p clear) q) first_world
-      (x.follows.writes_file n into.full f into.file x.ask.body into.ended next into.written (never_appends ((view.state n).live (view.handle f)) one.options)) in
+      (x.follows.writes_file n into.full f into.file x.ask.body into.ended next into.written (never_appends ((view.state n).live (view.file.handle f)) one.options)) in
       rw into.answer (both_then (view.state x.s).told (view.state into.full).told (view.state t).told _ _ _
       (λ v b w p same clear. written_right x outcome n t f into.ended v b w
       (λ can. still_spoiled into.ended x.s n into.full t (x.follows.counts n next) into.closes.done.counts (into.written.told.refused can)) one.options (p clear) same)

@@ -26,7 +26,6 @@ is_usual fs.NotFound = true
 is_usual fs.Forbidden = true
 is_usual fs.Exists = true
 is_usual fs.GeneralFailure = true
-is_usual fs.NotImplemented = true
 is_usual fs.NoMemory = true
 is_usual other = false
 

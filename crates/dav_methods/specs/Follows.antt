@@ -7,6 +7,7 @@ use Rattle.dav_io.specs.Told.{Both}
 use Rattle.dav_io.specs.declared.failure.NoMemory.{NoMemory as Wanting}
 use Rattle.dav_core.specs.declared.error.FsError.{FsError}
 use Rattle.dav_core.specs.declared.error.FsError.TheVariants.{Forbidden}
+use Rattle.dav_core.specs.declared.handle.DiskError.TheVariants.{NotDir}
 use Rattle.dav_core.specs.declared.handle.OpenOptions.{OpenOptions}
 use Rattle.dav_core.specs.declared.tree.Row.{Row}
 use Rattle.dav_core.specs.Allowed.{Allowed, copying, moving, taking_dir, taking_file}
@@ -129,8 +130,8 @@ module _ {S C F L E : Type 0} (view : View S C F) (lists : Listings S C L E) (wr
   OpensBy rules path m (Ok f) n v w = (edit : Option Edit) × (row : Row) × (putting rules v path ≡ Ok edit)
       × EditedBy edit v w
       × (row_at w.tree (resolved rules v.tree path.names) ≡ Some row)
-      × (w.opens (view.handle f) ≡ Some (at_start row.number))
-      × (kind_at (view.state n) (view.handle f) ≡ Some row.kind)
+      × (w.opens (view.file.handle f) ≡ Some (at_start row.number))
+      × (kind_at (view.state n) (view.file.handle f) ≡ Some row.kind)
   OpensBy rules path m (Err e) n v w = SameBesidesOpens v w
       × (CallsFor (putting rules v path) e ⊎ Spoiled {T = F} (view.state m) (Err e) (view.state n))
 
@@ -168,6 +169,10 @@ module _ {S C F L E : Type 0} (view : View S C F) (lists : Listings S C L E) (wr
   IfBothFound rules v from to P = TellsApart rules v → is_linked v.tree (resolved rules v.tree from.names) ≡ false
       → is_linked v.tree (resolved rules v.tree to.names) ≡ false → P
 
+  -- A move isn't refused since a directory would take the place of a file.
+  abbrev pub IfPlaced : World → Names → Names → Type 0 → Type 0
+  IfPlaced v from to P = (moving v.tree from to ≡ Err NotDir → row_at v.tree to ≡ None) → P
+
   -- From here on each call does to the told world what the rules say, where the memory knew so much. What it knows is
   -- asked for by looks alone, which come before what a request changes.
   pub record Follows (rules : Rules) (k : Knowledge) (s : S) : Type 0 where
@@ -192,11 +197,12 @@ module _ {S C F L E : Type 0} (view : View S C F) (lists : Listings S C L E) (wr
         → view.removes_file m c path r n
         → Told m n (λ v w. UnlessShut (is_forbidden rules path || has_slash rules.alone path) r v w
         (IfFound rules v path (Calls (taking_file v.tree (resolved rules v.tree path.names)) m r n v w)))
-    -- (where nothing stands at the destination: a store may make two edits of a move that replaces)
+    -- (but where the disk puts no directory in the place of a file that stands: a store may make two edits of such a move)
     pub renames : (m n : S) (from to : WebPath) (r : Result Unit FsError) → Reached s m → view.renames m c from to r n
         → Told m n (λ v w. UnlessShut (is_forbidden rules from || is_forbidden rules to) r v w
-        (IfBothFound rules v from to (row_at v.tree (resolved rules v.tree to.names) ≡ None
-        → Calls (moving v.tree (resolved rules v.tree from.names) (resolved rules v.tree to.names)) m r n v w)))
+        (IfBothFound rules v from to
+        (IfPlaced v (resolved rules v.tree from.names) (resolved rules v.tree to.names)
+        (Calls (moving v.tree (resolved rules v.tree from.names) (resolved rules v.tree to.names)) m r n v w))))
     pub copies : (m n : S) (from to : WebPath) (r : Result Unit FsError) → Reached s m → view.copies m c from to r n
         → Told m n (λ v w. UnlessShut (is_forbidden rules from || is_forbidden rules to) r v w
         (IfBothFound rules v from to
@@ -207,9 +213,9 @@ module _ {S C F L E : Type 0} (view : View S C F) (lists : Listings S C L E) (wr
     -- (a file that isn't opened to append, and whose place isn't behind its end)
     pub writes_file : (m n : S) (f g : F) (bytes : List ℕ) (r : Result Unit FsError) → Reached s m
         → WritesFile view writes m f bytes r n g
-        → appends ((view.state m).live (view.handle f)) ≡ false
-        → Told m n (λ v w. (o : OpenFile) → v.opens (view.handle f) ≡ Some o → o.place ≤ length (bytes_of v o.number)
-        → WritesBy (view.handle f) bytes r o v w)
+        → appends ((view.state m).live (view.file.handle f)) ≡ false
+        → Told m n (λ v w. (o : OpenFile) → v.opens (view.file.handle f) ≡ Some o
+        → o.place ≤ length (bytes_of v o.number) → WritesBy (view.file.handle f) bytes r o v w)
     pub members : (m n : S) (path : WebPath) (members : List Child) → Reached s m
         → HasMembers view lists m c path members n
         → Told m n (ListsBy rules path members)
@@ -233,13 +239,11 @@ module _ {S C F L E : Type 0} (view : View S C F) (lists : Listings S C L E) (wr
   CarriedIn rules moves ask s r t v w = (result : Result Reply Wanting) → answer_or ask.fields r result
       → CarriesIn rules moves ask result (Rose (view.state s).faults (view.state t).faults) v w
 
-  -- A COPY or a MOVE is answered by the plan of what its fields ask for, and makes of the told world what the plan
-  -- says, over a store that follows rules, which neither fold names nor are those of macOS, and finds each path as it
-  -- is asked for.
-  abbrev pub CarriesByPlan : Bool → Type 0
-  CarriesByPlan moves = (rules : Rules) (k : Knowledge) (s : S) → Follows rules k s
-      → rules.folds ≡ false → rules.macos ≡ false → rules.alone ≡ None
+  -- A COPY or a MOVE is answered by the plan of what its fields ask for, and makes of a world of a valid run what the
+  -- plan says, over a store that follows rules such as these.
+  abbrev pub CarriesByPlan : Bool → (Rules → Type 0) → Type 0
+  CarriesByPlan moves Such = (rules : Rules) (k : Knowledge) (s : S) → Follows rules k s → Such rules
       → (path : WebPath) (fields : Fields) (body : List ℕ) (r : Given) (t : S)
       → Next (CopyMoves view lists c moves rules.settings.prefix path fields) s r t
-      → Told s t (CarriedIn rules moves
-      (record { method = method_of moves; path = path; fields = fields; body = body }) s r t)
+      → Told s t (λ v w. IsRegular rules k v → CarriedIn rules moves
+      (record { method = method_of moves; path = path; fields = fields; body = body }) s r t v w)

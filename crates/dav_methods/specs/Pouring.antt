@@ -23,9 +23,9 @@ most_bytes = 2 ^ 60
 module _ {S C F : Type 0} (view : View S C F) where
   -- A file stays open under its handle, and all others as they were.
   pub record FileStays (s : S) (file : F) (t : S) (after : F) : Type 0 where
-    pub handle : view.handle after ≡ view.handle file
-    pub keeps : KeepsOpenBut (view.handle file) (view.state s) (view.state t)
-    pub live : (view.state t).live (view.handle file) ≡ (view.state s).live (view.handle file)
+    pub handle : view.file.handle after ≡ view.file.handle file
+    pub keeps : KeepsOpenBut (view.file.handle file) (view.state s) (view.state t)
+    pub live : (view.state t).live (view.file.handle file) ≡ (view.state s).live (view.file.handle file)
     pub loan : view.loan t ≡ view.loan s
 
 module _ {S C F : Type 0} (view : View S C F) (writes : Writes F) where
@@ -33,9 +33,10 @@ module _ {S C F : Type 0} (view : View S C F) (writes : Writes F) where
   pub record WritesFile (s : S) (file : F) (from : List ℕ) (result : Result Unit FsError) (t : S) (after : F)
       : Type 0 where
     pub done : writes file (view.state s) from result after (view.state t)
-    pub told : FileWrites (view.state s) (view.handle file) (seen_in view s file) from result (view.state t)
+    pub told : FileWrites (view.state s) (view.file.handle file) (seen_in view s file) from result (view.state t)
         (seen_in view t after)
-    pub handle : view.handle after ≡ view.handle file
+    pub reads_from : view.file.reads_from after (view.state t)
+    pub handle : view.file.handle after ≡ view.file.handle file
     pub lent : Lent view s t
 
   -- A piece is refused: the body reaches its bound with it, or the writing is refused, which may have written a front.

@@ -46,7 +46,7 @@ module _ {S C F : Type 0} (view : View S C F) (writes : Writes F) (c : C) where
   AfterChecks (Err e) path b s r t n = Ends (Err e) s r t × (n ≡ b)
   AfterChecks (Ok outcome) path b s r t n = (opened : Result F FsError) × (m : S)
       × view.opens s c path put_options opened m
-      × OpensOne view.handle view.seen put_options (view.state s) opened (view.state m)
+      × OpensOne view.file put_options (view.state s) opened (view.state m)
       × AfterOpening opened outcome b m r t n
 
   abbrev pub Puts : WebPath → Fields → BodyState → S → Given → S → BodyState → Type 0
@@ -72,7 +72,7 @@ module _ {S C F : Type 0} (view : View S C F) (writes : Writes F) (c : C) where
   AfterChecksWhole (Err e) path bytes s r t = Ends (Err e) s r t
   AfterChecksWhole (Ok outcome) path bytes s r t = (opened : Result F FsError) × (m : S)
       × view.opens s c path put_options opened m
-      × OpensOne view.handle view.seen put_options (view.state s) opened (view.state m)
+      × OpensOne view.file put_options (view.state s) opened (view.state m)
       × AfterOpeningWhole opened outcome bytes m r t
 
   abbrev pub PutsWhole : WebPath → Fields → List ℕ → Run S

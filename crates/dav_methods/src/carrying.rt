@@ -51,7 +51,6 @@ fn go<S: GuardedFileSystem<C>, C>(
     dir: bool,
     outcome: Outcome,
 ) -> Result<Outcome, DavError>
-    requires admits { S.view.admits fs.old }
     ensures table { Goes S.view S.listings credentials.now asked.now.moving asked.now
         (record { from = path.now; to = asked.now.to; dir = dir }) outcome fs.old result fs.new }
     ensures stays { StaysOpen S.view fs.old fs.new }
@@ -73,7 +72,6 @@ fn replace<S: GuardedFileSystem<C>, C>(
     dir: bool,
     dir_there: bool,
 ) -> Result<Outcome, DavError>
-    requires admits { S.view.admits fs.old }
     ensures table { Replaces S.view S.listings credentials.now asked.now
         (record { from = path.now; to = asked.now.to; dir = dir }) dir_there fs.old result fs.new }
     ensures stays { StaysOpen S.view fs.old fs.new }
@@ -94,7 +92,6 @@ fn fill<S: GuardedFileSystem<C>, C>(
     dir: bool,
     refusal: FsError,
 ) -> Result<Outcome, DavError>
-    requires admits { S.view.admits fs.old }
     ensures table { Next (Arrives S.view S.listings credentials.now asked.now
         (record { from = path.now; to = asked.now.to; dir = dir }) (Err refusal)) fs.old result fs.new }
     ensures stays { StaysOpen S.view fs.old fs.new }
@@ -113,7 +110,6 @@ fn arrive<S: GuardedFileSystem<C>, C>(
     path: &DavPath,
     dir: bool,
 ) -> Result<Outcome, DavError>
-    requires admits { S.view.admits fs.old }
     ensures table { LooksAtLink S.view S.listings credentials.now asked.now.to (Arrives S.view S.listings
         credentials.now asked.now (record { from = path.now; to = asked.now.to; dir = dir })) fs.old result fs.new }
     ensures stays { StaysOpen S.view fs.old fs.new }
@@ -139,7 +135,6 @@ fn arrive_if<S: GuardedFileSystem<C>, C>(
     dir: bool,
     may: Result<(), DavError>,
 ) -> Result<Outcome, DavError>
-    requires admits { S.view.admits fs.old }
     ensures table { Next (Unless may (LooksAtLink S.view S.listings credentials.now asked.now.to (Arrives S.view
         S.listings credentials.now asked.now (record { from = path.now; to = asked.now.to; dir = dir }))))
         fs.old result fs.new }
@@ -161,7 +156,6 @@ fn leave<S: GuardedFileSystem<C>, C>(
     fields: &HeaderMap,
     meta: &S::Meta,
 ) -> Result<Outcome, DavError>
-    requires admits { S.view.admits fs.old }
     ensures table { Next (Leaves S.view S.listings credentials.now path.now fields.now asked.now
         (Ok (S.Meta.info meta.now))) fs.old result fs.new }
     ensures stays { StaysOpen S.view fs.old fs.new }
@@ -182,7 +176,6 @@ fn carry<S: GuardedFileSystem<C>, C>(
     fields: &HeaderMap,
     prefix: &str,
 ) -> Result<Outcome, DavError>
-    requires admits { S.view.admits fs.old }
     ensures table { Next (CopyMoves S.view S.listings credentials.now moving prefix.now path.now fields.now)
         fs.old result fs.new }
     ensures stays { StaysOpen S.view fs.old fs.new }
@@ -226,7 +219,6 @@ pub fn copy<S: GuardedFileSystem<C>, C>(
     fields: &HeaderMap,
     prefix: &str,
 ) -> Result<Outcome, DavError>
-    requires admits { S.view.admits fs.old }
     ensures table { CopiesTo S.view S.listings credentials.now prefix.now path.now fields.now fs.old result fs.new }
     ensures stays { StaysOpen S.view fs.old fs.new }
 {
@@ -243,7 +235,6 @@ pub fn move_to<S: GuardedFileSystem<C>, C>(
     fields: &HeaderMap,
     prefix: &str,
 ) -> Result<Outcome, DavError>
-    requires admits { S.view.admits fs.old }
     ensures table { MovesTo S.view S.listings credentials.now prefix.now path.now fields.now fs.old result fs.new }
     ensures stays { StaysOpen S.view fs.old fs.new }
 {

@@ -27,7 +27,6 @@ fn copy_file<S: GuardedFileSystem<C>, C>(
     from: &DavPath,
     to: &DavPath,
 ) -> Result<(), DavError>
-    requires admits { S.view.admits fs.old }
     ensures copies { (copied : Result Unit FsError) × S.view.copies fs.old credentials.now from.now to.now copied fs.new
         × (result ≡ the_line_of copied) }
     ensures stays { StaysOpen S.view fs.old fs.new }
@@ -44,7 +43,6 @@ fn copy_dir<S: GuardedFileSystem<C>, C>(
     ends: &Ends,
     works: &mut VecDeque<Pending>,
 ) -> Result<(), DavError>
-    requires admits { S.view.admits fs.old }
     ensures copies { CopiesOn S.view S.listings credentials.now alone (transfer_dir ends.now ∷ transfers_at
         (ends_above ends.now) works.old.items) fs.old result fs.new (transfers_at ends.now works.new.items) }
     ensures lighter { result ≡ Ok tt → weight (works_at ends.now.from works.new.items [])
@@ -75,7 +73,6 @@ fn copy_member<S: GuardedFileSystem<C>, C>(
     member: &Member,
     works: &mut VecDeque<Pending>,
 ) -> Result<(), DavError>
-    requires admits { S.view.admits fs.old }
     ensures copies { CopiesOn S.view S.listings credentials.now alone (transfers_at
         ends.old (Below member.now ∷ works.old.items)) fs.old result fs.new (transfers_at ends.new works.new.items) }
     ensures lighter { result ≡ Ok tt → weight (works_at ends.new.from works.new.items [])
@@ -103,7 +100,6 @@ fn copy_one<S: GuardedFileSystem<C>, C>(
     work: Pending,
     works: &mut VecDeque<Pending>,
 ) -> Result<(), DavError>
-    requires admits { S.view.admits fs.old }
     ensures copies { CopiesOn S.view S.listings credentials.now alone
         (transfers_at ends.old (work ∷ works.old.items)) fs.old result fs.new (transfers_at ends.new works.new.items) }
     ensures lighter { result ≡ Ok tt → weight (works_at ends.new.from works.new.items [])
@@ -130,7 +126,6 @@ fn copy_pending<S: GuardedFileSystem<C>, C>(
     ends: Ends,
     works: VecDeque<Pending>,
 ) -> Result<(), DavError>
-    requires admits { S.view.admits fs.old }
     ensures copies { Copies S.view S.listings credentials.now alone
         (transfers_at ends works.items) fs.old result fs.new }
     ensures stays { StaysOpen S.view fs.old fs.new }
@@ -158,7 +153,6 @@ fn copy_tree<S: GuardedFileSystem<C>, C>(
     alone: bool,
     ends: Ends,
 ) -> Result<(), DavError>
-    requires admits { S.view.admits fs.old }
     ensures copies { Copies S.view S.listings credentials.now alone (transfer_dir ends ∷ []) fs.old result fs.new }
     ensures stays { StaysOpen S.view fs.old fs.new }
 {
@@ -189,7 +183,6 @@ pub fn copy_all<S: GuardedFileSystem<C>, C>(
     to: &DavPath,
     dir: bool,
 ) -> Result<(), DavError>
-    requires admits { S.view.admits fs.old }
     ensures copies { Copies S.view S.listings credentials.now alone
         (record { from = from.now; to = to.now; dir = dir } ∷ []) fs.old result fs.new }
     ensures stays { StaysOpen S.view fs.old fs.new }

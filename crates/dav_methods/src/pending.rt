@@ -54,7 +54,6 @@ pub fn read_pending<S: GuardedFileSystem<C>, C>(
     path: &DavPath,
     works: &mut VecDeque<Pending>,
 ) -> Result<(), DavError>
-    requires admits { S.view.admits fs.old }
     ensures reads { ReadsPending S.view S.listings credentials.now path.now works.old.items fs.old
         result fs.new works.new.items }
     ensures stays { StaysOpen S.view fs.old fs.new }

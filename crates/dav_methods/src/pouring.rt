@@ -15,9 +15,9 @@ pub fn file_write<S: GuardedFileSystem<C>, C>(
     file: &mut S::File,
     bytes: &[u8],
 ) -> Result<(), FsError>
-    requires { IsSome ((S.view.state fs.old).live (S.view.handle file.old)) }
-    ensures writes { WritesFile S.view S.File.writes fs.old file.old bytes.now result fs.new file.new }
-    ensures admits { S.view.admits fs.old → S.view.admits fs.new }
+    requires live { IsSome ((S.view.state fs.old).live (S.view.file.handle file.old)) }
+    requires reads_from { S.view.file.reads_from file.old (S.view.state fs.old) }
+    ensures writes { WritesFile S.view S.File.view.writes fs.old file.old bytes.now result fs.new file.new }
 {
     file.write_bytes(fs.disk(), bytes)
 }
@@ -29,10 +29,10 @@ fn write_piece<S: GuardedFileSystem<C>, C>(
     piece: &[u8],
     total: u64,
 ) -> Result<u64, DavError>
-    requires live { IsSome ((S.view.state fs.old).live (S.view.handle file.old)) }
+    requires live { IsSome ((S.view.state fs.old).live (S.view.file.handle file.old)) }
+    requires reads_from { S.view.file.reads_from file.old (S.view.state fs.old) }
     requires short { total < most_bytes }
-    ensures takes { TakesPiece S.view S.File.writes total fs.old file.old piece.now result fs.new file.new }
-    ensures admits { S.view.admits fs.old → S.view.admits fs.new }
+    ensures takes { TakesPiece S.view S.File.view.writes total fs.old file.old piece.now result fs.new file.new }
 {
     let sum = total.saturating_add(piece.len() as u64);
     if sum >= MOST_BYTES {
@@ -52,10 +52,10 @@ pub fn pour<S: GuardedFileSystem<C>, C, B: BodyReader>(
     file: &mut S::File,
     body: &mut B,
 ) -> Result<(), DavError>
-    requires { IsSome ((S.view.state fs.old).live (S.view.handle file.old)) }
-    ensures pours { Pours S.view S.File.writes fs.old file.old
+    requires live { IsSome ((S.view.state fs.old).live (S.view.file.handle file.old)) }
+    requires reads_from { S.view.file.reads_from file.old (S.view.state fs.old) }
+    ensures pours { Pours S.view S.File.view.writes fs.old file.old
         (B.state body.old) result fs.new file.new (B.state body.new) }
-    ensures admits { S.view.admits fs.old → S.view.admits fs.new }
     ensures body_loan { B.loan body.new ≡ B.loan body.old }
 {
     let mut total: u64 = 0;

@@ -82,7 +82,7 @@ fn put_body<S: GuardedFileSystem<C>, C, B: BodyReader>(
     outcome: Outcome,
     body: &mut B,
 ) -> Result<Outcome, DavError>
-    ensures table { AfterChecks S.view S.File.writes credentials.now (Ok outcome)
+    ensures table { AfterChecks S.view S.File.view.writes credentials.now (Ok outcome)
         path.now (B.state body.old) fs.old result fs.new (B.state body.new) }
     ensures stays { StaysOpen S.view fs.old fs.new }
     ensures body_loan { B.loan body.new ≡ B.loan body.old }
@@ -113,7 +113,7 @@ pub fn put<S: GuardedFileSystem<C>, C, B: BodyReader>(
     fields: &HeaderMap,
     body: &mut B,
 ) -> Result<Outcome, DavError>
-    ensures table { Puts S.view S.File.writes credentials.now
+    ensures table { Puts S.view S.File.view.writes credentials.now
         path.now fields.now (B.state body.old) fs.old result fs.new (B.state body.new) }
     ensures read { IfOk result (λ _. (B.state body.new).ended ≡ true) }
     ensures stays { StaysOpen S.view fs.old fs.new }
@@ -134,7 +134,7 @@ fn put_bytes<S: GuardedFileSystem<C>, C>(
     outcome: Outcome,
     bytes: &[u8],
 ) -> Result<Outcome, DavError>
-    ensures table { AfterChecksWhole S.view S.File.writes
+    ensures table { AfterChecksWhole S.view S.File.view.writes
         credentials.now (Ok outcome) path.now bytes.now fs.old result fs.new }
     ensures stays { StaysOpen S.view fs.old fs.new }
 {
@@ -162,7 +162,8 @@ pub fn put_whole<S: GuardedFileSystem<C>, C>(
     fields: &HeaderMap,
     bytes: &[u8],
 ) -> Result<Outcome, DavError>
-    ensures table { PutsWhole S.view S.File.writes credentials.now path.now fields.now bytes.now fs.old result fs.new }
+    ensures table { PutsWhole S.view S.File.view.writes
+        credentials.now path.now fields.now bytes.now fs.old result fs.new }
     ensures stays { StaysOpen S.view fs.old fs.new }
 {
     let outcome = match judge_put(alloc, fs, credentials, path, fields) {

@@ -41,7 +41,6 @@ fn add_child<S: GuardedFileSystem<C>, C>(
     entry: &S::Entry,
     members: &mut Vec<Member>,
 ) -> Result<(), FsError>
-    requires admits { S.view.admits fs.old }
     ensures told { (said : Result Info FsError) × S.listings.says entry.now (S.view.state fs.old)
         said (S.view.state fs.new) × ((path : WebPath) → AddsChild path (S.listings.called entry.now)
         said (members_at path members.old.items) result (members_at path members.new.items)) }
@@ -64,12 +63,10 @@ fn read_to_end<S: GuardedFileSystem<C>, C>(
     dir: &mut S::Dir,
 ) -> Result<Vec<Member>, FsError>
     requires live { HasLister (S.view.state fs.old) (S.listings.lister dir.old) }
-    requires admits { S.view.admits fs.old }
     ensures reads { (path : WebPath) → MatchResult result
         (λ members. ReadsAll S.view S.listings fs.old dir.old path (members_at path members.items) fs.new dir.new)
         (λ e. ReadRefused S.view S.listings fs.old dir.old e fs.new dir.new) }
     ensures live { HasLister (S.view.state fs.new) (S.listings.lister dir.new) }
-    ensures admits { S.view.admits fs.new }
     ensures lister { S.listings.lister dir.new ≡ S.listings.lister dir.old }
     ensures keeps { KeepsButLister (S.listings.lister dir.old) (S.view.state fs.old) (S.view.state fs.new) }
     ensures loan { S.view.loan fs.new ≡ S.view.loan fs.old }
@@ -115,7 +112,6 @@ pub fn read_members<S: GuardedFileSystem<C>, C>(
     credentials: &C,
     path: &DavPath,
 ) -> Result<Vec<Member>, FsError>
-    requires admits { S.view.admits fs.old }
     ensures read { MatchResult result (λ members. HasMembers S.view
         S.listings fs.old credentials.now path.now (members_at path.now members.items) fs.new)
         (λ e. HasNoMembers S.view S.listings fs.old credentials.now path.now e fs.new) }

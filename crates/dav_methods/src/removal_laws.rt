@@ -15,7 +15,7 @@ use dav_store::GuardedFileSystem;
 /// Over a store that refuses few things a DELETE is answered 204, or with a status of a short list, where memory isn't
 /// refused; and 500 only where a fault was met.
 pub fn removals_are_listed<S: GuardedFileSystem<C>, C>()
-    ensures { (c : C) → RefusesUsually S.view S.listings S.File.writes c
+    ensures { (c : C) → RefusesUsually S.view S.listings S.File.view.writes c
         → (path : WebPath) (fields : Fields) (s t : S) (r : Given)
         → Deletes S.view S.listings c path fields s r t
         → Answers Delete S.view s r t }
@@ -25,11 +25,11 @@ pub fn removals_are_listed<S: GuardedFileSystem<C>, C>()
 /// valid run what its plan says, and is answered so: the members of a directory go before it in the order of their
 /// names; after a refusal what went before stays removed.
 pub fn removals_follow_their_plan<S: GuardedFileSystem<C>, C>()
-    ensures { (c : C) (rules : Rules) (k : Knowledge) (s : S) → Follows S.view S.listings S.File.writes c rules k s
+    ensures { (c : C) (rules : Rules) (k : Knowledge) (s : S) → Follows S.view S.listings S.File.view.writes c rules k s
         → rules.alone ≡ None
         → (path : WebPath) (fields : Fields) (body : List ℕ) (r : Given) (t : S)
         → Deletes S.view S.listings c path fields s r t
-        → Told S.view S.listings S.File.writes c s t (λ v w. IsRegular rules k v
-        → RightIn S.view S.listings S.File.writes c rules
+        → Told S.view S.listings S.File.view.writes c s t (λ v w. IsRegular rules k v
+        → RightIn S.view S.listings S.File.view.writes c rules
         (record { method = Delete; path = path; fields = fields; body = body }) s r t v w) }
 {}

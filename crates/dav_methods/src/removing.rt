@@ -53,7 +53,6 @@ fn remove_member<S: GuardedFileSystem<C>, C>(
     member: &Member,
     works: &mut VecDeque<Pending>,
 ) -> Result<(), DavError>
-    requires admits { S.view.admits fs.old }
     requires slash { path.old.slash ≡ true }
     ensures removes { (last : List Work) → RemovesOn S.view S.listings credentials.now (works_at path.old
         (Below member.now ∷ works.old.items) last) fs.old result fs.new (works_at path.new works.new.items last) }
@@ -86,7 +85,6 @@ fn remove_one<S: GuardedFileSystem<C>, C>(
     work: Pending,
     works: &mut VecDeque<Pending>,
 ) -> Result<(), DavError>
-    requires admits { S.view.admits fs.old }
     requires slash { path.old.slash ≡ true }
     ensures removes { (last : List Work) → RemovesOn S.view S.listings credentials.now (works_at
         path.old (work ∷ works.old.items) last) fs.old result fs.new (works_at path.new works.new.items last) }
@@ -113,7 +111,6 @@ fn remove_pending<S: GuardedFileSystem<C>, C>(
     path: DavPath,
     works: VecDeque<Pending>,
 ) -> Result<(), DavError>
-    requires admits { S.view.admits fs.old }
     requires slash { path.slash ≡ true }
     ensures removes { (last : List Work) → RemovesOn S.view S.listings credentials.now
         (works_at path works.items last) fs.old result fs.new last }
@@ -140,7 +137,6 @@ fn empty_dir<S: GuardedFileSystem<C>, C>(
     credentials: &C,
     path: &DavPath,
 ) -> Result<(), DavError>
-    requires admits { S.view.admits fs.old }
     ensures removes { RemovesOn S.view S.listings credentials.now (Whole path.now true ∷ []) fs.old
         result fs.new (Emptied path.now ∷ []) }
     ensures stays { StaysOpen S.view fs.old fs.new }
@@ -165,7 +161,6 @@ pub fn remove_all<S: GuardedFileSystem<C>, C>(
     path: &DavPath,
     dir: bool,
 ) -> Result<(), DavError>
-    requires admits { S.view.admits fs.old }
     ensures removes { Removes S.view S.listings credentials.now (Whole path.now dir ∷ []) fs.old result fs.new }
     ensures stays { StaysOpen S.view fs.old fs.new }
 {
@@ -187,7 +182,6 @@ fn delete_if<S: GuardedFileSystem<C>, C>(
     dir: bool,
     may: Result<(), DavError>,
 ) -> Result<Outcome, DavError>
-    requires admits { S.view.admits fs.old }
     ensures table { Next (Unless may (RemovesAll S.view S.listings credentials.now path.now dir)) fs.old result fs.new }
     ensures stays { StaysOpen S.view fs.old fs.new }
 {
@@ -219,7 +213,6 @@ pub fn delete<S: GuardedFileSystem<C>, C>(
     path: &DavPath,
     fields: &HeaderMap,
 ) -> Result<Outcome, DavError>
-    requires admits { S.view.admits fs.old }
     ensures table { Deletes S.view S.listings credentials.now path.now fields.now fs.old result fs.new }
     ensures stays { StaysOpen S.view fs.old fs.new }
 {

@@ -105,7 +105,7 @@ learns_forgets : (told : Option World) (k l m : Knowledge) → m ≡ l → Forge
 learns_forgets told k l m e f = rw e (record { open_same = f.open_same; known = λ dir time has g. inl (f.known dir time has g) })
 
 -- each step says what the memory learns by it
-step_learns : (p : Playing) (s t : Point) (x : Step) (a : Answer) (q : Playing) → Stands p s t x a q → Learns s.told p.knows q.knows
+pub step_learns : (p : Playing) (s t : Point) (x : Step) (a : Answer) (q : Playing) → Stands p s t x a q → Learns s.told p.knows q.knows
 step_learns p s t (Request request now) a q st = subst (Learns s.told p.knows) (sym (ap (λ (z : Playing). z.knows) st.gets.is)) st.learns
 step_learns p s t (Poll body) a q st = learns_same s.told p.knows q.knows (ap (λ (z : Playing). z.knows) st.gets.is)
 step_learns p s t (Abandon body) a q (quiet, same, live, gets) = learns_same s.told p.knows q.knows (ap (λ (z : Playing). z.knows) gets.is)
@@ -232,7 +232,7 @@ reads_keep (At method path) rules k fields body result s t e makes = makes
 reads_keep Methods rules k fields body result s t e makes = makes
 reads_keep (Refused status close) rules k fields body result s t e makes = makes
 
-step_keeps : (p q : Playing) (s t : Point) (x : Step) (a : Answer) → step_leaves p.rules x ≡ true → Stands p s t x a q → Leaves s t
+pub step_keeps : (p q : Playing) (s t : Point) (x : Step) (a : Answer) → step_leaves p.rules x ≡ true → Stands p s t x a q → Leaves s t
 step_keeps p q s t (Request request now) a e x = reads_keep (target_of p.rules request) p.rules p.knows (fields_of request) (body_of request) (Ok x.reply) s t e x.makes
 step_keeps p q s t (Poll body) a e x = x.leaves
 step_keeps p q s t (Abandon body) a e (quiet, same, live, gets) = same

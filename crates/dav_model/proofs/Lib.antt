@@ -18,5 +18,6 @@ pub mod WellFormedReplies
 pub mod GateStatuses
 pub mod WellFormedRuns
 pub mod NoneUnder
+pub mod StillSteps
 mod CarryPlanRows
 mod RemovalPlanRows

@@ -185,7 +185,7 @@ own_are_listed writing.Move = (refl, (refl, (refl, tt)))
 own_are_listed other = tt
 
 halt_is_listed : (method : DavMethod) (status : ℕ) → is_among status (halt_statuses method) ≡ true → IsListed status
-halt_is_listed method status e = among_all IsListed (halt_statuses method) (refl, (refl, (refl, (refl, (refl, own_are_listed method))))) status e
+halt_is_listed method status e = among_all IsListed (halt_statuses method) (refl, (refl, (refl, (refl, own_are_listed method)))) status e
 
 -- what a request that writes is answered
 write_well_formed : (method : DavMethod) (fields : Fields) (rose : Type 0) (reply : Reply) → IsWriteReply method fields rose reply → IsWellFormed reply.status reply.fields

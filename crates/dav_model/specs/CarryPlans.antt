@@ -13,7 +13,7 @@ use Rattle.dav_core.specs.Edits.{makes}
 use Rattle.dav_core.specs.Errors.{fs_error_of}
 use Rattle.dav_core.specs.Path.{Names, same_names}
 use Rattle.dav_core.specs.Statuses.{closes, fs_status, status_of}
-use Rattle.dav_core.specs.Tree.{is_dir, is_linked}
+use Rattle.dav_core.specs.Tree.{is_dir, is_linked, row_at}
 use Rattle.dav_core.specs.World.{World, bytes_of}
 use Rattle.dav_model.specs.declared.asked.Asked.{Asked}
 use Rattle.dav_model.specs.Finding.{is_forbidden, resolved}
@@ -64,9 +64,17 @@ move_acts rules w path to = unless (when (is_forbidden rules path || is_forbidde
 
 -- ---- COPY
 
--- a path that lies as far below another as a row does below a place
+-- A path that lies as far below another as a row does below a place: it ends with a slash where a directory stands. At
+-- that place it is the path as it was asked.
+abbrev pub slash_below : WebPath → Names → Row → Bool
+slash_below path [] row = path.slash
+slash_below path (name ∷ rest) row = is_dir row.kind
+
 abbrev pub path_below : WebPath → Names → Row → WebPath
-path_below path at row = record path { names = path.names ++ drop (length at) row.path; slash = is_dir row.kind }
+path_below path at row = record path {
+  names = path.names ++ drop (length at) row.path;
+  slash = slash_below path (drop (length at) row.path) row;
+}
 
 -- what clients of macOS may not make, and what of theirs no file stands for
 abbrev pub denies_copy : Rules → WebPath → WebPath → Row → Bool
@@ -113,7 +121,7 @@ carry_plan rules w ask (Ok asked) = record {
   done = status_over (stands rules w asked.to);
 }
 
--- ---- links
+-- ---- of what nothing is said
 
 -- A link stands on the way to a path, at it or below it.
 abbrev pub has_link_about : List Row → Names → Bool
@@ -124,3 +132,21 @@ abbrev pub carries_link : Rules → List Row → WebPath → Result Asked DavErr
 carries_link rules tree path (Err e) = false
 carries_link rules tree path (Ok asked) = has_link_about tree (resolved rules tree path.names)
     || has_link_about tree (resolved rules tree asked.to.names)
+
+-- a directory at one place, and at another what is none
+abbrev pub is_dir_over : Option Row → Option Row → Bool
+is_dir_over None there = false
+is_dir_over (Some row) None = false
+is_dir_over (Some row) (Some there) = is_dir row.kind && not (is_dir there.kind)
+
+-- A directory is moved to where a file stands that no look shows, since its name is hidden from clients of macOS. A store
+-- may do so by two changes, of which nothing is said.
+abbrev pub moves_over_hidden : Rules → World → WebPath → Asked → Bool
+moves_over_hidden rules w path asked = asked.moving && (not (is_found (stands rules w asked.to))
+    && is_dir_over (row_at w.tree (resolved rules w.tree path.names))
+    (row_at w.tree (resolved rules w.tree asked.to.names)))
+
+-- A request of which nothing is said.
+abbrev pub is_unsaid : Rules → World → WebPath → Result Asked DavError → Bool
+is_unsaid rules w path (Err e) = false
+is_unsaid rules w path (Ok asked) = carries_link rules w.tree path (Ok asked) || moves_over_hidden rules w path asked

@@ -24,3 +24,4 @@ pub mod Indexes
 pub mod Due
 pub mod Valid
 pub mod WellFormed
+pub mod Still

@@ -12,7 +12,7 @@ use Rattle.dav_core.specs.World.{World, SameBesidesOpens}
 use Rattle.dav_model.specs.declared.asked.Asked.{Asked}
 use Rattle.dav_model.specs.declared.target.Target.{Target}
 use Rattle.dav_model.specs.declared.target.Target.TheVariants.{At, Methods, Refused, Writes}
-use Rattle.dav_model.specs.CarryPlans.{carries_link, carry_plan}
+use Rattle.dav_model.specs.CarryPlans.{carry_plan, is_unsaid}
 use Rattle.dav_model.specs.Conditions.{Fields}
 use Rattle.dav_model.specs.Destination.{Asks}
 use Rattle.dav_model.specs.Due.{failure}
@@ -56,7 +56,7 @@ own_statuses Move = 400 ∷ 409 ∷ 412 ∷ []
 own_statuses other = []
 
 abbrev pub halt_statuses : DavMethod → List ℕ
-halt_statuses method = 403 ∷ 404 ∷ 405 ∷ 500 ∷ 501 ∷ own_statuses method
+halt_statuses method = 403 ∷ 404 ∷ 405 ∷ 500 ∷ own_statuses method
 
 -- Of the methods that write only MKCALENDAR and MKADDRESSBOOK close a connection.
 abbrev pub may_close : DavMethod → Bool
@@ -118,11 +118,11 @@ MakesIn rules ask result rose v w = meets_link ask.method v.tree (resolved rules
     → EndsAs ask.fields (plan rules v ask) result rose v w
 
 -- The fields of a COPY or a MOVE ask for something, and what it makes of a told world is what it asked for, where it
--- meets no link.
+-- meets no link, and moves no directory to where a hidden file stands.
 abbrev pub CarriesBy : Rules → Bool → Ask → Result Reply NoMemory → Type 0 → World → World → Type 0
 CarriesBy rules moving ask result rose v w = (asked : Result Asked DavError)
     × Asks moving rules.settings.prefix ask.fields asked
-    × (carries_link rules v.tree ask.path asked ≡ false
+    × (is_unsaid rules v ask.path asked ≡ false
     → EndsAs ask.fields (carry_plan rules v ask asked) result rose v w)
 
 -- (Memory may be refused before its fields were read.)
@@ -142,12 +142,12 @@ pub record ArePlain (rules : Rules) : Type 0 where
   pub macos : rules.macos ≡ false
   pub alone : rules.alone ≡ None
 
--- The rules under which it is said what a method makes. Of COPY and MOVE it is said where each path is meant as it is
--- written; of DELETE but over one file that is served alone; of the others under all rules.
+-- The rules under which it is said what a method makes. Of COPY it is said where each path is meant as it is written; of
+-- MOVE and DELETE but over one file that is served alone; of the others under all rules.
 abbrev pub IsSaidUnder : DavMethod → Rules → Type 0
 IsSaidUnder Delete rules = rules.alone ≡ None
 IsSaidUnder Copy rules = ArePlain rules
-IsSaidUnder Move rules = ArePlain rules
+IsSaidUnder Move rules = rules.alone ≡ None
 IsSaidUnder other rules = Unit {0}
 
 -- Only a request that writes changes what stands. What it makes is said of each world of a valid run, with what the

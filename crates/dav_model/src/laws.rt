@@ -4,6 +4,7 @@ ghost use Rattle.std.specs.List.{AllByRecursion};
 ghost use Rattle.dav_io.specs.Counts.{Rose};
 ghost use Rattle.dav_io.specs.declared.failure.NoMemory.{NoMemory};
 ghost use Rattle.dav_core.specs.DavPath.{WebPath};
+ghost use Rattle.dav_core.specs.World.{World};
 ghost use Rattle.dav_core.specs.declared.method.DavMethod.TheVariants.{Get, Head};
 ghost use Rattle.dav_model.specs.declared.answer.Answer.{Answer};
 ghost use Rattle.dav_model.specs.declared.settings.Settings.{Settings};
@@ -14,9 +15,10 @@ ghost use Rattle.dav_model.specs.Announced.{HasSoundBody, PolledToEnd, bytes_in,
 ghost use Rattle.dav_model.specs.Conditions.{Fields, Asked, fields_of};
 ghost use Rattle.dav_model.specs.Due.{IsHead, IsRight, Query, due, query};
 ghost use Rattle.dav_model.specs.Head.{Reply, is_well_known, refusal};
-ghost use Rattle.dav_model.specs.Play.{EachByTree, Learned, Played, PlayedOn, Playing, Plays, Stage, points_from};
+ghost use Rattle.dav_model.specs.Play.{EachByTree, Learned, Played, PlayedOn, Playing, Plays, Stage, Stands, Stepped, points_from};
 ghost use Rattle.dav_model.specs.Rules.{Rules};
 ghost use Rattle.dav_model.specs.Shown.{CouldShow, Shown};
+ghost use Rattle.dav_model.specs.Still.{Agree, Fits, StandsAs, is_quiet, knowing_at};
 ghost use Rattle.dav_model.specs.Trail.{Leaves, Move, Point, last_of, points_of, step_leaves, target_of};
 ghost use Rattle.dav_model.specs.Valid.{Valid};
 ghost use Rattle.dav_model.specs.WellFormed.{IsWellFormed, IsWellFormedAnswer, gate_statuses, is_among, right_statuses};
@@ -118,4 +120,16 @@ pub fn heads_are_gets_without_bodies()
         → IsHead (query settings fields Get path) (due shown (query settings fields Get path)) reply
         → (reply.status ≡ 412 → ⊥) → (reply.status ≡ 416 → ⊥)
         → IsHead (query settings fields Head path) (due shown (query settings fields Head path)) (bare reply) }
+{}
+
+/// Steps by a memory that others teach, over a world that stands still. A step of which what was learned is forgotten
+/// again is a step. Behind a step that writes nothing the world stands as it did. And what a step teaches agrees with
+/// what was known before it, where that fits the world.
+pub fn steps_over_a_still_world()
+    ensures forgotten { (a b : Stage) (step : Step) (answer : Answer) → Stepped a step (Ok answer) b
+        → Stepped a step (Ok answer) (knowing_at a.playing.knows b) }
+    ensures still { (w : World) (p q : Playing) (s t : Point) (step : Step) (answer : Answer)
+        → is_quiet p.rules step ≡ true → Stands p s t step answer q → StandsAs w s → StandsAs w t }
+    ensures agrees { (w : World) (p q : Playing) (s t : Point) (step : Step) (answer : Answer)
+        → Fits p.knows w → StandsAs w s → Stands p s t step answer q → Agree p.knows q.knows }
 {}

@@ -1,8 +1,8 @@
-ghost use Rattle.std.specs.Prelude.{◌≡◌, ◌<◌};
+ghost use Rattle.std.specs.Prelude.{◌≡◌, ◌<◌, IfOk};
 ghost use Rattle.dav_model.specs.Bodies.{read_size_of};
 
 use dav_core::DavMethodSet;
-use dav_io::Text;
+use dav_io::{NoMemory, Text, TryClone};
 use std::alloc::Global;
 
 /// What the owner of a server may set. What isn't set has its default.
@@ -54,5 +54,31 @@ impl Settings {
             Some(size) if size > 0 => size,
             _ => 16_384,
         }
+    }
+}
+
+impl TryClone for Settings {
+    fn try_clone(&self) -> Result<Self, NoMemory>
+        ensures { IfOk result (λ copy. copy ≡ self.now) }
+    {
+        Ok(Settings {
+            prefix: self.prefix.try_clone()?,
+            allow: self.allow,
+            principal: copied(&self.principal)?,
+            hide_symlinks: self.hide_symlinks,
+            autoindex: self.autoindex,
+            indexfile: copied(&self.indexfile)?,
+            read_buf_size: self.read_buf_size,
+            redirect: self.redirect,
+        })
+    }
+}
+
+fn copied(text: &Option<Text>) -> Result<Option<Text>, NoMemory>
+    ensures { IfOk result (λ copy. copy ≡ text.now) }
+{
+    match text {
+        Some(text) => Ok(Some(text.try_clone()?)),
+        None => Ok(None),
     }
 }

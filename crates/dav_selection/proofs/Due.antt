@@ -57,20 +57,20 @@ no_record taken path fault stands got u is met = inr (ap (given taken path) is, 
 module _ {S C F L E : Type 0} (view : View S C F) (lists : Listings S C L E) (s : S) (c : C) where
   after_kind : (b : Bool) (info : Info) (n t : S) (g : F) (got : Result Resource Unread) → Reached view lists s c n → AfterKind view b info g n got t
       → Reached view lists s c t
-  after_kind false info n t g got reached (closes, is) = by_file n t (view.handle g) reached closes.done.keeps closes.lent.store
+  after_kind false info n t g got reached (closes, is) = by_file n t (view.file.handle g) reached closes.done.keeps closes.lent.store
   after_kind true info n t g got reached (read, h, k, reads, closes, is) =
-      by_file k t (view.handle h) (by_file n k (view.handle g) reached reads.keeps reads.lent.store) closes.done.keeps closes.lent.store
+      by_file k t (view.file.handle h) (by_file n k (view.file.handle g) reached reads.keeps reads.lent.store) closes.done.keeps closes.lent.store
 
   after_meta : (said : Result Info FsError) (n t : S) (g : F) (got : Result Resource Unread) → Reached view lists s c n
       → AfterMeta view said g n got t → Reached view lists s c t
-  after_meta (Err e) n t g got reached (closes, is) = by_file n t (view.handle g) reached closes.done.keeps closes.lent.store
+  after_meta (Err e) n t g got reached (closes, is) = by_file n t (view.file.handle g) reached closes.done.keeps closes.lent.store
   after_meta (Ok info) n t g got reached after = after_kind (is_file info.kind) info n t g got reached after
 
   after_open : (opened : Result F FsError) (m t : S) (got : Result Resource Unread) → Reached view lists s c m → AfterOpen view opened m got t
       → HadMemory got → Reached view lists s c t
   after_open (Err e) m t got reached (same, is) memory = subst (Reached view lists s c) (sym same) reached
   after_open (Ok file) m t got reached (inl (said, g, n, says, after)) memory =
-      after_meta said n t g got (by_file m n (view.handle file) reached (keeps_but (view.handle file) (view.state m) (view.state n) says.done.keeps) says.lent.store) after
+      after_meta said n t g got (by_file m n (view.file.handle file) reached (keeps_but (view.file.handle file) (view.state m) (view.state n) says.done.keeps) says.lent.store) after
   after_open (Ok file) m t got reached (inr is) memory = absurd (subst HadMemory is memory)
 
   -- the calls that fetch a resource are a reader's
@@ -95,7 +95,7 @@ module _ {S C F : Type 0} (view : View S C F) (taken : List ℕ → Option (List
 
   kind_due : (b : Bool) (there : Standing) (f : Seen) (info : Info) (n t : S) (g : F) (got : Result Resource Unread) → is_file info.kind ≡ b
       → IsThere there f → AgreesOpen info f.stands
-      → seen_in view n g ≡ Some f → (is_file info.kind ≡ true → can_read ((view.state n).live (view.handle g)) ≡ true)
+      → seen_in view n g ≡ Some f → (is_file info.kind ≡ true → can_read ((view.state n).live (view.file.handle g)) ≡ true)
       → AfterKind view b info g n got t → HadMemory got
       → IsDueOr (Rose (view.state n).faults (view.state t).faults) (due taken path (Ok there)) (given taken path got)
   kind_due false there f info n t g got kind is agrees seen reads (closes, so) memory =
@@ -116,22 +116,22 @@ module _ {S C F : Type 0} (view : View S C F) (taken : List ℕ → Option (List
 
   -- the file that was opened is what stands there
   opened_due : (there : Standing) (f : Seen) (file : F) (m k t : S) (got : Result Resource Unread)
-      → OpensOne view.handle view.seen reading (view.state m) (Ok file) (view.state k)
-      → view.seen file (view.state k) ≡ Some f → IsThere there f → AfterOpen view (Ok file) k got t → HadMemory got
+      → OpensOne view.file reading (view.state m) (Ok file) (view.state k)
+      → view.file.seen file (view.state k) ≡ Some f → IsThere there f → AfterOpen view (Ok file) k got t → HadMemory got
       → IsDueOr (Rose (view.state m).faults (view.state t).faults) (due taken path (Ok there)) (given taken path got)
   opened_due there f file m k t got one seen is (inr none) memory = absurd (subst HadMemory none memory)
   opened_due there f file m k t got one seen is (inl (Err e, g, n, says, (closes, so))) memory =
-      let before : (view.state m).faults ≤ (view.state k).faults = (opening_stays view.handle view.seen (view.state m) (view.state k) (Ok file) one).counts in
+      let before : (view.state m).faults ≤ (view.state k).faults = (opening_stays view.file (view.state m) (view.state k) (Ok file) one).counts in
       let rose = says.done.refused.1 in
       no_record taken path (Rose (view.state m).faults (view.state t).faults) (Ok there) got (Unsaid e) so
       (rose_from (view.state m).faults (view.state k).faults (view.state t).faults before
       (rose_on (view.state k).faults (view.state n).faults (view.state t).faults rose (omega (arith, closes.done.counts))))
   opened_due there f file m k t got one seen is (inl (Ok info, g, n, says, after)) memory =
-      let before : (view.state m).faults ≤ (view.state k).faults = (opening_stays view.handle view.seen (view.state m) (view.state k) (Ok file) one).counts in
+      let before : (view.state m).faults ≤ (view.state k).faults = (opening_stays view.file (view.state m) (view.state k) (Ok file) one).counts in
       let on : (view.state k).faults ≤ (view.state n).faults = says.done.keeps.counts in
       let agrees : AgreesOpen info f.stands = subst (λ x. IfSome x (λ f. AgreesOpen info f.stands)) seen says.done.told in
-      let live : (view.state n).live (view.handle g) ≡ (view.state k).live (view.handle file) = ap (view.state n).live says.handle ∙ says.done.keeps.live (view.handle file) in
-      let reads = λ (kind : is_file info.kind ≡ true). ap can_read live ∙ can ((view.state k).live (view.handle file)) info.kind says.done.kind kind one.options in
+      let live : (view.state n).live (view.file.handle g) ≡ (view.state k).live (view.file.handle file) = ap (view.state n).live says.handle ∙ says.done.keeps.live (view.file.handle file) in
+      let reads = λ (kind : is_file info.kind ≡ true). ap can_read live ∙ can ((view.state k).live (view.file.handle file)) info.kind says.done.kind kind one.options in
       later (kind_due (is_file info.kind) there f info n t g got refl is agrees (says.done.same ∙ seen) reads after memory)
       (λ rose. rose_from (view.state m).faults (view.state n).faults (view.state t).faults (omega (arith, before, on)) rose)
     where
@@ -140,8 +140,8 @@ module _ {S C F : Type 0} (view : View S C F) (taken : List ℕ → Option (List
       later (inr (none, fault)) up = inr (none, up fault)
 
   there_due : (stands : Result Standing FsError) (opened : Result F FsError) (m k t : S) (got : Result Resource Unread)
-      → OpensOne view.handle view.seen reading (view.state m) opened (view.state k)
-      → OpensThere view.seen stands opened (view.state k) → AfterOpen view opened k got t → HadMemory got
+      → OpensOne view.file reading (view.state m) opened (view.state k)
+      → OpensThere view.file.seen stands opened (view.state k) → AfterOpen view opened k got t → HadMemory got
       → IsDueOr (Rose (view.state m).faults (view.state t).faults) (due taken path stands) (given taken path got)
   there_due (Ok there) (Ok file) m k t got one (f, seen, is) after memory = opened_due there f file m k t got one seen is after memory
   there_due (Ok there) (Err e) m k t got one shown after memory = absurd shown
@@ -149,8 +149,8 @@ module _ {S C F : Type 0} (view : View S C F) (taken : List ℕ → Option (List
   there_due (Err e) (Err x) m k t got one shown after memory = inl (ap (given taken path) after.1)
 
   pub answer_due : (stands : Result Standing FsError) (opened : Result F FsError) (m k t : S) (got : Result Resource Unread)
-      → OpensOne view.handle view.seen reading (view.state m) opened (view.state k)
-      → OpensThere view.seen stands opened (view.state k) ⊎ Spoiled (view.state m) opened (view.state k) → AfterOpen view opened k got t
+      → OpensOne view.file reading (view.state m) opened (view.state k)
+      → OpensThere view.file.seen stands opened (view.state k) ⊎ Spoiled (view.state m) opened (view.state k) → AfterOpen view opened k got t
       → HadMemory got
       → IsDueOr (Rose (view.state m).faults (view.state t).faults) (due taken path stands) (given taken path got)
   answer_due stands opened m k t got one (inl shown) after memory = there_due stands opened m k t got one shown after memory
@@ -181,7 +181,7 @@ module _ {S C F : Type 0} (view : View S C F) (taken : List ℕ → Option (List
   fetch_refused c m t e got is (Err x, k, opens, one, (same, so)) = absurd (no_said x e (cc))
   fetch_refused c m t e got is (Ok file, k, opens, one, inr none) = cc
   fetch_refused c m t e got is (Ok file, k, opens, one, inl (said, g, n, says, after)) =
-      let before : (view.state m).faults ≤ (view.state k).faults = (opening_stays view.handle view.seen (view.state m) (view.state k) (Ok file) one).counts in
+      let before : (view.state m).faults ≤ (view.state k).faults = (opening_stays view.file (view.state m) (view.state k) (Ok file) one).counts in
       let refused = said_refused said g k n t e got is after says.done.refused in
       (refused.0, rose_from (view.state m).faults (view.state k).faults (view.state t).faults before refused.1)
 

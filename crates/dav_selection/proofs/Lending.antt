@@ -39,7 +39,7 @@ all_there len rest bytes front within le none =
 module _ {S C F : Type 0} (view : View S C F) where
   pub touches_same : (s : S) (file : F) → view.lends s s → Touches view s file s file
   touches_same s file same = record {
-    keeps = keeps_but (view.handle file) (view.state s) (view.state s) (keeps_same (view.state s));
+    keeps = keeps_but (view.file.handle file) (view.state s) (view.state s) (keeps_same (view.state s));
     live = refl;
     handle = refl;
     lent = record { store = same; loan = refl };
@@ -48,24 +48,24 @@ module _ {S C F : Type 0} (view : View S C F) where
   pub touches_then : ((a b c : S) → view.lends a b → view.lends b c → view.lends a c) → (s m t : S) (file g h : F) → Touches view s file m g
       → Touches view m g t h → Touches view s file t h
   touches_then then s m t file g h p q = record {
-    keeps = but_then (view.handle file) (view.state s) (view.state m) (view.state t) p.keeps (subst (λ n. KeepsBut n (view.state m) (view.state t)) p.handle q.keeps);
+    keeps = but_then (view.file.handle file) (view.state s) (view.state m) (view.state t) p.keeps (subst (λ n. KeepsBut n (view.state m) (view.state t)) p.handle q.keeps);
     live = subst (λ n. (view.state t).live n ≡ (view.state m).live n) p.handle q.live ∙ p.live;
     handle = q.handle ∙ p.handle;
     lent = record { store = then s m t p.lent.store q.lent.store; loan = q.lent.loan ∙ p.lent.loan };
   }
 
   pub closes_then : ((a b c : S) → view.lends a b → view.lends b c → view.lends a c) → (s m t : S) (file g : F) → Touches view s file m g
-      → Closes view m g t → ClosesAfter view (view.handle file) s t
+      → Closes view m g t → ClosesAfter view (view.file.handle file) s t
   closes_then then s m t file g p q = record {
-    keeps = but_then (view.handle file) (view.state s) (view.state m) (view.state t) p.keeps (subst (λ n. KeepsBut n (view.state m) (view.state t)) p.handle q.done.keeps);
+    keeps = but_then (view.file.handle file) (view.state s) (view.state m) (view.state t) p.keeps (subst (λ n. KeepsBut n (view.state m) (view.state t)) p.handle q.done.keeps);
     live = subst (λ n. (view.state t).live n ≡ None) p.handle q.done.live;
     lent = record { store = then s m t p.lent.store q.lent.store; loan = q.lent.loan ∙ p.lent.loan };
   }
 
   pub closes_before : ((a b c : S) → view.lends a b → view.lends b c → view.lends a c) → (s m t : S) (file g : F) → Touches view s file m g
-      → ClosesAfter view (view.handle g) m t → ClosesAfter view (view.handle file) s t
+      → ClosesAfter view (view.file.handle g) m t → ClosesAfter view (view.file.handle file) s t
   closes_before then s m t file g p q = record {
-    keeps = but_then (view.handle file) (view.state s) (view.state m) (view.state t) p.keeps (subst (λ n. KeepsBut n (view.state m) (view.state t)) p.handle q.keeps);
+    keeps = but_then (view.file.handle file) (view.state s) (view.state m) (view.state t) p.keeps (subst (λ n. KeepsBut n (view.state m) (view.state t)) p.handle q.keeps);
     live = subst (λ n. (view.state t).live n ≡ None) p.handle q.live;
     lent = record { store = then s m t p.lent.store q.lent.store; loan = q.lent.loan ∙ p.lent.loan };
   }
@@ -96,8 +96,8 @@ module _ {S C F : Type 0} (view : View S C F) where
 
   pub said_touches : (s m : S) (file g : F) (said : Result Info FsError) → Says view s file said m g → Touches view s file m g
   said_touches s m file g said says = record {
-    keeps = keeps_but (view.handle file) (view.state s) (view.state m) says.done.keeps;
-    live = says.done.keeps.live (view.handle file);
+    keeps = keeps_but (view.file.handle file) (view.state s) (view.state m) says.done.keeps;
+    live = says.done.keeps.live (view.file.handle file);
     handle = says.handle;
     lent = says.lent;
   }
@@ -105,7 +105,7 @@ module _ {S C F : Type 0} (view : View S C F) where
   -- a read was refused
   pub stops_after : ((a b c : S) → view.lends a b → view.lends b c → view.lends a c) → (s m t : S) (file g h : F) (len : ℕ) (e : FsError)
       → Touches view s file m g → Touches view m g t h
-      → (can_read ((view.state m).live (view.handle g)) ≡ true → Spoiled {T = ℕ} (view.state m) (Err e) (view.state t))
+      → (can_read ((view.state m).live (view.file.handle g)) ≡ true → Spoiled {T = ℕ} (view.state m) (Err e) (view.state t))
       → ReadsTo view s file len (Err e) t h
   stops_after then s m t file g h len e p q refused =
       let all = touches_then then s m t file g h p q in

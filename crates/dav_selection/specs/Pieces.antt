@@ -16,9 +16,9 @@ module _ {S C F : Type 0} (view : View S C F) where
 
   -- what a read does besides giving bytes
   pub record Touches (s : S) (file : F) (t : S) (after : F) : Type 0 where
-    pub keeps : KeepsBut (view.handle file) (view.state s) (view.state t)
-    pub live : (view.state t).live (view.handle file) ≡ (view.state s).live (view.handle file)
-    pub handle : view.handle after ≡ view.handle file
+    pub keeps : KeepsBut (view.file.handle file) (view.state s) (view.state t)
+    pub live : (view.state t).live (view.file.handle file) ≡ (view.state s).live (view.file.handle file)
+    pub handle : view.file.handle after ≡ view.file.handle file
     pub lent : Lent view s t
 
   -- The file in hand was closed, and nothing else changed.

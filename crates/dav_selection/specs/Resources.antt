@@ -33,11 +33,11 @@ content_of info (Err e) = Err (unread e)
 module _ {S C F : Type 0} (view : View S C F) where
   -- The file was read from its place on, to so many bytes or its end.
   pub record ReadsTo (s : S) (file : F) (len : ℕ) (result : Result (List ℕ) FsError) (t : S) (after : F) : Type 0 where
-    pub keeps : KeepsBut (view.handle file) (view.state s) (view.state t)
-    pub live : (view.state t).live (view.handle file) ≡ (view.state s).live (view.handle file)
-    pub handle : view.handle after ≡ view.handle file
+    pub keeps : KeepsBut (view.file.handle file) (view.state s) (view.state t)
+    pub live : (view.state t).live (view.file.handle file) ≡ (view.state s).live (view.file.handle file)
+    pub handle : view.file.handle after ≡ view.file.handle file
     pub lent : Lent view s t
-    pub refused : can_read ((view.state s).live (view.handle file)) ≡ true
+    pub refused : can_read ((view.state s).live (view.file.handle file)) ≡ true
         → OnErr result (Spoiled (view.state s) result (view.state t))
     pub within : IfOk result (λ bytes. length bytes ≤ len)
     pub told : (f : Seen) → seen_in view s file ≡ Some f → IfOk result (λ bytes. bytes ≡ take len (rest_of f))
@@ -61,4 +61,4 @@ module _ {S C F : Type 0} (view : View S C F) where
   -- The resource at a path was opened and read.
   abbrev pub Fetches : C → WebPath → S → Result Resource Unread → S → Type 0
   Fetches c path s result t = (opened : Result F FsError) × (m : S) × view.opens s c path reading opened m
-      × OpensOne view.handle view.seen reading (view.state s) opened (view.state m) × AfterOpen opened m result t
+      × OpensOne view.file reading (view.state s) opened (view.state m) × AfterOpen opened m result t

@@ -27,7 +27,6 @@ pub fn addressbook_report<S: GuardedFileSystem<C>, C>(
     fs: &mut S,
     credentials: &C,
 ) -> Result<Report, ReportError>
-    requires admits { S.view.admits fs.old }
     ensures { Selects S.view S.listings credentials.now
         (address_selection path.now prefix.now (report_asked root.now)) fs.old result fs.new }
 {

@@ -25,15 +25,17 @@ fn read_piece<S: GuardedFileSystem<C>, C>(
     buffer: &mut [u8],
     bytes: &mut Vec<u8>,
 ) -> Result<usize, FsError>
-    requires live { IsSome ((S.view.state fs.old).live (S.view.handle file.old)) }
+    requires live { IsSome ((S.view.state fs.old).live (S.view.file.handle file.old)) }
+    requires reads_from { S.view.file.reads_from file.old (S.view.state fs.old) }
     requires some { 0 < left }
     requires room { 0 < length buffer.old }
     ensures touches { Touches S.view fs.old file.old fs.new file.new }
-    ensures refused { can_read ((S.view.state fs.old).live (S.view.handle file.old)) ≡ true
+    ensures reads_from { S.view.file.reads_from file.new (S.view.state fs.new) }
+    ensures refused { can_read ((S.view.state fs.old).live (S.view.file.handle file.old)) ≡ true
         → OnErr result (Spoiled (S.view.state fs.old) result (S.view.state fs.new)) }
     ensures within { IfOk result (λ n. n ≤ left) }
     ensures len { IfOk result (λ n. length bytes.new.items ≡ length bytes.old.items + n) }
-    ensures told { (f : Seen) → S.view.seen file.old (S.view.state fs.old) ≡ Some f
+    ensures told { (f : Seen) → S.view.file.seen file.old (S.view.state fs.old) ≡ Some f
         → Appends S.view f bytes.old.items result bytes.new.items fs.new file.new }
 {
     let most = left.min(buffer.len() as u64) as usize;
@@ -54,7 +56,8 @@ fn read_to<S: GuardedFileSystem<C>, C>(
     file: &mut S::File,
     len: u64,
 ) -> Result<Octets, FsError>
-    requires live { IsSome ((S.view.state fs.old).live (S.view.handle file.old)) }
+    requires live { IsSome ((S.view.state fs.old).live (S.view.file.handle file.old)) }
+    requires reads_from { S.view.file.reads_from file.old (S.view.state fs.old) }
     ensures { ReadsTo S.view fs.old file.old len result fs.new file.new }
 {
     let mut bytes = Vec::new(alloc);
@@ -110,10 +113,11 @@ fn read_content<S: GuardedFileSystem<C>, C>(
     file: S::File,
     meta: &S::Meta,
 ) -> Result<Resource, Unread>
-    requires live { IsSome ((S.view.state fs.old).live (S.view.handle file)) }
+    requires live { IsSome ((S.view.state fs.old).live (S.view.file.handle file)) }
+    requires reads_from { S.view.file.reads_from file (S.view.state fs.old) }
     ensures table { AfterMeta S.view (Ok (S.Meta.info meta.now)) file fs.old result fs.new
         ⊎ (result ≡ Err Unread.NoMemory) }
-    ensures closed { ClosesAfter S.view (S.view.handle file) fs.old fs.new }
+    ensures closed { ClosesAfter S.view (S.view.file.handle file) fs.old fs.new }
 {
     if !meta.is_file() {
         file_close(fs, file);
@@ -131,9 +135,10 @@ fn read_file<S: GuardedFileSystem<C>, C>(
     fs: &mut S,
     file: S::File,
 ) -> Result<Resource, Unread>
-    requires live { IsSome ((S.view.state fs.old).live (S.view.handle file)) }
+    requires live { IsSome ((S.view.state fs.old).live (S.view.file.handle file)) }
+    requires reads_from { S.view.file.reads_from file (S.view.state fs.old) }
     ensures table { AfterOpen S.view (Ok file) fs.old result fs.new }
-    ensures closed { ClosesAfter S.view (S.view.handle file) fs.old fs.new }
+    ensures closed { ClosesAfter S.view (S.view.file.handle file) fs.old fs.new }
 {
     let mut file = file;
     match file_metadata(fs, &mut file) {

@@ -10,7 +10,7 @@ ghost use Rattle.dav_selection.specs.Shown.{ShowsFor};
 ghost use Rattle.dav_selection.specs.Told.{IsOf, MeetsNoLink, TellsTheTree, selection_of, stock_of};
 
 use crate::{addressbook_report, calendar_report};
-use dav_cache::RememberAny;
+use dav_cache::Remember;
 use dav_core::{DavPath, Disk};
 use dav_local::LocalFs;
 use dav_local_laws::local_stores_show_the_tree;
@@ -21,7 +21,7 @@ use std::alloc::Global;
 
 /// Where the disk tells its world, each path is meant as it is written and no link is met, the store shows a selection
 /// what stands in the world; a query is one of the directory at the path. A law: the call does nothing.
-pub fn shows_the_tree<D: Disk, R: RememberAny>(_fs: &LocalFs<D, R>, _path: &DavPath)
+pub fn shows_the_tree<D: Disk, R: Remember>(_fs: &LocalFs<D, R>, _path: &DavPath)
     ensures { (w : World) → (D.state _fs.now.disk).told ≡ Some w → _fs.now.ways ≡ plain_ways → (q : Selection)
         → IsOf _path.now q → MeetsNoLink w q
         → ShowsFor ⟦<LocalFs<D, R> as DavFileSystem>⟧.view ⟦<LocalFs<D, R> as DavFileSystem>⟧.listings _fs.now tt
@@ -41,7 +41,7 @@ pub enum ReportKind {
 
 /// A report over a local store: where its disk tells its world, each path is meant as it is written and no link is met,
 /// it is the report of what stands in that world, or may stand in its place where a fault was met.
-pub fn local_report<D: Disk, R: RememberAny>(
+pub fn local_report<D: Disk, R: Remember>(
     alloc: Global,
     kind: ReportKind,
     root: &Element,

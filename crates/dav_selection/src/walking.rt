@@ -93,7 +93,6 @@ fn walk<S: GuardedFileSystem<C>, C>(
     members: &[Member],
 ) -> Result<Records, ReportError>
     requires plain { AllByRecursion IsNamedPlain members.now }
-    requires admits { S.view.admits fs.old }
     ensures table { Selects S.view credentials.now (sought dir.now limit wanted.entry) members.now fs.old result fs.new
         ⊎ (result ≡ Err ReportError.NoMemory) }
     ensures stays { Stays S.view fs.old fs.new }
@@ -140,7 +139,6 @@ pub(crate) fn query_dir<S: GuardedFileSystem<C>, C>(
     wanted: Wanted<'_>,
     limit: Option<u32>,
 ) -> Result<Records, ReportError>
-    requires admits { S.view.admits fs.old }
     ensures table { Queries S.view S.listings credentials.now (sought dir.now limit wanted.entry) fs.old result fs.new
         ⊎ (result ≡ Err ReportError.NoMemory) }
     ensures shown { (stock : Stock) → ShowsDir S.view S.listings fs.old credentials.now stock dir.now

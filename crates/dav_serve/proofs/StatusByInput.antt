@@ -1,6 +1,6 @@
 -- With which status a run ends where no fault ends it.
 use Rattle.dav_model.specs.Play.{Stage}
-use Rattle.std.proofs.Common.{◌≡◌, ◌<◌, ◌+◌, ◌^◌, ◌++◌, ◌||◌, ◌⊎◌, ℕ, zero, suc, List, [], ◌∷◌, Bool, true, false, IsTrue, Option, Some, None, length, get_or, sym, ap, subst, ◌∙◌, refl, inl, inr, arith, append-nil, length-append, true≢false}
+use Rattle.std.proofs.Common.{◌≡◌, ◌≤◌, ◌<◌, ◌+◌, ◌^◌, ◌++◌, ◌||◌, ◌⊎◌, ℕ, zero, suc, List, [], ◌∷◌, Bool, true, false, IsTrue, Option, Some, None, length, get_or, sym, ap, subst, ◌∙◌, refl, inl, inr, arith, append-nil, length-append, true≢false}
 use Rattle.std.specs.List.{AllByRecursion}
 use Rattle.std.proofs.lemmas.Str.{IsUtf8-from_ascii}
 use Rattle.httparse.specs.Grammar.{is_token_byte, is_uri_byte, lf, RequestHead, IsRequestHead, print_request, ReadsRequest}
@@ -19,7 +19,8 @@ use Rattle.dav_serve.specs.declared.ending.Ending.TheVariants.{Over, Closed, Ref
 use Rattle.dav_serve.specs.Exchange.{Exchange, is_closed}
 use Rattle.dav_serve.specs.Serving.{Setup, Chain, Alike, IsOpen, ServedAll, ServedClosing, ServedRefusing, ServedUnfinished, EndsBy, ready, status_of}
 use Rattle.dav_serve.specs.Stages.{Outside}
-use Rattle.dav_serve.specs.Completing.{Faultless, Closes, LastByHead, IsLeft, IsValid, IsInvalid, IsStopped, StatusIs}
+use Rattle.dav_serve.specs.Completing.{Faultless, Closes, ClosesStill, LastByHead, IsLeft, IsValid, IsValidStill, IsInvalid, IsInvalidStill, IsStopped, StatusIs}
+use Rattle.dav_serve.proofs.Progress.{chain_counts}
 use Rattle.dav_serve.proofs.RequestsAreSome.{head_some, request_shorter}
 use Rattle.dav_wire.proofs.MessageLemmas.{message_is_one, message_refusal_has_none, unfinished_message_none, messages_are_one, end_has_no_message}
 
@@ -100,28 +101,42 @@ record Front (setup : Setup) (a : Stage) (messages : List Message) : Type 0 wher
   are_open : AllByRecursion IsOpen exchanges
 
 front_of : (setup : Setup) (a b : Stage) (messages more : List Message) (xs : List Exchange) → Chain setup.rules a xs b → Alike setup (messages ++ more) xs → AllByRecursion IsOpen xs
-    → Front setup a messages
-front_of setup a b [] more xs chain alike o = record { exchanges = []; last = a; played = refl; alike = tt; are_open = tt }
+    → (f : Front setup a messages) × (f.last.at.faults ≤ b.at.faults)
+front_of setup a b [] more xs chain alike o = (record { exchanges = []; last = a; played = refl; alike = tt; are_open = tt }, chain_counts setup.rules a b xs chain)
 front_of setup a b (message ∷ messages) more [] chain alike o = absurd alike
 front_of setup a b (message ∷ messages) more (x ∷ xs) (m, played, chain) (is, alike) (first, others) =
-    let f = front_of setup (ready setup.rules m.playing.knows m.at) b messages more xs chain alike others in
-    record { exchanges = x ∷ f.exchanges; last = f.last; played = (m, played, f.played); alike = (is, f.alike); are_open = (first, f.are_open) }
+    let (f, counts) = front_of setup (ready setup.rules m.playing.knows m.at) b messages more xs chain alike others in
+    (record { exchanges = x ∷ f.exchanges; last = f.last; played = (m, played, f.played); alike = (is, f.alike); are_open = (first, f.are_open) }, counts)
 
 nothing_more : (rest left : List ℕ) (more : List Message) → rest ≡ [] → Messages rest more left → left ≡ []
 nothing_more rest left [] e r = r ∙ e
 nothing_more rest left (message ∷ more) e (after, is, later) = absurd (end_has_no_message message after (subst (λ z. IsMessage z message after) e is))
 
+-- No exchanges answer these requests and leave the connection open, at whose end the disk has so many faults at most.
+abbrev NoFront : Setup → Point → ℕ → List Message → Type 0
+NoFront setup s most messages = (f : Front setup (ready setup.rules setup.knows s) messages) → f.last.at.faults ≤ most → ⊥
+
+-- a valid input, by what holds of a disk that has so many faults at most
+record ValidTo (setup : Setup) (s : Point) (most : ℕ) (bytes : List ℕ) : Type 0 where
+  messages : List Message
+  rest : List ℕ
+  requests : Messages bytes messages rest
+  ends : (rest ≡ []) ⊎ NoFront setup s most messages
+
 -- a valid input has no place where no request stands
-no_place : (setup : Setup) (s : Point) (last : Stage) (a rest left : List ℕ) (messages others : List Message) (xs : List Exchange) → Messages a messages rest
-    → (rest ≡ []) ⊎ Closes setup s messages → Messages a others left → HasNoMessage left → (left ≡ [] → ⊥) → Chain setup.rules (ready setup.rules setup.knows s) xs last → Alike setup others xs
+no_place : (setup : Setup) (s : Point) (last : Stage) (a left : List ℕ) (others : List Message) (xs : List Exchange) → ValidTo setup s last.at.faults a
+    → Messages a others left → HasNoMessage left → (left ≡ [] → ⊥) → Chain setup.rules (ready setup.rules setup.knows s) xs last → Alike setup others xs
     → AllByRecursion IsOpen xs → ⊥
-no_place setup s last a rest left messages others xs first (inl over) second none some chain alike o =
-    let c = compare a rest left messages others first second none in
-    some (nothing_more rest left c.0 over c.2)
-no_place setup s last a rest left messages others xs first (inr closes) second none some chain alike o =
-    let c = compare a rest left messages others first second none in
-    let f = front_of setup (ready setup.rules setup.knows s) last messages c.0 xs chain (subst (λ z. Alike setup z xs) c.1 alike) o in
-    closes f.exchanges f.last f.played f.alike f.are_open
+no_place setup s last a left others xs v second none some chain alike o = by_end v.ends
+  where
+    by_end : (v.rest ≡ []) ⊎ NoFront setup s last.at.faults v.messages → ⊥
+    by_end (inl over) =
+        let c = compare a v.rest left v.messages others v.requests second none in
+        some (nothing_more v.rest left c.0 over c.2)
+    by_end (inr closes) =
+        let c = compare a v.rest left v.messages others v.requests second none in
+        let f = front_of setup (ready setup.rules setup.knows s) last v.messages c.0 xs chain (subst (λ z. Alike setup z xs) c.1 alike) o in
+        closes f.0 f.1
 
 both_and : {A : Type 0} (old new : Option A) (P Q : A → A → Type 0) → Both old new P → Both old new Q → Both old new (λ a b. P a b × Q a b)
 both_and None None P Q p q = tt
@@ -152,23 +167,74 @@ asked_closes setup s messages last asks xs b chain alike o = asks_closes setup (
 left_valid : (setup : Setup) (s : Point) (a : List ℕ) → IsLeft a → IsValid setup s a
 left_valid setup s a left = record { messages = left.messages ++ left.last ∷ []; rest = left.rest; requests = left.requests; ends = inr (asked_closes setup s left.messages left.last left.asks) }
 
+-- the count of a disk that refused nothing to here, at a front of what was played
+still_front : (setup : Setup) (s : Point) (most : ℕ) (messages : List Message) → RefusedNothing s.faults most → (f : Front setup (ready setup.rules setup.knows s) messages)
+    → f.last.at.faults ≤ most → RefusedNothing s.faults f.last.at.faults
+still_front setup s most messages still f le =
+    let more : s.faults ≤ f.last.at.faults = chain_counts setup.rules (ready setup.rules setup.knows s) f.last f.exchanges f.played in
+    record { same = omega (arith, more, le, still.same); room = omega (arith, le, still.room) }
+
+valid_to : (setup : Setup) (s : Point) (most : ℕ) (a : List ℕ) → IsValid setup s a → ValidTo setup s most a
+valid_to setup s most a v = record { messages = v.messages; rest = v.rest; requests = v.requests; ends = by_end v.ends }
+  where
+    by_end : (v.rest ≡ []) ⊎ Closes setup s v.messages → (v.rest ≡ []) ⊎ NoFront setup s most v.messages
+    by_end (inl over) = inl over
+    by_end (inr closes) = inr (λ f le. closes f.exchanges f.last f.played f.alike f.are_open)
+
+still_valid_to : (setup : Setup) (s : Point) (most : ℕ) (a : List ℕ) → RefusedNothing s.faults most → IsValidStill setup s a → ValidTo setup s most a
+still_valid_to setup s most a still v = record { messages = v.messages; rest = v.rest; requests = v.requests; ends = by_end v.ends }
+  where
+    by_end : (v.rest ≡ []) ⊎ ClosesStill setup s v.messages → (v.rest ≡ []) ⊎ NoFront setup s most v.messages
+    by_end (inl over) = inl over
+    by_end (inr closes) = inr (λ f le. closes f.exchanges f.last f.played (still_front setup s most v.messages still f le) f.alike f.are_open)
+
+-- behind these requests, of which exchanges leave the connection open, bytes stand that are no request
+record InvalidTo (setup : Setup) (s : Point) (most : ℕ) (bytes : List ℕ) : Type 0 where
+  messages : List Message
+  rest : List ℕ
+  requests : Messages bytes messages rest
+  some : 0 < length rest
+  none : HasNoMessage rest
+  stay : (front back : List Message) → messages ≡ front ++ back → (xs : List Exchange) (last : Stage)
+      → Chain setup.rules (ready setup.rules setup.knows s) xs last → last.at.faults ≡ most → Alike setup front xs → AllByRecursion IsOpen xs
+
+invalid_to : (setup : Setup) (s : Point) (most : ℕ) (a : List ℕ) → IsInvalid setup s a → InvalidTo setup s most a
+invalid_to setup s most a v = record {
+  messages = v.messages;
+  rest = v.rest;
+  requests = v.requests;
+  some = v.some;
+  none = v.none;
+  stay = λ front back e xs last chain at alike. v.stay front back e xs last chain alike;
+}
+
+still_invalid_to : (setup : Setup) (s : Point) (most : ℕ) (a : List ℕ) → RefusedNothing s.faults most → IsInvalidStill setup s a → InvalidTo setup s most a
+still_invalid_to setup s most a still v = record {
+  messages = v.messages;
+  rest = v.rest;
+  requests = v.requests;
+  some = v.some;
+  none = v.none;
+  stay = λ front back e xs last chain at alike. v.stay front back e xs last chain (subst (λ n. RefusedNothing s.faults n) (sym at) still) alike;
+}
+
 module _ (setup : Setup) (before after : Outside) (a : List ℕ) (told : before.source.bytes ≡ Some a) where
-  valid_not_refused : IsValid setup before.disk a → ServedRefusing setup before after → ⊥
+  valid_not_refused : ValidTo setup before.disk after.disk.faults a → ServedRefusing setup before after → ⊥
   valid_not_refused valid v =
       let both = told_after before.source.bytes after.source.bytes _ a (both_and before.source.bytes after.source.bytes _ _ v.serving.requests v.refused) told in
       let left = v.held ++ both.0 in
-      no_place setup before.disk _ a valid.rest left valid.messages v.serving.messages v.exchanges valid.requests valid.ends both.2.0
+      no_place setup before.disk _ a left v.serving.messages v.exchanges valid both.2.0
       (subst HasNoMessage (append-nil left) (message_refusal_has_none left [] v.flaw both.2.1)) (λ e. nothing_owed left v.flaw e both.2.1) v.serving.played v.serving.alike v.serving.follow
 
-  valid_not_unfinished : IsValid setup before.disk a → ServedUnfinished setup before after → ⊥
+  valid_not_unfinished : ValidTo setup before.disk after.disk.faults a → ServedUnfinished setup before after → ⊥
   valid_not_unfinished valid v =
       let both = told_after before.source.bytes after.source.bytes _ a (both_and before.source.bytes after.source.bytes _ _ v.serving.requests v.over) told in
       let left = v.held ++ both.0 in
       let same : left ≡ v.held = ap (λ z. v.held ++ z) both.2.1 ∙ append-nil v.held in
-      no_place setup before.disk _ a valid.rest left valid.messages v.serving.messages v.exchanges valid.requests valid.ends both.2.0
+      no_place setup before.disk _ a left v.serving.messages v.exchanges valid both.2.0
       (subst HasNoMessage (sym same) (unfinished_message_none v.held v.unfinished)) (some_left v.held both.0 (unfinished_some v.held v.unfinished)) v.serving.played v.serving.alike v.serving.follow
 
-  invalid_not_all : IsInvalid setup before.disk a → ServedAll setup before after → ⊥
+  invalid_not_all : InvalidTo setup before.disk after.disk.faults a → ServedAll setup before after → ⊥
   invalid_not_all invalid v =
       let both = told_after before.source.bytes after.source.bytes _ a (both_and before.source.bytes after.source.bytes _ _ v.serving.requests v.over) told in
       let ends : Messages a v.serving.messages [] = subst (λ z. Messages a v.serving.messages z) both.2.1 both.2.0 in
@@ -181,11 +247,11 @@ module _ (setup : Setup) (before after : Outside) (a : List ℕ) (told : before.
   last_open [] y o = o.0
   last_open (x ∷ ys) y o = last_open ys y o.1
 
-  invalid_not_closing : IsInvalid setup before.disk a → ServedClosing setup before after → ⊥
+  invalid_not_closing : InvalidTo setup before.disk after.disk.faults a → ServedClosing setup before after → ⊥
   invalid_not_closing invalid v =
       let both = told_after before.source.bytes after.source.bytes _ a v.serving.requests told in
       let c = compare a (v.held ++ both.0) invalid.rest v.serving.messages invalid.messages both.2 invalid.requests invalid.none in
-      let o = invalid.stay v.serving.messages c.0 c.1 v.exchanges _ v.serving.played v.serving.alike in
+      let o = invalid.stay v.serving.messages c.0 c.1 v.exchanges _ v.serving.played refl v.serving.alike in
       let (ys, y, are, others, closed) = v.serving.follow in
       absurd (true≢false (sym closed ∙ last_open ys y (subst (λ z. AllByRecursion IsOpen z) are o)))
 
@@ -205,7 +271,7 @@ not_stopped n (inr six) (inr (inr (inr seven))) = absurd (omega arith)
 
 -- by the end
 module _ (setup : Setup) (before after : Outside) (a : List ℕ) (told : before.source.bytes ≡ Some a) where
-  valid_by : (end : Ending) → EndsBy setup before after end → IsValid setup before.disk a → (status_of end ≡ 0) ⊎ IsStopped (status_of end)
+  valid_by : (end : Ending) → EndsBy setup before after end → ValidTo setup before.disk after.disk.faults a → (status_of end ≡ 0) ⊎ IsStopped (status_of end)
   valid_by Over v valid = inl refl
   valid_by Closed v valid = inl refl
   valid_by SourceFailed v valid = inr (inl refl)
@@ -215,7 +281,7 @@ module _ (setup : Setup) (before after : Outside) (a : List ℕ) (told : before.
   valid_by Refused v valid = absurd (valid_not_refused setup before after a told valid v)
   valid_by Unfinished v valid = absurd (valid_not_unfinished setup before after a told valid v)
 
-  invalid_by : (end : Ending) → EndsBy setup before after end → IsInvalid setup before.disk a → (status_of end ≡ 6) ⊎ IsStopped (status_of end)
+  invalid_by : (end : Ending) → EndsBy setup before after end → InvalidTo setup before.disk after.disk.faults a → (status_of end ≡ 6) ⊎ IsStopped (status_of end)
   invalid_by Over v invalid = absurd (invalid_not_all setup before after a told invalid v)
   invalid_by Closed v invalid = absurd (invalid_not_closing setup before after a told invalid v)
   invalid_by SourceFailed v invalid = inr (inl refl)
@@ -240,12 +306,47 @@ module _ (setup : Setup) (before after : Outside) (a : List ℕ) (told : before.
 
 status_by : (setup : Setup) (before after : Outside) (end : Ending) → EndsBy setup before after end → StatusIs setup before after (status_of end)
 status_by setup before after end v = record {
-  valid = λ a told valid. valid_by setup before after a told end v valid;
-  left = λ a told left. valid_by setup before after a told end v (left_valid setup before.disk a left);
-  invalid = λ a told invalid. invalid_by setup before after a told end v invalid;
+  valid = λ a told valid. valid_by setup before after a told end v (valid_to setup before.disk after.disk.faults a valid);
+  left = λ a told left. valid_by setup before after a told end v (valid_to setup before.disk after.disk.faults a (left_valid setup before.disk a left));
+  invalid = λ a told invalid. invalid_by setup before after a told end v (invalid_to setup before.disk after.disk.faults a invalid);
+  valid_still = λ a told still valid. valid_by setup before after a told end v (still_valid_to setup before.disk after.disk.faults a still valid);
+  invalid_still = λ a told still invalid. invalid_by setup before after a told end v (still_invalid_to setup before.disk after.disk.faults a still invalid);
   goes_on = λ a told few well stopped. stopped_by setup before after a told end v few well stopped;
 }
 
 -- by the end of a run
 pub completes : (setup : Setup) (before after : Outside) (status : ℕ) (end : Ending) → status ≡ status_of end → EndsBy setup before after end → StatusIs setup before after status
 completes setup before after status end same v = subst (λ z. StatusIs setup before after z) (sym same) (status_by setup before after end v)
+
+-- ---- completeness
+
+none_stops : (setup : Setup) (before after : Outside) (status wanted : ℕ) (bytes : List ℕ) → StatusIs setup before after status → before.source.bytes ≡ Some bytes → length bytes < 2 ^ 60
+    → Faultless before after → (status ≡ wanted) ⊎ IsStopped status → status ≡ wanted
+none_stops setup before after status wanted bytes by told few well (inl is) = is
+none_stops setup before after status wanted bytes by told few well (inr stopped) = absurd (by.goes_on bytes told few well stopped)
+
+-- with no fault the status is told by the input
+pub complete : (setup : Setup) (before after : Outside) (status : ℕ) (bytes : List ℕ) → StatusIs setup before after status → before.source.bytes ≡ Some bytes → length bytes < 2 ^ 60
+    → Faultless before after → (IsValidStill setup before.disk bytes → status ≡ 0) × (IsInvalidStill setup before.disk bytes → status ≡ 6)
+complete setup before after status bytes by told few well = (
+  λ valid. none_stops setup before after status 0 bytes by told few well (by.valid_still bytes told well.by_disk valid),
+  λ invalid. none_stops setup before after status 6 bytes by told few well (by.invalid_still bytes told well.by_disk invalid),
+)
+
+-- what holds over every disk holds over one that refuses nothing
+pub valid_is_still : (setup : Setup) (s : Point) (bytes : List ℕ) → IsValid setup s bytes → IsValidStill setup s bytes
+valid_is_still setup s bytes v = record { messages = v.messages; rest = v.rest; requests = v.requests; ends = by_end v.ends }
+  where
+    by_end : (v.rest ≡ []) ⊎ Closes setup s v.messages → (v.rest ≡ []) ⊎ ClosesStill setup s v.messages
+    by_end (inl over) = inl over
+    by_end (inr closes) = inr (λ xs last chain still alike o. closes xs last chain alike o)
+
+pub invalid_is_still : (setup : Setup) (s : Point) (bytes : List ℕ) → IsInvalid setup s bytes → IsInvalidStill setup s bytes
+invalid_is_still setup s bytes v = record {
+  messages = v.messages;
+  rest = v.rest;
+  requests = v.requests;
+  some = v.some;
+  none = v.none;
+  stay = λ front back e xs last chain still alike. v.stay front back e xs last chain alike;
+}

@@ -29,6 +29,21 @@ abbrev pub StayOpen : Setup → Point → List Message → Type 0
 StayOpen setup s messages = (front back : List Message) → messages ≡ front ++ back → (xs : List Exchange) (last : Stage)
     → Chain setup.rules (ready setup.rules setup.knows s) xs last → Alike setup front xs → AllByRecursion IsOpen xs
 
+-- Where the disk refuses nothing, the last of these requests closes: no exchanges that answer them from here on, over a
+-- disk that refused nothing, leave the connection open.
+abbrev pub ClosesStill : Setup → Point → List Message → Type 0
+ClosesStill setup s messages = (xs : List Exchange) (last : Stage)
+    → Chain setup.rules (ready setup.rules setup.knows s) xs last → RefusedNothing s.faults last.at.faults
+    → Alike setup messages xs → AllByRecursion IsOpen xs → ⊥
+
+-- Where the disk refuses nothing, none of these requests closes: exchanges that answer the first of them, over a disk
+-- that refused nothing, leave the connection open.
+abbrev pub StayOpenStill : Setup → Point → List Message → Type 0
+StayOpenStill setup s messages = (front back : List Message) → messages ≡ front ++ back → (xs : List Exchange)
+    (last : Stage)
+    → Chain setup.rules (ready setup.rules setup.knows s) xs last → RefusedNothing s.faults last.at.faults
+    → Alike setup front xs → AllByRecursion IsOpen xs
+
 -- By its head alone a request is the last.
 abbrev pub LastByHead : RequestHead → Type 0
 LastByHead head = (parts : Parts) → IsRead head parts → IsLast parts
@@ -57,17 +72,41 @@ pub record IsInvalid (setup : Setup) (s : Point) (bytes : List ℕ) : Type 0 whe
   pub none : HasNoMessage rest
   pub stay : StayOpen setup s messages
 
+-- The input is valid requests, each with its body, to its end, or to one whose answer closes where the disk refuses
+-- nothing. So closing may depend on what stands there: a failure, which leaves the connection open, could take the place
+-- of each answer otherwise.
+pub record IsValidStill (setup : Setup) (s : Point) (bytes : List ℕ) : Type 0 where
+  pub messages : List Message
+  pub rest : List ℕ
+  pub requests : Messages bytes messages rest
+  pub ends : (rest ≡ []) ⊎ ClosesStill setup s messages
+
+-- Behind valid requests of which none closes where the disk refuses nothing, the input has bytes that are no request.
+pub record IsInvalidStill (setup : Setup) (s : Point) (bytes : List ℕ) : Type 0 where
+  pub messages : List Message
+  pub rest : List ℕ
+  pub requests : Messages bytes messages rest
+  pub some : 0 < length rest
+  pub none : HasNoMessage rest
+  pub stay : StayOpenStill setup s messages
+
 -- A fault ended the run, or 2^60 bytes were taken.
 abbrev pub IsStopped : ℕ → Type 0
 IsStopped status = (status ≡ 3) ⊎ ((status ≡ 4) ⊎ ((status ≡ 5) ⊎ (status ≡ 7)))
 
--- The status by the bytes of the input, where the source tells them. With no fault, and below 2^60 bytes, nothing stops
--- a run.
+-- The status by the bytes of the input, where the source tells them. Where the disk refused nothing, which answers close
+-- is asked of a disk that refuses nothing. With no fault, and below 2^60 bytes, nothing stops a run.
 pub record StatusIs (setup : Setup) (before after : Outside) (status : ℕ) : Type 0 where
   pub valid : (bytes : List ℕ) → before.source.bytes ≡ Some bytes → IsValid setup before.disk bytes → (status ≡ 0)
       ⊎ IsStopped status
   pub left : (bytes : List ℕ) → before.source.bytes ≡ Some bytes → IsLeft bytes → (status ≡ 0) ⊎ IsStopped status
   pub invalid : (bytes : List ℕ) → before.source.bytes ≡ Some bytes → IsInvalid setup before.disk bytes → (status ≡ 6)
+      ⊎ IsStopped status
+  pub valid_still : (bytes : List ℕ) → before.source.bytes ≡ Some bytes
+      → RefusedNothing before.disk.faults after.disk.faults → IsValidStill setup before.disk bytes → (status ≡ 0)
+      ⊎ IsStopped status
+  pub invalid_still : (bytes : List ℕ) → before.source.bytes ≡ Some bytes
+      → RefusedNothing before.disk.faults after.disk.faults → IsInvalidStill setup before.disk bytes → (status ≡ 6)
       ⊎ IsStopped status
   pub goes_on : (bytes : List ℕ) → before.source.bytes ≡ Some bytes → length bytes < 2 ^ 60 → Faultless before after
       → IsStopped status → ⊥

@@ -10,7 +10,7 @@ ghost use Rattle.dav_serve.specs.Stages.{outlet_of, work_of};
 
 use crate::turns::{poll_turn, request_turn};
 use dav_core::Disk;
-use dav_handler::{Answer, Player, RememberAny};
+use dav_handler::{Answer, Player, Remember};
 use dav_io::{Field, Moment, NoMemory, Octets, Sink};
 use dav_wire::{Framing, Output, asks_close, framing, is_old, push_head, says_close, takes_chunks};
 use http::Request;
@@ -81,7 +81,7 @@ impl Spare {
 
 /// Answers one request, and gives the answer to the output as it comes. What the output holds then is for the caller to
 /// flush. What is spare is used for its head and its pieces.
-pub fn exchange<K: Sink, D: Disk, R: RememberAny>(
+pub fn exchange<K: Sink, D: Disk, R: Remember>(
     spare: &mut Spare,
     player: &mut Player<D, R>,
     output: &mut Output,

@@ -1,7 +1,7 @@
 //! Laws over the exchanges that `run` answers: of their heads, of their bodies, and where these end. Each function does
 //! nothing; its contract is the law.
 ghost use Rattle.dav_model.specs.Play.{EachByTree, Playing, Plays, Stage, Stands};
-ghost use Rattle.std.specs.Prelude.{◌≡◌, ◌++◌, ℕ, Bool, List, [], ◌∷◌, All, true, false, codes, decimal, Option, Result, Ok, length};
+ghost use Rattle.std.specs.Prelude.{◌≡◌, ◌<◌, ◌^◌, ◌++◌, ℕ, Bool, List, [], ◌∷◌, All, true, false, codes, decimal, Option, Some, Result, Ok, length};
 ghost use Rattle.std.specs.List.{AllByRecursion, concat, flat_map};
 ghost use Rattle.dav_io.specs.Outside.{Stream};
 ghost use Rattle.dav_io.specs.declared.clock.Moment.{Moment};
@@ -20,6 +20,7 @@ ghost use Rattle.dav_wire.specs.Messages.{Message};
 ghost use Rattle.dav_wire.specs.declared.chunks.Framing.TheVariants.{Raw, Chunked};
 ghost use Rattle.dav_serve.specs.Bodies.{Announces, AnnouncesMore, GivesAnnounced, IsBodiless, IsHeadAlone, IsNonempty, IsShort, TellsEnd};
 ghost use Rattle.dav_serve.specs.ByTree.{AllByTree, moves_of};
+ghost use Rattle.dav_serve.specs.Completing.{Faultless, IsInvalid, IsInvalidStill, IsValid, IsValidStill, StatusIs};
 ghost use Rattle.dav_serve.specs.Exchange.{Exchange, IsOf, begun_answers, framing_of, steps_of, answers_of, wire_of};
 ghost use Rattle.dav_serve.specs.Heads.{HasHead};
 ghost use Rattle.dav_serve.specs.Serving.{Setup, Serving, ServedSoFar, Owes, ready};
@@ -128,4 +129,21 @@ pub fn heads_are_read_back()
 /// request.
 pub fn an_owed_answer_is_not_so_far()
     ensures { (setup : Setup) (before now : Outside) → Owes before now → ServedSoFar setup before now → ⊥ }
+{}
+
+/// Completeness: where source, sink and disk refused nothing and the input has fewer than 2^60 bytes, a run that wasn't
+/// refused memory ends with 0 on requests that are valid to the end of the input or to one whose answer closes, and with
+/// 6 where bytes that are no request stand behind requests whose answers leave the connection open (`ends`). `StatusIs`
+/// is what `run` says of its status. Which answers close is asked of a disk that refuses nothing, so that it may depend
+/// on what stands there; what holds over every disk holds there too (`valid`, `invalid`).
+pub fn faultless_runs_are_complete()
+    ensures ends { (setup : Setup) (before after : Outside) (status : ℕ) (bytes : List ℕ)
+        → StatusIs setup before after status
+        → before.source.bytes ≡ Some bytes → length bytes < 2 ^ 60 → Faultless before after
+        → (IsValidStill setup before.disk bytes → status ≡ 0)
+        × (IsInvalidStill setup before.disk bytes → status ≡ 6) }
+    ensures valid { (setup : Setup) (s : Point) (bytes : List ℕ) → IsValid setup s bytes
+        → IsValidStill setup s bytes }
+    ensures invalid { (setup : Setup) (s : Point) (bytes : List ℕ) → IsInvalid setup s bytes
+        → IsInvalidStill setup s bytes }
 {}

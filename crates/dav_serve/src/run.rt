@@ -23,7 +23,8 @@ const ENTRIES: usize = 4096;
 
 // A memory that knows nothing yet.
 fn empty_memory(alloc: Global) -> Result<Owned, NoMemory>
-    ensures { IfOk result (λ memory. knowledge_of (memory_of memory) ≡ nothing_known) }
+    ensures knows { IfOk result (λ memory. knowledge_of (memory_of memory) ≡ nothing_known) }
+    ensures room { IfOk result (λ memory. (memory.paths.size ≡ 4096) × (memory.dots.size ≡ 4096)) }
 {
     Owned::new(alloc, ENTRIES, ENTRIES)
 }

@@ -14,7 +14,7 @@ use crate::ending::Ending;
 use crate::exchange::{Ended, Spare, exchange, manner_of};
 use crate::words::Options;
 use dav_core::Disk;
-use dav_handler::{LocalFs, Player, RememberAny, Settings};
+use dav_handler::{LocalFs, Player, Remember, Settings};
 use dav_io::{Client, Clock, Moment, NoMemory, Sink};
 use dav_wire::{Flaw, Input, Output, ReadError, refusal_text};
 use http::Request;
@@ -32,7 +32,7 @@ struct Held {
 
 // A player over the disk from its root on and a memory, by these settings, whose store finds names as the options say.
 // What it makes is its owner's alone. It gave no reply yet.
-fn player_over<D: Disk + Drop, R: RememberAny + Drop>(
+fn player_over<D: Disk + Drop, R: Remember + Drop>(
     alloc: Global,
     disk: D,
     memory: R,
@@ -50,7 +50,7 @@ fn player_over<D: Disk + Drop, R: RememberAny + Drop>(
 
 // Answers a request by a player of its own over the disk and the memory, so that no count of replies ever runs out.
 // What held its fields goes back to the input.
-fn answer<K: Sink, D: Disk, R: RememberAny + Drop>(
+fn answer<K: Sink, D: Disk, R: Remember + Drop>(
     options: &Options<'_>,
     disk: &mut D,
     memory: &mut Option<R>,
@@ -121,7 +121,7 @@ fn refuse<K: Sink>(output: &mut Output, sink: &mut K, flaw: Flaw) -> Ending
 // Answers requests until the input ends, an answer closes, or something fails. Answers to requests that came together
 // leave together: what waits for the sink is given to it before the client is asked again, and at the end. Where memory
 // is refused, it waits still.
-fn answer_all<S: Client<K>, K: Sink, D: Disk, R: RememberAny + Drop, C: Clock>(
+fn answer_all<S: Client<K>, K: Sink, D: Disk, R: Remember + Drop, C: Clock>(
     options: &Options<'_>,
     held: &mut Held,
     source: &mut S,
@@ -178,7 +178,7 @@ fn answer_all<S: Client<K>, K: Sink, D: Disk, R: RememberAny + Drop, C: Clock>(
 /// Reads requests from a client and writes their answers to a sink, until the input ends, an answer closes, or
 /// something fails. It answers how it ended. The client is asked only where all requests that came whole are answered
 /// and written. What was remembered at one request is known at the next.
-pub fn serve<S: Client<K>, K: Sink, D: Disk, R: RememberAny + Drop, C: Clock>(
+pub fn serve<S: Client<K>, K: Sink, D: Disk, R: Remember + Drop, C: Clock>(
     alloc: Global,
     options: &Options<'_>,
     source: &mut S,

@@ -7,7 +7,7 @@ ghost use Rattle.dav_model.specs.declared.step.Step.TheVariants.{Poll, Purge, Re
 ghost use Rattle.dav_model.specs.declared.answer.Answer.TheVariants.{Done, Reply as Replied};
 
 use dav_core::Disk;
-use dav_handler::{Answer, Player, RememberAny};
+use dav_handler::{Answer, Player, Remember};
 use dav_io::{Fields, Moment, NoMemory, Octets};
 use http::Request;
 
@@ -20,7 +20,7 @@ pub struct Reply {
 }
 
 /// A turn of the outside and a poll. The piece takes the memory of `spare`.
-pub fn poll_turn<D: Disk, R: RememberAny>(
+pub fn poll_turn<D: Disk, R: Remember>(
     player: &mut Player<D, R>,
     body: u32,
     spare: &mut Vec<u8>,
@@ -44,7 +44,7 @@ pub fn poll_turn<D: Disk, R: RememberAny>(
 }
 
 /// A turn of the outside, a purge and a request.
-pub fn request_turn<D: Disk, R: RememberAny>(
+pub fn request_turn<D: Disk, R: Remember>(
     player: &mut Player<D, R>,
     now: Moment,
     request: &Request<Octets>,

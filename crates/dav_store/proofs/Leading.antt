@@ -35,15 +35,15 @@ module _ {S C F L E : Type 0} (view : View S C F) (lists : Listings S C L E) (c 
   leads_then s m t first (lends a b before call same) = lends a b (leads_then s m a first before) call same
 
   -- an opening leaves the told world
-  opened_world : (m n : S) (r : Result F FsError) → OpensOne view.handle view.seen reading (view.state m) r (view.state n) → LeavesWorld view lists c m n
+  opened_world : (m n : S) (r : Result F FsError) → OpensOne view.file reading (view.state m) r (view.state n) → LeavesWorld view lists c m n
   opened_world m n (Ok file) one = (one.kept refl).world
   opened_world m n (Err e) one = (one.kept refl).world
 
   pub opens_by : (s m n : S) (path : WebPath) (how : OpenOptions) (r : Result F FsError) → how ≡ reading → LeadsOn view lists c s m → view.opens m c path how r n
-      → OpensOne view.handle view.seen how (view.state m) r (view.state n) → LeadsOn view lists c s n
+      → OpensOne view.file how (view.state m) r (view.state n) → LeadsOn view lists c s n
   opens_by s m n path how r is before call one =
       opens m n path r before (subst (λ how. view.opens m c path how r n) is call)
-      (opened_world m n r (subst (λ how. OpensOne view.handle view.seen how (view.state m) r (view.state n)) is one))
+      (opened_world m n r (subst (λ how. OpensOne view.file how (view.state m) r (view.state n)) is one))
 
   -- A reader's calls leave the told world.
   pub leads_world : (s t : S) → LeadsOn view lists c s t → LeavesWorld view lists c s t

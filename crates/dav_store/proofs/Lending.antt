@@ -5,13 +5,13 @@ use Rattle.dav_core.specs.declared.error.FsError.{FsError}
 use Rattle.dav_core.specs.Disk.{DiskState}
 use Rattle.dav_core.specs.Info.{Info}
 use Rattle.dav_core.specs.World.{World}
-use Rattle.dav_store.specs.Standing.{Seen}
+use Rattle.dav_store.specs.FileView.{FileView}
 use Rattle.dav_store.specs.View.{Fits, Listings, View}
 
 module _ {S C D F L E : Type 0} (view : View S C F) (lists : Listings S C L E) {inside : S → D} {with_disk : S → D → S}
-    {state_of : D → DiskState} {loan_of : D → Option GName} {handle_of : F → ℕ} {seen_of : F → DiskState → Option Seen}
+    {state_of : D → DiskState} {loan_of : D → Option GName} {file_of : FileView F}
     {name_of : E → List ℕ} {says_of : E → DiskState → Result Info FsError → DiskState → Type 0}
-    (fits : Fits view lists inside with_disk state_of loan_of handle_of seen_of name_of says_of)
+    (fits : Fits view lists inside with_disk state_of loan_of file_of name_of says_of)
   where
     -- none at all
     pub lends_same : ((s : S) → with_disk s (inside s) ≡ s) → (s : S) → view.lends s s

@@ -1,5 +1,5 @@
 -- What a reader's calls leave: what stands, and no count of faults falls.
-use Rattle.std.proofs.Common.{◌≡◌, ◌≤◌, ℕ, Option, Some, Result, Ok, Err, refl, arith}
+use Rattle.std.proofs.Common.{◌≡◌, ◌≤◌, Some, Result, Ok, Err, refl, arith}
 use Rattle.dav_io.specs.Told.{Both}
 use Rattle.dav_io.proofs.ToldLemmas.{both_same, both_then, told_after}
 use Rattle.dav_core.specs.declared.error.FsError.{FsError}
@@ -10,7 +10,7 @@ use Rattle.dav_core.specs.World.{World}
 use Rattle.dav_core.proofs.UnchangedLemmas.{same_besides, same_besides_then}
 use Rattle.dav_store.specs.Frames.{OpensOne}
 use Rattle.dav_store.specs.Reached.{Reached, by_none, by_look, by_look_at_link, by_opening, by_file, by_listing}
-use Rattle.dav_store.specs.Standing.{Seen}
+use Rattle.dav_store.specs.FileView.{FileView}
 use Rattle.dav_store.specs.View.{View, Listings}
 
 -- what stands is the same, and the count of faults doesn't fall
@@ -24,9 +24,9 @@ stays_same s = record { counts = omega arith; world = both_same s.told s.told Sa
 stays_then : (s m t : DiskState) → Stays s m → Stays m t → Stays s t
 stays_then s m t p q = record { counts = omega (arith, p.counts, q.counts); world = both_then _ _ _ _ _ _ same_besides_then p.world q.world }
 
-pub opening_stays : {F : Type 0} (handle : F → ℕ) (seen : F → DiskState → Option Seen) (s t : DiskState) (o : Result F FsError) → OpensOne handle seen reading s o t → Stays s t
-opening_stays handle seen s t (Ok file) one = let kept = one.kept refl in record { counts = kept.counts; world = kept.world }
-opening_stays handle seen s t (Err e) one = let kept = one.kept refl in record { counts = kept.counts; world = kept.world }
+pub opening_stays : {F : Type 0} (view : FileView F) (s t : DiskState) (o : Result F FsError) → OpensOne view reading s o t → Stays s t
+opening_stays view s t (Ok file) one = let kept = one.kept refl in record { counts = kept.counts; world = kept.world }
+opening_stays view s t (Err e) one = let kept = one.kept refl in record { counts = kept.counts; world = kept.world }
 
 module _ {S C F L E : Type 0} (view : View S C F) (lists : Listings S C L E) (s : S) (c : C) where
   pub reached_stays : (m : S) → Reached view lists s c m → Stays (view.state s) (view.state m)
@@ -36,7 +36,7 @@ module _ {S C F L E : Type 0} (view : View S C F) (lists : Listings S C L E) (s 
   reached_stays j (by_look_at_link m n path r before look keeps) =
       stays_then (view.state s) (view.state m) (view.state n) (reached_stays m before) (record { counts = keeps.counts; world = keeps.world })
   reached_stays j (by_opening m n path o before opens one) =
-      stays_then (view.state s) (view.state m) (view.state n) (reached_stays m before) (opening_stays view.handle view.seen (view.state m) (view.state n) o one)
+      stays_then (view.state s) (view.state m) (view.state n) (reached_stays m before) (opening_stays view.file (view.state m) (view.state n) o one)
   reached_stays j (by_file m n h before keeps lent) =
       stays_then (view.state s) (view.state m) (view.state n) (reached_stays m before) (record { counts = keeps.counts; world = keeps.world })
   reached_stays j (by_listing m n path members before listed keeps) =

@@ -42,23 +42,23 @@ open_after s m t k q = open_then s m t (open_kept s m k) q
 module _ {S C F : Type 0} (view : View S C F) where
   -- no call, as one that only reads, and as one that writes
   pub reads_same : (s : S) → Stays view s s
-  reads_same s = record { keeps = keeps_same (view.state s); admits = λ a. a; loan = refl }
+  reads_same s = record { keeps = keeps_same (view.state s); loan = refl }
 
   pub stays_same : (s : S) → StaysOpen view s s
-  stays_same s = record { keeps = open_same (view.state s); admits = λ a. a; loan = refl }
+  stays_same s = record { keeps = open_same (view.state s); loan = refl }
 
   -- a call that only reads, as one that writes
   pub stays_kept : (s t : S) → Stays view s t → StaysOpen view s t
-  stays_kept s t p = record { keeps = open_kept _ _ p.keeps; admits = p.admits; loan = p.loan }
+  stays_kept s t p = record { keeps = open_kept _ _ p.keeps; loan = p.loan }
 
   -- two calls that only read
   pub reads_then : (s m t : S) → Stays view s m → Stays view m t → Stays view s t
-  reads_then s m t p q = record { keeps = keeps_then _ _ _ p.keeps q.keeps; admits = λ a. q.admits (p.admits a); loan = q.loan ∙ p.loan }
+  reads_then s m t p q = record { keeps = keeps_then _ _ _ p.keeps q.keeps; loan = q.loan ∙ p.loan }
 
   -- a call that only reads, and one that writes
   pub stays_after : (s m t : S) → Stays view s m → StaysOpen view m t → StaysOpen view s t
-  stays_after s m t p q = record { keeps = open_after _ _ _ p.keeps q.keeps; admits = λ a. q.admits (p.admits a); loan = q.loan ∙ p.loan }
+  stays_after s m t p q = record { keeps = open_after _ _ _ p.keeps q.keeps; loan = q.loan ∙ p.loan }
 
   -- two calls that write
   pub stays_then : (s m t : S) → StaysOpen view s m → StaysOpen view m t → StaysOpen view s t
-  stays_then s m t p q = record { keeps = open_then _ _ _ p.keeps q.keeps; admits = λ a. q.admits (p.admits a); loan = q.loan ∙ p.loan }
+  stays_then s m t p q = record { keeps = open_then _ _ _ p.keeps q.keeps; loan = q.loan ∙ p.loan }

@@ -1,5 +1,5 @@
 -- What the calls of an open file do, where it is told what it is.
-use Rattle.std.specs.Prelude.{◌≡◌, ◌≤◌, ◌<◌, ◌+◌, ◌&&◌, ◌⊎◌, ℕ, List, [], length, take, drop, min, Bool, true, Option, None, Some, IfSome, Result, Ok, Err, IfOk, OnErr, if◌then◌else◌}
+use Rattle.std.specs.Prelude.{◌≡◌, ◌≤◌, ◌<◌, ◌+◌, ◌&&◌, ◌⊎◌, ℕ, List, [], length, take, drop, min, Bool, true, false, Option, None, Some, IfSome, Result, Ok, Err, IfOk, OnErr, if◌then◌else◌}
 use Rattle.std.specs.List.{list_all}
 use Rattle.dav_io.specs.Counts.{Rose, one_more}
 use Rattle.dav_io.specs.Told.{Both}
@@ -61,7 +61,6 @@ SeeksIn place (Err e) f g = g ≡ f
 pub record FileSeeks (s : DiskState) (h : ℕ) (seen : Option Seen) (place : ℕ) (result : Result ℕ FsError)
     (t : DiskState) (after : Option Seen) : Type 0 where
   pub keeps : KeepsBut h s t
-  pub asked : AsksOnce s t
   pub live : t.live h ≡ s.live h
   pub refused : can_read (s.live h) ≡ true → OnErr result (IsFault s result t)
   pub answer : IfOk result (λ n. n ≡ place)
@@ -85,7 +84,6 @@ ReadsIn whole buffer (Err e) f g = g ≡ f
 pub record FileReads (s : DiskState) (h : ℕ) (seen : Option Seen) (buffer : List ℕ) (result : Result ℕ FsError)
     (t : DiskState) (after : Option Seen) : Type 0 where
   pub keeps : KeepsBut h s t
-  pub asked : AsksOnce s t
   pub live : t.live h ≡ s.live h
   pub refused : can_read (s.live h) ≡ true → OnErr result (IsFault s result t)
   pub within : IfOk result (λ n. n ≤ length buffer)
@@ -101,7 +99,6 @@ GivesIn whole count (Err e) f g = g ≡ f
 pub record FileGives (s : DiskState) (h : ℕ) (seen : Option Seen) (count : ℕ) (result : Result (List ℕ) FsError)
     (t : DiskState) (after : Option Seen) : Type 0 where
   pub keeps : KeepsBut h s t
-  pub asked : AsksToGive result s t
   pub live : t.live h ≡ s.live h
   pub refused : can_read (s.live h) ≡ true → OnErr result (Spoiled s result t)
   pub within : IfOk result (λ bytes. length bytes ≤ count)
@@ -155,6 +152,8 @@ pub record FileWrites (s : DiskState) (h : ℕ) (seen : Option Seen) (from : Lis
   pub world : Both s.told t.told SameBesidesFiles
   -- a file that was opened for it is refused only where a fault was met, or want of memory
   pub refused : can_write (s.live h) ≡ true → OnErr result (Spoiled s result t)
+  -- one that wasn't opened for it is as it was
+  pub shut : can_write (s.live h) ≡ false → after ≡ seen
   pub told : Both seen after (WritesIn (s.live h) from result)
 
 -- The file is open no more.

@@ -6,6 +6,7 @@ use Rattle.dav_core.specs.declared.handle.OpenOptions.{OpenOptions}
 use Rattle.dav_core.specs.Disk.{DiskState, Live}
 use Rattle.dav_core.specs.Unchanged.{Keeps, KeepsBut, SameListing, SameOpen}
 use Rattle.dav_core.specs.Writing.{reading}
+use Rattle.dav_store.specs.FileView.{FileView}
 use Rattle.dav_store.specs.Standing.{Seen}
 
 -- The same handles and listers are live, every open file has its number and its place, and every open listing its names
@@ -43,7 +44,6 @@ pub record IsUnopened (how : OpenOptions) (s t : DiskState) : Type 0 where
   pub others : KeepsOpen s t
   pub kept : how ≡ reading → Keeps s t
 
-abbrev pub OpensOne : {F : Type 0} → (F → ℕ) → (F → DiskState → Option Seen) → OpenOptions → DiskState
-    → Result F FsError → DiskState → Type 0
-OpensOne handle seen how s (Ok file) t = IsOpened how s (handle file) (seen file t) t
-OpensOne handle seen how s (Err e) t = IsUnopened how s t
+abbrev pub OpensOne : {F : Type 0} → FileView F → OpenOptions → DiskState → Result F FsError → DiskState → Type 0
+OpensOne view how s (Ok file) t = IsOpened how s (view.handle file) (view.seen file t) t
+OpensOne view how s (Err e) t = IsUnopened how s t

@@ -1,5 +1,6 @@
 pub mod Standing
 pub mod Frames
+pub mod FileView
 pub mod Files
 pub mod Listings
 pub mod Bodies

@@ -23,7 +23,7 @@ module _ {S C F L E : Type 0} (view : View S C F) (lists : Listings S C L E) whe
     by_look_at_link : (m n : S) (path : WebPath) (r : Result Info FsError) → Reached s c m
         → view.looks_at_link m c path r n → Keeps (view.state m) (view.state n) → Reached s c n
     by_opening : (m n : S) (path : WebPath) (o : Result F FsError) → Reached s c m → view.opens m c path reading o n
-        → OpensOne view.handle view.seen reading (view.state m) o (view.state n) → Reached s c n
+        → OpensOne view.file reading (view.state m) o (view.state n) → Reached s c n
     by_file : (m n : S) (h : ℕ) → Reached s c m → KeepsBut h (view.state m) (view.state n) → view.lends m n
         → Reached s c n
     by_listing : (m n : S) (path : WebPath) (members : List Member) → Reached s c m
@@ -32,4 +32,4 @@ module _ {S C F L E : Type 0} (view : View S C F) (lists : Listings S C L E) whe
   -- Now and after such calls the store shows this where the path is opened for reading.
   abbrev pub ShowsOn : S → C → WebPath → Result Standing FsError → Type 0
   ShowsOn s c path opened = (m n : S) (o : Result F FsError) → Reached s c m → view.opens m c path reading o n
-      → OpensThere view.seen opened o (view.state n) ⊎ Spoiled (view.state m) o (view.state n)
+      → OpensThere view.file.seen opened o (view.state n) ⊎ Spoiled (view.state m) o (view.state n)

@@ -51,7 +51,7 @@ pub record Shows {S C F : Type 0} (view : View S C F) (s : S) (c : C) (path : We
   pub looks_there : (m n : S) (r : Result Info FsError) → Looked view s c m → view.looks m c path r n
       → LooksThere looked r ⊎ Spoiled (view.state m) r (view.state n)
   pub opens_there : (m n : S) (o : Result F FsError) → Looked view s c m → view.opens m c path reading o n
-      → OpensThere view.seen opened o (view.state n) ⊎ Spoiled (view.state m) o (view.state n)
+      → OpensThere view.file.seen opened o (view.state n) ⊎ Spoiled (view.state m) o (view.state n)
   -- no count of faults falls
   pub looks_counts : (m n : S) (r : Result Info FsError) → Looked view s c m → view.looks m c path r n
       → (view.state m).faults ≤ (view.state n).faults

@@ -8,6 +8,7 @@ use Rattle.dav_core.specs.declared.tree.Kind.TheVariants.{File}
 use Rattle.dav_core.specs.Disk.{DiskState}
 use Rattle.dav_core.specs.Info.{AreInYears, Info, IsInYears, is_in_years}
 use Rattle.dav_core.specs.World.{World, IsWorld}
+use Rattle.dav_store.specs.FileView.{FileView}
 
 -- Nothing is told, and nothing is live.
 abbrev pub no_disk_state : ℕ → ℕ → DiskState
@@ -31,6 +32,16 @@ no_handle = 0
 -- refused, with nothing asked
 abbrev pub Unbuilt : {S T : Type 0} → S → Result T FsError → S → Type 0
 Unbuilt s result t = (result ≡ Err NotImplemented) × (t ≡ s)
+
+-- a file of the void store: nothing is told of it, and it may be asked at any time
+abbrev pub void_file : {F : Type 0} → FileView F
+void_file = record {
+  handle = λ _. no_handle;
+  seen = λ _ _. None;
+  writes = λ _ s _ result _ t. Unbuilt s result t;
+  reads_from = λ _ _. Unit {0};
+  asks_once = Unit {0};
+}
 
 -- A listing of nothing answers `NotImplemented` once, and then None.
 abbrev pub GivesOnce : {E : Type 0} → Bool → Result (Option E) FsError → Bool → Type 0

@@ -1,12 +1,10 @@
-ghost use Rattle.std.specs.Prelude.{◌≡◌, ℕ, Bool, Option, Result};
+ghost use Rattle.std.specs.Prelude.{◌≡◌, ℕ, Bool, Option, Result, IfOk};
 ghost use Rattle.std.specs.Borrow.{sem, Lends};
 ghost use Rattle.dav_io.specs.declared.clock.Moment.{Moment};
 ghost use Rattle.dav_core.specs.declared.error.FsError.{FsError};
 ghost use Rattle.dav_core.specs.declared.handle.OpenOptions.{OpenOptions};
 ghost use Rattle.dav_core.specs.DavPath.{WebPath};
 ghost use Rattle.dav_core.specs.Info.{Info};
-ghost use Rattle.dav_core.specs.Unchanged.{SameBesidesFiles, SameBesidesOpens};
-ghost use Rattle.dav_io.specs.Told.{Both};
 ghost use Rattle.dav_store.specs.Standing.{info_in};
 ghost use Rattle.dav_store.specs.Frames.{OpensOne};
 ghost use Rattle.dav_store.specs.View.{Fits, View, Listings, Stays, StaysBy, StaysOpen};
@@ -57,7 +55,6 @@ pub trait GuardedFileSystem<C> {
     /// Sets the moment by which its memory judges what is too old.
     fn set_now(&mut self, now: Moment)
         ensures done { self.new ≡ with_now self.old now }
-        ensures admits { view.admits self.old → view.admits self.new }
         ensures disk { inside self.new ≡ inside self.old };
 
     /// Whether names that fold alike are one.
@@ -86,7 +83,8 @@ pub trait GuardedFileSystem<C> {
         credentials: &C,
     ) -> Result<Self::File, FsError>
         ensures done { view.opens self.old credentials.now path.now options result self.new }
-        ensures stays { StaysBy view (λ s t. OpensOne view.handle view.seen options s result t) self.old self.new };
+        ensures stays { StaysBy view (λ s t. OpensOne view.file options s result t) self.old self.new }
+        ensures reads_from { IfOk result (λ file. view.file.reads_from file (view.state self.new)) };
 
     /// Begins a listing of the directory at a path.
     fn read_dir(
@@ -101,7 +99,6 @@ pub trait GuardedFileSystem<C> {
     /// The next entry, or None after the last. Each answer but None and want of memory leaves fewer answers to come.
     fn next_entry(&mut self, dir: &mut Self::Dir) -> Result<Option<Self::Entry>, FsError>
         requires live { HasLister (view.state self.old) (listings.lister dir.old) }
-        requires admits { view.admits self.old }
         ensures done { listings.lists_on self.old dir.old result self.new dir.new }
         ensures nearer { Nearer (listings.to_come dir.old (left_of (view.state self.old) (listings.lister dir.old)))
             result (listings.to_come dir.new (left_of (view.state self.new) (listings.lister dir.new))) }
@@ -148,17 +145,7 @@ pub trait GuardedFileSystem<C> {
     /// Putting inside what is inside changes nothing.
     ghost puts_back: { (s : Self) → with_disk s (inside s) ≡ s };
 
-    /// A call on the disk inside keeps what the store may remember, where its told world has the same tree, script and
-    /// bytes behind it.
-    ghost admits_lent: { (s t : Self) → view.lends s t
-        → Both (view.state s).told (view.state t).told SameBesidesOpens → view.admits s → view.admits t };
-
-    /// The same where the told world has the same things at the same places, each with its time or a new one: a write
-    /// to a file leaves such a world.
-    ghost admits_written: { (s t : Self) → view.lends s t
-        → Both (view.state s).told (view.state t).told SameBesidesFiles → view.admits s → view.admits t };
-
     /// The view speaks of the disk inside, of the files and of the entries as they are.
-    ghost fits: { Fits view listings inside with_disk Self.Disk.state Self.Disk.loan Self.File.handle Self.File.seen
+    ghost fits: { Fits view listings inside with_disk Self.Disk.state Self.Disk.loan Self.File.view
         Self.Entry.called Self.Entry.says };
 }

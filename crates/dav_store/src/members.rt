@@ -51,7 +51,6 @@ fn add_member<S: GuardedFileSystem<C>, C>(
     entry: &S::Entry,
     members: &mut Vec<Member>,
 ) -> Result<(), NoMemory>
-    requires admits { S.view.admits fs.old }
     ensures told { (r : Result Info FsError) × S.listings.says entry.now (S.view.state fs.old) r (S.view.state fs.new)
         × OnOk result (members.new.items ≡ members.old.items ++ told_of (S.listings.called entry.now) r) }
     ensures plain { AllByRecursion IsNamedPlain members.old.items → AllByRecursion IsNamedPlain members.new.items }
@@ -71,10 +70,8 @@ fn add_member<S: GuardedFileSystem<C>, C>(
 // over.
 fn run_out<S: GuardedFileSystem<C>, C>(fs: &mut S, dir: &mut S::Dir) -> Result<(), FsError>
     requires live { HasLister (S.view.state fs.old) (S.listings.lister dir.old) }
-    requires admits { S.view.admits fs.old }
     ensures ends { OnOk result (ReadOut S.view S.listings fs.old dir.old fs.new dir.new) }
     ensures live { HasLister (S.view.state fs.new) (S.listings.lister dir.new) }
-    ensures admits { S.view.admits fs.new }
     ensures lister { S.listings.lister dir.new ≡ S.listings.lister dir.old }
     ensures keeps { KeepsButLister (S.listings.lister dir.old) (S.view.state fs.old) (S.view.state fs.new) }
     ensures on { ListedOn S.view S.listings fs.old dir.old fs.new dir.new }
@@ -99,11 +96,9 @@ fn read_on<S: GuardedFileSystem<C>, C>(
     dir: &mut S::Dir,
 ) -> Result<Vec<Member>, FsError>
     requires live { HasLister (S.view.state fs.old) (S.listings.lister dir.old) }
-    requires admits { S.view.admits fs.old }
     ensures walks { IfOk result (λ members. WalksOut S.view S.listings fs.old dir.old members.items fs.new dir.new) }
     ensures plain { IfOk result (λ members. AllByRecursion IsNamedPlain members.items) }
     ensures live { HasLister (S.view.state fs.new) (S.listings.lister dir.new) }
-    ensures admits { S.view.admits fs.new }
     ensures lister { S.listings.lister dir.new ≡ S.listings.lister dir.old }
     ensures keeps { KeepsButLister (S.listings.lister dir.old) (S.view.state fs.old) (S.view.state fs.new) }
     ensures on { ListedOn S.view S.listings fs.old dir.old fs.new dir.new }
@@ -140,7 +135,6 @@ pub fn read_members<S: GuardedFileSystem<C>, C>(
     path: &DavPath,
     credentials: &C,
 ) -> Result<Vec<Member>, FsError>
-    requires admits { S.view.admits fs.old }
     ensures listed { IfOk
         result (λ members. WasListed S.view S.listings fs.old credentials.now path.now members.items fs.new) }
     ensures plain { IfOk result (λ members. AllByRecursion IsNamedPlain members.items) }

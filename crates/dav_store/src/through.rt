@@ -12,7 +12,7 @@ pub fn file_metadata<S: GuardedFileSystem<C>, C>(
     fs: &mut S,
     file: &mut S::File,
 ) -> Result<S::Meta, FsError>
-    requires { IsSome ((S.view.state fs.old).live (S.view.handle file.old)) }
+    requires { IsSome ((S.view.state fs.old).live (S.view.file.handle file.old)) }
     ensures { Says S.view fs.old file.old (info_in S.Meta.info result) fs.new file.new }
 {
     file.metadata(fs.disk())
@@ -24,7 +24,8 @@ pub fn file_seek<S: GuardedFileSystem<C>, C>(
     file: &mut S::File,
     place: u64,
 ) -> Result<u64, FsError>
-    requires { IsSome ((S.view.state fs.old).live (S.view.handle file.old)) }
+    requires live { IsSome ((S.view.state fs.old).live (S.view.file.handle file.old)) }
+    requires reads_from { S.view.file.reads_from file.old (S.view.state fs.old) }
     ensures { Seeks S.view fs.old file.old place result fs.new file.new }
 {
     file.seek(fs.disk(), place)
@@ -36,7 +37,8 @@ pub fn file_read<S: GuardedFileSystem<C>, C>(
     file: &mut S::File,
     into: &mut [u8],
 ) -> Result<usize, FsError>
-    requires live { IsSome ((S.view.state fs.old).live (S.view.handle file.old)) }
+    requires live { IsSome ((S.view.state fs.old).live (S.view.file.handle file.old)) }
+    requires reads_from { S.view.file.reads_from file.old (S.view.state fs.old) }
     requires room { 0 < length into.old }
     ensures { Reads S.view fs.old file.old into.new result fs.new file.new }
 {
@@ -45,7 +47,7 @@ pub fn file_read<S: GuardedFileSystem<C>, C>(
 
 /// Ends the file.
 pub fn file_close<S: GuardedFileSystem<C>, C>(fs: &mut S, file: S::File)
-    requires { IsSome ((S.view.state fs.old).live (S.view.handle file)) }
+    requires { IsSome ((S.view.state fs.old).live (S.view.file.handle file)) }
     ensures { Closes S.view fs.old file fs.new }
 {
     file.close(fs.disk())
@@ -56,11 +58,9 @@ pub fn entry_metadata<S: GuardedFileSystem<C>, C>(
     fs: &mut S,
     entry: &S::Entry,
 ) -> Result<S::Meta, FsError>
-    requires { S.view.admits fs.old }
     ensures says { S.listings.says entry.now (S.view.state fs.old) (info_in S.Meta.info result) (S.view.state fs.new) }
     ensures lent { Lent S.view fs.old fs.new }
     ensures keeps { Keeps (S.view.state fs.old) (S.view.state fs.new) }
-    ensures admits { S.view.admits fs.new }
 {
     entry.metadata(fs.disk())
 }

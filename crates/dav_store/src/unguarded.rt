@@ -1,12 +1,10 @@
-ghost use Rattle.std.specs.Prelude.{◌≡◌, ℕ, Bool, Option, Result};
+ghost use Rattle.std.specs.Prelude.{◌≡◌, ℕ, Bool, Option, Result, IfOk};
 ghost use Rattle.std.specs.Borrow.{sem, Lends};
 ghost use Rattle.dav_io.specs.declared.clock.Moment.{Moment};
 ghost use Rattle.dav_core.specs.declared.error.FsError.{FsError};
 ghost use Rattle.dav_core.specs.declared.handle.OpenOptions.{OpenOptions};
 ghost use Rattle.dav_core.specs.DavPath.{WebPath};
 ghost use Rattle.dav_core.specs.Info.{Info};
-ghost use Rattle.dav_core.specs.Unchanged.{SameBesidesFiles, SameBesidesOpens};
-ghost use Rattle.dav_io.specs.Told.{Both};
 ghost use Rattle.dav_store.specs.Standing.{info_in};
 ghost use Rattle.dav_store.specs.Frames.{OpensOne};
 ghost use Rattle.dav_store.specs.View.{Fits, View, Listings, Stays, StaysBy, StaysOpen};
@@ -51,7 +49,6 @@ pub trait DavFileSystem {
     /// Sets the moment by which its memory judges what is too old.
     fn set_now(&mut self, now: Moment)
         ensures done { self.new ≡ with_now self.old now }
-        ensures admits { view.admits self.old → view.admits self.new }
         ensures disk { inside self.new ≡ inside self.old };
 
     /// Whether names that fold alike are one.
@@ -75,7 +72,8 @@ pub trait DavFileSystem {
     /// Opens what stands at a path, at its first byte.
     fn open(&mut self, path: &DavPath, options: OpenOptions) -> Result<Self::File, FsError>
         ensures done { view.opens self.old tt path.now options result self.new }
-        ensures stays { StaysBy view (λ s t. OpensOne view.handle view.seen options s result t) self.old self.new };
+        ensures stays { StaysBy view (λ s t. OpensOne view.file options s result t) self.old self.new }
+        ensures reads_from { IfOk result (λ file. view.file.reads_from file (view.state self.new)) };
 
     /// Begins a listing of the directory at a path.
     fn read_dir(&mut self, path: &DavPath, meta: ReadDirMeta) -> Result<Self::Dir, FsError>
@@ -85,7 +83,6 @@ pub trait DavFileSystem {
     /// The next entry, or None after the last. Each answer but None and want of memory leaves fewer answers to come.
     fn next_entry(&mut self, dir: &mut Self::Dir) -> Result<Option<Self::Entry>, FsError>
         requires live { HasLister (view.state self.old) (listings.lister dir.old) }
-        requires admits { view.admits self.old }
         ensures done { listings.lists_on self.old dir.old result self.new dir.new }
         ensures nearer { Nearer (listings.to_come dir.old (left_of (view.state self.old) (listings.lister dir.old)))
             result (listings.to_come dir.new (left_of (view.state self.new) (listings.lister dir.new))) }
@@ -129,14 +126,8 @@ pub trait DavFileSystem {
 
     ghost puts_back: { (s : Self) → with_disk s (inside s) ≡ s };
 
-    ghost admits_lent: { (s t : Self) → view.lends s t
-        → Both (view.state s).told (view.state t).told SameBesidesOpens → view.admits s → view.admits t };
-
-    ghost admits_written: { (s t : Self) → view.lends s t
-        → Both (view.state s).told (view.state t).told SameBesidesFiles → view.admits s → view.admits t };
-
     /// The view speaks of the disk inside, of the files and of the entries as they are.
-    ghost fits: { Fits view listings inside with_disk Self.Disk.state Self.Disk.loan Self.File.handle Self.File.seen
+    ghost fits: { Fits view listings inside with_disk Self.Disk.state Self.Disk.loan Self.File.view
         Self.Entry.called Self.Entry.says };
 }
 
@@ -238,10 +229,6 @@ impl<S: DavFileSystem> GuardedFileSystem<()> for S {
     ghost puts_over = { S.puts_over };
 
     ghost puts_back = { S.puts_back };
-
-    ghost admits_lent = { S.admits_lent };
-
-    ghost admits_written = { S.admits_written };
 
     ghost fits = { S.fits };
 }

@@ -34,7 +34,8 @@ pub fn is_voidfs<S: GuardedFileSystem<C>, C>(fs: &S) -> bool
 
 impl<C> GuardedFileSystem<C> for VoidFs<C> {
     ghost use Rattle.std.specs.Prelude.{◌≡◌, None, codes, cond, false, refl, true};
-    ghost use Rattle.dav_store.specs.Void.{GivesOnce, Unbuilt, no_disk_state, no_handle};
+    ghost use Rattle.dav_store.specs.FileView.{same_files};
+    ghost use Rattle.dav_store.specs.Void.{GivesOnce, Unbuilt, no_disk_state, void_file};
 
     type Disk = NoDisk;
 
@@ -57,7 +58,6 @@ impl<C> GuardedFileSystem<C> for VoidFs<C> {
     ghost view = { record {
       state = λ s. no_disk_state s.disk.faults s.disk.asked;
       loan = λ _. None;
-      admits = λ _. Unit {0};
       lends = λ s t. t ≡ record s { disk = t.disk };
       looks = λ s _ _ result t. Unbuilt s result t;
       looks_at_link = λ s _ _ result t. Unbuilt s result t;
@@ -68,8 +68,7 @@ impl<C> GuardedFileSystem<C> for VoidFs<C> {
       renames = λ s _ _ _ result t. Unbuilt s result t;
       copies = λ s _ _ _ result t. Unbuilt s result t;
       folding = λ _. false;
-      handle = λ _. no_handle;
-      seen = λ _ _. None;
+      file = void_file;
     } };
 
     ghost listings = { record {
@@ -162,17 +161,12 @@ impl<C> GuardedFileSystem<C> for VoidFs<C> {
 
     ghost puts_back = { λ s. refl };
 
-    ghost admits_lent = { λ s t lent keeps admits. admits };
-
-    ghost admits_written = { λ s t lent keeps admits. admits };
-
     ghost fits = { record {
       state = λ s. refl;
       loan = λ s. refl;
       lends = λ s d. refl;
       lent = λ s t lends. lends;
-      handle = λ f. refl;
-      seen = λ f s. refl;
+      file = same_files void_file;
       called = λ e. refl;
       says = λ e s r t said. said;
     } };

@@ -44,15 +44,11 @@ impl DavFile<NoDisk> for VoidFile {
     ghost use Rattle.std.specs.Prelude.{◌<◌, None, length};
     ghost use Rattle.dav_store.specs.Files.{FileCloses, FileFlushes, FileGives, FileReads, FileRedirects, FileSays, FileSeeks, FileWrites};
     ghost use Rattle.dav_store.specs.Standing.{info_in};
-    ghost use Rattle.dav_store.specs.Void.{Unbuilt, empty_info, no_disk_state, no_handle};
+    ghost use Rattle.dav_store.specs.Void.{Unbuilt, empty_info, no_disk_state, no_handle, void_file};
 
     type Meta = EmptyMetaData;
 
-    ghost handle = { λ _. no_handle };
-
-    ghost seen = { λ _ _. None };
-
-    ghost writes = { λ _ s _ result _ t. Unbuilt s result t };
+    ghost view = { void_file };
 
     fn metadata(&mut self, disk: &mut NoDisk) -> Result<EmptyMetaData, FsError>
         ensures done { FileSays (no_disk_state disk.old.faults disk.old.asked) no_handle None
@@ -159,4 +155,6 @@ impl DavFile<NoDisk> for VoidFile {
     }
 
     ghost stays = { λ f s t leaves. tt };
+
+    ghost reads_on = { λ f s t leaves reads. reads };
 }

@@ -2,6 +2,7 @@
 use Rattle.std.proofs.Common.{◌≡◌, ◌≢◌, ◌⊎◌, ◌≤◌, ◌<◌, ◌+◌, ◌++◌, inl, inr, ℕ, List, [], ◌∷◌, length, Bool, true, false, Option, None, Some, Result, Ok, Err, refl, sym, ap, subst, ◌∙◌, arith, length-append}
 use Rattle.dav_io.specs.Told.{Both}
 use Rattle.dav_core.specs.declared.error.FsError.{FsError}
+use Rattle.dav_core.specs.declared.error.FsError.TheVariants as fs
 use Rattle.dav_core.specs.declared.handle.DiskError.{DiskError}
 use Rattle.dav_core.specs.declared.tree.Kind.TheVariants.{File}
 use Rattle.dav_core.specs.declared.tree.Row.{Row}
@@ -26,36 +27,37 @@ use Rattle.dav_methods.specs.Putting.{MayPut, MayReplace}
 use Rattle.dav_methods.specs.Table.{Below, Ends, Looks, Next, Run, Unless}
 use Rattle.dav_upload.specs.declared.error.UploadError.{UploadError}
 use Rattle.dav_upload.specs.declared.upload.Upload.{Upload}
-use Rattle.dav_upload.specs.Ends.{WritesAt}
+use Rattle.dav_upload.specs.Ends.{WritesAt, is_spoiled}
 use Rattle.dav_upload.specs.Names.{hidden_beside, is_hidden_path, is_taken}
 use Rattle.dav_upload.specs.Pieces.{upload_options}
 use Rattle.dav_upload.specs.Shown.{IsCommitted, IsHiddenIn, SameShown, StandsBeside}
 use Rattle.dav_upload.specs.Standing.{OthersOpen, StandsIn}
-use Rattle.dav_upload.specs.Steps.{Began, Committed, IsBeside, IsClear, Pieced}
+use Rattle.dav_upload.specs.Steps.{Began, Committed, IsBeside, IsClear, Pieced, SameLinks, is_fault}
 use Rattle.dav_upload.specs.Takes.{TakesUploads}
-use Rattle.dav_upload.specs.Uploading.{AfterClose, AfterJudged, AfterJudging, AfterMove, Aborts, Begins, BeginsAs, Commits, Judges, PieceOn, WritesPiece, is_refused, opened_as}
+use Rattle.dav_upload.specs.Uploading.{AfterClose, AfterJudged, AfterJudging, AfterMove, Aborts, Begins, BeginsAs, Commits, Judges, PieceOn, WritesPiece, is_refused, opened_as, refused_by}
 use Rattle.dav_upload.proofs.Beside.{below_greatest, file_beside, file_hidden, none_hidden, placed_above, placed_row}
-use Rattle.dav_upload.proofs.Ends.{may_move, moved_or_left, none_taken, taken_or_left, unlinked_after}
+use Rattle.dav_upload.proofs.Ends.{MayBeDone, may_move, moved_or_left, none_taken, taken_or_left, unlinked_after}
 use Rattle.dav_upload.proofs.Hiding.{taken_unseen}
 use Rattle.dav_upload.proofs.Making.{filled_unseen, kept_unseen, made_unseen, written_behind}
 use Rattle.dav_upload.proofs.Kept.{same_keep}
+use Rattle.dav_upload.proofs.Links.{links_filled, links_kept, links_made, links_same, links_then}
 use Rattle.dav_upload.proofs.Moving.{moved_commits, moved_gone, never, numbered}
 use Rattle.dav_upload.proofs.Stands.{made_stands, written_stands}
 use Rattle.dav_upload.proofs.Tokens.{beside_hides}
 
 -- ---- what is told
 
-told_pair : {A : Type 0} (a b : Option A) (P : A → A → Type 0) (v w : A) → Both a b P → a ≡ Some v → b ≡ Some w → P v w
+pub told_pair : {A : Type 0} (a b : Option A) (P : A → A → Type 0) (v w : A) → Both a b P → a ≡ Some v → b ≡ Some w → P v w
 told_pair None b P v w both e f = cc
 told_pair (Some x) None P v w both e f = cc
 told_pair (Some x) (Some y) P v w both e f = let g : x ≡ v = cc in let h : y ≡ w = cc in subst (λ z. P z w) g (subst (λ z. P x z) h both)
 
-told_on : {A : Type 0} (a b : Option A) (P : A → A → Type 0) (v : A) → Both a b P → a ≡ Some v → (w : A) × (b ≡ Some w) × P v w
+pub told_on : {A : Type 0} (a b : Option A) (P : A → A → Type 0) (v : A) → Both a b P → a ≡ Some v → (w : A) × (b ≡ Some w) × P v w
 told_on None b P v both e = cc
 told_on (Some x) None P v both e = absurd both
 told_on (Some x) (Some y) P v both e = let g : x ≡ v = cc in (y, refl, subst (λ z. P z y) g both)
 
-one_told : {A : Type 0} (o : Option A) (v w : A) → o ≡ Some v → o ≡ Some w → v ≡ w
+pub one_told : {A : Type 0} (o : Option A) (v w : A) → o ≡ Some v → o ≡ Some w → v ≡ w
 one_told o v w e f = let g : Some v ≡ Some w = sym e ∙ f in cc
 
 -- ---- what is shown
@@ -63,7 +65,7 @@ one_told o v w e f = let g : Some v ≡ Some w = sym e ∙ f in cc
 pub shown_then : (u v w : World) → SameShown u v → SameShown v w → SameShown u w
 shown_then u v w a b p = b p ∙ a p
 
-shown_same : (v w : World) → v ≡ w → SameShown v w
+pub shown_same : (v w : World) → v ≡ w → SameShown v w
 shown_same v w e = subst (SameShown v) e (λ p. refl)
 
 -- a commit between worlds that are shown alike
@@ -75,6 +77,20 @@ commit_between u v w x target pieces a is b = record {
   kind = is.kind;
   bytes = is.bytes;
 }
+
+-- a fault of the store is one of the upload
+spoiled_fault : (e : FsError) → is_spoiled e ≡ true → is_fault (refused_by e) ≡ true
+spoiled_fault fs.NotFound f = cc
+spoiled_fault fs.Forbidden f = cc
+spoiled_fault fs.Exists f = cc
+spoiled_fault fs.GeneralFailure f = refl
+spoiled_fault fs.NotImplemented f = cc
+spoiled_fault fs.InsufficientStorage f = cc
+spoiled_fault fs.LoopDetected f = cc
+spoiled_fault fs.PathTooLong f = cc
+spoiled_fault fs.TooLarge f = cc
+spoiled_fault fs.IsRemote f = cc
+spoiled_fault fs.NoMemory f = refl
 
 -- ---- an opening of the hidden name
 
@@ -130,12 +146,12 @@ module _ {S C F : Type 0} (view : View S C F) (writes : Writes F) (c : C) (test 
   -- ---- begin
 
   module _ (s t : S) (v w : World) (was : (view.state s).told ≡ Some v) (now : (view.state t).told ≡ Some w) where
-    pub opened_began : (target : WebPath) (token : ℕ) (u : World) (m : S) (opened : Result F FsError) (r : Result (Upload F) UploadError) → (view.state m).told ≡ Some u → SameShown v u
+    pub opened_began : (target : WebPath) (token : ℕ) (u : World) (m : S) (opened : Result F FsError) (r : Result (Upload F) UploadError) → (view.state m).told ≡ Some u → SameBesidesOpens v u
         → is_linked u.tree (hidden_beside target token).names ≡ false → plain m → view.opens m c (hidden_beside target token) upload_options opened t
-        → OpensOne view.handle view.seen upload_options (view.state m) opened (view.state t) → r ≡ opened_as target token opened → Began view.handle (view.state t).live r v w
+        → OpensOne view.file upload_options (view.state m) opened (view.state t) → r ≡ opened_as target token opened → Began view.file.handle (view.state t).live r v w
     opened_began target token u m (Err e) r here same clear p opens one is =
         let told = told_pair (view.state m).told (view.state t).told _ u w (takes_all.opens m t (hidden_beside target token) (Err e) p opens).1 here now in
-        subst (λ x. Began view.handle (view.state t).live x v w) (sym is) (shown_then v u w same (kept_unseen u w (told clear)))
+        subst (λ x. Began view.file.handle (view.state t).live x v w) (sym is) (shown_then v u w (kept_unseen v u same) (kept_unseen u w (told clear)))
     opened_began target token u m (Ok f) r here same clear p opens one is =
         let path = (hidden_beside target token).names in
         let (edit, row, allowed, edited, at, open_at) = told_pair (view.state m).told (view.state t).told _ u w (takes_all.opens m t (hidden_beside target token) (Ok f) p opens).1 here now clear in
@@ -146,53 +162,54 @@ module _ {S C F : Type 0} (view : View S C F) (writes : Writes F) (c : C) (test 
         let none = placed_row u.tree path None free in
         let hidden : IsHiddenIn u path = none_hidden u path world hides none (placed_above u.tree path None (hidden_long path hides) free) in
         let unseen : SameShown u w = made_unseen u w path [] hidden (below_greatest u world) did in
-        let others : OthersOpen (view.handle f) (view.state m).live (view.state t).live u w = record {
+        let others : OthersOpen (view.file.handle f) (view.state m).live (view.state t).live u w = record {
           lives = one.others.live;
           opens = λ k l ne alive. told_pair (view.state m).told (view.state t).told _ u w (one.others.opens k l ne alive) here now;
         } in
-        subst (λ x. Began view.handle (view.state t).live x v w) (sym is) (
-          shown_then v u w same unseen,
-          made_stands (view.handle f) (view.state m).live (view.state t).live u w others path (view.handle f) row world hides none did unseen at refl one.live one.options open_at,
+        subst (λ x. Began view.file.handle (view.state t).live x v w) (sym is) (
+          shown_then v u w (kept_unseen v u same) unseen,
+          links_then v u w (links_kept v u same) (links_made u w path [] did),
+          made_stands (view.file.handle f) (view.state m).live (view.state t).live u w others path (view.file.handle f) row world hides none did unseen at refl one.live one.options open_at,
         )
 
-    refused_began : (r : Result (Upload F) UploadError) (e : UploadError) → r ≡ Err e → SameShown v w → Began view.handle (view.state t).live r v w
-    refused_began r e is same = subst (λ x. Began view.handle (view.state t).live x v w) (sym is) same
+    refused_began : (r : Result (Upload F) UploadError) (e : UploadError) → r ≡ Err e → SameShown v w → Began view.file.handle (view.state t).live r v w
+    refused_began r e is same = subst (λ x. Began view.file.handle (view.state t).live x v w) (sym is) same
 
     stays_told : (m : S) → t ≡ m → (u : World) → (view.state m).told ≡ Some u → u ≡ w
     stays_told m same u here = one_told (view.state m).told u w here (sym (ap (λ x. (view.state x).told) same) ∙ now)
 
     pub began : (target : WebPath) (fields : Fields) (token : ℕ) (r : Result (Upload F) UploadError) → plain s → is_linked v.tree (hidden_beside target token).names ≡ false
-        → Begins view c target fields token s r t → Began view.handle (view.state t).live r v w
+        → Begins view c target fields token s r t → Began view.file.handle (view.state t).live r v w
     began target fields token r p clear begins = by (is_taken target) begins
       where
-        judged : Judges view c target fields token s r t → Began view.handle (view.state t).live r v w
+        judged : Judges view c target fields token s r t → Began view.file.handle (view.state t).live r v w
         judged j = by_may j.may j.opens
           where
             there : (u : World) × ((view.state j.judged).told ≡ Some u) × SameBesidesOpens v u
             there = told_on (view.state s).told (view.state j.judged).told SameBesidesOpens v j.keeps.world was
 
-            by_may : (may : Given) → AfterJudging view c may target token j.judged r t → Began view.handle (view.state t).live r v w
+            by_may : (may : Given) → AfterJudging view c may target token j.judged r t → Began view.file.handle (view.state t).live r v w
             by_may (Err e) (same, is) = refused_began r _ is (shown_then v there.0 w (kept_unseen v there.0 there.2) (shown_same there.0 w (stays_told j.judged same there.0 there.1)))
             by_may (Ok outcome) (opened, opens, one, is) =
-                opened_began target token there.0 j.judged opened r there.1 (kept_unseen v there.0 there.2)
+                opened_began target token there.0 j.judged opened r there.1 there.2
                 (ap (λ tree. is_linked tree (hidden_beside target token).names) there.2.tree ∙ clear) (judged_plain target fields s j.may j.judged p j.judges) opens one is
 
-        by : (b : Bool) → BeginsAs view c b target fields token s r t → Began view.handle (view.state t).live r v w
+        by : (b : Bool) → BeginsAs view c b target fields token s r t → Began view.file.handle (view.state t).live r v w
         by true (same, is) = refused_began r _ is (shown_same v w (stays_told s same v was))
         by false (inl (same, is)) = refused_began r _ is (shown_same v w (stays_told s same v was))
         by false (inr j) = judged j
 
   -- ---- a piece
 
-  never_appends : (o : Option Live) → ((l : Live) → o ≡ Some l → l.how ≡ upload_options) → appends o ≡ false
+  pub never_appends : (o : Option Live) → ((l : Live) → o ≡ Some l → l.how ≡ upload_options) → appends o ≡ false
   never_appends None how = refl
   never_appends (Some l) how = rw (how l refl) refl
 
   pub pieced : (u x : Upload F) (s t : S) (v w : World) (bytes pieces : List ℕ) (r : Result Unit UploadError) → (view.state s).told ≡ Some v → (view.state t).told ≡ Some w
-      → StandsIn (view.state s).live v u.hidden.names (view.handle u.file) u.broken pieces → WritesPiece view writes u bytes s r t x → Pieced view.handle (view.state t).live x pieces bytes v w
+      → StandsIn (view.state s).live v u.hidden.names (view.file.handle u.file) u.broken pieces → WritesPiece view writes u bytes s r t x → Pieced view.file.handle (view.state t).live x pieces bytes v w
   pieced u x s t v w bytes pieces r was now stands writes_piece = by u.broken refl writes_piece
     where
-      any_pieces : (broken : Bool) → u.broken ≡ broken → broken ≡ true → StandsIn (view.state s).live v u.hidden.names (view.handle u.file) u.broken (pieces ++ bytes)
+      any_pieces : (broken : Bool) → u.broken ≡ broken → broken ≡ true → StandsIn (view.state s).live v u.hidden.names (view.file.handle u.file) u.broken (pieces ++ bytes)
       any_pieces broken e f = record {
         lives = stands.lives;
         how = stands.how;
@@ -209,11 +226,11 @@ module _ {S C F : Type 0} (view : View S C F) (writes : Writes F) (c : C) (test 
       }
 
       by_result : (y : Result Unit FsError) (file : F) → u.broken ≡ false → WritesFile view writes s u.file bytes y t file → x ≡ record u { file = file; broken = is_refused y }
-          → Pieced view.handle (view.state t).live x pieces bytes v w
+          → Pieced view.file.handle (view.state t).live x pieces bytes v w
       by_result y file whole writes_so is = by_answer y writes_so is
         where
           h : ℕ
-          h = view.handle u.file
+          h = view.file.handle u.file
 
           others : (y : Result Unit FsError) → WritesFile view writes s u.file bytes y t file → OthersOpen h (view.state s).live (view.state t).live v w
           others y so = record {
@@ -228,37 +245,39 @@ module _ {S C F : Type 0} (view : View S C F) (writes : Writes F) (c : C) (test 
           did y so =
               told_pair (view.state s).told (view.state t).told _ v w (takes_all.writes_file s t u.file file bytes y so (never_appends ((view.state s).live h) stands.how)) was now stands.held stands.opens within
 
-          there : (y : Result Unit FsError) (wrong : Bool) → WritesFile view writes s u.file bytes y t file → is_refused y ≡ wrong → x ≡ record u { file = file; broken = is_refused y } → SameShown v w
-              → StandsIn (view.state t).live w u.hidden.names h wrong (pieces ++ bytes) → Pieced view.handle (view.state t).live x pieces bytes v w
-          there y wrong so e is same stands_now =
-              subst (λ z. Pieced view.handle (view.state t).live z pieces bytes v w) (sym is) (
+          there : (y : Result Unit FsError) (wrong : Bool) → WritesFile view writes s u.file bytes y t file → is_refused y ≡ wrong → x ≡ record u { file = file; broken = is_refused y } → SameShown v w → SameLinks v w
+              → StandsIn (view.state t).live w u.hidden.names h wrong (pieces ++ bytes) → Pieced view.file.handle (view.state t).live x pieces bytes v w
+          there y wrong so e is same links stands_now =
+              subst (λ z. Pieced view.file.handle (view.state t).live z pieces bytes v w) (sym is) (
                 same,
-                subst (λ b. StandsIn (view.state t).live w u.hidden.names (view.handle file) b (pieces ++ bytes)) (sym e)
+                links,
+                subst (λ b. StandsIn (view.state t).live w u.hidden.names (view.file.handle file) b (pieces ++ bytes)) (sym e)
                     (subst (λ k. StandsIn (view.state t).live w u.hidden.names k wrong (pieces ++ bytes)) (sym so.handle) stands_now),
               )
 
-          by_answer : (y : Result Unit FsError) → WritesFile view writes s u.file bytes y t file → x ≡ record u { file = file; broken = is_refused y } → Pieced view.handle (view.state t).live x pieces bytes v w
+          by_answer : (y : Result Unit FsError) → WritesFile view writes s u.file bytes y t file → x ≡ record u { file = file; broken = is_refused y } → Pieced view.file.handle (view.state t).live x pieces bytes v w
           by_answer (Ok z) so is =
               let (edited, opens) = did (Ok z) so in
               let (all, place) = stands.whole whole in
               let text : written stands.held.place bytes (bytes_of v stands.held.number) ≡ pieces ++ bytes =
               ap (λ p. written p bytes (bytes_of v stands.held.number)) place ∙ (ap (written (length pieces) bytes) all ∙ written_behind bytes pieces) in
-              there (Ok z) false so refl is (filled_unseen v w stands.held.number _ stands.unseen edited)
+              there (Ok z) false so refl is (filled_unseen v w stands.held.number _ stands.unseen edited) (links_filled v w stands.held.number _ edited)
               (written_stands h (view.state s).live (view.state t).live v w (others (Ok z) so) u.hidden.names h u.broken false pieces (pieces ++ bytes) stands
               (record stands.held { place = stands.held.place + length bytes }) _ refl edited so.told.live opens refl
               (λ e. (text, ap (λ p. p + length bytes) place ∙ sym (length-append pieces bytes))))
           by_answer (Err e) so is =
               let (n, open_now, edited, opens, number) = did (Err e) so in
-              there (Err e) true so refl is (filled_unseen v w stands.held.number _ stands.unseen edited)
+              there (Err e) true so refl is (filled_unseen v w stands.held.number _ stands.unseen edited) (links_filled v w stands.held.number _ edited)
               (written_stands h (view.state s).live (view.state t).live v w (others (Err e) so) u.hidden.names h u.broken true pieces (pieces ++ bytes) stands open_now _ refl edited so.told.live opens number (λ f. cc))
 
-      by : (b : Bool) → u.broken ≡ b → PieceOn view writes b u bytes s r t x → Pieced view.handle (view.state t).live x pieces bytes v w
+      by : (b : Bool) → u.broken ≡ b → PieceOn view writes b u bytes s r t x → Pieced view.file.handle (view.state t).live x pieces bytes v w
       by true e (same, is, refused) =
           let world : v ≡ w = one_told (view.state s).told v w was (sym (ap (λ y. (view.state y).told) same) ∙ now) in
-          subst (λ z. Pieced view.handle (view.state t).live z pieces bytes v w) (sym is) (
+          subst (λ z. Pieced view.file.handle (view.state t).live z pieces bytes v w) (sym is) (
             shown_same v w world,
-            subst (λ y. StandsIn (view.state y).live w u.hidden.names (view.handle u.file) u.broken (pieces ++ bytes)) (sym same)
-                (subst (λ z. StandsIn (view.state s).live z u.hidden.names (view.handle u.file) u.broken (pieces ++ bytes)) world (any_pieces true e refl)),
+            links_same v w world,
+            subst (λ y. StandsIn (view.state y).live w u.hidden.names (view.file.handle u.file) u.broken (pieces ++ bytes)) (sym same)
+                (subst (λ z. StandsIn (view.state s).live z u.hidden.names (view.file.handle u.file) u.broken (pieces ++ bytes)) world (any_pieces true e refl)),
           )
       by false e (y, file, writes_so, is, answer) = by_result y file e writes_so is
 
@@ -276,7 +295,7 @@ module _ {S C F : Type 0} (view : View S C F) (writes : Writes F) (c : C) (test 
       ]
 
   module _ (u : Upload F) (s t : S) (v w : World) (pieces : List ℕ) (was : (view.state s).told ≡ Some v) (now : (view.state t).told ≡ Some w)
-      (stands : StandsIn (view.state s).live v u.hidden.names (view.handle u.file) u.broken pieces) (p : plain s) where
+      (stands : StandsIn (view.state s).live v u.hidden.names (view.file.handle u.file) u.broken pieces) (p : plain s) where
     -- the world where the file was closed, or later, before anything was changed
     record Waits (m : S) : Type 0 where
       pub world : World
@@ -310,7 +329,7 @@ module _ {S C F : Type 0} (view : View S C F) (writes : Writes F) (c : C) (test 
       differ e = never (is_hidden_path u.target.names) (ap is_hidden_path (sym e) ∙ stands.hides) beside.shows
 
       moved : (m k : S) (x : Waits m) (z : World) → (view.state k).told ≡ Some z → (r : Result Unit FsError) → view.renames m c u.hidden u.target r k
-          → (IsCommitted x.world u.target.names pieces z × (row_at z.tree u.hidden.names ≡ None) × (is_linked z.tree u.hidden.names ≡ false)) ⊎ (SameBesidesOpens x.world z × (r ≡ Ok tt → ⊥))
+          → (IsCommitted x.world u.target.names pieces z × (row_at z.tree u.hidden.names ≡ None) × (is_linked z.tree u.hidden.names ≡ false) × MayBeDone r) ⊎ (SameBesidesOpens x.world z × (r ≡ Ok tt → ⊥))
       moved m k x z there r renames =
           let world = takes_all.worlds m x.world x.here in
           let at = row_waits m x in
@@ -320,13 +339,14 @@ module _ {S C F : Type 0} (view : View S C F) (writes : Writes F) (c : C) (test 
           let long = named_long u.target.names beside.named in
           let may = may_move x.world u.hidden.names u.target.names stands.row world at stands.kind (hidden_long u.hidden.names stands.hides) long differ in
           elim (moved_or_left x.world z u.hidden.names u.target.names r may ends) [
-            | inl (edited, no_dir) ↦
+            | inl (edited, no_dir, done) ↦
                 let so : StandsBeside x.world u.hidden.names u.target.names stands.row =
                 file_beside x.world u.hidden.names u.target.names stands.row world stands.hides beside.shows beside.beside long at stands.kind no_dir in
                 inl (
                   subst (λ all. IsCommitted x.world u.target.names all z) (bytes_wait m x whole) (moved_commits x.world z u.hidden.names u.target.names stands.row so edited),
                   moved_gone x.world z u.hidden.names u.target.names stands.row so differ edited,
                   unlinked_after x.world z u.hidden.names u.target.names stands.row so free edited,
+                  done,
                 )
             | inr left ↦ inr left
           ]
@@ -335,7 +355,7 @@ module _ {S C F : Type 0} (view : View S C F) (writes : Writes F) (c : C) (test 
           (result : Result Outcome UploadError) → AfterMove view c r outcome u.hidden k result t → Committed u.target.names false pieces result v w
       ends_moved m k x z there q (Ok y) renames outcome result (same, is) =
           elim (moved m k x z there (Ok y) renames) [
-            | inl (commits, none, free) ↦
+            | inl (commits, none, free, done) ↦
                 let end : z ≡ w = one_told (view.state k).told z w there (sym (ap (λ a. (view.state a).told) same) ∙ now) in
                 subst (λ o. Committed u.target.names false pieces o v w) (sym is)
                 (refl, commit_between v x.world z w u.target.names pieces (kept_unseen v x.world x.same) commits (shown_same z w end))
@@ -344,9 +364,9 @@ module _ {S C F : Type 0} (view : View S C F) (writes : Writes F) (c : C) (test 
       ends_moved m k x z there q (Err e) renames outcome result ((r, removes, keeps), is) =
           subst (λ o. Committed u.target.names false pieces o v w) (sym is)
           (elim (moved m k x z there (Err e) renames) [
-            | inl (commits, none, free) ↦
+            | inl (commits, none, free, done) ↦
                 let rest = none_taken z w u.hidden.names r none (told_pair (view.state k).told (view.state t).told _ z w (takes_all.removes k t u.hidden r q removes).1 there now free) in
-                inr (commit_between v x.world z w u.target.names pieces (kept_unseen v x.world x.same) commits (kept_unseen z w rest))
+                inr (spoiled_fault e done, commit_between v x.world z w u.target.names pieces (kept_unseen v x.world x.same) commits (kept_unseen z w rest))
             | inr (same, never_ok) ↦
                 let y : Waits k = record { world = z; here = there; same = same_besides_then v x.world z x.same same; plainly = q } in
                 inl (removed_after k y r clear.to_hidden removes)

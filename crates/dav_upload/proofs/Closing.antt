@@ -14,14 +14,13 @@ pub but_open : (own : ℕ) (s t : DiskState) → KeepsOpen s t → KeepsOpenBut 
 but_open own s t k = record { counts = k.counts; asked = k.asked; whole = k.whole; listers = k.listers; listings = k.listings; live = λ h ne. k.live h; opens = λ h l ne e. k.opens h l e }
 
 module _ {S C F : Type 0} (view : View S C F) where
-  pub closed_then : (s m t : S) (f : F) → Closes view s f m → (view.admits s → view.admits m) → StaysOpen view m t → StaysBy view (ClosesUpload (view.handle f)) s t
-  closed_then s m t f closes admits stays = record {
+  pub closed_then : (s m t : S) (f : F) → Closes view s f m → StaysOpen view m t → StaysBy view (ClosesUpload (view.file.handle f)) s t
+  closed_then s m t f closes stays = record {
     keeps = record {
-      others = but_then (view.handle f) (view.state s) (view.state m) (view.state t) (but_kept (view.handle f) (view.state s) (view.state m) closes.done.keeps)
-          (but_open (view.handle f) (view.state m) (view.state t) stays.keeps);
-      live = stays.keeps.live (view.handle f) ∙ closes.done.live;
+      others = but_then (view.file.handle f) (view.state s) (view.state m) (view.state t) (but_kept (view.file.handle f) (view.state s) (view.state m) closes.done.keeps)
+          (but_open (view.file.handle f) (view.state m) (view.state t) stays.keeps);
+      live = stays.keeps.live (view.file.handle f) ∙ closes.done.live;
     };
-    admits = λ a. stays.admits (admits a);
     loan = stays.loan ∙ closes.lent.loan;
   }
 
@@ -29,15 +28,13 @@ module _ {S C F : Type 0} (view : View S C F) where
   pub stays_then : (s m t : S) → StaysOpen view s m → StaysOpen view m t → StaysOpen view s t
   stays_then s m t p q = record {
     keeps = open_then (view.state s) (view.state m) (view.state t) p.keeps q.keeps;
-    admits = λ a. q.admits (p.admits a);
     loan = q.loan ∙ p.loan;
   }
 
   -- a call that only reads, and another
-  pub stays_after : (s m t : S) → Keeps (view.state s) (view.state m) → (view.admits s → view.admits m) → view.loan m ≡ view.loan s → StaysOpen view m t → StaysOpen view s t
-  stays_after s m t keeps admits loan q = record {
+  pub stays_after : (s m t : S) → Keeps (view.state s) (view.state m) → view.loan m ≡ view.loan s → StaysOpen view m t → StaysOpen view s t
+  stays_after s m t keeps loan q = record {
     keeps = open_after (view.state s) (view.state m) (view.state t) keeps q.keeps;
-    admits = λ a. q.admits (admits a);
     loan = q.loan ∙ loan;
   }
 
@@ -52,10 +49,9 @@ made_after handle (Err e) s m t keeps opens = open_after s m t keeps opens
 
 module _ {S C F : Type 0} (view : View S C F) where
   -- a call that only reads, and the making of the hidden file
-  pub opens_after : (s m t : S) (r : Result (Upload F) UploadError) → Keeps (view.state s) (view.state m) → (view.admits s → view.admits m) → view.loan m ≡ view.loan s
-      → StaysBy view (λ a b. OpensUpload view.handle a r b) m t → StaysBy view (λ a b. OpensUpload view.handle a r b) s t
-  opens_after s m t r keeps admits loan q = record {
-    keeps = made_after view.handle r (view.state s) (view.state m) (view.state t) keeps q.keeps;
-    admits = λ a. q.admits (admits a);
+  pub opens_after : (s m t : S) (r : Result (Upload F) UploadError) → Keeps (view.state s) (view.state m) → view.loan m ≡ view.loan s
+      → StaysBy view (λ a b. OpensUpload view.file.handle a r b) m t → StaysBy view (λ a b. OpensUpload view.file.handle a r b) s t
+  opens_after s m t r keeps loan q = record {
+    keeps = made_after view.file.handle r (view.state s) (view.state m) (view.state t) keeps q.keeps;
     loan = q.loan ∙ loan;
   }

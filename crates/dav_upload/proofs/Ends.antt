@@ -18,7 +18,7 @@ use Rattle.dav_core.specs.Tree.{is_dir, is_link, is_linked, look, row_at, standi
 use Rattle.dav_core.specs.World.{IsWorld, SameBesidesOpens, World}
 use Rattle.dav_core.specs.Writing.{LeftBy}
 use Rattle.dav_core.proofs.PlaceLemmas.{look_place, stands_at}
-use Rattle.dav_upload.specs.Ends.{EndsAs}
+use Rattle.dav_upload.specs.Ends.{EndsAs, is_spoiled}
 use Rattle.dav_upload.specs.Shown.{StandsBeside}
 use Rattle.dav_upload.proofs.Beside.{looked_at, placed_row}
 use Rattle.dav_upload.proofs.Moving.{path_of, same_yes, timed_kind, timed_path}
@@ -40,14 +40,16 @@ taken_or_left v w hidden row (Ok x) is at kind (edit, allowed, edited) =
     let same : Some (takes hidden) ≡ edit = edit_of (Some (takes hidden)) edit (sym (takes_allowed v hidden row is at kind) ∙ allowed) in
     inl (subst (λ e. EditedBy e v w) (sym same) edited)
 taken_or_left v w hidden row (Err e) is at kind left =
-    by (subst (λ a. LeftBy true a v w) (takes_allowed v hidden row is at kind) left)
+    by (is_spoiled e) (subst (λ a. LeftBy (is_spoiled e) a v w) (takes_allowed v hidden row is at kind) left)
   where
-    by : LeftBy true (Ok (Some (takes hidden))) v w → Edited (takes hidden) v w ⊎ SameBesidesOpens v w
-    by (inl same) = inr same
-    by (inr (part, none, edited)) = absurd none
+    by : (b : Bool) → LeftBy b (Ok (Some (takes hidden))) v w → Edited (takes hidden) v w ⊎ SameBesidesOpens v w
+    by false same = inr same
+    by true (inl same) = inr same
+    by true (inr (part, none, edited)) = absurd none
 
-left_refused : (d : DiskError) (v w : World) → LeftBy true (Err d) v w → SameBesidesOpens v w
-left_refused d v w left = left
+pub left_refused : (b : Bool) (d : DiskError) (v w : World) → LeftBy b (Err d) v w → SameBesidesOpens v w
+left_refused true d v w left = left
+left_refused false d v w left = left
 
 not_looked : (tree : List Row) (path : Names) → row_at tree path ≡ None → (d : DiskError) × (look tree path ≡ Err d)
 not_looked tree path none = by (place tree path) refl
@@ -65,7 +67,7 @@ none_taken v w hidden r none ends = by r ends
 
     by : (r : Result Unit FsError) → EndsAs (taking_file v.tree hidden) r v w → SameBesidesOpens v w
     by (Ok x) (edit, allowed, edited) = let f : Err refused.0 ≡ Ok edit = sym refused.1 ∙ allowed in cc
-    by (Err e) left = left_refused refused.0 v w (subst (λ a. LeftBy true a v w) refused.1 left)
+    by (Err e) left = left_refused (is_spoiled e) refused.0 v w (subst (λ a. LeftBy (is_spoiled e) a v w) refused.1 left)
 
 -- ---- a move
 
@@ -138,24 +140,30 @@ may_move w hidden target row is at kind some named differ = by_place (place w.tr
     by_place (Err d) e = not_now d (found ∙ ap (moving_to w.tree row target) e)
     by_place (Ok o) e = over o e (is_front row.path target) refl
 
+-- what was done was answered so, or with a fault or want of memory
+abbrev pub MayBeDone : Result Unit FsError → Type 0
+MayBeDone (Ok x) = Unit {0}
+MayBeDone (Err e) = is_spoiled e ≡ true
+
 -- the file is moved, or all stays
 pub moved_or_left : (v w : World) (hidden target : Names) (r : Result Unit FsError) → MayMove v.tree hidden target → EndsAs (moving v.tree hidden target) r v w
-    → (Edited (moves hidden target) v w × ((r : Row) → row_at v.tree target ≡ Some r → r.kind ≡ Dir → ⊥)) ⊎ (SameBesidesOpens v w × (r ≡ Ok tt → ⊥))
+    → (Edited (moves hidden target) v w × ((r : Row) → row_at v.tree target ≡ Some r → r.kind ≡ Dir → ⊥) × MayBeDone r) ⊎ (SameBesidesOpens v w × (r ≡ Ok tt → ⊥))
 moved_or_left v w hidden target (Ok x) (may allowed no_dir) (edit, is, edited) =
     let same : Some (moves hidden target) ≡ edit = edit_of (Some (moves hidden target)) edit (sym allowed ∙ is) in
-    inl (subst (λ e. EditedBy e v w) (sym same) edited, no_dir)
+    inl (subst (λ e. EditedBy e v w) (sym same) edited, no_dir, tt)
 moved_or_left v w hidden target (Ok x) (not_now d refused) (edit, is, edited) = let f : Err d ≡ Ok edit = sym refused ∙ is in cc
-moved_or_left v w hidden target (Err e) (not_now d refused) left = inr (left_refused d v w (subst (λ a. LeftBy true a v w) refused left), λ f. cc)
-moved_or_left v w hidden target (Err e) (may allowed no_dir) left = by (subst (λ a. LeftBy true a v w) allowed left)
+moved_or_left v w hidden target (Err e) (not_now d refused) left = inr (left_refused (is_spoiled e) d v w (subst (λ a. LeftBy (is_spoiled e) a v w) refused left), λ f. cc)
+moved_or_left v w hidden target (Err e) (may allowed no_dir) left = by (is_spoiled e) refl (subst (λ a. LeftBy (is_spoiled e) a v w) allowed left)
   where
-    by : LeftBy true (Ok (Some (moves hidden target))) v w
-        → (Edited (moves hidden target) v w × ((r : Row) → row_at v.tree target ≡ Some r → r.kind ≡ Dir → ⊥)) ⊎ (SameBesidesOpens v w × (◌≡◌ {A = Result Unit FsError} (Err e) (Ok tt) → ⊥))
-    by (inl same) = inr (same, λ f. cc)
-    by (inr (part, is, edited)) = inl (subst (λ p. Edited p v w) is edited, no_dir)
+    by : (b : Bool) → is_spoiled e ≡ b → LeftBy b (Ok (Some (moves hidden target))) v w
+        → (Edited (moves hidden target) v w × ((r : Row) → row_at v.tree target ≡ Some r → r.kind ≡ Dir → ⊥) × (is_spoiled e ≡ true)) ⊎ (SameBesidesOpens v w × (◌≡◌ {A = Result Unit FsError} (Err e) (Ok tt) → ⊥))
+    by false f same = inr (same, λ f. cc)
+    by true f (inl same) = inr (same, λ f. cc)
+    by true f (inr (part, is, edited)) = inl (subst (λ p. Edited p v w) is edited, no_dir, f)
 
 -- ---- what is linked behind a move
 
-timed_linked : (q : Names) (t : FileTime) (rows : List Row) (p : Names) → is_linked (map (timed_row q t) rows) p ≡ is_linked rows p
+pub timed_linked : (q : Names) (t : FileTime) (rows : List Row) (p : Names) → is_linked (map (timed_row q t) rows) p ≡ is_linked rows p
 timed_linked q t [] p = refl
 timed_linked q t (r ∷ rows) p = rw (timed_kind q t r, timed_path q t r, timed_linked q t rows p) refl
 

@@ -51,7 +51,7 @@ kept_made v w path p kind bytes ne (number, t, u, next, new, later, becomes) =
     like_row v w p (timed_row (parent_of path) u) (λ r. (timed_kind (parent_of path) u r, timed_number (parent_of path) u r))
     (ap (λ rows. row_at rows p) becomes.tree ∙ (timed_at (parent_of path) u (v.tree ++ row ∷ []) p ∙ ap (option_map (timed_row (parent_of path) u)) (more_at row v.tree p ne)))
 
-renewed_kind : (number : ℕ) (t : FileTime) (r : Row) → (renewed_row number t r).kind ≡ r.kind
+pub renewed_kind : (number : ℕ) (t : FileTime) (r : Row) → (renewed_row number t r).kind ≡ r.kind
 renewed_kind number t r = by (r.number == number) refl
   where
     by : (b : Bool) → (r.number == number) ≡ b → (renewed_row number t r).kind ≡ r.kind

@@ -9,4 +9,6 @@ pub mod Stands
 pub mod Ends
 pub mod Closing
 pub mod MembersTaken
+pub mod Links
 pub mod Chains
+pub mod Sweeps

@@ -53,7 +53,7 @@ made_unseen v w hidden bytes stands below (number, t, u, next, new, later, becom
 
 -- ---- a write
 
-renewed_path : (number : ℕ) (t : FileTime) (r : Row) → (renewed_row number t r).path ≡ r.path
+pub renewed_path : (number : ℕ) (t : FileTime) (r : Row) → (renewed_row number t r).path ≡ r.path
 renewed_path number t r = by (r.number == number) refl
   where
     by : (b : Bool) → (r.number == number) ≡ b → (renewed_row number t r).path ≡ r.path

@@ -1,6 +1,7 @@
 -- What calls of a store make of a told world, by what the tree allows.
-use Rattle.std.specs.Prelude.{◌≡◌, ◌+◌, ℕ, List, length, take, true, Option, Some, Result, Ok, Err}
+use Rattle.std.specs.Prelude.{◌≡◌, ◌+◌, ℕ, List, length, take, Bool, true, false, Option, Some, Result, Ok, Err}
 use Rattle.dav_core.specs.declared.error.FsError.{FsError}
+use Rattle.dav_core.specs.declared.error.FsError.TheVariants.{GeneralFailure, NoMemory}
 use Rattle.dav_core.specs.declared.tree.Row.{Row}
 use Rattle.dav_core.specs.Allowed.{Allowed, opening}
 use Rattle.dav_core.specs.Disk.{at_start}
@@ -11,10 +12,16 @@ use Rattle.dav_core.specs.World.{OpenFile, SameBesidesOpens, World, bytes_of}
 use Rattle.dav_core.specs.Writing.{LeftBy, written}
 use Rattle.dav_upload.specs.Pieces.{upload_options}
 
--- A call does what is allowed; a refused one may leave a part of it.
+-- a fault, or want of memory
+abbrev pub is_spoiled : FsError → Bool
+is_spoiled GeneralFailure = true
+is_spoiled NoMemory = true
+is_spoiled e = false
+
+-- A call does what is allowed. Refused for a fault or want of memory it may leave a part of it, and else nothing.
 abbrev pub EndsAs : Allowed → Result Unit FsError → World → World → Type 0
 EndsAs allowed (Ok x) v w = (edit : Option Edit) × (allowed ≡ Ok edit) × EditedBy edit v w
-EndsAs allowed (Err e) v w = LeftBy true allowed v w
+EndsAs allowed (Err e) v w = LeftBy (is_spoiled e) allowed v w
 
 -- A file to be uploaded to is opened at its first byte, where it may be; a refused opening changes nothing.
 abbrev pub MakesFile : {F : Type 0} → (F → ℕ) → Names → Result F FsError → World → World → Type 0

@@ -11,8 +11,10 @@ use Rattle.dav_core.specs.Info.{Info}
 use Rattle.dav_core.specs.Tree.{is_linked, row_at}
 use Rattle.dav_core.specs.World.{IsWorld, OpenFile, World, bytes_of}
 use Rattle.dav_core.specs.Writing.{appends}
-use Rattle.dav_store.specs.View.{View}
+use Rattle.dav_store.specs.View.{Listings, View}
+use Rattle.dav_methods.specs.declared.child.Child.{Child}
 use Rattle.dav_methods.specs.Pouring.{Writes, WritesFile}
+use Rattle.dav_methods.specs.Reading.{HasMembers}
 use Rattle.dav_upload.specs.Ends.{EndsAs, MakesFile, WritesAt}
 use Rattle.dav_upload.specs.Pieces.{upload_options}
 
@@ -28,7 +30,7 @@ module _ {S C F : Type 0} (view : View S C F) (writes : Writes F) (c : C) where
         → test n ≡ true
     pub opens : (m n : S) (path : WebPath) (r : Result F FsError) → test m ≡ true
         → view.opens m c path upload_options r n → (test n ≡ true)
-        × Told m n (λ v w. is_linked v.tree path.names ≡ false → MakesFile view.handle path.names r v w)
+        × Told m n (λ v w. is_linked v.tree path.names ≡ false → MakesFile view.file.handle path.names r v w)
     pub removes : (m n : S) (path : WebPath) (r : Result Unit FsError) → test m ≡ true
         → view.removes_file m c path r n → (test n ≡ true)
         × Told m n (λ v w. is_linked v.tree path.names ≡ false → EndsAs (taking_file v.tree path.names) r v w)
@@ -40,6 +42,12 @@ module _ {S C F : Type 0} (view : View S C F) (writes : Writes F) (c : C) where
         → EndsAs (moving v.tree from.names to.names) r v w)
     -- (a file that isn't opened to append, and whose place isn't behind its end)
     pub writes_file : (m n : S) (f g : F) (bytes : List ℕ) (r : Result Unit FsError)
-        → WritesFile view writes m f bytes r n g → appends ((view.state m).live (view.handle f)) ≡ false
-        → Told m n (λ v w. (o : OpenFile) → v.opens (view.handle f) ≡ Some o
-        → o.place ≤ length (bytes_of v o.number) → WritesAt (view.handle f) bytes r o v w)
+        → WritesFile view writes m f bytes r n g → appends ((view.state m).live (view.file.handle f)) ≡ false
+        → Told m n (λ v w. (o : OpenFile) → v.opens (view.file.handle f) ≡ Some o
+        → o.place ≤ length (bytes_of v o.number) → WritesAt (view.file.handle f) bytes r o v w)
+
+module _ {S C F L E : Type 0} (view : View S C F) (lists : Listings S C L E) (c : C) where
+  -- The reading of a directory leaves how paths are found.
+  abbrev pub ReadsPlainly : (S → Bool) → Type 0
+  ReadsPlainly test = (m n : S) (path : WebPath) (members : List Child) → test m ≡ true
+      → HasMembers view lists m c path members n → test n ≡ true

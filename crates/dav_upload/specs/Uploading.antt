@@ -102,7 +102,7 @@ module _ {S C F : Type 0} (view : View S C F) (c : C) where
   AfterJudging (Err e) target token s result t = (t ≡ s) × (result ≡ Err (refusal_of e))
   AfterJudging (Ok outcome) target token s result t = (opened : Result F FsError)
       × view.opens s c (hidden_beside target token) upload_options opened t
-      × OpensOne view.handle view.seen upload_options (view.state s) opened (view.state t)
+      × OpensOne view.file upload_options (view.state s) opened (view.state t)
       × (result ≡ opened_as target token opened)
 
   -- A PUT of the target is judged up to its precondition, and the hidden file is made.

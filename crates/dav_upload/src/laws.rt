@@ -14,9 +14,9 @@ ghost use Rattle.dav_upload.specs.declared.error.UploadError.{UploadError as Ref
 ghost use Rattle.dav_upload.specs.declared.upload.Upload.{Upload};
 ghost use Rattle.dav_upload.specs.Kept.{KeepsRow};
 ghost use Rattle.dav_upload.specs.Standing.{OthersOpen, StandsIn};
-ghost use Rattle.dav_upload.specs.Steps.{Began, Committed, IsBeside, IsClear, Pieced};
-ghost use Rattle.dav_upload.specs.Takes.{TakesUploads};
-ghost use Rattle.dav_upload.specs.Uploading.{Aborts, Begins, Commits, WritesPiece};
+ghost use Rattle.dav_upload.specs.Steps.{Began, Committed, HasClearNames, IsBeside, IsClear, Pieced};
+ghost use Rattle.dav_upload.specs.Takes.{ReadsPlainly, TakesUploads};
+ghost use Rattle.dav_upload.specs.Uploading.{Aborts, Begins, Commits, Sweeps, WritesPiece};
 ghost use Rattle.dav_store.specs.Files.{WritesIn};
 ghost use Rattle.dav_store.specs.Standing.{Seen};
 ghost use Rattle.dav_upload.specs.Names.{hidden_beside, hidden_name, is_hidden, is_hidden_path};
@@ -69,33 +69,41 @@ pub fn pieces_stand_behind()
 {}
 
 /// Over a store whose calls do what the tree allows at paths as they are written, where no link stands on the way to the
-/// two paths of an upload: a beginning, a piece and an abort leave what is shown, and a commit leaves it or makes its
-/// target a file of all pieces. At Ok an upload that begins stands, and a commit was made; a piece keeps its upload
-/// standing.
+/// two paths of an upload: a beginning, a piece, an abort and a sweep leave what is shown, and a commit leaves it or
+/// makes its target a file of all pieces. At Ok an upload that begins stands, and a commit was made; a piece keeps its
+/// upload standing. Beginnings and pieces leave on which paths links stand.
 pub fn uploads_are_whole<S: GuardedFileSystem<C>, C>(_fs: &S, _credentials: &C)
-    ensures begins { (test : S → Bool) → TakesUploads S.view S.File.writes _credentials.now test → (s t : S) (v w : World)
+    ensures begins { (test : S → Bool) → TakesUploads S.view S.File.view.writes _credentials.now test
+        → (s t : S) (v w : World)
         (target : WebPath) (fields : Fields) (token : ℕ) (r : Result (Upload S.File) Refusal)
         → (S.view.state s).told ≡ Some v → (S.view.state t).told ≡ Some w → test s ≡ true
         → is_linked v.tree (hidden_beside target token).names ≡ false
         → Begins S.view _credentials.now target fields token s r t
-        → Began S.view.handle (S.view.state t).live r v w }
-    ensures pieces { (test : S → Bool) → TakesUploads S.view S.File.writes _credentials.now test → (u x : Upload S.File)
+        → Began S.view.file.handle (S.view.state t).live r v w }
+    ensures pieces { (test : S → Bool) → TakesUploads S.view S.File.view.writes _credentials.now test
+        → (u x : Upload S.File)
         (s t : S) (v w : World) (bytes pieces : List ℕ) (r : Result Unit Refusal)
         → (S.view.state s).told ≡ Some v → (S.view.state t).told ≡ Some w
-        → StandsIn (S.view.state s).live v u.hidden.names (S.view.handle u.file) u.broken pieces
-        → WritesPiece S.view S.File.writes u bytes s r t x
-        → Pieced S.view.handle (S.view.state t).live x pieces bytes v w }
-    ensures commits { (test : S → Bool) → TakesUploads S.view S.File.writes _credentials.now test → (u : Upload S.File)
+        → StandsIn (S.view.state s).live v u.hidden.names (S.view.file.handle u.file) u.broken pieces
+        → WritesPiece S.view S.File.view.writes u bytes s r t x
+        → Pieced S.view.file.handle (S.view.state t).live x pieces bytes v w }
+    ensures commits { (test : S → Bool) → TakesUploads S.view S.File.view.writes _credentials.now test
+        → (u : Upload S.File)
         (s t : S) (v w : World) (pieces : List ℕ) (fields : Fields) (r : Result Outcome Refusal)
         → (S.view.state s).told ≡ Some v → (S.view.state t).told ≡ Some w → test s ≡ true
-        → StandsIn (S.view.state s).live v u.hidden.names (S.view.handle u.file) u.broken pieces
+        → StandsIn (S.view.state s).live v u.hidden.names (S.view.file.handle u.file) u.broken pieces
         → IsBeside u.target.names u.hidden.names → IsClear v u.target.names u.hidden.names
         → Commits S.view _credentials.now u fields s r t → Committed u.target.names u.broken pieces r v w }
-    ensures aborts { (test : S → Bool) → TakesUploads S.view S.File.writes _credentials.now test → (u : Upload S.File)
+    ensures aborts { (test : S → Bool) → TakesUploads S.view S.File.view.writes _credentials.now test
+        → (u : Upload S.File)
         (s t : S) (v w : World) (pieces : List ℕ) (r : Result Unit Refusal)
         → (S.view.state s).told ≡ Some v → (S.view.state t).told ≡ Some w → test s ≡ true
-        → StandsIn (S.view.state s).live v u.hidden.names (S.view.handle u.file) u.broken pieces
+        → StandsIn (S.view.state s).live v u.hidden.names (S.view.file.handle u.file) u.broken pieces
         → is_linked v.tree u.hidden.names ≡ false → Aborts S.view _credentials.now u s r t → SameShown v w }
+    ensures sweeps { (test : S → Bool) → TakesUploads S.view S.File.view.writes _credentials.now test
+        → ReadsPlainly S.view S.listings _credentials.now test → (dir : WebPath) (s t : S) (v w : World)
+        (r : Result ℕ Refusal) → (S.view.state s).told ≡ Some v → (S.view.state t).told ≡ Some w → test s ≡ true
+        → HasClearNames v dir.names → Sweeps S.view S.listings _credentials.now dir s r t → SameShown v w }
 {}
 
 /// An upload with another hidden name and another handle goes on standing where a file is made, filled, taken or moved

@@ -67,7 +67,6 @@ pub fn sweep<S: GuardedFileSystem<C>, C>(
     credentials: &C,
     dir: &DavPath,
 ) -> Result<u64, UploadError>
-    requires admits { S.view.admits fs.old }
     ensures table { Sweeps S.view S.listings credentials.now dir.now fs.old result fs.new }
     ensures stays { StaysOpen S.view fs.old fs.new }
 {

@@ -1,5 +1,5 @@
 //! An upload: its pieces go to a hidden file beside the target, which takes the target's place when all is there.
-ghost use Rattle.std.specs.Prelude.{◌≡◌, ◌<◌, ℕ, IsSome, Ok, length};
+ghost use Rattle.std.specs.Prelude.{◌≡◌, ◌<◌, ℕ, IfOk, IsSome, Ok, length};
 ghost use Rattle.dav_store.specs.View.{StaysBy, StaysOpen};
 ghost use Rattle.dav_upload.specs.Pieces.{ClosesUpload, KeepsUpload, upload_options as the_upload_options};
 ghost use Rattle.dav_upload.specs.Uploading.{AfterClose, AfterJudged, AfterJudging, Aborts, Begins, Commits, OpensUpload, TriesToRemove, WritesPiece, named_for};
@@ -47,7 +47,8 @@ fn open_hidden<S: GuardedFileSystem<C>, C>(
 ) -> Result<Upload<S::File>, UploadError>
     ensures opens { (target : WebPath) (token : ℕ) → named ≡ named_for target token
         → AfterJudging S.view credentials.now (Ok outcome) target token fs.old result fs.new }
-    ensures stays { StaysBy S.view (λ s t. OpensUpload S.view.handle s result t) fs.old fs.new }
+    ensures stays { StaysBy S.view (λ s t. OpensUpload S.view.file.handle s result t) fs.old fs.new }
+    ensures reads_from { IfOk result (λ upload. S.view.file.reads_from upload.file (S.view.state fs.new)) }
 {
     let Named {
         target,
@@ -82,7 +83,8 @@ pub fn begin<S: GuardedFileSystem<C>, C>(
     token: u64,
 ) -> Result<Upload<S::File>, UploadError>
     ensures table { Begins S.view credentials.now path.now fields.now token fs.old result fs.new }
-    ensures stays { StaysBy S.view (λ s t. OpensUpload S.view.handle s result t) fs.old fs.new }
+    ensures stays { StaysBy S.view (λ s t. OpensUpload S.view.file.handle s result t) fs.old fs.new }
+    ensures reads_from { IfOk result (λ upload. S.view.file.reads_from upload.file (S.view.state fs.new)) }
 {
     if is_taken(path) {
         return Err(UploadError::Hidden);
@@ -102,9 +104,9 @@ fn write_piece<S: GuardedFileSystem<C>, C>(
     file: &mut S::File,
     bytes: &[u8],
 ) -> Result<(), FsError>
-    requires { IsSome ((S.view.state fs.old).live (S.view.handle file.old)) }
-    ensures writes { WritesFile S.view S.File.writes fs.old file.old bytes.now result fs.new file.new }
-    ensures admits { S.view.admits fs.old → S.view.admits fs.new }
+    requires live { IsSome ((S.view.state fs.old).live (S.view.file.handle file.old)) }
+    requires reads_from { S.view.file.reads_from file.old (S.view.state fs.old) }
+    ensures writes { WritesFile S.view S.File.view.writes fs.old file.old bytes.now result fs.new file.new }
 {
     file.write_bytes(fs.disk(), bytes)
 }
@@ -171,11 +173,13 @@ pub fn piece<S: GuardedFileSystem<C>, C>(
     upload: &mut Upload<S::File>,
     bytes: &[u8],
 ) -> Result<(), UploadError>
-    requires live { IsSome ((S.view.state fs.old).live (S.view.handle upload.old.file)) }
+    requires live { IsSome ((S.view.state fs.old).live (S.view.file.handle upload.old.file)) }
+    requires reads_from { S.view.file.reads_from upload.old.file (S.view.state fs.old) }
     requires some { 0 < length bytes.now }
-    ensures table { WritesPiece S.view S.File.writes upload.old bytes.now fs.old result fs.new upload.new }
-    ensures stays { StaysBy S.view (KeepsUpload (S.view.handle upload.old.file) (S.view.handle upload.new.file)) fs.old
-        fs.new }
+    ensures table { WritesPiece S.view S.File.view.writes upload.old bytes.now fs.old result fs.new upload.new }
+    ensures stays { StaysBy S.view
+        (KeepsUpload (S.view.file.handle upload.old.file) (S.view.file.handle upload.new.file)) fs.old fs.new }
+    ensures reads_from { S.view.file.reads_from upload.new.file (S.view.state fs.new) }
 {
     if upload.broken {
         return Err(UploadError::Dav(DavError::Body));
@@ -201,9 +205,9 @@ pub fn commit<S: GuardedFileSystem<C>, C>(
     upload: Upload<S::File>,
     fields: &HeaderMap,
 ) -> Result<Outcome, UploadError>
-    requires { IsSome ((S.view.state fs.old).live (S.view.handle upload.file)) }
+    requires { IsSome ((S.view.state fs.old).live (S.view.file.handle upload.file)) }
     ensures table { Commits S.view credentials.now upload fields.now fs.old result fs.new }
-    ensures stays { StaysBy S.view (ClosesUpload (S.view.handle upload.file)) fs.old fs.new }
+    ensures stays { StaysBy S.view (ClosesUpload (S.view.file.handle upload.file)) fs.old fs.new }
 {
     let Upload {
         target,
@@ -223,9 +227,9 @@ pub fn abort<S: GuardedFileSystem<C>, C>(
     credentials: &C,
     upload: Upload<S::File>,
 ) -> Result<(), UploadError>
-    requires { IsSome ((S.view.state fs.old).live (S.view.handle upload.file)) }
+    requires { IsSome ((S.view.state fs.old).live (S.view.file.handle upload.file)) }
     ensures table { Aborts S.view credentials.now upload fs.old result fs.new }
-    ensures stays { StaysBy S.view (ClosesUpload (S.view.handle upload.file)) fs.old fs.new }
+    ensures stays { StaysBy S.view (ClosesUpload (S.view.file.handle upload.file)) fs.old fs.new }
 {
     let Upload {
         target: _target,

@@ -8,7 +8,7 @@ ghost use Rattle.dav_body.specs.Bodies.{MayPoll};
 ghost use Rattle.dav_config.specs.Responses.{inner_of};
 ghost use Rattle.dav_disk.specs.Failing.{mem_state};
 ghost use Rattle.dav_get.specs.Bodies.{IsHeld};
-ghost use Rattle.dav_local.specs.Files.{seen_by};
+ghost use Rattle.dav_local.specs.LocalFiles.{local_file};
 
 use anyhow::{Result, bail};
 use dav_body::{Body, BodyFault, BodyType, collect};
@@ -46,14 +46,14 @@ fn request_of(alloc: Global, method: &str, target: &str, bytes: &[u8]) -> Result
 // The answer to a request. `may` is what a poll of its body requires, and holds at once.
 fn answered(handler: &mut Handler, request: Request<OneBody>) -> Answered<LocalFsFile>
     ensures may { IfOk result (λ r. IfSome handler.new.store (λ s. MayPoll
-        (λ b d. IsHeld (λ f. f.handle.0) seen_by (mem_state d) b) (inner_of r) s.disk)) }
+        (λ b d. IsHeld local_file (mem_state d) b) (inner_of r) s.disk)) }
 {
     handler.handle(request, Moment(0))
 }
 
 // Ends a body. Where it wasn't read to its end, its file is open still, and closed here.
 fn end(disk: &mut MemDisk, body: Body<GetBody<LocalFsFile>>)
-    requires { MayPoll (λ b d. IsHeld (λ f. f.handle.0) seen_by (mem_state d) b) body.inner disk.old }
+    requires { MayPoll (λ b d. IsHeld local_file (mem_state d) b) body.inner disk.old }
 {
     let Body { inner } = body;
     match inner {
@@ -68,7 +68,7 @@ fn gathered(
     disk: &mut MemDisk,
     body: Body<GetBody<LocalFsFile>>,
 ) -> Result<Octets, BodyFault>
-    requires { MayPoll (λ b d. IsHeld (λ f. f.handle.0) seen_by (mem_state d) b) body.inner disk.old }
+    requires { MayPoll (λ b d. IsHeld local_file (mem_state d) b) body.inner disk.old }
 {
     let mut body = body;
     let all = collect(alloc, &mut body, disk);

@@ -3,7 +3,8 @@
 //!
 //! On the disk stand the file `/f.txt` (number 26, 1 s, `0123456789`) and the directory `/d` (number 27, 2 s). A row is
 //! parts with `|` between them. The first names a form and settings: `handle`, `guarded`, `stream`, `with`,
-//! `stream_with`, or `none` and `none_with` for a handler without a store; behind it settings as `NAME=VALUE`
+//! `stream_with`, or `none`, `none_guarded`, `none_stream`, `none_with` and `none_stream_with` for a handler without a
+//! store; behind it settings as `NAME=VALUE`
 //! (`settings.rt`). Behind a word `;` stand those of the configuration that is given with each request. A word `store`
 //! among them gives it a disk of its own, with the file `/f.txt` (number 36, 3 s, `abcde`), whose calls of the numbers
 //! in words `!CALL` fail. Each other part is a request to the same handler: its method, its target, and fields as
@@ -20,7 +21,7 @@ ghost use Rattle.dav_body.specs.Bodies.{MayPoll};
 ghost use Rattle.dav_config.specs.Responses.{inner_of};
 ghost use Rattle.dav_disk.specs.Failing.{mem_state};
 ghost use Rattle.dav_get.specs.Bodies.{IsHeld};
-ghost use Rattle.dav_local.specs.Files.{seen_by};
+ghost use Rattle.dav_local.specs.LocalFiles.{local_file};
 
 mod readers;
 mod requests;
@@ -122,13 +123,15 @@ fn answered(
     request: Request<Pieces>,
 ) -> Answered<LocalFsFile>
     ensures { IfOk result (λ r. IfSome handler.new.store (λ s. MayPoll
-        (λ b d. IsHeld (λ f. f.handle.0) seen_by (mem_state d) b) (inner_of r) s.disk)) }
+        (λ b d. IsHeld local_file (mem_state d) b) (inner_of r) s.disk)) }
 {
     match form {
-        "guarded" => handler.handle_guarded(request, "somebody", (), Moment(0)),
-        "stream" => handler.handle_stream(streamed(request), Moment(0)),
+        "guarded" | "none_guarded" => handler.handle_guarded(request, "somebody", (), Moment(0)),
+        "stream" | "none_stream" => handler.handle_stream(streamed(request), Moment(0)),
         "with" | "none_with" => handler.handle_with(config, request, Moment(0)),
-        "stream_with" => handler.handle_stream_with(config, streamed(request), Moment(0)),
+        "stream_with" | "none_stream_with" => {
+            handler.handle_stream_with(config, streamed(request), Moment(0))
+        }
         _ => handler.handle(request, Moment(0)),
     }
 }

@@ -2,7 +2,7 @@
 ghost use Rattle.dav_body.specs.Bodies.{MayPoll};
 ghost use Rattle.dav_disk.specs.Failing.{mem_state};
 ghost use Rattle.dav_get.specs.Bodies.{IsHeld};
-ghost use Rattle.dav_local.specs.Files.{seen_by};
+ghost use Rattle.dav_local.specs.LocalFiles.{local_file};
 
 use anyhow::Result;
 use dav_body::{Body, BodyFault, BodyType, collect};
@@ -64,7 +64,7 @@ pub fn gathered(
     disk: &mut MemDisk,
     body: Body<GetBody<LocalFsFile>>,
 ) -> Result<Octets, BodyFault>
-    requires { MayPoll (λ b d. IsHeld (λ f. f.handle.0) seen_by (mem_state d) b) body.inner disk.old }
+    requires { MayPoll (λ b d. IsHeld local_file (mem_state d) b) body.inner disk.old }
 {
     let mut body = body;
     let all = collect(alloc, &mut body, disk);
@@ -74,7 +74,7 @@ pub fn gathered(
 
 /// Ends a body, and its file where it is still open.
 pub fn end(disk: &mut MemDisk, body: Body<GetBody<LocalFsFile>>)
-    requires { MayPoll (λ b d. IsHeld (λ f. f.handle.0) seen_by (mem_state d) b) body.inner disk.old }
+    requires { MayPoll (λ b d. IsHeld local_file (mem_state d) b) body.inner disk.old }
 {
     let Body { inner } = body;
     match inner {

@@ -21,7 +21,6 @@ const MOST: u64 = 10_000;
 // Asks a listing for so many answers at most, and adds the names. A fault is told, and the listing asked on.
 fn list_on<S: GuardedFileSystem<()>>(store: &mut S, dir: &mut S::Dir, most: u64, line: &mut Line)
     requires live { HasLister (S.view.state store.old) (S.listings.lister dir.old) }
-    requires admits { S.view.admits store.old }
     ensures live { HasLister (S.view.state store.new) (S.listings.lister dir.new) }
     ensures lister { S.listings.lister dir.new ≡ S.listings.lister dir.old }
 {

@@ -10,13 +10,13 @@
 //! does. What a call answers stands before a `|`.
 ghost use Rattle.std.specs.Prelude.{◌≡◌, IsSome};
 
-use crate::cells::{number, path_of, tell_bytes, tell_time};
-use crate::scene::{Standing, set_disk, standing_of};
-use crate::steps::batch_of;
 use dav_core::{Disk, DiskError, FsPath, Handle, Kind, Lister, Meta, OpenOptions};
 use dav_disk::{MemDisk, SureDisk};
 use dav_io::{NoMemory, Text};
 use dav_rows::Line;
+use dav_scenes::{
+    Standing, batch_of, number, path_of, set_disk, standing_of, tell_bytes, tell_time,
+};
 use std::alloc::Global;
 
 // The most bytes of a read.

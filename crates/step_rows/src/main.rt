@@ -1,7 +1,7 @@
 //! Plays steps over a disk in memory: a row a line on standard input, and the answers a line on standard output.
 //!
 //! A row is parts with `|` between them, and a part is words with blanks between them. The parts in front say what
-//! stands on the disk and how it behaves, and the parts behind them are steps, as `scene.rt` and `steps.rt` read them.
+//! stands on the disk and how it behaves, and the parts behind them are steps, as `dav_scenes` reads them.
 //!
 //! Some rows have a first part of one word. At `collect` the body of one request is collected as a stream
 //! (`streams.rt`). At `disk` and `sure` the parts are calls of a disk (`calls.rt`), and at `store` they are calls of a
@@ -12,20 +12,16 @@
 //! asks for no count, and how many of them failed. A row that isn't understood has no answer.
 #![tactic(auto)]
 
-mod answers;
 mod calls;
-mod cells;
-mod scene;
-mod steps;
 mod stores;
 mod streams;
 
 use dav_cache::Owned;
 use dav_disk::MemDisk;
-use dav_handler::{Answer, DavConfig, Forget, LocalFs, Player, RememberAny, Settings, Step, play};
+use dav_handler::{Answer, DavConfig, Forget, LocalFs, Player, Remember, Settings, Step, play};
 use dav_io::NoMemory;
 use dav_rows::Line;
-use scene::{Room, Scene, scene_of};
+use dav_scenes::{Room, Scene, scene_of, tell};
 use std::alloc::Global;
 use std::io;
 
@@ -33,7 +29,7 @@ use std::io;
 const STEPS: usize = 100_000;
 
 // A player over a store, with no reply yet.
-fn player_over<R: RememberAny + Drop>(
+fn player_over<R: Remember + Drop>(
     alloc: Global,
     store: LocalFs<MemDisk, R>,
     settings: Settings,
@@ -46,7 +42,7 @@ fn player_over<R: RememberAny + Drop>(
 }
 
 // Adds the answers to these steps to those that were given, by a player that gave none yet.
-fn play_all<R: RememberAny>(
+fn play_all<R: Remember>(
     player: &mut Player<MemDisk, R>,
     steps: &[Step],
     answers: &mut Vec<Answer>,
@@ -67,7 +63,7 @@ fn tell_counts(line: &mut Line, disk: &MemDisk, counted: bool) {
 }
 
 // Plays a scene to its end, over a store with this memory.
-fn play_over<R: RememberAny + Drop>(alloc: Global, line: &mut Line, scene: Scene, memory: R) {
+fn play_over<R: Remember + Drop>(alloc: Global, line: &mut Line, scene: Scene, memory: R) {
     let Scene {
         disk,
         settings,
@@ -83,7 +79,7 @@ fn play_over<R: RememberAny + Drop>(alloc: Global, line: &mut Line, scene: Scene
     if play_all(&mut player, &steps, &mut answers).is_err() {
         line.refuse();
     }
-    answers::tell(line, &answers);
+    tell(line, &answers);
     let (disk, _memory) = player.into_parts();
     // A store whose names fold may find a path in several ways.
     tell_counts(line, &disk, counted && !folds);

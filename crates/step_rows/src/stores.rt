@@ -19,8 +19,6 @@
 ghost use Rattle.std.specs.Prelude.{◌≡◌};
 ghost use Rattle.dav_store.specs.Listings.{HasLister};
 
-use crate::cells::{bytes_of, number, tell_bytes, tell_time};
-use crate::scene::set_disk;
 use bytes::Bytes;
 use dav_cache::Forget;
 use dav_core::{DavMetaData, DavPath, FileTime, FsError, Kind, Member, OpenOptions};
@@ -28,6 +26,7 @@ use dav_disk::MemDisk;
 use dav_io::{Moment, Text};
 use dav_local::{EntryMeta, LocalFs, LocalFsDirEntry, LocalFsMetaData};
 use dav_rows::Line;
+use dav_scenes::{bytes_of, number, set_disk, tell_bytes, tell_time};
 use dav_store::{
     DavDirEntry, DavFile, DavFileSystem, GuardedFileSystem, ReadDirMeta, file_close, file_metadata,
     file_read, file_seek, read_members,
@@ -287,7 +286,6 @@ fn list_on<S: GuardedFileSystem<()>>(
     line: &mut Line,
 )
     requires live { HasLister (S.view.state store.old) (S.listings.lister dir.old) }
-    requires admits { S.view.admits store.old }
     ensures live { HasLister (S.view.state store.new) (S.listings.lister dir.new) }
     ensures lister { S.listings.lister dir.new ≡ S.listings.lister dir.old }
 {

@@ -3,11 +3,8 @@
 ghost use Rattle.std.specs.Prelude.{IfSome};
 ghost use Rattle.dav_disk.specs.Failing.{mem_state};
 ghost use Rattle.dav_get.specs.Bodies.{IsHeld};
-ghost use Rattle.dav_handler.specs.Held.{handle_of};
-ghost use Rattle.dav_local.specs.Files.{seen_by};
+ghost use Rattle.dav_local.specs.LocalFiles.{local_file};
 
-use crate::cells::tell_bytes;
-use crate::scene::{Scene, scene_of};
 use dav_body::{AsyncStream, Body, BodyFault, collect};
 use dav_core::{DavMethod, DavPath};
 use dav_disk::MemDisk;
@@ -16,6 +13,7 @@ use dav_handler::{Forget, LocalFs, Settings, Step};
 use dav_io::Octets;
 use dav_local::LocalFsFile;
 use dav_rows::Line;
+use dav_scenes::{Scene, scene_of, tell_bytes};
 use futures::task::Poll;
 use http::Request;
 use std::alloc::Global;
@@ -28,7 +26,7 @@ fn body_of(
     path: &DavPath,
     request: &Request<Octets>,
 ) -> Option<(MemDisk, GetBody<LocalFsFile>, u16)>
-    ensures { IfSome result (λ r. IsHeld handle_of seen_by (mem_state r.0) r.1) }
+    ensures { IfSome result (λ r. IsHeld local_file (mem_state r.0) r.1) }
 {
     let mut store = LocalFs::new(disk, Forget, false, false, false);
     match handle_get(
@@ -55,7 +53,7 @@ fn joined(
     mut disk: MemDisk,
     body: GetBody<LocalFsFile>,
 ) -> (Result<Octets, BodyFault>, bool)
-    requires { IsHeld handle_of seen_by (mem_state disk) body }
+    requires { IsHeld local_file (mem_state disk) body }
 {
     let mut body = Body::from_stream(AsyncStream::new(body));
     let all = collect(alloc, &mut body, &mut disk);

@@ -3,6 +3,6 @@ use Rattle.dav_local_laws.proofs.local_stores_show_the_tree.Goals as goal
 
 pub returns : goal.returns
 returns g c = record {
-  opened = λ w path told plain clear. local_shows_on _ _ _ (λ s. s.ways) (λ s. g.R.Remember.state s.memory) c.calls_are_local.ensures c.args._fs.now tt path w plain told clear;
-  listed = λ w path told plain links. local_shows_members _ _ _ (λ s. s.ways) (λ s. g.R.Remember.state s.memory) c.calls_are_local.ensures c.args._fs.now tt path w plain told links;
+  opened = λ w path told plain clear. local_shows_on _ _ _ (λ s. s.ways) (λ s. g.R.Remember.state s.memory) (λ s. s.moment) c.calls_are_local.ensures c.args._fs.now tt path w plain told clear;
+  listed = λ w path told plain links. local_shows_members _ _ _ (λ s. s.ways) (λ s. g.R.Remember.state s.memory) (λ s. s.moment) c.calls_are_local.ensures c.args._fs.now tt path w plain told links;
 }

@@ -6,7 +6,7 @@ use Rattle.dav_bench.proofs.benching.bench.Goals as goal
 pub returns-in-Ok : goal.returns-in-Ok
 returns-in-Ok g c =
     subst (λ seed. Benches (seed + 1) (g.K.Sink.stream c.args.sink.now) c.report.result (g.K.Sink.stream c.report.new.sink)) c.from-m.ensures
-    (benched (c.from-m.result + 1) c.listings.result c.in-Ok.counts (g.K.Sink.stream c.args.sink.now) c.report.result (g.K.Sink.stream c.report.new.sink) c.in-Ok.ensures c.report.ensures)
+    (benched (c.from-m.result + 1) _ c.in-Ok.counts (g.K.Sink.stream c.args.sink.now) c.report.result (g.K.Sink.stream c.report.new.sink) c.in-Ok.ensures c.report.ensures)
 
 -- memory was refused before anything was written
 pub returns : goal.returns

@@ -22,7 +22,7 @@ returns-in-Ok-clause-done g c =
 
 pub returns-in-Ok-clause-memory : goal.returns-in-Ok-clause-memory
 returns-in-Ok-clause-memory g c =
-    undone_where c.give.result g.S.GuardedFileSystem.view.handle _ _ _ c.in-Ok.given.1.file c.in-Ok.ensures.life.1 c.give.ensures.closed
+    undone_where c.give.result g.S.GuardedFileSystem.view.file.handle _ _ _ c.in-Ok.given.1.file c.in-Ok.ensures.life.1 c.give.ensures.closed
 
 pub returns-in-Err-clause-done : goal.returns-in-Err-clause-done
 returns-in-Err-clause-done g c =

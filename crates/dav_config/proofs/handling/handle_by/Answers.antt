@@ -12,6 +12,6 @@ returns-clause-done g c =
 
 pub returns-clause-may : goal.returns-clause-may
 returns-clause-may g c =
-    handled_may_where (the_served g.S.GuardedFileSystem g.S.File.DavFile) g.S.File.DavFile.handle g.S.File.DavFile.seen g.S.Disk.Disk.state g.S.GuardedFileSystem.inside
-    g.met.S.GuardedFileSystem.fits.state g.met.S.GuardedFileSystem.fits.handle g.met.S.GuardedFileSystem.fits.seen
+    handled_may_where (the_served g.S.GuardedFileSystem g.S.File.DavFile) g.S.File.DavFile.view g.S.Disk.Disk.state g.S.GuardedFileSystem.inside
+    g.met.S.GuardedFileSystem.fits.state g.met.S.GuardedFileSystem.fits.file
     c.handle_over.result _ _ _ c.handle_over.ensures.done

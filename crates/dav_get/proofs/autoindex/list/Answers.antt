@@ -18,7 +18,6 @@ returns-in-Ok-clause-listed g c =
 pub returns-in-Ok-clause-stays : goal.returns-in-Ok-clause-stays
 returns-in-Ok-clause-stays g c = record {
   keeps = walk_leaves (g.S.GuardedFileSystem.listings.lister c.in-Ok.dir) _ _ _ _ c.in-Ok.ensures.stays.keeps (walk_same _ _) c.end_dir.ensures.stays.keeps;
-  admits = λ a. c.end_dir.ensures.stays.admits (c.in-Ok.ensures.stays.admits a);
   loan = c.end_dir.ensures.stays.loan ∙ c.in-Ok.ensures.stays.loan;
 }
 

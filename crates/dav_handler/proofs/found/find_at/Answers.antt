@@ -29,3 +29,9 @@ returns-in-Err-clause-done g c body =
     (λ reply had same. c.reads_are_right.ensures (query c.args.settings.now c.args.fields.now c.args.method c.args.path.now) c.handle_get.new.fs (Err c.in-Err.error) reply c.in-Err.ensures.life (unless_memory c.in-Err.error had c.in-Err.ensures.heard) same)
     (λ had folds macos. unless_memory c.in-Err.error had (c.in-Err.ensures.asks (λ s. is_simple s.ways) c.local_stores_ask_once.ensures (simple_ways c.args.store.now.ways folds macos)))
     c.refuse.ensures
+
+pub returns-in-Ok-clause-made : goal.returns-in-Ok-clause-made
+returns-in-Ok-clause-made g c = rw c.give.ensures.rest (c.entries_have_the_moment.ensures.reads c.handle_get.new.fs c.in-Ok.ensures.leads).1
+
+pub returns-in-Err-clause-made : goal.returns-in-Err-clause-made
+returns-in-Err-clause-made g c = (c.entries_have_the_moment.ensures.reads c.handle_get.new.fs c.in-Err.ensures.leads).1

@@ -1,3 +1,5 @@
+use Rattle.std.proofs.Common.{refl}
+use Rattle.dav_local.proofs.Dating.{made_same}
 use Rattle.dav_methods.proofs.KeptOpen.{open_same}
 use Rattle.dav_model.proofs.JoiningLemmas.{gate_none, leaves_same, makes_kept}
 use Rattle.dav_model.specs.Trail.{target_of}
@@ -14,3 +16,6 @@ returns-in-Err-clause-done g c = record {
       (g.D.Disk.state c.args.store.now.disk) (g.D.Disk.state c.args.store.now.disk) (leaves_same (g.D.Disk.state c.args.store.now.disk));
   asks = gate_none (target_of (rules_with c.args.settings.now c.args.store.now.ways) c.args.request.now) (g.D.Disk.state c.args.store.now.disk).asked;
 }
+
+pub returns-in-Err-clause-made : goal.returns-in-Err-clause-made
+returns-in-Err-clause-made g c = made_same _ _ _ refl refl

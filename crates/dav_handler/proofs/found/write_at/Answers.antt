@@ -28,3 +28,11 @@ returns-in-Err-clause-done g c =
     (did_change _ _ _ tt c.local_stores_refuse_few.ensures _ c.args.path.now (record { fields = c.args.fields.now; body = c.args.body.now }) c.args.store.now _ c.change.new.store
     (rules_with c.args.settings.now c.args.store.now.ways) (knowledge_of (g.R.Remember.state c.args.store.now.memory)) c.as_str-prefix.ensures.value c.local_stores_follow_rules.ensures c.args.method c.in-Err.ensures.table c.in-Err.ensures.keeps)
     c.refuse.ensures
+
+pub returns-in-Ok-clause-made : goal.returns-in-Ok-clause-made
+returns-in-Ok-clause-made g c =
+    (c.entries_have_the_moment.ensures.writes c.change.new.store (c.writes_lead_on.ensures tt c.args.store.now c.change.new.store c.args.method c.as_str-prefix.result.now c.args.path.now c.args.fields.now c.args.body.now _ c.in-Ok.ensures.table)).1
+
+pub returns-in-Err-clause-made : goal.returns-in-Err-clause-made
+returns-in-Err-clause-made g c =
+    (c.entries_have_the_moment.ensures.writes c.change.new.store (c.writes_lead_on.ensures tt c.args.store.now c.change.new.store c.args.method c.as_str-prefix.result.now c.args.path.now c.args.fields.now c.args.body.now _ c.in-Err.ensures.table)).1

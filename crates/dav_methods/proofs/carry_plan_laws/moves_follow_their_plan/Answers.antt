@@ -6,8 +6,8 @@ use Rattle.dav_methods.proofs.carry_plan_laws.moves_follow_their_plan.Goals as g
 
 pub returns : goal.returns
 returns g c =
-    λ credentials rules k s follows folds macos alone path fields body r t run.
-    carried_right g.S.GuardedFileSystem.view g.S.GuardedFileSystem.listings g.S.File.DavFile.writes credentials
-    true
-    (λ asked x own. moves_right g.S.GuardedFileSystem.view g.S.GuardedFileSystem.listings g.S.File.DavFile.writes credentials asked x)
-    rules k s follows folds macos alone (record { method = Move; path = path; fields = fields; body = body }) r t run
+    λ credentials rules k s follows alone path fields body r t run.
+    carried_right g.S.GuardedFileSystem.view g.S.GuardedFileSystem.listings g.S.File.DavFile.view.writes credentials
+    true rules
+    (λ asked x same own. moves_right g.S.GuardedFileSystem.view g.S.GuardedFileSystem.listings g.S.File.DavFile.view.writes credentials asked x own)
+    k s follows alone (record { method = Move; path = path; fields = fields; body = body }) r t run

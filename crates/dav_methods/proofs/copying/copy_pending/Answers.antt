@@ -6,7 +6,7 @@ use Rattle.dav_methods.proofs.WalkCopies.{none_pending, pending_goes, pending_st
 use Rattle.dav_methods.proofs.copying.copy_pending.Goals as goal
 
 pub works-init : goal.works-init
-works-init g c = record { copies = λ r t h. h; stays = stays_same _ _; admits = c.requires.admits }
+works-init g c = record { copies = λ r t h. h; stays = stays_same _ _ }
 
 pub works-preserved : goal.works-preserved
 works-preserved g c =
@@ -17,7 +17,6 @@ works-preserved g c =
           c.works.works.items c.pop_front.new.self.items c.copy_one.new.works.items c.in-Some.work c.works.fs c.copy_one.new.fs t r c.in-Some.ensures.items
           c.in-Ok.ensures.copies h);
       stays = stays_then _ _ _ _ before.stays c.copy_one.ensures.stays;
-      admits = c.copy_one.ensures.stays.admits before.admits;
     }
 
 pub works-smaller : goal.works-smaller

@@ -15,7 +15,6 @@ invariant-works g l = record {
       → Copies g.S.GuardedFileSystem.view g.S.GuardedFileSystem.listings l.credentials l.alone
       (transfers_at l.initial.ends l.initial.works.items) l.initial.fs r t;
   stays : StaysOpen g.S.GuardedFileSystem.view l.initial.fs l.fs;
-  admits : g.S.GuardedFileSystem.view.admits l.fs;
 }
 
 abbrev pub decreases-works : goal.decreases-works

@@ -3,17 +3,17 @@ use Rattle.dav_methods.proofs.PiecesWritten.{none_yet, one_more, stays_poured, s
 use Rattle.dav_methods.proofs.pouring.pour.Goals as goal
 
 pub pieces-init : goal.pieces-init
-pieces-init g c = record { far = none_yet g.S.GuardedFileSystem.view _ _ _ _; admits = λ a. a; body_loan = refl }
+pieces-init g c = record { far = none_yet g.S.GuardedFileSystem.view _ _ _ _; reads_from = c.requires.reads_from; body_loan = refl }
 
 pub write_piece-requires-clause-live : goal.write_piece-requires-clause-live
 write_piece-requires-clause-live g c = still_live g.S.GuardedFileSystem.view _ _ _ _
-    (stays_poured g.S.GuardedFileSystem.view _ _ _ _ _ _ _ _ c.pieces.invariant.far.poured) c.requires
+    (stays_poured g.S.GuardedFileSystem.view _ _ _ _ _ _ _ _ c.pieces.invariant.far.poured) c.requires.live
 
 pub pieces-preserved : goal.pieces-preserved
 pieces-preserved g c = record {
   far = one_more g.S.GuardedFileSystem.view _ _ _ _ _ _ _ _ _ _ _ _ c.in-Ok-Some.piece c.as_slice.result.now c.pieces.invariant.far
       (rw c.in-Ok-Some.field-0-is at c.in-Ok-Some.ensures.done) c.as_slice.ensures c.in-Ok.ensures.takes;
-  admits = λ a. c.in-Ok.ensures.admits (c.pieces.invariant.admits a);
+  reads_from = c.in-Ok.ensures.takes.2.reads_from;
   body_loan = c.next_piece.ensures.loan ∙ c.pieces.invariant.body_loan;
 }
 
@@ -21,6 +21,6 @@ pub pieces-preserved-in-Ok : goal.pieces-preserved-in-Ok
 pieces-preserved-in-Ok g c = record {
   far = one_more g.S.GuardedFileSystem.view _ _ _ _ _ _ _ _ _ _ _ _ c.in-Ok-Some.piece c.as_slice.result.now c.pieces.invariant.far
       (rw c.in-Ok-Some.field-0-is at c.in-Ok-Some.ensures.done) c.as_slice.ensures c.in-Ok.ensures.takes;
-  admits = λ a. c.in-Ok.ensures.admits (c.pieces.invariant.admits a);
+  reads_from = c.in-Ok.ensures.takes.2.reads_from;
   body_loan = c.next_piece.ensures.loan ∙ c.pieces.invariant.body_loan;
 }

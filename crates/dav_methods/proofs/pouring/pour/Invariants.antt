@@ -5,9 +5,9 @@ use Rattle.dav_methods.proofs.pouring.pour.Given as goal
 
 abbrev pub invariant-pieces : goal.invariant-pieces
 invariant-pieces g l = record {
-  far : SoFar g.S.GuardedFileSystem.view g.S.File.DavFile.writes l.initial.fs l.initial.file (g.B.BodyReader.state l.initial.body) l.total
+  far : SoFar g.S.GuardedFileSystem.view g.S.File.DavFile.view.writes l.initial.fs l.initial.file (g.B.BodyReader.state l.initial.body) l.total
       l.fs l.file (g.B.BodyReader.state l.body);
-  admits : g.S.GuardedFileSystem.view.admits l.initial.fs → g.S.GuardedFileSystem.view.admits l.fs;
+  reads_from : g.S.GuardedFileSystem.view.file.reads_from l.file (g.S.GuardedFileSystem.view.state l.fs);
   body_loan : g.B.BodyReader.loan l.body ≡ g.B.BodyReader.loan l.initial.body;
 }
 

@@ -15,8 +15,6 @@ pub returns-clause-stays : goal.returns-clause-stays
 returns-clause-stays g c =
     let poured = stays_pours g.S.GuardedFileSystem.view _ _ _ _ _ _ _ _ c.pour-ended.ensures.pours in
     record {
-      keeps = put_leaves g.S.GuardedFileSystem.view g.S.File.DavFile.writes c.args.credentials.now _ _ _ _ _ _ _ c.in-Ok.ensures.stays.keeps poured c.file_close.ensures;
-      admits = λ a. g.met.S.GuardedFileSystem.admits_lent _ _ c.file_close.ensures.lent.store c.file_close.ensures.done.keeps.world
-          (c.pour-ended.ensures.admits (c.in-Ok.ensures.stays.admits a));
+      keeps = put_leaves g.S.GuardedFileSystem.view g.S.File.DavFile.view.writes c.args.credentials.now _ _ _ _ _ _ _ c.in-Ok.ensures.stays.keeps poured c.file_close.ensures;
       loan = c.file_close.ensures.lent.loan ∙ (poured.loan ∙ c.in-Ok.ensures.stays.loan);
     }

@@ -5,10 +5,8 @@ use Rattle.dav_methods.proofs.putting.put_bytes.Goals as goal
 
 pub returns-clause-stays : goal.returns-clause-stays
 returns-clause-stays g c =
-    let written = stays_written g.S.GuardedFileSystem.view g.S.File.DavFile.writes _ _ _ _ _ _ c.file_write-ended.ensures.writes in
+    let written = stays_written g.S.GuardedFileSystem.view g.S.File.DavFile.view.writes _ _ _ _ _ _ c.file_write-ended.ensures.writes in
     record {
-      keeps = put_leaves g.S.GuardedFileSystem.view g.S.File.DavFile.writes c.args.credentials.now _ _ _ _ _ _ _ c.in-Ok.ensures.stays.keeps written c.file_close.ensures;
-      admits = λ a. g.met.S.GuardedFileSystem.admits_lent _ _ c.file_close.ensures.lent.store c.file_close.ensures.done.keeps.world
-          (c.file_write-ended.ensures.admits (c.in-Ok.ensures.stays.admits a));
+      keeps = put_leaves g.S.GuardedFileSystem.view g.S.File.DavFile.view.writes c.args.credentials.now _ _ _ _ _ _ _ c.in-Ok.ensures.stays.keeps written c.file_close.ensures;
       loan = c.file_close.ensures.lent.loan ∙ (written.loan ∙ c.in-Ok.ensures.stays.loan);
     }

@@ -14,7 +14,6 @@ returns-clause-stays g c =
     c.read_to_end-read.ensures.lister c.end_dir.ensures.stays.keeps in
     record {
       keeps = walk_leaves (g.S.GuardedFileSystem.listings.lister c.in-Ok.dir) _ _ _ _ c.in-Ok.ensures.stays.keeps c.read_to_end-read.ensures.keeps ended;
-      admits = λ a. c.end_dir.ensures.stays.admits c.read_to_end-read.ensures.admits;
       loan = c.end_dir.ensures.stays.loan ∙ (c.read_to_end-read.ensures.loan ∙ c.in-Ok.ensures.stays.loan);
     }
 

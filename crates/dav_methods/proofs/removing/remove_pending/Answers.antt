@@ -6,7 +6,7 @@ use Rattle.dav_methods.proofs.WalkRemoves.{none_pending, pending_goes, pending_s
 use Rattle.dav_methods.proofs.removing.remove_pending.Goals as goal
 
 pub works-init : goal.works-init
-works-init g c = record { removes = λ last r t h. h; slash = c.requires.slash; stays = stays_same _ _; admits = c.requires.admits }
+works-init g c = record { removes = λ last r t h. h; slash = c.requires.slash; stays = stays_same _ _ }
 
 pub works-preserved : goal.works-preserved
 works-preserved g c =
@@ -18,7 +18,6 @@ works-preserved g c =
           (c.in-Ok.ensures.removes last) h);
       slash = c.in-Ok.ensures.slash refl;
       stays = stays_then _ _ _ _ before.stays c.remove_one.ensures.stays;
-      admits = c.remove_one.ensures.stays.admits before.admits;
     }
 
 pub works-smaller : goal.works-smaller

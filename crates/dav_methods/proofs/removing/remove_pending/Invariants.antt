@@ -17,7 +17,6 @@ invariant-works g l = record {
       (works_at l.initial.path l.initial.works.items last) l.initial.fs r t;
   slash : l.path.slash ≡ true;
   stays : StaysOpen g.S.GuardedFileSystem.view l.initial.fs l.fs;
-  admits : g.S.GuardedFileSystem.view.admits l.fs;
 }
 
 abbrev pub decreases-works : goal.decreases-works

@@ -8,6 +8,5 @@ returns-in-Ok-clause-stays g c =
     let closed = c.read_file.ensures.closed in
     record {
       keeps = closed_again _ _ _ (but_then _ _ _ _ (opened.kept c.read.ensures) closed.keeps) opened.fresh closed.live;
-      admits = λ a. g.met.S.GuardedFileSystem.admits_lent _ _ closed.lent.store closed.keeps.world (c.in-Ok.ensures.stays.admits a);
       loan = closed.lent.loan ∙ c.in-Ok.ensures.stays.loan;
     }

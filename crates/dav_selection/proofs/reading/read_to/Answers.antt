@@ -8,6 +8,7 @@ use Rattle.dav_selection.proofs.reading.read_to.Goals as goal
 pub pieces-init : goal.pieces-init
 pieces-init g c = record {
   touches = touches_same g.S.GuardedFileSystem.view c.args.fs.now c.args.file.now (lends_same g.S.GuardedFileSystem.view g.S.GuardedFileSystem.listings g.met.S.GuardedFileSystem.fits g.met.S.GuardedFileSystem.puts_back c.args.fs.now);
+  reads_from = c.requires.reads_from;
   room = omega (arith, c.in-Ok.ensures.len);
   count = rw c.new-bytes.ensures.items (zero-add c.args.len);
   told = λ f is. rw c.new-bytes.ensures.items (so_far_none g.S.GuardedFileSystem.view f c.args.fs.now c.args.file.now is);
@@ -31,6 +32,7 @@ pieces-preserved g c = record {
   touches = touches_then g.S.GuardedFileSystem.view
       (lends_on g.S.GuardedFileSystem.view g.S.GuardedFileSystem.listings g.met.S.GuardedFileSystem.fits g.met.S.GuardedFileSystem.puts_over)
       c.args.fs.now c.pieces.fs c.read_piece.new.fs c.args.file.now c.pieces.file c.read_piece.new.file c.pieces.invariant.touches c.in-Ok-read_piece.ensures.touches;
+  reads_from = c.in-Ok-read_piece.ensures.reads_from;
   room = c.pieces.invariant.room;
   count = omega (arith, c.in-Ok-read_piece.ensures.len, c.in-Ok-read_piece.ensures.within, c.pieces.invariant.count);
   told = λ f is.

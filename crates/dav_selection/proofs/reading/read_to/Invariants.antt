@@ -6,9 +6,10 @@ use Rattle.dav_selection.proofs.reading.read_to.Given as goal
 abbrev pub invariant-pieces : goal.invariant-pieces
 invariant-pieces g l = record {
   touches : Touches g.S.GuardedFileSystem.view l.initial.fs l.initial.file l.fs l.file;
+  reads_from : g.S.GuardedFileSystem.view.file.reads_from l.file (g.S.GuardedFileSystem.view.state l.fs);
   room : 0 < vec_len l.buffer;
   count : length l.bytes.items + l.left ≡ l.len;
-  told : (f : Seen) → g.S.GuardedFileSystem.view.seen l.initial.file (g.S.GuardedFileSystem.view.state l.initial.fs) ≡ Some f
+  told : (f : Seen) → g.S.GuardedFileSystem.view.file.seen l.initial.file (g.S.GuardedFileSystem.view.state l.initial.fs) ≡ Some f
       → ReadSoFar g.S.GuardedFileSystem.view f l.bytes.items l.fs l.file;
 }
 

@@ -8,5 +8,5 @@ if_ok : {A E : Type 0} (P Q : A → Type 0) → ((x : A) → P x → Q x) → (r
 if_ok P Q h (Ok x) p = h x p
 if_ok P Q h (Err e) p = p
 
-pub returns : goal.returns
-returns c = if_ok _ _ (λ memory is. ap (λ m. knowledge_of (memory_of m)) is) c.new.result c.new.ensures
+pub returns-clause-knows : goal.returns-clause-knows
+returns-clause-knows c = if_ok _ _ (λ memory is. ap (λ m. knowledge_of (memory_of m)) is) c.new.result c.new.ensures

@@ -23,7 +23,6 @@ returns-clause-stays g c =
     c.read_on-members.ensures.lister c.end_dir.ensures.stays.keeps in
     record {
       keeps = walk_leaves (g.S.GuardedFileSystem.listings.lister c.in-Ok.dir) _ _ _ _ c.in-Ok.ensures.stays.keeps c.read_on-members.ensures.keeps ended;
-      admits = λ a. c.end_dir.ensures.stays.admits c.read_on-members.ensures.admits;
       loan = c.end_dir.ensures.stays.loan ∙ (c.read_on-members.ensures.loan ∙ c.in-Ok.ensures.stays.loan);
     }
 

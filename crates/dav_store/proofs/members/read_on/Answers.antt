@@ -9,7 +9,6 @@ use Rattle.dav_store.proofs.members.read_on.Goals as goal
 pub entries-init : goal.entries-init
 entries-init g c = record {
   live = c.requires.live;
-  admits = c.requires.admits;
   lister = refl;
   keeps = walk_same _ _;
   loan = refl;
@@ -28,7 +27,6 @@ entries-preserved g c =
     record {
       live = lister_kept (g.S.GuardedFileSystem.listings.lister c.entries.dir) (g.S.GuardedFileSystem.listings.lister c.next_entry.new.dir) (g.S.GuardedFileSystem.view.state c.next_entry.new.self)
           (g.S.GuardedFileSystem.view.state c.add_member.new.fs) c.next_entry.ensures.lister added.stays.keeps.listers c.next_entry.ensures.stays.keeps.live;
-      admits = added.stays.admits (c.next_entry.ensures.stays.admits before.admits);
       lister = c.next_entry.ensures.lister ∙ before.lister;
       keeps = step_keeps _ _ _ _ _ _ before.lister before.keeps c.next_entry.ensures.stays.keeps.keeps added.stays.keeps;
       loan = added.stays.loan ∙ (c.next_entry.ensures.stays.loan ∙ before.loan);

@@ -7,7 +7,6 @@ use Rattle.dav_store.proofs.members.run_out.Goals as goal
 pub entries-init : goal.entries-init
 entries-init g c = record {
   live = c.requires.live;
-  admits = c.requires.admits;
   lister = refl;
   keeps = walk_same _ _;
   loan = refl;
@@ -20,7 +19,6 @@ entries-preserved-in-Ok-Some g c =
     let called = c.next_entry.ensures in
     record {
       live = subst (HasLister (g.S.GuardedFileSystem.view.state c.next_entry.new.self)) (sym called.lister) called.stays.keeps.live;
-      admits = called.stays.admits before.admits;
       lister = called.lister ∙ before.lister;
       keeps = walk_then _ _ _ _ before.keeps (subst (λ own. KeepsButLister own (g.S.GuardedFileSystem.view.state c.entries.fs)
           (g.S.GuardedFileSystem.view.state c.next_entry.new.self)) before.lister called.stays.keeps.keeps);
@@ -34,7 +32,6 @@ entries-preserved g c =
     let called = c.next_entry.ensures in
     record {
       live = subst (HasLister (g.S.GuardedFileSystem.view.state c.next_entry.new.self)) (sym called.lister) called.stays.keeps.live;
-      admits = called.stays.admits before.admits;
       lister = called.lister ∙ before.lister;
       keeps = walk_then _ _ _ _ before.keeps (subst (λ own. KeepsButLister own (g.S.GuardedFileSystem.view.state c.entries.fs)
           (g.S.GuardedFileSystem.view.state c.next_entry.new.self)) before.lister called.stays.keeps.keeps);

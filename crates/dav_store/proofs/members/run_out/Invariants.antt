@@ -6,7 +6,6 @@ use Rattle.dav_store.proofs.members.run_out.Given as goal
 abbrev pub invariant-entries : goal.invariant-entries
 invariant-entries g l = record {
   live : HasLister (g.S.GuardedFileSystem.view.state l.fs) (g.S.GuardedFileSystem.listings.lister l.dir);
-  admits : g.S.GuardedFileSystem.view.admits l.fs;
   lister : g.S.GuardedFileSystem.listings.lister l.dir ≡ g.S.GuardedFileSystem.listings.lister l.initial.dir;
   keeps : KeepsButLister (g.S.GuardedFileSystem.listings.lister l.initial.dir) (g.S.GuardedFileSystem.view.state l.initial.fs)
       (g.S.GuardedFileSystem.view.state l.fs);

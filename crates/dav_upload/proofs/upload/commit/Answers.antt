@@ -2,5 +2,4 @@ use Rattle.dav_upload.proofs.Closing.{closed_then}
 use Rattle.dav_upload.proofs.upload.commit.Goals as goal
 
 pub returns-clause-stays : goal.returns-clause-stays
-returns-clause-stays g c = closed_then g.S.GuardedFileSystem.view _ _ _ c.args.upload.file c.file_close.ensures
-    (g.met.S.GuardedFileSystem.admits_lent _ _ c.file_close.ensures.lent.store c.file_close.ensures.done.keeps.world) c.end.ensures.stays
+returns-clause-stays g c = closed_then g.S.GuardedFileSystem.view _ _ _ c.args.upload.file c.file_close.ensures c.end.ensures.stays

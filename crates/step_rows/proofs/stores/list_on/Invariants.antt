@@ -5,6 +5,5 @@ use Rattle.step_rows.proofs.stores.list_on.Given as goal
 abbrev pub invariant-entries : goal.invariant-entries
 invariant-entries g l = record {
   live : HasLister (g.S.GuardedFileSystem.view.state l.store) (g.S.GuardedFileSystem.listings.lister l.dir);
-  admits : g.S.GuardedFileSystem.view.admits l.store;
   lister : g.S.GuardedFileSystem.listings.lister l.dir ≡ g.S.GuardedFileSystem.listings.lister l.initial.dir;
 }

@@ -10,7 +10,7 @@ returns-in-Text-index g c =
     let same = c.as_slice.ensures ∙ sym text in
     let P : ℕ → Type 0 = λ n. length c.as_slice.result.now ≤ next_most_of (left_of c.args.self.now) n in
     let bound : P (length c.args.self.now.buffer.items) = rw same c.in-Text.ensures.done.bound in (
-      (refl, (λ _. tt), same_piece g.F.DavFile.handle g.F.DavFile.seen _ _ c.args.self.now c.step.new.self _ _ same (polls_right g.F.DavFile.handle g.F.DavFile.seen _ _ _ _ _ c.requires c.in-Text.ensures.done)),
+      (refl, (λ _. tt), same_piece g.F.DavFile.view _ _ c.args.self.now c.step.new.self _ _ same (polls_right g.F.DavFile.view _ _ _ _ _ c.requires c.in-Text.ensures.done)),
       record { ends = tt; bound = subst P (sym c.args.self.now.buffer.ok.0) bound; loan = c.step.ensures.loan },
     )
 
@@ -22,20 +22,20 @@ returns-in-Read g c =
       (
         refl,
         (λ _. tt),
-        same_piece g.F.DavFile.handle g.F.DavFile.seen _ _ c.args.self.now c.step.new.self _ _ same
-            (polls_right g.F.DavFile.handle g.F.DavFile.seen _ _ _ _ _ c.requires c.in-Read.ensures.done),
+        same_piece g.F.DavFile.view _ _ c.args.self.now c.step.new.self _ _ same
+            (polls_right g.F.DavFile.view _ _ _ _ _ c.requires c.in-Read.ensures.done),
       ),
       record { ends = tt; bound = subst P (sym c.args.self.now.buffer.ok.0) bound; loan = c.step.ensures.loan },
     )
 
 pub returns-in-End : goal.returns-in-End
 returns-in-End g c = (
-  (refl, (λ _. tt), polls_right g.F.DavFile.handle g.F.DavFile.seen _ _ _ _ _ c.requires c.in-End.ensures.done),
+  (refl, (λ _. tt), polls_right g.F.DavFile.view _ _ _ _ _ c.requires c.in-End.ensures.done),
   record { ends = tt; bound = tt; loan = c.step.ensures.loan },
 )
 
 pub returns-in-Broken : goal.returns-in-Broken
 returns-in-Broken g c = (
-  (refl, (λ _. tt), polls_right g.F.DavFile.handle g.F.DavFile.seen _ _ _ _ _ c.requires c.in-Broken.ensures.done),
+  (refl, (λ _. tt), polls_right g.F.DavFile.view _ _ _ _ _ c.requires c.in-Broken.ensures.done),
   record { ends = tt; bound = tt; loan = c.step.ensures.loan },
 )

@@ -7,6 +7,6 @@ use Rattle.dav_get.proofs.body.GetBody.take.Goals as goal
 pub returns-in-Ok-clause-done : goal.returns-in-Ok-clause-done
 returns-in-Ok-clause-done g c =
     let is = first_is c.args.self.now.parts.items c.args.self.now.next c.index.result.now (Text c.in-Text.text) (omega arith) c.index.ensures c.in-Text.is in
-    text_polls g.F.DavFile.handle g.F.DavFile.seen _ _ c.args.self.now c.pass.new.self c.in-Text.text _ is c.requires
+    text_polls g.F.DavFile.view _ _ c.args.self.now c.pass.new.self c.in-Text.text _ is c.requires
     (rw (c.pass.ensures.next, c.pass.ensures.parts) refl) c.pass.ensures.done c.pass.ensures.most (ap (λ v. length v.items) c.pass.ensures.buffer)
     _ (c.in-Ok.ensures ∙ c.as_slice.ensures)

@@ -19,20 +19,20 @@ returns-in-Text-index-clause-done g c =
     let text = text_here c.step.new.self.parts.items c.in-Text.at c.index.result.now c.in-Text-index.text c.in-Text.ensures.inside c.index.ensures c.in-Text-index.is in
     let same = c.as_slice.ensures ∙ sym text in
     rw c.copied.ensures
-    (same_piece g.F.DavFile.handle g.F.DavFile.seen _ _ c.args.self.now c.step.new.self _ _ same
-    (polls_right g.F.DavFile.handle g.F.DavFile.seen _ _ _ _ _ c.requires.held c.in-Text.ensures.done))
+    (same_piece g.F.DavFile.view _ _ c.args.self.now c.step.new.self _ _ same
+    (polls_right g.F.DavFile.view _ _ _ _ _ c.requires.held c.in-Text.ensures.done))
 
 pub returns-in-Read-clause-done : goal.returns-in-Read-clause-done
 returns-in-Read-clause-done g c =
     rw c.front_of.ensures
-    (same_piece g.F.DavFile.handle g.F.DavFile.seen _ _ c.args.self.now _ _ _ (ap (λ v. take c.in-Read.count v.items) c.replace-bytes.ensures.value)
-    (polls_right g.F.DavFile.handle g.F.DavFile.seen _ _ _ _ _ c.requires.held
-    (polls_over g.F.DavFile.handle g.F.DavFile.seen _ _ c.args.self.now c.step.new.self _ _ refl refl refl
+    (same_piece g.F.DavFile.view _ _ c.args.self.now _ _ _ (ap (λ v. take c.in-Read.count v.items) c.replace-bytes.ensures.value)
+    (polls_right g.F.DavFile.view _ _ _ _ _ c.requires.held
+    (polls_over g.F.DavFile.view _ _ c.args.self.now c.step.new.self _ _ refl refl refl
     (omega (arith, c.requires.room.long, c.args.self.now.buffer.ok.0, c.args.room.ok.0, c.in-Read.ensures.done.room, ap (λ v. length v.items) c.replace-bytes.ensures.after))
     c.in-Read.ensures.done)))
 
 pub returns-in-End-clause-done : goal.returns-in-End-clause-done
-returns-in-End-clause-done g c = polls_right g.F.DavFile.handle g.F.DavFile.seen _ _ _ _ _ c.requires.held c.in-End.ensures.done
+returns-in-End-clause-done g c = polls_right g.F.DavFile.view _ _ _ _ _ c.requires.held c.in-End.ensures.done
 
 pub returns-in-Broken-clause-done : goal.returns-in-Broken-clause-done
-returns-in-Broken-clause-done g c = polls_right g.F.DavFile.handle g.F.DavFile.seen _ _ _ _ _ c.requires.held c.in-Broken.ensures.done
+returns-in-Broken-clause-done g c = polls_right g.F.DavFile.view _ _ _ _ _ c.requires.held c.in-Broken.ensures.done

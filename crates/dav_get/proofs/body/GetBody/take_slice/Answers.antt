@@ -14,7 +14,7 @@ pub returns-clause-done : goal.returns-clause-done
 returns-clause-done g c =
     let long = c.fill.auto.into ∙ ap length c.deref_mut.ensures.value in
     let items = with_items_is c.args.self.now.buffer c.fill.new.into (long ∙ sym c.args.self.now.buffer.ok.0) in
-    slice_polls g.F.DavFile.handle g.F.DavFile.seen _ _ _ c.args.self.now
+    slice_polls g.F.DavFile.view _ _ _ c.args.self.now
     (record c.args.self.now { file = Some c.fill.new.self; buffer = with_items c.args.self.now.buffer c.fill.new.into })
     c.advance.new.self c.args.slice _ _ c.fill.new.into c.in-Some-fill.count c.in-Some.open c.fill.new.self
     c.requires.slice c.requires.held refl c.in-Some-fill.ensures.done c.in-Some.is refl refl refl (ap length items ∙ long) long
@@ -25,6 +25,6 @@ pub returns-in_default-fill-clause-done : goal.returns-in_default-fill-clause-do
 returns-in_default-fill-clause-done g c =
     let long = c.fill.auto.into ∙ ap length c.deref_mut.ensures.value in
     let items = with_items_is c.args.self.now.buffer c.fill.new.into (long ∙ sym c.args.self.now.buffer.ok.0) in
-    broken_polls g.F.DavFile.handle g.F.DavFile.seen _ _ _ c.args.self.now c.give_up.new.self c.args.slice _ _ c.fill.new.into c.in-Some.open c.fill.new.self
+    broken_polls g.F.DavFile.view _ _ _ c.args.self.now c.give_up.new.self c.args.slice _ _ c.fill.new.into c.in-Some.open c.fill.new.self
     c.requires.slice c.in_default-fill.ensures.done c.in-Some.is c.give_up.ensures.done c.give_up.ensures.left c.give_up.ensures.file c.give_up.ensures.most
     (ap (λ v. length v.items) c.give_up.ensures.buffer ∙ (ap length items ∙ long))

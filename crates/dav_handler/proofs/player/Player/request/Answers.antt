@@ -59,3 +59,15 @@ returns-in-Err-hold_body-clause-done g c =
     undone_steps (over_of g.D.Disk.state g.R.Remember.state c.args.self.now.settings c.args.self.now.store) (over_of g.D.Disk.state g.R.Remember.state c.args.self.now.settings c.find_for.new.store) _
     c.args.request.now c.args.now c.in-Ok.found _ (body_at c.args.self.now.bodies) _ c.in-Some.open _ _ c.args.self.now.ok done c.in-Some.is
     c.in-Err-hold_body.ensures.err.0 (rw c.disk.ensures.value at c.close.ensures.done) c.in-Err-hold_body.ensures.err.1
+
+pub returns-in-Err-clause-made : goal.returns-in-Err-clause-made
+returns-in-Err-clause-made g c = rw c.set_now.ensures.done at c.in-Err.ensures.made
+
+pub returns-in-None-clause-made : goal.returns-in-None-clause-made
+returns-in-None-clause-made g c = rw c.set_now.ensures.done at c.in-Ok.ensures.made
+
+pub returns-in-Ok-hold_body-clause-made : goal.returns-in-Ok-hold_body-clause-made
+returns-in-Ok-hold_body-clause-made g c = rw c.set_now.ensures.done at c.in-Ok.ensures.made
+
+pub returns-in-Err-hold_body-clause-made : goal.returns-in-Err-hold_body-clause-made
+returns-in-Err-hold_body-clause-made g c = rw c.set_now.ensures.done at c.in-Ok.ensures.made

@@ -1,7 +1,11 @@
-use Rattle.std.proofs.Common.{◌≡◌, false}
+use Rattle.std.proofs.Common.{◌≡◌, false, subst}
 use Rattle.dav_model.specs.Finding.{is_virtual}
 use Rattle.dav_local.specs.Ways.{is_known, rules_of}
 use Rattle.dav_core.proofs.UnchangedLemmas.{keeps_then}
+use Rattle.dav_store.specs.Standing.{info_in}
+use Rattle.dav_local.specs.Calls.{place_of}
+use Rattle.dav_local.specs.Files.{local_info}
+use Rattle.dav_local.specs.Saving.{SavesAt}
 use Rattle.dav_local.proofs.Seen.{look_asked}
 use Rattle.dav_local.proofs.fs.LocalFs.look.Goals as goal
 
@@ -14,3 +18,9 @@ returns-then-not-is_known-clause-done g c =
 
 pub returns-clause-keeps : goal.returns-clause-keeps
 returns-clause-keeps g c = keeps_then _ _ _ c.in_ok-found.ensures.done.keeps c.look_at.ensures.keeps
+
+pub returns-then-not-is_known-clause-saved : goal.returns-then-not-is_known-clause-saved
+returns-then-not-is_known-clause-saved g c = λ follows real.
+    subst
+    (λ n. SavesAt (place_of g.D.Disk.state g.R.Remember.state c.args.self.now) n (info_in local_info c.look_alike.result) (place_of g.D.Disk.state g.R.Remember.state c.look_alike.new.self))
+    c.names.ensures.value c.look_alike.ensures.saved

@@ -2,7 +2,7 @@ use Rattle.std.proofs.Common.{◌≡◌, ◌∙◌, false, rules, arith}
 use Rattle.dav_core.specs.Writing.{reading}
 use Rattle.dav_local.specs.Calls.{is_shut}
 use Rattle.dav_local.specs.Ways.{is_known}
-use Rattle.dav_local.specs.Files.{seen_by}
+use Rattle.dav_local.specs.LocalFiles.{local_file}
 use Rattle.dav_local.proofs.Framing.{opens_after}
 use Rattle.dav_local.proofs.Seen.{open_asked}
 use Rattle.dav_local.proofs.store.LocalFsDavFileSystem.open.Goals as goal
@@ -16,7 +16,6 @@ returns-then-not-is_known-clause-done g c =
 
 pub returns-clause-stays : goal.returns-clause-stays
 returns-clause-stays g c = record {
-  keeps = opens_after (λ f. f.handle.0) seen_by c.args.options _ _ _ _ c.in_ok-found.ensures.done.keeps c.open_at.ensures.one;
-  admits = λ a. a;
+  keeps = opens_after local_file c.args.options _ _ _ _ c.in_ok-found.ensures.done.keeps c.open_at.ensures.one;
   loan = c.open_at.ensures.loan ∙ c.in_ok-found.ensures.loan;
 }
