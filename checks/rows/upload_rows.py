@@ -1,0 +1,207 @@
+"""The wanted rows of `upload_rows`: uploads over the local store and a disk in memory.
+
+An upload's pieces go to a hidden file beside its target, which takes the target's place when all is there. What each
+call asks the store for, in its order, is told here once more; the store and its disk are those of the other drivers.
+"""
+from calls import FS_TEXTS, members_read
+from disk import READING, SECOND, Disk, Options
+from model import FsError, Fields, Path, Refused, Request, STATUSES, done, found, need_met, need_parent, path_of, refuse_if
+from store import Memory, Store
+from texts import decoded, number, print_wanted, word
+
+MOST_BYTES = 64
+FRONT = ".upload-"
+MAKING = Options("write", "create_new")
+SETS = ("dir", "file", "fail")
+
+
+class Busy(Exception):
+    pass
+
+
+class Hidden(Exception):
+    pass
+
+
+class Broken(Exception):
+    pass
+
+
+def is_hidden(name):
+    rest = name[len(FRONT):]
+    return name.startswith(FRONT) and len(rest) == 16 and all(c in "0123456789abcdef" for c in rest)
+
+
+def judge_put(store, path, fields):
+    """The table of PUT up to its precondition."""
+    refuse_if(path.slash, 405)
+    need_parent(store, path)
+    stood = found(store.metadata, path)
+    refuse_if(stood is not None and stood.is_dir, 405)
+    need_met(Request("PUT", path.link(), fields), stood)
+    return done(stood)
+
+
+class Upload:
+    def __init__(self, store, path, fields, token):
+        if path.names and path.names[-1].startswith(FRONT):
+            raise Hidden()
+        judge_put(store, path, fields)
+        name = f"{FRONT}{token:016x}"
+        self.target, self.hidden, self.broken = path, Path(path.names[:-1] + (name,), False), False
+        try:
+            self.handle = store.open(self.hidden, MAKING)
+        except FsError as error:
+            if error.name == "Exists":
+                raise Busy(name) from None
+            raise
+
+    def piece(self, store, data):
+        if self.broken:
+            raise Broken()
+        try:
+            store.write(self.handle, data)
+        except FsError:
+            self.broken = True
+            raise
+
+    def try_to_remove(self, store):
+        try:
+            store.remove_file(self.hidden)
+        except FsError:
+            pass
+
+    def commit(self, store, fields):
+        try:
+            if self.broken:
+                raise Broken()
+            answer = judge_put(store, self.target, fields)
+            store.rename(self.hidden, self.target)
+        except (Broken, Refused, FsError):
+            self.try_to_remove(store)
+            raise
+        return answer.status
+
+    def abort(self, store):
+        store.remove_file(self.hidden)
+
+
+def sweep(store, path):
+    """The members are read as before a DELETE: nothing is passed over."""
+    listing, names = store.read_dir(path, follows=False), []
+    while (got := listing.next()) is not None:
+        if got == "fault" or got[1] is None:
+            raise FsError(listing.refusal or "GeneralFailure")
+        names.append(got)
+    files = sorted((name for name, stood in names if is_hidden(name) and not stood.is_dir), key=str.encode)
+    for name in files:
+        store.remove_file(path.member(name, False))
+    return len(files)
+
+
+def get(store, path):
+    handle = store.open(path, READING)
+    return "has " + store.asks(store.disk.read, handle, MOST_BYTES).decode()
+
+
+def names(store, path):
+    members = members_read(store, path)
+    return f"names {len(members)}" + "".join(f" {name}" for name, _ in members)
+
+
+def fields_of(words):
+    pairs = [text.partition(":") for text in words]
+    return Fields((name, decoded(value)) for name, _, value in pairs)
+
+
+def call(store, words):
+    path = path_of(word(words, 1) or "/")
+    if words[0] == "sweep":
+        return f"swept {sweep(store, path)}"
+    if words[0] in ("rm", "mkdir"):
+        (store.remove_file if words[0] == "rm" else store.create_dir)(path)
+        return "done"
+    return {"get": get, "names": names}[words[0]](store, path)
+
+
+class Row:
+    def __init__(self):
+        self.store, self.slots = Store(Disk(), Memory(1, 1)), {}
+
+    def set(self, words):
+        disk = self.store.disk
+        if words[0] == "fail":
+            disk.fails.update(number(w) for w in words[1:])
+        else:
+            data = word(words, 4).encode() if words[0] == "file" else None
+            path = tuple(decoded(name).decode() for name in words[1].split("/") if name)
+            disk.add(path, number(words[2]), int(words[3]) * SECOND, data)
+
+    def of_slot(self, slot, words):
+        upload = self.slots.get(slot)
+        if words[0] == "begin":
+            if upload:
+                return "one is under way"
+            fields = fields_of(words[3:])
+            self.slots[slot] = Upload(self.store, path_of(words[1]), fields, int(words[2], 16))
+            return "ok"
+        if upload is None:
+            return "none is under way"
+        if words[0] == "piece":
+            if not word(words, 1):
+                return "no bytes"
+            upload.piece(self.store, words[1].encode())
+            return "ok"
+        del self.slots[slot]
+        if words[0] == "commit":
+            return str(upload.commit(self.store, fields_of(words[1:])))
+        upload.abort(self.store)
+        return "ok"
+
+    def answer(self, words):
+        if words[0] not in ("1", "2"):
+            try:
+                return call(self.store, words)
+            except FsError as error:
+                if words[0] == "sweep":
+                    return f"refused {STATUSES[error.name]}"
+                return FS_TEXTS[error.name]
+        try:
+            return self.of_slot(words[0], words[1:])
+        except Busy as busy:
+            return f"busy {busy}"
+        except Hidden:
+            return "hidden"
+        except Broken:
+            return "broken"
+        except Refused as refused:
+            return f"refused {refused.status}"
+        except FsError as error:
+            return f"refused {STATUSES[error.name]}"
+
+    def end(self):
+        for slot in sorted(self.slots):
+            self.slots[slot].try_to_remove(self.store)
+        return f"asked {self.store.disk.asked}"
+
+
+def wanted(text):
+    if text.startswith("#"):
+        return text
+    row, line = Row(), ""
+    parts = [part.strip().split(" ") for part in text.split("|")]
+    for words in parts:
+        if words[0] in SETS:
+            row.set(words)
+    for words in parts:
+        if words[0] not in SETS:
+            line += row.answer(words) + " | "
+    return line + row.end()
+
+
+def wanted_all(rows):
+    return [wanted(row) for row in rows]
+
+
+if __name__ == "__main__":
+    print_wanted(wanted_all)

@@ -1,0 +1,3 @@
+mod WholeStored
+mod Poured
+mod Ended

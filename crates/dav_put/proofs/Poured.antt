@@ -1,0 +1,69 @@
+-- What is known of an upload into which pieces of an input went.
+use Rattle.std.proofs.Common.{◌≡◌, ◌++◌, ℕ, List, [], length, take, IsSome, Option, None, Some, Result, Ok, Err, refl, sym, ap, subst, ◌∙◌}
+use Rattle.dav_io.specs.Outside.{Stream, Takes}
+use Rattle.dav_io.specs.Told.{Both}
+use Rattle.dav_io.proofs.ToldLemmas.{both_map}
+use Rattle.dav_io.specs.declared.failure.Failed.{Failed}
+use Rattle.dav_core.specs.Disk.{DiskState, Live}
+use Rattle.dav_store.specs.Frames.{KeepsOpenBut}
+use Rattle.dav_store.specs.View.{StaysBy, View}
+use Rattle.dav_methods.specs.Pouring.{Writes}
+use Rattle.dav_methods.proofs.KeptOpen.{but_same, but_then}
+use Rattle.dav_upload.specs.declared.error.UploadError.{UploadError}
+use Rattle.dav_upload.specs.declared.upload.Upload.{Upload}
+use Rattle.dav_upload.specs.Pieces.{KeepsUpload}
+use Rattle.dav_upload.specs.Uploading.{WritesPiece}
+use Rattle.dav_put.specs.Storing.{Fed, Gives, IsOver}
+use Rattle.dav_put.specs.Storing.Fed.{begun, goes}
+
+-- ---- what stays open
+
+pub keeps_same : (h : ℕ) (s : DiskState) → KeepsUpload h h s s
+keeps_same h s = record { others = but_same h s; handle = refl; live = refl }
+
+pub keeps_then : (h a b : ℕ) (s m t : DiskState) → KeepsUpload h a s m → KeepsUpload a b m t → KeepsUpload h b s t
+keeps_then h a b s m t p q = record {
+  others = but_then h s m t p.others (subst (λ k. KeepsOpenBut k m t) p.handle q.others);
+  handle = q.handle ∙ p.handle;
+  live = subst (λ k. t.live k ≡ m.live k) p.handle q.live ∙ p.live;
+}
+
+pub live_still : (h a : ℕ) (s t : DiskState) → KeepsUpload h a s t → IsSome (s.live h) → IsSome (t.live a)
+live_still h a s t p live = subst (λ k. IsSome (t.live k)) (sym p.handle) (subst (λ (l : Option Live). IsSome l) (sym p.live) live)
+
+-- ---- what a source gave
+
+pub gives_taken : (i j : Stream) (buffer : List ℕ) (n : ℕ) → Takes i buffer (Ok n) j → Gives i (take n buffer) j
+gives_taken i j buffer n takes = both_map i.bytes j.bytes _ (λ old new. old ≡ take n buffer ++ new) (λ old new told. told.0) takes.told
+
+pub over_taken : (i j : Stream) (buffer : List ℕ) (n : ℕ) → n ≡ 0 → Takes i buffer (Ok n) j → IsOver i j
+over_taken i j buffer n none takes = both_map i.bytes j.bytes _ (λ old new. (old ≡ []) × (new ≡ [])) (λ old new told. (told.1 none, sym (told.0 ∙ ap (λ k. take k buffer ++ new) none) ∙ told.1 none)) takes.told
+
+module _ {S C F : Type 0} (view : View S C F) (writes : Writes F) where
+  -- so many bytes went into the upload, from where it began
+  pub record SoFar (s : S) (u : Upload F) (i : Stream) (t : S) (v : Upload F) (j : Stream) : Type 0 where
+    pub bytes : List ℕ
+    pub fed : Fed view writes s u i bytes t v j
+
+  pub none_yet : (s : S) (u : Upload F) (i : Stream) → SoFar s u i s u i
+  none_yet s u i = record { bytes = []; fed = begun }
+
+  pub one_more : (s m t : S) (u x y : Upload F) (i j k : Stream) (piece bytes : List ℕ) → SoFar s u i m x j → Gives j piece k → bytes ≡ piece → WritesPiece view writes x bytes m (Ok tt) t y → SoFar s u i t y k
+  one_more s m t u x y i j k piece bytes far gives same piece_so = record {
+    bytes = far.bytes ++ piece;
+    fed = goes far.bytes piece m t x y j k far.fed gives (subst (λ b. WritesPiece view writes x b m (Ok tt) t y) same piece_so);
+  }
+
+  -- what calls of the store keep of it, and of the upload
+  pub stays_same : (s : S) (u : Upload F) → StaysBy view (KeepsUpload (view.file.handle u.file) (view.file.handle u.file)) s s
+  stays_same s u = record {
+    keeps = keeps_same (view.file.handle u.file) (view.state s);
+    loan = refl;
+  }
+
+  pub stays_then : (s m t : S) (u x y : Upload F) → StaysBy view (KeepsUpload (view.file.handle u.file) (view.file.handle x.file)) s m
+      → StaysBy view (KeepsUpload (view.file.handle x.file) (view.file.handle y.file)) m t → StaysBy view (KeepsUpload (view.file.handle u.file) (view.file.handle y.file)) s t
+  stays_then s m t u x y p q = record {
+    keeps = keeps_then (view.file.handle u.file) (view.file.handle x.file) (view.file.handle y.file) (view.state s) (view.state m) (view.state t) p.keeps q.keeps;
+    loan = q.loan ∙ p.loan;
+  }

@@ -1,0 +1,2 @@
+mod LocalTakes
+mod LocalReading

@@ -1,0 +1,25 @@
+-- A local store reads a directory without a change of how it finds paths.
+use Rattle.std.proofs.Common.{◌≡◌, List, true, ap, ◌∙◌}
+use Rattle.dav_io.specs.declared.clock.Moment.{Moment}
+use Rattle.dav_core.specs.DavPath.{WebPath}
+use Rattle.dav_store.specs.View.{Listings, View}
+use Rattle.dav_methods.specs.declared.child.Child.{Child}
+use Rattle.dav_methods.specs.Follows.{here}
+use Rattle.dav_methods.specs.Pouring.{Writes}
+use Rattle.dav_methods.specs.Reading.{HasMembers}
+use Rattle.dav_methods.proofs.ListingsLead.{listed_on}
+use Rattle.dav_cache.specs.Memory.{MemoryState}
+use Rattle.dav_local.specs.declared.entry.LocalFsDirEntry.{LocalFsDirEntry}
+use Rattle.dav_local.specs.declared.file.LocalFsFile.{LocalFsFile}
+use Rattle.dav_local.specs.declared.gathering.LocalFsReadDir.{LocalFsReadDir}
+use Rattle.dav_local.specs.declared.ways.Ways.{Ways}
+use Rattle.dav_local_laws.proofs.LocalLeads.{calls_remain}
+use Rattle.dav_local_laws.specs.LocalStore.{IsLocalStore}
+use Rattle.dav_upload.specs.Takes.{ReadsPlainly}
+use Rattle.dav_upload_laws.specs.Written.{finds_as_written}
+
+module _ {S C : Type 0} (view : View S C LocalFsFile) (lists : Listings S C LocalFsReadDir LocalFsDirEntry) (writes : Writes LocalFsFile) (c : C) (ways : S → Ways) (memory : S → MemoryState) (moment : S → Moment)
+    (local : IsLocalStore view lists writes ways memory moment) where
+  pub local_reads : ReadsPlainly view lists c (λ s. finds_as_written (ways s))
+  local_reads m n path members plain has =
+      ap finds_as_written (calls_remain view lists writes ways memory moment local c m n (listed_on view lists writes c m m n path has.listed here has.was)).0 ∙ plain

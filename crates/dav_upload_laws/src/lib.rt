@@ -1,0 +1,76 @@
+//! What uploads make of the world that is shown, over a local store. The calls do nothing.
+#![tactic(auto)]
+
+ghost use Rattle.std.specs.Prelude.{◌≡◌, ℕ, List, Result, Some, false, true};
+ghost use Rattle.dav_core.specs.DavPath.{WebPath};
+ghost use Rattle.dav_core.specs.Tree.{is_linked};
+ghost use Rattle.dav_core.specs.World.{World};
+ghost use Rattle.dav_local.specs.declared.file.LocalFsFile.{LocalFsFile};
+ghost use Rattle.dav_local.specs.declared.fs.LocalFs.{LocalFs};
+ghost use Rattle.dav_model.specs.Conditions.{Fields};
+ghost use Rattle.dav_model.specs.declared.outcome.Outcome.{Outcome};
+ghost use Rattle.dav_upload.specs.declared.error.UploadError.{UploadError as Refusal};
+ghost use Rattle.dav_upload.specs.declared.upload.Upload.{Upload};
+ghost use Rattle.dav_upload.specs.Names.{hidden_beside};
+ghost use Rattle.dav_upload.specs.Shown.{SameShown};
+ghost use Rattle.dav_upload.specs.Standing.{StandsIn};
+ghost use Rattle.dav_upload.specs.Steps.{Began, Committed, HasClearNames, IsBeside, IsClear, Pieced};
+ghost use Rattle.dav_upload.specs.Takes.{ReadsPlainly, TakesUploads};
+ghost use Rattle.dav_upload.specs.Uploading.{Aborts, Begins, Commits, Sweeps, WritesPiece};
+ghost use Rattle.dav_upload_laws.specs.Written.{finds_as_written};
+
+use dav_cache::Remember;
+use dav_core::Disk;
+use dav_local::{LocalFs, LocalFsFile};
+use dav_local_laws::calls_are_local;
+use dav_store::{DavFile, DavFileSystem};
+
+/// A local store is one over which uploads are whole, where names don't fold and the disk's root is served. The reading
+/// of a directory leaves that.
+pub fn local_stores_take_uploads<D: Disk, R: Remember>(_fs: &LocalFs<D, R>)
+    ensures takes { TakesUploads ⟦<LocalFs<D, R> as DavFileSystem>⟧.view ⟦<LocalFsFile as DavFile<D>>⟧.view.writes tt
+        (λ s. finds_as_written s.ways) }
+    ensures reads { ReadsPlainly ⟦<LocalFs<D, R> as DavFileSystem>⟧.view ⟦<LocalFs<D, R> as DavFileSystem>⟧.listings tt
+        (λ s. finds_as_written s.ways) }
+{
+    calls_are_local(_fs)
+}
+
+/// Over a local store that finds each path as it is written, where no link stands on the way to the paths of an upload:
+/// a beginning, a piece, an abort and a sweep leave what is shown, and a commit leaves it or makes its target a file of
+/// all pieces. At Ok an upload that begins stands, and a commit was made; a piece keeps its upload standing.
+pub fn local_uploads_are_whole<D: Disk, R: Remember>(_fs: &LocalFs<D, R>)
+    ensures begins { (s t : LocalFs D R) (v w : World) (target : WebPath) (fields : Fields) (token : ℕ)
+        (r : Result (Upload LocalFsFile) Refusal) → (D.state s.disk).told ≡ Some v → (D.state t.disk).told ≡ Some w
+        → finds_as_written s.ways ≡ true → is_linked v.tree (hidden_beside target token).names ≡ false
+        → Begins ⟦<LocalFs<D, R> as DavFileSystem>⟧.view tt target fields token s r t
+        → Began ⟦<LocalFs<D, R> as DavFileSystem>⟧.view.file.handle (D.state t.disk).live r v w }
+    ensures pieces { (u x : Upload LocalFsFile) (s t : LocalFs D R) (v w : World) (bytes pieces : List ℕ)
+        (r : Result Unit Refusal) → (D.state s.disk).told ≡ Some v → (D.state t.disk).told ≡ Some w
+        → StandsIn (D.state s.disk).live v u.hidden.names (⟦<LocalFs<D, R> as DavFileSystem>⟧.view.file.handle u.file)
+        u.broken pieces
+        → WritesPiece ⟦<LocalFs<D, R> as DavFileSystem>⟧.view ⟦<LocalFsFile as DavFile<D>>⟧.view.writes u bytes s r t x
+        → Pieced ⟦<LocalFs<D, R> as DavFileSystem>⟧.view.file.handle (D.state t.disk).live x pieces bytes v w }
+    ensures commits { (u : Upload LocalFsFile) (s t : LocalFs D R) (v w : World) (pieces : List ℕ) (fields : Fields)
+        (r : Result Outcome Refusal) → (D.state s.disk).told ≡ Some v → (D.state t.disk).told ≡ Some w
+        → finds_as_written s.ways ≡ true
+        → StandsIn (D.state s.disk).live v u.hidden.names (⟦<LocalFs<D, R> as DavFileSystem>⟧.view.file.handle u.file)
+        u.broken pieces
+        → IsBeside u.target.names u.hidden.names → IsClear v u.target.names u.hidden.names
+        → Commits ⟦<LocalFs<D, R> as DavFileSystem>⟧.view tt u fields s r t
+        → Committed u.target.names u.broken pieces r v w }
+    ensures aborts { (u : Upload LocalFsFile) (s t : LocalFs D R) (v w : World) (pieces : List ℕ)
+        (r : Result Unit Refusal) → (D.state s.disk).told ≡ Some v → (D.state t.disk).told ≡ Some w
+        → finds_as_written s.ways ≡ true
+        → StandsIn (D.state s.disk).live v u.hidden.names (⟦<LocalFs<D, R> as DavFileSystem>⟧.view.file.handle u.file)
+        u.broken pieces
+        → is_linked v.tree u.hidden.names ≡ false
+        → Aborts ⟦<LocalFs<D, R> as DavFileSystem>⟧.view tt u s r t → SameShown v w }
+    ensures sweeps { (dir : WebPath) (s t : LocalFs D R) (v w : World) (r : Result ℕ Refusal)
+        → (D.state s.disk).told ≡ Some v → (D.state t.disk).told ≡ Some w → finds_as_written s.ways ≡ true
+        → HasClearNames v dir.names
+        → Sweeps ⟦<LocalFs<D, R> as DavFileSystem>⟧.view ⟦<LocalFs<D, R> as DavFileSystem>⟧.listings tt dir s r t
+        → SameShown v w }
+{
+    local_stores_take_uploads(_fs)
+}

@@ -1,0 +1,147 @@
+//! Uploads over the local store and a disk in memory: a row a line on standard input, and an answer a line on standard
+//! output.
+//!
+//! A row is parts with ` | ` between them. Those of `scene.rt` set what stands there and which calls fail. Each other
+//! part is a call, whose answer stands before a `|`. Two uploads may be under way, those of the slots 1 and 2:
+//!
+//!     SLOT begin PATH TOKEN FIELD..   begins an upload; the token is written in hexadecimal digits
+//!     SLOT piece BYTES                writes a piece
+//!     SLOT commit FIELD..             ends it
+//!     SLOT abort                      gives it up
+//!     sweep PATH                      sweeps a directory, and answers how many files went
+//!     get PATH                        the bytes of a file, at most 64
+//!     names PATH                      the names in a directory, hidden ones too
+//!     rm PATH                         removes a file, as another client would; `mkdir` makes a directory
+//!
+//! Behind the last part uploads that are under way are given up. The last word is how many calls the disk was asked. A
+//! row that begins with `#` is written as it stands.
+#![tactic(auto)]
+
+ghost use Rattle.std.specs.Prelude.{None};
+ghost use Rattle.dav_core.specs.Disk.{DiskState};
+ghost use Rattle.dav_store.specs.Frames.{KeepsOpen};
+ghost use Rattle.upload_rows.specs.Slots.{Goes, IsLive};
+
+mod scene;
+mod steps;
+mod words;
+
+use anyhow::Result;
+use dav_cache::Owned;
+use dav_core::{FsError, Member};
+use dav_disk::MemDisk;
+use dav_local::LocalFs;
+use dav_rows::Line;
+use dav_store::{DavFile, GuardedFileSystem, read_members};
+use dav_upload::{Upload, abort, sweep};
+use scene::{disk_of, is_set};
+use std::alloc::Global;
+use steps::{get, step, tell_refusal};
+use words::{CallWords, said};
+
+fn tell_names(line: &mut Line, answer: Result<Vec<Member>, FsError>) {
+    match answer {
+        Ok(members) => {
+            line.add_number("names ", members.len() as u64);
+            for member in members.as_slice() {
+                line.tell(" ", member.name.as_str());
+            }
+        }
+        Err(error) => line.add_value(&error),
+    }
+}
+
+fn tell_done(line: &mut Line, answer: Result<(), FsError>) {
+    match answer {
+        Ok(()) => line.add("done"),
+        Err(error) => line.add_value(&error),
+    }
+}
+
+// Makes a call of no upload.
+fn call<S: GuardedFileSystem<()>>(alloc: Global, line: &mut Line, store: &mut S, said: &CallWords)
+    ensures { KeepsOpen (S.view.state store.old) (S.view.state store.new) }
+{
+    match said.kind.as_str() {
+        "sweep" => match sweep(alloc, store, &(), &said.path) {
+            Ok(count) => line.add_number("swept ", count),
+            Err(error) => tell_refusal(line, error),
+        },
+        "get" => get(line, store, &said.path),
+        "names" => tell_names(line, read_members(alloc, store, &said.path, &())),
+        "rm" => tell_done(line, store.remove_file(&said.path, &())),
+        "mkdir" => tell_done(line, store.create_dir(&said.path, &())),
+        _ => line.add("no call"),
+    }
+}
+
+// Gives up an upload that is under way.
+#[tactic(auto, using(crate::proofs::SlotsGo::goes_ended, crate::proofs::SlotsGo::goes_same))]
+fn give_up<S: GuardedFileSystem<()>>(store: &mut S, slot: Option<Upload<S::File>>)
+    requires { IsLive S.view.file.handle slot (S.view.state store.old) }
+    ensures { Goes S.view.file.handle slot (S.view.state store.old) None (S.view.state store.new) }
+{
+    match slot {
+        Some(upload) => {
+            let _answer = abort(store, &(), upload);
+        }
+        None => {}
+    }
+}
+
+// Makes the calls of a row.
+fn play<S: GuardedFileSystem<()>>(
+    alloc: Global,
+    line: &mut Line,
+    store: &mut S,
+    calls: &[CallWords],
+)
+    requires { (f : S.File) (s : DiskState) → S.view.file.reads_from f s }
+{
+    let mut one: Option<Upload<S::File>> = None;
+    let mut other: Option<Upload<S::File>> = None;
+    'calls: for said in calls {
+        match said.call() {
+            Some(made) => {
+                if said.second {
+                    other = step(alloc, line, store, other, &made, &said.fields);
+                } else {
+                    one = step(alloc, line, store, one, &made, &said.fields);
+                }
+            }
+            None => call(alloc, line, store, said),
+        }
+        line.add(" | ");
+    }
+    give_up(store, one);
+    give_up(store, other);
+}
+
+fn answer(alloc: Global, row: &str, line: &mut Line) -> Result<()> {
+    let disk = disk_of(alloc, row)?;
+    let mut calls = Vec::new(alloc);
+    for part in row.split('|') {
+        if !is_set(part.trim()) {
+            calls.push(said(alloc, part.trim())?)?;
+        }
+    }
+    let mut store = LocalFs::new(disk, Owned::new(alloc, 1, 1)?, false, false, false);
+    play::<LocalFs<MemDisk, Owned>>(alloc, line, &mut store, &calls);
+    let (disk, _memory) = store.into_parts();
+    line.add_number("asked ", disk.asked());
+    Ok(())
+}
+
+fn main(rt: HostRuntime) -> Result<()> {
+    for line in rt.lines(rt.alloc()) {
+        let row = line?;
+        let mut text = Line::new(rt.alloc());
+        if row.as_str().starts_with("#") {
+            text.add(row.as_str());
+        } else {
+            answer(rt.alloc(), row.as_str(), &mut text)?;
+        }
+        println!(rt; "{}", text.as_str())?;
+    }
+    Ok(())
+}
