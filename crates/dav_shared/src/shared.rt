@@ -1,0 +1,218 @@
+ghost use Rattle.std.specs.Prelude.{◌≡◌, ◌<◌, IfOk, IfSome, IsTrue, OnErr, None, true};
+ghost use Rattle.dav_cache.specs.Calls.{Opening, Seeing, has_time as the_has_time};
+ghost use Rattle.dav_cache.specs.Entries.{are_sealable, name_key as the_name_key};
+ghost use Rattle.dav_cache.specs.Memory.{GetsBy, Negates};
+ghost use Rattle.dav_cache.specs.Trees.{Name, fold_path};
+ghost use Rattle.dav_shared.specs.Books.{IsUntold, MaySeal, MaySettle, kept_by};
+ghost use Rattle.dav_shared.specs.Waits.{waiting};
+
+use crate::Book;
+use crate::booked::BookedDots;
+use crate::waiting::Waiting;
+use dav_cache::{Cache, DuKey, FoldedPath, Sealed, dir_key, name_key};
+use dav_core::{Disk, DiskError, FileTime, FsPath, Handle, Kind, Meta, OpenOptions};
+use dav_io::{Moment, NoMemory, Text};
+use std::alloc::Global;
+use std::sync::{Mutex, Wait};
+
+/// The two caches, each behind a lock of its own. No lock is held while a disk is asked, and no clause ties what one
+/// hold of a lock saw to the next.
+#[derive(Drop)]
+pub struct SharedCache<B: Book> {
+    folder: u64,
+    paths: Mutex<Cache>,
+    dots: Mutex<BookedDots<B>>,
+}
+
+impl<B: Book> SharedCache<B> {
+    /// Empty caches of a folder for this many paths, and for this many directories and names together.
+    pub fn new(alloc: Global, folder: u64, paths: usize, dots: usize) -> Result<Self, NoMemory>
+        requires paths { 0 < paths }
+        requires dots { 0 < dots }
+        ensures { IfOk result (λ cache. cache.folder ≡ folder) }
+    {
+        let paths = Cache::new(alloc, paths)?;
+        let dots = BookedDots::new(alloc, folder, dots)?;
+        Ok(SharedCache {
+            folder,
+            paths: Mutex::new(paths),
+            dots: Mutex::new(dots),
+        })
+    }
+
+    // ---- the holds, each one event
+
+    fn recall<W: Wait>(
+        &self,
+        rt: &W,
+        path: &FsPath,
+    ) -> Result<Option<(FoldedPath, FsPath)>, NoMemory>
+        ensures { IfOk result (λ found. IfSome found (λ f. fold_path f.1 ≡ fold_path path.now)) }
+    {
+        let mut paths = self.paths.lock(rt);
+        let found = paths.place_of(path)?;
+        if let Some((key, _)) = &found {
+            paths.promote(key);
+        }
+        Ok(found)
+    }
+
+    fn forget<W: Wait>(&self, rt: &W, key: &FoldedPath) {
+        self.paths.lock(rt).remove(key);
+    }
+
+    fn peek<W: Wait>(&self, rt: &W, dir: &DuKey) -> Option<(u64, FileTime)> {
+        self.dots.lock(rt).peek(self.folder, dir)
+    }
+
+    fn denies<W: Wait>(
+        &self,
+        rt: &W,
+        dir: &DuKey,
+        name: &DuKey,
+        number: u64,
+        time: FileTime,
+    ) -> bool
+        requires { dir.now.name ≡ None }
+        ensures { IsTrue result → (x : Name) → name.now ≡ the_name_key dir.now.dir x
+            → IsUntold (B.names self.now.folder) dir.now.dir time x }
+    {
+        self.dots
+            .lock(rt)
+            .denies(self.folder, dir, name, number, time)
+    }
+
+    fn drop_dir<W: Wait>(&self, rt: &W, dir: &DuKey)
+        requires { dir.now.name ≡ None }
+    {
+        self.dots.lock(rt).drop_dir(dir);
+    }
+
+    // ---- the calls
+
+    /// Looks a path up, and asks the disk what stands where it was found.
+    pub fn get<W: Wait, D: Disk>(
+        &self,
+        rt: &W,
+        path: &FsPath,
+        disk: &mut D,
+    ) -> Result<Option<(FsPath, Meta)>, NoMemory>
+        ensures done { IfOk result (λ found. GetsBy Seeing (kept_by (B.names self.now.folder) None) path.now
+            (D.state disk.old) found (kept_by (B.names self.now.folder) None) (D.state disk.new)) }
+        ensures unasked { OnErr result (D.state disk.new ≡ D.state disk.old) }
+        ensures loan { D.loan disk.new ≡ D.loan disk.old }
+    {
+        let Some((key, place)) = self.recall(rt, path)? else {
+            return Ok(None);
+        };
+        match disk.meta(&place) {
+            Ok(meta) => Ok(Some((place, meta))),
+            Err(_) => {
+                self.forget(rt, &key);
+                Ok(None)
+            }
+        }
+    }
+
+    /// Looks a path up, and opens for reading what stands where it was found.
+    pub fn get_open<W: Wait, D: Disk>(
+        &self,
+        rt: &W,
+        path: &FsPath,
+        disk: &mut D,
+    ) -> Result<Option<(FsPath, Handle)>, NoMemory>
+        ensures done { IfOk result (λ found. GetsBy Opening (kept_by (B.names self.now.folder) None) path.now
+            (D.state disk.old) found (kept_by (B.names self.now.folder) None) (D.state disk.new)) }
+        ensures unasked { OnErr result (D.state disk.new ≡ D.state disk.old) }
+        ensures loan { D.loan disk.new ≡ D.loan disk.old }
+    {
+        let Some((key, place)) = self.recall(rt, path)? else {
+            return Ok(None);
+        };
+        match disk.open(&place, OpenOptions::read(), false) {
+            Ok(handle) => Ok(Some((place, handle))),
+            Err(_) => {
+                self.forget(rt, &key);
+                Ok(None)
+            }
+        }
+    }
+
+    /// Remembers where a path is.
+    pub fn insert<W: Wait>(&self, rt: &W, path: &FsPath, now: Moment) -> Result<(), NoMemory> {
+        self.paths.lock(rt).insert(path, now)
+    }
+
+    /// Whether the name is known to be absent from the directory, as the disk has it now.
+    pub fn negative<W: Wait, D: Disk>(
+        &self,
+        rt: &W,
+        dir: &FsPath,
+        name: &Text,
+        disk: &mut D,
+    ) -> Result<bool, NoMemory>
+        ensures done { IfOk result (λ absent. Negates (kept_by (B.names self.now.folder) None) dir.now name.now
+            (D.state disk.old) absent (kept_by (B.names self.now.folder) None) (D.state disk.new)) }
+        ensures unasked { OnErr result (D.state disk.new ≡ D.state disk.old) }
+        ensures loan { D.loan disk.new ≡ D.loan disk.old }
+    {
+        let dir_key = dir_key(dir)?;
+        let name_key = name_key(dir, name)?;
+        let Some((number, time)) = self.peek(rt, &dir_key) else {
+            return Ok(false);
+        };
+        if has_time(time, disk.meta(dir)) {
+            Ok(self.denies(rt, &dir_key, &name_key, number, time))
+        } else {
+            self.drop_dir(rt, &dir_key);
+            Ok(false)
+        }
+    }
+
+    /// Remembers the names of a directory that begin with `._`, as it had them at this time.
+    pub fn seal<W: Wait>(
+        &self,
+        rt: &W,
+        dir: &DuKey,
+        time: FileTime,
+        names: &[Text],
+        now: Moment,
+    ) -> Sealed
+        requires dir { dir.now.name ≡ None }
+        requires names { are_sealable names.now ≡ true }
+        requires may { MaySeal (B.names self.now.folder) dir.now.dir time names.now }
+    {
+        self.dots.lock(rt).seal(self.folder, dir, time, names, now)
+    }
+
+    /// Puts a listing that waits into the cache of absent names.
+    pub fn settle<W: Wait>(&self, rt: &W, listing: Option<Waiting>)
+        requires { MaySettle (B.names self.now.folder) (waiting listing) }
+    {
+        if let Some(listing) = listing {
+            let _sealed = self.seal(
+                rt,
+                &listing.key,
+                listing.time,
+                listing.names.as_slice(),
+                listing.now,
+            );
+        }
+    }
+
+    /// Forgets what is old.
+    pub fn purge<W: Wait>(&self, rt: &W, now: Moment) {
+        self.paths.lock(rt).purge(now);
+        self.dots.lock(rt).purge(now);
+    }
+}
+
+// Whether the disk found the directory with this time.
+fn has_time(time: FileTime, found: Result<Meta, DiskError>) -> bool
+    ensures { result ≡ the_has_time time found }
+{
+    match found {
+        Ok(meta) => meta.kind == Kind::Dir && meta.modified == Some(time),
+        Err(_) => false,
+    }
+}
