@@ -1,0 +1,188 @@
+-- Each file of a copy is one of the entry, or a front of what its path had in a world that was met: kept by each visit.
+use Rattle.std.proofs.Common.{◌≡◌, ◌⊎◌, inl, inr, ◌+◌, ◌++◌, length, ℕ, List, [], ◌∷◌, Bool, true, false, cond, Option, None, Some, IfSome, is_some, Result, Ok, Err, refl, sym, ap, subst, ◌∙◌}
+use Rattle.std.specs.Option.{option_to_list}
+use Rattle.dav_io.specs.Counts.{Rose}
+use Rattle.dav_io.specs.Told.{Both}
+use Rattle.dav_core.specs.Path.{Names, same_names}
+use Rattle.dav_core.proofs.Plain.{names_same}
+use Rattle.dav_core.specs.World.{World}
+use Rattle.dav_fetch.specs.declared.copied.Copied.{Copied}
+use Rattle.dav_fetch.specs.declared.copied.Kept.{Kept}
+use Rattle.dav_fetch.specs.declared.error.MirrorError.{MirrorError}
+use Rattle.dav_fetch.specs.Asking.{asked_for, awaits, file_path}
+use Rattle.dav_fetch.specs.Copy.{IsOf, IsOfWorld}
+use Rattle.dav_fetch.specs.Fetching.{AtFile, Fetched, FilesEnd, Goes, Takes, visits_of, Files, IsFileVisit, Visited, Visits, kept_at, kept_of, taken}
+use Rattle.dav_fetch.specs.Judging.{Use, gives, grown, keeps, refuses, spoils}
+use Rattle.dav_fetch.specs.Mirroring.{AllTold, AreKept, IsGood, IsMet, IsSound, MetIn}
+use Rattle.dav_fetch.specs.Peer.{Came, PeerState, RepliesIn, RepliesOf, Seen}
+use Rattle.dav_fetch.specs.Reading.{ReadOn}
+use Rattle.dav_fetch.specs.Walk.{Visit, Way}
+use Rattle.dav_fetch.proofs.Stepping.{step}
+
+-- what an exit may have of a file
+abbrev pub FromSome : List Kept → List Visit → Kept → Type 0
+FromSome old all k = IsOf k old ⊎ ((w : World) × MetIn w all × IsOfWorld w k)
+
+pub of_both : {A : Type 0} (a : A) (xs ys : List A) → IsOf a (xs ++ ys) → IsOf a xs ⊎ IsOf a ys
+of_both a [] ys is = inr is
+of_both a (x ∷ xs) ys (inl same) = inl (inl same)
+of_both a (x ∷ xs) ys (inr more) = elim (of_both a xs ys more) [
+  | inl here ↦ inl (inr here)
+  | inr there ↦ inr there
+]
+
+pub found : (path : Names) (files : List Kept) (k : Kept) → kept_at path files ≡ Some k → (k.path ≡ path) × IsOf k files
+found path [] k e = cc
+found path (f ∷ files) k e = by (found path files k) (same_names path f.path) refl e
+  where
+    by : (kept_at path files ≡ Some k → (k.path ≡ path) × IsOf k files) → (t : Bool) → same_names path f.path ≡ t → cond t (Some f) (kept_at path files) ≡ Some k → (k.path ≡ path) × IsOf k (f ∷ files)
+    by behind true same is =
+        let here : f ≡ k = cc in (ap (λ (x : Kept). x.path) (sym here) ∙ sym (names_same path f.path same), inl (sym here))
+    by behind false same is = let there = behind is in (there.0, inr there.1)
+
+of_kept : (path : Names) (files : List Kept) (k : Kept) (o : Option Kept) → kept_at path files ≡ o → IsOf k (option_to_list o) → IsOf k files
+of_kept path files k None e is = absurd is
+of_kept path files k (Some f) e (inl same) = subst (λ x. IsOf x files) (sym same) (found path files f e).1
+of_kept path files k (Some f) e (inr more) = absurd more
+
+pub of_rest : (paths : List Names) (files : List Kept) (k : Kept) → IsOf k (kept_of paths files) → IsOf k files
+of_rest [] files k is = absurd is
+of_rest (path ∷ paths) files k is = elim (of_both k (option_to_list (kept_at path files)) (kept_of paths files) is) [
+  | inl here ↦ of_kept path files k (kept_at path files) refl here
+  | inr there ↦ of_rest paths files k there
+]
+
+-- the request for a file is by what the entry had of it
+good_at : (w : World) (path : Names) (old : List Kept) → AreKept old → IsMet old w → (o : Option Kept) → kept_at path old ≡ o → IfSome o (IsGood w path)
+good_at w path old kept met None e = tt
+good_at w path old kept met (Some k) e =
+    let there = found path old k e in
+    record { path = there.0; kept = (kept k there.1).0; faithful = met.faithful k there.1; small = (kept k there.1).1 }
+
+-- what came of a told visit is a front of what is left of its reply's body
+left_of : (at t : PeerState) (now : Seen) (came : List ℕ) → at.told ≡ Some now → ReadOn at came t → (more : List ℕ) × (now.left ≡ came ++ more)
+left_of at t now came told read = by at.told t.told told read.told
+  where
+    by : (a b : Option Seen) → a ≡ Some now → Both a b (Came came) → (more : List ℕ) × (now.left ≡ came ++ more)
+    by None b e h = cc
+    by (Some x) None e h = absurd h
+    by (Some x) (Some y) e h = let same : x ≡ now = cc in (y.left, ap (λ (z : Seen). z.left) (sym same) ∙ h.1)
+
+-- What comes of a file by a visit that is told.
+came_of : (w : World) (path : Names) (old : List Kept) (s t : PeerState) (visit : Visit) (f : Kept) (n : ℕ)
+    → AreKept old → IsMet old w → visit.world ≡ Some w → Visited s visit t → IsFileVisit path (kept_at path old) visit (gives f n)
+    → IsOfWorld w (grown f n visit.came)
+came_of w path old s t visit f n kept met told visited file =
+    let (now, is, same, reply) = subst (λ o. RepliesIn o visit.path visit.asked (Rose s.faults visited.at.faults) visit.got visited.at.told) told visited.is in
+    let (more, left) = left_of visited.at t now visit.came is visited.read in
+    let r : RepliesOf w (file_path path) (asked_for (awaits (kept_at path old))) (Rose s.faults visited.at.faults) visit.got now.left =
+    subst (λ p. RepliesOf w p (asked_for (awaits (kept_at path old))) (Rose s.faults visited.at.faults) visit.got now.left) file.path_is
+    (subst (λ a. RepliesOf w visit.path a (Rose s.faults visited.at.faults) visit.got now.left) file.asked reply) in
+    step w path (kept_at path old) (good_at w path old kept met (kept_at path old) refl) _ visit.got now.left visit.came more f n (met.short path) r file.judged left
+
+-- What a visit leaves of its file.
+visit_sound : (w : World) (path : Names) (old : List Kept) (all : List Visit) (s t : PeerState) (visit : Visit) (worth : Use) (k : Kept)
+    → AreKept old → IsMet old w → MetIn w all → visit.world ≡ Some w → Visited s visit t
+    → IsFileVisit path (kept_at path old) visit worth → IsOf k (option_to_list (taken (kept_at path old) worth visit.came)) → FromSome old all k
+visit_sound w path old all s t visit (gives f n) k kept met of told visited file (inl same) =
+    inr (w, of, subst (IsOfWorld w) (sym same) (came_of w path old s t visit f n kept met told visited file))
+visit_sound w path old all s t visit (gives f n) k kept met of told visited file (inr more) = absurd more
+visit_sound w path old all s t visit keeps k kept met of told visited file is = inl (of_kept path old k (kept_at path old) refl is)
+visit_sound w path old all s t visit refuses k kept met of told visited file is = inl (of_kept path old k (kept_at path old) refl is)
+visit_sound w path old all s t visit spoils k kept met of told visited file is = inl (of_kept path old k (kept_at path old) refl is)
+
+-- Each of these visits is told, by a world that was met.
+abbrev pub AllMet : List Kept → List Visit → List Visit → Type 0
+AllMet old all [] = Unit {0}
+AllMet old all (v ∷ vs) = ((w : World) × (v.world ≡ Some w) × IsMet old w × MetIn w all) × AllMet old all vs
+
+-- So do all of them.
+files_sound : (old : List Kept) (paths : List Names) (all visits : List Visit) (got : List Kept) (left : List Names) (s t : PeerState) (k : Kept) → AreKept old → AllMet old all visits
+    → Visits s visits t → Files old paths visits got left → IsOf k got → FromSome old all k
+files_sound old paths all [] got left s t k kept met visits (none, same) is = absurd (subst (IsOf k) none is)
+files_sound old [] all (v ∷ vs) got left s t k kept met visits took is = absurd took
+files_sound old (path ∷ paths) all (v ∷ vs) got left s t k kept (here, met) (m, visited, visits) (worth, rest, file, whole, parts, took) is =
+    elim (of_both k (option_to_list (taken (kept_at path old) worth v.came)) rest (subst (IsOf k) parts is)) [
+      | inl first ↦ let (w, told, good, of) = here in visit_sound w path old all s m v worth k kept good of told visited file first
+      | inr more ↦ files_sound old paths all vs rest left m t k kept met visits took more
+    ]
+
+-- ---- the whole work
+
+some_of : (o : Option World) → is_some o ≡ true → (w : World) × (o ≡ Some w)
+some_of None e = cc
+some_of (Some w) e = (w, refl)
+
+all_met : (old : List Kept) (all visits : List Visit) → AllTold visits → ((w : World) → MetIn w visits → MetIn w all) → ((w : World) → MetIn w all → IsMet old w) → AllMet old all visits
+all_met old all [] told inside met = tt
+all_met old all (v ∷ vs) told inside met =
+    let (w, is) = some_of v.world told.0 in
+    let of = inside w (inl is) in
+    ((w, is, met w of, of), all_met old all vs told.1 (λ u m. inside u (inr m)) met)
+
+told_both : (a b : List Visit) → AllTold (a ++ b) → AllTold a × AllTold b
+told_both [] b told = (tt, told)
+told_both (v ∷ a) b told = let both = told_both a b told.1 in ((told.0, both.0), both.1)
+
+met_left : (w : World) (a b : List Visit) → MetIn w a → MetIn w (a ++ b)
+met_left w [] b m = absurd m
+met_left w (v ∷ a) b (inl m) = inl m
+met_left w (v ∷ a) b (inr m) = inr (met_left w a b m)
+
+met_right : (w : World) (a b : List Visit) → MetIn w b → MetIn w (a ++ b)
+met_right w [] b m = m
+met_right w (v ∷ a) b m = inr (met_right w a b m)
+
+-- A file was due where it ended.
+at_file : (old got : List Kept) (all last : List Visit) (left : List Names) (new : List Kept) (made most : ℕ) (e : MirrorError) (s t : PeerState) (k : Kept) → AreKept old → AllTold last
+    → ((w : World) → MetIn w last → MetIn w all) → ((w : World) → MetIn w all → IsMet old w) → (IsOf k got → FromSome old all k) → AtFile left old got made most e s last t new
+    → IsOf k new → FromSome old all k
+at_file old got all last [] new made most e s t k kept told inside met sound end is = absurd end
+at_file old got all last (path ∷ paths) new made most e s t k kept told inside met sound (inl not) is =
+    elim (of_both k got (kept_of (path ∷ paths) old) (subst (IsOf k) not.kept is)) [
+      | inl first ↦ sound first
+      | inr more ↦ inl (of_rest (path ∷ paths) old k more)
+    ]
+at_file old got all last (path ∷ paths) new made most e s t k kept told inside met sound (inr asked) is =
+    elim (of_both k got (option_to_list (taken (kept_at path old) asked.worth asked.visit.came) ++ kept_of paths old) (subst (IsOf k) asked.kept is)) [
+      | inl first ↦ sound first
+      | inr more ↦ elim (of_both k (option_to_list (taken (kept_at path old) asked.worth asked.visit.came)) (kept_of paths old) more) [
+        | inl here ↦ let (w, told_w) = some_of asked.visit.world (subst AllTold asked.one told).0 in
+            let of = inside w (subst (MetIn w) (sym asked.one) (inl told_w)) in
+            visit_sound w path old all s asked.at asked.visit asked.worth k kept (met w of) of told_w asked.visited asked.is here
+        | inr later ↦ inl (of_rest paths old k later)
+      ]
+    ]
+
+takes_sound : (way : Way) (made most : ℕ) (old : Copied) (s : PeerState) (pages rest : List Visit) (result : Result Unit MirrorError) (t : PeerState) (new : Copied)
+    → AreKept old.files → AllTold rest → ((w : World) → MetIn w (pages ++ rest) → IsMet old.files w) → Takes way made most old s rest result t new → IsSound old (pages ++ rest) new
+takes_sound way made most old s pages rest result t new kept told met takes k is = by result takes.ends
+  where
+    both : AllTold takes.visits × AllTold takes.last
+    both = told_both takes.visits takes.last (subst AllTold takes.parts told)
+
+    inside : (w : World) → MetIn w takes.visits → MetIn w (pages ++ rest)
+    inside w m = met_right w pages rest (subst (MetIn w) (sym takes.parts) (met_left w takes.visits takes.last m))
+
+    last_inside : (w : World) → MetIn w takes.last → MetIn w (pages ++ rest)
+    last_inside w m = met_right w pages rest (subst (MetIn w) (sym takes.parts) (met_right w takes.visits takes.last m))
+
+    sound : IsOf k takes.got → FromSome old.files (pages ++ rest) k
+    sound of = files_sound old.files takes.paths (pages ++ rest) takes.visits takes.got takes.left s takes.mid k kept
+        (all_met old.files (pages ++ rest) takes.visits both.0 inside met) takes.chain takes.took of
+
+    by : (r : Result Unit MirrorError) → FilesEnd takes.left old.files takes.got (made + length takes.visits) most r takes.mid takes.last t new.files → FromSome old.files (pages ++ rest) k
+    by (Ok x) (left, none, state, same) = sound (subst (IsOf k) same is)
+    by (Err e) end = at_file old.files takes.got (pages ++ rest) takes.last takes.left new.files (made + length takes.visits) most e takes.mid t k kept both.1 last_inside met sound end is
+
+goes_sound : (due : List Names) (way : Way) (made most : ℕ) (old : Copied) (s : PeerState) (pages rest : List Visit) (result : Result Unit MirrorError) (t : PeerState) (new : Copied)
+    → AreKept old.files → AllTold rest → ((w : World) → MetIn w (pages ++ rest) → IsMet old.files w) → Goes due way made most old s rest result t new → IsSound old (pages ++ rest) new
+goes_sound [] way made most old s pages rest result t new kept told met goes = takes_sound way made most old s pages rest result t new kept told met goes
+goes_sound (dir ∷ due) way made most old s pages rest (Ok x) t new kept told met goes = absurd goes
+goes_sound (dir ∷ due) way made most old s pages rest (Err e) t new kept told met (at, same) = λ k is. inl (subst (λ (c : Copied). IsOf k c.files) same is)
+
+-- Whatever the answer: each file at exit is one of the entry, or a front of what its path had in a world of the call.
+pub fetched_sound : (s t : PeerState) (old new : Copied) (most : ℕ) (result : Result Unit MirrorError) (f : Fetched s old most result t new) → AreKept old.files
+    → AllTold (visits_of f) → ((w : World) → MetIn w (visits_of f) → IsMet old.files w) → IsSound old (visits_of f) new
+fetched_sound s t old new most result f kept told met =
+    goes_sound f.way.due f.way (length f.pages) most old f.mid f.pages f.rest result t new kept (told_both f.pages f.rest told).1 met f.goes

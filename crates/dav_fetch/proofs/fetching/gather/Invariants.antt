@@ -1,0 +1,16 @@
+use Rattle.std.proofs.Common.{◌≡◌, ◌≤◌, ◌+◌, ◌-◌, List, drop, length, reverse, vec_len, vec_capacity}
+use Rattle.dav_fetch.specs.Fetching.{Files, Visits}
+use Rattle.dav_fetch.specs.Keeping.{AreInOrder}
+use Rattle.dav_fetch.specs.Walk.{Visit}
+use Rattle.dav_fetch.proofs.Orders.{SameAt}
+use Rattle.dav_fetch.proofs.fetching.gather.Given as goal
+
+abbrev pub invariant-loop-at : goal.invariant-loop-at
+invariant-loop-at g l = (visits : List Visit) × Visits (g.P.Peer.state l.fn.peer) visits (g.P.Peer.state l.peer)
+    × Files l.fn.old.items l.paths visits l.files.items (drop l.at l.paths)
+    × (l.made ≡ l.fn.made + length visits) × (l.made ≤ l.most)
+    × SameAt l.fn.old.items (reverse l.old.items) (drop l.at l.paths) × AreInOrder (reverse l.old.items)
+    × (vec_len l.files + length (drop l.at l.paths) ≤ vec_capacity l.files) × (l.at ≤ length l.paths)
+
+abbrev pub decreases-loop-at : goal.decreases-loop-at
+decreases-loop-at g l = length l.paths - l.at

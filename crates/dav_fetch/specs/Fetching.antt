@@ -1,0 +1,191 @@
+-- What `fetch` does: the visits that it made, one after the other, what the copy is by them, and why it ended.
+use Rattle.std.specs.Prelude.{◌≡◌, ◌≢◌, ◌+◌, ◌<◌, ◌≤◌, ◌⊎◌, ℕ, List, [], ◌∷◌, ◌++◌, length, Option, Some, Result, Ok, Err}
+use Rattle.std.specs.Option.{option_to_list}
+use Rattle.std.specs.List.{find}
+use Rattle.std.specs.List.Sorted.{IsStrictlySortedBy}
+use Rattle.dav_io.specs.Counts.{Rose}
+use Rattle.dav_core.specs.DavPath.{WebPath, link_of, shown}
+use Rattle.dav_core.specs.Path.{Names, same_names}
+use Rattle.dav_fetch.specs.declared.copied.Copied.{Copied}
+use Rattle.dav_fetch.specs.declared.copied.Kept.{Kept}
+use Rattle.dav_fetch.specs.declared.error.MirrorError.{MirrorError}
+use Rattle.dav_fetch.specs.declared.error.MirrorError.TheVariants.{Peer as PeerFailed, Refused, NotAPage, BadReply, Short, TooLong, Budget, NoMemory}
+use Rattle.dav_fetch.specs.declared.found.Found.{Found}
+use Rattle.dav_fetch.specs.Asking.{awaits, asked_for, dir_path, file_path}
+use Rattle.dav_fetch.specs.Copy.{IsOf, path_cmp}
+use Rattle.dav_fetch.specs.Judging.{Use, gives, keeps, refuses, spoils, use_of, grown}
+use Rattle.dav_fetch.specs.Peer.{PeerState, RepliesIn, links_most}
+use Rattle.dav_fetch.specs.Reading.{IsOver, ReadOn}
+use Rattle.dav_fetch.specs.Walk.{Visit, IsPageOf, Way, Pages, start}
+
+-- ---- visits over a peer
+
+pub record Visited (s : PeerState) (visit : Visit) (t : PeerState) : Type 0 where
+  pub at : PeerState
+  pub counts : s.faults ≤ at.faults
+  pub is : RepliesIn visit.world visit.path visit.asked (Rose s.faults at.faults) visit.got at.told
+  pub read : ReadOn at visit.came t
+
+abbrev pub Visits : PeerState → List Visit → PeerState → Type 0
+Visits s [] t = t ≡ s
+Visits s (visit ∷ visits) t = (m : PeerState) × Visited s visit m × Visits m visits t
+
+-- ---- files
+
+abbrev pub kept_at : Names → List Kept → Option Kept
+kept_at path files = find (λ (f : Kept). same_names path f.path) files
+
+-- what is kept of the files at these paths
+abbrev pub kept_of : List Names → List Kept → List Kept
+kept_of [] files = []
+kept_of (path ∷ paths) files = option_to_list (kept_at path files) ++ kept_of paths files
+
+-- what is kept of a file behind its visit
+abbrev pub taken : Option Kept → Use → List ℕ → Option Kept
+taken old (gives f n) came = Some (grown f n came)
+taken old keeps came = old
+taken old refuses came = old
+taken old spoils came = old
+
+-- The request for a file was made, by what is kept of it, and this is what its answer is good for.
+pub record IsFileVisit (path : Names) (old : Option Kept) (visit : Visit) (worth : Use) : Type 0 where
+  pub path_is : visit.path ≡ file_path path
+  pub asked : visit.asked ≡ asked_for (awaits old)
+  pub judged : use_of path (awaits old) visit.got.status visit.got.headers ≡ worth
+
+-- no fewer bytes came than were announced
+abbrev pub IsWhole : Use → List ℕ → Type 0
+IsWhole (gives f n) came = n ≤ length came
+IsWhole keeps came = Unit {0}
+IsWhole refuses came = ⊥
+IsWhole spoils came = ⊥
+
+-- Files were asked in this order, and each came whole or was kept. `got` is what is kept of these, and `left` are the
+-- paths that are still due.
+abbrev pub Files : List Kept → List Names → List Visit → List Kept → List Names → Type 0
+Files old paths [] got left = (got ≡ []) × (left ≡ paths)
+Files old [] (visit ∷ visits) got left = ⊥
+Files old (path ∷ paths) (visit ∷ visits) got left = (worth : Use) × (rest : List Kept)
+    × IsFileVisit path (kept_at path old) visit worth × IsWhole worth visit.came
+    × (got ≡ option_to_list (taken (kept_at path old) worth visit.came) ++ rest) × Files old paths visits rest left
+
+-- ---- why it ended
+
+-- the most bytes of a page
+abbrev pub page_most : ℕ
+page_most = 16777216
+
+abbrev pub link_is_short : WebPath → Type 0
+link_is_short path = length (link_of (shown path)) ≤ links_most
+
+-- The request for this path is due. It isn't made, or gets no answer.
+abbrev pub NotAsked : WebPath → ℕ → ℕ → MirrorError → PeerState → PeerState → Type 0
+NotAsked path made most (TooLong p) s t = (p ≡ path) × (made < most) × (link_is_short path → ⊥) × (t ≡ s)
+NotAsked path made most (Budget m) s t = (made ≡ most) × (m ≡ made) × (t ≡ s)
+NotAsked path made most PeerFailed s t = link_is_short path × (made < most) × Rose s.faults t.faults
+NotAsked path made most NoMemory s t = Unit {0}
+NotAsked path made most (Refused p status) s t = ⊥
+NotAsked path made most (NotAPage p) s t = ⊥
+NotAsked path made most (BadReply p) s t = ⊥
+NotAsked path made most (Short p got announced) s t = ⊥
+
+-- A page was asked for, and isn't good for anything.
+abbrev pub PageEnds : Names → Visit → MirrorError → PeerState → PeerState → Type 0
+PageEnds dir visit (Refused p status) s t = (p ≡ dir_path dir) × (status ≡ visit.got.status) × (status ≢ 200)
+PageEnds dir visit (TooLong p) s t = (p ≡ dir_path dir) × (visit.got.status ≡ 200) × (page_most < length visit.came)
+PageEnds dir visit (NotAPage p) s t = (p ≡ dir_path dir) × (visit.got.status ≡ 200) × IsOver t
+    × ((found : List Found) → IsPageOf dir visit found → ⊥)
+PageEnds dir visit PeerFailed s t = (visit.got.status ≡ 200) × Rose s.faults t.faults
+PageEnds dir visit NoMemory s t = Unit {0}
+PageEnds dir visit (Budget m) s t = ⊥
+PageEnds dir visit (BadReply p) s t = ⊥
+PageEnds dir visit (Short p got announced) s t = ⊥
+
+-- A file was asked for, and didn't come whole.
+abbrev pub FileEnds : Names → Use → Visit → MirrorError → PeerState → PeerState → Type 0
+FileEnds path refuses visit (Refused p status) s t = (p ≡ file_path path) × (status ≡ visit.got.status)
+FileEnds path spoils visit (BadReply p) s t = p ≡ file_path path
+FileEnds path (gives f n) visit (Short p got announced) s t = (p ≡ file_path path) × (got ≡ length visit.came)
+    × (announced ≡ n) × (got < n) × IsOver t
+FileEnds path (gives f n) visit PeerFailed s t = (length visit.came < n) × Rose s.faults t.faults
+FileEnds path worth visit NoMemory s t = Unit {0}
+FileEnds path worth visit e s t = ⊥
+
+-- the paths in order, each once
+pub record IsOrdered (found paths : List Names) : Type 0 where
+  pub from : (path : Names) → IsOf path paths → IsOf path found
+  pub all : (path : Names) → IsOf path found → IsOf path paths
+  pub order : IsStrictlySortedBy path_cmp paths
+
+-- ---- the whole of it
+
+-- A page was due. After an error in the pages the copy is as it was.
+abbrev pub AtPage : Names → ℕ → ℕ → MirrorError → PeerState → List Visit → PeerState → Type 0
+AtPage dir made most e s last t = ((last ≡ []) × NotAsked (dir_path dir) made most e s t)
+    ⊎ ((visit : Visit) × (m : PeerState) × (last ≡ visit ∷ []) × Visited s visit m × PageEnds dir visit e m t)
+
+-- A file was due, and its request wasn't made or got no answer: what is kept of it stays.
+pub record FileNotAsked (path : Names) (more : List Names) (old got : List Kept) (made most : ℕ) (e : MirrorError)
+    (s : PeerState) (last : List Visit) (t : PeerState) (new : List Kept) : Type 0 where
+  pub none : last ≡ []
+  pub not : NotAsked (file_path path) made most e s t
+  pub kept : new ≡ got ++ kept_of (path ∷ more) old
+
+-- Its answer ended it: it keeps the bytes that came.
+pub record FileAsked (path : Names) (more : List Names) (old got : List Kept) (e : MirrorError)
+    (s : PeerState) (last : List Visit) (t : PeerState) (new : List Kept) : Type 0 where
+  pub visit : Visit
+  pub worth : Use
+  pub at : PeerState
+  pub one : last ≡ visit ∷ []
+  pub visited : Visited s visit at
+  pub is : IsFileVisit path (kept_at path old) visit worth
+  pub ends : FileEnds path worth visit e at t
+  pub kept : new ≡ got ++ (option_to_list (taken (kept_at path old) worth visit.came) ++ kept_of more old)
+
+abbrev pub AtFile : List Names → List Kept → List Kept → ℕ → ℕ → MirrorError → PeerState → List Visit → PeerState → List Kept → Type 0
+AtFile [] old got made most e s last t new = ⊥
+AtFile (path ∷ more) old got made most e s last t new = FileNotAsked path more old got made most e s last t new
+    ⊎ FileAsked path more old got e s last t new
+
+abbrev pub FilesEnd : List Names → List Kept → List Kept → ℕ → ℕ → Result Unit MirrorError → PeerState → List Visit → PeerState → List Kept → Type 0
+FilesEnd left old got made most (Ok x) s last t new = (left ≡ []) × (last ≡ []) × (t ≡ s) × (new ≡ got)
+FilesEnd left old got made most (Err e) s last t new = AtFile left old got made most e s last t new
+
+-- All pages are read: the files are asked in order of their paths. Kept files that no page names are gone.
+pub record Takes (way : Way) (made most : ℕ) (old : Copied) (s : PeerState) (rest : List Visit) (result : Result Unit MirrorError) (t : PeerState) (new : Copied) : Type 0 where
+  pub dirs : IsOrdered way.dirs new.dirs
+  pub paths : List Names
+  pub ordered : IsOrdered way.files paths
+  pub visits : List Visit
+  pub last : List Visit
+  pub parts : rest ≡ visits ++ last
+  pub got : List Kept
+  pub left : List Names
+  pub took : Files old.files paths visits got left
+  pub mid : PeerState
+  pub chain : Visits s visits mid
+  pub within : made + length visits ≤ most
+  pub ends : FilesEnd left old.files got (made + length visits) most result mid last t new.files
+
+abbrev pub Goes : List Names → Way → ℕ → ℕ → Copied → PeerState → List Visit → Result Unit MirrorError → PeerState → Copied → Type 0
+Goes [] way made most old s rest result t new = Takes way made most old s rest result t new
+Goes (dir ∷ due) way made most old s rest (Ok x) t new = ⊥
+Goes (dir ∷ due) way made most old s rest (Err e) t new = AtPage dir made most e s rest t × (new ≡ old)
+
+-- The clause of `fetch`: the pages that were read, and the visits behind them.
+pub record Fetched (s : PeerState) (old : Copied) (most : ℕ) (result : Result Unit MirrorError) (t : PeerState) (new : Copied) : Type 0 where
+  pub pages : List Visit
+  pub way : Way
+  pub read : Pages start pages way
+  pub mid : PeerState
+  pub chain : Visits s pages mid
+  pub within : length pages ≤ most
+  -- the visits behind the pages: to files, and the one that ended it
+  pub rest : List Visit
+  pub goes : Goes way.due way (length pages) most old mid rest result t new
+
+-- all visits of it
+abbrev pub visits_of : {s : PeerState} {old : Copied} {most : ℕ} {result : Result Unit MirrorError} {t : PeerState} {new : Copied}
+    → Fetched s old most result t new → List Visit
+visits_of f = f.pages ++ f.rest

@@ -1,0 +1,15 @@
+pub mod Peer
+pub mod Copy
+pub mod Asking
+pub mod Judging
+pub mod Reading
+pub mod Walk
+pub mod Fetching
+pub mod Mirroring
+pub mod Steps
+pub mod Keeping
+pub mod Wanting
+pub mod Uses
+pub mod Taking
+pub mod Gathering
+pub mod Ready

@@ -1,0 +1,54 @@
+//! What holds of the definitions alone. Each function has nothing to do, and its contract is the law.
+ghost use Rattle.std.specs.Prelude.{◌≡◌, ◌++◌, ◌∷◌, ℕ, List, Bool, IfSome, Option, Some, true};
+ghost use Rattle.std.specs.Prelude.{Result};
+ghost use Rattle.std.specs.List.{AllByRecursion, AllZip};
+ghost use Rattle.dav_core.specs.declared.member.Member.{Member as Shown};
+ghost use Rattle.dav_core.specs.Path.{Names, is_plain};
+ghost use Rattle.dav_core.specs.World.{World};
+ghost use Rattle.dav_io.specs.Counts.{Rose};
+ghost use Rattle.dav_page.specs.declared.row.PageRow.{PageRow as Line};
+ghost use Rattle.dav_page.specs.Listed.{IsRowOf};
+ghost use Rattle.dav_model.specs.Bodies.{Gives, Part};
+ghost use Rattle.dav_fetch.specs.declared.copied.Kept.{Kept as Old};
+ghost use Rattle.dav_fetch.specs.declared.copied.Copied.{Copied as Copy};
+ghost use Rattle.dav_fetch.specs.declared.error.MirrorError.{MirrorError as Error};
+ghost use Rattle.dav_fetch.specs.declared.found.Found.{Found as It};
+ghost use Rattle.dav_fetch.specs.declared.peer.Got.{Got as Head};
+ghost use Rattle.dav_fetch.specs.Asking.{asked_for, awaits, dir_path, file_path};
+ghost use Rattle.dav_fetch.specs.Copy.{IsOfWorld};
+ghost use Rattle.dav_fetch.specs.Fetching.{Fetched, visits_of};
+ghost use Rattle.dav_fetch.specs.Judging.{gives, grown, use_of};
+ghost use Rattle.dav_fetch.specs.Mirroring.{AllTold, AreKept, AreShort, IsGood, IsMet, IsSound, MetIn};
+ghost use Rattle.dav_fetch.specs.Peer.{PeerState, RepliesOf, body_in};
+ghost use Rattle.dav_fetch.specs.Walk.{IsFound, IsMember};
+
+/// What comes of a file, by the answer to the request that what is kept of it asks for, is a front of what its path has
+/// in the world of the reply, with the tag and the length there.
+pub fn what_comes_is_of_the_world()
+    ensures { (w : World) (names : Names) (old : Option Old) → IfSome old (IsGood w names) → (before after : ℕ) (got : Head)
+        (left came more : List ℕ) (f : Old) (n : ℕ) → AreShort w names
+        → RepliesOf w (file_path names) (asked_for (awaits old)) (Rose before after) got left
+        → use_of names (awaits old) got.status got.headers ≡ gives f n → left ≡ came ++ more
+        → IsOfWorld w (grown f n came) }
+{}
+
+/// What a poll gives is the front of what the body has left, and leaves the rest.
+pub fn polls_give_the_body()
+    ensures { (w : World) (whole : Bool) (most : ℕ) (part : Part) (parts : List Part) (piece : List ℕ) (rest : List Part)
+        → Gives (Some w) whole most part parts piece rest → body_in w (part ∷ parts) ≡ piece ++ body_in w rest }
+{}
+
+/// What is found in the rows of a page are the members that they show.
+pub fn rows_name_their_members()
+    ensures { (dir : Names) (listed : List Shown) (rows : List Line) (found : List It)
+        → AllByRecursion (λ (m : Shown). is_plain m.name ≡ true) listed
+        → AllZip (IsRowOf (dir_path dir)) listed rows → AllZip (IsFound dir) rows found → AllZip IsMember found listed }
+{}
+
+/// Whatever the answer: where the peer told at each visit, and what is kept at entry is faithful for each world that
+/// was met, each file at exit is one of the entry, or a front of what its path had in one of these worlds.
+pub fn a_fetched_copy_is_sound()
+    ensures { (s t : PeerState) (old new : Copy) (most : ℕ) (result : Result Unit Error) (f : Fetched s old most result t new)
+        → AreKept old.files → AllTold (visits_of f)
+        → ((w : World) → MetIn w (visits_of f) → IsMet old.files w) → IsSound old (visits_of f) new }
+{}

@@ -1,0 +1,38 @@
+ghost use Rattle.std.specs.Prelude.{◌<◌, ◌≤◌, length};
+ghost use Rattle.dav_core.specs.DavPath.{link_of, shown};
+ghost use Rattle.dav_fetch.specs.Peer.{PeerState, Gets, Gives, links_most};
+
+use dav_core::DavPath;
+use dav_io::Fields;
+
+/// What a server answers before its body: a status and fields.
+#[derive(Drop)]
+pub struct Got {
+    pub status: u16,
+    pub headers: Fields,
+}
+
+/// Why a peer gives nothing.
+#[derive(Clone, Copy, Debug, PartialEq, Eq)]
+pub enum PeerFault {
+    /// It failed, and its count of faults rose.
+    Failed,
+    NoMemory,
+}
+
+/// A server, asked by path.
+pub trait Peer {
+    /// The world of its last reply and what is left of that reply's body, where it tells them; and its count of
+    /// faults.
+    ghost state: { Self → PeerState };
+
+    /// Asks for a path, and ends the reply before.
+    fn get(&mut self, path: &DavPath, fields: &Fields) -> Result<Got, PeerFault>
+        requires { length (link_of (shown path.now)) ≤ links_most }
+        ensures { Gets (state self.old) path.now fields.now result (state self.new) };
+
+    /// The next bytes of the last reply's body, put at the front of `into`. 0 is its end.
+    fn piece(&mut self, into: &mut [u8]) -> Result<usize, PeerFault>
+        requires { 0 < length into.old }
+        ensures { Gives (state self.old) into.new result (state self.new) };
+}
