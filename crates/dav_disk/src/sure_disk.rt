@@ -139,6 +139,7 @@ impl Disk for SureDisk {
         ensures done { Metas (sure_state self.old) path.now result (sure_state self.new) }
         ensures loan { ⟦<SureDisk as Disk>⟧.loan self.new ≡ ⟦<SureDisk as Disk>⟧.loan self.old }
         ensures listings { listings_of self.new ≡ listings_of self.old }
+        ensures quiet { (sure_state self.new).faults ≡ (sure_state self.old).faults }
         ensures more { IfOk result SaysNoMore }
     {
         self.asked = self.asked.saturating_add(1);
@@ -149,6 +150,7 @@ impl Disk for SureDisk {
         ensures done { LinkMetas (sure_state self.old) path.now result (sure_state self.new) }
         ensures loan { ⟦<SureDisk as Disk>⟧.loan self.new ≡ ⟦<SureDisk as Disk>⟧.loan self.old }
         ensures listings { listings_of self.new ≡ listings_of self.old }
+        ensures quiet { (sure_state self.new).faults ≡ (sure_state self.old).faults }
         ensures more { IfOk result SaysNoMore }
     {
         self.asked = self.asked.saturating_add(1);
@@ -173,6 +175,7 @@ impl Disk for SureDisk {
         ensures done { FileMetas (sure_state self.old) file.0 result (sure_state self.new) }
         ensures loan { ⟦<SureDisk as Disk>⟧.loan self.new ≡ ⟦<SureDisk as Disk>⟧.loan self.old }
         ensures listings { listings_of self.new ≡ listings_of self.old }
+        ensures quiet { (sure_state self.new).faults ≡ (sure_state self.old).faults }
         ensures more { IfOk result SaysNoMore }
     {
         self.asked = self.asked.saturating_add(1);
@@ -184,6 +187,7 @@ impl Disk for SureDisk {
         ensures done { Seeks (sure_state self.old) file.0 place result (sure_state self.new) }
         ensures loan { ⟦<SureDisk as Disk>⟧.loan self.new ≡ ⟦<SureDisk as Disk>⟧.loan self.old }
         ensures listings { listings_of self.new ≡ listings_of self.old }
+        ensures quiet { (sure_state self.new).faults ≡ (sure_state self.old).faults }
     {
         self.asked = self.asked.saturating_add(1);
         self.memory.seek(file, place);
@@ -196,6 +200,7 @@ impl Disk for SureDisk {
         ensures done { Reads (sure_state self.old) file.0 into.new result (sure_state self.new) }
         ensures loan { ⟦<SureDisk as Disk>⟧.loan self.new ≡ ⟦<SureDisk as Disk>⟧.loan self.old }
         ensures listings { listings_of self.new ≡ listings_of self.old }
+        ensures quiet { (sure_state self.new).faults ≡ (sure_state self.old).faults }
     {
         self.asked = self.asked.saturating_add(1);
         self.memory.read(file, usize::MAX, into)
@@ -221,6 +226,7 @@ impl Disk for SureDisk {
         ensures done { Closes (sure_state self.old) file.0 (sure_state self.new) }
         ensures loan { ⟦<SureDisk as Disk>⟧.loan self.new ≡ ⟦<SureDisk as Disk>⟧.loan self.old }
         ensures listings { listings_of self.new ≡ listings_of self.old }
+        ensures quiet { (sure_state self.new).faults ≡ (sure_state self.old).faults }
     {
         self.memory.close(file);
     }
@@ -229,6 +235,7 @@ impl Disk for SureDisk {
         ensures done { Lists (sure_state self.old) path.now result (sure_state self.new) }
         ensures loan { ⟦<SureDisk as Disk>⟧.loan self.new ≡ ⟦<SureDisk as Disk>⟧.loan self.old }
         ensures listings { listings_of self.new ≡ one_more (listings_of self.old) }
+        ensures quiet { (sure_state self.new).faults ≡ (sure_state self.old).faults }
     {
         self.asked = self.asked.saturating_add(1);
         self.listings = self.listings.saturating_add(1);
@@ -240,6 +247,7 @@ impl Disk for SureDisk {
         ensures done { ListsOn (sure_state self.old) at.0 result (sure_state self.new) }
         ensures loan { ⟦<SureDisk as Disk>⟧.loan self.new ≡ ⟦<SureDisk as Disk>⟧.loan self.old }
         ensures listings { listings_of self.new ≡ listings_of self.old }
+        ensures quiet { (sure_state self.new).faults ≡ (sure_state self.old).faults }
     {
         self.asked = self.asked.saturating_add(1);
         match self.memory.list_next(at) {
@@ -253,6 +261,7 @@ impl Disk for SureDisk {
         ensures done { EndsListing (sure_state self.old) at.0 (sure_state self.new) }
         ensures loan { ⟦<SureDisk as Disk>⟧.loan self.new ≡ ⟦<SureDisk as Disk>⟧.loan self.old }
         ensures listings { listings_of self.new ≡ listings_of self.old }
+        ensures quiet { (sure_state self.new).faults ≡ (sure_state self.old).faults }
     {
         self.memory.end_list(at);
     }
@@ -311,6 +320,7 @@ impl Disk for SureDisk {
         ensures done { Turns (sure_state self.old) result (sure_state self.new) }
         ensures loan { ⟦<SureDisk as Disk>⟧.loan self.new ≡ ⟦<SureDisk as Disk>⟧.loan self.old }
         ensures listings { listings_of self.new ≡ listings_of self.old }
+        ensures quiet { (sure_state self.new).faults ≡ (sure_state self.old).faults }
     {
         self.memory.turn()
     }
