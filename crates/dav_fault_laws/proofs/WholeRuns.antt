@@ -50,11 +50,11 @@ gate_other status listed =
     )
     status listed
 
-write_other : (method : DavMethod) (fields : Fields) (rose : Type 0) (reply : Reply) → IsWriteReply method fields rose reply → (rose → ⊥)
+write_other : (method : DavMethod) (prefix : List ℕ) (fields : Fields) (rose : Type 0) (reply : Reply) → IsWriteReply method prefix fields rose reply → (rose → ⊥)
     → IsOther reply.status
-write_other method fields rose reply (inl (is, may)) none e = let f : 201 ≡ 500 = sym (ap (λ (r : Reply). r.status) is) ∙ e in omega (arith, f)
-write_other method fields rose reply (inr (inl (is, may))) none e = let f : 204 ≡ 500 = sym (ap (λ (r : Reply). r.status) is) ∙ e in omega (arith, f)
-write_other method fields rose reply (inr (inr halted)) none e = none (halted.failed (sym (ap (λ (r : Reply). r.status) halted.is) ∙ e))
+write_other method prefix fields rose reply (inl (is, may)) none e = let f : 201 ≡ 500 = sym (ap (λ (r : Reply). r.status) is) ∙ e in omega (arith, f)
+write_other method prefix fields rose reply (inr (inl (is, may))) none e = let f : 204 ≡ 500 = sym (ap (λ (r : Reply). r.status) is) ∙ e in omega (arith, f)
+write_other method prefix fields rose reply (inr (inr halted)) none e = none (halted.failed (sym (ap (λ (r : Reply). r.status) halted.is) ∙ e))
 
 reply_other : (rules : Rules) (request : Asked) (k : Knowledge) (s t : Point) (reply : Reply) → Replies (target_of rules request) rules k s t (fields_of request) reply
     → (Rose s.faults t.faults → ⊥) → IsOther reply.status
@@ -63,7 +63,7 @@ reply_other rules request k s t reply replies none = by_target (target_of rules 
     by_target : (target : Target) → target_of rules request ≡ target → Replies target rules k s t (fields_of request) reply → IsOther reply.status
     by_target (Refused status close) e is = subst (λ (r : Reply). IsOther r.status) (sym is) (gate_other status (gate_well_formed rules request status close e).0)
     by_target Methods e is = subst (λ (r : Reply). IsOther r.status) (sym is) (λ failed. omega (arith, failed))
-    by_target (Writes method path) e is = write_other method (fields_of request) (Rose s.faults t.faults) reply is none
+    by_target (Writes method path) e is = write_other method rules.settings.prefix (fields_of request) (Rose s.faults t.faults) reply is none
     by_target (At method path) e reads = λ failed.
         none (failed_by_fault (query rules.settings (fields_of request) method path) reads.shown (Rose s.faults t.faults) reply reads.could reads.right failed)
 

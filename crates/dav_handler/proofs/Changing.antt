@@ -59,7 +59,7 @@ ends_part fields plan reply rose v w (inr (is, r, part)) = part
 -- What a method that writes did between two states of the disk, and what it made of the told world.
 pub record Did (rules : Rules) (k : Knowledge) (ask : Ask) (s : DiskState) (r : Given) (t : DiskState) : Type 0 where
   pub keeps : KeepsOpen s t
-  pub listed : IsAnswer ask.method (Rose s.faults t.faults) r
+  pub listed : IsAnswer ask.method rules.settings.prefix ask.fields (Rose s.faults t.faults) r
   pub right : IsSaidUnder ask.method rules → Both s.told t.told (λ v w. IsRegular rules k v → (result : Result Reply NoMemory) → answer_or ask.fields r result
       → MakesAs ask.method rules ask result (Rose s.faults t.faults) v w)
 
@@ -69,16 +69,16 @@ lost_as Copy rules ask reply e rose v w (asked, asks, ends) = inr (asked, asks, 
 lost_as Move rules ask reply e rose v w (asked, asks, ends) = inr (asked, asks, λ clear. ends_part ask.fields (carry_plan rules v ask asked) reply rose v w (ends clear))
 lost_as other rules ask reply e rose v w makes = λ clear. ends_part ask.fields (plan rules v ask) reply rose v w (makes clear)
 
-done_listed : (method : DavMethod) (fields : Fields) (rose : Type 0) (outcome : Outcome) → IsAnswer method rose (Ok outcome)
-    → IsWriteReply method fields rose (record { status = outcome.status; fields = outcome.fields; parts = [] })
-done_listed method fields rose outcome (inl (is, may)) = inl (ap (λ (o : Outcome). (let r : Reply = record { status = o.status; fields = o.fields; parts = [] } in r)) is, may)
-done_listed method fields rose outcome (inr (is, may)) = inr (inl (ap (λ (o : Outcome). (let r : Reply = record { status = o.status; fields = o.fields; parts = [] } in r)) is, may))
+done_listed : (method : DavMethod) (prefix : List ℕ) (fields : Fields) (rose : Type 0) (outcome : Outcome) → IsAnswer method prefix fields rose (Ok outcome)
+    → IsWriteReply method prefix fields rose (record { status = outcome.status; fields = outcome.fields; parts = [] })
+done_listed method prefix fields rose outcome (inl (is, may)) = inl (ap (λ (o : Outcome). (let r : Reply = record { status = o.status; fields = o.fields; parts = [] } in r)) is, may)
+done_listed method prefix fields rose outcome (inr (is, may)) = inr (inl (ap (λ (o : Outcome). (let r : Reply = record { status = o.status; fields = o.fields; parts = [] } in r)) is, may))
 
-refused_listed : (method : DavMethod) (fields : Fields) (rose : Type 0) (e : DavError) → lacks_memory e ≡ false → IsAnswer method rose (Err e)
-    → IsWriteReply method fields rose (refusal fields (status_of e) (closes e))
-refused_listed method fields rose e has (inl lacks) = absurd (true≢false (sym lacks ∙ has))
-refused_listed method fields rose e has (inr (listed, failed, close)) =
-    inr (inr (record { status = status_of e; close = closes e; is = refl; listed = listed; failed = failed; closes = close }))
+refused_listed : (method : DavMethod) (prefix : List ℕ) (fields : Fields) (rose : Type 0) (e : DavError) → lacks_memory e ≡ false → IsAnswer method prefix fields rose (Err e)
+    → IsWriteReply method prefix fields rose (refusal fields (status_of e) (closes e))
+refused_listed method prefix fields rose e has (inl lacks) = absurd (true≢false (sym lacks ∙ has))
+refused_listed method prefix fields rose e has (inr (listed, failed, close, due)) =
+    inr (inr (record { status = status_of e; close = closes e; is = refl; listed = listed; due = due; failed = failed; closes = close }))
 
 module _ (a b : By) (method : DavMethod) (path : WebPath) (said : Said) (s t : DiskState) (stays : Stays (record { by = a; disk = s }) (record { by = b; disk = t })) where
   abbrev asks : Ask
@@ -109,7 +109,7 @@ module _ (a b : By) (method : DavMethod) (path : WebPath) (said : Said) (s t : D
         stays = stays;
         holds = subst (λ b. HoldsOnly (read_size_of a.rules.settings.read_buf_size) s b t) (sym none) did.keeps;
         makes = made_as (Ok outcome) (Ok (reply_of t found)) did same;
-        right = subst (IsWriteReply method said.fields (Rose s.faults t.faults)) (sym same) (done_listed method said.fields (Rose s.faults t.faults) outcome did.listed);
+        right = subst (IsWriteReply method a.rules.settings.prefix said.fields (Rose s.faults t.faults)) (sym same) (done_listed method a.rules.settings.prefix said.fields (Rose s.faults t.faults) outcome did.listed);
         asks = did.keeps.asked;
       }
 
@@ -126,7 +126,7 @@ module _ (a b : By) (method : DavMethod) (path : WebPath) (said : Said) (s t : D
         stays = stays;
         holds = subst (λ b. HoldsOnly (read_size_of a.rules.settings.read_buf_size) s b t) (sym is.refused.body) did.keeps;
         makes = made_as (Err e) (Ok (reply_of t found)) did (is.memory, same);
-        right = subst (IsWriteReply method said.fields (Rose s.faults t.faults)) (sym same) (refused_listed method said.fields (Rose s.faults t.faults) e is.memory did.listed);
+        right = subst (IsWriteReply method a.rules.settings.prefix said.fields (Rose s.faults t.faults)) (sym same) (refused_listed method a.rules.settings.prefix said.fields (Rose s.faults t.faults) e is.memory did.listed);
         asks = did.keeps.asked;
       }
 
@@ -135,13 +135,13 @@ module _ (a b : By) (method : DavMethod) (path : WebPath) (said : Said) (s t : D
 module _ {S C : Type 0} (view : View S C LocalFsFile) (lists : Listings S C LocalFsReadDir LocalFsDirEntry) (writes : FileWrites LocalFsFile) (c : C)
     (usual : RefusesUsually view lists writes c) (prefix : List ℕ) (path : WebPath) (said : Said) (s : S) (r : Given) (t : S) where
   listed : (method : DavMethod) → Changes view lists writes c method prefix path said.fields said.body s r t
-      → IsAnswer method (Rose (view.state s).faults (view.state t).faults) r
-  listed Put run = (put_listed Put view lists writes c usual refl refl refl refl path said.fields said.body s r t run).answers
-  listed MkCol run = (mkcol_listed MkCol view lists writes c usual refl refl refl path said.fields s r t run).answers
-  listed Delete run = (delete_listed Delete view lists writes c usual refl refl path said.fields s r t run).answers
-  listed Copy run = (carry_listed Copy view lists writes c usual refl refl refl refl refl false prefix path said.fields s r t run).answers
-  listed Move run = (carry_listed Move view lists writes c usual refl refl refl refl refl true prefix path said.fields s r t run).answers
-  listed other run = (mkcalendar_listed other view lists writes c usual refl refl path s r t run).answers
+      → IsAnswer method prefix said.fields (Rose (view.state s).faults (view.state t).faults) r
+  listed Put run = (put_listed Put prefix said.fields view lists writes c usual refl refl refl refl path said.body s r t run).answers
+  listed MkCol run = (mkcol_listed MkCol prefix said.fields view lists writes c usual refl refl refl path s r t run).answers
+  listed Delete run = (delete_listed Delete prefix said.fields view lists writes c usual refl refl path s r t run).answers
+  listed Copy run = (carry_listed Copy prefix said.fields view lists writes c usual false refl (λ bad. bad) refl refl (λ spares. spares) refl refl path s r t run).answers
+  listed Move run = (carry_listed Move prefix said.fields view lists writes c usual true refl (λ bad. bad) refl refl (λ spares. spares) refl refl path s r t run).answers
+  listed other run = (mkcalendar_listed other prefix said.fields view lists writes c usual refl refl path s r t run).answers
 
   module _ (rules : Rules) (k : Knowledge) where
     -- what it made of a world, as its plan says
@@ -168,6 +168,6 @@ module _ {S C : Type 0} (view : View S C LocalFsFile) (lists : Listings S C Loca
       → Changes view lists writes c method prefix path said.fields said.body s r t → KeepsOpen (view.state s) (view.state t) → Did rules k (ask_of method path said.fields said.body) (view.state s) r (view.state t)
   did_change rules k own follows method run keeps = record {
     keeps = keeps;
-    listed = listed method run;
+    listed = subst (λ z. IsAnswer method z said.fields (Rose (view.state s).faults (view.state t).faults) r) own (listed method run);
     right = λ under. right rules k own follows method run under;
   }

@@ -219,7 +219,7 @@ pub turn_refused : (by : By) (s t : DiskState) (at : ℕ → Option Body) (repli
     → Stepped (staged by s replies at) Turn (Err e) (staged by t replies at)
 turn_refused by s t at replies e p turns = record {
   goes = turns_goes s t (Err e) turns;
-  makes = λ x. both_map s.told t.told (TurnedIn {E = NoMemory} (Err e)) SameBesidesOpens (same_world e) turns.told;
+  makes = λ x. (both_map s.told t.told (TurnedIn {E = NoMemory} (Err e)) SameBesidesOpens (same_world e) turns.told, turns.counts);
   knows = by.knows;
   learns = learns_same s.told by.knows by.knows refl;
   live = turns.live;

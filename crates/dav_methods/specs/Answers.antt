@@ -13,6 +13,8 @@ use Rattle.dav_core.specs.Statuses.{closes, lacks_memory, status_of}
 use Rattle.dav_store.specs.declared.entry.ReadDirMeta.{ReadDirMeta}
 use Rattle.dav_store.specs.Members.{Answered, Walked}
 use Rattle.dav_store.specs.View.{View, Listings}
+use Rattle.dav_model.specs.Causes.{IsDueTo}
+use Rattle.dav_model.specs.Conditions.{Fields}
 use Rattle.dav_model.specs.WellFormed.{is_among}
 use Rattle.dav_model.specs.Written.{MayEnd, halt_statuses, may_close}
 use Rattle.dav_methods.specs.Lines.{Given, made, silent}
@@ -80,14 +82,15 @@ module _ {S C F L E : Type 0} (view : View S C F) (lists : Listings S C L E) (wr
 
 -- ---- answers
 
--- Done, or a refusal with a status of the method's, where memory wasn't refused; 500 comes only where the count of
--- faults rose, and a close only with 405.
-abbrev pub IsAnswer : DavMethod → Type 0 → Given → Type 0
-IsAnswer method rose (Ok outcome) = ((outcome ≡ made) × MayEnd method 201) ⊎ ((outcome ≡ silent) × MayEnd method 204)
-IsAnswer method rose (Err e) = (lacks_memory e ≡ true)
+-- Done, or a refusal with a status of the method's, where memory wasn't refused; 400 and 412 come only where the fields,
+-- read under a prefix, are their cause, 500 only where the count of faults rose, and a close only with 405.
+abbrev pub IsAnswer : DavMethod → List ℕ → Fields → Type 0 → Given → Type 0
+IsAnswer method prefix fields rose (Ok outcome) = ((outcome ≡ made) × MayEnd method 201)
+    ⊎ ((outcome ≡ silent) × MayEnd method 204)
+IsAnswer method prefix fields rose (Err e) = (lacks_memory e ≡ true)
     ⊎ ((is_among (status_of e) (halt_statuses method) ≡ true) × (status_of e ≡ 500 → rose)
-    × (closes e ≡ true → (status_of e ≡ 405) × (may_close method ≡ true)))
+    × (closes e ≡ true → (status_of e ≡ 405) × (may_close method ≡ true)) × IsDueTo method prefix fields (status_of e))
 
 -- the same of the answer of a method between two stores
-abbrev pub Answers : {S C F : Type 0} → DavMethod → View S C F → S → Given → S → Type 0
-Answers method view s r t = IsAnswer method (Rose (view.state s).faults (view.state t).faults) r
+abbrev pub Answers : {S C F : Type 0} → DavMethod → List ℕ → Fields → View S C F → S → Given → S → Type 0
+Answers method prefix fields view s r t = IsAnswer method prefix fields (Rose (view.state s).faults (view.state t).faults) r

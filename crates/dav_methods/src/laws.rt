@@ -17,24 +17,25 @@ ghost use Rattle.dav_methods.specs.Table.{MkCalendars, MkCols};
 use dav_store::GuardedFileSystem;
 
 /// Over a store that refuses few things a request that writes is answered as its method may be where all was done, or with
-/// a status of its method's list, where memory isn't refused; 500 only where a fault was met, and a close only with 405.
+/// a status of its method's list, where memory isn't refused; 412 only where its fields have a precondition that can be
+/// read, 500 only where a fault was met, and a close only with 405.
 pub fn answers_are_listed<S: GuardedFileSystem<C>, C>()
     ensures mkcol { (c : C) → RefusesUsually S.view S.listings S.File.view.writes c
-        → (path : WebPath) (fields : Fields) (s t : S) (r : Given)
+        → (prefix : List ℕ) (path : WebPath) (fields : Fields) (s t : S) (r : Given)
         → MkCols S.view c path fields s r t
-        → Answers MkCol S.view s r t }
+        → Answers MkCol prefix fields S.view s r t }
     ensures mkcalendar { (c : C) → RefusesUsually S.view S.listings S.File.view.writes c
-        → (path : WebPath) (s t : S) (r : Given)
+        → (prefix : List ℕ) (path : WebPath) (fields : Fields) (s t : S) (r : Given)
         → MkCalendars S.view c path s r t
-        → Answers MkCalendar S.view s r t }
+        → Answers MkCalendar prefix fields S.view s r t }
     ensures mkaddressbook { (c : C) → RefusesUsually S.view S.listings S.File.view.writes c
-        → (path : WebPath) (s t : S) (r : Given)
+        → (prefix : List ℕ) (path : WebPath) (fields : Fields) (s t : S) (r : Given)
         → MkCalendars S.view c path s r t
-        → Answers MkAddressbook S.view s r t }
+        → Answers MkAddressbook prefix fields S.view s r t }
     ensures put { (c : C) → RefusesUsually S.view S.listings S.File.view.writes c
-        → (path : WebPath) (fields : Fields) (bytes : List ℕ) (s t : S) (r : Given)
+        → (prefix : List ℕ) (path : WebPath) (fields : Fields) (bytes : List ℕ) (s t : S) (r : Given)
         → PutsWhole S.view S.File.view.writes c path fields bytes s r t
-        → Answers Put S.view s r t }
+        → Answers Put prefix fields S.view s r t }
 {}
 
 /// Over a store that follows its rules a request that makes a directory or puts a file makes of a world of a valid run

@@ -13,12 +13,12 @@ ghost use Rattle.dav_methods.specs.Removing.{Deletes};
 use dav_store::GuardedFileSystem;
 
 /// Over a store that refuses few things a DELETE is answered 204, or with a status of a short list, where memory isn't
-/// refused; and 500 only where a fault was met.
+/// refused; 412 only where its fields have a precondition that can be read, and 500 only where a fault was met.
 pub fn removals_are_listed<S: GuardedFileSystem<C>, C>()
     ensures { (c : C) → RefusesUsually S.view S.listings S.File.view.writes c
-        → (path : WebPath) (fields : Fields) (s t : S) (r : Given)
+        → (prefix : List ℕ) (path : WebPath) (fields : Fields) (s t : S) (r : Given)
         → Deletes S.view S.listings c path fields s r t
-        → Answers Delete S.view s r t }
+        → Answers Delete prefix fields S.view s r t }
 {}
 
 /// Over a store that follows its rules, of which none is that each path names one file, a DELETE makes of a world of a

@@ -354,7 +354,7 @@ makes_unanswered rules k (Request request now) e s = makes_kept (target_of rules
 makes_unanswered rules k (Poll body) e s = leaves_same s
 makes_unanswered rules k (Abandon body) e s = leaves_same s
 makes_unanswered rules k (Purge now) e s = leaves_same s
-makes_unanswered rules k Turn e s = leaves_same s
+makes_unanswered rules k Turn e s = (leaves_same s, refl)
 
 -- a step that was not begun leaves all as it was
 pub not_begun : (m : Stage) (step : Step) (e : NoMemory) → StaysOpen m.at m.playing → Stepped m step (Err e) m

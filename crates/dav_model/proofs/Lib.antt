@@ -19,5 +19,6 @@ pub mod GateStatuses
 pub mod WellFormedRuns
 pub mod NoneUnder
 pub mod StillSteps
+mod AskedOnce
 mod CarryPlanRows
 mod RemovalPlanRows

@@ -275,14 +275,14 @@ allowing_framed allow reply is = subst (IsFramed Methods) (sym is) (framed_empty
 pub replies_framed : (target : Target) (rules : Rules) (k : Knowledge) (s t : Point) (fields : Fields) (reply : Reply) → Replies target rules k s t fields reply → IsFramed target reply
 replies_framed (Refused status close) rules k s t fields reply is = refused_framed (Refused status close) reply fields status close is
 replies_framed Methods rules k s t fields reply is = allowing_framed rules.settings.allow reply is
-replies_framed (Writes method path) rules k s t fields reply is = write_framed method path fields (Rose s.faults t.faults) reply is
+replies_framed (Writes method path) rules k s t fields reply is = write_framed method path rules.settings.prefix fields (Rose s.faults t.faults) reply is
 replies_framed (At method path) rules k s t fields reply reads =
     right_framed (query rules.settings fields method path) reads.shown (Rose s.faults t.faults) reply reads.right
 
 pub replies_sound : (target : Target) (rules : Rules) (k : Knowledge) (s t : Point) (fields : Fields) (reply : Reply) → Replies target rules k s t fields reply → HasSoundBody reply
 replies_sound (Refused status close) rules k s t fields reply is = refusal_sound fields status close reply is
 replies_sound Methods rules k s t fields reply is = subst HasSoundBody (sym is) (record { full = tt; bodiless = λ e. refl })
-replies_sound (Writes method path) rules k s t fields reply is = write_sound method fields (Rose s.faults t.faults) reply is
+replies_sound (Writes method path) rules k s t fields reply is = write_sound method rules.settings.prefix fields (Rose s.faults t.faults) reply is
 replies_sound (At method path) rules k s t fields reply reads =
     right_sound (query rules.settings fields method path) reads.shown (Rose s.faults t.faults) reply reads.right
 

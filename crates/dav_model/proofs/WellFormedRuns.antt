@@ -188,10 +188,10 @@ halt_is_listed : (method : DavMethod) (status : ℕ) → is_among status (halt_s
 halt_is_listed method status e = among_all IsListed (halt_statuses method) (refl, (refl, (refl, (refl, own_are_listed method)))) status e
 
 -- what a request that writes is answered
-write_well_formed : (method : DavMethod) (fields : Fields) (rose : Type 0) (reply : Reply) → IsWriteReply method fields rose reply → IsWellFormed reply.status reply.fields
-write_well_formed method fields rose reply (inl (is, may)) = subst (λ (r : Reply). IsWellFormed r.status r.fields) (sym is) (well_formed 201 made.fields refl made_some)
-write_well_formed method fields rose reply (inr (inl (is, may))) = subst (λ (r : Reply). IsWellFormed r.status r.fields) (sym is) (well_formed 204 silent.fields refl tt)
-write_well_formed method fields rose reply (inr (inr halted)) = subst (λ (r : Reply). IsWellFormed r.status r.fields) (sym halted.is)
+write_well_formed : (method : DavMethod) (prefix : List ℕ) (fields : Fields) (rose : Type 0) (reply : Reply) → IsWriteReply method prefix fields rose reply → IsWellFormed reply.status reply.fields
+write_well_formed method prefix fields rose reply (inl (is, may)) = subst (λ (r : Reply). IsWellFormed r.status r.fields) (sym is) (well_formed 201 made.fields refl made_some)
+write_well_formed method prefix fields rose reply (inr (inl (is, may))) = subst (λ (r : Reply). IsWellFormed r.status r.fields) (sym is) (well_formed 204 silent.fields refl tt)
+write_well_formed method prefix fields rose reply (inr (inr halted)) = subst (λ (r : Reply). IsWellFormed r.status r.fields) (sym halted.is)
     (well_formed halted.status (refusal fields halted.status halted.close).fields (halt_is_listed method halted.status halted.listed) (refusal_some fields halted.status halted.close))
 
 replies_well_formed : (rules : Rules) (request : Asked) (k : Knowledge) (s t : Point) (reply : Reply) → Replies (target_of rules request) rules k s t (fields_of request) reply
@@ -202,7 +202,7 @@ replies_well_formed rules request k s t reply replies = by_target (target_of rul
     by_target (Refused status close) e is = subst (λ (r : Reply). IsWellFormed r.status r.fields) (sym is) (gate_well_formed rules request status close e).1
     by_target Methods e is = subst (λ (r : Reply). IsWellFormed r.status r.fields) (sym is)
         (well_formed 200 (allowing rules.settings.allow false).fields refl (allowing_some rules.settings.allow false))
-    by_target (Writes method path) e is = write_well_formed method (fields_of request) (Rose s.faults t.faults) reply is
+    by_target (Writes method path) e is = write_well_formed method rules.settings.prefix (fields_of request) (Rose s.faults t.faults) reply is
     by_target (At method path) e reads =
         right_well_formed (query rules.settings (fields_of request) method path) reads.shown (Rose s.faults t.faults) reply reads.could reads.right
 

@@ -4,6 +4,7 @@ pub mod Destination
 pub mod Overlap
 pub mod Plans
 pub mod CarryPlans
+pub mod Causes
 pub mod Written
 pub mod Bodies
 pub mod Calls

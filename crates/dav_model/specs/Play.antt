@@ -108,7 +108,8 @@ pub record Reads (rules : Rules) (k : Knowledge) (s t : Point) (q : Query) (repl
 abbrev pub Replies : Target → Rules → Knowledge → Point → Point → Fields → Reply → Type 0
 Replies (Refused status close) rules k s t fields reply = reply ≡ refusal fields status close
 Replies Methods rules k s t fields reply = reply ≡ allowing rules.settings.allow false
-Replies (Writes method path) rules k s t fields reply = IsWriteReply method fields (Rose s.faults t.faults) reply
+Replies (Writes method path) rules k s t fields reply = IsWriteReply method rules.settings.prefix fields
+    (Rose s.faults t.faults) reply
 Replies (At method path) rules k s t fields reply = Reads rules k s t (query rules.settings fields method path) reply
 
 -- ---- steps
@@ -169,14 +170,14 @@ AsksUnanswered rules (Purge now) before after = after ≡ before
 AsksUnanswered rules Turn before after = after ≡ before
 
 -- What a step makes of the told world that was refused memory: nothing, unless it is a request that writes, which may
--- have been broken off on its way.
+-- have been broken off on its way. A turn meets no fault.
 abbrev pub MakesUnanswered : Rules → Knowledge → Step → NoMemory → Point → Point → Type 0
 MakesUnanswered rules k (Request request now) e s t = Makes (target_of rules request) rules k (fields_of request)
     (body_of request) (Err e) s t
 MakesUnanswered rules k (Poll body) e s t = Leaves s t
 MakesUnanswered rules k (Abandon body) e s t = Leaves s t
 MakesUnanswered rules k (Purge now) e s t = Leaves s t
-MakesUnanswered rules k Turn e s t = Leaves s t
+MakesUnanswered rules k Turn e s t = Leaves s t × (t.faults ≡ s.faults)
 
 -- A step that was refused memory: the player is as it was, but for what its memory knows, and nothing else is live.
 pub record Refuses (p : Playing) (s t : Point) (step : Step) (q : Playing) : Type 0 where
@@ -253,7 +254,8 @@ MakesOfTree rules s t ask reply = IsSaidUnder ask.method rules
 abbrev pub RepliesByTree : Target → Rules → Point → Point → Fields → List ℕ → Reply → Type 0
 RepliesByTree (Refused status close) rules s t fields body reply = reply ≡ refusal fields status close
 RepliesByTree Methods rules s t fields body reply = reply ≡ allowing rules.settings.allow false
-RepliesByTree (Writes method path) rules s t fields body reply = IsWriteReply method fields (Rose s.faults t.faults) reply
+RepliesByTree (Writes method path) rules s t fields body reply = IsWriteReply method rules.settings.prefix fields
+    (Rose s.faults t.faults) reply
     × MakesOfTree rules s t (ask_of method path fields body) reply
 RepliesByTree (At method path) rules s t fields body reply = IsOfTree rules s t
     (query rules.settings fields method path) reply

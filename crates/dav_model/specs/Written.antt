@@ -13,6 +13,7 @@ use Rattle.dav_model.specs.declared.asked.Asked.{Asked}
 use Rattle.dav_model.specs.declared.target.Target.{Target}
 use Rattle.dav_model.specs.declared.target.Target.TheVariants.{At, Methods, Refused, Writes}
 use Rattle.dav_model.specs.CarryPlans.{carry_plan, is_unsaid}
+use Rattle.dav_model.specs.Causes.{IsDueTo}
 use Rattle.dav_model.specs.Conditions.{Fields}
 use Rattle.dav_model.specs.Destination.{Asks}
 use Rattle.dav_model.specs.Due.{failure}
@@ -67,12 +68,14 @@ may_close Copy = false
 may_close Move = false
 may_close other = true
 
--- It is refused; 500 comes only where the disk failed, and a close only with 405, where something stands.
-pub record IsHalted (method : DavMethod) (fields : Fields) (rose : Type 0) (reply : Reply) : Type 0 where
+-- It is refused; 400 and 412 come only where the fields, read under a prefix, are their cause, 500 only where the disk
+-- failed, and a close only with 405, where something stands.
+pub record IsHalted (method : DavMethod) (prefix : List ℕ) (fields : Fields) (rose : Type 0) (reply : Reply) : Type 0 where
   pub status : ℕ
   pub close : Bool
   pub is : reply ≡ refusal fields status close
   pub listed : is_among status (halt_statuses method) ≡ true
+  pub due : IsDueTo method prefix fields status
   pub failed : status ≡ 500 → rose
   pub closes : close ≡ true → (status ≡ 405) × (may_close method ≡ true)
 
@@ -80,10 +83,10 @@ pub record IsHalted (method : DavMethod) (fields : Fields) (rose : Type 0) (repl
 abbrev pub MayEnd : DavMethod → ℕ → Type 0
 MayEnd method status = is_among status (done_statuses method) ≡ true
 
--- what a request that writes may be answered in any run
-abbrev pub IsWriteReply : DavMethod → Fields → Type 0 → Reply → Type 0
-IsWriteReply method fields rose reply = ((reply ≡ made) × MayEnd method 201)
-    ⊎ (((reply ≡ silent) × MayEnd method 204) ⊎ IsHalted method fields rose reply)
+-- what a request that writes may be answered in any run, its fields read under a prefix
+abbrev pub IsWriteReply : DavMethod → List ℕ → Fields → Type 0 → Reply → Type 0
+IsWriteReply method prefix fields rose reply = ((reply ≡ made) × MayEnd method 201)
+    ⊎ (((reply ≡ silent) × MayEnd method 204) ⊎ IsHalted method prefix fields rose reply)
 
 -- ---- worlds
 

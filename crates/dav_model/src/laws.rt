@@ -5,14 +5,17 @@ ghost use Rattle.dav_io.specs.Counts.{Rose};
 ghost use Rattle.dav_io.specs.declared.failure.NoMemory.{NoMemory};
 ghost use Rattle.dav_core.specs.DavPath.{WebPath};
 ghost use Rattle.dav_core.specs.World.{World};
+ghost use Rattle.dav_core.specs.declared.dav_error.DavError.{DavError};
 ghost use Rattle.dav_core.specs.declared.method.DavMethod.TheVariants.{Get, Head};
 ghost use Rattle.dav_model.specs.declared.answer.Answer.{Answer};
+ghost use Rattle.dav_model.specs.declared.asked.Asked.{Asked as Carried};
 ghost use Rattle.dav_model.specs.declared.settings.Settings.{Settings};
 ghost use Rattle.dav_model.specs.declared.step.Step.{Step};
 ghost use Rattle.dav_model.specs.declared.target.Target.{Target};
 ghost use Rattle.dav_model.specs.declared.target.Target.TheVariants.{At, Refused};
 ghost use Rattle.dav_model.specs.Announced.{HasSoundBody, PolledToEnd, bytes_in, IsFramed, bare, length_is_own, value_of};
 ghost use Rattle.dav_model.specs.Conditions.{Fields, Asked, fields_of};
+ghost use Rattle.dav_model.specs.Destination.{Asks};
 ghost use Rattle.dav_model.specs.Due.{IsHead, IsRight, Query, due, query};
 ghost use Rattle.dav_model.specs.Head.{Reply, is_well_known, refusal};
 ghost use Rattle.dav_model.specs.Play.{EachByTree, Learned, Played, PlayedOn, Playing, Plays, Stage, Stands, Stepped, points_from};
@@ -132,4 +135,14 @@ pub fn steps_over_a_still_world()
         → is_quiet p.rules step ≡ true → Stands p s t step answer q → StandsAs w s → StandsAs w t }
     ensures agrees { (w : World) (p q : Playing) (s t : Point) (step : Step) (answer : Answer)
         → Fits p.knows w → StandsAs w s → Stands p s t step answer q → Agree p.knows q.knows }
+{}
+
+/// What the fields of a COPY or a MOVE ask for is one value: a destination and the ways to go there, or one refusal. And
+/// it can't be that they ask for nothing and aren't refused either (whether a text is a URI isn't decided here, so no
+/// value is shown).
+pub fn fields_ask_for_one_thing()
+    ensures one { (moving : Bool) (prefix : List ℕ) (fields : Fields) (a b : Result Carried DavError)
+        → Asks moving prefix fields a → Asks moving prefix fields b → a ≡ b }
+    ensures some { (moving : Bool) (prefix : List ℕ) (fields : Fields)
+        → ((a : Result Carried DavError) → Asks moving prefix fields a → ⊥) → ⊥ }
 {}

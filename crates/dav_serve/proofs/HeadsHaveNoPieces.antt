@@ -87,7 +87,7 @@ none_by : (target : Target) (rules : Rules) (k : Knowledge) (s t : Point) (field
 none_by (Refused status close) rules k s t fields reply pieces replies why polled = none_polled reply.parts pieces (ap (λ (z : Reply). z.parts) replies) polled
 none_by Methods rules k s t fields reply pieces replies why polled = none_polled reply.parts pieces (ap (λ (z : Reply). z.parts) replies) polled
 none_by (Writes method path) rules k s t fields reply pieces replies why polled =
-    none_polled reply.parts pieces (write_bare method fields (Rose s.faults t.faults) reply replies) polled
+    none_polled reply.parts pieces (write_bare method rules.settings.prefix fields (Rose s.faults t.faults) reply replies) polled
 none_by (At method path) rules k s t fields reply pieces replies (inl head) polled =
     gives_none (At method path) reply pieces (replies_framed (At method path) rules k s t fields reply replies) (ap (λ m. is_get m && not (reply.status == 304)) head) polled
 none_by (At method path) rules k s t fields reply pieces replies (inr e) polled =

@@ -42,6 +42,12 @@ abbrev pub bytes_or_none : Option (List ℕ) → List ℕ
 bytes_or_none None = []
 bytes_or_none (Some bytes) = bytes
 
+-- It gives all that is left in one piece, or None where nothing is left; and it doesn't fail.
+abbrev pub IsAll : Result (Option (List ℕ)) Failed → List ℕ → Type 0
+IsAll (Ok (Some piece)) left = piece ≡ left
+IsAll (Ok None) left = left ≡ []
+IsAll (Err e) left = ⊥
+
 -- A reader of bytes that are in memory tells them, and meets no fault.
 abbrev pub one_state : Option (List ℕ) → Bool → BodyState
 one_state bytes ended = record { left = Some (bytes_or_none bytes); ended = ended; faults = 0 }

@@ -59,6 +59,7 @@ impl Disk for NoDisk {
             (no_disk_state self.new.faults self.new.asked) }
         ensures loan { ⟦<NoDisk as Disk>⟧.loan self.new ≡ ⟦<NoDisk as Disk>⟧.loan self.old }
         ensures refused { result ≡ Err DiskError.NotFound }
+        ensures counts { self.new ≡ record self.old { asked = one_more self.old.asked } }
     {
         self.count();
         Err(DiskError::NotFound)
@@ -69,6 +70,7 @@ impl Disk for NoDisk {
             (no_disk_state self.new.faults self.new.asked) }
         ensures loan { ⟦<NoDisk as Disk>⟧.loan self.new ≡ ⟦<NoDisk as Disk>⟧.loan self.old }
         ensures refused { result ≡ Err DiskError.NotFound }
+        ensures counts { self.new ≡ record self.old { asked = one_more self.old.asked } }
     {
         self.count();
         Err(DiskError::NotFound)
@@ -84,6 +86,7 @@ impl Disk for NoDisk {
             (no_disk_state self.new.faults self.new.asked) }
         ensures loan { ⟦<NoDisk as Disk>⟧.loan self.new ≡ ⟦<NoDisk as Disk>⟧.loan self.old }
         ensures refused { result ≡ Err DiskError.NotFound }
+        ensures counts { self.new ≡ record self.old { asked = one_more self.old.asked } }
     {
         self.count();
         Err(DiskError::NotFound)
@@ -95,6 +98,7 @@ impl Disk for NoDisk {
             (no_disk_state self.new.faults self.new.asked) }
         ensures loan { ⟦<NoDisk as Disk>⟧.loan self.new ≡ ⟦<NoDisk as Disk>⟧.loan self.old }
         ensures refused { result ≡ Err DiskError.Failed }
+        ensures counts { self.new ≡ record { faults = one_more self.old.faults; asked = one_more self.old.asked } }
     {
         Err(self.fail())
     }
@@ -105,6 +109,7 @@ impl Disk for NoDisk {
             (no_disk_state self.new.faults self.new.asked) }
         ensures loan { ⟦<NoDisk as Disk>⟧.loan self.new ≡ ⟦<NoDisk as Disk>⟧.loan self.old }
         ensures refused { result ≡ Err DiskError.Failed }
+        ensures counts { self.new ≡ record { faults = one_more self.old.faults; asked = one_more self.old.asked } }
     {
         Err(self.fail())
     }
@@ -115,6 +120,7 @@ impl Disk for NoDisk {
             (no_disk_state self.new.faults self.new.asked) }
         ensures loan { ⟦<NoDisk as Disk>⟧.loan self.new ≡ ⟦<NoDisk as Disk>⟧.loan self.old }
         ensures refused { result ≡ Err DiskError.Failed }
+        ensures counts { self.new ≡ record { faults = one_more self.old.faults; asked = one_more self.old.asked } }
     {
         Err(self.fail())
     }
@@ -125,6 +131,7 @@ impl Disk for NoDisk {
             (no_disk_state self.new.faults self.new.asked) }
         ensures loan { ⟦<NoDisk as Disk>⟧.loan self.new ≡ ⟦<NoDisk as Disk>⟧.loan self.old }
         ensures refused { result ≡ Err DiskError.Failed }
+        ensures counts { self.new ≡ record { faults = one_more self.old.faults; asked = one_more self.old.asked } }
     {
         Err(self.fail())
     }
@@ -134,6 +141,7 @@ impl Disk for NoDisk {
         ensures done { Closes (no_disk_state self.old.faults self.old.asked) _file.0
             (no_disk_state self.new.faults self.new.asked) }
         ensures loan { ⟦<NoDisk as Disk>⟧.loan self.new ≡ ⟦<NoDisk as Disk>⟧.loan self.old }
+        ensures same { self.new ≡ self.old }
     {}
 
     fn list(&mut self, _path: &FsPath) -> Result<Lister, DiskError>
@@ -141,6 +149,7 @@ impl Disk for NoDisk {
             (no_disk_state self.new.faults self.new.asked) }
         ensures loan { ⟦<NoDisk as Disk>⟧.loan self.new ≡ ⟦<NoDisk as Disk>⟧.loan self.old }
         ensures refused { result ≡ Err DiskError.NotFound }
+        ensures counts { self.new ≡ record self.old { asked = one_more self.old.asked } }
     {
         self.count();
         Err(DiskError::NotFound)
@@ -152,6 +161,7 @@ impl Disk for NoDisk {
             (no_disk_state self.new.faults self.new.asked) }
         ensures loan { ⟦<NoDisk as Disk>⟧.loan self.new ≡ ⟦<NoDisk as Disk>⟧.loan self.old }
         ensures refused { result ≡ Err DiskError.Failed }
+        ensures counts { self.new ≡ record { faults = one_more self.old.faults; asked = one_more self.old.asked } }
     {
         Err(self.fail())
     }
@@ -161,6 +171,7 @@ impl Disk for NoDisk {
         ensures done { EndsListing (no_disk_state self.old.faults self.old.asked) _at.0
             (no_disk_state self.new.faults self.new.asked) }
         ensures loan { ⟦<NoDisk as Disk>⟧.loan self.new ≡ ⟦<NoDisk as Disk>⟧.loan self.old }
+        ensures same { self.new ≡ self.old }
     {}
 
     fn create_dir(&mut self, _path: &FsPath, _public: bool) -> Result<(), DiskError>
@@ -168,6 +179,7 @@ impl Disk for NoDisk {
             (no_disk_state self.new.faults self.new.asked) }
         ensures loan { ⟦<NoDisk as Disk>⟧.loan self.new ≡ ⟦<NoDisk as Disk>⟧.loan self.old }
         ensures refused { result ≡ Err DiskError.NotFound }
+        ensures counts { self.new ≡ record self.old { asked = one_more self.old.asked } }
     {
         self.count();
         Err(DiskError::NotFound)
@@ -178,6 +190,7 @@ impl Disk for NoDisk {
             (no_disk_state self.new.faults self.new.asked) }
         ensures loan { ⟦<NoDisk as Disk>⟧.loan self.new ≡ ⟦<NoDisk as Disk>⟧.loan self.old }
         ensures refused { result ≡ Err DiskError.NotFound }
+        ensures counts { self.new ≡ record self.old { asked = one_more self.old.asked } }
     {
         self.count();
         Err(DiskError::NotFound)
@@ -188,6 +201,7 @@ impl Disk for NoDisk {
             (no_disk_state self.new.faults self.new.asked) }
         ensures loan { ⟦<NoDisk as Disk>⟧.loan self.new ≡ ⟦<NoDisk as Disk>⟧.loan self.old }
         ensures refused { result ≡ Err DiskError.NotFound }
+        ensures counts { self.new ≡ record self.old { asked = one_more self.old.asked } }
     {
         self.count();
         Err(DiskError::NotFound)
@@ -198,6 +212,7 @@ impl Disk for NoDisk {
             (no_disk_state self.new.faults self.new.asked) }
         ensures loan { ⟦<NoDisk as Disk>⟧.loan self.new ≡ ⟦<NoDisk as Disk>⟧.loan self.old }
         ensures refused { result ≡ Err DiskError.NotFound }
+        ensures counts { self.new ≡ record self.old { asked = one_more self.old.asked } }
     {
         self.count();
         Err(DiskError::NotFound)
@@ -208,6 +223,7 @@ impl Disk for NoDisk {
             (no_disk_state self.new.faults self.new.asked) }
         ensures loan { ⟦<NoDisk as Disk>⟧.loan self.new ≡ ⟦<NoDisk as Disk>⟧.loan self.old }
         ensures refused { result ≡ Err DiskError.NotFound }
+        ensures counts { self.new ≡ record self.old { asked = one_more self.old.asked } }
     {
         self.count();
         Err(DiskError::NotFound)

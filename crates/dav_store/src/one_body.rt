@@ -1,6 +1,6 @@
 ghost use Rattle.std.specs.Prelude.{◌≡◌, ◌<◌, IfOk, Some, false, length};
 ghost use Rattle.std.specs.Option.{ForSome};
-ghost use Rattle.dav_store.specs.Bodies.{one_state};
+ghost use Rattle.dav_store.specs.Bodies.{GivesPiece, IsAll, bytes_or_none, one_state};
 
 use crate::BodyReader;
 use bytes::Bytes;
@@ -41,7 +41,12 @@ impl OneBody {
 impl BodyReader for OneBody {
     ghost state = { λ b. one_state b.bytes b.ended };
 
-    fn next_piece(&mut self) -> Result<Option<Bytes>, Failed> {
+    fn next_piece(&mut self) -> Result<Option<Bytes>, Failed>
+        ensures done { GivesPiece (one_state self.old.bytes self.old.ended) result
+            (one_state self.new.bytes self.new.ended) }
+        ensures loan { ⟦<OneBody as BodyReader>⟧.loan self.new ≡ ⟦<OneBody as BodyReader>⟧.loan self.old }
+        ensures whole { IsAll result (bytes_or_none self.old.bytes) }
+    {
         match self.bytes.take() {
             Some(piece) => Ok(Some(piece)),
             None => {

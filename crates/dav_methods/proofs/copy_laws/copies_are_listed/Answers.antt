@@ -5,8 +5,8 @@ use Rattle.dav_methods.proofs.copy_laws.copies_are_listed.Goals as goal
 
 pub returns-clause-copy : goal.returns-clause-copy
 returns-clause-copy g ctx c few prefix path fields s t r run =
-    (carry_listed Copy g.S.GuardedFileSystem.view g.S.GuardedFileSystem.listings g.S.File.DavFile.view.writes c few refl refl refl refl refl false prefix path fields s r t run).answers
+    (carry_listed Copy prefix fields g.S.GuardedFileSystem.view g.S.GuardedFileSystem.listings g.S.File.DavFile.view.writes c few false refl (λ bad. bad) refl refl (λ spares. spares) refl refl path s r t run).answers
 
 pub returns-clause-moved : goal.returns-clause-moved
 returns-clause-moved g ctx c few prefix path fields s t r run =
-    (carry_listed Move g.S.GuardedFileSystem.view g.S.GuardedFileSystem.listings g.S.File.DavFile.view.writes c few refl refl refl refl refl true prefix path fields s r t run).answers
+    (carry_listed Move prefix fields g.S.GuardedFileSystem.view g.S.GuardedFileSystem.listings g.S.File.DavFile.view.writes c few true refl (λ bad. bad) refl refl (λ spares. spares) refl refl path s r t run).answers
