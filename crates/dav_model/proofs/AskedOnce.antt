@@ -1,5 +1,5 @@
 -- What the fields of a COPY or a MOVE ask for is one value.
-use Rattle.std.proofs.Common.{◌≡◌, ◌==◌, ◌||◌, inl, inr, ℕ, Bool, true, false, not, cond, List, [], length, codes, Option, None, Some, IsSome, is_some, Result, Ok, Err, refl, sym, ap, subst, ◌∙◌}
+use Rattle.std.proofs.Common.{◌≡◌, ◌==◌, ◌||◌, inl, inr, ℕ, Bool, true, false, not, cond, List, [], length, codes, Option, None, Some, IsSome, is_some, Result, Err, refl, sym, ap, subst, ◌∙◌}
 use Rattle.http_uri.specs.Grammar.{path_of}
 use Rattle.http_uri.specs.Uri.{Spells, uri_data, uri_path, uri_scheme}
 use Rattle.http_uri.specs.declared.uri.Uri.{Uri}
