@@ -21,7 +21,7 @@ use Rattle.dav_model.specs.Plans.{Act, Ask, Plan, does, halts, plan}
 use Rattle.dav_model.specs.Rules.{Knowledge, Rules}
 use Rattle.dav_model.specs.Valid.{IsRegular}
 use Rattle.dav_model.specs.Bodies.{read_size_of}
-use Rattle.dav_model.specs.Written.{ArePlain, ByActs, EndsAs, IsSaidUnder, IsWriteReply, Makes, MakesAs, PartOf, ask_of}
+use Rattle.dav_model.specs.Written.{ByActs, EndsAs, IsSaidUnder, IsWriteReply, Makes, MakesAs, PartOf, ask_of}
 use Rattle.dav_store.specs.Frames.{KeepsOpen}
 use Rattle.dav_methods.specs.Answers.{IsAnswer, RefusesUsually}
 use Rattle.dav_store.specs.View.{View, Listings}
@@ -157,8 +157,8 @@ module _ {S C : Type 0} (view : View S C LocalFsFile) (lists : Listings S C Loca
     right own follows Put run under = put_follows view lists writes c rules k s follows (ask_of Put path said.fields said.body) refl r t run
     right own follows MkCol run under = mkcol_follows view lists writes c rules k s follows (ask_of MkCol path said.fields said.body) refl r t run
     right own follows Delete run under = deletes_right view lists writes c rules path said.fields said.body s k follows under r t run
-    right own follows Copy run under = carried_right view lists writes c false rules (λ asked x same moving. copies_right view lists writes c asked x (subst ArePlain (sym same) under)) k s follows
-        under.alone (ask_of Copy path said.fields said.body) r t (subst (λ z. CopiesTo view lists c z path said.fields s r t) own run)
+    right own follows Copy run under = carried_right view lists writes c false rules (λ asked x same moving. copies_right view lists writes c asked x) k s follows
+        under (ask_of Copy path said.fields said.body) r t (subst (λ z. CopiesTo view lists c z path said.fields s r t) own run)
     right own follows Move run under = carried_right view lists writes c true rules (λ asked x same moving. moves_right view lists writes c asked x moving) k s follows
         under (ask_of Move path said.fields said.body) r t (subst (λ z. MovesTo view lists c z path said.fields s r t) own run)
     right own follows other run under = mkcalendar_follows view lists writes c rules k s follows (ask_of other path said.fields said.body) (λ v. refl) r t run

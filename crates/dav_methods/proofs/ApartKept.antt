@@ -48,7 +48,7 @@ all_timed h same a (r ∷ rows) =
     ∙ (ap (λ (q : Names). not (twins a.path q) && list_all (λ other. not (are_twins (h a) other)) (map h rows)) (same r)
     ∙ ap (λ b. not (twins a.path r.path) && b) (all_timed h same a rows))
 
-apart_timed : (h : Row → Row) → ((r : Row) → (h r).path ≡ r.path) → (rows : List Row) → no_twins (map h rows) ≡ no_twins rows
+pub apart_timed : (h : Row → Row) → ((r : Row) → (h r).path ≡ r.path) → (rows : List Row) → no_twins (map h rows) ≡ no_twins rows
 apart_timed h same [] = refl
 apart_timed h same (r ∷ rows) =
     ap (λ b. b && no_twins (map h rows)) (all_timed h same r rows) ∙ ap (λ b. list_all (λ other. not (are_twins r other)) rows && b) (apart_timed h same rows)

@@ -1,6 +1,6 @@
 -- COPY and MOVE over a store that follows rules: each look and each line of the table is the plan's, what stands at the destination
 -- goes, and the last act comes to what the plan says.
-use Rattle.std.proofs.Common.{◌≡◌, ◌<◌, ◌⊎◌, ◌&&◌, ◌++◌, ℕ, List, [], ◌∷◌, length, Bool, true, false, not, cond, Option, None, Some, Result, Ok, Err, refl, sym, ap, subst, ◌∙◌, arith, inl, inr}
+use Rattle.std.proofs.Common.{◌≡◌, ◌<◌, ◌⊎◌, ◌&&◌, ◌++◌, ℕ, List, [], ◌∷◌, Bool, true, false, not, cond, Option, None, Some, Result, Ok, Err, refl, sym, ap, subst, ◌∙◌, inl, inr}
 use Rattle.dav_io.specs.Counts.{Rose}
 use Rattle.dav_io.specs.declared.failure.NoMemory.{NoMemory as Wanting}
 use Rattle.dav_io.proofs.ToldLemmas.{both_map, both_same, both_then}
@@ -8,12 +8,11 @@ use Rattle.dav_core.specs.declared.dav_error.DavError.{DavError}
 use Rattle.dav_core.specs.declared.dav_error.DavError.TheVariants as dav
 use Rattle.dav_core.specs.declared.error.FsError.{FsError}
 use Rattle.dav_core.specs.declared.error.FsError.TheVariants as fs
-use Rattle.dav_core.specs.declared.tree.Row.{Row}
 use Rattle.dav_core.specs.DavPath.{WebPath}
 use Rattle.dav_core.specs.Info.{Info}
-use Rattle.dav_core.specs.Path.{Names, is_front, parent_of, same_names}
+use Rattle.dav_core.specs.Path.{Names, is_front, parent_of}
 use Rattle.dav_core.specs.Statuses.{closes, of_fs, status_of}
-use Rattle.dav_core.specs.Tree.{is_dir, is_file, is_linked, look, row_at}
+use Rattle.dav_core.specs.Tree.{is_dir, is_linked, look}
 use Rattle.dav_core.specs.World.{IsWorld, SameBesidesOpens, World}
 use Rattle.dav_core.proofs.UnchangedLemmas.{same_besides, same_besides_then}
 use Rattle.dav_store.specs.View.{Listings, View}
@@ -40,7 +39,7 @@ use Rattle.dav_methods.specs.Pouring.{Writes}
 use Rattle.dav_methods.specs.Removing.{LooksAtLink, Removes}
 use Rattle.dav_methods.specs.Table.{Looks, Next, Unless}
 use Rattle.dav_methods.proofs.AboveFree.{above_free}
-use Rattle.dav_methods.proofs.ActsJoined.{AllDone, Comes, FillsNone, Halted, acts_by, comes_after, comes_more, comes_then, done_acts, halted_acts, halted_comes, short_comes}
+use Rattle.dav_methods.proofs.ActsJoined.{AllDone, Comes, FillsNone, Halted, comes_more, comes_then, done_acts, halted_acts, halted_comes, short_comes}
 use Rattle.dav_methods.proofs.Beside.{Apart, Beside, beside_removed, some_to}
 use Rattle.dav_methods.proofs.DeleteRight.{clear_of, found_at, planned as removal_planned}
 use Rattle.dav_methods.proofs.DeleteRight as own
@@ -197,16 +196,20 @@ module _ {S C F L E : Type 0} (view : View S C F) (lists : Listings S C L E) (wr
   Prepares x found v = Seen x.rules x.ask.path asked.to (is_dir_there found) v
 
   -- (Of what stands there and isn't found the request is none of which nothing is said.)
-  abbrev pub Readies : Carry → World → World → Type 0
-  Readies x v u = Cleared x.rules x.ask.path asked.to v u ⊎ (Vacant x.rules asked.to v u × (moves_over_hidden x.rules v x.ask.path asked ≡ false))
+  abbrev pub Misses : Carry → World → World → Type 0
+  Misses x v u = Vacant x.rules asked.to v u × (moves_over_hidden x.rules v x.ask.path asked ≡ false)
+
+  -- What acts come to where what was found at the destination went, and where nothing was found.
+  pub record Ends (x : Carry) (line : Line) (all : List Act) (t : S) (v u w : World) : Type 0 where
+    pub after_gone : Cleared x.rules x.ask.path asked.to v u → FillsNone all × Comes view x.ask.fields x.s line all t u w
+    pub after_none : Misses x v u → Comes view x.ask.fields x.s line all t v w
 
   -- What the last act comes to, by whether it is a MOVE.
   abbrev pub GoesRight : Carry → Bool → Type 0
   GoesRight x moving = (found : Result Info FsError) (outcome : Outcome) (m t : S) (r : Given) → Here x m
       → Goes view lists c moving asked (transfer x.ask.path asked found) outcome m r t
       → (line : Line) × (r ≡ the.unless line outcome)
-      × Told view lists writes c m t (λ u w. (v : World) → Prepares x found v → Readies x v u
-      → FillsNone (carrying moving x.rules v x.ask.path asked) × Came x line (carrying moving x.rules v x.ask.path asked) t u w)
+      × Told view lists writes c m t (λ u w. (v : World) → Prepares x found v → Ends x line (carrying moving x.rules v x.ask.path asked) t v u w)
 
   -- ---- endings
 
@@ -395,7 +398,7 @@ module _ {S C F L E : Type 0} (view : View S C F) (lists : Listings S C L E) (wr
     done : done_reply (carry_by asked x.rules x.ask v).done ≡ record { status = silent.status; fields = silent.fields; parts = [] }
     prepared : Prepares x found v
     gone : AllDone (clearing x.rules v asked.to) v w
-    ready : Readies x v w
+    ready : Cleared x.rules x.ask.path asked.to v w
 
   over_done : (x : Carry) (v : World) (stood : Stood) → Stands x v asked.to ≡ Ok stood
       → done_reply (carry_by asked x.rules x.ask v).done ≡ record { status = silent.status; fields = silent.fields; parts = [] }
@@ -413,7 +416,7 @@ module _ {S C F L E : Type 0} (view : View S C F) (lists : Listings S C L E) (wr
       let (line, is, told) = right found silent m t r after goes in
       both_then (view.state x.s).told (view.state m).told (view.state t).told (λ v w. Sees x v → Moved x found v w) _ _
       (λ v k w before last clear. (let b = before clear in
-      let l = last v b.prepared b.ready in
+      let l = (last v b.prepared).after_gone b.ready in
       subst (λ z. EndsFor view lists writes c (carry_by asked) (links_by asked) (case_of x) z t v w) (sym is)
       (comes_ends x line silent (all_acts x v) t v w b.acts b.done
       (comes_then view x.ask.fields x.s line (clearing x.rules v asked.to) (last_acts x v) t v k w l.0 b.gone l.1))))
@@ -422,7 +425,7 @@ module _ {S C F L E : Type 0} (view : View S C F) (lists : Listings S C L E) (wr
       let (stood, there, kind) = seen_there (Stands x v asked.to) info known.1.0.1 in
       let prepared = prepare x found v clear known.1.0.0 in
       let came = cleared x found (is_dir info.kind) stood (Ok y) m v u k prepared there kind p.0 q.0 in
-      record { acts = known.0; done = over_done x v stood there; prepared = prepared; gone = came.0; ready = inl (came.1 q.1) }))
+      record { acts = known.0; done = over_done x v stood there; prepared = prepared; gone = came.0; ready = came.1 q.1 }))
       at
       (both_with (view.state n).told (view.state m).told _ IsWorld (emptied x (is_dir info.kind) n m (Ok y) reached removes)
       (λ k e. x.given.trees m k after e)))
@@ -448,10 +451,10 @@ module _ {S C F L E : Type 0} (view : View S C F) (lists : Listings S C L E) (wr
       let missing = seen_missing (Stands x v asked.to) e known.1.0.1 placed in
       let prepared = prepare x found v clear known.1.0.0 in
       let vacant : Vacant x.rules asked.to v u = record { world = p.1; same = p.0.0; missing = missing } in
-      let l = last v prepared (inr (vacant, (clear_of (carries_link x.rules v.tree x.ask.path (Ok asked)) (moves_over_hidden x.rules v x.ask.path asked) clear.links).1)) in
+      let l = (last v prepared).after_none (vacant, (clear_of (carries_link x.rules v.tree x.ask.path (Ok asked)) (moves_over_hidden x.rules v x.ask.path asked) clear.links).1) in
       subst (λ z. EndsFor view lists writes c (carry_by asked) (links_by asked) (case_of x) z t v w) (sym is)
       (comes_ends x line made (last_acts x v) t v w (known.0 ∙ ap (λ a. a ++ last_acts x v) (clearing_is x.rules v asked.to (Err fs.NotFound) missing)) (new_done x v missing)
-      (comes_after view x.ask.fields x.s line (last_acts x v) t v u w l.0 p.0.0 l.1))))
+      l)))
       (both_with (view.state x.s).told (view.state n).told _ IsWorld at (λ u e. x.given.trees n u reached e))
       told
 

@@ -1,109 +1,92 @@
--- What is known of the world of a COPY by rules under which each path is its own place.
-use Rattle.std.proofs.Common.{◌≡◌, ◌&&◌, ◌||◌, ◌++◌, List, [], ◌∷◌, Bool, true, false, not, cond, codes, None, Result, Ok, Err, refl, sym, ap, subst, ◌∙◌}
-use Rattle.dav_core.specs.declared.error.FsError.{FsError}
-use Rattle.dav_core.specs.declared.error.FsError.TheVariants as fs
+-- What is known of the world in which a COPY begins, behind its looks: where what was found at the destination went, or nothing stood.
+use Rattle.std.proofs.Common.{◌≡◌, ◌&&◌, List, Bool, true, false, not, Option, None, Some, refl, sym, ap, subst, ◌∙◌}
 use Rattle.dav_core.specs.declared.tree.Row.{Row}
 use Rattle.dav_core.specs.DavPath.{WebPath}
-use Rattle.dav_core.specs.Path.{Names, is_front, parent_of, same_names}
-use Rattle.dav_core.specs.Tree.{is_dir, is_file, is_linked, look}
+use Rattle.dav_core.specs.Path.{Names, is_front, parent_of}
+use Rattle.dav_core.specs.Tree.{is_dir, is_link, is_linked, row_at}
 use Rattle.dav_core.specs.World.{IsWorld, World}
-use Rattle.dav_model.specs.Finding.{resolved, stood_at}
-use Rattle.dav_model.specs.Head.{Stood, stood_in}
-use Rattle.dav_model.specs.Overlap.{overlap}
+use Rattle.dav_model.specs.Finding.{is_alike, is_virtual, resolved}
 use Rattle.dav_model.specs.Plans.{has_link_below}
-use Rattle.dav_model.specs.Rules.{Rules, plain_rules}
-use Rattle.dav_model.specs.Written.{ArePlain}
-use Rattle.dav_model.proofs.PlainWalks.{plain_resolved}
-use Rattle.dav_methods.proofs.Beside.{Apart, Beside, apart_of, beside_same}
-use Rattle.dav_methods.proofs.CarryRight.{Cleared, Seen, Vacant}
-use Rattle.dav_methods.proofs.DeleteRight.{stands_plainly}
-use Rattle.dav_methods.proofs.FreePlaces.{Free}
-use Rattle.dav_methods.proofs.MoveDone.{source_of}
-use Rattle.dav_methods.proofs.TreeRows.{DirAt, above as above_row, false_or, look_row, not_both, parts_of, same_of, same_yes}
+use Rattle.dav_model.specs.Rules.{Rules}
+use Rattle.dav_model.specs.Valid.{TellsApart}
+use Rattle.dav_model.proofs.LooseWalks.{parent_pushed}
+use Rattle.dav_methods.proofs.AboveFree.{above_free}
+use Rattle.dav_methods.proofs.Beneath.{row_on_way}
+use Rattle.dav_methods.proofs.Beside.{Apart, Beside, unlinked_from}
+use Rattle.dav_methods.proofs.CarryRight.{Seen}
+use Rattle.dav_methods.proofs.CopyPlaces.{Base, like_alike}
+use Rattle.dav_methods.proofs.FreePlaces.{Free, last_parted}
+use Rattle.dav_methods.proofs.MoveDone.{clear_now, gone_in, into, into_now, some, source_now, source_of}
+use Rattle.dav_methods.proofs.PlaceCleared.{apart_places, dir_now, free_now, lacks_beside, none_alike, place_length}
+use Rattle.dav_methods.proofs.RemovalWork.{no_link_below, none_any}
+use Rattle.dav_methods.proofs.TreeRows.{DirAt, Parts, all_in, false_or, filter_in, front_itself, in_filter, parts_of}
 use Rattle.dav_methods.proofs.WalkOrder.{In}
 
--- a row that stands there is found
-never_by : (b : Bool) (there : Stood) → ◌≡◌ {A = Result Stood FsError} (cond b (Err fs.Forbidden) (Ok there)) (Err fs.NotFound) → ⊥
-never_by true there e = cc
-never_by false there e = cc
+-- Where no row stands nothing does.
+pub free_where : (tree : List Row) (to : Names) → Parts tree → row_at tree to ≡ None → Free to tree
+free_where tree to parts none r i = false_or (is_front to r.path) (λ e. (let (s, there) = row_on_way tree parts to r i e in let never : ◌≡◌ {A = Option Row} None (Some s) = sym none ∙ there in cc))
 
-never_missing : (slash : Bool) (w : World) (r : Row) → stood_at slash w (Ok r) ≡ Err fs.NotFound → ⊥
-never_missing slash w r e = never_by (slash && is_file r.kind) (stood_in w r) e
+-- ---- the world in which it begins
 
--- where nothing was found, nothing stands
-pub free_of : (v : World) (to : WebPath) → IsWorld v → stood_at to.slash v (look v.tree to.names) ≡ Err fs.NotFound → Free to.names v.tree
-free_of v to world none r i = false_or (is_front to.names r.path) (λ e. by e (same_names to.names r.path) refl)
-  where
-    at_it : (d : Row) → In d v.tree → d.path ≡ to.names → ⊥
-    at_it d j at = never_missing to.slash v d (ap (stood_at to.slash v) (sym (look_row v.tree d (parts_of v.tree world.tree) j) ∙ ap (look v.tree) at) ∙ none)
+module _ (rules : Rules) (alone : rules.alone ≡ None) (from to : WebPath) (dir : Bool) (v u : World) (p : Seen rules from to dir v) (plain : is_virtual rules from ≡ false)
+    (world : IsWorld u) (apart : TellsApart rules u) (beside : Beside (resolved rules v.tree from.names) (resolved rules v.tree to.names) v u) (free : Free (resolved rules v.tree to.names) u.tree) where
+  abbrev at : Names
+  at = resolved rules v.tree from.names
 
-    by : is_front to.names r.path ≡ true → (b : Bool) → same_names to.names r.path ≡ b → ⊥
-    by e true same = at_it r i (sym (same_yes to.names r.path same))
-    by e false other =
-        let d = above_row v.tree r to.names (parts_of v.tree world.tree) i e (λ f. not_both (same_names to.names r.path) (same_of to.names r.path f) other) in
-        at_it d.row d.in_tree d.at
+  -- a row of the source stood there
+  still : (r : Row) → In r u.tree → is_front at r.path ≡ true → In r v.tree
+  still r i front = (in_filter (λ row. is_front at row.path) v.tree r (subst (In r) beside.rows (filter_in (λ row. is_front at row.path) u.tree r front i))).0
 
--- ---- what is known
+  no_link : has_link_below u.tree at ≡ false
+  no_link = ap not (all_in (λ (row : Row). not (is_link row.kind && is_front at row.path)) u.tree (λ r i. ap not (by r i (is_front at r.path) refl)))
+    where
+      by : (r : Row) → In r u.tree → (b : Bool) → is_front at r.path ≡ b → (is_link r.kind && is_front at r.path) ≡ false
+      by r i true front = ap (λ z. z && is_front at r.path) (false_or (is_link r.kind) (λ e. no_link_below v.tree at r p.from_below (still r i front) e front))
+      by r i false other = ap (λ z. is_link r.kind && z) other ∙ and_no (is_link r.kind)
+        where
+          and_no : (b : Bool) → (b && false) ≡ false
+          and_no true = refl
+          and_no false = refl
 
--- The source stands, of this kind; the destination lies beside it, below a directory; and no link is met.
-pub record Prepared (from to : WebPath) (dir : Bool) (v : World) : Type 0 where
-  pub world : IsWorld v
-  pub row : Row
-  pub in_tree : In row v.tree
-  pub at : row.path ≡ from.names
-  pub kind : is_dir row.kind ≡ dir
-  pub flat : dir ≡ false → from.slash ≡ false
-  pub apart : Apart from.names to.names
-  pub up : DirAt v.tree (parent_of to.names)
-  pub from_clear : is_linked v.tree from.names ≡ false
-  pub from_below : has_link_below v.tree from.names ≡ false
-  pub to_clear : is_linked v.tree to.names ≡ false
-  pub to_below : has_link_below v.tree to.names ≡ false
+  -- It began there, with these places.
+  pub record Begun : Type 0 where
+    pub base : Base rules from to
+    pub world_is : base.v ≡ u
+    pub from_is : base.from ≡ resolved rules v.tree from.names
+    pub to_is : base.to ≡ into rules alone from to dir v p plain
+    pub kind : is_dir base.row.kind ≡ dir
 
--- What stood at the destination went, or nothing stood there.
-pub record Ready (from to : Names) (v u : World) : Type 0 where
-  pub world : IsWorld u
-  pub beside : Beside from to v u
-  pub free : Free to u.tree
-
--- ---- rules by which each path is meant as it is written
-
-plain_are : (rules : Rules) → ArePlain rules → rules ≡ plain_rules rules.settings
-plain_are rules plain =
-    ap (λ b. record { settings = rules.settings; folds = b; macos = rules.macos; alone = rules.alone }) plain.folds
-    ∙ (ap (λ b. record { settings = rules.settings; folds = false; macos = b; alone = rules.alone }) plain.macos
-    ∙ ap (λ o. record { settings = rules.settings; folds = false; macos = false; alone = o }) plain.alone)
-
-pub own_place : (rules : Rules) → ArePlain rules → (tree : List Row) (names : Names) → resolved rules tree names ≡ names
-own_place rules plain tree names = subst (λ r. resolved r tree names ≡ names) (sym (plain_are rules plain)) (plain_resolved rules.settings tree names)
-
-pub plain_prepared : (rules : Rules) → ArePlain rules → (from to : WebPath) (dir : Bool) (v : World) → Seen rules from to dir v → Prepared from to dir v
-plain_prepared rules plain from to dir v p =
-    let own : (names : Names) → resolved rules v.tree names ≡ names = λ names. own_place rules plain v.tree names in
-    let f = source_of rules plain.alone from to dir v p (ap (λ m. m && (not from.slash && (same_names from.names (codes ".metadata_never_index" ∷ []) || same_names from.names (codes ".ql_disablethumbnails" ∷ [])))) plain.macos) in
-    record {
-      world = p.world;
-      row = f.row;
-      in_tree = f.in_tree;
-      at = f.at ∙ own from.names;
-      kind = sym f.kind ∙ p.kind;
-      flat = λ e. f.slash (p.kind ∙ e) p.from_clear;
-      apart = apart_of from.names to.names (subst (λ b. overlap b from.names to.names ≡ false) plain.folds p.beside);
-      up = subst (DirAt v.tree) (own (parent_of to.names)) p.up;
-      from_clear = subst (λ q. is_linked v.tree q ≡ false) (own from.names) p.from_clear;
-      from_below = subst (λ q. has_link_below v.tree q ≡ false) (own from.names) p.from_below;
-      to_clear = subst (λ q. is_linked v.tree q ≡ false) (own to.names) p.to_clear;
-      to_below = subst (λ q. has_link_below v.tree q ≡ false) (own to.names) p.to_below;
-    }
-
-pub ready_cleared : (rules : Rules) → ArePlain rules → (from to : WebPath) (v u : World) → Cleared rules from to v u → Ready from.names to.names v u
-ready_cleared rules plain from to v u gone = record {
-  world = gone.world;
-  beside = subst (λ p. Beside p to.names v u) (own_place rules plain v.tree from.names) (subst (λ p. Beside (resolved rules v.tree from.names) p v u) (own_place rules plain v.tree to.names) gone.beside);
-  free = subst (λ p. Free p u.tree) (own_place rules plain v.tree to.names) gone.free;
-}
-
-pub ready_vacant : (rules : Rules) → ArePlain rules → (from to : WebPath) (v u : World) → IsWorld v → Vacant rules to v u → Ready from.names to.names v u
-ready_vacant rules plain from to v u world vacant =
-    let free : Free to.names v.tree = free_of v to world (sym (stands_plainly rules v to plain.folds plain.macos plain.alone) ∙ vacant.missing) in
-    record { world = vacant.world; beside = beside_same from.names to.names v u vacant.same; free = λ r i. free r (subst (In r) vacant.same.tree i) }
+  pub begun : Begun
+  begun =
+      let lacks = lacks_beside rules alone at (resolved rules v.tree to.names) v u beside (parts_of u.tree world.tree) apart free in
+      let g = gone_in rules alone from to dir v p plain u.tree lacks in
+      let f = source_of rules alone from to dir v p plain in
+      let goal = into rules alone from to dir v p plain in
+      let source_here = source_now rules alone from to dir v p plain u.tree lacks in
+      let goal_here = into_now rules alone from to dir v p plain u.tree lacks in
+      let parent = parent_pushed (resolved rules v.tree (parent_of to.names)) (last_parted to.names (some rules alone from to dir v p plain)).0 in
+      let front : is_front at f.row.path ≡ true = subst (λ z. is_front at z ≡ true) (sym f.at) (front_itself at) in
+      let base : Base rules from to = record {
+        v = u;
+        from = at;
+        to = goal;
+        world = world;
+        regular = apart;
+        source_found = source_here;
+        into_found = goal_here;
+        long = sym (place_length rules alone v.tree from.names);
+        row = f.row;
+        in_tree = (in_filter (λ row. is_front at row.path) u.tree f.row (subst (In f.row) (sym beside.rows) (filter_in (λ row. is_front at row.path) v.tree f.row front f.in_tree))).0;
+        at = f.at;
+        apart = subst (λ z. Apart z goal) source_here (subst (Apart (resolved rules u.tree from.names)) goal_here (apart_places rules alone u.tree from.names to.names p.beside));
+        up = subst (DirAt u.tree) (sym parent) (dir_now rules alone v.tree u.tree to.names g);
+        from_clear = ap (is_linked u.tree) (sym source_here) ∙ (clear_now rules alone from to dir v p plain u lacks).0;
+        from_below = no_link;
+        up_clear = ap (is_linked u.tree) parent
+            ∙ unlinked_from v.tree u.tree (resolved rules v.tree (parent_of to.names)) (λ r i link. (let (out, o, j, here, kind) = lacks.back r i in (o, j, here, kind)))
+            (above_free rules v.tree to.names p.to_clear);
+        free = free_now rules alone v.tree u.tree to.names g;
+        lone = λ r i. sym (like_alike rules.folds (resolved rules v.tree (parent_of to.names)) g.last r)
+            ∙ none_any (is_alike rules.folds (resolved rules v.tree (parent_of to.names)) g.last) u.tree r (none_alike rules alone v.tree u.tree to.names g) i;
+      } in
+      record { base = base; world_is = refl; from_is = refl; to_is = refl; kind = sym f.kind ∙ p.kind }

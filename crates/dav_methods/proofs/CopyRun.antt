@@ -1,14 +1,15 @@
 -- Over a store that follows rules, what the work of a copy does to the told world is what the acts for the paths that it covers do,
 -- in their order.
-use Rattle.std.proofs.Common.{◌≡◌, ◌≤◌, ◌<◌, ◌&&◌, ◌==◌, ◌+◌, ◌++◌, ℕ, nat_lt, List, [], ◌∷◌, length, map, Bool, true, false, not, cond, Option, None, Some, Result, Ok, Err, refl, sym, ap, subst, ◌∙◌, arith, inl, inr}
+use Rattle.std.proofs.Common.{◌≡◌, ◌≤◌, ◌<◌, ◌⊎◌, ◌&&◌, ◌||◌, ◌==◌, ◌+◌, ◌++◌, ℕ, nat_lt, List, [], ◌∷◌, length, map, Bool, true, false, not, Option, None, Some, Result, Ok, Err, refl, sym, ap, subst, ◌∙◌, arith, inl, inr, length-append}
 use Rattle.std.specs.List.{filter, list_all}
-use Rattle.std.proofs.lemmas.Bool.{and_parts}
+use Rattle.std.proofs.lemmas.Bool.{and_parts, cases_lt}
 use Rattle.dav_io.proofs.ToldLemmas.{both_map, both_same, both_then}
 use Rattle.dav_core.specs.declared.dav_error.DavError.{DavError}
 use Rattle.dav_core.specs.declared.dav_error.DavError.TheVariants as dav
 use Rattle.dav_core.specs.declared.error.FsError.{FsError}
+use Rattle.dav_core.specs.declared.error.FsError.TheVariants as fs
 use Rattle.dav_core.specs.declared.tree.Kind.{Kind}
-use Rattle.dav_core.specs.declared.tree.Kind.TheVariants.{Dir, File, Link}
+use Rattle.dav_core.specs.declared.tree.Kind.TheVariants.{Dir, File}
 use Rattle.dav_core.specs.declared.tree.Row.{Row}
 use Rattle.dav_core.specs.Allowed.{copying, making_dir}
 use Rattle.dav_core.specs.DavPath.{WebPath}
@@ -17,137 +18,45 @@ use Rattle.dav_core.specs.Listing.{stands_in}
 use Rattle.dav_core.specs.Path.{Names, is_front, parent_of}
 use Rattle.dav_core.specs.Statuses.{of_fs}
 use Rattle.dav_core.specs.Tree.{has_dir, is_dir, is_dir_row, is_link, is_linked, row_at}
-use Rattle.dav_core.specs.World.{IsWorld, World, bytes_of, bytes_or_none}
+use Rattle.dav_core.specs.World.{IsWorld, SameBesidesOpens, World, bytes_of, bytes_or_none}
 use Rattle.dav_core.proofs.UnchangedLemmas.{same_besides}
 use Rattle.dav_store.specs.View.{Listings, View}
-use Rattle.dav_model.specs.CarryPlans.{bytes_in}
+use Rattle.dav_model.specs.CarryPlans.{bytes_in, path_below}
 use Rattle.dav_model.specs.Conditions.{Fields}
-use Rattle.dav_model.specs.Finding.{is_clear, resolved}
-use Rattle.dav_model.specs.Plans.{Act, does, halts, is_deep_dir, line}
-use Rattle.dav_model.specs.Rules.{Rules}
+use Rattle.dav_model.specs.Finding.{is_clear, is_forbidden, resolved}
+use Rattle.dav_model.specs.Plans.{Act, does, halts, line, making}
+use Rattle.dav_model.specs.Rules.{Knowledge, Rules}
 use Rattle.dav_model.specs.Walks.{dir_first, in_order}
 use Rattle.dav_model.proofs.JoiningLemmas.{part_none}
 use Rattle.dav_methods.specs.declared.child.Child.{Child}
 use Rattle.dav_methods.specs.declared.transfer.Transfer.{Transfer}
 use Rattle.dav_methods.specs.Copying.{AfterMaking, Copies, CopiesBy, CopiesDir, Enters, goes, stops, transfers_in, done as no_work, short as cut_short}
-use Rattle.dav_methods.proofs.PlainFollows.{Follows}
-use Rattle.dav_methods.specs.Follows.{Calls, Reached, Told, child_of, children_in, copies, makes_dir}
+use Rattle.dav_methods.specs.Follows.{Calls, Follows, IfBothFound, IfFound, ListsBy, Reached, Told, UnlessShut, child_of, children_in, copies, makes_dir}
 use Rattle.dav_methods.specs.Lines.{Line}
 use Rattle.dav_methods.specs.Pouring.{Writes}
 use Rattle.dav_methods.specs.Reading.{HasMembers, HasNoMembers}
 use Rattle.dav_methods.specs.Removing.{is_deep, line_of}
-use Rattle.dav_methods.proofs.ActsJoined.{Comes, FillsNone, comes_after, comes_behind, comes_more, halted_comes, short_comes, spoiled_comes}
-use Rattle.dav_methods.proofs.Beside.{front_up, some_from, some_to}
+use Rattle.dav_methods.proofs.ActsJoined.{Comes, comes_after, comes_behind, comes_more, halted_comes, short_comes, spoiled_comes}
+use Rattle.dav_methods.proofs.Beneath.{found_below}
+use Rattle.dav_methods.proofs.Beside.{some_from, some_to}
 use Rattle.dav_methods.proofs.CallDone.{call_comes, call_done}
-use Rattle.dav_methods.proofs.CopyReady.{Prepared}
-use Rattle.dav_methods.proofs.CopyCovers.{CoversAll, FitsAll, dest, dest_below, dir_walk, file_walk, members_below, rows_cover, rows_fit, walk_of, walks_of}
-use Rattle.dav_methods.proofs.CopyWork.{Coming, HoldsRest, coming_made, coming_same, first_free, first_up, no_link_now, shorter, source_row}
+use Rattle.dav_methods.proofs.CopyPlaces.{Base, Kept, found_new, is_like, kept_made, kept_same}
+use Rattle.dav_methods.proofs.CopyCovers.{CoversAll, FitsAll, dest, dest_below, members_below, rows_cover, rows_fit, walks_of}
+use Rattle.dav_methods.proofs.CopyOrder.{not_above}
+use Rattle.dav_methods.proofs.CopyWork.{Coming, HoldsRest, coming_made, coming_same, first_free, first_up, no_link_now, source_row}
 use Rattle.dav_methods.proofs.FreePlaces.{copying_free, making_free}
 use Rattle.dav_methods.proofs.ListingsLead.{listed_on}
 use Rattle.dav_methods.proofs.RemovalRun.{all_left, both_with}
-use Rattle.dav_methods.proofs.RemovalWork.{StandsAs, no_link_below, unlinked}
-use Rattle.dav_methods.proofs.TreeRows.{Parts, above, all_in, at_row, dir_kind, false_or, filter_in, front_length, front_then, in_filter, not_both, only_row, parts_of}
-use Rattle.dav_methods.proofs.WalkOrder.{In, in_paths}
+use Rattle.dav_methods.proofs.RemovalWork.{StandsAs, no_link_below, none_any, unlinked}
+use Rattle.dav_methods.proofs.TreeRows.{DirAt, all_in, any_none, at_row, both, dir_kind, false_or, filter_in, front_itself, front_length, front_parent, front_then, fronts_meet, in_filter, not_both, parts_of}
+use Rattle.dav_methods.proofs.WalkOrder.{In}
 use Rattle.dav_methods.proofs.WorkCovers.{all_members, listed_members, members, walked}
-
--- ---- acts
-
--- a row is made again at its place below another path
-abbrev pub made_act : Names → Names → World → Row → Act
-made_act from to v row = cond (is_deep_dir row) (halts (line 403)) (does (makes (dest from to row.path) row.kind (bytes_in v row)))
-
-abbrev pub act_for : Names → Names → World → Option Row → Act
-act_for from to v None = halts (line 403)
-act_for from to v (Some row) = made_act from to v row
-
-abbrev pub acts_at : Names → Names → World → List Names → List Act
-acts_at from to v left = map (λ p. act_for from to v (row_at v.tree p)) left
-
-made_none : (from to : Names) (v : World) (row : Row) (acts : List Act) → FillsNone acts → FillsNone (made_act from to v row ∷ acts)
-made_none from to v row acts none = by (is_deep_dir row)
-  where
-    by : (b : Bool) → FillsNone (cond b (halts (line 403)) (does (makes (dest from to row.path) row.kind (bytes_in v row))) ∷ acts)
-    by true = none
-    by false = none
-
-first_none : (from to : Names) (v : World) (o : Option Row) (acts : List Act) → FillsNone acts → FillsNone (act_for from to v o ∷ acts)
-first_none from to v None acts none = none
-first_none from to v (Some row) acts none = made_none from to v row acts none
-
-pub copies_none : (from to : Names) (v : World) (left : List Names) → FillsNone (acts_at from to v left)
-copies_none from to v [] = tt
-copies_none from to v (p ∷ left) = first_none from to v (row_at v.tree p) (acts_at from to v left) (copies_none from to v left)
-
--- the act for a row that stands
-act_of_row : (from to : Names) (v : World) (p : Names) (row : Row) → Parts v.tree → In row v.tree → row.path ≡ p → act_for from to v (row_at v.tree p) ≡ made_act from to v row
-act_of_row from to v p row parts i at = ap (act_for from to v) (ap (row_at v.tree) (sym at) ∙ at_row v.tree row parts.once i)
-
-dir_act : (from to : Names) (v : World) (p : Names) (row : Row) → row.path ≡ p → is_dir row.kind ≡ true → nat_lt 65536 (length p) ≡ false
-    → made_act from to v row ≡ does (makes (dest from to p) Dir [])
-dir_act from to v p row at dir shallow =
-    let here : nat_lt 65536 (length row.path) ≡ false = ap (λ q. nat_lt 65536 (length q)) at ∙ shallow in
-    rw (dir, here) (ap (λ k. does (makes (dest from to row.path) k [])) (dir_kind row.kind dir) ∙ ap (λ q. does (makes (dest from to q) Dir [])) at)
-
-deep_act : (from to : Names) (v : World) (p : Names) (row : Row) → row.path ≡ p → is_dir row.kind ≡ true → nat_lt 65536 (length p) ≡ true → made_act from to v row ≡ halts (line 403)
-deep_act from to v p row at dir deep =
-    let here : nat_lt 65536 (length row.path) ≡ true = ap (λ q. nat_lt 65536 (length q)) at ∙ deep in
-    rw (dir, here) refl
-
-file_kind : (kind : Kind) → is_dir kind ≡ false → is_link kind ≡ false → kind ≡ File
-file_kind Dir e f = cc
-file_kind File e f = refl
-file_kind Link e f = cc
-
-file_act : (from to : Names) (v : World) (p : Names) (row : Row) → row.path ≡ p → is_dir row.kind ≡ false → is_link row.kind ≡ false
-    → made_act from to v row ≡ does (makes (dest from to p) File (bytes_of v row.number))
-file_act from to v p row at dir link =
-    rw dir (ap (λ k. does (makes (dest from to row.path) k (bytes_of v row.number))) (file_kind row.kind dir link) ∙ ap (λ q. does (makes (dest from to q) File (bytes_of v row.number))) at)
-
--- ---- the first of the work
-
-first_alone : (v : World) (x : Transfer) (works : List Transfer) (left : List Names) → CoversAll true v.tree (x ∷ works) left
-    → (more : List Names) × (left ≡ x.from.names ∷ more) × CoversAll true v.tree works more
-first_alone v x works left (more, cut, covers) = (more, cut, covers)
-
--- a file
-first_file : (alone : Bool) (v : World) (x : Transfer) (works : List Transfer) (left : List Names) → Parts v.tree → StandsAs v.tree x.from.names false → CoversAll alone v.tree (x ∷ works) left
-    → (more : List Names) × (left ≡ x.from.names ∷ more) × CoversAll alone v.tree works more
-first_file true v x works left parts s (more, cut, covers) = (more, cut, covers)
-first_file false v x works left parts s (more, cut, covers) = (more, cut ∙ ap (λ z. z ++ more) (file_walk v.tree x.from.names parts s), covers)
-
--- a directory with its members
-first_dir : (v : World) (x : Transfer) (works : List Transfer) (left : List Names) → Parts v.tree → StandsAs v.tree x.from.names true → CoversAll false v.tree (x ∷ works) left
-    → (more : List Names) × (left ≡ x.from.names ∷ (walks_of v.tree (members x.from.names v.tree) ++ more)) × CoversAll false v.tree works more
-first_dir v x works left parts s (more, cut, covers) =
-    let walk : walk_of v.tree x.from.names ≡ x.from.names ∷ walks_of v.tree (members x.from.names v.tree) =
-    subst (λ p. walk_of v.tree p ≡ p ∷ walks_of v.tree (members p v.tree)) s.at (dir_walk v.tree s.row parts s.in_tree) in
-    (more, cut ∙ ap (λ z. z ++ more) walk, covers)
-
--- in each case
-first_any : (alone : Bool) (v : World) (x : Transfer) (works : List Transfer) (left : List Names) (dir : Bool) → Parts v.tree → StandsAs v.tree x.from.names dir → CoversAll alone v.tree (x ∷ works) left
-    → (tail : List Names) × (left ≡ x.from.names ∷ tail)
-first_any true v x works left dir parts s covers = let f = first_alone v x works left covers in (f.0, f.1)
-first_any false v x works left true parts s covers = let f = first_dir v x works left parts s covers in (walks_of v.tree (members x.from.names v.tree) ++ f.0, f.1)
-first_any false v x works left false parts s covers = let f = first_file false v x works left parts s covers in (f.0, f.1)
-
--- what lies below a file's place isn't to come
-file_rest : (from to : Names) (v u : World) (p : Names) (left : List Names) → 0 < length from → Parts v.tree → StandsAs v.tree p false → Coming from to v u (p ∷ left)
-    → (q : Names) → In q left → parent_of q ≡ p → ⊥
-file_rest from to v u p left some parts s c q i e =
-    let (r, j, at) = in_paths q v.tree (c.come q (inr i)).0 in
-    let front : is_front p q ≡ true = subst (λ z. is_front z q ≡ true) e (front_up q) in
-    let d = above v.tree r p parts j (subst (λ z. is_front p z ≡ true) (sym at) front)
-    (λ f. shorter from q some (c.come q (inr i)).1 (e ∙ (f ∙ at))) in
-    let one : d.row ≡ s.row = only_row v.tree d.row s.row parts d.in_tree s.in_tree (d.at ∙ sym s.at) in
-    not_both (is_dir d.row.kind) d.dir (ap (λ (y : Row). is_dir y.kind) one ∙ s.kind)
+use Rattle.dav_methods.proofs.CopyAsked.{Judged, Shadow, Shadows, act_for, acts_at, any_shut, asks_at, below_is, children_shadow, copies_none, dir_bytes, dir_deep, dir_go, file_bytes, file_go, file_kind, file_rest, file_shut, first_alone, first_any, first_dir, first_file}
 
 module _ {S C F L E : Type 0} (view : View S C F) (lists : Listings S C L E) (writes : Writes F) (c : C) (rules : Rules) (fields : Fields) (start : S)
-    (follows : Follows view lists writes c rules start) (plain : (tree : List Row) (names : Names) → resolved rules tree names ≡ names) (source into : WebPath) (top : Bool) (alone : Bool) where
-  abbrev from : Names
-  from = source.names
-
-  abbrev to : Names
-  to = into.names
+    (knows : Knowledge) (follows : Follows view lists writes c rules knows start) (alone : rules.alone ≡ None) (source into : WebPath) (bare : Bool) where
+  abbrev pub Began : Type 0
+  Began = Base rules source into
 
   abbrev Here : S → Type 0
   Here n = Reached view lists writes c start n
@@ -158,97 +67,277 @@ module _ {S C F L E : Type 0} (view : View S C F) (lists : Listings S C L E) (wr
   abbrev Came : Line → List Act → S → World → World → Type 0
   Came r all t u w = Comes view fields start r all t u w
 
-  abbrev Before : World → Type 0
-  Before v = Prepared source into top v
+  abbrev acts : Began → List Names → List Act
+  acts b left = acts_at rules source into b left
+
+  abbrev act : Began → Names → Act
+  act b p = act_for rules source into b (row_at b.v.tree p)
+
+  -- Work that is left covers what is to come.
+  pub record Now (b : Base rules source into) (works : List Transfer) (u : World) (left : List Names) : Type 0 where
+    pub others : List Transfer
+    pub shadows : Shadows rules source into b works others
+    pub covers : CoversAll bare b.v.tree others left
+    pub fit : FitsAll b.from b.to b.v.tree others
+    pub coming : Coming b.from b.to b.v u left
+    pub kept : Kept rules alone source into b u left
 
   -- what work that is left comes to
   abbrev pub Goes : List Transfer → Line → S → World → World → Type 0
-  Goes works r t u w = (v : World) → Prepared source into top v → (left : List Names) → CoversAll alone v.tree works left → FitsAll source.names into.names v.tree works
-      → Coming source.names into.names v u left → Comes view fields start r (acts_at source.names into.names v left) t u w
+  Goes works r t u w = (b : Base rules source into) (left : List Names) → Now b works u left → Comes view fields start r (acts_at rules source into b left) t u w
 
   -- From work that covers what is to come a step leads to work that does.
-  record Step (works : List Transfer) (v : World) (left : List Names) (u k : World) : Type 0 where
+  record Step (b : Began) (works : List Transfer) (left : List Names) (u k : World) : Type 0 where
     more : List Names
-    covers : CoversAll alone v.tree works more
-    fit : FitsAll from to v.tree works
-    now : Coming from to v k more
-    back : (r : Line) (t : S) (w : World) → Came r (acts_at from to v more) t k w → Came r (acts_at from to v left) t u w
+    now : Now b works k more
+    back : (r : Line) (t : S) (w : World) → Came r (acts b more) t k w → Came r (acts b left) t u w
 
   abbrev Steps : List Transfer → List Transfer → World → World → Type 0
-  Steps works rest u k = (v : World) → Before v → (left : List Names) → CoversAll alone v.tree works left → FitsAll from to v.tree works → Coming from to v u left → Step rest v left u k
+  Steps works rest u k = (b : Began) (left : List Names) → Now b works u left → Step b rest left u k
+
+  -- ---- the first of the work, and its row
+
+  record First (b : Began) (x : Transfer) (works : List Transfer) (u : World) (left : List Names) : Type 0 where
+    y : Transfer
+    others : List Transfer
+    shadow : Shadow rules source into b x y
+    shadows : Shadows rules source into b works others
+    covers : CoversAll bare b.v.tree (y ∷ others) left
+    stands : StandsAs b.v.tree y.from.names y.dir
+    front : is_front b.from y.from.names ≡ true
+    place : y.to.names ≡ dest b.from b.to y.from.names
+    fit : FitsAll b.from b.to b.v.tree others
+    coming : Coming b.from b.to b.v u left
+    kept : Kept rules alone source into b u left
+
+  first_of : (b : Began) (x : Transfer) (works : List Transfer) (u : World) (left : List Names) → Now b (x ∷ works) u left → First b x works u left
+  first_of b x works u left n = by n.others n.shadows n.covers n.fit
+    where
+      by : (others : List Transfer) → Shadows rules source into b (x ∷ works) others → CoversAll bare b.v.tree others left → FitsAll b.from b.to b.v.tree others → First b x works u left
+      by [] s covers fit = absurd s
+      by (y ∷ others) (shadow, shadows) covers ((stands, front, place), fit) = record {
+        y = y;
+        others = others;
+        shadow = shadow;
+        shadows = shadows;
+        covers = covers;
+        stands = stands;
+        front = front;
+        place = place;
+        fit = fit;
+        coming = n.coming;
+        kept = n.kept;
+      }
+
+  some_source : (b : Began) → 0 < length b.from
+  some_source b = some_from b.from b.to b.apart
+
+  some_place : (b : Began) (q : Names) → 0 < length (dest b.from b.to q)
+  some_place b q = longer_than (some_to b.from b.to b.apart) (front_length b.to (dest b.from b.to q) (dest_below b.from b.to q))
+    where
+      longer_than : 0 < length b.to → length b.to ≤ length (dest b.from b.to q) → 0 < length (dest b.from b.to q)
+      longer_than lt le = omega (arith, lt, le)
+
+  module _ (b : Began) (x : Transfer) (works : List Transfer) (u : World) (left : List Names) (h : First b x works u left) where
+    -- where its source stands, and where it goes
+    abbrev at : Names
+    at = h.y.from.names
+
+    abbrev goal : Names
+    goal = dest b.from b.to h.y.from.names
+
+    names_from : h.y.from.names ≡ b.from ++ h.shadow.rest
+    names_from = ap (λ (z : WebPath). z.names) h.shadow.at_from
+
+    row_path : h.stands.row.path ≡ b.from ++ h.shadow.rest
+    row_path = h.stands.at ∙ names_from
+
+    row_dir : is_dir h.stands.row.kind ≡ x.dir
+    row_dir = h.stands.kind ∙ h.shadow.dir
+
+    asked_from : x.from ≡ path_below source b.from h.stands.row
+    asked_from = h.shadow.asks_from ∙ (ap (asks_at source h.shadow.rest) (sym row_dir) ∙ sym (below_is source b.from h.shadow.rest h.stands.row row_path))
+
+    asked_to : x.to ≡ path_below into b.from h.stands.row
+    asked_to = h.shadow.asks_to ∙ (ap (asks_at into h.shadow.rest) (sym row_dir) ∙ sym (below_is into b.from h.shadow.rest h.stands.row row_path))
+
+    goal_is : goal ≡ b.to ++ h.shadow.rest
+    goal_is = sym h.place ∙ ap (λ (z : WebPath). z.names) h.shadow.at_to
+
+    deep_is : nat_lt 65536 (length h.stands.row.path) ≡ is_deep x.from
+    deep_is =
+        ap (nat_lt 65536)
+        (ap length row_path ∙ (length-append b.from h.shadow.rest ∙ (ap (λ n. n + length h.shadow.rest) (sym b.long)
+        ∙ (sym (length-append source.names h.shadow.rest) ∙ ap (λ (z : WebPath). length z.names) (sym h.shadow.asks_from)))))
+
+    judged : act b at ≡ Judged (is_dir h.stands.row.kind) (nat_lt 65536 (length h.stands.row.path)) (is_forbidden rules (path_below into b.from h.stands.row))
+        (is_forbidden rules (path_below source b.from h.stands.row)) (halts (line 403)) (does (makes (dest b.from b.to h.stands.row.path) h.stands.row.kind (bytes_in b.v h.stands.row)))
+    judged = ap (act_for rules source into b) (ap (row_at b.v.tree) (sym h.stands.at) ∙ at_row b.v.tree h.stands.row (parts_of b.v.tree b.world.tree).once h.stands.in_tree)
+
+    to_is : (shut : Bool) → is_forbidden rules x.to ≡ shut → is_forbidden rules (path_below into b.from h.stands.row) ≡ shut
+    to_is shut e = ap (is_forbidden rules) (sym asked_to) ∙ e
+
+    either_is : (shut : Bool) → (is_forbidden rules x.from || is_forbidden rules x.to) ≡ shut → (is_forbidden rules (path_below source b.from h.stands.row) || is_forbidden rules (path_below into b.from h.stands.row)) ≡ shut
+    either_is shut e =
+        ap (λ (z : WebPath). is_forbidden rules z || is_forbidden rules (path_below into b.from h.stands.row)) (sym asked_from)
+        ∙ (ap (λ (z : WebPath). is_forbidden rules x.from || is_forbidden rules z) (sym asked_to) ∙ e)
+
+    -- ---- what is done for it
+
+    dir_act : x.dir ≡ true → is_deep x.from ≡ false → is_forbidden rules x.to ≡ false → act b at ≡ does (makes goal Dir [])
+    dir_act dir shallow open_at =
+        judged
+        ∙ (dir_go _ _ _ _ _ _ (row_dir ∙ dir) (deep_is ∙ shallow) (to_is false open_at)
+        ∙ (ap (λ (z : Names). does (makes (dest b.from b.to z) h.stands.row.kind (bytes_in b.v h.stands.row))) h.stands.at
+        ∙ (ap (λ kind. does (makes goal kind (bytes_in b.v h.stands.row))) (dir_kind h.stands.row.kind (row_dir ∙ dir))
+        ∙ ap (λ bytes. does (makes goal Dir bytes)) (dir_bytes b.v h.stands.row (row_dir ∙ dir)))))
+
+    deep_act : x.dir ≡ true → is_deep x.from ≡ true → act b at ≡ halts (line 403)
+    deep_act dir deep = judged ∙ dir_deep _ _ _ _ _ _ (row_dir ∙ dir) (deep_is ∙ deep)
+
+    shut_act : is_forbidden rules x.to ≡ true → act b at ≡ halts (line 403)
+    shut_act shut =
+        judged
+        ∙ any_shut (is_dir h.stands.row.kind) (nat_lt 65536 (length h.stands.row.path)) (is_forbidden rules (path_below into b.from h.stands.row)) (is_forbidden rules (path_below source b.from h.stands.row)) (halts (line 403))
+        (does (makes (dest b.from b.to h.stands.row.path) h.stands.row.kind (bytes_in b.v h.stands.row))) (to_is true shut)
+
+    file_act : x.dir ≡ false → is_link h.stands.row.kind ≡ false → (is_forbidden rules x.from || is_forbidden rules x.to) ≡ false → act b at ≡ does (makes goal File (bytes_of b.v h.stands.row.number))
+    file_act file link open_at =
+        judged
+        ∙ (file_go _ _ _ _ _ _ (row_dir ∙ file) (either_is false open_at)
+        ∙ (ap (λ (z : Names). does (makes (dest b.from b.to z) h.stands.row.kind (bytes_in b.v h.stands.row))) h.stands.at
+        ∙ (ap (λ kind. does (makes goal kind (bytes_in b.v h.stands.row))) (file_kind h.stands.row.kind (row_dir ∙ file) link)
+        ∙ ap (λ bytes. does (makes goal File bytes)) (file_bytes b.v h.stands.row (row_dir ∙ file)))))
+
+    shut_file_act : x.dir ≡ false → (is_forbidden rules x.from || is_forbidden rules x.to) ≡ true → act b at ≡ halts (line 403)
+    shut_file_act file shut = judged ∙ file_shut _ _ _ _ _ _ (row_dir ∙ file) (either_is true shut)
+
+    -- ---- where it is found
+
+    below_source : is_front b.from h.stands.row.path ≡ true
+    below_source = subst (λ z. is_front b.from z ≡ true) (sym h.stands.at) h.front
+
+    -- in this world or in a later one
+    source_at : (i : World) (rest_left : List Names) → Coming b.from b.to b.v i rest_left → Kept rules alone source into b i rest_left → resolved rules i.tree x.from.names ≡ at
+    source_at i rest_left coming kept =
+        ap (λ (z : WebPath). resolved rules i.tree z.names) h.shadow.asks_from
+        ∙ (found_below rules alone i.tree (parts_of i.tree coming.world.tree) source.names b.from h.shadow.rest kept.source_found h.stands.row
+        (source_row b.from b.to b.v i rest_left coming h.stands.row h.stands.in_tree below_source) row_path
+        ∙ sym names_from)
+
+    dest_at : (tail : List Names) → left ≡ at ∷ tail → resolved rules u.tree x.to.names ≡ goal
+    dest_at tail cut =
+        let coming = subst (Coming b.from b.to b.v u) cut h.coming in
+        let kept = subst (Kept rules alone source into b u) cut h.kept in
+        ap (λ (z : WebPath). resolved rules u.tree z.names) h.shadow.asks_to
+        ∙ (found_new rules alone u.tree (parts_of u.tree h.coming.world.tree) h.kept.apart into.names b.to h.shadow.rest h.kept.into_found
+        (subst (λ z. DirAt u.tree (parent_of z)) goal_is (first_up b.from b.to b.v u at tail (some_source b) coming))
+        (λ r i. ap (λ z. is_like rules.folds z r.path) (sym goal_is) ∙ kept.lone at (inl refl) r i)
+        ∙ sym goal_is)
 
   -- ---- what is known of the source, and where it goes
 
-  clear_source : (v u : World) (left : List Names) (q : Names) → Before v → Coming from to v u left → is_front from q ≡ true → is_linked u.tree q ≡ false
-  clear_source v u left q p now front =
-      no_link_now from to v u left q now (unlinked from v.tree v.tree (walked v.tree from) q p.from_below p.from_clear (all_left from v p.world) front)
+  clear_source : (b : Began) (u : World) (left : List Names) (q : Names) → Coming b.from b.to b.v u left → is_front b.from q ≡ true → is_linked u.tree q ≡ false
+  clear_source b u left q now front =
+      no_link_now b.from b.to b.v u left q now (unlinked b.from b.v.tree b.v.tree (walked b.v.tree b.from) q b.from_below b.from_clear (all_left b.from b.v b.world) front)
 
-  clear_dest : (v u : World) (left : List Names) (q : Names) → Before v → Coming from to v u left → is_front to q ≡ true → is_linked u.tree q ≡ false
-  clear_dest v u left q p now front =
-      no_link_now from to v u left q now (unlinked to v.tree v.tree (walked v.tree to) q p.to_below p.to_clear (all_left to v p.world) front)
-
-  clear_here : (u : World) (q : Names) → is_linked u.tree q ≡ false → is_linked u.tree (resolved rules u.tree q) ≡ false
-  clear_here u q clear = ap (is_linked u.tree) (plain u.tree q) ∙ clear
-
-  some_place : (v : World) (q : Names) → Before v → 0 < length (dest from to q)
-  some_place v q p = longer_than (some_to from to p.apart) (front_length to (dest from to q) (dest_below from to q))
+  clear_dest : (b : Began) (u : World) (left : List Names) (q : Names) → Coming b.from b.to b.v u left → is_front b.to q ≡ true → is_linked u.tree q ≡ false
+  clear_dest b u left q now front =
+      any_none (λ row. is_link row.kind && is_front row.path q) u.tree
+      (λ r i. false_or (is_link r.kind && is_front r.path q) (λ e. never r i (and_parts (is_link r.kind) (is_front r.path q) e) (is_front b.to r.path) refl))
     where
-      longer_than : 0 < length to → length to ≤ length (dest from to q) → 0 < length (dest from to q)
-      longer_than lt le = omega (arith, lt, le)
+      on_way : (r : Row) → is_front r.path q ≡ true → is_front b.to r.path ≡ false → is_front r.path (parent_of b.to) ≡ true
+      on_way r on other = by (cases_lt (length r.path) (length b.to))
+        where
+          by : (length r.path < length b.to) ⊎ (length b.to ≤ length r.path) → is_front r.path (parent_of b.to) ≡ true
+          by (inl lt) =
+              front_parent r.path b.to (fronts_meet r.path b.to q on front (omega (arith, lt)))
+              (λ e. not_both (is_front b.to r.path) (subst (λ z. is_front b.to z ≡ true) (sym e) (front_itself b.to)) other)
+          by (inr le) = not_both (is_front b.to r.path) (fronts_meet b.to r.path q front on le) other
+
+      never : (r : Row) → In r u.tree → (is_link r.kind ≡ true) × (is_front r.path q ≡ true) → (a : Bool) → is_front b.to r.path ≡ a → ⊥
+      never r i (link, on) true below = not_both (is_link r.kind) link (now.unlinked r i below)
+      never r i (link, on) false other =
+          let (o, j, here, kind) = now.beside.back r i other in
+          not_both (is_link o.kind && is_front o.path (parent_of b.to))
+          (both (is_link o.kind) (is_front o.path (parent_of b.to)) (ap is_link kind ∙ link) (subst (λ z. is_front z (parent_of b.to) ≡ true) (sym here) (on_way r on other)))
+          (none_any (λ row. is_link row.kind && is_front row.path (parent_of b.to)) b.v.tree o b.up_clear j)
 
   -- ---- one path was made
 
   -- the first that is to come
-  record Leads (v : World) (p : Names) (tail left : List Names) (u k : World) : Type 0 where
-    now : Coming from to v k tail
-    back : (r : Line) (t : S) (w : World) → Came r (acts_at from to v tail) t k w → Came r (acts_at from to v left) t u w
+  record Leads (b : Began) (tail left : List Names) (u k : World) : Type 0 where
+    now : Coming b.from b.to b.v k tail
+    kept : Kept rules alone source into b k tail
+    back : (r : Line) (t : S) (w : World) → Came r (acts b tail) t k w → Came r (acts b left) t u w
 
-  leads : (v : World) (p : Names) (tail left : List Names) (u k : World) (kind : Kind) (bytes : List ℕ) → Before v → left ≡ p ∷ tail → act_for from to v (row_at v.tree p) ≡ does (makes (dest from to p) kind bytes)
-      → is_link kind ≡ false → HoldsRest p kind tail → Coming from to v u left → Edited (makes (dest from to p) kind bytes) u k → IsWorld k → Leads v p tail left u k
-  leads v p tail left u k kind bytes before cut act solid holds now edited world = record {
-    now = coming_made from to v u k p kind bytes tail before.apart (subst (Coming from to v u) cut now) solid holds edited world;
-    back = λ r t w came. subst (λ z. Came r (acts_at from to v z) t u w) (sym cut)
-        (subst (λ a. Came r (a ∷ acts_at from to v tail) t u w) (sym act)
-        (comes_behind view fields start r (makes (dest from to p) kind bytes) (acts_at from to v tail) t u k w edited came));
-  }
+  leads : (b : Began) (p : Names) (tail left : List Names) (u k : World) (kind : Kind) (bytes : List ℕ) → left ≡ p ∷ tail → act b p ≡ does (makes (dest b.from b.to p) kind bytes)
+      → is_link kind ≡ false → HoldsRest p kind tail → Coming b.from b.to b.v u left → Kept rules alone source into b u left → Edited (makes (dest b.from b.to p) kind bytes) u k → IsWorld k
+      → Leads b tail left u k
+  leads b p tail left u k kind bytes cut is solid holds now kept edited world =
+      let here = subst (Coming b.from b.to b.v u) cut now in
+      record {
+        now = coming_made b.from b.to b.v u k p kind bytes tail b.apart here solid holds edited world;
+        kept = kept_made rules alone source into b u k p kind bytes tail now.world
+            (source_row b.from b.to b.v u left now b.row b.in_tree (subst (λ z. is_front b.from z ≡ true) (sym b.at) (front_itself b.from))) here.come
+            (λ q j e. not_above p q (here.ascends.0 q j) (subst (λ z. is_front z p ≡ true) e (front_itself p))) (some_source b) edited
+            (subst (Kept rules alone source into b u) cut kept);
+        back = λ r t w came. subst (λ z. Came r (acts b z) t u w) (sym cut)
+            (subst (λ a. Came r (a ∷ acts b tail) t u w) (sym is) (comes_behind view fields start r (makes (dest b.from b.to p) kind bytes) (acts b tail) t u k w edited came));
+      }
+
+  -- the first act ends the request
+  refused_first : (b : Began) (p : Names) (tail left : List Names) (u w : World) (e : DavError) (t : S) → left ≡ p ∷ tail → act b p ≡ halts (line 403) → Came (Err e) (halts (line 403) ∷ acts b tail) t u w
+      → Came (Err e) (acts b left) t u w
+  refused_first b p tail left u w e t cut is came =
+      subst (λ z. Came (Err e) (acts b z) t u w) (sym cut) (subst (λ a. Came (Err e) (a ∷ acts b tail) t u w) (sym is) came)
+
+  -- the call for the first path was refused
+  refused_here : (b : Began) (u w : World) (p : Names) (tail left : List Names) (kind : Kind) (bytes : List ℕ) (e : DavError) (t : S) → left ≡ p ∷ tail
+      → act b p ≡ does (makes (dest b.from b.to p) kind bytes) → Came (Err e) (does (makes (dest b.from b.to p) kind bytes) ∷ []) t u w → Came (Err e) (acts b left) t u w
+  refused_here b u w p tail left kind bytes e t cut is came =
+      subst (λ z. Came (Err e) (acts b z) t u w) (sym cut)
+      (subst (λ a. Came (Err e) (a ∷ acts b tail) t u w) (sym is)
+      (comes_more view fields start e (does (makes (dest b.from b.to p) kind bytes) ∷ []) (acts b tail) t u w came))
 
   -- ---- a directory
 
-  record DirGoes (v : World) (x : Transfer) (tail left : List Names) (u : World) : Type 0 where
-    cut : left ≡ x.from.names ∷ tail
-    act : act_for from to v (row_at v.tree x.from.names) ≡ does (makes (dest from to x.from.names) Dir [])
-    allowed : making_dir u.tree (resolved rules u.tree x.to.names) ≡ Ok (Some (makes (dest from to x.from.names) Dir []))
+  abbrev Made : Transfer → Result Unit FsError → S → S → World → World → Type 0
+  Made x made m k u w = UnlessShut view lists writes c (is_forbidden rules x.to) made u w
+      (IfFound view lists writes c rules u x.to (Calls view lists writes c (making rules u x.to) m made k u w))
+
+  record DirGoes (b : Began) (x : Transfer) (works : List Transfer) (u : World) (left : List Names) (h : First b x works u left) : Type 0 where
+    allowed : making rules u x.to ≡ Ok (Some (makes (dest b.from b.to h.y.from.names) Dir []))
     clear : is_linked u.tree (resolved rules u.tree x.to.names) ≡ false
 
-  dir_goes : (x : Transfer) (works : List Transfer) (tail left : List Names) (v u : World) → Before v → x.dir ≡ true → is_deep x.from ≡ false → left ≡ x.from.names ∷ tail → FitsAll from to v.tree (x ∷ works)
-      → Coming from to v u left → DirGoes v x tail left u
-  dir_goes x works tail left v u before dir shallow cut ((s, front, place), fit) now =
-      let parts = parts_of v.tree before.world.tree in
-      let here = subst (Coming from to v u) cut now in
+  dir_goes : (b : Began) (x : Transfer) (works : List Transfer) (tail left : List Names) (u : World) (h : First b x works u left) → left ≡ h.y.from.names ∷ tail → DirGoes b x works u left h
+  dir_goes b x works tail left u h cut =
+      let p = h.y.from.names in
+      let here = subst (Coming b.from b.to b.v u) cut h.coming in
+      let place = dest_at b x works u left h tail cut in
       record {
-        cut = cut;
-        act = act_of_row from to v x.from.names s.row parts s.in_tree s.at ∙ dir_act from to v x.from.names s.row s.at (s.kind ∙ dir) shallow;
         allowed =
-            ap (making_dir u.tree) (plain u.tree x.to.names ∙ place)
-            ∙ making_free u.tree (dest from to x.from.names) (parts_of u.tree now.world.tree) (some_place v x.from.names before)
-            (first_up from to v u x.from.names tail (some_from from to before.apart) here) (first_free from to v u x.from.names tail here);
-        clear = clear_here u x.to.names (ap (is_linked u.tree) place ∙ clear_dest v u left (dest from to x.from.names) before now (dest_below from to x.from.names));
+            ap (λ (z : Names). making_dir u.tree z) place
+            ∙ making_free u.tree (dest b.from b.to p) (parts_of u.tree h.coming.world.tree) (some_place b p)
+            (first_up b.from b.to b.v u p tail (some_source b) here) (first_free b.from b.to b.v u p tail here);
+        clear = ap (is_linked u.tree) place ∙ clear_dest b u left (dest b.from b.to p) h.coming (dest_below b.from b.to p);
       }
 
-  made_told : (m k : S) (x : Transfer) (made : Result Unit FsError) → Here m → view.makes_dir m c x.to made k
-      → ToldIn m k (λ u w. (is_linked u.tree (resolved rules u.tree x.to.names) ≡ false → Calls view lists writes c (making_dir u.tree (resolved rules u.tree x.to.names)) m made k u w) × IsWorld w)
+  made_told : (m k : S) (x : Transfer) (made : Result Unit FsError) → Here m → view.makes_dir m c x.to made k → ToldIn m k (λ u w. Made x made m k u w × IsWorld w)
   made_told m k x made reached call =
       both_with (view.state m).told (view.state k).told _ IsWorld (follows.makes_dir m k x.to made reached call) (λ w e. follows.trees k w (makes_dir m k x.to made reached call) e)
 
   -- the directory was made
-  dir_led : (x : Transfer) (works : List Transfer) (tail left : List Names) (m k : S) (y : Unit) (v u w : World) → Before v → x.dir ≡ true → is_deep x.from ≡ false → left ≡ x.from.names ∷ tail
-      → FitsAll from to v.tree (x ∷ works) → Coming from to v u left
-      → (is_linked u.tree (resolved rules u.tree x.to.names) ≡ false → Calls view lists writes c (making_dir u.tree (resolved rules u.tree x.to.names)) m (Ok y) k u w) → IsWorld w
-      → Leads v x.from.names tail left u w
-  dir_led x works tail left m k y v u w before dir shallow cut fit now calls world =
-      let g = dir_goes x works tail left v u before dir shallow cut fit now in
-      leads v x.from.names tail left u w Dir [] before cut g.act refl (inl refl) now
-      (call_done view lists writes c fields start (making_dir u.tree (resolved rules u.tree x.to.names)) (makes (dest from to x.from.names) Dir []) m k y u w g.allowed (calls g.clear)) world
+  dir_led : (b : Began) (x : Transfer) (works : List Transfer) (tail left : List Names) (m k : S) (y : Unit) (u w : World) (h : First b x works u left) → x.dir ≡ true → is_deep x.from ≡ false
+      → left ≡ h.y.from.names ∷ tail → Made x (Ok y) m k u w → IsWorld w → Leads b tail left u w
+  dir_led b x works tail left m k y u w h dir shallow cut calls world = by (is_forbidden rules x.to) refl
+    where
+      by : (shut : Bool) → is_forbidden rules x.to ≡ shut → Leads b tail left u w
+      by true shut = let never : Ok y ≡ Err fs.Forbidden = (calls.refused shut).0 in cc
+      by false open_at =
+          let g = dir_goes b x works tail left u h cut in
+          leads b h.y.from.names tail left u w Dir [] cut (dir_act b x works u left h dir shallow open_at) refl (inl refl) h.coming h.kept
+          (call_done view lists writes c fields start (making rules u x.to) (makes (dest b.from b.to h.y.from.names) Dir []) m k y u w g.allowed (calls.called open_at h.kept.apart g.clear)) world
 
   -- ---- its members
 
@@ -256,125 +345,167 @@ module _ {S C F L E : Type 0} (view : View S C F) (lists : Listings S C L E) (wr
   true_and true b e f = cc
   true_and false b e f = f
 
-  clear_dir : (v u : World) (left : List Names) (path : WebPath) → Before v → Coming from to v u left → is_front from path.names ≡ true → is_clear u.tree (resolved rules u.tree path.names) ≡ true
-  clear_dir v u left path before now front =
-      ap (is_clear u.tree) (plain u.tree path.names)
-      ∙ true_and (is_linked u.tree path.names) (list_all (λ row. not (is_linked u.tree row.path)) (filter (stands_in path.names) u.tree)) (clear_source v u left path.names before now front)
-      (all_in (λ row. not (is_linked u.tree row.path)) (filter (stands_in path.names) u.tree)
-      (λ r i. ap not (clear_source v u left r.path before now (front_then from path.names r.path front (inside r (in_filter (stands_in path.names) u.tree r i).1)))))
+  clear_dir : (b : Began) (x : Transfer) (works : List Transfer) (u : World) (left : List Names) (h : First b x works u left) (i : World) (tail : List Names) → Coming b.from b.to b.v i tail
+      → Kept rules alone source into b i tail → is_clear i.tree (resolved rules i.tree x.from.names) ≡ true
+  clear_dir b x works u left h i tail now kept =
+      ap (is_clear i.tree) (source_at b x works u left h i tail now kept)
+      ∙ true_and (is_linked i.tree p) (list_all (λ row. not (is_linked i.tree row.path)) (filter (stands_in p) i.tree)) (clear_source b i tail p now h.front)
+      (all_in (λ row. not (is_linked i.tree row.path)) (filter (stands_in p) i.tree)
+      (λ r j. ap not (clear_source b i tail r.path now (front_then b.from p r.path h.front (inside r (in_filter (stands_in p) i.tree r j).1)))))
     where
-      inside : (r : Row) → stands_in path.names r ≡ true → is_front path.names r.path ≡ true
-      inside r e = (and_parts (length r.path == length path.names + 1) (is_front path.names r.path) e).1
+      p : Names
+      p = h.y.from.names
+
+      inside : (r : Row) → stands_in h.y.from.names r ≡ true → is_front h.y.from.names r.path ≡ true
+      inside r e = (and_parts (length r.path == length h.y.from.names + 1) (is_front h.y.from.names r.path) e).1
 
   -- they are those that the source has
-  same_members : (v u : World) (left : List Names) (path : WebPath) → Coming from to v u left → is_front from path.names ≡ true
-      → children_in u.tree (resolved rules u.tree path.names) path ≡ map (child_of path) (members path.names v.tree)
-  same_members v u left path now front =
-      ap (λ place. children_in u.tree place path) (plain u.tree path.names)
-      ∙ (ap (λ rows. map (child_of path) (in_order dir_first rows))
-      (sym (members_below from path.names u.tree front) ∙ (ap (filter (stands_in path.names)) now.beside.rows ∙ members_below from path.names v.tree front))
-      ∙ ap (map (child_of path)) (listed_members path.names v.tree))
+  same_members : (b : Began) (x : Transfer) (works : List Transfer) (u : World) (left : List Names) (h : First b x works u left) (i : World) (tail : List Names) → Coming b.from b.to b.v i tail
+      → Kept rules alone source into b i tail → children_in i.tree (resolved rules i.tree x.from.names) x.from ≡ map (child_of x.from) (members h.y.from.names b.v.tree)
+  same_members b x works u left h i tail now kept =
+      let p = h.y.from.names in
+      ap (λ place. children_in i.tree place x.from) (source_at b x works u left h i tail now kept)
+      ∙ (ap (λ rows. map (child_of x.from) (in_order dir_first rows))
+      (sym (members_below b.from p i.tree h.front) ∙ (ap (filter (stands_in p)) now.beside.rows ∙ members_below b.from p b.v.tree h.front))
+      ∙ ap (map (child_of x.from)) (listed_members p b.v.tree))
 
   -- a directory is made without its members
-  alone_step : (x : Transfer) (works : List Transfer) (m k : S) (y : Unit) → Here m → x.dir ≡ true → is_deep x.from ≡ false → alone ≡ true → view.makes_dir m c x.to (Ok y) k
+  alone_step : (x : Transfer) (works : List Transfer) (m k : S) (y : Unit) → Here m → x.dir ≡ true → is_deep x.from ≡ false → bare ≡ true → view.makes_dir m c x.to (Ok y) k
       → ToldIn m k (Steps (x ∷ works) works)
   alone_step x works m k y reached dir shallow own call =
       both_map (view.state m).told (view.state k).told _ _
-      (λ u w h v before left covers fit now.
-      (let (more, cut, rest) = first_alone v x works left (subst (λ a. CoversAll a v.tree (x ∷ works) left) own covers) in
-      let led = dir_led x works more left m k y v u w before dir shallow cut fit now h.0 h.1 in
-      record { more = more; covers = subst (λ a. CoversAll a v.tree works more) (sym own) rest; fit = fit.1; now = led.now; back = led.back }))
+      (λ u w made b left n.
+      (let h = first_of b x works u left n in
+      let (more, cut, rest) = first_alone b.v h.y h.others left (subst (λ a. CoversAll a b.v.tree (h.y ∷ h.others) left) own h.covers) in
+      let led = dir_led b x works more left m k y u w h dir shallow cut made.0 made.1 in
+      record {
+        more = more;
+        now = record { others = h.others; shadows = h.shadows; covers = subst (λ a. CoversAll a b.v.tree h.others more) (sym own) rest; fit = h.fit; coming = led.now; kept = led.kept };
+        back = led.back;
+      }))
       (made_told m k x (Ok y) reached call)
 
   -- a directory is made, and its members are read
-  opened_step : (x : Transfer) (members_read : List Child) (works : List Transfer) (m k n : S) (y : Unit) → Here m → x.dir ≡ true → is_deep x.from ≡ false → alone ≡ false → view.makes_dir m c x.to (Ok y) k
+  opened_step : (x : Transfer) (members_read : List Child) (works : List Transfer) (m k n : S) (y : Unit) → Here m → x.dir ≡ true → is_deep x.from ≡ false → bare ≡ false → view.makes_dir m c x.to (Ok y) k
       → HasMembers view lists k c x.from members_read n → ToldIn m n (Steps (x ∷ works) (transfers_in x.to members_read works))
   opened_step x members_read works m k n y reached dir shallow own call has =
       both_then (view.state m).told (view.state k).told (view.state n).told _ _ _
-      (λ u i w h g v before left covers fit now.
-      (let parts = parts_of v.tree before.world.tree in
-      let (s, front, place) = fit.0 in
-      let (more, cut, rest) = first_dir v x works left parts (record { row = s.row; in_tree = s.in_tree; at = s.at; kind = s.kind ∙ dir }) (subst (λ a. CoversAll a v.tree (x ∷ works) left) own covers) in
-      let tail = walks_of v.tree (members x.from.names v.tree) ++ more in
-      let led = dir_led x works tail left m k y v u i before dir shallow cut fit now h.0 h.1 in
-      let are : members_read ≡ map (child_of x.from) (members x.from.names v.tree) =
-      g.0.1 (clear_dir v i tail x.from before led.now front) ∙ same_members v i tail x.from led.now front in
-      record {
-        more = tail;
-        covers = subst (λ z. CoversAll alone v.tree (transfers_in x.to z works) tail) (sym are)
-            (subst (λ a. CoversAll a v.tree (transfers_in x.to (map (child_of x.from) (members x.from.names v.tree)) works) tail) (sym own)
-            (rows_cover x.from x.to v.tree (members x.from.names v.tree) more works (all_members x.from.names v.tree) rest));
-        fit = subst (λ z. FitsAll from to v.tree (transfers_in x.to z works)) (sym are)
-            (rows_fit from to x.from x.to v.tree (members x.from.names v.tree) works (all_members x.from.names v.tree) front place fit.1);
-        now = coming_same from to v i w tail g.0.0 g.1 led.now;
-        back = λ r t z came. led.back r t z (comes_after view fields start r (acts_at from to v tail) t i w z (copies_none from to v tail) g.0.0 came);
-      }))
+      (λ u i w made g b left now. entered_now u i w made g b left (first_of b x works u left now))
       (made_told m k x (Ok y) reached call)
       (both_with (view.state k).told (view.state n).told _ IsWorld (follows.members k n x.from members_read (makes_dir m k x.to (Ok y) reached call) has)
       (λ w e. follows.trees n w (listed_on view lists writes c start k n x.from has.listed (makes_dir m k x.to (Ok y) reached call) has.was) e))
+    where
+      entered_now : (u i w : World) → Made x (Ok y) m k u i × IsWorld i → ListsBy view lists writes c rules x.from members_read i w × IsWorld w → (b : Began) (left : List Names) → First b x works u left
+          → Step b (transfers_in x.to members_read works) left u w
+      entered_now u i w made g b left h =
+          let parts = parts_of b.v.tree b.world.tree in
+          let p = h.y.from.names in
+          let stood : StandsAs b.v.tree p true = record { row = h.stands.row; in_tree = h.stands.in_tree; at = h.stands.at; kind = row_dir b x works u left h ∙ dir } in
+          let (more, cut, rest) = first_dir b.v h.y h.others left parts stood (subst (λ a. CoversAll a b.v.tree (h.y ∷ h.others) left) own h.covers) in
+          let tail = walks_of b.v.tree (members p b.v.tree) ++ more in
+          let led = dir_led b x works tail left m k y u i h dir shallow cut made.0 made.1 in
+          let are : members_read ≡ map (child_of x.from) (members p b.v.tree) =
+          g.0.1 led.kept.apart (clear_dir b x works u left h i tail led.now led.kept) ∙ same_members b x works u left h i tail led.now led.kept in
+          record {
+            more = tail;
+            now = record {
+              others = transfers_in h.y.to (map (child_of h.y.from) (members p b.v.tree)) h.others;
+              shadows = subst (λ z. Shadows rules source into b (transfers_in x.to z works) (transfers_in h.y.to (map (child_of h.y.from) (members p b.v.tree)) h.others)) (sym are)
+                  (children_shadow rules source into b x h.y (members p b.v.tree) works h.others h.shadow h.shadows);
+              covers = subst (λ a. CoversAll a b.v.tree (transfers_in h.y.to (map (child_of h.y.from) (members p b.v.tree)) h.others) tail) (sym own)
+                  (rows_cover h.y.from h.y.to b.v.tree (members p b.v.tree) more h.others (all_members p b.v.tree) rest);
+              fit = rows_fit b.from b.to h.y.from h.y.to b.v.tree (members p b.v.tree) h.others (all_members p b.v.tree) h.front h.place h.fit;
+              coming = coming_same b.from b.to b.v i w tail g.0.0 g.1 led.now;
+              kept = kept_same rules alone source into b i w tail g.0.0.tree led.kept;
+            };
+            back = λ r t z came. led.back r t z (comes_after view fields start r (acts b tail) t i w z (copies_none rules source into b tail) g.0.0 came);
+          }
 
   -- ---- a file
 
-  record FileGoes (v : World) (x : Transfer) (works : List Transfer) (left : List Names) (u : World) : Type 0 where
+  abbrev Copied : Transfer → Result Unit FsError → S → S → World → World → Type 0
+  Copied x copied m n u w = UnlessShut view lists writes c (is_forbidden rules x.from || is_forbidden rules x.to) copied u w
+      (IfBothFound view lists writes c rules u x.from x.to
+      (Calls view lists writes c (copying u (resolved rules u.tree x.from.names) (resolved rules u.tree x.to.names)) m copied n u w))
+
+  record FileGoes (b : Began) (x : Transfer) (works : List Transfer) (u : World) (left : List Names) (h : First b x works u left) : Type 0 where
     more : List Names
     bytes : List ℕ
-    cut : left ≡ x.from.names ∷ more
-    covers : CoversAll alone v.tree works more
-    act : act_for from to v (row_at v.tree x.from.names) ≡ does (makes (dest from to x.from.names) File bytes)
-    allowed : copying u (resolved rules u.tree x.from.names) (resolved rules u.tree x.to.names) ≡ Ok (Some (makes (dest from to x.from.names) File bytes))
+    cut : left ≡ h.y.from.names ∷ more
+    covers : CoversAll bare b.v.tree h.others more
+    act : (is_forbidden rules x.from || is_forbidden rules x.to) ≡ false → act_for rules source into b (row_at b.v.tree h.y.from.names) ≡ does (makes (dest b.from b.to h.y.from.names) File bytes)
+    allowed : copying u (resolved rules u.tree x.from.names) (resolved rules u.tree x.to.names) ≡ Ok (Some (makes (dest b.from b.to h.y.from.names) File bytes))
     clear_from : is_linked u.tree (resolved rules u.tree x.from.names) ≡ false
     clear_to : is_linked u.tree (resolved rules u.tree x.to.names) ≡ false
-    rest : (q : Names) → In q more → parent_of q ≡ x.from.names → ⊥
+    rest : (q : Names) → In q more → parent_of q ≡ h.y.from.names → ⊥
 
-  file_goes : (x : Transfer) (works : List Transfer) (left : List Names) (v u : World) → Before v → x.dir ≡ false → CoversAll alone v.tree (x ∷ works) left → FitsAll from to v.tree (x ∷ works)
-      → Coming from to v u left → FileGoes v x works left u
-  file_goes x works left v u before file covers ((s, front, place), fit) now =
-      let parts = parts_of v.tree before.world.tree in
-      let stood : StandsAs v.tree x.from.names false = record { row = s.row; in_tree = s.in_tree; at = s.at; kind = s.kind ∙ file } in
-      let (more, cut, rest) = first_file alone v x works left parts stood covers in
-      let here = subst (Coming from to v u) cut now in
-      let below : is_front from s.row.path ≡ true = subst (λ z. is_front from z ≡ true) (sym s.at) front in
-      let link : is_link s.row.kind ≡ false = false_or (is_link s.row.kind) (λ e. no_link_below v.tree from s.row before.from_below s.in_tree e below) in
-      let bytes : bytes_of u s.row.number ≡ bytes_of v s.row.number = ap bytes_or_none (now.beside.files s.row (filter_in (λ row. is_front from row.path) v.tree s.row below s.in_tree)) in
+  file_goes : (b : Began) (x : Transfer) (works : List Transfer) (left : List Names) (u : World) (h : First b x works u left) → x.dir ≡ false → FileGoes b x works u left h
+  file_goes b x works left u h file =
+      let parts = parts_of b.v.tree b.world.tree in
+      let p = h.y.from.names in
+      let row = h.stands.row in
+      let stood : StandsAs b.v.tree p false = record { row = h.stands.row; in_tree = h.stands.in_tree; at = h.stands.at; kind = row_dir b x works u left h ∙ file } in
+      let (more, cut, rest) = first_file bare b.v h.y h.others left parts stood h.covers in
+      let here = subst (Coming b.from b.to b.v u) cut h.coming in
+      let below = below_source b x works u left h in
+      let link : is_link h.stands.row.kind ≡ false = false_or (is_link h.stands.row.kind) (λ e. no_link_below b.v.tree b.from h.stands.row b.from_below h.stands.in_tree e below) in
+      let bytes : bytes_of u h.stands.row.number ≡ bytes_of b.v h.stands.row.number =
+      ap bytes_or_none (h.coming.beside.files h.stands.row (filter_in (λ row. is_front b.from row.path) b.v.tree h.stands.row below h.stands.in_tree)) in
+      let found = source_at b x works u left h u left h.coming h.kept in
+      let place = dest_at b x works u left h more cut in
       record {
         more = more;
-        bytes = bytes_of v s.row.number;
+        bytes = bytes_of b.v h.stands.row.number;
         cut = cut;
         covers = rest;
-        act = act_of_row from to v x.from.names s.row parts s.in_tree s.at ∙ file_act from to v x.from.names s.row s.at stood.kind link;
+        act = λ open_at. file_act b x works u left h file link open_at;
         allowed =
-            ap (λ q. copying u q (resolved rules u.tree x.to.names)) (plain u.tree x.from.names ∙ sym s.at)
-            ∙ (ap (copying u s.row.path) (plain u.tree x.to.names ∙ place)
-            ∙ (copying_free u s.row (dest from to x.from.names) (parts_of u.tree now.world.tree) (source_row from to v u left now s.row s.in_tree below) stood.kind (some_place v x.from.names before)
-            (first_up from to v u x.from.names more (some_from from to before.apart) here) (first_free from to v u x.from.names more here)
-            ∙ ap (λ b. Ok (Some (makes (dest from to x.from.names) File b))) bytes));
-        clear_from = clear_here u x.from.names (clear_source v u left x.from.names before now front);
-        clear_to = clear_here u x.to.names (ap (is_linked u.tree) place ∙ clear_dest v u left (dest from to x.from.names) before now (dest_below from to x.from.names));
-        rest = file_rest from to v u x.from.names more (some_from from to before.apart) parts stood here;
+            ap (λ q. copying u q (resolved rules u.tree x.to.names)) (found ∙ sym h.stands.at)
+            ∙ (ap (copying u h.stands.row.path) place
+            ∙ (copying_free u h.stands.row (dest b.from b.to p) (parts_of u.tree h.coming.world.tree) (source_row b.from b.to b.v u left h.coming h.stands.row h.stands.in_tree below) stood.kind (some_place b p)
+            (first_up b.from b.to b.v u p more (some_source b) here) (first_free b.from b.to b.v u p more here)
+            ∙ ap (λ z. Ok (Some (makes (dest b.from b.to p) File z))) bytes));
+        clear_from = ap (is_linked u.tree) found ∙ clear_source b u left p h.coming h.front;
+        clear_to = ap (is_linked u.tree) place ∙ clear_dest b u left (dest b.from b.to p) h.coming (dest_below b.from b.to p);
+        rest = file_rest b.from b.to b.v u p more (some_source b) parts stood here;
       }
 
   -- what was copied
-  done_copied : (allowed_file : List ℕ) (x : Transfer) (m n : S) (copied : Result Unit FsError) (u w : World)
-      → copying u (resolved rules u.tree x.from.names) (resolved rules u.tree x.to.names) ≡ Ok (Some (makes (dest from to x.from.names) File allowed_file)) → Ok tt ≡ line_of copied
-      → Calls view lists writes c (copying u (resolved rules u.tree x.from.names) (resolved rules u.tree x.to.names)) m copied n u w → Edited (makes (dest from to x.from.names) File allowed_file) u w
-  done_copied bytes x m n (Ok y) u w is ok calls =
-      call_done view lists writes c fields start (copying u (resolved rules u.tree x.from.names) (resolved rules u.tree x.to.names)) (makes (dest from to x.from.names) File bytes) m n y u w is calls
-  done_copied bytes x m n (Err f) u w is ok calls = cc
+  done_copied : (b : Began) (x : Transfer) (works : List Transfer) (left : List Names) (u w : World) (h : First b x works u left) (g : FileGoes b x works u left h) (m n : S) (copied : Result Unit FsError)
+      → Ok tt ≡ line_of copied → Copied x copied m n u w
+      → ((is_forbidden rules x.from || is_forbidden rules x.to) ≡ false) × Edited (makes (dest b.from b.to h.y.from.names) File g.bytes) u w
+  done_copied b x works left u w h g m n (Err f) ok calls = cc
+  done_copied b x works left u w h g m n (Ok y) ok calls = by (is_forbidden rules x.from || is_forbidden rules x.to) refl
+    where
+      by : (shut : Bool) → (is_forbidden rules x.from || is_forbidden rules x.to) ≡ shut
+          → ((is_forbidden rules x.from || is_forbidden rules x.to) ≡ false) × Edited (makes (dest b.from b.to h.y.from.names) File g.bytes) u w
+      by true shut = let never : Ok y ≡ Err fs.Forbidden = (calls.refused shut).0 in cc
+      by false open_at = (
+        open_at,
+        call_done view lists writes c fields start (copying u (resolved rules u.tree x.from.names) (resolved rules u.tree x.to.names)) (makes (dest b.from b.to h.y.from.names) File g.bytes) m n y u w g.allowed
+            (calls.called open_at h.kept.apart g.clear_from g.clear_to),
+      )
 
   file_step : (x : Transfer) (works : List Transfer) (m n : S) (copied : Result Unit FsError) → Here m → x.dir ≡ false → view.copies m c x.from x.to copied n → Ok tt ≡ line_of copied
       → ToldIn m n (Steps (x ∷ works) works)
   file_step x works m n copied reached file call ok =
       both_map (view.state m).told (view.state n).told _ _
-      (λ u w h v before left covers fit now.
-      (let g = file_goes x works left v u before file covers fit now in
-      let led = leads v x.from.names g.more left u w File g.bytes before g.cut g.act refl (inr g.rest) now (done_copied g.bytes x m n copied u w g.allowed ok (h.0 g.clear_from g.clear_to)) h.1 in
-      record { more = g.more; covers = g.covers; fit = fit.1; now = led.now; back = led.back }))
+      (λ u w made b left now.
+      (let h = first_of b x works u left now in
+      let g = file_goes b x works left u h file in
+      let (open_at, edited) = done_copied b x works left u w h g m n copied ok made.0 in
+      let led = leads b h.y.from.names g.more left u w File g.bytes g.cut (g.act open_at) refl (inr g.rest) h.coming h.kept edited made.1 in
+      record {
+        more = g.more;
+        now = record { others = h.others; shadows = h.shadows; covers = g.covers; fit = h.fit; coming = led.now; kept = led.kept };
+        back = led.back;
+      }))
       (both_with (view.state m).told (view.state n).told _ IsWorld (follows.copies m n x.from x.to copied reached call) (λ w e. follows.trees n w (copies m n x.from x.to copied reached call) e))
 
   -- ---- one step
 
-  entered : (a : Bool) (x : Transfer) (works rest : List Transfer) (m k n : S) (y : Unit) → Here m → x.dir ≡ true → is_deep x.from ≡ false → alone ≡ a → view.makes_dir m c x.to (Ok y) k
-      → Enters view lists c alone a x works k (Ok tt) n rest → Here n × ToldIn m n (Steps (x ∷ works) rest)
+  entered : (a : Bool) (x : Transfer) (works rest : List Transfer) (m k n : S) (y : Unit) → Here m → x.dir ≡ true → is_deep x.from ≡ false → bare ≡ a → view.makes_dir m c x.to (Ok y) k
+      → Enters view lists c bare a x works k (Ok tt) n rest → Here n × ToldIn m n (Steps (x ∷ works) rest)
   entered true x works rest m k n y reached dir shallow own call (same, ok, is) = (
     subst Here (sym same) (makes_dir m k x.to (Ok y) reached call),
     subst (λ z. ToldIn m z (Steps (x ∷ works) rest)) (sym same) (subst (λ z. ToldIn m k (Steps (x ∷ works) z)) (sym is) (alone_step x works m k y reached dir shallow own call)),
@@ -385,16 +516,16 @@ module _ {S C F L E : Type 0} (view : View S C F) (lists : Listings S C L E) (wr
   )
 
   made_step : (made : Result Unit FsError) (x : Transfer) (works rest : List Transfer) (m k n : S) → Here m → x.dir ≡ true → is_deep x.from ≡ false → view.makes_dir m c x.to made k
-      → AfterMaking view lists c alone made x works k (Ok tt) n rest → Here n × ToldIn m n (Steps (x ∷ works) rest)
-  made_step (Ok y) x works rest m k n reached dir shallow call after = entered alone x works rest m k n y reached dir shallow refl call after
+      → AfterMaking view lists c bare made x works k (Ok tt) n rest → Here n × ToldIn m n (Steps (x ∷ works) rest)
+  made_step (Ok y) x works rest m k n reached dir shallow call after = entered bare x works rest m k n y reached dir shallow refl call after
   made_step (Err f) x works rest m k n reached dir shallow call (same, is) = cc
 
-  dir_step : (b : Bool) (x : Transfer) (works rest : List Transfer) (m n : S) → Here m → x.dir ≡ true → is_deep x.from ≡ b → CopiesDir view lists c alone b x works m (Ok tt) n rest
+  dir_step : (deep : Bool) (x : Transfer) (works rest : List Transfer) (m n : S) → Here m → x.dir ≡ true → is_deep x.from ≡ deep → CopiesDir view lists c bare deep x works m (Ok tt) n rest
       → Here n × ToldIn m n (Steps (x ∷ works) rest)
   dir_step true x works rest m n reached dir deep (same, is) = cc
   dir_step false x works rest m n reached dir shallow (made, k, call, after) = made_step made x works rest m k n reached dir shallow call after
 
-  any_step : (d : Bool) (x : Transfer) (works rest : List Transfer) (m n : S) → Here m → x.dir ≡ d → CopiesBy view lists c alone d x works m (Ok tt) n rest → Here n × ToldIn m n (Steps (x ∷ works) rest)
+  any_step : (d : Bool) (x : Transfer) (works rest : List Transfer) (m n : S) → Here m → x.dir ≡ d → CopiesBy view lists c bare d x works m (Ok tt) n rest → Here n × ToldIn m n (Steps (x ∷ works) rest)
   any_step true x works rest m n reached dir one = dir_step (is_deep x.from) x works rest m n reached dir refl one
   any_step false x works rest m n reached file (copied, call, ok, is) = (
     copies m n x.from x.to copied reached call,
@@ -403,57 +534,64 @@ module _ {S C F L E : Type 0} (view : View S C F) (lists : Listings S C L E) (wr
 
   -- ---- a refusal
 
-  -- the call for the first path was refused
-  refused_here : (v u w : World) (p : Names) (tail left : List Names) (kind : Kind) (bytes : List ℕ) (e : DavError) (t : S) → left ≡ p ∷ tail
-      → act_for from to v (row_at v.tree p) ≡ does (makes (dest from to p) kind bytes) → Came (Err e) (does (makes (dest from to p) kind bytes) ∷ []) t u w → Came (Err e) (acts_at from to v left) t u w
-  refused_here v u w p tail left kind bytes e t cut act came =
-      subst (λ z. Came (Err e) (acts_at from to v z) t u w) (sym cut)
-      (subst (λ a. Came (Err e) (a ∷ acts_at from to v tail) t u w) (sym act)
-      (comes_more view fields start e (does (makes (dest from to p) kind bytes) ∷ []) (acts_at from to v tail) t u w came))
+  -- the path behind which the rest is to come
+  tail_of : (b : Began) (x : Transfer) (works : List Transfer) (u : World) (left : List Names) (h : First b x works u left) → (tail : List Names) × (left ≡ h.y.from.names ∷ tail)
+  tail_of b x works u left h = first_any bare b.v h.y h.others left h.y.dir (parts_of b.v.tree b.world.tree) h.stands h.covers
 
-  deep_stop : (x : Transfer) (works : List Transfer) (t : S) (u v : World) (left : List Names) → Before v → x.dir ≡ true → is_deep x.from ≡ true → CoversAll alone v.tree (x ∷ works) left
-      → FitsAll from to v.tree (x ∷ works) → Came (Err (dav.Status 403)) (acts_at from to v left) t u u
-  deep_stop x works t u v left before dir deep covers fit =
-      let parts = parts_of v.tree before.world.tree in
-      let s = fit.0.0 in
-      let (tail, cut) = first_any alone v x works left x.dir parts s covers in
-      subst (λ z. Came (Err (dav.Status 403)) (acts_at from to v z) t u u) (sym cut)
-      (subst (λ a. Came (Err (dav.Status 403)) (a ∷ acts_at from to v tail) t u u)
-      (sym (act_of_row from to v x.from.names s.row parts s.in_tree s.at ∙ deep_act from to v x.from.names s.row s.at (s.kind ∙ dir) deep))
-      (halted_comes view fields start (dav.Status 403) (line 403) (acts_at from to v tail) t u u refl refl (same_besides u)))
+  -- a name that clients of macOS may not use
+  shut_stop : (b : Began) (p : Names) (tail left : List Names) (u w : World) (f : FsError) (t : S) → left ≡ p ∷ tail → act b p ≡ halts (line 403) → ◌≡◌ {A = Result Unit FsError} (Err f) (Err fs.Forbidden) → SameBesidesOpens u w
+      → Came (Err (of_fs f)) (acts b left) t u w
+  shut_stop b p tail left u w f t cut is refused same =
+      let own : fs.Forbidden ≡ f = cc in
+      subst (λ z. Came (Err (of_fs z)) (acts b left) t u w) own
+      (refused_first b p tail left u w (of_fs fs.Forbidden) t cut is (halted_comes view fields start (of_fs fs.Forbidden) (line 403) (acts b tail) t u w refl refl same))
+
+  deep_stop : (b : Began) (x : Transfer) (works : List Transfer) (t : S) (u : World) (left : List Names) → x.dir ≡ true → is_deep x.from ≡ true → Now b (x ∷ works) u left
+      → Came (Err (dav.Status 403)) (acts b left) t u u
+  deep_stop b x works t u left dir deep now =
+      let h = first_of b x works u left now in
+      let (tail, cut) = tail_of b x works u left h in
+      refused_first b h.y.from.names tail left u u (dav.Status 403) t cut (deep_act b x works u left h dir deep)
+      (halted_comes view fields start (dav.Status 403) (line 403) (acts b tail) t u u refl refl (same_besides u))
 
   unmade_stop : (f : FsError) (x : Transfer) (works : List Transfer) (m k : S) → Here m → x.dir ≡ true → is_deep x.from ≡ false → view.makes_dir m c x.to (Err f) k → ToldIn m k (Goes (x ∷ works) (Err (of_fs f)) k)
   unmade_stop f x works m k reached dir shallow call =
-      both_map (view.state m).told (view.state k).told _ _
-      (λ u w h v before left covers fit now.
-      (let (tail, cut) = first_any alone v x works left x.dir (parts_of v.tree before.world.tree) fit.0.0 covers in
-      let g = dir_goes x works tail left v u before dir shallow cut fit now in
-      refused_here v u w x.from.names tail left Dir [] (of_fs f) k cut g.act
-      (call_comes view lists writes c fields start (making_dir u.tree (resolved rules u.tree x.to.names)) (makes (dest from to x.from.names) Dir []) m k (Err f) u w g.allowed (follows.counts m reached) (h.0 g.clear))))
-      (made_told m k x (Err f) reached call)
+      both_map (view.state m).told (view.state k).told _ _ (λ u w made b left now. by u w made.0 b left (first_of b x works u left now) (is_forbidden rules x.to) refl) (made_told m k x (Err f) reached call)
+    where
+      by : (u w : World) → Made x (Err f) m k u w → (b : Began) (left : List Names) (h : First b x works u left) (shut : Bool) → is_forbidden rules x.to ≡ shut → Came (Err (of_fs f)) (acts b left) k u w
+      by u w calls b left h true shut =
+          let (tail, cut) = tail_of b x works u left h in
+          let (refused, same) = calls.refused shut in
+          shut_stop b h.y.from.names tail left u w f k cut (shut_act b x works u left h shut) refused same
+      by u w calls b left h false open_at =
+          let (tail, cut) = tail_of b x works u left h in
+          let g = dir_goes b x works tail left u h cut in
+          refused_here b u w h.y.from.names tail left Dir [] (of_fs f) k cut (dir_act b x works u left h dir shallow open_at)
+          (call_comes view lists writes c fields start (making rules u x.to) (makes (dest b.from b.to h.y.from.names) Dir []) m k (Err f) u w g.allowed (follows.counts m reached)
+          (calls.called open_at h.kept.apart g.clear))
 
   dir_there : (o : Option Row) (r : Row) → o ≡ Some r → is_dir r.kind ≡ true → is_dir_row o ≡ true
   dir_there o r e dir = ap is_dir_row e ∙ dir
 
-  source_dir : (v u : World) (left : List Names) (p : Names) → Coming from to v u left → StandsAs v.tree p true → is_front from p ≡ true → has_dir u.tree (resolved rules u.tree p) ≡ true
-  source_dir v u left p now s front =
-      ap (has_dir u.tree) (plain u.tree p ∙ sym s.at)
-      ∙ dir_there (row_at u.tree s.row.path) s.row
-      (at_row u.tree s.row (parts_of u.tree now.world.tree).once (source_row from to v u left now s.row s.in_tree (subst (λ z. is_front from z ≡ true) (sym s.at) front))) s.kind
+  source_dir : (b : Began) (x : Transfer) (works : List Transfer) (u : World) (left : List Names) (h : First b x works u left) (i : World) (tail : List Names) → Coming b.from b.to b.v i tail
+      → Kept rules alone source into b i tail → x.dir ≡ true → has_dir i.tree (resolved rules i.tree x.from.names) ≡ true
+  source_dir b x works u left h i tail now kept dir =
+      ap (has_dir i.tree) (source_at b x works u left h i tail now kept ∙ sym h.stands.at)
+      ∙ dir_there (row_at i.tree h.stands.row.path) h.stands.row
+      (at_row i.tree h.stands.row (parts_of i.tree now.world.tree).once (source_row b.from b.to b.v i tail now h.stands.row h.stands.in_tree (below_source b x works u left h))) (row_dir b x works u left h ∙ dir)
 
   -- its members weren't read
   unread_stop : (f : FsError) (x : Transfer) (works : List Transfer) (m k t : S) (y : Unit) → Here m → x.dir ≡ true → is_deep x.from ≡ false → view.makes_dir m c x.to (Ok y) k
       → HasNoMembers view lists k c x.from f t → ToldIn m t (Goes (x ∷ works) (Err (of_fs f)) t)
   unread_stop f x works m k t y reached dir shallow call has =
       both_then (view.state m).told (view.state k).told (view.state t).told _ _ _
-      (λ u i w h g v before left covers fit now.
-      (let (s, front, place) = fit.0 in
-      let (tail, cut) = first_any alone v x works left x.dir (parts_of v.tree before.world.tree) s covers in
-      let led = dir_led x works tail left m k y v u i before dir shallow cut fit now h.0 h.1 in
-      let stood : StandsAs v.tree x.from.names true = record { row = s.row; in_tree = s.in_tree; at = s.at; kind = s.kind ∙ dir } in
+      (λ u i w made g b left now.
+      (let h = first_of b x works u left now in
+      let (tail, cut) = tail_of b x works u left h in
+      let led = dir_led b x works tail left m k y u i h dir shallow cut made.0 made.1 in
       led.back (Err (of_fs f)) t w
-      (spoiled_comes view fields start f (of_fs f) (acts_at from to v tail) k t i w refl (follows.counts k (makes_dir m k x.to (Ok y) reached call))
-      (g.1 (clear_dir v i tail x.from before led.now front) (source_dir v i tail x.from.names led.now stood front)) (part_none (acts_at from to v tail) i w g.0))))
+      (spoiled_comes view fields start f (of_fs f) (acts b tail) k t i w refl (follows.counts k (makes_dir m k x.to (Ok y) reached call))
+      (g.1 led.kept.apart (clear_dir b x works u left h i tail led.now led.kept) (source_dir b x works u left h i tail led.now led.kept dir)) (part_none (acts b tail) i w g.0))))
       (made_told m k x (Ok y) reached call) (follows.no_members k t x.from f (makes_dir m k x.to (Ok y) reached call) has)
 
   -- no memory was left for them
@@ -461,14 +599,15 @@ module _ {S C F L E : Type 0} (view : View S C F) (lists : Listings S C L E) (wr
       → HasMembers view lists k c x.from members_read t → ToldIn m t (Goes (x ∷ works) (Err dav.NoMemory) t)
   short_stop x members_read works m k t y reached dir shallow call has =
       both_then (view.state m).told (view.state k).told (view.state t).told _ _ _
-      (λ u i w h g v before left covers fit now.
-      (let (tail, cut) = first_any alone v x works left x.dir (parts_of v.tree before.world.tree) fit.0.0 covers in
-      let led = dir_led x works tail left m k y v u i before dir shallow cut fit now h.0 h.1 in
-      led.back (Err dav.NoMemory) t w (short_comes view fields start (acts_at from to v tail) t i w g.0)))
+      (λ u i w made g b left now.
+      (let h = first_of b x works u left now in
+      let (tail, cut) = tail_of b x works u left h in
+      let led = dir_led b x works tail left m k y u i h dir shallow cut made.0 made.1 in
+      led.back (Err dav.NoMemory) t w (short_comes view fields start (acts b tail) t i w g.0)))
       (made_told m k x (Ok y) reached call) (follows.members k t x.from members_read (makes_dir m k x.to (Ok y) reached call) has)
 
   entered_stop : (a : Bool) (x : Transfer) (works rest : List Transfer) (m k t : S) (y : Unit) (e : DavError) → Here m → x.dir ≡ true → is_deep x.from ≡ false → view.makes_dir m c x.to (Ok y) k
-      → Enters view lists c alone a x works k (Err e) t rest → ToldIn m t (Goes (x ∷ works) (Err e) t)
+      → Enters view lists c bare a x works k (Err e) t rest → ToldIn m t (Goes (x ∷ works) (Err e) t)
   entered_stop true x works rest m k t y e reached dir shallow call (same, never, is) = cc
   entered_stop false x works rest m k t y e reached dir shallow call (inl (f, has, is)) =
       subst (λ z. ToldIn m t (Goes (x ∷ works) (Err z) t)) (sym is) (unread_stop f x works m k t y reached dir shallow call has)
@@ -476,46 +615,65 @@ module _ {S C F L E : Type 0} (view : View S C F) (lists : Listings S C L E) (wr
       subst (λ z. ToldIn m t (Goes (x ∷ works) (Err z) t)) (sym is) (short_stop x members_read works m k t y reached dir shallow call has)
 
   made_stop : (made : Result Unit FsError) (x : Transfer) (works rest : List Transfer) (m k t : S) (e : DavError) → Here m → x.dir ≡ true → is_deep x.from ≡ false → view.makes_dir m c x.to made k
-      → AfterMaking view lists c alone made x works k (Err e) t rest → ToldIn m t (Goes (x ∷ works) (Err e) t)
-  made_stop (Ok y) x works rest m k t e reached dir shallow call after = entered_stop alone x works rest m k t y e reached dir shallow call after
+      → AfterMaking view lists c bare made x works k (Err e) t rest → ToldIn m t (Goes (x ∷ works) (Err e) t)
+  made_stop (Ok y) x works rest m k t e reached dir shallow call after = entered_stop bare x works rest m k t y e reached dir shallow call after
   made_stop (Err f) x works rest m k t e reached dir shallow call (same, is) =
       let own : e ≡ of_fs f = cc in
       subst (λ z. ToldIn m z (Goes (x ∷ works) (Err e) z)) (sym same) (subst (λ z. ToldIn m k (Goes (x ∷ works) (Err z) k)) (sym own) (unmade_stop f x works m k reached dir shallow call))
 
-  dir_stop : (b : Bool) (x : Transfer) (works rest : List Transfer) (m t : S) (e : DavError) → Here m → x.dir ≡ true → is_deep x.from ≡ b → CopiesDir view lists c alone b x works m (Err e) t rest
+  dir_stop : (deep : Bool) (x : Transfer) (works rest : List Transfer) (m t : S) (e : DavError) → Here m → x.dir ≡ true → is_deep x.from ≡ deep → CopiesDir view lists c bare deep x works m (Err e) t rest
       → ToldIn m t (Goes (x ∷ works) (Err e) t)
   dir_stop true x works rest m t e reached dir deep (same, is) =
       let own : e ≡ dav.Status 403 = cc in
       both_same (view.state m).told (view.state t).told _
-      (λ u v before left covers fit now. subst (λ z. Came (Err z) (acts_at from to v left) t u u) (sym own) (deep_stop x works t u v left before dir deep covers fit))
+      (λ u b left now. subst (λ z. Came (Err z) (acts b left) t u u) (sym own) (deep_stop b x works t u left dir deep now))
       (ap (λ z. (view.state z).told) same)
   dir_stop false x works rest m t e reached dir shallow (made, k, call, after) = made_stop made x works rest m k t e reached dir shallow call after
 
-  any_stop : (d : Bool) (x : Transfer) (works rest : List Transfer) (m t : S) (e : DavError) → Here m → x.dir ≡ d → CopiesBy view lists c alone d x works m (Err e) t rest → ToldIn m t (Goes (x ∷ works) (Err e) t)
+  -- a file wasn't copied
+  file_stop : (x : Transfer) (works : List Transfer) (m t : S) (copied : Result Unit FsError) (e : DavError) → Here m → x.dir ≡ false → view.copies m c x.from x.to copied t → Err e ≡ line_of copied
+      → ToldIn m t (Goes (x ∷ works) (Err e) t)
+  file_stop x works m t (Ok y) e reached file call said = cc
+  file_stop x works m t (Err f) e reached file call said =
+      let own : e ≡ of_fs f = cc in
+      subst (λ z. ToldIn m t (Goes (x ∷ works) (Err z) t)) (sym own)
+      (both_map (view.state m).told (view.state t).told _ _
+      (λ u w calls b left now. by u w calls b left (first_of b x works u left now) (is_forbidden rules x.from || is_forbidden rules x.to) refl) (follows.copies m t x.from x.to (Err f) reached call))
+    where
+      by : (u w : World) → Copied x (Err f) m t u w → (b : Began) (left : List Names) (h : First b x works u left) (shut : Bool) → (is_forbidden rules x.from || is_forbidden rules x.to) ≡ shut
+          → Came (Err (of_fs f)) (acts b left) t u w
+      by u w calls b left h true shut =
+          let (tail, cut) = tail_of b x works u left h in
+          let (refused, same) = calls.refused shut in
+          shut_stop b h.y.from.names tail left u w f t cut (shut_file_act b x works u left h file shut) refused same
+      by u w calls b left h false open_at =
+          let g = file_goes b x works left u h file in
+          refused_here b u w h.y.from.names g.more left File g.bytes (of_fs f) t g.cut (g.act open_at)
+          (call_comes view lists writes c fields start (copying u (resolved rules u.tree x.from.names) (resolved rules u.tree x.to.names)) (makes (dest b.from b.to h.y.from.names) File g.bytes) m t (Err f) u w g.allowed
+          (follows.counts m reached) (calls.called open_at h.kept.apart g.clear_from g.clear_to))
+
+  any_stop : (d : Bool) (x : Transfer) (works rest : List Transfer) (m t : S) (e : DavError) → Here m → x.dir ≡ d → CopiesBy view lists c bare d x works m (Err e) t rest → ToldIn m t (Goes (x ∷ works) (Err e) t)
   any_stop true x works rest m t e reached dir one = dir_stop (is_deep x.from) x works rest m t e reached dir refl one
-  any_stop false x works rest m t e reached file (copied, call, line, is) =
-      both_map (view.state m).told (view.state t).told _ _
-      (λ u w calls v before left covers fit now.
-      (let g = file_goes x works left v u before file covers fit now in
-      refused_here v u w x.from.names g.more left File g.bytes e t g.cut g.act
-      (subst (λ l. Came l (does (makes (dest from to x.from.names) File g.bytes) ∷ []) t u w) (sym line)
-      (call_comes view lists writes c fields start (copying u (resolved rules u.tree x.from.names) (resolved rules u.tree x.to.names)) (makes (dest from to x.from.names) File g.bytes) m t copied u w g.allowed
-      (follows.counts m reached) (calls g.clear_from g.clear_to)))))
-      (follows.copies m t x.from x.to copied reached call)
+  any_stop false x works rest m t e reached file (copied, call, said, is) = file_stop x works m t copied e reached file call said
 
   -- ---- all of the work
 
-  done_comes : (t : S) (v u : World) (left : List Names) → left ≡ [] → Came (Ok tt) (acts_at from to v left) t u u
-  done_comes t v u left e = subst (λ z. Came (Ok tt) (acts_at from to v z) t u u) (sym e) (same_besides u)
+  -- what is left covers nothing
+  done_comes : (t : S) (b : Began) (u : World) (left : List Names) → Now b [] u left → Came (Ok tt) (acts b left) t u u
+  done_comes t b u left now = by now.others now.shadows now.covers
+    where
+      by : (others : List Transfer) → Shadows rules source into b [] others → CoversAll bare b.v.tree others left → Came (Ok tt) (acts b left) t u u
+      by [] s e = subst (λ z. Came (Ok tt) (acts b z) t u u) (sym e) (same_besides u)
+      by (y ∷ others) s e = absurd s
 
   -- What work comes to is what the acts for the paths that it covers make of the told world.
-  pub copied : (works : List Transfer) (s t : S) (r : Line) → Copies view lists c alone works s r t → Reached view lists writes c start s → Told view lists writes c s t (Goes works r t)
-  copied works s t r (no_work a) reached = both_same (view.state a).told (view.state a).told _ (λ u v before left covers fit now. done_comes a v u left covers) refl
+  pub copied : (works : List Transfer) (s t : S) (r : Line) → Copies view lists c bare works s r t → Reached view lists writes c start s → Told view lists writes c s t (Goes works r t)
+  copied works s t r (no_work a) reached = both_same (view.state a).told (view.state a).told _ (λ u b left now. done_comes a b u left now) refl
   copied works s t r (cut_short others a) reached =
-      both_same (view.state a).told (view.state a).told _ (λ u v before left covers fit now. short_comes view fields start (acts_at from to v left) a u u (same_besides u)) refl
-  copied works s t r (goes x others rest a m b line one more) reached =
+      both_same (view.state a).told (view.state a).told _ (λ u b left now. short_comes view fields start (acts b left) a u u (same_besides u)) refl
+  copied works s t r (goes x others rest a m z line one more) reached =
       let step = any_step x.dir x others rest a m reached refl one in
-      both_then (view.state a).told (view.state m).told (view.state b).told _ _ _
-      (λ u i w h k v before left covers fit now. (let to_next = h v before left covers fit now in to_next.back line b w (k v before to_next.more to_next.covers to_next.fit to_next.now)))
-      step.1 (copied rest m b line more step.0)
-  copied works s t r (stops x others rest a b e one) reached = any_stop x.dir x others rest a b e reached refl one
+      both_then (view.state a).told (view.state m).told (view.state z).told _ _ _
+      (λ u i w h k b left now. (let to_next = h b left now in to_next.back line z w (k b to_next.more to_next.now)))
+      step.1 (copied rest m z line more step.0)
+  copied works s t r (stops x others rest a z e one) reached = any_stop x.dir x others rest a z e reached refl one

@@ -70,7 +70,7 @@ abbrev made_row : Names → Kind → ℕ → FileTime → Row
 made_row path kind number t = record { path = path; kind = kind; number = number; time = t }
 
 -- a row that stands now stood, or is the one that was made
-older : (path : Names) (kind : Kind) (bytes : List ℕ) (u w : World) (edited : Edited (makes path kind bytes) u w) (r : Row) → In r w.tree
+pub older : (path : Names) (kind : Kind) (bytes : List ℕ) (u w : World) (edited : Edited (makes path kind bytes) u w) (r : Row) → In r w.tree
     → ((x : Row) × In x u.tree × (x.path ≡ r.path) × (x.kind ≡ r.kind)) ⊎ ((path ≡ r.path) × (kind ≡ r.kind))
 older path kind bytes u w (number, s, t, next, new, dir, e) r i =
     let (x, j, is) = in_map (timed_row (parent_of path) t) (u.tree ++ made_row path kind number s ∷ []) r (subst (In r) e.tree i) in

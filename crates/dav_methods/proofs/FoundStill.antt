@@ -134,7 +134,7 @@ pub fold_append : (a b : Names) → fold_path (a ++ b) ≡ fold_path a ++ fold_p
 fold_append [] b = refl
 fold_append (name ∷ a) b = ap (λ z. fold_name name ∷ z) (fold_append a b)
 
-alike_folds : (folds : Bool) (at : Names) (name : Name) (row : Row) → is_alike folds at name row ≡ true → fold_path row.path ≡ fold_path (at ++ name ∷ [])
+pub alike_folds : (folds : Bool) (at : Names) (name : Name) (row : Row) → is_alike folds at name row ≡ true → fold_path row.path ≡ fold_path (at ++ name ∷ [])
 alike_folds folds at name row e =
     elim (or_parts (same_names (at ++ name ∷ []) row.path) (folds && (same_names (parent_of row.path) at && folds_like row.path (at ++ name ∷ []))) e) [
       | inl same ↦ ap fold_path (sym (names_same (at ++ name ∷ []) row.path same))

@@ -16,7 +16,6 @@ pub mod EditsJoined
 pub mod Stages
 mod LinesMatch
 mod AboveFree
-pub mod PlainFollows
 pub mod MakingFollows
 pub mod PutFollows
 pub mod OpenedFile
@@ -38,10 +37,13 @@ mod FreePlaces
 pub mod CarryRight
 pub mod MoveDone
 mod CopyOrder
+mod CopyPlaces
 mod CopyCovers
 mod CopyWork
 mod CopyReady
+mod CopyAsked
 mod CopyRun
+mod CopyHidden
 pub mod CopyActs
 pub mod RemovalsListed
 mod Addresses

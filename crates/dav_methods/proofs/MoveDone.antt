@@ -1,5 +1,5 @@
 -- The last act of a MOVE: what stands at the source is moved to the destination, where nothing stands that was found.
-use Rattle.std.proofs.Common.{◌≡◌, ◌≤◌, ◌<◌, ◌⊎◌, ◌&&◌, ◌||◌, ◌++◌, arith, inl, inr, ℕ, List, [], ◌∷◌, length, Bool, true, false, not, cond, Option, None, Some, Result, Ok, Err, refl, sym, ap, subst, ◌∙◌}
+use Rattle.std.proofs.Common.{◌≡◌, ◌≤◌, ◌<◌, ◌⊎◌, ◌&&◌, ◌||◌, ◌++◌, arith, inl, inr, List, [], ◌∷◌, length, Bool, true, false, not, cond, Option, None, Some, Result, Ok, Err, refl, sym, ap, subst, ◌∙◌}
 use Rattle.dav_io.proofs.ToldLemmas.{both_map}
 use Rattle.dav_core.specs.declared.error.FsError.{FsError}
 use Rattle.dav_core.specs.declared.error.FsError.TheVariants as fs
@@ -18,7 +18,7 @@ use Rattle.dav_core.specs.World.{SameBesidesOpens, World}
 use Rattle.dav_store.specs.View.{Listings, View}
 use Rattle.dav_model.specs.declared.asked.Asked.{Asked}
 use Rattle.dav_model.specs.declared.outcome.Outcome.{Outcome}
-use Rattle.dav_model.specs.CarryPlans.{act_of, carrying, cleared, is_dir_over, move_acts, moves_over_hidden}
+use Rattle.dav_model.specs.CarryPlans.{act_of, cleared, is_dir_over, move_acts, moves_over_hidden}
 use Rattle.dav_model.specs.Finding.{is_forbidden, is_localized, is_virtual, resolved}
 use Rattle.dav_model.specs.Plans.{does, halts, is_found, line, stands, unless, when}
 use Rattle.dav_model.specs.Head.{Stood}
@@ -26,16 +26,16 @@ use Rattle.dav_model.specs.Rules.{Rules}
 use Rattle.dav_model.specs.Valid.{no_twins}
 use Rattle.dav_model.proofs.LooseWalks.{parent_pushed}
 use Rattle.dav_methods.specs.Follows.{Calls, IfBothFound, IfPlaced, UnlessShut}
-use Rattle.dav_methods.specs.Lines.{Given, Line, is_dir_there}
+use Rattle.dav_methods.specs.Lines.{is_dir_there}
 use Rattle.dav_methods.specs.Lines as the
 use Rattle.dav_methods.specs.Pouring.{Writes}
 use Rattle.dav_methods.specs.Removing.{line_of}
 use Rattle.dav_methods.specs.Table.{answered}
-use Rattle.dav_methods.proofs.ActsJoined.{Comes, FillsNone, halted_comes}
+use Rattle.dav_methods.proofs.ActsJoined.{Comes, FillsNone, comes_after, halted_comes}
 use Rattle.dav_methods.proofs.AboveFree.{above_free}
 use Rattle.dav_methods.proofs.CallDone.{allowed_comes, call_comes}
 use Rattle.dav_methods.proofs.Beside.{Apart, front_up, some_from, some_to, unlinked_from}
-use Rattle.dav_methods.proofs.CarryRight.{Carry, Cleared, GoesRight, Prepares, Readies, Seen, Vacant}
+use Rattle.dav_methods.proofs.CarryRight.{Carry, Cleared, Ends, GoesRight, Misses, Prepares, Seen, Vacant}
 use Rattle.dav_methods.proofs.DeleteRight.{Found, found_at, seen_stood}
 use Rattle.dav_methods.proofs.FreePlaces.{last_parted, moving_free, row_place}
 use Rattle.dav_methods.proofs.PlaceCleared.{Gone, Lacks, apart_places, dir_now, free_now, lacks_beside, lacks_without, link_now, place_length, place_now, source_found}
@@ -116,7 +116,7 @@ source_of rules alone from to dir v p plain =
     let at : Names = resolved rules v.tree from.names in
     found_at v (record from { names = at }) p.there (look v.tree at) refl (seen_stood rules v from p.there alone plain p.stood).1
 
-not_virtual : (rules : Rules) (from to : WebPath) → (is_forbidden rules from || is_forbidden rules to) ≡ false → is_virtual rules from ≡ false
+pub not_virtual : (rules : Rules) (from to : WebPath) → (is_forbidden rules from || is_forbidden rules to) ≡ false → is_virtual rules from ≡ false
 not_virtual rules from to e = first (is_virtual rules from) (rules.macos && is_localized from.names) (first (is_forbidden rules from) (is_forbidden rules to) e)
   where
     first : (a b : Bool) → (a || b) ≡ false → a ≡ false
@@ -124,13 +124,13 @@ not_virtual rules from to e = first (is_virtual rules from) (rules.macos && is_l
     first false b f = refl
 
 module _ (rules : Rules) (alone : rules.alone ≡ None) (from to : WebPath) (dir : Bool) (v : World) (p : Seen rules from to dir v) (plain : is_virtual rules from ≡ false) where
-  apart : Apart (resolved rules v.tree from.names) (resolved rules v.tree to.names)
+  pub apart : Apart (resolved rules v.tree from.names) (resolved rules v.tree to.names)
   apart = apart_places rules alone v.tree from.names to.names p.beside
 
-  some : 0 < length to.names
+  pub some : 0 < length to.names
   some = subst (λ n. 0 < n) (place_length rules alone v.tree to.names) (some_to (resolved rules v.tree from.names) (resolved rules v.tree to.names) apart)
 
-  abbrev gone_in : (now : List Row) → Lacks rules alone (resolved rules v.tree to.names) v.tree now → Gone rules alone v.tree now to.names
+  abbrev pub gone_in : (now : List Row) → Lacks rules alone (resolved rules v.tree to.names) v.tree now → Gone rules alone v.tree now to.names
   gone_in now lacks = record {
     up = parent_of to.names;
     last = (last_parted to.names some).0;
@@ -141,13 +141,13 @@ module _ (rules : Rules) (alone : rules.alone ≡ None) (from to : WebPath) (dir
     dir = p.up;
   }
 
-  abbrev into : Names
+  abbrev pub into : Names
   into = resolved rules v.tree (parent_of to.names) ++ (last_parted to.names some).0 ∷ []
 
-  source_now : (now : List Row) → Lacks rules alone (resolved rules v.tree to.names) v.tree now → resolved rules now from.names ≡ resolved rules v.tree from.names
+  pub source_now : (now : List Row) → Lacks rules alone (resolved rules v.tree to.names) v.tree now → resolved rules now from.names ≡ resolved rules v.tree from.names
   source_now now lacks = source_found rules alone (resolved rules v.tree to.names) v.tree now from.names lacks apart.two
 
-  into_now : (now : List Row) → Lacks rules alone (resolved rules v.tree to.names) v.tree now → resolved rules now to.names ≡ into
+  pub into_now : (now : List Row) → Lacks rules alone (resolved rules v.tree to.names) v.tree now → resolved rules now to.names ≡ into
   into_now now lacks = place_now rules alone v.tree now to.names (gone_in now lacks)
 
   -- The move is allowed, wherever what stood at the destination is gone.
@@ -178,7 +178,7 @@ module _ (rules : Rules) (alone : rules.alone ≡ None) (from to : WebPath) (dir
       ∙ ap act_of (ap (λ z. moving rows z (resolved rules rows to.names)) (sym (source_now rows lacks)) ∙ allowed_in rows lacks))
 
   -- no link is met after the removal
-  clear_now : (u : World) → (l : Lacks rules alone (resolved rules v.tree to.names) v.tree u.tree) → (is_linked u.tree (resolved rules u.tree from.names) ≡ false) × (is_linked u.tree (resolved rules u.tree to.names) ≡ false)
+  pub clear_now : (u : World) → (l : Lacks rules alone (resolved rules v.tree to.names) v.tree u.tree) → (is_linked u.tree (resolved rules u.tree from.names) ≡ false) × (is_linked u.tree (resolved rules u.tree to.names) ≡ false)
   clear_now u l =
       let still : (q : Names) → is_linked v.tree q ≡ false → is_linked u.tree q ≡ false = λ q clear. unlinked_from v.tree u.tree q (λ r i link. (let (out, o, j, here, kind) = l.back r i in (o, j, here, kind))) clear in (
         ap (is_linked u.tree) (source_now u.tree l) ∙ still (resolved rules v.tree from.names) p.from_clear,
@@ -198,11 +198,11 @@ module _ {S C F L E : Type 0} (view : View S C F) (lists : Listings S C L E) (wr
       (Calls view lists writes c (moving u.tree (resolved x.rules u.tree x.ask.path.names) (resolved x.rules u.tree asked.to.names)) m moved t u w))
 
   -- what the last act comes to
-  abbrev Ends : Carry view lists writes c asked → Result Unit FsError → S → World → World → World → Type 0
-  Ends x moved t v u w = FillsNone (move_acts x.rules v x.ask.path asked.to) × Comes view x.ask.fields x.s (line_of moved) (move_acts x.rules v x.ask.path asked.to) t u w
+  abbrev Moves : Carry view lists writes c asked → Result Unit FsError → S → World → World → World → Type 0
+  Moves x moved t v u w = FillsNone (move_acts x.rules v x.ask.path asked.to) × Comes view x.ask.fields x.s (line_of moved) (move_acts x.rules v x.ask.path asked.to) t u w
 
   -- a name that clients of macOS may not use
-  shut_ends : (x : Carry view lists writes c asked) (moved : Result Unit FsError) (t : S) (v u w : World) → Shut x ≡ true → moved ≡ Err fs.Forbidden → SameBesidesOpens u w → Ends x moved t v u w
+  shut_ends : (x : Carry view lists writes c asked) (moved : Result Unit FsError) (t : S) (v u w : World) → Shut x ≡ true → moved ≡ Err fs.Forbidden → SameBesidesOpens u w → Moves x moved t v u w
   shut_ends x moved t v u w shut is same =
       let acts : move_acts x.rules v x.ask.path asked.to ≡ halts (line 403) ∷ [] =
       ap (λ b. unless (when b 403) (act_of (moving (cleared x.rules v asked.to) (resolved x.rules v.tree x.ask.path.names) (resolved x.rules (cleared x.rules v asked.to) asked.to.names)))) shut in (
@@ -214,7 +214,7 @@ module _ {S C F L E : Type 0} (view : View S C F) (lists : Listings S C L E) (wr
 
   -- Nothing was found at the destination: the tree is as it was.
   vacant_ends : (x : Carry view lists writes c asked) (found : Result Info FsError) (moved : Result Unit FsError) (m t : S) (v u w : World) → asked.moving ≡ true → Prepares view lists writes c asked x found v
-      → Vacant x.rules asked.to v u → moves_over_hidden x.rules v x.ask.path asked ≡ false → Shut x ≡ false → (view.state x.s).faults ≤ (view.state m).faults → Call x moved m t u w → Ends x moved t v u w
+      → Vacant x.rules asked.to v u → moves_over_hidden x.rules v x.ask.path asked ≡ false → Shut x ≡ false → (view.state x.s).faults ≤ (view.state m).faults → Call x moved m t u w → Moves x moved t v u w
   vacant_ends x found moved m t v u w moving_it p vacant seen open_at le call =
       let from = x.ask.path.names in
       let to = asked.to.names in
@@ -245,7 +245,7 @@ module _ {S C F L E : Type 0} (view : View S C F) (lists : Listings S C L E) (wr
 
   -- What was found there went.
   cleared_ends : (x : Carry view lists writes c asked) (found : Result Info FsError) (moved : Result Unit FsError) (m t : S) (v u w : World) → Prepares view lists writes c asked x found v
-      → Cleared x.rules x.ask.path asked.to v u → Shut x ≡ false → (view.state x.s).faults ≤ (view.state m).faults → Call x moved m t u w → Ends x moved t v u w
+      → Cleared x.rules x.ask.path asked.to v u → Shut x ≡ false → (view.state x.s).faults ≤ (view.state m).faults → Call x moved m t u w → Moves x moved t v u w
   cleared_ends x found moved m t v u w p gone open_at le call =
       let plain = not_virtual x.rules x.ask.path asked.to open_at in
       let dir = is_dir_there found in
@@ -260,19 +260,30 @@ module _ {S C F L E : Type 0} (view : View S C F) (lists : Listings S C L E) (wr
       )
 
   moved_right : (x : Carry view lists writes c asked) (found : Result Info FsError) (moved : Result Unit FsError) (m t : S) (v u w : World) → asked.moving ≡ true → Prepares view lists writes c asked x found v
-      → Readies view lists writes c asked x v u → (view.state x.s).faults ≤ (view.state m).faults → UnlessShut view lists writes c (Shut x) moved u w (Call x moved m t u w) → Ends x moved t v u w
+      → Cleared x.rules x.ask.path asked.to v u ⊎ Misses view lists writes c asked x v u → (view.state x.s).faults ≤ (view.state m).faults
+      → UnlessShut view lists writes c (Shut x) moved u w (Call x moved m t u w) → Moves x moved t v u w
   moved_right x found moved m t v u w moving_it p ready le calls = by (Shut x) refl ready
     where
-      by : (b : Bool) → Shut x ≡ b → Readies view lists writes c asked x v u → Ends x moved t v u w
+      by : (b : Bool) → Shut x ≡ b → Cleared x.rules x.ask.path asked.to v u ⊎ Misses view lists writes c asked x v u → Moves x moved t v u w
       by true shut ready = let (is, same) = calls.refused shut in shut_ends x moved t v u w shut is same
       by false open_at (inl gone) = cleared_ends x found moved m t v u w p gone open_at le (calls.called open_at)
       by false open_at (inr (vacant, seen)) = vacant_ends x found moved m t v u w moving_it p vacant seen open_at le (calls.called open_at)
+
+  -- in both cases
+  move_ends : (x : Carry view lists writes c asked) (found : Result Info FsError) (moved : Result Unit FsError) (m t : S) (v u w : World) → asked.moving ≡ true → Prepares view lists writes c asked x found v
+      → (view.state x.s).faults ≤ (view.state m).faults → UnlessShut view lists writes c (Shut x) moved u w (Call x moved m t u w)
+      → Ends view lists writes c asked x (line_of moved) (move_acts x.rules v x.ask.path asked.to) t v u w
+  move_ends x found moved m t v u w moving_it p le calls = record {
+    after_gone = λ gone. moved_right x found moved m t v u w moving_it p (inl gone) le calls;
+    after_none = λ misses. (let (none, came) = moved_right x found moved m t v u w moving_it p (inr misses) le calls in
+        comes_after view x.ask.fields x.s (line_of moved) (move_acts x.rules v x.ask.path asked.to) t v u w none misses.0.same came);
+  }
 
   -- The last act of a MOVE comes to what its plan says.
   pub moves_right : (x : Carry view lists writes c asked) → asked.moving ≡ true → GoesRight view lists writes c asked x true
   moves_right x moving_it found outcome m t r reached (moved, call, is) = (
     line_of moved,
     is ∙ answered_line outcome moved,
-    both_map (view.state m).told (view.state t).told _ _ (λ u w calls v p ready. moved_right x found moved m t v u w moving_it p ready (x.given.counts m reached) calls)
+    both_map (view.state m).told (view.state t).told _ _ (λ u w calls v p. move_ends x found moved m t v u w moving_it p (x.given.counts m reached) calls)
         (x.given.renames m t x.ask.path asked.to moved reached call),
   )

@@ -26,12 +26,12 @@ use Rattle.dav_methods.proofs.WalkOrder.{In}
 
 -- ---- loose walks over rows that stand at the same paths
 
-of_in : (rows : List Row) (r : Row) → In r rows → IsOf r rows
+pub of_in : (rows : List Row) (r : Row) → In r rows → IsOf r rows
 of_in [] r i = i
 of_in (x ∷ rows) r (inl same) = inl same
 of_in (x ∷ rows) r (inr i) = inr (of_in rows r i)
 
-in_of : (rows : List Row) (r : Row) → IsOf r rows → In r rows
+pub in_of : (rows : List Row) (r : Row) → IsOf r rows → In r rows
 in_of [] r i = i
 in_of (x ∷ rows) r (inl same) = inl same
 in_of (x ∷ rows) r (inr i) = inr (in_of rows r i)
@@ -39,7 +39,7 @@ in_of (x ∷ rows) r (inr i) = inr (in_of rows r i)
 alike_same : (folds : Bool) (at : Names) (name : Name) (r s : Row) → r.path ≡ s.path → is_alike folds at name r ≡ is_alike folds at name s
 alike_same folds at name r s e = ap (λ (p : Names). same_names (at ++ name ∷ []) p || (folds && (same_names (parent_of p) at && folds_like p (at ++ name ∷ [])))) e
 
-alike_exact : (folds : Bool) (at : Names) (name : Name) (r : Row) → r.path ≡ at ++ name ∷ [] → is_alike folds at name r ≡ true
+pub alike_exact : (folds : Bool) (at : Names) (name : Name) (r : Row) → r.path ≡ at ++ name ∷ [] → is_alike folds at name r ≡ true
 alike_exact folds at name r e =
     ap (λ b. b || (folds && (same_names (parent_of r.path) at && folds_like r.path (at ++ name ∷ [])))) (same_of (at ++ name ∷ []) r.path (sym e))
 
@@ -54,7 +54,7 @@ loose_now folds old now at (name ∷ names) end on back (inr (none, e)) =
     inr (any_none (is_alike folds at name) now (λ r i. (let (o, j, here) = back r i in alike_same folds at name r o (sym here) ∙ none_any (is_alike folds at name) old o none j)), e)
 
 -- A walk to what stands goes on from there.
-loose_then : (folds : Bool) (tree : List Row) (parts : Parts tree) (at names mid rest end : Names) (d : Row) → In d tree → d.path ≡ mid → IsLoose folds tree at names mid → IsLoose folds tree mid rest end
+pub loose_then : (folds : Bool) (tree : List Row) (parts : Parts tree) (at names mid rest end : Names) (d : Row) → In d tree → d.path ≡ mid → IsLoose folds tree at names mid → IsLoose folds tree mid rest end
     → IsLoose folds tree at (names ++ rest) end
 loose_then folds tree parts at [] mid rest end d i here walk more = subst (λ z. IsLoose folds tree z rest end) walk more
 loose_then folds tree parts at (name ∷ names) mid rest end d i here (inl (next, of, alike, walk)) more =
@@ -173,7 +173,7 @@ module _ (rules : Rules) (alone : rules.alone ≡ None) where
         record { row = s; in_tree = i; at = here ∙ g.dir.at; dir = ap is_dir kind ∙ g.dir.dir }
 
     -- no name there is like it
-    none_alike : list_any (is_alike rules.folds above_at g.last) now ≡ false
+    pub none_alike : list_any (is_alike rules.folds above_at g.last) now ≡ false
     none_alike = any_none (is_alike rules.folds above_at g.last) now (λ r i. false_or (is_alike rules.folds above_at g.last r) (λ e. never r i e))
       where
         up_walk : IsLoose rules.folds old [] g.up above_at

@@ -1,6 +1,5 @@
 //! Laws over the tables of COPY and MOVE and their plans, each the contract of a function that does nothing.
 ghost use Rattle.std.specs.Prelude.{◌≡◌, None, false, true};
-ghost use Rattle.dav_model.specs.Written.{ArePlain};
 ghost use Rattle.dav_methods.specs.Follows.{CarriesByPlan};
 
 use dav_store::GuardedFileSystem;
@@ -12,9 +11,9 @@ pub fn moves_follow_their_plan<S: GuardedFileSystem<C>, C>()
     ensures { (c : C) → CarriesByPlan S.view S.listings S.File.view.writes c true (λ rules. rules.alone ≡ None) }
 {}
 
-/// Likewise a COPY, over a store that follows rules by which each path is meant as it is written: what stands at the
-/// destination goes, and then what stands at the source is made again there, a directory before its members, these in the
-/// order of their names; after a refusal what was done stays done.
+/// Likewise a COPY: what stands at the destination goes, and then what stands at the source is made again at the
+/// destination as it is spelled, a directory before its members, these in the order of their names; after a refusal what
+/// was done stays done.
 pub fn copies_follow_their_plan<S: GuardedFileSystem<C>, C>()
-    ensures { (c : C) → CarriesByPlan S.view S.listings S.File.view.writes c false ArePlain }
+    ensures { (c : C) → CarriesByPlan S.view S.listings S.File.view.writes c false (λ rules. rules.alone ≡ None) }
 {}

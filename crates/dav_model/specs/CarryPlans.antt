@@ -1,12 +1,12 @@
 -- The tables of COPY and MOVE over a world (RFC 4918, sections 9.8 and 9.9): the line that refuses a request, or the
 -- changes that it makes, in their order. What stands at the destination goes first.
-use Rattle.std.specs.Prelude.{◌&&◌, ◌||◌, ◌++◌, ℕ, List, [], ◌∷◌, map, drop, Bool, true, false, cond, not, length, Option, None, Some, Result, Ok, Err}
+use Rattle.std.specs.Prelude.{◌&&◌, ◌||◌, ◌++◌, ℕ, List, [], ◌∷◌, map, drop, Bool, true, false, cond, not, length, is_some, Option, None, Some, Result, Ok, Err}
 use Rattle.std.specs.List.{filter}
 use Rattle.dav_core.specs.declared.dav_error.DavError.{DavError}
 use Rattle.dav_core.specs.declared.method.DavMethod.{DavMethod}
 use Rattle.dav_core.specs.declared.method.DavMethod.TheVariants.{Copy, Move}
 use Rattle.dav_core.specs.declared.tree.Row.{Row}
-use Rattle.dav_core.specs.Allowed.{Allowed, moving}
+use Rattle.dav_core.specs.Allowed.{Allowed, copying, making_dir, moving}
 use Rattle.dav_core.specs.Changes.{without}
 use Rattle.dav_core.specs.DavPath.{WebPath}
 use Rattle.dav_core.specs.Edits.{makes}
@@ -96,12 +96,24 @@ abbrev pub copied_rows : Bool → Names → List Row → List Row
 copied_rows true at tree = filter (λ row. same_names at row.path) tree
 copied_rows false at tree = walk dir_first at tree
 
+-- Something stands at a path that no look shows, since its name is hidden from clients of macOS.
+abbrev pub hides : Rules → World → WebPath → Bool
+hides rules w to = not (is_found (stands rules w to)) && is_some (row_at w.tree (resolved rules w.tree to.names))
+
+-- What is hidden at the destination stays: into a file goes what a file holds, and nothing else is made there.
+abbrev pub fill_acts : Rules → World → WebPath → WebPath → Option Row → List Act
+fill_acts rules w path to None = []
+fill_acts rules w path to (Some row) = unless (when (is_deep_dir row || denies_copy rules path to row) 403)
+    (act_of (cond (is_dir row.kind) (making_dir w.tree (resolved rules w.tree to.names))
+    (copying w (resolved rules w.tree path.names) (resolved rules w.tree to.names))))
+
 -- (What a look finds may be a file that the tree hasn't.)
 abbrev pub copy_acts : Rules → World → WebPath → WebPath → Bool → List Act
 copy_acts rules w path to alone = unless (when
     (is_forbidden rules path && not (is_dir_found (stands rules w path))) 403)
+    (cond (hides rules w to) (fill_acts rules w path to (row_at w.tree (resolved rules w.tree path.names)))
     (map (copy_act rules w path to (resolved rules w.tree path.names) (resolved rules (cleared rules w to) to.names))
-    (copied_rows alone (resolved rules w.tree path.names) w.tree))
+    (copied_rows alone (resolved rules w.tree path.names) w.tree)))
 
 -- ---- both
 

@@ -139,17 +139,11 @@ MakesAs Copy rules ask = CarriesIn rules false ask
 MakesAs Move rules ask = CarriesIn rules true ask
 MakesAs other rules ask = MakesIn rules ask
 
--- The rules by which each path is meant as it is written.
-pub record ArePlain (rules : Rules) : Type 0 where
-  pub folds : rules.folds ≡ false
-  pub macos : rules.macos ≡ false
-  pub alone : rules.alone ≡ None
-
--- The rules under which it is said what a method makes. Of COPY it is said where each path is meant as it is written; of
--- MOVE and DELETE but over one file that is served alone; of the others under all rules.
+-- The rules under which it is said what a method makes: of COPY, MOVE and DELETE but over one file that is served alone,
+-- and of the others under all rules.
 abbrev pub IsSaidUnder : DavMethod → Rules → Type 0
 IsSaidUnder Delete rules = rules.alone ≡ None
-IsSaidUnder Copy rules = ArePlain rules
+IsSaidUnder Copy rules = rules.alone ≡ None
 IsSaidUnder Move rules = rules.alone ≡ None
 IsSaidUnder other rules = Unit {0}
 
