@@ -194,7 +194,7 @@ pub gets_are_events : GetsAreEvents
 gets_are_events = looks_are_events Seeing seen_stands
 
 opened_stands : StandsWhere Opening
-opened_stands before after w path handle told no_link opens = by_told before.told after.told told opens.told
+opened_stands before after w path handle told no_link (opens, fed) = by_told before.told after.told told opens.told
   where
     by_told : (a b : Option World) → a ≡ Some w → Both a b (OpenedIn path (Ok handle) (kind_opened (Ok handle) after)) → (row : Row) × (look w.tree path ≡ Ok row)
     by_told None b is both = cc

@@ -1,8 +1,9 @@
 -- What the calls that ask a disk leave. Where an entry stands the disk is asked exactly one call, and else nothing.
-use Rattle.std.specs.Prelude.{◌≡◌, ◌<◌, ◌≤◌, ◌+◌, ◌&&◌, ℕ, Bool, true, false, List, length, Option, Some, None, Result, Ok, Err, is_ok, if◌then◌else◌}
+use Rattle.std.specs.Prelude.{◌≡◌, ◌⊎◌, ◌<◌, ◌≤◌, ◌+◌, ◌&&◌, ℕ, Bool, true, false, List, length, Option, Some, None, Result, Ok, Err, is_ok, if◌then◌else◌}
 use Rattle.dav_core.specs.declared.handle.Handle.{Handle}
 use Rattle.dav_core.specs.declared.handle.Meta.{Meta}
 use Rattle.dav_core.specs.declared.handle.DiskError.{DiskError}
+use Rattle.dav_core.specs.declared.handle.DiskError.TheVariants as disk
 use Rattle.dav_core.specs.Disk.{DiskState, Metas, Opens}
 use Rattle.dav_core.specs.Writing.{reading}
 use Rattle.dav_core.specs.Tree.{is_dir}
@@ -35,9 +36,25 @@ LooksBy call (Some e) old asked before found new after =
 abbrev pub Seeing : DiskState → Names → Result Meta DiskError → DiskState → Type 0
 Seeing before path answer after = Metas before path answer after
 
--- an opening of a path for reading
+-- whether a call was refused for want of memory
+abbrev pub is_starved : {A : Type 0} → Result A DiskError → Bool
+is_starved (Ok answer) = false
+is_starved (Err disk.NotFound) = false
+is_starved (Err disk.Exists) = false
+is_starved (Err disk.NotDir) = false
+is_starved (Err disk.IsDir) = false
+is_starved (Err disk.NotEmpty) = false
+is_starved (Err disk.Failed) = false
+is_starved (Err disk.NoMemory) = true
+
+-- an opening of a path for reading, for which memory wasn't wanting
 abbrev pub Opening : DiskState → Names → Result Handle DiskError → DiskState → Type 0
-Opening before path answer after = Opens before path reading answer after
+Opening before path answer after = Opens before path reading answer after × (is_starved answer ≡ false)
+
+-- Memory was wanting before the disk was asked, or for the one opening that it was asked.
+abbrev pub LacksMemory : DiskState → DiskState → Type 0
+LacksMemory before after = (after ≡ before)
+    ⊎ ((path : Names) × Opens before path reading (Err disk.NoMemory) after)
 
 -- a look-up by what stands there
 abbrev pub Looks : Option PathEntry → PathCache → Names → DiskState → Option (Names × Meta) → PathCache → DiskState

@@ -5,7 +5,7 @@ ghost use Rattle.lru.specs.LruCache.{last_entry};
 ghost use Rattle.dav_cache.specs.Trees.{same_path, fold_path};
 ghost use Rattle.dav_cache.specs.Entries as entries;
 ghost use Rattle.dav_cache.specs.Entries.{PathEntry};
-ghost use Rattle.dav_cache.specs.Calls.{Looks, LooksBy, Opening, found_by, probed};
+ghost use Rattle.dav_cache.specs.Calls.{LacksMemory, Looks, LooksBy, Opening, found_by, is_starved as the_is_starved, probed};
 
 use crate::valid::no_key_stands_twice;
 use crate::{FoldedPath, fold};
@@ -38,6 +38,16 @@ impl Model for Cache {
     ghost view = { λ c. record { entries = c.entries.entries; size = c.entries.cap } };
 
     ghost invariant = { λ c. AllFolded c.entries.entries };
+}
+
+/// Whether a call of the disk was refused for want of memory.
+pub fn is_starved<A>(answer: &Result<A, DiskError>) -> bool
+    ensures { result ≡ the_is_starved answer.now }
+{
+    match answer {
+        Ok(_) => false,
+        Err(error) => *error == DiskError::NoMemory,
+    }
 }
 
 impl Cache {
@@ -102,7 +112,8 @@ impl Cache {
         Ok(self.settle(&key, place, answer))
     }
 
-    /// Looks a path up as `get` does, by an opening for reading of what stands at the entry's path.
+    /// Looks a path up as `get` does, by an opening for reading of what stands at the entry's path. Where the disk
+    /// refuses that for want of memory, the entry stays.
     pub fn get_open<D: Disk>(
         &mut self,
         path: &FsPath,
@@ -113,13 +124,16 @@ impl Cache {
             self.old path.now (D.state disk.old) found self.new (D.state disk.new)) }
         ensures folds { IfOk result (λ found. IfSome found (λ f. fold_path f.0 ≡ fold_path path.now)) }
         ensures err { OnErr result (self.new ≡ self.old) }
-        ensures unasked { OnErr result (D.state disk.new ≡ D.state disk.old) }
+        ensures starved { OnErr result (LacksMemory (D.state disk.old) (D.state disk.new)) }
         ensures loan { D.loan disk.new ≡ D.loan disk.old }
     {
         let Some((key, place)) = self.place_of(path)? else {
             return Ok(None);
         };
         let answer = disk.open(&place, OpenOptions::read(), false);
+        if is_starved(&answer) {
+            return Err(NoMemory);
+        }
         Ok(self.settle(&key, place, answer))
     }
 

@@ -17,7 +17,7 @@ mod valid;
 mod world;
 
 pub use builder::DUCacheBuilder;
-pub use cache::{Cache, PathEntry};
+pub use cache::{Cache, PathEntry, is_starved};
 pub use du_cache::{DuCache, Sealed};
 pub use event::{Event, Told};
 pub use folding::{FoldedPath, fold, fold_text};

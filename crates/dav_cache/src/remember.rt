@@ -1,5 +1,6 @@
 ghost use Rattle.std.specs.Prelude.{◌≡◌, ◌<◌, None, Ok, Option, false, true, IfOk, OnOk, OnErr};
 ghost use Rattle.dav_cache.specs.declared.du_cache.Sealed.{Sealed};
+ghost use Rattle.dav_cache.specs.Calls.{LacksMemory};
 ghost use Rattle.dav_cache.specs.Entries.{are_sealable};
 ghost use Rattle.dav_cache.specs.Memory as memory;
 ghost use Rattle.dav_cache.specs.Memory.{MemoryState};
@@ -12,7 +13,7 @@ use std::alloc::Global;
 /// What a store remembers between its calls: where paths were found, and which names that begin with `._` directories
 /// had. It may tell its two caches; then each call does to their entries what its relation says. A memory that doesn't
 /// tell still never knows more after a call than before it, save what it is sealed with. Want of memory leaves it and
-/// the disk as they were, save in `seal`.
+/// the disk as they were, save in `seal`, and save for an opening that the disk refused.
 pub trait Remember {
     /// What contracts see of the memory.
     ghost state: { Self → MemoryState };
@@ -30,7 +31,8 @@ pub trait Remember {
         ensures unasked { OnErr result (D.state disk.new ≡ D.state disk.old) }
         ensures loan { D.loan disk.new ≡ D.loan disk.old };
 
-    /// Looks a path up as `get` does, and opens for reading what stands where it was found.
+    /// Looks a path up as `get` does, and opens for reading what stands where it was found. Memory is wanting also where
+    /// the disk refuses the opening for want of it: the entry stays then.
     fn get_open<D: Disk>(
         &mut self,
         alloc: Global,
@@ -40,7 +42,7 @@ pub trait Remember {
         ensures done { IfOk result (λ found. memory.GetsOpen (state self.old) path.now (D.state disk.old) found
             (state self.new) (D.state disk.new)) }
         ensures err { OnErr result (self.new ≡ self.old) }
-        ensures unasked { OnErr result (D.state disk.new ≡ D.state disk.old) }
+        ensures starved { OnErr result (LacksMemory (D.state disk.old) (D.state disk.new)) }
         ensures loan { D.loan disk.new ≡ D.loan disk.old };
 
     /// Remembers where a path is. A moment is in nanoseconds.

@@ -1,5 +1,5 @@
 -- What a walk from the root keeps.
-use Rattle.std.proofs.Common.{◌≡◌, ◌&&◌, inl, inr, ℕ, zero, suc, Bool, true, false, List, [], ◌∷◌, ◌++◌, take, length, Option, None, Some, Result, Ok, Err, IfOk, OnErr, refl, sym, ap, subst, ◌∙◌, append_assoc, append-nil, arith}
+use Rattle.std.proofs.Common.{◌≡◌, ◌≢◌, ◌&&◌, inl, inr, ℕ, zero, suc, Bool, true, false, List, [], ◌∷◌, ◌++◌, take, length, Option, None, Some, Result, Ok, Err, IfOk, OnErr, refl, sym, ap, subst, ◌∙◌, append_assoc, append-nil, arith}
 use Rattle.std.proofs.lemmas.Bool.{and_parts}
 use Rattle.std.proofs.lemmas.List.{map-append}
 use Rattle.dav_core.specs.declared.error.FsError.{FsError}
@@ -14,10 +14,11 @@ use Rattle.dav_model.specs.Finding.{IsLoose, IsOf, is_alike}
 use Rattle.dav_model.specs.Folds.{Name, fold_name, fold_path}
 use Rattle.dav_model.proofs.PlainWalks.{linked_below}
 use Rattle.dav_local.specs.Places.{Place}
-use Rattle.dav_local.specs.Remembering.{StandsElsewhere, has_link}
-use Rattle.dav_local.specs.Walking.{Comes, EndsAt, IsClearAt, KeepsPlace, Remembers, RemembersIn, StandsIn, StepsOn, StepsTo, Walks}
-use Rattle.dav_local.proofs.Memories.{alike_folds, error_of, first_alike, no_link, place_same, place_then, rows_same, rows_then, same_tree, spoiled_after, stands_still}
-use Rattle.dav_local.proofs.Rows.{IsTree, alike_splits, behind_link, found_of, link_at, none_of, nothing_below, stands_below, tree_parts}
+use Rattle.dav_local.specs.Remembering.{HasFirst, IsFoundIn, StandsElsewhere}
+use Rattle.dav_local.specs.Walking.{BringsAbove, Comes, EndsAt, IsAlikeIn, IsClearAt, KeepsPlace, Remembers, RemembersIn, StandsAt, StepsOn, StepsTo, Walks}
+use Rattle.dav_local.proofs.Above.{dir_below, dir_same, first_next, folds_apart, next_alike, no_root}
+use Rattle.dav_local.proofs.Memories.{alike_folds, error_of, first_alike, place_same, place_then, rows_same, rows_then, same_tree, spoiled_after, stands_still}
+use Rattle.dav_local.proofs.Rows.{IsTree, alike_splits, behind_link, clear_above, found_of, link_at, none_of, nothing_below, stands_below, tree_parts, unlinked_above}
 
 -- ---- the root
 
@@ -96,6 +97,9 @@ pub record Going (p : Place) (names : Names) (q : Place) (at rest : Names) : Typ
   pub alike : fold_path (at ++ rest) ≡ fold_path names
   pub plain : all_plain rest ≡ true
   pub rows : RemembersIn p q
+  pub stands : StandsAt p.disk at
+  -- at the end the directory above is the first that is remembered
+  pub above : rest ≡ [] → (dir : Names) (x : Name) → at ≡ dir ++ x ∷ [] → HasFirst dir dir q.memory
   pub told : (w : World) → p.disk.told ≡ Some w → is_tree w.tree ≡ true → Comes w.tree names at rest
 
 pub going_first : (p : Place) (names at rest : Names) → all_plain names ≡ true → at ≡ [] → rest ≡ names → Going p names p at rest
@@ -104,6 +108,8 @@ going_first p names at rest plain root all = rw (root, all) (record {
   alike = refl;
   plain = plain;
   rows = rows_same p p refl;
+  above = λ ended dir x path. no_root dir x path;
+  stands = λ w told is clear. (let here = root_clear w.tree (tree_parts w.tree is) in (here.row, here.stands));
   told = λ w told is. inl (root_clear w.tree (tree_parts w.tree is), λ end loose. loose);
 })
 
@@ -113,25 +119,32 @@ steps_in p m q w at name found keeps told is steps here =
     let (v, now, tree) = same_tree p m w keeps told in
     subst (λ z. StepsTo z at name found) tree (steps.told v now (ap is_tree tree ∙ is) (subst (λ z. IsClearAt z at) (sym tree) here))
 
--- Without links a walk is at a row.
-going_stands : (p m : Place) (names at rest : Names) → Going p names m at rest → StandsIn m.disk at
-going_stands p m names at rest going = stands_still p m at going.keeps (λ w told is links. at_row w links (going.told w told is))
-  where
-    at_row : (w : World) → has_link w.tree ≡ false → Comes w.tree names at rest → (row : Row) × (look w.tree at ≡ Ok row)
-    at_row w links (inl (here, on)) = (here.row, here.stands)
-    at_row w links (inr (end, loose, link)) = never (is_linked w.tree end) link (no_link w.tree end links)
+-- A walk is at a row, where no link is met.
+going_stands : (p m : Place) (names at rest : Names) → Going p names m at rest → StandsAt m.disk at
+going_stands p m names at rest going = stands_still p m at going.keeps going.stands
 
 -- a step further remembers what stands
-going_rows : (p m q : Place) (names at rest : Names) → Going p names m at rest → (StandsIn m.disk at → RemembersIn m q) → RemembersIn p q
+going_rows : (p m q : Place) (names at rest : Names) → Going p names m at rest → (StandsAt m.disk at → RemembersIn m q) → RemembersIn p q
 going_rows p m q names at rest going rows = rows_then p m q going.keeps going.rows (rows (going_stands p m names at rest going))
 
 fold_on : (at : Names) (name : Name) (more next : Names) → fold_path next ≡ fold_path (at ++ name ∷ []) → fold_path (next ++ more) ≡ fold_path (at ++ name ∷ more)
 fold_on at name more next e =
     map-append fold_name next more ∙ ap (λ z. z ++ fold_path more) e ∙ sym (map-append fold_name (at ++ name ∷ []) more) ∙ ap fold_path (append_assoc at (name ∷ []) more)
 
+-- What a step takes stands there, where no link is met.
+stands_next : (p m q : Place) (at : Names) (name : Name) (next : Names) → KeepsPlace p m → StandsAt p.disk at → StepsOn m at name (Ok (Some next)) q → StandsAt p.disk next
+stands_next p m q at name next keeps stands steps = λ w told is clear. there w told is clear steps.alike
+  where
+    there : (w : World) → p.disk.told ≡ Some w → is_tree w.tree ≡ true → is_linked w.tree next ≡ false → IsAlikeIn at name next → (row : Row) × (look w.tree next ≡ Ok row)
+    there w told is clear (x, below, folds) =
+        let free : is_linked w.tree at ≡ false = unlinked_above w.tree at (x ∷ []) (ap (is_linked w.tree) (sym below) ∙ clear) in
+        let (d, above) = stands w told is free in
+        let (row, o, path, alike) = steps_in p m q w at name (Some next) keeps told is steps (record { row = d; stands = above; clear = free }) in
+        (row, ap (look w.tree) below ∙ stands_below w.tree at x d row (tree_parts w.tree is) above o (path ∙ below))
+
 pub going_on : (p m q : Place) (names at rest : Names) (name : Name) (more next : Names) (found : Option Names) → Going p names m at rest → rest ≡ name ∷ more → StepsOn m at name (Ok found) q
-    → found ≡ Some next → Going p names q next more
-going_on p m q names at rest name more next found going is steps is_found =
+    → (more ≡ [] → HasFirst at at q.memory) → found ≡ Some next → Going p names q next more
+going_on p m q names at rest name more next found going is steps last is_found =
     on (subst (Going p names m at) is going) (subst (λ f. StepsOn m at name (Ok f) q) is_found steps)
   where
     on : Going p names m at (name ∷ more) → StepsOn m at name (Ok (Some next)) q → Going p names q next more
@@ -140,14 +153,16 @@ going_on p m q names at rest name more next found going is steps is_found =
       alike = fold_on at name more next (alike_folds at name next steps.alike) ∙ going.alike;
       plain = (and_parts (is_plain name) (all_plain more) going.plain).1;
       rows = going_rows p m q names at (name ∷ more) going steps.rows;
+      stands = stands_next p m q at name next going.keeps going.stands steps;
+      above = λ ended dir x path. (let dirs : at ≡ dir = dir_same at dir steps.alike.0 x (sym steps.alike.1 ∙ path) in subst (λ d. HasFirst d d q.memory) dirs (last ended));
       told = λ w told is. comes_on w.tree names at name more next (tree_parts w.tree is) (steps_in p m q w at name (Some next) going.keeps told is steps) (going.told w told is);
     }
 
 -- a place that wasn't found isn't one where something stands elsewhere than it was asked
 none_elsewhere : (p : Place) (names at : Names) (name : Name) (more : Names) (e : StandsElsewhere p names (at ++ name ∷ more)) → is_tree e.world.tree ≡ true
-    → (IsClearAt e.world.tree at → StepsTo e.world.tree at name None) → Comes e.world.tree names at (name ∷ more) → ⊥
-none_elsewhere p names at name more e is steps (inr (end, loose, link)) = never (is_linked e.world.tree end) link (no_link e.world.tree end e.links)
-none_elsewhere p names at name more e is steps (inl (here, on)) = nothing_below e.world.tree at name more e.row (tree_parts e.world.tree is) (steps here) e.stands
+    → (IsClearAt e.world.tree at → StepsTo e.world.tree at name None) → ⊥
+none_elsewhere p names at name more e is steps =
+    nothing_below e.world.tree at name more e.row (tree_parts e.world.tree is) (steps (clear_above e.world.tree at (name ∷ more) e.row e.stands e.clear)) e.stands
 
 walk_none : (p m q : Place) (names at : Names) (name : Name) (more : Names) → Going p names m at (name ∷ more) → StepsOn m at name (Ok None) q → Walks p names (Ok (at ++ name ∷ more)) q
 walk_none p m q names at name more going steps = record {
@@ -155,7 +170,7 @@ walk_none p m q names at name more going steps = record {
   refused = tt;
   alike = going.alike;
   told = λ w told is. comes_none w.tree names at name more (steps_in p m q w at name None going.keeps told is steps) (going.told w told is);
-  first = λ e is. absurd (none_elsewhere p names at name more e is (steps_in p m q e.world at name None going.keeps e.told is steps) (going.told e.world e.told is));
+  first = λ e is. absurd (none_elsewhere p names at name more e is (steps_in p m q e.world at name None going.keeps e.told is steps));
   rows = going_rows p m q names at (name ∷ more) going steps.rows;
 }
 
@@ -172,6 +187,38 @@ walk_over p m q names at [] going none remembers = record {
     same : fold_path at ≡ fold_path names
     same = ap fold_path (sym (append-nil at)) ∙ going.alike
 walk_over p m q names at (x ∷ rest) going none remembers = absurd (omega arith)
+
+-- What the walk came to has its directory next to it.
+pub walk_over_above : (p m q : Place) (names at rest : Names) → Going p names m at rest → length rest ≡ 0 → Remembers m at (Ok tt) q → BringsAbove p names (Ok at) q
+walk_over_above p m q names at [] going none remembers = λ dir e is.
+    next_alike dir at names q.memory (ap fold_path (sym (append-nil at)) ∙ going.alike)
+    (remembers.next dir (going.above refl dir e.name e.place) (subst (λ z. fold_path z ≢ fold_path dir) (sym e.place) (folds_apart dir e.name)))
+walk_over_above p m q names at (x ∷ rest) going none remembers = absurd (omega arith)
+
+none_above : (p m q : Place) (names at : Names) (name : Name) (more : Names) → Going p names m at (name ∷ more) → StepsOn m at name (Ok None) q → (more ≡ [] → HasFirst at at q.memory)
+    → BringsAbove p names (Ok (at ++ name ∷ more)) q
+none_above p m q names at name [] going steps last = λ dir e is.
+    let dirs : at ≡ dir = dir_same at dir name e.name e.place in first_next dir names q.memory (subst (λ d. HasFirst d d q.memory) dirs (last refl))
+none_above p m q names at name (y ∷ ys) going steps last = λ dir e is. absurd (lone dir e is (dir_below dir at e.name name y ys (sym e.place)))
+  where
+    lone : (dir : Names) (e : IsFoundIn p names (at ++ name ∷ y ∷ ys) dir) → is_tree e.world.tree ≡ true → (zs : Names) × (dir ≡ at ++ name ∷ zs) → ⊥
+    lone dir e is (zs, path) =
+        let there = ap (look e.world.tree) (sym path) ∙ e.stands in
+        let free = ap (is_linked e.world.tree) (sym path) ∙ e.clear in
+        nothing_below e.world.tree at name zs e.row (tree_parts e.world.tree is)
+        (steps_in p m q e.world at name None going.keeps e.told is steps (clear_above e.world.tree at (name ∷ zs) e.row there free)) there
+
+below_above : (p q : Place) (names end : Names) (r : Result Names FsError) → IfOk r (λ path. path ≡ end) → BringsAbove p names (Ok end) q → BringsAbove p names r q
+below_above p q names end (Ok path) is above = rw is above
+below_above p q names end (Err e) is above = tt
+
+pub walk_none_above : (p m q : Place) (names at rest : Names) (name : Name) (more : Names) (found : Option Names) (r : Result Names FsError) → Going p names m at rest → rest ≡ name ∷ more
+    → StepsOn m at name (Ok found) q → (more ≡ [] → HasFirst at at q.memory) → found ≡ None → (record { ok : IfOk r (λ path. path ≡ at ++ rest); err : OnErr r (r ≡ Err FsError.NoMemory) })
+    → BringsAbove p names r q
+walk_none_above p m q names at rest name more found r going is steps last is_found below =
+    below_above p q names (at ++ rest) r below.ok
+    (subst (λ z. BringsAbove p names (Ok (at ++ z)) q) (sym is)
+    (none_above p m q names at name more (subst (Going p names m at) is going) (subst (λ f. StepsOn m at name (Ok f) q) is_found steps) last))
 
 pub walk_refused : (p m q : Place) (names at rest : Names) (name : Name) (e : FsError) → Going p names m at rest → StepsOn m at name (Err e) q → Walks p names (Err e) q
 walk_refused p m q names at rest name e going steps = record {

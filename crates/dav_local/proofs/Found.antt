@@ -1,5 +1,5 @@
 -- A path that is found where the memory has it, as it stands, or in the directory above it.
-use Rattle.std.proofs.Common.{◌≡◌, ◌⊎◌, inl, inr, Bool, true, false, List, [], ◌∷◌, ◌++◌, length, Option, None, Some, IfSome, Result, Ok, Err, refl, sym, ap, subst, ◌∙◌, arith}
+use Rattle.std.proofs.Common.{◌≡◌, ◌≢◌, ◌⊎◌, inl, inr, Bool, true, false, List, [], ◌∷◌, ◌++◌, length, Option, None, Some, IfSome, IfOk, Result, Ok, Err, refl, sym, ap, subst, ◌∙◌, arith}
 use Rattle.std.specs.List.{list_any}
 use Rattle.std.specs.Option.{is_some}
 use Rattle.dav_io.specs.Counts.{RefusedNothing, Rose}
@@ -17,11 +17,12 @@ use Rattle.dav_model.specs.Folds.{Name, fold_name, fold_path}
 use Rattle.dav_model.proofs.PlainWalks.{linked_below}
 use Rattle.std.proofs.lemmas.List.{map-append}
 use Rattle.dav_local.specs.Places.{Place}
-use Rattle.dav_local.specs.Remembering.{HasFirst, IsFirst, KeepsWork, SavesCalls, StandsElsewhere, has_link}
-use Rattle.dav_local.specs.Walking.{EndsAt, FindsParent, IsAlikeIn, IsClearAt, KeepsPlace, Recalls, Remembers, RemembersIn, StandsAt, StandsIn, Steps, StepsTo, TakesIn, TakesMember, Walks}
+use Rattle.dav_local.specs.Remembering.{HasFirst, HasNext, IsFirst, KeepsAbove, KeepsWork, SavesCalls, StandsElsewhere}
+use Rattle.dav_local.specs.Walking.{BringsAbove, BringsUnheld, EndsAt, FindsParent, IsAlikeIn, IsClearAt, KeepsPlace, Recalls, Remembers, RemembersIn, StandsAt, Steps, StepsTo, TakesIn, TakesMember, Walks}
+use Rattle.dav_local.proofs.Above.{dir_same, first_itself, first_next, folds_apart, found_in_on, next_alike, no_folds, no_root}
 use Rattle.dav_local.proofs.Coming.{root_clear}
-use Rattle.dav_local.proofs.Memories.{alike_folds, error_of, first_alike, no_link, place_disk, place_same, place_then, rows_same, rows_then, same_tree, spoiled_after, stands_still, stands_without_links}
-use Rattle.dav_local.proofs.Rows.{IsTree, linked_alike, nothing_below, stands_below, stood_loosely, stood_then, tree_parts}
+use Rattle.dav_local.proofs.Memories.{alike_folds, error_of, first_alike, place_disk, place_same, place_then, rows_same, rows_then, same_tree, spoiled_after, stands_still}
+use Rattle.dav_local.proofs.Rows.{IsTree, clear_above, linked_alike, nothing_below, stands_below, stood_loosely, stood_then, tree_parts, unlinked_above}
 
 never : {A : Type 0} (b : Bool) → b ≡ true → b ≡ false → A
 never b e f = cc
@@ -64,11 +65,11 @@ elsewhere_on p m names at keeps e =
       record {
         world = v;
         told = now;
-        links = ap has_link tree ∙ e.links;
         error = e.error;
         missing = ap (λ z. look z names) tree ∙ e.missing;
         row = e.row;
         stands = ap (λ z. look z at) tree ∙ e.stands;
+        clear = ap (λ z. is_linked z at) tree ∙ e.clear;
       },
       tree,
     )
@@ -145,8 +146,7 @@ walk_whole p t names m metas keeps = record {
   refused = tt;
   alike = refl;
   told = λ w told is. alike_ends w.tree names names (tree_parts w.tree is) refl (λ clear. let (row, stands, meta) = metas.told w told clear in (row, stands));
-  first = λ e is.
-      let (row, stands, meta) = metas.told e.world e.told (no_link e.world.tree names e.links) in ok_error row e.error (sym stands ∙ e.missing);
+  first = λ e is. ok_error e.row e.error (sym e.stands ∙ e.missing);
   rows = rows_same p (record p { disk = t }) refl;
 }
 
@@ -204,7 +204,7 @@ parent_recalled p q dir at found recalls is = finds (subst (λ f. Recalls p dir 
         record { keeps = recalls.keeps; refused = tt; alike = recalls.alike; stood = recalls.stood; first = inr recalls.first; rows = recalls.rows }
 
 -- What stands is remembered after the disk was asked.
-rows_on : (p : Place) (t : DiskState) (at : Names) (q : Place) → Keeps p.disk t → KeepsPlace (record p { disk = t }) q → StandsIn p.disk at → (StandsIn t at → RemembersIn (record p { disk = t }) q)
+rows_on : (p : Place) (t : DiskState) (at : Names) (q : Place) → Keeps p.disk t → KeepsPlace (record p { disk = t }) q → StandsAt p.disk at → (StandsAt t at → RemembersIn (record p { disk = t }) q)
     → RemembersIn p q
 rows_on p t at q keeps kept stands rows =
     rows_then p (record p { disk = t }) q (place_disk p t keeps) (rows_same p (record p { disk = t }) refl) (rows (stands_still p (record p { disk = t }) at (place_disk p t keeps) stands))
@@ -217,7 +217,7 @@ parent_stands p q t dir m metas keeps remembers = record {
   alike = refl;
   stood = there;
   first = inr remembers.first;
-  rows = rows_on p t dir q keeps remembers.keeps (stands_without_links p.disk dir there) remembers.rows;
+  rows = rows_on p t dir q keeps remembers.keeps there remembers.rows;
 }
   where
     there : StandsAt p.disk dir
@@ -231,7 +231,7 @@ parent_starved p q t dir m e metas keeps remembers = record {
   alike = tt;
   stood = tt;
   first = tt;
-  rows = rows_on p t dir q keeps remembers.keeps (stands_without_links p.disk dir (λ w told is clear. (let (row, stands, meta) = metas.told w told clear in (row, stands)))) remembers.rows;
+  rows = rows_on p t dir q keeps remembers.keeps (λ w told is clear. (let (row, stands, meta) = metas.told w told clear in (row, stands))) remembers.rows;
 }
 
 pub parent_failed : (p : Place) (t : DiskState) (dir : Names) → Keeps p.disk t → Rose p.disk.faults t.faults → FindsParent p dir (Err FsError.GeneralFailure) (record p { disk = t })
@@ -243,6 +243,13 @@ parent_missing p t dir keeps = record { keeps = place_disk p t keeps; refused = 
 
 -- ---- a member of the directory
 
+dir_unlinked : (tree : List Row) (dir : Names) (name : Name) (at : Names) → IsAlikeIn dir name at → is_linked tree at ≡ false → is_linked tree dir ≡ false
+dir_unlinked tree dir name at (x, below, folds) clear = unlinked_above tree dir (x ∷ []) (ap (is_linked tree) (sym below) ∙ clear)
+
+dir_clear : (tree : List Row) (dir : Names) (name : Name) (at : Names) (row : Row) → IsAlikeIn dir name at → look tree at ≡ Ok row → is_linked tree at ≡ false → IsClearAt tree dir
+dir_clear tree dir name at row (x, below, folds) stands clear =
+    clear_above tree dir (x ∷ []) row (ap (look tree) (sym below) ∙ stands) (ap (is_linked tree) (sym below) ∙ clear)
+
 -- what a step in a directory takes
 taken_row : (p : Place) (t : DiskState) (dir : Names) (name : Name) (at : Names) → ((w : World) → p.disk.told ≡ Some w → IsWorld w) → Steps p.disk dir name (Ok (Some at)) t
     → (w : World) → p.disk.told ≡ Some w → is_tree w.tree ≡ true → IsClearAt w.tree dir → (row : Row) × (look w.tree at ≡ Ok row)
@@ -251,11 +258,12 @@ taken_row p t dir name at worlds steps w told tree here = there steps.alike (ste
     there : IsAlikeIn dir name at → StepsTo w.tree dir name (Some at) → (row : Row) × (look w.tree at ≡ Ok row)
     there (x, below, folds) (row, o, path, alike) = (row, ap (look w.tree) below ∙ stands_below w.tree dir x here.row row (tree_parts w.tree tree) here.stands o (path ∙ below))
 
--- without links it stands where the directory does
-taken_stands : (p : Place) (t : DiskState) (dir : Names) (name : Name) (at : Names) → ((w : World) → p.disk.told ≡ Some w → IsWorld w) → Steps p.disk dir name (Ok (Some at)) t → StandsIn p.disk dir
-    → StandsIn p.disk at
-taken_stands p t dir name at worlds steps stands = λ w told is links.
-    let (d, there) = stands w told is links in taken_row p t dir name at worlds steps w told is (record { row = d; stands = there; clear = no_link w.tree dir links })
+-- it stands where the directory does, where no link is met
+taken_stands : (p : Place) (t : DiskState) (dir : Names) (name : Name) (at : Names) → ((w : World) → p.disk.told ≡ Some w → IsWorld w) → Steps p.disk dir name (Ok (Some at)) t → StandsAt p.disk dir
+    → StandsAt p.disk at
+taken_stands p t dir name at worlds steps stands = λ w told is clear.
+    let free : is_linked w.tree dir ≡ false = dir_unlinked w.tree dir name at steps.alike clear in
+    let (d, there) = stands w told is free in taken_row p t dir name at worlds steps w told is (record { row = d; stands = there; clear = free })
 
 pub takes_found : (p q : Place) (t : DiskState) (dir : Names) (name : Name) (at : Names) (found : Option Names) → ((w : World) → p.disk.told ≡ Some w → IsWorld w) → Steps p.disk dir name (Ok found) t
     → found ≡ Some at → Remembers (record p { disk = t }) at (Ok tt) q → TakesMember p dir name (Ok at) q
@@ -293,8 +301,8 @@ pub member_walks : (p m q : Place) (names asked above dir : Names) (name : Name)
 member_walks p m q names asked above dir name found r path same finds is takes =
     walks (subst (λ z. FindsParent p z (Ok (Some dir)) m) same (subst (λ f. FindsParent p asked (Ok f) m) is finds)) r takes
   where
-    found_stands : FindsParent p above (Ok (Some dir)) m → StandsIn m.disk dir
-    found_stands finds = stands_still p m dir finds.keeps (stands_without_links p.disk dir finds.stood)
+    found_stands : FindsParent p above (Ok (Some dir)) m → StandsAt m.disk dir
+    found_stands finds = stands_still p m dir finds.keeps finds.stood
 
     walks : FindsParent p above (Ok (Some dir)) m → (r : Result Names FsError) → TakesMember m dir name r q → Walks p names r q
     walks finds (Err e) takes = record {
@@ -312,7 +320,7 @@ member_walks p m q names asked above dir name found r path same finds is takes =
       told = λ w told is.
           taken_ends w.tree names above dir name at (tree_parts w.tree is) path finds.alike all takes.alike (finds.stood w told is)
           (λ here. without_first w.tree (taken w told is here));
-      first = λ e is. first e is (finds.stood e.world e.told is (no_link e.world.tree dir e.links));
+      first = first;
       rows = rows_then p m q finds.keeps finds.rows (takes.rows (found_stands finds));
     }
       where
@@ -329,14 +337,72 @@ member_walks p m q names asked above dir name found r path same finds is takes =
             let (v, now, tree) = same_tree p m w finds.keeps told in
             subst (λ z. IsClearAt z dir → TakesIn z dir name at q.memory) tree (takes.told v now (ap is_tree tree ∙ is))
 
-        first : (e : StandsElsewhere p names at) → is_tree e.world.tree ≡ true → ((row : Row) × (look e.world.tree dir ≡ Ok row)) → HasFirst names at q.memory
-        first e is (d, stands) = elim (taken e.world e.told is (record { row = d; stands = stands; clear = no_link e.world.tree dir e.links })) [
+        first : (e : StandsElsewhere p names at) → is_tree e.world.tree ≡ true → HasFirst names at q.memory
+        first e is = elim (taken e.world e.told is (dir_clear e.world.tree dir name at e.row takes.alike e.stands e.clear)) [
           | inl (row, there, kept) ↦ first_alike at names q.memory all kept
           | inr (place, lone) ↦ absurd (nothing_below e.world.tree dir name [] e.row (tree_parts e.world.tree is) lone (ap (look e.world.tree) (sym place) ∙ e.stands))
         ]
 
 pub walks_lost : (p m q : Place) (names above : Names) (found : Option Names) (r : Result Names FsError) → FindsParent p above (Ok found) m → found ≡ None → Walks m names r q → Walks p names r q
 walks_lost p m q names above found r finds is walks = walks_after p m q names r finds.keeps finds.rows walks
+
+-- ---- the directory above is next
+
+pub above_after : (p m q : Place) (names : Names) (r : Result Names FsError) → KeepsPlace p m → BringsAbove m names r q → BringsAbove p names r q
+above_after p m q names (Err e) keeps above = tt
+above_after p m q names (Ok at) keeps above = λ dir e is. let (f, tree) = found_in_on p m names at dir keeps e in above dir f (ap is_tree tree ∙ is)
+
+-- What stands as it is asked isn't found in a directory.
+pub whole_above : (p q : Place) (t : DiskState) (names : Names) (m : Meta) → Metas p.disk names (Ok m) t → BringsAbove p names (Ok names) q
+whole_above p q t names m metas = λ dir e is. let (row, stands, meta) = metas.told e.world e.told e.way in ok_error row e.error (sym stands ∙ e.missing)
+
+pub missing_above : (p q : Place) (t : DiskState) (names : Names) (r : Result Names FsError) → Keeps p.disk t → BringsAbove (record p { disk = t }) names r q → BringsAbove p names r q
+missing_above p q t names r keeps above = above_after p (record p { disk = t }) q names r (place_disk p t keeps) above
+
+-- The root has no directory above it.
+pub root_above : (p q : Place) (names : Names) (r : Result Names FsError) → names ≡ [] → IfOk r (λ at. at ≡ names) → BringsAbove p names r q
+root_above p q names (Err e) none same = tt
+root_above p q names (Ok at) none same = λ dir e is. no_root dir e.name (sym none ∙ sym same ∙ e.place)
+
+pub lost_above : (p m q : Place) (names above : Names) (found : Option Names) (r : Result Names FsError) → FindsParent p above (Ok found) m → BringsAbove m names r q → BringsAbove p names r q
+lost_above p m q names above found r finds brings = above_after p m q names r finds.keeps brings
+
+pub member_above : (p m q : Place) (names asked above dir : Names) (name : Name) (found : Option Names) (r : Result Names FsError) → names ≡ above ++ name ∷ [] → asked ≡ above
+    → FindsParent p asked (Ok found) m → found ≡ Some dir → TakesMember m dir name r q → (HasFirst dir dir m.memory → IfOk r (λ at. HasNext dir at q.memory)) → BringsAbove p names r q
+member_above p m q names asked above dir name found (Err e) path same finds is takes next = tt
+member_above p m q names asked above dir name found (Ok at) path same finds is takes next =
+    by_parent (subst (λ z. FindsParent p z (Ok (Some dir)) m) same (subst (λ f. FindsParent p asked (Ok f) m) is finds))
+  where
+    by_parent : FindsParent p above (Ok (Some dir)) m → BringsAbove p names (Ok at) q
+    by_parent finds = λ other e tree.
+        let dirs : dir ≡ other = dir_same dir other takes.alike.0 e.name (sym takes.alike.1 ∙ e.place) in
+        subst (λ d. HasNext d names q.memory) dirs (elim finds.first [
+          | inl root ↦ absurd (e.deep (sym dirs ∙ no_folds dir (finds.alike ∙ ap fold_path root)))
+          | inr first ↦ next_alike dir at names q.memory (folds_below names above dir name at path finds.alike takes.alike) (next (first_itself above dir m.memory finds.alike first))
+        ])
+
+-- The member of a directory that came first has it next to it.
+pub takes_next : (p m : Place) (t : DiskState) (dir : Names) (name : Name) (at : Names) (found : Option Names) → Steps p.disk dir name (Ok found) t → found ≡ Some at → Remembers (record p { disk = t }) at (Ok tt) m
+    → HasFirst dir dir p.memory → HasNext dir at m.memory
+takes_next p m t dir name at found steps is remembers first =
+    let alike : IsAlikeIn dir name at = (subst (λ f. Steps p.disk dir name (Ok f) t) is steps).alike in
+    remembers.next dir first (subst (λ z. fold_path z ≢ fold_path dir) (sym alike.1) (folds_apart dir alike.0))
+
+pub appends_next : (p : Place) (dir : Names) (r : Result Names FsError) → HasFirst dir dir p.memory → IfOk r (λ at. HasNext dir at p.memory)
+appends_next p dir (Err e) first = tt
+appends_next p dir (Ok at) first = first_next dir at p.memory first
+
+pub unheld_recalled : (p q : Place) (names at : Names) (found : Option Names) → Recalls p names (Ok found) q → found ≡ Some at → BringsUnheld p names (Ok at) q
+unheld_recalled p q names at found recalls is = λ dir e tree unheld. (subst (λ f. Recalls p names (Ok f) q) is recalls).had unheld dir
+
+pub unheld_unknown : (p m q : Place) (names : Names) (found : Option Names) (r : Result Names FsError) → Recalls p names (Ok found) m → BringsAbove m names r q → BringsUnheld p names r q
+unheld_unknown p m q names found (Err e) recalls above = tt
+unheld_unknown p m q names found (Ok at) recalls above = λ dir e tree unheld.
+    above_after p m q names (Ok at) recalls.keeps above dir e tree
+
+pub keeps_above : (p q : Place) (names : Names) (r : Result Names FsError) → ((w : World) → p.disk.told ≡ Some w → IsWorld w) → BringsUnheld p names r q → KeepsAbove p names r q
+keeps_above p q names (Err e) worlds brings = λ folds none. tt
+keeps_above p q names (Ok at) worlds brings = λ folds none dir e unheld. brings dir e (worlds e.world e.told).tree unheld
 
 -- ---- what is saved and kept
 

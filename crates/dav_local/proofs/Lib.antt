@@ -5,6 +5,7 @@ pub mod WriteLoops
 pub mod OneName
 pub mod Seeking
 pub mod Memories
+pub mod Above
 pub mod Rows
 pub mod Stepping
 pub mod Coming

@@ -1,14 +1,13 @@
 -- What steps keep that ask the memory, and what they remember.
-use Rattle.std.proofs.Common.{◌≡◌, ◌&&◌, ◌||◌, inl, inr, Bool, true, false, List, [], ◌∷◌, ◌++◌, Option, None, Some, IfSome, Result, Err, refl, sym, ap, subst, ◌∙◌}
+use Rattle.std.proofs.Common.{◌≡◌, inl, inr, true, [], ◌∷◌, ◌++◌, Option, None, Some, IfSome, Result, Err, refl, sym, ap, subst, ◌∙◌}
 use Rattle.std.proofs.lemmas.List.{map-append}
 use Rattle.dav_io.proofs.ToldLemmas.{told_after, told_before}
 use Rattle.dav_core.specs.declared.error.FsError.{FsError}
 use Rattle.dav_core.specs.declared.error.FsError.TheVariants as fs
 use Rattle.dav_core.specs.declared.time.FileTime.{FileTime}
-use Rattle.dav_core.specs.declared.tree.Row.{Row}
 use Rattle.dav_core.specs.Disk.{DiskState}
-use Rattle.dav_core.specs.Path.{Names, is_front}
-use Rattle.dav_core.specs.Tree.{is_link, is_linked, is_tree, look}
+use Rattle.dav_core.specs.Path.{Names}
+use Rattle.dav_core.specs.Tree.{is_linked, is_tree, look}
 use Rattle.dav_core.specs.Unchanged.{Keeps, SameBesidesOpens}
 use Rattle.dav_core.specs.World.{World}
 use Rattle.dav_core.proofs.UnchangedLemmas.{keeps_same, keeps_then}
@@ -19,8 +18,8 @@ use Rattle.dav_cache.specs.Memory.{LearnsNothing, MayDeny, MemoryState}
 use Rattle.dav_model.specs.Folds.{Name, fold_name, fold_path}
 use Rattle.dav_local.specs.Made.{MadeAt}
 use Rattle.dav_local.specs.Places.{Place}
-use Rattle.dav_local.specs.Remembering.{AllPaths, HasFirst, IsFirst, RemembersRows, has_link}
-use Rattle.dav_local.specs.Walking.{IsAlikeIn, KeepsPlace, RemembersIn, StandsAt, StandsIn}
+use Rattle.dav_local.specs.Remembering.{AllPaths, HasFirst, IsFirst, RemembersRows}
+use Rattle.dav_local.specs.Walking.{IsAlikeIn, KeepsPlace, RemembersIn, StandsAt}
 use Rattle.dav_local.proofs.Dating.{made_same, made_then}
 
 -- ---- what is known
@@ -112,46 +111,27 @@ first_alike at names memory folds first = by_paths memory.paths first
     by_paths None first = tt
     by_paths (Some c) first = first_in at names c.entries folds first
 
--- ---- trees without links
-
-no_link_in : (a b : Bool) → a ≡ false → (a && b) ≡ false
-no_link_in true b e = cc
-no_link_in false b e = refl
-
-or_parts : (a b : Bool) → (a || b) ≡ false → (a ≡ false) × (b ≡ false)
-or_parts true b e = cc
-or_parts false b e = (refl, e)
-
-pub no_link : (tree : List Row) (path : Names) → has_link tree ≡ false → is_linked tree path ≡ false
-no_link [] path none = refl
-no_link (r ∷ rows) path none =
-    let (first, later) = or_parts (is_link r.kind) (has_link rows) none in
-    ap (λ b. b || is_linked rows path) (no_link_in (is_link r.kind) (is_front r.path path) first) ∙ no_link rows path later
-
 -- ---- what is remembered anew
 
 pub rows_same : (p q : Place) → q.memory.paths ≡ p.memory.paths → RemembersIn p q
-rows_same p q same = λ w test told is links stands all. subst (λ paths. IfSome paths (λ c. AllPaths test c.entries)) (sym same) all
+rows_same p q same = λ w test told is stands linked all. subst (λ paths. IfSome paths (λ c. AllPaths test c.entries)) (sym same) all
 
 pub rows_then : (p m q : Place) → KeepsPlace p m → RemembersIn p m → RemembersIn m q → RemembersIn p q
-rows_then p m q keeps first then = λ w test told is links stands all.
+rows_then p m q keeps first then = λ w test told is stands linked all.
     let (v, now, tree) = same_tree p m w keeps told in
-    then v test now (ap is_tree tree ∙ is) (ap has_link tree ∙ links) (λ path row there. stands path row (ap (λ z. look z path) (sym tree) ∙ there))
-    (first w test told is links stands all)
+    then v test now (ap is_tree tree ∙ is) (λ path row there. stands path row (ap (λ z. look z path) (sym tree) ∙ there))
+    (λ path link. linked path (ap (λ z. is_linked z path) (sym tree) ∙ link)) (first w test told is stands linked all)
 
 -- the world that was told before has the same tree
 pub tree_before : (p m : Place) (w : World) → KeepsPlace p m → m.disk.told ≡ Some w → (v : World) × (p.disk.told ≡ Some v) × (w.tree ≡ v.tree)
 tree_before p m w keeps told = let (v, was, same) = told_before p.disk.told m.disk.told SameBesidesOpens w keeps.keeps.world told in (v, was, same.tree)
 
 -- what stood before stands still
-pub stands_still : (p m : Place) (at : Names) → KeepsPlace p m → StandsIn p.disk at → StandsIn m.disk at
-stands_still p m at keeps stands = λ w told is links.
+pub stands_still : (p m : Place) (at : Names) → KeepsPlace p m → StandsAt p.disk at → StandsAt m.disk at
+stands_still p m at keeps stands = λ w told is clear.
     let (v, was, tree) = tree_before p m w keeps told in
-    let (row, there) = stands v was (ap is_tree (sym tree) ∙ is) (ap has_link (sym tree) ∙ links) in
+    let (row, there) = stands v was (ap is_tree (sym tree) ∙ is) (ap (λ z. is_linked z at) (sym tree) ∙ clear) in
     (row, ap (λ z. look z at) tree ∙ there)
 
-pub stands_without_links : (s : DiskState) (at : Names) → StandsAt s at → StandsIn s at
-stands_without_links s at stands = λ w told is links. stands w told is (no_link w.tree at links)
-
 pub remembers_rows : (p q : Place) → ((w : World) → p.disk.told ≡ Some w → is_tree w.tree ≡ true) → RemembersIn p q → RemembersRows p q
-remembers_rows p q trees rows = λ w test told links stands all. rows w test told (trees w told) links stands all
+remembers_rows p q trees rows = λ w test told stands linked all. rows w test told (trees w told) stands linked all

@@ -9,24 +9,28 @@ use Rattle.dav_io.specs.declared.clock.Moment.{Moment}
 use Rattle.dav_core.specs.declared.error.FsError.{FsError}
 use Rattle.dav_core.specs.declared.handle.DiskError.{DiskError}
 use Rattle.dav_core.specs.declared.handle.DiskError.TheVariants.{NotFound, NotDir, IsDir, Exists, NotEmpty, Failed, NoMemory}
+use Rattle.dav_core.specs.declared.handle.Handle.{Handle}
 use Rattle.dav_core.specs.declared.handle.Meta.{Meta}
 use Rattle.dav_core.specs.declared.tree.Row.{Row}
-use Rattle.dav_core.specs.Disk.{DiskState, MayRefuseMeta, Metas, Refused}
+use Rattle.dav_core.specs.Disk.{DiskState, MayRefuseMeta, MayRefuseOpen, Metas, OpenedIn, Opens, Refused}
 use Rattle.dav_core.specs.Path.{Names}
-use Rattle.dav_core.specs.Tree.{is_linked, look}
+use Rattle.dav_core.specs.Tree.{is_linked, is_tree, look}
 use Rattle.dav_core.specs.Unchanged.{Keeps}
+use Rattle.dav_core.specs.World.{World}
+use Rattle.dav_core.specs.Writing.{reading}
 use Rattle.dav_core.proofs.UnchangedLemmas.{keeps_same}
 use Rattle.dav_store.specs.Files.{AsksOnce}
-use Rattle.dav_cache.specs.Calls.{Looks, LooksBy, Seeing}
+use Rattle.dav_cache.specs.Calls.{Looks, LooksBy, Opening, Seeing, is_starved}
 use Rattle.dav_cache.specs.declared.cache.PathEntry.{PathEntry}
 use Rattle.dav_cache.specs.Entries.{PathCache, Paths, inserted, without}
-use Rattle.dav_cache.specs.Memory.{Gets, GetsBy, Inserts, LearnsNothing, MemoryState}
+use Rattle.dav_cache.specs.Memory.{Gets, GetsBy, GetsOpen, Inserts, LearnsNothing, MemoryState}
 use Rattle.dav_cache.specs.Trees.{same_path, fold_name as kept_name, fold_path as kept_path}
 use Rattle.dav_model.specs.Folds.{fold_path}
 use Rattle.dav_local.specs.Made.{MadeAt}
 use Rattle.dav_local.specs.Places.{Place}
 use Rattle.dav_local.specs.Remembering.{AllPaths, IsFirst, IsNewFirst, IsRemembered}
-use Rattle.dav_local.specs.Walking.{KeepsPlace, Recalls, Remembers, RemembersIn}
+use Rattle.dav_local.specs.Walking.{KeepsPlace, Recalls, Remembers, RemembersIn, StandsAt}
+use Rattle.dav_local.proofs.Above.{had_there, told_next}
 use Rattle.dav_local.proofs.Dating.{made_got, made_inserted, made_same}
 use Rattle.dav_local.proofs.Keeping.{asked_keeps}
 use Rattle.dav_local.proofs.Memories.{learns_none, rows_same}
@@ -78,6 +82,16 @@ no_refusal NotEmpty found row may refused stands fault = absurd may
 no_refusal Failed found row may refused stands fault = fault refl
 no_refusal NoMemory found row may refused stands fault = absurd may
 
+-- What stands there is opened, but for a fault and want of memory.
+no_opening : (e : DiskError) (found : Result Row DiskError) (row : Row) → MayRefuseOpen false e → is_starved {A = Handle} (Err e) ≡ false → Refused e found → found ≡ Ok row → (e ≡ Failed → ⊥) → ⊥
+no_opening NotFound found row may fed refused stands fault = cc
+no_opening NotDir found row may fed refused stands fault = cc
+no_opening IsDir found row may fed refused stands fault = absurd may
+no_opening Exists found row may fed refused stands fault = absurd may
+no_opening NotEmpty found row may fed refused stands fault = absurd may
+no_opening Failed found row may fed refused stands fault = fault refl
+no_opening NoMemory found row may fed refused stands fault = cc
+
 -- ---- the paths of a cache
 
 by_cond : (test : Names → Bool) (b : Bool) (e : Names × PathEntry) (es : Paths) → test e.1.path ≡ true → AllPaths test es → AllPaths test (cond b (e ∷ es) es)
@@ -126,7 +140,7 @@ module _ {A : Type 0} (call : DiskState → Names → Result A DiskError → Dis
       looked_paths test (lookup (same_path (kept_path names)) a.entries) a b names s t found both (λ e is. path_found test (same_path (kept_path names)) a.entries e is all) all
 
   pub got_rows : (p q : Place) (names : Names) (found : Option (Names × A)) → GetsBy call p.memory names p.disk found q.memory q.disk → RemembersIn p q
-  got_rows p q names found gets = λ w test told is links stands all. got_paths test p.memory.paths q.memory.paths names p.disk q.disk found gets.paths all
+  got_rows p q names found gets = λ w test told is stands linked all. got_paths test p.memory.paths q.memory.paths names p.disk q.disk found gets.paths all
 
 -- What is remembered is found, with one call of the disk.
 pub got_held : (p : Place) (names at : Names) (found : Option (Names × Meta)) (m : MemoryState) (t : DiskState) → Gets p.memory names p.disk found m t → RefusedNothing p.disk.faults t.faults
@@ -143,6 +157,24 @@ got_held p names at found m t gets nothing held =
     by_entry d (Err e, metas, is, new) =
         absurd (no_refusal e (look held.world.tree held.entry.path) held.row metas.only (metas.told held.world held.told (ap (is_linked held.world.tree) held.place ∙ held.clear))
         (ap (look held.world.tree) held.place ∙ held.stands) (fault_rose e metas))
+
+-- What is remembered is opened, by one call of the disk.
+pub opened_held : (p : Place) (names at : Names) (found : Option (Names × Handle)) (m : MemoryState) (t : DiskState) → GetsOpen p.memory names p.disk found m t → RefusedNothing p.disk.faults t.faults
+    → IsRemembered p names at → (path_of found ≡ Some at) × AsksOnce p.disk t
+opened_held p names at found m t gets nothing held =
+    let (d, now, looks) = told_after p.memory.paths m.paths (λ a b. LooksBy Opening (lookup (same_path (kept_path names)) a.entries) a names p.disk found b t) held.cache gets.paths held.tells in
+    by_entry d (subst (λ o. LooksBy Opening o held.cache names p.disk found d t) (ap (λ k. lookup (same_path k) held.cache.entries) (same_folds names) ∙ held.holds) looks)
+  where
+    refused_there : (e : DiskError) → Opens p.disk held.entry.path reading (Err e) t → Refused e (look held.world.tree held.entry.path)
+    refused_there e opens =
+        let (v, now, opened) = told_after p.disk.told t.told (OpenedIn held.entry.path (Err e) None) held.world opens.told held.told in
+        opened.1 (ap (is_linked held.world.tree) held.place ∙ held.clear)
+
+    by_entry : (d : PathCache) → LooksBy Opening (Some held.entry) held.cache names p.disk found d t → (path_of found ≡ Some at) × AsksOnce p.disk t
+    by_entry d (Ok h, (opens, fed), is, new) = (ap path_of is ∙ ap (λ z. Some z) held.place, opens.asks.asked)
+    by_entry d (Err e, (opens, fed), is, new) =
+        absurd (no_opening e (look held.world.tree held.entry.path) held.row opens.only fed (refused_there e opens) (ap (look held.world.tree) held.place ∙ held.stands)
+        (λ fault. no_rise p.disk.faults t.faults nothing (opens.asks.rose (ap (λ x. Err x) fault))))
 
 got_place : (p q : Place) (names : Names) (found : Option (Names × Meta)) → q.ways ≡ p.ways → q.moment ≡ p.moment → Gets p.memory names p.disk found q.memory q.disk → KeepsPlace p q
 got_place p q names found ways moment gets = record {
@@ -166,6 +198,7 @@ recalls_found p q names at meta found ways moment gets is = recalls (subst (λ f
       alike = sym (same_folds at) ∙ gets.folds ∙ same_folds names;
       stood = λ w told is clear. (let (row, stands, same) = gets.stood.told w told clear in (row, stands));
       first = got_first Seeing p.memory.paths q.memory.paths names p.disk q.disk (at, meta) gets.paths;
+      had = λ unheld dir. had_there Seeing p.memory.paths q.memory.paths names p.disk q.disk (at, meta) gets.paths unheld dir;
       saved = λ nothing other held. got_held p names other (Some (at, meta)) q.memory q.disk gets nothing held;
       rows = got_rows Seeing p q names (Some (at, meta)) gets;
     }
@@ -180,6 +213,7 @@ recalls_none p q names found ways moment gets is = recalls (subst (λ f. Gets p.
       alike = tt;
       stood = tt;
       first = tt;
+      had = tt;
       saved = λ nothing other held. got_held p names other None q.memory q.disk gets nothing held;
       rows = got_rows Seeing p q names None gets;
     }
@@ -202,6 +236,7 @@ recalls_starved p q names ways moment memory disk = record {
   alike = tt;
   stood = tt;
   first = tt;
+  had = tt;
   saved = tt;
   rows = rows_same p q (ap (λ (m : MemoryState). m.paths) memory);
 }
@@ -229,6 +264,15 @@ told_paths test (Some a) (Some b) at now both holds all =
     subst (λ (c : PathCache). AllPaths test c.entries) (sym both)
     (holds, paths_take test (a.size - 1) (without (same_path (kept_path at)) a.entries) (paths_without test (same_path (kept_path at)) a.entries all))
 
+-- what holds of each path at which a row stands, and behind each link, holds there
+holds_there : (p : Place) (at : Names) (w : World) (test : Names → Bool) → p.disk.told ≡ Some w → is_tree w.tree ≡ true → StandsAt p.disk at
+    → ((path : Names) (row : Row) → look w.tree path ≡ Ok row → test path ≡ true) → ((path : Names) → is_linked w.tree path ≡ true → test path ≡ true) → test at ≡ true
+holds_there p at w test told is there stands linked = by_link (is_linked w.tree at) refl
+  where
+    by_link : (b : Bool) → is_linked w.tree at ≡ b → test at ≡ true
+    by_link true e = linked at e
+    by_link false e = let (row, here) = there w told is e in stands at row here
+
 pub remembers_at : (p q : Place) (at : Names) (now : Moment) → q.ways ≡ p.ways → q.moment ≡ p.moment → q.disk ≡ p.disk → now ≡ p.moment → Inserts p.memory at now q.memory
     → Remembers p at (Ok tt) q
 remembers_at p q at now ways moment disk same inserts = record {
@@ -244,10 +288,10 @@ remembers_at p q at now ways moment disk same inserts = record {
   starved = tt;
   first = told_first p.memory.paths q.memory.paths at now inserts.paths;
   new = subst (λ then. IfSome q.memory.paths (λ c. IsNewFirst then at c.entries)) same (told_new p.memory.paths q.memory.paths at now inserts.paths);
-  rows = λ there w test told is links stands all.
-      let (row, here) = there w told is links in told_paths test p.memory.paths q.memory.paths at now inserts.paths (stands at row here) all;
+  next = λ dir first apart. told_next p.memory.paths q.memory.paths at now inserts.paths dir first apart;
+  rows = λ there w test told is stands linked all. told_paths test p.memory.paths q.memory.paths at now inserts.paths (holds_there p at w test told is there stands linked) all;
 }
 
 pub remembers_starved : (p q : Place) (at : Names) → q.ways ≡ p.ways → q.moment ≡ p.moment → q.memory ≡ p.memory → q.disk ≡ p.disk → Remembers p at (Err FsError.NoMemory) q
 remembers_starved p q at ways moment memory disk =
-    record { keeps = place_as p q ways moment memory disk; starved = refl; first = tt; new = tt; rows = λ there. rows_same p q (ap (λ (m : MemoryState). m.paths) memory) }
+    record { keeps = place_as p q ways moment memory disk; starved = refl; first = tt; new = tt; next = tt; rows = λ there. rows_same p q (ap (λ (m : MemoryState). m.paths) memory) }

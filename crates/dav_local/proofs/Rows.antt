@@ -366,6 +366,28 @@ nothing_below tree at name more row is none stands =
     never (list_any (is_alike true at name) tree)
     (any_of (is_alike true at name) tree d od (alike_is at name name d (front ∙ ap (take (length at + 1)) path ∙ front_at at name more) refl)) none
 
+-- Above what stands something stands.
+looks_above : (tree : List Row) (from at more : Names) (row : Row) → look_from tree from (at ++ more) ≡ Ok row → (d : Row) × (look_from tree from at ≡ Ok d)
+looks_above tree from [] [] row e = (row, e)
+looks_above tree from [] (name ∷ more) row e =
+    let (over, is, kind, on) = below_ok (row_at tree from) (look_from tree (from ++ name ∷ []) more) row e in (over, ap standing is)
+looks_above tree from (x ∷ at) more row e =
+    let (over, is, kind, on) = below_ok (row_at tree from) (look_from tree (from ++ x ∷ []) (at ++ more)) row e in
+    let (d, there) = looks_above tree (from ++ x ∷ []) at more row on in
+    (d, ap (λ o. below o (look_from tree (from ++ x ∷ []) at)) is ∙ ap (λ k. below_kind k (look_from tree (from ++ x ∷ []) at)) kind ∙ there)
+
+pub unlinked_above : (tree : List Row) (at more : Names) → is_linked tree (at ++ more) ≡ false → is_linked tree at ≡ false
+unlinked_above tree at more clear = by_link (is_linked tree at) refl
+  where
+    by_link : (b : Bool) → is_linked tree at ≡ b → is_linked tree at ≡ false
+    by_link true e = never (is_linked tree (at ++ more)) (linked_below tree at more e) clear
+    by_link false e = e
+
+-- What is above a clear place is clear.
+pub clear_above : (tree : List Row) (at more : Names) (row : Row) → look tree (at ++ more) ≡ Ok row → is_linked tree (at ++ more) ≡ false → IsClearAt tree at
+clear_above tree at more row stands clear =
+    let (d, there) = looks_above tree [] at more row stands in record { row = d; stands = there; clear = unlinked_above tree at more clear }
+
 -- ---- what stands and folds alike is where a loose walk ends
 
 -- A walk goes on from what stands and folds alike.

@@ -6,7 +6,7 @@ use Rattle.dav_io.specs.Counts.{RefusedNothing, Rose}
 use Rattle.dav_io.proofs.ToldLemmas.{told_after}
 use Rattle.dav_core.specs.declared.error.FsError.{FsError}
 use Rattle.dav_core.specs.declared.handle.DiskError.{DiskError}
-use Rattle.dav_core.specs.declared.handle.DiskError.TheVariants.{Failed}
+use Rattle.dav_core.specs.declared.handle.DiskError.TheVariants.{Failed, NoMemory as Starved}
 use Rattle.dav_core.specs.declared.handle.Handle.{Handle}
 use Rattle.dav_core.specs.declared.handle.Meta.{Meta}
 use Rattle.dav_core.specs.declared.handle.OpenOptions.{OpenOptions}
@@ -21,7 +21,7 @@ use Rattle.dav_core.specs.World.{IsWorld, World}
 use Rattle.dav_core.proofs.UnchangedLemmas.{keeps_same}
 use Rattle.dav_store.specs.Files.{AsksOnce}
 use Rattle.dav_store.specs.Frames.{OpensOne}
-use Rattle.dav_cache.specs.Calls.{LooksBy, Opening, Seeing}
+use Rattle.dav_cache.specs.Calls.{LacksMemory, LooksBy, Opening, Seeing}
 use Rattle.dav_cache.specs.Memory.{Gets, GetsBy, GetsOpen}
 use Rattle.dav_cache.specs.Trees.{same_path, fold_path as kept_path}
 use Rattle.dav_model.specs.Finding.{has_slash, is_localized, is_virtual}
@@ -31,7 +31,7 @@ use Rattle.dav_local.specs.declared.file.LocalFsFile.{LocalFsFile}
 use Rattle.dav_local.specs.Files.{filed}
 use Rattle.dav_local.specs.LocalFiles.{local_file}
 use Rattle.dav_local.specs.Places.{Place}
-use Rattle.dav_local.specs.Saving.{SavesAt, SavesLook, SeesOnce, is_judged}
+use Rattle.dav_local.specs.Saving.{AsksOneCall, OpensOnce, SavesAt, SavesLook, SavesOpening, SeesOnce, is_judged}
 use Rattle.dav_local.specs.Seeing.{AnswersSeen, FindsAlike, OpensAt, OpensThere}
 use Rattle.dav_local.specs.Walking.{Misses, RecallsBy, StandsAt, Walks}
 use Rattle.dav_local.specs.Ways.{is_known, rules_of}
@@ -42,7 +42,7 @@ use Rattle.dav_local.proofs.Found.{alike_ends, walk_whole, walks_after}
 use Rattle.dav_local.proofs.Keeping.{metas_keep}
 use Rattle.dav_local.proofs.Memories.{error_of, place_disk, rows_same}
 use Rattle.dav_local.proofs.Opened.{opened_one, unopened_keeps}
-use Rattle.dav_local.proofs.Recalling.{both_tell, got_first, got_held, got_rows, path_of, recalls_starved, same_folds}
+use Rattle.dav_local.proofs.Recalling.{both_tell, got_first, got_held, got_rows, opened_held, path_of, recalls_starved, same_folds}
 use Rattle.dav_local.proofs.Resolved.{resolves_walked}
 use Rattle.dav_local.proofs.Rows.{tree_parts}
 
@@ -127,13 +127,30 @@ opened_stands s path h t opens = λ w told is clear.
 pub recalls_opened : (p q : Place) (names : Names) (found : Option (Names × Handle)) → q.ways ≡ p.ways → q.moment ≡ p.moment → GetsOpen p.memory names p.disk found q.memory q.disk
     → RecallsBy Opening p names (Ok found) q × OpensThere p.disk (Ok found) q.disk
 recalls_opened p q names None ways moment gets =
-    let misses = got_misses Opening (λ s t path e opens. unopened_keeps s path e t opens) p q names ways moment gets in (misses, misses.keeps.keeps)
+    let misses = got_misses Opening (λ s t path e opens. unopened_keeps s path e t opens.0) p q names ways moment gets in (misses, misses.keeps.keeps)
 recalls_opened p q names (Some f) ways moment gets =
-    ((got_walks Opening p q names f ways moment gets (opened_stands p.disk f.0 f.1 q.disk gets.stood), gets.stood), opened_one p.disk f.0 f.1 q.disk gets.stood)
+    ((got_walks Opening p q names f ways moment gets (opened_stands p.disk f.0 f.1 q.disk gets.stood.0), gets.stood), opened_one p.disk f.0 f.1 q.disk gets.stood.0)
 
 pub recalls_nothing : (p q : Place) (names : Names) → q.ways ≡ p.ways → q.moment ≡ p.moment → q.memory ≡ p.memory → q.disk ≡ p.disk → Walks p names (Err FsError.NoMemory) q
 recalls_nothing p q names ways moment memory disk =
     let recalls = recalls_starved p q names ways moment memory disk in walk_starved p q names recalls.keeps recalls.rows
+
+-- Want of memory leaves the disk as it was, but for the count of its calls.
+pub lacking_keeps : (s t : DiskState) → LacksMemory s t → Keeps s t
+lacking_keeps s t (inl same) = subst (Keeps s) (sym same) (keeps_same s)
+lacking_keeps s t (inr (path, opens)) = unopened_keeps s path Starved t opens
+
+-- The disk was asked nothing, or one opening.
+pub lacking_once : (p q : Place) → LacksMemory p.disk q.disk → AsksOneCall {T = Option (Names × Handle)} p (Err FsError.NoMemory) q
+lacking_once p q (inl same) = inr (refl, same)
+lacking_once p q (inr (path, opens)) = inl opens.asks.asked
+
+pub opens_nothing : (p q : Place) (names : Names) → q.ways ≡ p.ways → q.moment ≡ p.moment → q.memory ≡ p.memory → LacksMemory p.disk q.disk → Walks p names (Err FsError.NoMemory) q
+opens_nothing p q names ways moment memory lacks =
+    let recalls = recalls_starved p (record q { disk = p.disk }) names ways moment memory refl in
+    walk_starved p q names
+    (record { ways = ways; keeps = lacking_keeps p.disk q.disk lacks; learns = recalls.keeps.learns; dots = recalls.keeps.dots; tells = recalls.keeps.tells; moment = moment; made = recalls.keeps.made })
+    recalls.rows
 
 -- ---- a call after a path was found by folding
 
@@ -242,7 +259,43 @@ look_starved p q names e sees = λ known nothing at held judged. inr (let (is, s
 
 -- The opening by which the path was found is the one that was asked for.
 pub open_found : (p m : Place) (names : Names) (f : Names × Handle) → RecallsBy Opening p names (Ok (Some f)) m → FindsAlike p names (OpensAt reading) (Ok (record { handle = f.1 })) m
-open_found p m names f (walks, opens) = (Ok f.0, record m { disk = p.disk }, walks, (Ok f.1, m.disk, opens, refl, refl))
+open_found p m names f (walks, opens) = (Ok f.0, record m { disk = p.disk }, walks, (Ok f.1, m.disk, opens.0, refl, refl))
+
+-- ---- what an opening saves
+
+pub opens_once : (p q : Place) (names : Names) (found : Option (Names × Handle)) → GetsOpen p.memory names p.disk found q.memory q.disk → OpensOnce p names (Ok found) q
+opens_once p q names found gets = record {
+  starved = tt;
+  saved = λ nothing at held. by_found at found (opened_held p names at found q.memory q.disk gets nothing held);
+}
+  where
+    by_found : (at : Names) (found : Option (Names × Handle)) → (path_of found ≡ Some at) × AsksOnce p.disk q.disk → (option_map (λ (f : Names × Handle). f.0) found ≡ Some at) × AsksOnce p.disk q.disk
+    by_found at None both = both
+    by_found at (Some f) both = both
+
+pub open_saved : (p q : Place) (names : Names) (found : Option (Names × Handle)) (r : Result LocalFsFile FsError) → OpensOnce p names (Ok found) q → SavesOpening p names r q
+open_saved p q names found r opens = λ known nothing at held. let (same, once) = opens.saved nothing at held in inl once
+
+pub open_unknown : (p m q : Place) (names : Names) (found : Option (Names × Handle)) (r : Result LocalFsFile FsError) → OpensOnce p names (Ok found) m → found ≡ None → p.disk.faults ≤ m.disk.faults
+    → m.disk.faults ≤ q.disk.faults → SavesOpening p names r q
+open_unknown p m q names found r opens is first then = λ known nothing at held.
+    let (same, once) = opens.saved (nothing_so_far p.disk m.disk q.disk nothing first then) at held in
+    let never : ◌≡◌ {A = Option Names} None (Some at) = sym (ap (option_map (λ (f : Names × Handle). f.0)) is) ∙ same in cc
+
+-- where nothing was found, nothing but faults may have been counted
+pub missed_counts : (s t : DiskState) (found : Option (Names × Handle)) → OpensThere s (Ok found) t → found ≡ None → s.faults ≤ t.faults
+missed_counts s t found opens is = let keeps : Keeps s t = subst (λ f. OpensThere s (Ok f) t) is opens in keeps.counts
+
+-- an opening takes no fault back
+pub opened_counts : (s t : DiskState) (r : Result LocalFsFile FsError) → OpensOne local_file reading s r t → s.faults ≤ t.faults
+opened_counts s t (Ok f) one = one.others.counts
+opened_counts s t (Err e) one = one.others.counts
+
+pub open_starved : (p q : Place) (names : Names) (e : FsError) → OpensOnce p names (Err e) q → SavesOpening p names (Err e) q
+open_starved p q names e opens = λ known nothing at held. elim opens.starved [
+  | inl once ↦ inl once
+  | inr starved ↦ inr (let (is, same) = starved in (ap (λ x. Err x) (error_of e is), same))
+]
 
 -- ---- by what the steps answer
 

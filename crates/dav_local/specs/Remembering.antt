@@ -1,6 +1,5 @@
 -- What a local store saves by the cache of paths in its memory, and what it keeps there, where the memory tells it.
-use Rattle.std.specs.Prelude.{◌≡◌, ◌⊎◌, List, [], ◌∷◌, Bool, true, false, None, Some, IfSome, Result, Ok, Err, IfOk}
-use Rattle.std.specs.List.{list_any}
+use Rattle.std.specs.Prelude.{◌≡◌, ◌≢◌, ◌⊎◌, ◌<◌, ◌++◌, ℕ, List, [], ◌∷◌, Bool, true, false, None, Some, IfSome, Result, Ok, Err, IfOk}
 use Rattle.std.specs.Map.{lookup}
 use Rattle.dav_io.specs.Counts.{RefusedNothing}
 use Rattle.dav_io.specs.declared.clock.Moment.{Moment}
@@ -9,7 +8,7 @@ use Rattle.dav_core.specs.declared.error.FsError.TheVariants.{NoMemory}
 use Rattle.dav_core.specs.declared.handle.DiskError.{DiskError}
 use Rattle.dav_core.specs.declared.tree.Row.{Row}
 use Rattle.dav_core.specs.Path.{Names}
-use Rattle.dav_core.specs.Tree.{is_link, is_linked, look}
+use Rattle.dav_core.specs.Tree.{is_linked, look}
 use Rattle.dav_core.specs.World.{World}
 use Rattle.dav_store.specs.Files.{AsksOnce}
 use Rattle.dav_cache.specs.declared.cache.PathEntry.{PathEntry}
@@ -46,19 +45,15 @@ SavesCalls p names result q = RefusedNothing p.disk.faults q.disk.faults → (at
 abbrev pub SavesWork : Place → Names → Result Names FsError → Place → Type 0
 SavesWork p names result q = p.ways.folds ≡ true → p.ways.alone ≡ None → SavesCalls p names result q
 
--- a link stands in the tree
-abbrev pub has_link : List Row → Bool
-has_link tree = list_any (λ row. is_link row.kind) tree
-
--- In a tree without links no row stands at the path as it is asked, and one stands at this place.
+-- No row stands at the path as it is asked, and one stands at this place, with no link on the way or at it.
 pub record StandsElsewhere (p : Place) (names at : Names) : Type 0 where
   pub world : World
   pub told : p.disk.told ≡ Some world
-  pub links : has_link world.tree ≡ false
   pub error : DiskError
   pub missing : look world.tree names ≡ Err error
   pub row : Row
   pub stands : look world.tree at ≡ Ok row
+  pub clear : is_linked world.tree at ≡ false
 
 -- The first entry has the folded path and this place.
 abbrev pub IsFirst : Names → Names → Paths → Type 0
@@ -84,6 +79,40 @@ KeepsWork p names result q = p.ways.folds ≡ true → p.ways.alone ≡ None →
     → IfOk result (λ at. StandsElsewhere p names at
     → (d : PathCache) × (q.memory.paths ≡ Some d) × IsFirst names at d.entries)
 
+-- The directory's entry is the first, or the second behind that of the path in it.
+abbrev pub IsNext : Names → Names → Paths → Type 0
+IsNext dir names [] = ⊥
+IsNext dir names (e ∷ es) = IsFirst dir dir (e ∷ es) ⊎ ((e.0 ≡ fold_path names) × IsFirst dir dir es)
+
+-- the same, where the memory tells its cache and it has room for both
+abbrev pub HasNext : Names → Names → MemoryState → Type 0
+HasNext dir names memory = IfSome memory.paths (λ c. 1 < c.size → IsNext dir names c.entries)
+
+-- No row stands at the path as it is asked. The place has a directory above it that isn't the root, and that stands. No
+-- link is met on either way.
+pub record IsFoundIn (p : Place) (names at dir : Names) : Type 0 where
+  pub world : World
+  pub told : p.disk.told ≡ Some world
+  pub error : DiskError
+  pub missing : look world.tree names ≡ Err error
+  pub way : is_linked world.tree names ≡ false
+  pub name : List ℕ
+  pub place : at ≡ dir ++ name ∷ []
+  pub deep : dir ≢ []
+  pub row : Row
+  pub stands : look world.tree dir ≡ Ok row
+  pub clear : is_linked world.tree dir ≡ false
+
+-- The memory had the path at another place, or not at all.
+abbrev pub IsUnheld : MemoryState → Names → Names → Type 0
+IsUnheld memory names at = IfSome memory.paths (λ c. (e : PathEntry)
+    → lookup (same_path (fold_path names)) c.entries ≡ Some e → e.path ≢ at)
+
+-- The directory above a path that the memory hadn't is remembered before the path itself.
+abbrev pub KeepsAbove : Place → Names → Result Names FsError → Place → Type 0
+KeepsAbove p names result q = p.ways.folds ≡ true → p.ways.alone ≡ None
+    → IfOk result (λ at. (dir : Names) → IsFoundIn p names at dir → IsUnheld p.memory names at → HasNext dir names q.memory)
+
 -- The test holds of each path in the cache.
 abbrev pub AllPaths : (Names → Bool) → Paths → Type 0
 AllPaths test [] = Unit {0}
@@ -93,9 +122,10 @@ AllPaths test (e ∷ es) = (test e.1.path ≡ true) × AllPaths test es
 abbrev pub AllRemembered : (Names → Bool) → MemoryState → Type 0
 AllRemembered test memory = IfSome memory.paths (λ c. AllPaths test c.entries)
 
--- In a tree without links only what stands is remembered anew: what holds of each path at which a row stands, and held
--- of each path remembered before, holds of each that is remembered.
+-- Only what stands, or where a link is met, is remembered anew: what holds of each path at which a row stands, of each
+-- on the way to which or at which a link stands, and of each path remembered before, holds of each that is remembered.
 abbrev pub RemembersRows : Place → Place → Type 0
-RemembersRows p q = (w : World) (test : Names → Bool) → p.disk.told ≡ Some w → has_link w.tree ≡ false
+RemembersRows p q = (w : World) (test : Names → Bool) → p.disk.told ≡ Some w
     → ((path : Names) (row : Row) → look w.tree path ≡ Ok row → test path ≡ true)
+    → ((path : Names) → is_linked w.tree path ≡ true → test path ≡ true)
     → AllRemembered test p.memory → AllRemembered test q.memory

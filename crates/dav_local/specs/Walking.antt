@@ -1,5 +1,5 @@
 -- The steps of a walk that finds names by folding, over any disk.
-use Rattle.std.specs.Prelude.{◌≡◌, Bool, ℕ, List, [], ◌∷◌, ◌++◌, true, false, Option, None, Some, IfSome, IsSome, Result, Ok, Err, IfOk, OnErr, ◌⊎◌, OnOk}
+use Rattle.std.specs.Prelude.{◌≡◌, ◌≢◌, Bool, ℕ, List, [], ◌∷◌, ◌++◌, true, false, Option, None, Some, IfSome, IsSome, Result, Ok, Err, IfOk, OnErr, ◌⊎◌, OnOk}
 use Rattle.std.specs.List.{list_any}
 use Rattle.std.specs.Option.{is_some}
 use Rattle.std.specs.Str.{bytes_eq}
@@ -21,7 +21,7 @@ use Rattle.dav_model.specs.Finding.{IsLoose, IsOf, is_alike}
 use Rattle.dav_model.specs.Folds.{Name, fold_name, fold_path}
 use Rattle.dav_local.specs.Made.{MadeAt}
 use Rattle.dav_local.specs.Places.{Place}
-use Rattle.dav_local.specs.Remembering.{AllRemembered, HasFirst, HasNewFirst, IsRemembered, StandsElsewhere, has_link}
+use Rattle.dav_local.specs.Remembering.{AllRemembered, HasFirst, HasNewFirst, HasNext, IsFoundIn, IsRemembered, IsUnheld, StandsElsewhere}
 
 -- A listing was begun, or nothing changed.
 abbrev pub BeginsOne : DiskState → Result Lister DiskError → DiskState → Type 0
@@ -107,13 +107,9 @@ StandsAt s at = (w : World) → s.told ≡ Some w → is_tree w.tree ≡ true �
 -- what `RemembersRows` says, of trees
 abbrev pub RemembersIn : Place → Place → Type 0
 RemembersIn p q = (w : World) (test : Names → Bool) → p.disk.told ≡ Some w → is_tree w.tree ≡ true
-    → has_link w.tree ≡ false → ((path : Names) (row : Row) → look w.tree path ≡ Ok row → test path ≡ true)
+    → ((path : Names) (row : Row) → look w.tree path ≡ Ok row → test path ≡ true)
+    → ((path : Names) → is_linked w.tree path ≡ true → test path ≡ true)
     → AllRemembered test p.memory → AllRemembered test q.memory
-
--- A row stands there, in a tree without links.
-abbrev pub StandsIn : DiskState → Names → Type 0
-StandsIn s at = (w : World) → s.told ≡ Some w → is_tree w.tree ≡ true → has_link w.tree ≡ false
-    → (row : Row) × (look w.tree at ≡ Ok row)
 
 -- The memory is asked where a path was found. What it has is the first entry of its cache then.
 pub record Recalls (p : Place) (names : Names) (result : Result (Option Names) FsError) (q : Place) : Type 0 where
@@ -122,6 +118,9 @@ pub record Recalls (p : Place) (names : Names) (result : Result (Option Names) F
   pub alike : IfOk result (λ found. IfSome found (λ at. fold_path at ≡ fold_path names))
   pub stood : IfOk result (λ found. IfSome found (λ at. StandsAt p.disk at))
   pub first : IfOk result (λ found. IfSome found (λ at. HasFirst names at q.memory))
+  -- what it had elsewhere isn't found so
+  pub had : IfOk result (λ found. IfSome found (λ at. IsUnheld p.memory names at → (dir : Names)
+      → HasNext dir names q.memory))
   pub rows : RemembersIn p q
   pub saved : IfOk result (λ found. RefusedNothing p.disk.faults q.disk.faults → (at : Names) → IsRemembered p names at
       → (found ≡ Some at) × AsksOnce p.disk q.disk)
@@ -132,7 +131,10 @@ pub record Remembers (p : Place) (at : Names) (result : Result Unit FsError) (q 
   pub starved : OnErr result (result ≡ Err NoMemory)
   pub first : OnOk result (HasFirst at at q.memory)
   pub new : OnOk result (HasNewFirst p.moment at q.memory)
-  pub rows : StandsIn p.disk at → RemembersIn p q
+  -- what came first is next, where it is another path
+  pub next : OnOk result ((dir : Names) → HasFirst dir dir p.memory → fold_path at ≢ fold_path dir
+      → HasNext dir at q.memory)
+  pub rows : StandsAt p.disk at → RemembersIn p q
 
 -- A step of a walk, as above.
 pub record StepsOn (p : Place) (at : Names) (name : Name) (result : Result (Option Names) FsError) (q : Place)
@@ -142,7 +144,7 @@ pub record StepsOn (p : Place) (at : Names) (name : Name) (result : Result (Opti
   pub alike : IfOk result (λ found. IfSome found (λ next. IsAlikeIn at name next))
   pub told : IfOk result (λ found. (w : World) → p.disk.told ≡ Some w → is_tree w.tree ≡ true → IsClearAt w.tree at
       → StepsTo w.tree at name found)
-  pub rows : StandsIn p.disk at → RemembersIn p q
+  pub rows : StandsAt p.disk at → RemembersIn p q
 
 -- A directory is found for a path: what stands there folds alike, and is remembered first, unless it is the root.
 pub record FindsParent (p : Place) (dir : Names) (result : Result (Option Names) FsError) (q : Place) : Type 0 where
@@ -166,7 +168,7 @@ pub record TakesMember (p : Place) (dir : Names) (name : Name) (result : Result 
   pub alike : IfOk result (λ at. IsAlikeIn dir name at)
   pub told : IfOk result (λ at. (w : World) → p.disk.told ≡ Some w → is_tree w.tree ≡ true → IsClearAt w.tree dir
       → TakesIn w.tree dir name at q.memory)
-  pub rows : StandsIn p.disk dir → RemembersIn p q
+  pub rows : StandsAt p.disk dir → RemembersIn p q
 
 -- A walk came to a place with these names to go: however it goes on from there, it does so from the root. Or it came
 -- behind a link, where nothing is said.
@@ -178,6 +180,16 @@ Comes tree names at rest = (IsClearAt tree at
 -- a loose walk ends at this place, or behind a link
 abbrev pub EndsAt : List Row → Names → Names → Type 0
 EndsAt tree names at = (end : Names) × IsLoose true tree [] names end × (is_linked tree end ≡ false → at ≡ end)
+
+-- The directory above the place is remembered before it.
+abbrev pub BringsAbove : Place → Names → Result Names FsError → Place → Type 0
+BringsAbove p names result q = IfOk result (λ at. (dir : Names) (e : IsFoundIn p names at dir)
+    → is_tree e.world.tree ≡ true → HasNext dir names q.memory)
+
+-- It is so of a path that the memory hadn't.
+abbrev pub BringsUnheld : Place → Names → Result Names FsError → Place → Type 0
+BringsUnheld p names result q = IfOk result (λ at. (dir : Names) (e : IsFoundIn p names at dir)
+    → is_tree e.world.tree ≡ true → IsUnheld p.memory names at → HasNext dir names q.memory)
 
 -- A path is found by folding. What stands elsewhere than it is asked is remembered.
 pub record Walks (p : Place) (names : Names) (result : Result Names FsError) (q : Place) : Type 0 where

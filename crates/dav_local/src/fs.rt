@@ -16,7 +16,7 @@ ghost use Rattle.dav_local.specs.Calls.{Looks, LooksAt, MakesDefaults, MakesOne,
 ghost use Rattle.dav_local.specs.contracts.fs.LocalFs.{the_row};
 ghost use Rattle.dav_local.specs.Files.{local_info};
 ghost use Rattle.dav_local.specs.Places.{Stays, place_of};
-ghost use Rattle.dav_local.specs.Remembering.{KeepsWork, RemembersRows, SavesWork};
+ghost use Rattle.dav_local.specs.Remembering.{KeepsAbove, KeepsWork, RemembersRows, SavesWork};
 ghost use Rattle.dav_local.specs.Saving.{SavesLook};
 ghost use Rattle.dav_local.specs.Resolving.{Resolves};
 ghost use Rattle.dav_local.specs.Ways.{resolved_by, rules_of};
@@ -129,7 +129,8 @@ impl<D: Disk, R: Remember> LocalFs<D, R> {
     /// asked then. With folding it is what the memory has, where something stands there; or the path where it stands;
     /// or the member that folds alike of the directory above, which is found likewise; or else what a walk from the
     /// root finds, which at each directory takes the name as it stands or one that folds alike. What isn't there is
-    /// appended as it is asked. What is found elsewhere than it is asked is remembered.
+    /// appended as it is asked. What is found elsewhere than it is asked is remembered, and before it the directory above
+    /// it.
     ///
     /// Errors: `GeneralFailure` where the disk met a fault, and want of memory.
     pub fn resolve(&mut self, path: &DavPath) -> Result<FsPath, FsError>
@@ -138,6 +139,8 @@ impl<D: Disk, R: Remember> LocalFs<D, R> {
         ensures saved { SavesWork (place_of D.state R.state self.old) path.now.names result
             (place_of D.state R.state self.new) }
         ensures kept { KeepsWork (place_of D.state R.state self.old) path.now.names result
+            (place_of D.state R.state self.new) }
+        ensures above { KeepsAbove (place_of D.state R.state self.old) path.now.names result
             (place_of D.state R.state self.new) }
         ensures rows { RemembersRows (place_of D.state R.state self.old) (place_of D.state R.state self.new) }
         ensures exactly { IfOk result (λ at. (w : World) → (D.state self.old.disk).told ≡ Some w

@@ -10,7 +10,7 @@ ghost use Rattle.dav_local.specs.Calls.{LooksAt};
 ghost use Rattle.dav_local.specs.Files.{local_info};
 ghost use Rattle.dav_local.specs.LocalFiles.{local_file};
 ghost use Rattle.dav_local.specs.Places.{Stays, place_of};
-ghost use Rattle.dav_local.specs.Saving.{SavesAt, SeesOnce};
+ghost use Rattle.dav_local.specs.Saving.{OpensOnce, SavesAt, SavesOpening, SeesOnce};
 ghost use Rattle.dav_local.specs.Seeing.{AnswersSeen, FindsAlike, OpensAt, OpensThere};
 ghost use Rattle.dav_local.specs.Walking.{RecallsBy};
 
@@ -113,6 +113,8 @@ impl<D: Disk, R: Remember> LocalFs<D, R> {
     pub(crate) fn open_alike(&mut self, path: &FsPath) -> Result<LocalFsFile, FsError>
         ensures done { FindsAlike (place_of D.state R.state self.old) path.now (OpensAt reading) result
             (place_of D.state R.state self.new) }
+        ensures saved { SavesOpening (place_of D.state R.state self.old) path.now result
+            (place_of D.state R.state self.new) }
         ensures one { OpensOne local_file reading (D.state self.old.disk) result
             (D.state self.new.disk) }
         ensures stays { Stays self.old self.new }
@@ -128,6 +130,8 @@ impl<D: Disk, R: Remember> LocalFs<D, R> {
     // Opens for reading what stands where the memory has a path, if something does.
     fn recall_open(&mut self, path: &FsPath) -> Result<Option<(FsPath, Handle)>, FsError>
         ensures done { RecallsBy Opening (place_of D.state R.state self.old) path.now result
+            (place_of D.state R.state self.new) }
+        ensures once { OpensOnce (place_of D.state R.state self.old) path.now result
             (place_of D.state R.state self.new) }
         ensures one { OpensThere (D.state self.old.disk) result (D.state self.new.disk) }
         ensures stays { Stays self.old self.new }

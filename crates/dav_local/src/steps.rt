@@ -2,13 +2,13 @@
 // path and the disk what stands there as it is asked; then likewise for the directory above it, of which the members
 // are listed; and without that directory it is walked from the root. What is found elsewhere than it is asked is
 // remembered.
-ghost use Rattle.std.specs.Prelude.{◌≡◌, OnOk, Result, true};
+ghost use Rattle.std.specs.Prelude.{◌≡◌, IfOk, OnOk, Result, true};
 ghost use Rattle.dav_core.specs.declared.error.FsError.{FsError};
 ghost use Rattle.dav_core.specs.Path.{Names, is_plain};
 ghost use Rattle.dav_local.specs.Places.{Stays, place_of};
-ghost use Rattle.dav_local.specs.Remembering.{HasFirst, KeepsWork, RemembersRows, SavesCalls, SavesWork};
+ghost use Rattle.dav_local.specs.Remembering.{HasFirst, HasNext, KeepsAbove, KeepsWork, RemembersRows, SavesCalls, SavesWork};
 ghost use Rattle.dav_local.specs.Resolving.{Resolves, StandsFor, found_at};
-ghost use Rattle.dav_local.specs.Walking.{FindsParent, Recalls, Remembers, StepsOn, TakesMember, Walks};
+ghost use Rattle.dav_local.specs.Walking.{BringsAbove, BringsUnheld, FindsParent, Recalls, Remembers, StepsOn, TakesMember, Walks};
 
 use crate::LocalFs;
 use crate::lists::look;
@@ -27,6 +27,8 @@ impl<D: Disk, R: Remember> LocalFs<D, R> {
         ensures kept { KeepsWork (place_of D.state R.state self.old) path.now (found_at path.now result)
             (place_of D.state R.state self.new) }
         ensures rows { RemembersRows (place_of D.state R.state self.old) (place_of D.state R.state self.new) }
+        ensures above { KeepsAbove (place_of D.state R.state self.old) path.now (found_at path.now result)
+            (place_of D.state R.state self.new) }
         ensures stays { Stays self.old self.new }
         ensures loan { D.loan self.new.disk ≡ D.loan self.old.disk }
     {
@@ -45,6 +47,8 @@ impl<D: Disk, R: Remember> LocalFs<D, R> {
             (place_of D.state R.state self.new) }
         ensures saved { (r : Result Names FsError) → StandsFor path.now result r
             → SavesCalls (place_of D.state R.state self.old) path.now r (place_of D.state R.state self.new) }
+        ensures above { BringsUnheld (place_of D.state R.state self.old) path.now (found_at path.now result)
+            (place_of D.state R.state self.new) }
         ensures stays { Stays self.old self.new }
         ensures loan { D.loan self.new.disk ≡ D.loan self.old.disk }
     {
@@ -58,6 +62,8 @@ impl<D: Disk, R: Remember> LocalFs<D, R> {
     // Finds a path that the memory hasn't.
     pub(crate) fn find_on_disk(&mut self, path: &FsPath) -> Result<Option<FsPath>, FsError>
         ensures done { Walks (place_of D.state R.state self.old) path.now (found_at path.now result)
+            (place_of D.state R.state self.new) }
+        ensures above { BringsAbove (place_of D.state R.state self.old) path.now (found_at path.now result)
             (place_of D.state R.state self.new) }
         ensures stays { Stays self.old self.new }
         ensures loan { D.loan self.new.disk ≡ D.loan self.old.disk }
@@ -73,6 +79,8 @@ impl<D: Disk, R: Remember> LocalFs<D, R> {
     // where it is.
     pub(crate) fn find_elsewhere(&mut self, path: &FsPath) -> Result<FsPath, FsError>
         ensures done { Walks (place_of D.state R.state self.old) path.now result (place_of D.state R.state self.new) }
+        ensures above { BringsAbove (place_of D.state R.state self.old) path.now result
+            (place_of D.state R.state self.new) }
         ensures stays { Stays self.old self.new }
         ensures loan { D.loan self.new.disk ≡ D.loan self.old.disk }
     {
@@ -127,6 +135,8 @@ impl<D: Disk, R: Remember> LocalFs<D, R> {
         requires { is_plain name.now ≡ true }
         ensures done { TakesMember (place_of D.state R.state self.old) dir.now name.now result
             (place_of D.state R.state self.new) }
+        ensures above { HasFirst dir.now dir.now (R.state self.old.memory)
+            → IfOk result (λ at. HasNext dir.now at (R.state self.new.memory)) }
         ensures stays { Stays self.old self.new }
         ensures loan { D.loan self.new.disk ≡ D.loan self.old.disk }
     {
@@ -147,6 +157,8 @@ impl<D: Disk, R: Remember> LocalFs<D, R> {
     // before its last name.
     fn walk(&mut self, path: &FsPath) -> Result<FsPath, FsError>
         ensures done { Walks (place_of D.state R.state self.old) path.now result (place_of D.state R.state self.new) }
+        ensures above { BringsAbove (place_of D.state R.state self.old) path.now result
+            (place_of D.state R.state self.new) }
         ensures stays { Stays self.old self.new }
         ensures loan { D.loan self.new.disk ≡ D.loan self.old.disk }
     {

@@ -5,7 +5,7 @@ ghost use Rattle.dav_local.specs.Gathering.{GivesNext, dir_to_come};
 ghost use Rattle.dav_local.specs.Entries.{Says};
 ghost use Rattle.dav_local.specs.LocalFiles.{local_file};
 ghost use Rattle.dav_local.specs.Places.{Stays, place_of};
-ghost use Rattle.dav_local.specs.Saving.{SavesLook};
+ghost use Rattle.dav_local.specs.Saving.{SavesLook, SavesOpen};
 
 use crate::acts::{copy_at, make_at, move_at, open_at, take_dir_at, take_file_at};
 use crate::gathering::{begin_dir, next_in};
@@ -50,7 +50,8 @@ impl<D: Disk, R: Remember> DavFileSystem for LocalFs<D, R> {
       looks_at_link = λ s _ path result t. Looks false (place_of D.state R.state s) path result
           (place_of D.state R.state t) × Stays s t;
       opens = λ s _ path how result t. IsOpening (place_of D.state R.state s) path how result
-          (place_of D.state R.state t) × Stays s t;
+          (place_of D.state R.state t) × Stays s t × SavesOpen (place_of D.state R.state s) path how result
+          (place_of D.state R.state t);
       makes_dir = λ s _ path result t. AsksToMake (place_of D.state R.state s) path result
           (place_of D.state R.state t) × Stays s t;
       removes_dir = λ s _ path result t. AsksToTakeDir (place_of D.state R.state s) path result

@@ -17,7 +17,7 @@ use Rattle.dav_local.specs.declared.file.LocalFsFile.{LocalFsFile}
 use Rattle.dav_local.specs.Calls.{AsksToCopy, AsksToMake, AsksToMove, AsksToTakeDir, AsksToTakeFile, BeginsAt, Finds, IsOpening, Looks, Place}
 use Rattle.dav_local.specs.Entries.{Says}
 use Rattle.dav_local.specs.Files.{seen_by}
-use Rattle.dav_local.specs.Saving.{SavesLook}
+use Rattle.dav_local.specs.Saving.{SavesLook, SavesOpen}
 use Rattle.dav_local.specs.declared.gathering.LocalFsReadDir.{LocalFsReadDir}
 use Rattle.dav_local.specs.Gathering.{GivesNext}
 use Rattle.dav_local.specs.declared.ways.Ways.{Ways}
@@ -46,6 +46,8 @@ module _ {S C : Type 0} (view : View S C LocalFsFile) (lists : Listings S C Loca
         → view.looks_at_link s c path r t → Looks false (place s) path r (place t) × (ways t ≡ ways s) × (moment t ≡ moment s)
     pub opens : (s t : S) (c : C) (path : WebPath) (how : OpenOptions) (r : Result LocalFsFile FsError)
         → view.opens s c path how r t → IsOpening (place s) path how r (place t) × (ways t ≡ ways s) × (moment t ≡ moment s)
+    pub opens_once : (s t : S) (c : C) (path : WebPath) (how : OpenOptions) (r : Result LocalFsFile FsError)
+        → view.opens s c path how r t → SavesOpen (place s) path how r (place t)
     pub handle : (f : LocalFsFile) → view.file.handle f ≡ f.handle.0
     pub seen : view.file.seen ≡ seen_by
     -- each move and each read of a file asks its disk one call

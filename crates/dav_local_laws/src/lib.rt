@@ -10,7 +10,7 @@ ghost use Rattle.dav_core.specs.DavPath.{last_name};
 ghost use Rattle.dav_core.specs.Info.{Info};
 ghost use Rattle.dav_core.specs.Listing.{or_empty};
 ghost use Rattle.dav_cache.specs.Builder.{BuilderState, may_settle};
-ghost use Rattle.dav_local.specs.Calls.{place_of};
+ghost use Rattle.dav_local.specs.Calls.{is_shut, place_of};
 ghost use Rattle.dav_local.specs.declared.gathering.LocalFsReadDir.{LocalFsReadDir};
 ghost use Rattle.dav_model.specs.Folds.{dir_time, is_dot};
 ghost use Rattle.dav_store.specs.Members.{Answered, Walked};
@@ -19,6 +19,7 @@ ghost use Rattle.dav_cache.specs.Memory.{LearnsNothing};
 ghost use Rattle.dav_core.specs.DavPath.{WebPath};
 ghost use Rattle.dav_core.specs.Path.{Names};
 ghost use Rattle.dav_core.specs.Tree.{is_linked};
+ghost use Rattle.dav_core.specs.Writing.{reading};
 ghost use Rattle.dav_core.specs.World.{World};
 ghost use Rattle.dav_get.specs.Calls.{AsksByOne};
 ghost use Rattle.dav_get.specs.Heard.{Heard};
@@ -149,6 +150,20 @@ pub fn remembered_paths_cost_one_look<D: Disk, R: Remember>(_fs: &LocalFs<D, R>,
         → is_virtual (rules_of _fs.now.ways) _path.now ≡ false
         → RefusedNothing (D.state _fs.now.disk).faults (D.state t.disk).faults
         → IsRemembered (place_of D.state R.state _fs.now) _path.now.names at → is_judged _fs.now.ways at ≡ false
+        → AsksOneCall (place_of D.state R.state _fs.now) result (place_of D.state R.state t) }
+{
+    calls_are_local(_fs)
+}
+
+/// An opening for reading at a path that is remembered, where names fold, costs the one call of the disk by which it is
+/// found, where the disk refuses nothing but for want of memory, and unless memory was wanting before it. What the rules
+/// shut costs none.
+pub fn remembered_paths_cost_one_opening<D: Disk, R: Remember>(_fs: &LocalFs<D, R>, _path: &DavPath)
+    ensures { (at : Names) (result : Result LocalFsFile FsError) (t : LocalFs D R)
+        → ⟦<LocalFs<D, R> as DavFileSystem>⟧.view.opens _fs.now tt _path.now reading result t
+        → _fs.now.ways.folds ≡ true → _fs.now.ways.alone ≡ None → is_shut _fs.now.ways _path.now ≡ false
+        → RefusedNothing (D.state _fs.now.disk).faults (D.state t.disk).faults
+        → IsRemembered (place_of D.state R.state _fs.now) _path.now.names at
         → AsksOneCall (place_of D.state R.state _fs.now) result (place_of D.state R.state t) }
 {
     calls_are_local(_fs)

@@ -1,5 +1,5 @@
 ghost use Rattle.std.specs.Prelude.{◌≡◌, ◌<◌, IfOk, IfSome, IsTrue, OnErr, None, true};
-ghost use Rattle.dav_cache.specs.Calls.{Opening, Seeing, has_time as the_has_time};
+ghost use Rattle.dav_cache.specs.Calls.{LacksMemory, Opening, Seeing, has_time as the_has_time};
 ghost use Rattle.dav_cache.specs.Entries.{are_sealable, name_key as the_name_key};
 ghost use Rattle.dav_cache.specs.Memory.{GetsBy, Negates};
 ghost use Rattle.dav_cache.specs.Trees.{Name, fold_path};
@@ -9,7 +9,7 @@ ghost use Rattle.dav_shared.specs.Waits.{waiting};
 use crate::Book;
 use crate::booked::BookedDots;
 use crate::waiting::Waiting;
-use dav_cache::{Cache, DuKey, FoldedPath, Sealed, dir_key, name_key};
+use dav_cache::{Cache, DuKey, FoldedPath, Sealed, dir_key, is_starved, name_key};
 use dav_core::{Disk, DiskError, FileTime, FsPath, Handle, Kind, Meta, OpenOptions};
 use dav_io::{Moment, NoMemory, Text};
 use std::alloc::Global;
@@ -114,7 +114,8 @@ impl<B: Book> SharedCache<B> {
         }
     }
 
-    /// Looks a path up, and opens for reading what stands where it was found.
+    /// Looks a path up, and opens for reading what stands where it was found. Where the disk refuses that for want of
+    /// memory, the path stays remembered.
     pub fn get_open<W: Wait, D: Disk>(
         &self,
         rt: &W,
@@ -123,13 +124,17 @@ impl<B: Book> SharedCache<B> {
     ) -> Result<Option<(FsPath, Handle)>, NoMemory>
         ensures done { IfOk result (λ found. GetsBy Opening (kept_by (B.names self.now.folder) None) path.now
             (D.state disk.old) found (kept_by (B.names self.now.folder) None) (D.state disk.new)) }
-        ensures unasked { OnErr result (D.state disk.new ≡ D.state disk.old) }
+        ensures starved { OnErr result (LacksMemory (D.state disk.old) (D.state disk.new)) }
         ensures loan { D.loan disk.new ≡ D.loan disk.old }
     {
         let Some((key, place)) = self.recall(rt, path)? else {
             return Ok(None);
         };
-        match disk.open(&place, OpenOptions::read(), false) {
+        let answer = disk.open(&place, OpenOptions::read(), false);
+        if is_starved(&answer) {
+            return Err(NoMemory);
+        }
+        match answer {
             Ok(handle) => Ok(Some((place, handle))),
             Err(_) => {
                 self.forget(rt, &key);

@@ -9,6 +9,7 @@ returns g c = record {
   looks = λ s t c path r h. (h.0, h.1.0, h.1.2, h.2);
   looks_at_link = λ s t c path r h. (h.0, h.1.0, h.1.2);
   opens = λ s t c path how r h. (h.0, h.1.0, h.1.2);
+  opens_once = λ s t c path how r h. h.2;
   handle = λ f. refl;
   seen = refl;
   once = tt;

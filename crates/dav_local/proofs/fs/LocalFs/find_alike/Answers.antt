@@ -1,4 +1,6 @@
-use Rattle.dav_local.proofs.Found.{saves_recalled, saves_starved, saves_unknown, walks_recalled, walks_unknown}
+use Rattle.dav_local.specs.Places.{place_of}
+use Rattle.dav_local.specs.Resolving.{found_at}
+use Rattle.dav_local.proofs.Found.{unheld_recalled, unheld_unknown, saves_recalled, saves_starved, saves_unknown, walks_recalled, walks_unknown}
 use Rattle.dav_local.proofs.fs.LocalFs.find_alike.Goals as goal
 
 pub returns-in-Ok-Some-clause-done : goal.returns-in-Ok-Some-clause-done
@@ -15,3 +17,9 @@ returns-in-Ok-None-clause-saved g c = λ r stands. saves_unknown _ _ _ _ c.in-Ok
 
 pub returns-in-Err-clause-saved : goal.returns-in-Err-clause-saved
 returns-in-Err-clause-saved g c = λ r stands. saves_starved _ _ _ c.in-Err.error r c.in-Err.ensures.done stands
+
+pub returns-in-Ok-Some-clause-above : goal.returns-in-Ok-Some-clause-above
+returns-in-Ok-Some-clause-above g c = unheld_recalled (place_of g.D.Disk.state g.R.Remember.state c.args.self.now) (place_of g.D.Disk.state g.R.Remember.state c.recall.new.self) c.args.path.now _ c.in-Ok-Some.field-0 c.in-Ok-Some.ensures.done c.in-Ok-Some.field-0-is
+
+pub returns-in-Ok-None-clause-above : goal.returns-in-Ok-None-clause-above
+returns-in-Ok-None-clause-above g c = unheld_unknown (place_of g.D.Disk.state g.R.Remember.state c.args.self.now) (place_of g.D.Disk.state g.R.Remember.state c.recall.new.self) (place_of g.D.Disk.state g.R.Remember.state c.find_on_disk.new.self) c.args.path.now c.in-Ok-None.field-0 (found_at c.args.path.now c.find_on_disk.result) c.in-Ok-None.ensures.done c.find_on_disk.ensures.above

@@ -1,6 +1,7 @@
-use Rattle.std.proofs.Common.{Err}
+use Rattle.std.proofs.Common.{Err, Ok}
 use Rattle.std.proofs.lemmas.Result.{err_from_is_err_and}
-use Rattle.dav_local.proofs.Found.{walk_whole, walks_missing}
+use Rattle.dav_local.specs.Places.{place_of}
+use Rattle.dav_local.proofs.Found.{missing_above, walk_whole, walks_missing, whole_above}
 use Rattle.dav_local.proofs.fs.LocalFs.find_on_disk.Goals as goal
 
 pub returns-in-Ok-clause-done : goal.returns-in-Ok-clause-done
@@ -13,3 +14,9 @@ pub returns-in_err-find_elsewhere-in-Err-clause-done : goal.returns-in_err-find_
 returns-in_err-find_elsewhere-in-Err-clause-done g c =
     let p = err_from_is_err_and c.from_residual.result c.from_residual.ensures.1 in
     rw (p.1, p.2) (walks_missing _ _ _ _ (Err c.in_err-find_elsewhere-in-Err.field-0.0) c.look.ensures.keeps c.in_err-find_elsewhere-in-Err.ensures.done)
+
+pub returns-in-Ok-clause-above : goal.returns-in-Ok-clause-above
+returns-in-Ok-clause-above g c = whole_above (place_of g.D.Disk.state g.R.Remember.state c.args.self.now) (place_of g.D.Disk.state g.R.Remember.state (record c.args.self.now { disk = c.look.new.disk })) _ _ c.in-Ok.field-0 c.in-Ok.ensures.done
+
+pub returns-in_ok-find_elsewhere-in-Err-clause-above : goal.returns-in_ok-find_elsewhere-in-Err-clause-above
+returns-in_ok-find_elsewhere-in-Err-clause-above g c = missing_above (place_of g.D.Disk.state g.R.Remember.state c.args.self.now) (place_of g.D.Disk.state g.R.Remember.state c.find_elsewhere.new.self) _ c.args.path.now (Ok _) c.look.ensures.keeps c.in_ok-find_elsewhere-in-Err.ensures.above

@@ -1,7 +1,8 @@
 use Rattle.dav_core.specs.Writing.{reading}
 use Rattle.dav_cache.specs.Calls.{Opening}
 use Rattle.dav_local.specs.Seeing.{OpensAt}
-use Rattle.dav_local.proofs.Seen.{finds_unknown, open_recalled, opened_recalled, opened_unknown}
+use Rattle.dav_local.specs.Calls.{place_of}
+use Rattle.dav_local.proofs.Seen.{finds_unknown, open_recalled, open_saved, open_unknown, missed_counts, opened_counts, opened_recalled, opened_unknown}
 use Rattle.dav_local.proofs.fs.LocalFs.open_alike.Goals as goal
 
 pub returns-in-Ok-Some-clause-done : goal.returns-in-Ok-Some-clause-done
@@ -15,3 +16,11 @@ returns-in-Ok-None-clause-done g c = finds_unknown Opening _ _ _ _ (OpensAt read
 
 pub returns-in-Ok-None-clause-one : goal.returns-in-Ok-None-clause-one
 returns-in-Ok-None-clause-one g c = opened_unknown _ _ _ c.in-Ok-None.field-0 _ c.in-Ok-None.ensures.one c.in-Ok-None.field-0-is c.open_on_disk.ensures.one
+
+pub returns-in-Ok-Some-clause-saved : goal.returns-in-Ok-Some-clause-saved
+returns-in-Ok-Some-clause-saved g c = open_saved _ _ _ _ _ c.in-Ok-Some.ensures.once
+
+pub returns-in-Ok-None-clause-saved : goal.returns-in-Ok-None-clause-saved
+returns-in-Ok-None-clause-saved g c =
+    open_unknown _ (place_of g.D.Disk.state g.R.Remember.state c.recall_open.new.self) (place_of g.D.Disk.state g.R.Remember.state c.open_on_disk.new.self) _ c.in-Ok-None.field-0 _ c.in-Ok-None.ensures.once
+    c.in-Ok-None.field-0-is (missed_counts _ _ c.in-Ok-None.field-0 c.in-Ok-None.ensures.one c.in-Ok-None.field-0-is) (opened_counts _ _ _ c.open_on_disk.ensures.one)

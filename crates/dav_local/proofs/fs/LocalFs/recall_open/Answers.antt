@@ -1,18 +1,22 @@
-use Rattle.std.proofs.Common.{ap, refl, subst, sym}
-use Rattle.dav_core.specs.Unchanged.{Keeps}
-use Rattle.dav_core.proofs.UnchangedLemmas.{keeps_same}
+use Rattle.std.proofs.Common.{ap, refl}
 use Rattle.dav_local.specs.Places.{place_of}
-use Rattle.dav_local.proofs.Seen.{recalls_nothing, recalls_opened}
+use Rattle.dav_local.proofs.Seen.{lacking_keeps, lacking_once, opens_nothing, opens_once, recalls_opened}
 use Rattle.dav_local.proofs.fs.LocalFs.recall_open.Goals as goal
 
 pub returns-in-Ok-clause-done : goal.returns-in-Ok-clause-done
 returns-in-Ok-clause-done g c = (recalls_opened _ _ _ _ refl refl c.in-Ok.ensures.done).0
 
+pub returns-in-Ok-clause-once : goal.returns-in-Ok-clause-once
+returns-in-Ok-clause-once g c = opens_once _ _ _ _ c.in-Ok.ensures.done
+
 pub returns-in-Ok-clause-one : goal.returns-in-Ok-clause-one
 returns-in-Ok-clause-one g c = (recalls_opened (place_of g.D.Disk.state g.R.Remember.state c.args.self.now) (place_of g.D.Disk.state g.R.Remember.state (record c.args.self.now { disk = c.get_open.new.disk; memory = c.get_open.new.self })) c.args.path.now c.in-Ok.found refl refl c.in-Ok.ensures.done).1
 
 pub returns-in-Err-clause-done : goal.returns-in-Err-clause-done
-returns-in-Err-clause-done g c = recalls_nothing _ _ _ refl refl (ap g.R.Remember.state c.in-Err.ensures.err) c.in-Err.ensures.unasked
+returns-in-Err-clause-done g c = opens_nothing _ _ _ refl refl (ap g.R.Remember.state c.in-Err.ensures.err) c.in-Err.ensures.starved
+
+pub returns-in-Err-clause-once : goal.returns-in-Err-clause-once
+returns-in-Err-clause-once g c = record { starved = lacking_once (place_of g.D.Disk.state g.R.Remember.state c.args.self.now) (place_of g.D.Disk.state g.R.Remember.state (record c.args.self.now { disk = c.get_open.new.disk; memory = c.get_open.new.self })) c.in-Err.ensures.starved; saved = tt }
 
 pub returns-in-Err-clause-one : goal.returns-in-Err-clause-one
-returns-in-Err-clause-one g c = subst (Keeps (g.D.Disk.state c.args.self.now.disk)) (sym c.in-Err.ensures.unasked) (keeps_same (g.D.Disk.state c.args.self.now.disk))
+returns-in-Err-clause-one g c = lacking_keeps _ _ c.in-Err.ensures.starved

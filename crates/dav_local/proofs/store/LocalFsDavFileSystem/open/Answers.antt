@@ -1,6 +1,7 @@
-use Rattle.std.proofs.Common.{◌≡◌, ◌∙◌, false, rules, arith}
+use Rattle.std.proofs.Common.{◌≡◌, ◌∙◌, false, subst, rules, arith}
 use Rattle.dav_core.specs.Writing.{reading}
-use Rattle.dav_local.specs.Calls.{is_shut}
+use Rattle.dav_local.specs.Calls.{is_shut, place_of}
+use Rattle.dav_local.specs.Saving.{SavesOpening}
 use Rattle.dav_local.specs.Ways.{is_known}
 use Rattle.dav_local.specs.LocalFiles.{local_file}
 use Rattle.dav_local.proofs.Framing.{opens_after}
@@ -12,7 +13,7 @@ returns-then-not-is_known-clause-done g c =
     let open_ : is_shut c.args.self.now.ways c.args.path.now ≡ false = cc (c.if-is_shut.ensures, c.is_shut.ensures) in
     let known : is_known c.args.self.now.ways ≡ false = cc (c.if-not-is_known.ensures, c.is_known.ensures) in
     let how : c.args.options ≡ reading = first_of (search rules, grind arith, cc) in
-    (open_asked _ _ _ c.names.result.now c.args.options _ (λ w told. g.met.D.Disk.world c.args.self.now.disk w told) open_ how known c.names.ensures.value c.open_alike.ensures.done, c.open_alike.ensures.stays)
+    (open_asked _ _ _ c.names.result.now c.args.options _ (λ w told. g.met.D.Disk.world c.args.self.now.disk w told) open_ how known c.names.ensures.value c.open_alike.ensures.done, c.open_alike.ensures.stays, λ shut how. subst (λ n. SavesOpening (place_of g.D.Disk.state g.R.Remember.state c.args.self.now) n c.open_alike.result (place_of g.D.Disk.state g.R.Remember.state c.open_alike.new.self)) c.names.ensures.value c.open_alike.ensures.saved)
 
 pub returns-clause-stays : goal.returns-clause-stays
 returns-clause-stays g c = record {
