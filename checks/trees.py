@@ -1,6 +1,7 @@
 #!/usr/bin/env python3
 """Plays lists of requests that write and read on a real folder, and compares each answer, and the folder after each
-request, with a model that knows only a map of paths.
+request, with a model that knows only a map of paths. The process masks no mode, and after each request all that stands
+there is its owner's alone.
 
     checks/trees.py [--program PATH] [--lists COUNT] [--steps COUNT] [--seed NUMBER]
 
@@ -440,10 +441,20 @@ def set_up(folder, standing, tree):
         place = os.path.join(os.fsencode(folder), *names)
         tree[names] = data
         if data is None:
-            os.mkdir(place)
+            os.mkdir(place, 0o700)
         else:
             with open(place, "wb") as file:
                 file.write(data)
+            os.chmod(place, 0o600)
+
+
+def open_to_others(folder):
+    """What stands in a folder and may be read, written or entered by others than its owner."""
+    found = []
+    for place, dirs, files in os.walk(os.fsencode(folder)):
+        whole = [os.path.join(place, name) for name in dirs + files]
+        found += [path for path in whole if os.lstat(path).st_mode & 0o077]
+    return found
 
 
 def page_names(page):
@@ -482,6 +493,8 @@ def play(program, steps):
                 fault = f"status {answer.status}, and over a disk in memory {steps.wanted[number]} is wanted"
             if not fault and tree_of(folder) != model.tree:
                 fault = "another tree"
+            if not fault and open_to_others(folder):
+                fault = f"open to others: {open_to_others(folder)}"
             if fault:
                 raise AssertionError(f"{steps.name}, request {number + 1}: {request}: {fault}")
         connection.end()
@@ -501,6 +514,7 @@ def main():
     if not os.access(given.program, os.X_OK):
         print(f"trees: {given.program} is no program; ./davserve --help builds it", file=sys.stderr)
         return 2
+    os.umask(0)
     lists = lists_of_rows()
     lists += [Maker(seed, given.steps).steps for seed in range(given.seed, given.seed + given.lists)]
     asked = failed = 0
