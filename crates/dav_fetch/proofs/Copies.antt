@@ -57,7 +57,7 @@ along_kept (path ∷ paths) files (Some k, more, is, well, along) = subst (AllBy
 
 -- ---- one file
 
-kept_well : (path : Names) (old : List Kept) → AllByRecursion IsKept old → (o : Option Kept) → kept_at path old ≡ o → IfSome o (IsWell path)
+pub kept_well : (path : Names) (old : List Kept) → AllByRecursion IsKept old → (o : Option Kept) → kept_at path old ≡ o → IfSome o (IsWell path)
 kept_well path old each None e = tt
 kept_well path old each (Some k) e = record { path = (found path old k e).0; kept = of old each k (found path old k e).1 }
   where

@@ -29,7 +29,7 @@ returns-in-Refuses g c =
     subst (λ p. use_of p (awaits c.args.kept) c.in-Ok-get.got.status c.in-Ok-get.got.headers ≡ refuses) c.names.ensures.value c.in-Refuses.ensures.0 in
     rw c.stopped-in-Refuses.ensures
     (inl (file_visit names c.args.kept _ _ _ _ c.args.path.now _ c.in-Ok-get.got c.in-Ok-get.ensures [] refuses _ (read_none _) c.requires.path c.in-Ok.ensures judged c.in-Refuses.ensures.1
-    (refused_visit c.args.path.now names (visit_of _ _ c.args.path.now _ c.in-Ok-get.got c.in-Ok-get.ensures []) c.refused.result _ _ c.requires.path c.refused.ensures)))
+    (refused_visit c.args.path.now names (visit_of _ _ c.args.path.now _ c.in-Ok-get.got c.in-Ok-get.ensures []) c.refused.result _ c.requires.path c.refused.ensures)))
 
 pub returns-in-Spoils : goal.returns-in-Spoils
 returns-in-Spoils g c =
@@ -38,4 +38,4 @@ returns-in-Spoils g c =
     subst (λ p. use_of p (awaits c.args.kept) c.in-Ok-get.got.status c.in-Ok-get.got.headers ≡ spoils) c.names.ensures.value c.in-Spoils.ensures.0 in
     rw c.stopped-in-Spoils.ensures
     (inl (file_visit names c.args.kept _ _ _ _ c.args.path.now _ c.in-Ok-get.got c.in-Ok-get.ensures [] spoils _ (read_none _) c.requires.path c.in-Ok.ensures judged c.in-Spoils.ensures.1
-    (spoiled_visit c.args.path.now names (visit_of _ _ c.args.path.now _ c.in-Ok-get.got c.in-Ok-get.ensures []) c.spoiled.result _ _ c.requires.path c.spoiled.ensures)))
+    (spoiled_visit c.args.path.now names (visit_of _ _ c.args.path.now _ c.in-Ok-get.got c.in-Ok-get.ensures []) c.spoiled.result _ c.requires.path c.spoiled.ensures)))

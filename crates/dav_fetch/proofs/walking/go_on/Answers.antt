@@ -8,13 +8,13 @@ add_all-requires-clause-plain g c = rw c.deref.ensures.value (plain_found _ _ _ 
 
 pub returns-clause-done : goal.returns-clause-done
 returns-clause-done g c =
-    let (visit, visited, page) = c.in-Ok.ensures.ok in
+    let (visit, visited, page, over) = c.in-Ok.ensures.ok in
     let dir = slice_index_or c.args.walked.now.dirs.items c.args.at [] in
     let dir_is : c.index.result.now ≡ dir = c.index.ensures ∙ any_default c.args.walked.now.dirs.items c.args.at c.index.result.now [] c.requires.at in
     let dirs_are : c.add_all.new.dirs.items ≡ c.args.walked.now.dirs.items ++ each_once (dirs_on dir c.in-Ok.found.items) = search rules in
     let files_are : c.add_all.new.files.items ≡ c.args.walked.now.files.items ++ files_on dir c.in-Ok.found.items = search rules in (
       visit,
-      (_, visited, search rules),
+      (_, visited, over, search rules),
       go_step c.args.at c.args.walked.now.dirs.items c.args.walked.now.files.items visit c.in-Ok.found.items c.add_all.new.dirs.items c.add_all.new.files.items c.requires.at
           (subst (λ d. IsPageOf d visit c.in-Ok.found.items) dir_is page) dirs_are files_are,
     )

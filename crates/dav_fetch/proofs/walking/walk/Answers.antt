@@ -2,7 +2,7 @@ use Rattle.std.proofs.Common.{◌≡◌, ◌+◌, ℕ, List, ◌∙◌, ◌∷�
 use Rattle.std.proofs.lemmas.List.{length-append}
 use Rattle.dav_fetch.specs.Fetching.{AtPage}
 use Rattle.dav_fetch.specs.Walk.{Visit, start, way_of}
-use Rattle.dav_fetch.proofs.Ways.{due_first, pages_then, visits_then}
+use Rattle.dav_fetch.proofs.Ways.{due_first, pages_then, whole_then}
 use Rattle.dav_fetch.proofs.Whole.{lacks_stop}
 use Rattle.dav_fetch.proofs.walking.walk.Goals as goal
 
@@ -35,7 +35,7 @@ loop-at-preserved g c =
     let i = c.loop-at.invariant in
     let e = c.in-Ok.ensures.done in (
       i.0 ++ e.0 ∷ [],
-      visits_then _ _ _ i.0 (e.0 ∷ []) i.1 e.1,
+      whole_then _ _ _ i.0 (e.0 ∷ []) i.1 e.1,
       pages_then start _ _ i.0 (e.0 ∷ []) i.2 e.2,
       c.in-Ok.ensures.made.0 ∙ one_longer c.loop-at.walked.made i.0 e.0 i.3,
       c.in-Ok.ensures.made.1,
