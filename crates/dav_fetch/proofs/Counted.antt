@@ -19,7 +19,7 @@ use Rattle.dav_fetch.specs.Mirroring.{IsLinkless, IsShownAt, is_shown, is_visibl
 use Rattle.dav_fetch.specs.Walk.{Visit, Way}
 use Rattle.dav_fetch.proofs.Among.{Apart, apart_both, apart_fewer, ascending_apart, to_filter, to_map}
 use Rattle.dav_fetch.proofs.Orders.{none_ascend, of_parts}
-use Rattle.dav_fetch.proofs.TreeRows.{looked_is}
+use Rattle.dav_fetch.proofs.TreeRows.{looked_is, same_row}
 use Rattle.dav_fetch.proofs.Walks.{Walked, read_long}
 
 -- what is shown has a visible row
@@ -32,9 +32,6 @@ visible w path row at some =
   where
     below_root : (n : ℕ) → 0 < n → not (n == 0) ≡ true
     below_root n h = grind (arith, nat_tests)
-
-same_row : (a b : Row) (found : Result Row DiskError) → found ≡ Ok a → found ≡ Ok b → a ≡ b
-same_row a b found e f = cc
 
 -- Directories and files that were found are no more than the visible rows.
 pub found_fewer : (w : World) (read : List Names) (way : Way) (paths : List Names) → Walked w read way → AreAscending paths → ((path : Names) → IsOf path paths → IsOf path way.files)

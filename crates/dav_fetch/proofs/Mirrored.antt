@@ -12,6 +12,7 @@ use Rattle.dav_core.specs.World.{World}
 use Rattle.dav_fetch.specs.declared.copied.Copied.{Copied}
 use Rattle.dav_fetch.specs.declared.copied.Kept.{Kept}
 use Rattle.dav_fetch.specs.declared.error.MirrorError.{MirrorError}
+use Rattle.dav_fetch.specs.declared.error.MirrorError.TheVariants.{NoMemory}
 use Rattle.dav_fetch.specs.Copy.{IsCopy, IsOf}
 use Rattle.dav_fetch.specs.Fetching.{Fetched, Files, FilesEnd, Goes, Takes, Visits, kept_at, taken, visits_of}
 use Rattle.dav_fetch.specs.Mirroring.{IsGood, IsMirror, IsOverOne, IsShownAt, IsShownDir, IsWholeFile, TellsOne, is_shown, whole_file}
@@ -22,7 +23,7 @@ use Rattle.dav_fetch.proofs.FileWhole.{IsAllOf, visit_whole}
 use Rattle.dav_fetch.proofs.PagesWalked.{WalkedOn, pages_walked}
 use Rattle.dav_fetch.proofs.Quiet.{quiet_first, visits_count}
 use Rattle.dav_fetch.proofs.Soundness.{found}
-use Rattle.dav_fetch.proofs.TreeRows.{root_stands, tree_parts}
+use Rattle.dav_fetch.proofs.TreeRows.{root_stands, same_row, tree_parts}
 use Rattle.dav_fetch.proofs.Walks.{IsOtherAt, Walked, dir_found, file_found}
 use Rattle.dav_fetch.proofs.Ways.{whole_visits}
 
@@ -79,9 +80,6 @@ file_no_dir Dir e = cc
 file_no_dir File e = refl
 file_no_dir Link e = cc
 
-same_row : (a b : Row) (found : Result Row DiskError) → found ≡ Ok a → found ≡ Ok b → a ≡ b
-same_row a b found e f = cc
-
 -- A file stands below the root.
 file_named : (w : World) (path : Names) (row : Row) → is_tree w.tree ≡ true → look w.tree path ≡ Ok row → is_dir row.kind ≡ false → 0 < length path
 file_named w [] row tree there kind =
@@ -136,14 +134,19 @@ module _ (w : World) (s t : PeerState) (old new : Copied) (all : List Visit) (ov
     files = λ f. ((λ of. file_is f of), (λ whole. is_kept f whole));
   }
 
+ok_lacks : ◌≡◌ {A = Result Unit MirrorError} (Ok tt) (Err NoMemory) → ⊥
+ok_lacks e = cc
+
 goes_mirror : (w : World) (s t : PeerState) (old new : Copied) (all : List Visit) (read : List Names) (way : Way) (due : List Names) (made most : ℕ) (mid : PeerState) (rest : List Visit) → IsOverOne w s old all t
     → Walked w read way → way.due ≡ due → TellsOne w rest → IsCopy new → Goes due way made most old mid rest (Ok tt) t new → IsMirror w new
-goes_mirror w s t old new all read way [] made most mid rest over walk none told copy takes = is_mirror w s t old new all over read way walk none made most mid rest takes told copy
+goes_mirror w s t old new all read way [] made most mid rest over walk none told copy (inr un) = absurd (ok_lacks un.lacks)
+goes_mirror w s t old new all read way [] made most mid rest over walk none told copy (inl takes) = is_mirror w s t old new all over read way walk none made most mid rest takes told copy
 goes_mirror w s t old new all read way (dir ∷ due) made most mid rest over walk is told copy goes = absurd goes
 
 -- the count behind the pages
 goes_count : (due : List Names) (way : Way) (made most : ℕ) (old new : Copied) (mid t : PeerState) (rest : List Visit) → Goes due way made most old mid rest (Ok tt) t new → mid.faults ≤ t.faults
-goes_count [] way made most old new mid t rest takes =
+goes_count [] way made most old new mid t rest (inr un) = absurd (ok_lacks un.lacks)
+goes_count [] way made most old new mid t rest (inl takes) =
     let chain = visits_count mid takes.mid takes.visits takes.chain in
     let ends : t.faults ≡ takes.mid.faults = ap (λ (x : PeerState). x.faults) takes.ends.2 in
     omega (arith, chain, ends)

@@ -2,7 +2,7 @@
 use Rattle.std.proofs.Common.{◌≡◌, ◌&&◌, inl, inr, ◌++◌, ℕ, List, [], ◌∷◌, Bool, true, false, cond, length, not, map, refl, sym, ap, subst, ◌∙◌}
 use Rattle.std.specs.List.{All, AllByRecursion, AllZip, filter, flat_map, list_all}
 use Rattle.std.specs.List.Sorted.{IsPermutation}
-use Rattle.std.proofs.lemmas.Bool.{and_parts}
+use Rattle.std.proofs.lemmas.Bool.{and_parts, not-true}
 use Rattle.std.proofs.lemmas.List.Folds.{list_all-append}
 use Rattle.std.proofs.lemmas.List.Sorted.{IsPermutation-sym}
 use Rattle.dav_core.specs.declared.member.Member.{Member}
@@ -62,10 +62,6 @@ pub record IsListing (tree : List Row) (dir : Names) (found : List Found) : Type
   pub all : (row : Row) (name : List ℕ) → IsOf row tree → row.path ≡ dir ++ name ∷ [] → begins_with_dot name ≡ false
       → (f : Found) × IsOf f found × (f.name ≡ name) × (f.is_dir ≡ is_dir row.kind)
 
-not_true : (b : Bool) → not b ≡ true → b ≡ false
-not_true true e = cc
-not_true false e = refl
-
 -- a member that is shown, and its row
 record MemberRow (w : World) (dir : Names) (m : Member) : Type 0 where
   pub row : Row
@@ -79,7 +75,7 @@ member_row w dir listed m order is =
     let (among, visible) = of_filter is_visible m (members w dir) (of_moved (filter is_visible (members w dir)) listed m order is) in
     let (row, there, same) = of_map (member_of w) m (filter (stands_in dir) w.tree) among in
     let (of, stands) = of_filter (stands_in dir) row w.tree there in
-    record { row = row; of = of; stands = stands; is = same; visible = not_true (begins_with_dot m.name) visible }
+    record { row = row; of = of; stands = stands; is = same; visible = not-true (begins_with_dot m.name) visible }
 
 row_member : (w : World) (dir : Names) (listed : List Member) (row : Row) (name : List ℕ) → IsPermutation (filter is_visible (members w dir)) listed → IsOf row w.tree → row.path ≡ dir ++ name ∷ []
     → begins_with_dot name ≡ false → IsOf (member_of w row) listed

@@ -44,6 +44,9 @@ IsOther (Short p got announced) = Unit {0}
 IsOther (TooLong p) = Unit {0}
 IsOther (Budget m) = Unit {0}
 
+other_lacks : (e : MirrorError) → IsOther e → ◌≡◌ {A = Result Unit MirrorError} (Err e) (Err NoMemory) → ⊥
+other_lacks e other lacks = let is : e ≡ NoMemory = cc in subst IsOther is other
+
 none_other : (w : World) (e : MirrorError) (new : Copied) → (IsOther e → ⊥) → Mirrors w (Err e) new
 none_other w NoMemory new never = tt
 none_other w PeerFailed new never = never tt
@@ -145,7 +148,8 @@ at_file_counts (path ∷ more) old got made most e s last t new room other (inr 
 
 goes_counts : (due : List Names) (way : Way) (made most : ℕ) (old new : Copied) (mid t : PeerState) (rest : List Visit) (e : MirrorError) → t.faults < greatest → IsOther e
     → Goes due way made most old mid rest (Err e) t new → mid.faults ≤ t.faults
-goes_counts [] way made most old new mid t rest e room other takes =
+goes_counts [] way made most old new mid t rest e room other (inr un) = absurd (other_lacks e other un.lacks)
+goes_counts [] way made most old new mid t rest e room other (inl takes) =
     let chain = visits_count mid takes.mid takes.visits takes.chain in
     let ends = at_file_counts takes.left old.files takes.got (made + length takes.visits) most e takes.mid takes.last t new.files room other takes.ends in
     omega (arith, chain, ends)
@@ -277,7 +281,8 @@ module _ (w : World) (s t : PeerState) (old new : Copied) (all : List Visit) (ov
 
   goes_never : (due : List Names) (read : List Names) (way : Way) (made most : ℕ) (mid : PeerState) (rest : List Visit) (e : MirrorError) → IsOther e → s.faults ≤ mid.faults → Walked w read way → way.due ≡ due
       → length read ≡ made → length (visible_rows w) < most → TellsOne w rest → Goes due way made most old mid rest (Err e) t new → ⊥
-  goes_never [] read way made most mid rest e other before walk is many few told takes =
+  goes_never [] read way made most mid rest e other before walk is many few told (inr un) = other_lacks e other un.lacks
+  goes_never [] read way made most mid rest e other before walk is many few told (inl takes) =
       let chain = visits_count mid takes.mid takes.visits takes.chain in
       at_file_never takes.left takes.got (made + length takes.visits) most e takes.mid takes.last other (omega (arith, before, chain))
       (λ path o. walk.files path (takes.ordered.from path (files_left old.files takes.paths takes.visits takes.got takes.left path takes.took o)))

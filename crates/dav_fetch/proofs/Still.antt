@@ -83,7 +83,8 @@ at_page_told w dir made most e s last t still st (inr (visit, m, one, visited, i
 
 goes_told : (w : World) (due : List Names) (way : Way) (made most : ℕ) (old : Copied) (s : PeerState) (rest : List Visit) (result : Result Unit MirrorError) (t : PeerState) (new : Copied) → w.script ≡ [] → Stands w s
     → Goes due way made most old s rest result t new → TellsOne w rest
-goes_told w [] way made most old s rest result t new still st takes =
+goes_told w [] way made most old s rest result t new still st (inr un) = none_told w rest un.none
+goes_told w [] way made most old s rest result t new still st (inl takes) =
     let (told, mid) = visits_stand w s takes.mid takes.visits still st takes.chain in
     subst (TellsOne w) (sym takes.parts) (tells_both w takes.visits takes.last told (ends_told w takes.left old.files takes.got _ most result takes.mid takes.last t new.files still mid takes.ends))
 goes_told w (dir ∷ due) way made most old s rest (Ok x) t new still st goes = absurd goes

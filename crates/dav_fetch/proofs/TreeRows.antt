@@ -1,7 +1,7 @@
 -- Rows of a tree: what a look finds, and what stands in a directory.
 use Rattle.std.proofs.Common.{◌≡◌, ◌==◌, ◌<◌, ◌+◌, ◌-◌, ◌&&◌, ◌||◌, ◌⊎◌, inl, inr, ℕ, zero, suc, Bool, true, false, not, cond, List, [], ◌∷◌, ◌++◌, length, take, slice_get, Option, None, Some, Result, Ok, refl, sym, ap, subst, ◌∙◌, append_assoc, append-nil, arith, eqb-true}
 use Rattle.std.specs.List.{list_all, list_any}
-use Rattle.std.proofs.lemmas.Bool.{and_parts, and_from}
+use Rattle.std.proofs.lemmas.Bool.{and_parts, and_from, not-true}
 use Rattle.std.proofs.lemmas.Bool.Decides.{nat_tests}
 use Rattle.std.proofs.lemmas.List.{length-append}
 use Rattle.std.proofs.lemmas.Option.{slice_get-get_or}
@@ -21,10 +21,6 @@ use Rattle.dav_model.proofs.LooseWalks.{find_row, names_equal, parent_pushed}
 use Rattle.dav_fetch.specs.Copy.{IsOf}
 
 -- ---- tests
-
-not_true : (b : Bool) → not b ≡ true → b ≡ false
-not_true true e = cc
-not_true false e = refl
 
 pub all_of : {A : Type 0} (f : A → Bool) (xs : List A) (x : A) → list_all f xs ≡ true → IsOf x xs → f x ≡ true
 all_of f [] x e o = absurd o
@@ -61,7 +57,7 @@ found_of (r ∷ rows) row apart (inl same) =
 found_of (r ∷ rows) row apart (inr o) =
     let p = and_parts (is_free rows r) (is_apart rows) apart in
     let free = all_of (λ other. not (same_names other.path r.path) && not (other.number == r.number)) rows row p.0 o in
-    let other = not_true (same_names row.path r.path) (and_parts (not (same_names row.path r.path)) (not (row.number == r.number)) free).0 in
+    let other = not-true (same_names row.path r.path) (and_parts (not (same_names row.path r.path)) (not (row.number == r.number)) free).0 in
     ap (λ b. cond b (Some r) (row_at rows row.path)) other ∙ found_of rows row p.1 o
 
 pub record IsTree (tree : List Row) : Type 0 where
@@ -89,6 +85,10 @@ pub root_stands : (tree : List Row) → IsTree tree → (d : Row) × (look tree 
 root_stands tree is = let (d, there, kind) = dir_row (row_at tree []) is.root in (d, ap standing there, kind)
 
 -- ---- looks
+
+-- one look finds one row
+pub same_row : (a b : Row) (found : Result Row DiskError) → found ≡ Ok a → found ≡ Ok b → a ≡ b
+same_row a b found e f = cc
 
 standing_some : (o : Option Row) (row : Row) → standing o ≡ Ok row → o ≡ Some row
 standing_some None row e = cc

@@ -1,5 +1,5 @@
 -- The visit of a file, from the calls that made it.
-use Rattle.std.proofs.Common.{◌≡◌, ◌⊎◌, inl, inr, ◌<◌, ℕ, List, [], ◌∷◌, Option, Result, Ok, Err, IfErr, refl, sym, ap, subst}
+use Rattle.std.proofs.Common.{◌≡◌, ◌⊎◌, inl, inr, ◌<◌, ℕ, List, [], ◌∷◌, Option, Result, Ok, Err, IfErr, refl, sym, ap, subst, arith}
 use Rattle.dav_io.specs.declared.fields.Field.{Field}
 use Rattle.dav_core.specs.DavPath.{WebPath}
 use Rattle.dav_core.specs.Path.{Names}
@@ -36,7 +36,7 @@ pub bytes_visit : (path : WebPath) (names : Names) (f : Kept) (n : ℕ) (visit :
 bytes_visit path names f n visit (Ok x) s t is h = h
 bytes_visit path names f n visit (Err (Short p got announced)) s t is (at, b, c, d, over, stays) = (subst (λ q. p ≡ q) is at, b, c, d, over, stays)
 bytes_visit path names f n visit (Err PeerFailed) s t is h = h
-bytes_visit path names f n visit (Err NoMemory) s t is h = tt
+bytes_visit path names f n visit (Err NoMemory) s t is h = h
 bytes_visit path names f n visit (Err (Refused p status)) s t is h = absurd h
 bytes_visit path names f n visit (Err (NotAPage p)) s t is h = absurd h
 bytes_visit path names f n visit (Err (BadReply p)) s t is h = absurd h
@@ -45,11 +45,11 @@ bytes_visit path names f n visit (Err (Budget m)) s t is h = absurd h
 
 pub refused_visit : (path : WebPath) (names : Names) (visit : Visit) (e : MirrorError) (s : PeerState) → path ≡ file_path names → (e ≡ Refused path visit.got.status) ⊎ (e ≡ NoMemory) → FileEnds names refuses visit e s s
 refused_visit path names visit e s is (inl so) = subst (λ x. FileEnds names refuses visit x s s) (sym so) (is, refl, refl)
-refused_visit path names visit e s is (inr so) = subst (λ x. FileEnds names refuses visit x s s) (sym so) tt
+refused_visit path names visit e s is (inr so) = subst (λ x. FileEnds names refuses visit x s s) (sym so) (omega arith)
 
 pub spoiled_visit : (path : WebPath) (names : Names) (visit : Visit) (e : MirrorError) (s : PeerState) → path ≡ file_path names → (e ≡ BadReply path) ⊎ (e ≡ NoMemory) → FileEnds names spoils visit e s s
 spoiled_visit path names visit e s is (inl so) = subst (λ x. FileEnds names spoils visit x s s) (sym so) (is, refl)
-spoiled_visit path names visit e s is (inr so) = subst (λ x. FileEnds names spoils visit x s s) (sym so) tt
+spoiled_visit path names visit e s is (inr so) = subst (λ x. FileEnds names spoils visit x s s) (sym so) (omega arith)
 
 pub takes_from : (names : Names) (old : Option Kept) (made most : ℕ) (s t : PeerState) (result : Taken) → made < most → link_is_short (file_path names) → AsksFile names old s result t → TakesFile names old made most s result t
 takes_from names old made most s t result few short (inl visit) = inl (few, visit)

@@ -1,7 +1,7 @@
 -- The walk over the pages of a tree: what it has found, and that in the end it has found all that is shown.
 use Rattle.std.proofs.Common.{◌≡◌, ◌<◌, ◌+◌, ◌&&◌, inl, inr, ℕ, Bool, true, false, not, List, [], ◌∷◌, ◌++◌, length, Result, Ok, refl, sym, ap, subst, ◌∙◌, append_assoc, append-nil, arith}
 use Rattle.std.specs.List.{list_all}
-use Rattle.std.proofs.lemmas.Bool.{and_from, and_parts}
+use Rattle.std.proofs.lemmas.Bool.{and_from, and_parts, not-true}
 use Rattle.std.proofs.lemmas.List.{length-append}
 use Rattle.std.proofs.lemmas.List.Folds.{list_all-append}
 use Rattle.dav_core.specs.declared.tree.Kind.TheVariants.{Dir}
@@ -195,23 +195,15 @@ on_from : (w : World) (read : List Names) (way : Way) → Walked w read way → 
     → look_from w.tree at (name ∷ names) ≡ Ok row → is_shown (name ∷ names) ≡ true → WasFound way row (at ++ name ∷ names)
 on_from w read way walk all at name [] row is looked shown =
     let (of, path) = row_here w.tree (at ++ name ∷ []) row (next_found w.tree at name [] row looked) in
-    let visible = not_true (begins_with_dot name) (and_parts (not (begins_with_dot name)) true shown).0 in
+    let visible = not-true (begins_with_dot name) (and_parts (not (begins_with_dot name)) true shown).0 in
     record { dir = λ kind. walk.all_dirs at is row name of path visible kind; file = λ kind. walk.all_files at is row name of path visible kind }
-  where
-    not_true : (b : Bool) → not b ≡ true → b ≡ false
-    not_true true e = cc
-    not_true false e = refl
 on_from w read way walk all at name (next ∷ names) row is looked shown =
     let both = and_parts (not (begins_with_dot name)) (is_shown (next ∷ names)) shown in
     let further = next_found w.tree at name (next ∷ names) row looked in
     let (d, of, path, kind) = dir_here w.tree (at ++ name ∷ []) next names row further in
-    let there = walk.all_dirs at is d name of path (not_true (begins_with_dot name) both.0) (ap is_dir kind) in
+    let there = walk.all_dirs at is d name of path (not-true (begins_with_dot name) both.0) (ap is_dir kind) in
     subst (WasFound way row) (append_assoc at (name ∷ []) (next ∷ names))
     (on_from w read way walk all (at ++ name ∷ []) next names row (subst (IsOf (at ++ name ∷ [])) (sym all) (inr there)) further both.1)
-  where
-    not_true : (b : Bool) → not b ≡ true → b ≡ false
-    not_true true e = cc
-    not_true false e = refl
 
 all_found : (w : World) (read : List Names) (way : Way) (path : Names) (row : Row) → Walked w read way → way.due ≡ [] → 0 < length path → IsShownAt w path row → WasFound way row path
 all_found w read way [] row walk none some at = absurd (omega (arith, some))

@@ -80,12 +80,12 @@ Files old (path ∷ paths) (visit ∷ visits) got left = (worth : Use) × (rest 
 abbrev pub link_is_short : WebPath → Type 0
 link_is_short path = length (link_of (shown path)) ≤ links_most
 
--- The request for this path is due. It isn't made, or gets no answer.
+-- The request for this path is due. It isn't made, or gets no answer. Where memory is refused, it is either.
 abbrev pub NotAsked : WebPath → ℕ → ℕ → MirrorError → PeerState → PeerState → Type 0
 NotAsked path made most (TooLong p) s t = (p ≡ path) × (made < most) × (link_is_short path → ⊥) × (t ≡ s)
 NotAsked path made most (Budget m) s t = (made ≡ most) × (m ≡ made) × (t ≡ s)
 NotAsked path made most PeerFailed s t = link_is_short path × (made < most) × Rose s.faults t.faults
-NotAsked path made most NoMemory s t = Unit {0}
+NotAsked path made most NoMemory s t = (t ≡ s) ⊎ ((made < most) × link_is_short path × (s.faults ≤ t.faults))
 NotAsked path made most (Refused p status) s t = ⊥
 NotAsked path made most (NotAPage p) s t = ⊥
 NotAsked path made most (BadReply p) s t = ⊥
@@ -103,7 +103,7 @@ PageEnds dir visit (TooLong p) s t = (p ≡ dir_path dir) × (visit.got.status �
 PageEnds dir visit (NotAPage p) s t = (p ≡ dir_path dir) × (visit.got.status ≡ 200) × IsOver t
     × (length visit.came ≤ page_most) × ((found : List Found) → IsPageOf dir visit found → ⊥) × (t ≡ s)
 PageEnds dir visit PeerFailed s t = (visit.got.status ≡ 200) × Rose s.faults t.faults
-PageEnds dir visit NoMemory s t = Unit {0}
+PageEnds dir visit NoMemory s t = s.faults ≤ t.faults
 PageEnds dir visit (Budget m) s t = ⊥
 PageEnds dir visit (BadReply p) s t = ⊥
 PageEnds dir visit (Short p got announced) s t = ⊥
@@ -115,7 +115,7 @@ FileEnds path spoils visit (BadReply p) s t = (p ≡ file_path path) × (t ≡ s
 FileEnds path (gives f n) visit (Short p got announced) s t = (p ≡ file_path path) × (got ≡ length visit.came)
     × (announced ≡ n) × (got < n) × IsOver t × (t ≡ s)
 FileEnds path (gives f n) visit PeerFailed s t = (length visit.came < n) × Rose s.faults t.faults
-FileEnds path worth visit NoMemory s t = Unit {0}
+FileEnds path worth visit NoMemory s t = s.faults ≤ t.faults
 FileEnds path worth visit e s t = ⊥
 
 -- the paths in order, each once
@@ -176,8 +176,17 @@ pub record Takes (way : Way) (made most : ℕ) (old : Copied) (s : PeerState) (r
   pub within : made + length visits ≤ most
   pub ends : FilesEnd left old.files got (made + length visits) most result mid last t new.files
 
+-- All pages are read, and memory is refused to what they name: no file is asked, and the copy is as it was.
+pub record Unplanned (old : Copied) (s : PeerState) (rest : List Visit) (result : Result Unit MirrorError)
+    (t : PeerState) (new : Copied) : Type 0 where
+  pub lacks : result ≡ Err NoMemory
+  pub none : rest ≡ []
+  pub stays : t ≡ s
+  pub same : new ≡ old
+
 abbrev pub Goes : List Names → Way → ℕ → ℕ → Copied → PeerState → List Visit → Result Unit MirrorError → PeerState → Copied → Type 0
 Goes [] way made most old s rest result t new = Takes way made most old s rest result t new
+    ⊎ Unplanned old s rest result t new
 Goes (dir ∷ due) way made most old s rest (Ok x) t new = ⊥
 Goes (dir ∷ due) way made most old s rest (Err e) t new = AtPage dir made most e s rest t × (new ≡ old)
 

@@ -12,7 +12,7 @@ use Rattle.dav_fetch.specs.Walk.{Pages, Visit, Way, start}
 -- A request that may be made got no answer.
 abbrev pub NotGot : MirrorError → PeerState → PeerState → Type 0
 NotGot PeerFailed s t = Rose s.faults t.faults
-NotGot NoMemory s t = Unit {0}
+NotGot NoMemory s t = s.faults ≤ t.faults
 NotGot (Refused p status) s t = ⊥
 NotGot (NotAPage p) s t = ⊥
 NotGot (BadReply p) s t = ⊥

@@ -3,11 +3,11 @@ use Rattle.std.specs.List.{AllByRecursion}
 use Rattle.dav_fetch.specs.declared.copied.Kept.{Kept}
 use Rattle.dav_fetch.specs.Gathering.{Gathers}
 use Rattle.dav_fetch.proofs.Copies.{fetched_copy}
-use Rattle.dav_fetch.proofs.Whole.{gathered_fetched, lacks_fetched, walked_named, within_all}
+use Rattle.dav_fetch.proofs.Whole.{gathered_fetched, unplanned_fetched, walked_named, within_all}
 use Rattle.dav_fetch.proofs.fetching.fetch.Goals as goal
 
 pub returns-in_default-clause-fetched : goal.returns-in_default-clause-fetched
-returns-in_default-clause-fetched g c = lacks_fetched _ _ c.args.copy.now c.args.most
+returns-in_default-clause-fetched g c = unplanned_fetched _ _ c.args.copy.now c.args.most c.in_ok-walked.walked c.in_ok-walked.ensures
 
 pub gather-files-requires-clause-named : goal.gather-files-requires-clause-named
 gather-files-requires-clause-named g c =

@@ -10,7 +10,7 @@ one_longer : (n : ℕ) (a : List Visit) (v : Visit) → n ≡ length a → n + 1
 one_longer n a v e = ap (λ k. k + 1) e ∙ sym (length-append a (v ∷ []))
 
 pub returns-then-is_err : goal.returns-then-is_err
-returns-then-is_err g c = lacks_stop _ _ c.args.most
+returns-then-is_err g c = lacks_stop _ c.args.most
 
 pub returns-in-Err : goal.returns-in-Err
 returns-in-Err g c =
