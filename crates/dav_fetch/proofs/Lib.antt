@@ -17,7 +17,6 @@ pub mod Made
 pub mod Visiting
 pub mod Whole
 pub mod Empty
-pub mod Still
 pub mod TreeRows
 pub mod DirServed
 pub mod Among

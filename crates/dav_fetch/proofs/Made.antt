@@ -12,4 +12,4 @@ abbrev pub visit_of : (s m : PeerState) (path : WebPath) (asked : List Field) (g
 visit_of s m path asked got g came = record { path = path; asked = asked; world = g.is.0; got = got; came = came }
 
 pub visited : (s m t : PeerState) (path : WebPath) (asked : List Field) (got : Got) (g : Gets s path asked (Ok got) m) (came : List ℕ) → ReadOn m came t → Visited s (visit_of s m path asked got g came) t
-visited s m t path asked got g came r = record { at = m; counts = g.counts; is = g.is.1; still = g.is.2; read = r }
+visited s m t path asked got g came r = record { at = m; counts = g.counts; is = g.is.1; read = r }

@@ -72,14 +72,8 @@ RepliesIn None path asked rose got told = told ≡ None
 RepliesIn (Some w) path asked rose got told = (now : Seen) × (told ≡ Some now) × SameBesidesOpens w now.world
     × RepliesOf w path asked rose got now.left
 
--- A world that has no change to come stays: the next reply is of it, and is told.
-abbrev pub StaysStill : Option Seen → Option World → Type 0
-StaysStill told world = (v : Seen) → told ≡ Some v → v.world.script ≡ [] → (w : World) × (world ≡ Some w)
-    × SameBesidesOpens v.world w
-
 abbrev pub IsGot : WebPath → List Field → PeerState → Result Got PeerFault → PeerState → Type 0
 IsGot path asked s (Ok got) t = (world : Option World) × RepliesIn world path asked (Rose s.faults t.faults) got t.told
-    × StaysStill s.told world
 IsGot path asked s (Err Failed) t = Rose s.faults t.faults
 IsGot path asked s (Err NoMemory) t = Unit {0}
 

@@ -1,5 +1,5 @@
 //! What holds of the definitions alone. Each function has nothing to do, and its contract is the law.
-ghost use Rattle.std.specs.Prelude.{◌≡◌, ◌<◌, ◌++◌, ◌∷◌, [], ℕ, List, Bool, IfSome, length, Ok, Option, Result, Some, true};
+ghost use Rattle.std.specs.Prelude.{◌≡◌, ◌<◌, ◌++◌, ◌∷◌, ℕ, List, Bool, IfSome, length, Ok, Option, Result, Some, true};
 ghost use Rattle.std.specs.List.{AllByRecursion, AllZip};
 ghost use Rattle.dav_core.specs.declared.member.Member.{Member as Shown};
 ghost use Rattle.dav_core.specs.Path.{Names, is_plain};
@@ -17,8 +17,8 @@ ghost use Rattle.dav_fetch.specs.Asking.{asked_for, awaits, dir_path, file_path}
 ghost use Rattle.dav_fetch.specs.Copy.{IsOfWorld};
 ghost use Rattle.dav_fetch.specs.Fetching.{Fetched, visits_of};
 ghost use Rattle.dav_fetch.specs.Judging.{gives, grown, use_of};
-ghost use Rattle.dav_fetch.specs.Mirroring.{AllTold, AreKept, AreShort, IsGood, IsLinkless, IsMet, IsMirror, IsOverOne, IsSound, IsWithinLimits, MetIn, Mirrors, TellsOne, visible_rows};
-ghost use Rattle.dav_fetch.specs.Peer.{PeerState, RepliesOf, Seen, body_in};
+ghost use Rattle.dav_fetch.specs.Mirroring.{AllTold, AreKept, AreShort, IsGood, IsLinkless, IsMet, IsMirror, IsOverOne, IsSound, IsWithinLimits, MetIn, Mirrors, visible_rows};
+ghost use Rattle.dav_fetch.specs.Peer.{PeerState, RepliesOf, body_in};
 ghost use Rattle.dav_fetch.specs.Walk.{IsFound, IsMember};
 
 /// What comes of a file, by the answer to the request that what is kept of it asks for, is a front of what its path has
@@ -50,12 +50,6 @@ pub fn a_fetched_copy_is_sound()
     ensures { (s t : PeerState) (old new : Copy) (most : ℕ) (result : Result Unit Error) (f : Fetched s old most result t new)
         → AreKept old.files → AllTold (visits_of f)
         → ((w : World) → MetIn w (visits_of f) → IsMet old.files w) → IsSound old (visits_of f) new }
-{}
-
-/// A peer whose world has no change to come tells the same of that world at each visit.
-pub fn a_still_peer_tells_one_world()
-    ensures { (s t : PeerState) (old new : Copy) (most : ℕ) (result : Result Unit Error) (f : Fetched s old most result t new)
-        → (v : Seen) → s.told ≡ Some v → v.world.script ≡ [] → TellsOne v.world (visits_of f) }
 {}
 
 /// Whole: where the peer told one world throughout and refused nothing, Ok leaves exactly that world's tree, as far as it
