@@ -45,6 +45,7 @@ pub(crate) fn ask_page<P: Peer>(
     ensures ok { IfOk result (λ found. (visit : Visit) × Visited (P.state peer.old) visit (P.state peer.new)
         × IsPageOf dir.now.names visit found.items × IsOver (P.state peer.new)) }
     ensures err { IfErr result (λ e. PageFails dir.now.names (P.state peer.old) e (P.state peer.new)) }
+    ensures loan { P.loan peer.new ≡ P.loan peer.old }
 {
     let Ok(path) = dir.try_clone() else {
         return Err(MirrorError::NoMemory);

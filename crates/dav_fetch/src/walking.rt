@@ -106,6 +106,7 @@ fn ask_due<P: Peer>(
     ensures few { OnOk result (made < most) }
     ensures err { IfErr result (λ e. (last : List Visit)
         × AtPage dir.now made most e (P.state peer.old) last (P.state peer.new)) }
+    ensures loan { P.loan peer.new ≡ P.loan peer.old }
 {
     let Ok(path) = dir_of(alloc, dir) else {
         return Err(MirrorError::NoMemory);
@@ -135,6 +136,7 @@ fn go_on<P: Peer>(
     ensures ends { IfErr result (λ e. (last : List Visit)
         × AtPage (slice_index_or walked.old.dirs.items at []) walked.old.made most e (P.state peer.old) last
         (P.state peer.new)) }
+    ensures loan { P.loan peer.new ≡ P.loan peer.old }
 {
     let found = match ask_due(alloc, peer, &walked.dirs[at], walked.made, most) {
         Ok(found) => found,
@@ -150,7 +152,8 @@ fn go_on<P: Peer>(
 
 // Asks for the page of each directory that is found, in the order of finding, from the root on.
 pub(crate) fn walk<P: Peer>(alloc: Global, peer: &mut P, most: u64) -> Result<Walked, MirrorError>
-    ensures { WalksTo (P.state peer.old) most result (P.state peer.new) }
+    ensures walks { WalksTo (P.state peer.old) most result (P.state peer.new) }
+    ensures loan { P.loan peer.new ≡ P.loan peer.old }
 {
     let mut walked = Walked {
         dirs: Vec::new(alloc),

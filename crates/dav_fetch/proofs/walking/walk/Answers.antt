@@ -9,11 +9,11 @@ use Rattle.dav_fetch.proofs.walking.walk.Goals as goal
 one_longer : (n : ℕ) (a : List Visit) (v : Visit) → n ≡ length a → n + 1 ≡ length (a ++ v ∷ [])
 one_longer n a v e = ap (λ k. k + 1) e ∙ sym (length-append a (v ∷ []))
 
-pub returns-then-is_err : goal.returns-then-is_err
-returns-then-is_err g c = lacks_stop _ c.args.most
+pub returns-then-is_err-clause-walks : goal.returns-then-is_err-clause-walks
+returns-then-is_err-clause-walks g c = lacks_stop _ c.args.most
 
-pub returns-in-Err : goal.returns-in-Err
-returns-in-Err g c =
+pub returns-in-Err-clause-walks : goal.returns-in-Err-clause-walks
+returns-in-Err-clause-walks g c =
     let i = c.loop-at.invariant in
     let e = c.in-Err.ensures.ends in
     record {
@@ -40,4 +40,5 @@ loop-at-preserved g c =
       c.in-Ok.ensures.made.0 ∙ one_longer c.loop-at.walked.made i.0 e.0 i.3,
       c.in-Ok.ensures.made.1,
       omega (arith, c.in-Ok.ensures.inside),
+      search rules,
     )

@@ -7,6 +7,7 @@ abbrev pub invariant-loop-at : goal.invariant-loop-at
 invariant-loop-at g l = (visits : List Visit) × WholeVisits (g.P.Peer.state l.initial.peer) visits (g.P.Peer.state l.peer)
     × Pages start visits (way_of l.at l.walked.dirs.items l.walked.files.items)
     × (l.walked.made ≡ length visits) × (l.walked.made ≤ l.most) × (l.at ≤ length l.walked.dirs.items)
+    × (g.P.Peer.loan l.peer ≡ g.P.Peer.loan l.initial.peer)
 
 abbrev pub decreases-loop-at : goal.decreases-loop-at
 decreases-loop-at g l = l.most - l.walked.made
