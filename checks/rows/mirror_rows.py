@@ -6,6 +6,7 @@ A page is asked for each directory in the order of finding, the root first; then
 which some bytes and a tag are kept is asked for its rest, one that is whole with a tag only whether it changed.
 """
 import os
+import random
 import re
 from urllib.parse import unquote_to_bytes
 
@@ -392,6 +393,10 @@ def rows():
     yield row([page("/+65000+")], most=1)
     yield row(["200||*16777216"])
     yield row(["200||*16777217"])
+    yield "# A page that links a thousand names deep; directories in one another, a hundred deep."
+    yield row([page("/" + "d/" * 1000)])
+    yield row([page("/" + "d/" * depth) for depth in range(1, 101)] + [page("/" + "d/" * 100 + "f"), file("deep")], most=200)
+    yield row([F, file("*100000", length=1)])
     yield "# Each call fails in turn, and a second fetch ends with the whole copy."
     tree = [page("/d/", "/f"), page("/d/g"), file("*5000", "5"), file("ab", "2")]
     for call in range(1, 14):
@@ -399,6 +404,9 @@ def rows():
     yield row(tree, "14") + " " + row([page("/d/", "/f"), page("/d/g"), SAME, SAME])
     for call in range(1, 9):
         yield " ".join((row(tree), row([page("/d/", "/f"), page("/d/g"), SAME, SAME], str(call))))
+    yield "# Trees that change between requests, calls that fail, and a second fetch of what stands then."
+    for seed in range(60):
+        yield changing(seed)
 
 
 def second_of(tree, call):
@@ -418,6 +426,114 @@ def second_of(tree, call):
             spelt = f"*{len(data) - have}" if len(data) > 9 else data[have:].decode()
             files.append(rest(have, spelt, len(data), tag, announced=len(data) - have))
     return row(tree[:2] + files)
+
+
+# ---- a server, whose tree may change between any two requests
+
+NAMES = (b"a", b"b", b"c.txt", b"a-b", b".h", b"\xc3\xa9", b"d e", b"%41")
+
+
+class Tree:
+    """Files by their paths, each with its tag and its bytes; a path is a directory where something stands below it."""
+
+    def __init__(self, chance):
+        self.chance, self.files, self.dirs, self.tags, self.seen = chance, {}, {()}, 0, []
+        for _ in range(chance.randrange(1, 9)):
+            self.change()
+
+    def put(self, path, data):
+        if path in self.dirs or any(path[:n] in self.files for n in range(1, len(path))):
+            return
+        self.tags += 1
+        self.dirs.update(path[:n] for n in range(len(path)))
+        self.files[path] = (b'"%d"' % self.tags, data)
+        self.seen.append((path, *self.files[path]))
+
+    def change(self):
+        chance = self.chance
+        if self.files and chance.random() < 0.3:
+            path = chance.choice(sorted(self.files))
+            data = self.files.pop(path)[1]
+            if chance.random() < 0.6:
+                self.put(path, chance.choice((data + b"x", data[:-1], b"x" * len(data), b"new")))
+        elif len(self.dirs) > 1 and chance.random() < 0.1:
+            gone = chance.choice(sorted(self.dirs - {()}))
+            self.files = {path: it for path, it in self.files.items() if path[:len(gone)] != gone}
+            self.dirs = {path for path in self.dirs if path[:len(gone)] != gone}
+        else:
+            path = tuple(chance.choice(NAMES) for _ in range(chance.randrange(1, 4)))
+            size = chance.choice((0, 1, 2, 5, 5, 4095, 4096, 4097, 9000))
+            self.put(path, b"x" * size if size > 9 else bytes(chance.choice(b"abc") for _ in range(size)))
+
+    def page(self, names):
+        """The text of the reply to the request for a directory: directories first, each in order of bytes."""
+        if names not in self.dirs:
+            return "404||"
+        shown_here = [path for path in list(self.dirs) + list(self.files)
+                      if path and path[:-1] == names and not path[-1].startswith(b".")]
+        kinds = sorted((path in self.files, shown_path(path, path in self.dirs)) for path in shown_here)
+        return page(*(link_of(path).decode() for _, path in kinds))
+
+    def file(self, names, fields):
+        if names not in self.files:
+            return "302||" if names in self.dirs else "404||"
+        tag, data = self.files[names]
+        asked = dict(fields)
+        name = tag.decode().strip('"')
+        if asked.get("if-none-match") == tag:
+            return SAME
+        have = int(asked["range"][6:-1]) if "range" in asked else 0
+        if "range" in asked and asked["if-range"] == tag and have < len(data):
+            return rest(have, spelt(data[have:]), len(data), name, announced=len(data) - have)
+        return file(spelt(data), name)
+
+    def shown(self):
+        """What is reached by names that don't begin with a dot."""
+        def is_shown(path):
+            return path and not any(name.startswith(b".") for name in path)
+        return ({path for path in self.dirs if is_shown(path)},
+                {path: [tag, len(data), data] for path, (tag, data) in self.files.items() if is_shown(path)})
+
+
+def spelt(data):
+    """A long text is of `x` alone."""
+    return f"*{len(data)}" if len(data) > 15 else data.decode()
+
+
+class Served(Peer):
+    """A peer over a tree that changes before a request with this chance; it notes what it replied."""
+
+    def __init__(self, tree, chance, often, fails):
+        super().__init__([], fails)
+        self.tree, self.chance, self.often, self.given = tree, chance, often, []
+
+    def get(self, path, fields):
+        while self.chance.random() < self.often:
+            self.tree.change()
+        names = tuple(path.strip(b"/").split(b"/")) if path != b"/" else ()
+        text = self.tree.page(names) if path.endswith(b"/") else self.tree.file(names, fields)
+        self.replies = [reply_of(text)]
+        reply = super().get(path, fields)
+        self.given.append(text)
+        return reply
+
+
+def changing(seed):
+    """A fetch of a tree that changes meanwhile, with calls that may fail, and one of the tree as it stands then. Each
+    file that is kept is a front of what its path had, and the second fetch ends with the whole of what is shown."""
+    chance = random.Random(seed)
+    tree, copy, words = Tree(chance), [[], {}], []
+    fails = {chance.randrange(1, 30) for _ in range(chance.choice((0, 0, 1, 2)))}
+    most = chance.choice((99, 99, 99, chance.randrange(8)))
+    for often, fails, most in ((0.4, fails, most), (0, set(), 99)):
+        peer = Served(tree, chance, often, fails)
+        ended = Fetch(copy, most, peer).run()
+        words.append(row(peer.given, ",".join(map(str, sorted(fails))) or "-", most))
+        for path, (tag, length, data) in copy[1].items():
+            assert any(tag == t and length == len(d) and d.startswith(data) for p, t, d in tree.seen if p == path), path
+    dirs, files = tree.shown()
+    assert ended == "ok" and set(copy[0]) == dirs and copy[1] == files, (seed, ended)
+    return " ".join(words)
 
 
 def main():

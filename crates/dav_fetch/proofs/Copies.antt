@@ -57,7 +57,7 @@ along_kept (path ∷ paths) files (Some k, more, is, well, along) = subst (AllBy
 
 -- ---- one file
 
-kept_well : (path : Names) (old : List Kept) → AllByRecursion IsKept old → (o : Option Kept) → kept_at path old ≡ o → IfSome o (IsWell path)
+pub kept_well : (path : Names) (old : List Kept) → AllByRecursion IsKept old → (o : Option Kept) → kept_at path old ≡ o → IfSome o (IsWell path)
 kept_well path old each None e = tt
 kept_well path old each (Some k) e = record { path = (found path old k e).0; kept = of old each k (found path old k e).1 }
   where
@@ -186,7 +186,8 @@ takes_copy way made most old s visits result t new copy takes =
 
 goes_copy : (due : List Names) (way : Way) (made most : ℕ) (old : Copied) (s : PeerState) (visits : List Visit) (result : Result Unit MirrorError) (t : PeerState) (new : Copied) → IsCopy old
     → Goes due way made most old s visits result t new → IsCopy new
-goes_copy [] way made most old s visits result t new copy goes = takes_copy way made most old s visits result t new copy goes
+goes_copy [] way made most old s visits result t new copy (inl takes) = takes_copy way made most old s visits result t new copy takes
+goes_copy [] way made most old s visits result t new copy (inr un) = subst IsCopy (sym un.same) copy
 goes_copy (dir ∷ due) way made most old s visits (Ok x) t new copy goes = absurd goes
 goes_copy (dir ∷ due) way made most old s visits (Err e) t new copy (at, stays) = subst IsCopy (sym stays) copy
 

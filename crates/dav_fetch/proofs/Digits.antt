@@ -11,7 +11,7 @@ pub all_are_digits : (ds : List ℕ) → list_all is_ascii_digit ds ≡ all_asci
 all_are_digits [] = refl
 all_are_digits (d ∷ ds) = ap (λ b. is_ascii_digit d && b) (all_are_digits ds)
 
-own : IsNumeralModel (λ ds. all_ascii_digits ds ≡ true) (digits_value 10)
+pub own : IsNumeralModel (λ ds. all_ascii_digits ds ≡ true) (digits_value 10)
 own = numerals_by_value _ tells_all_ascii_digits
 
 digits_ascii : (ds : List ℕ) → AllDigits 10 ds → IsAscii ds

@@ -17,3 +17,16 @@ pub mod Made
 pub mod Visiting
 pub mod Whole
 pub mod Empty
+pub mod TreeRows
+pub mod DirServed
+pub mod Among
+pub mod PageNames
+pub mod Walks
+pub mod Quiet
+pub mod PagesWalked
+pub mod FileWhole
+pub mod Mirrored
+pub mod Judged
+pub mod Counted
+pub mod Reached
+pub mod OneMirror

@@ -1,5 +1,5 @@
 -- Why a request that may be made got no answer.
-use Rattle.std.proofs.Common.{◌<◌, ℕ}
+use Rattle.std.proofs.Common.{inr, ◌<◌, ℕ}
 use Rattle.dav_core.specs.DavPath.{WebPath}
 use Rattle.dav_fetch.specs.declared.error.MirrorError.{MirrorError}
 use Rattle.dav_fetch.specs.declared.error.MirrorError.TheVariants.{Peer as PeerFailed, Refused, NotAPage, BadReply, Short, TooLong, Budget, NoMemory}
@@ -9,7 +9,7 @@ use Rattle.dav_fetch.specs.Steps.{NotGot}
 
 pub not_got : (path : WebPath) (made most : ℕ) (e : MirrorError) (s t : PeerState) → made < most → link_is_short path → NotGot e s t → NotAsked path made most e s t
 not_got path made most PeerFailed s t few short h = (short, few, h)
-not_got path made most NoMemory s t few short h = tt
+not_got path made most NoMemory s t few short h = inr (few, short, h)
 not_got path made most (Refused p status) s t few short h = absurd h
 not_got path made most (NotAPage p) s t few short h = absurd h
 not_got path made most (BadReply p) s t few short h = absurd h

@@ -208,18 +208,18 @@ once_more once all path is below = elim (snoc_of once) [
         order Equal e = stays_same once all path (subst (λ q. IsOf q once) (equal_is last path e) (subst (IsOf last) (sym parts) (of_append last front (last ∷ []) (inr (inl refl))))) is
         order Greater e = absurd (below last (is.from last (subst (IsOf last) (sym parts) (of_append last front (last ∷ []) (inr (inl refl))))) e)
 
-pub place_of : (q : Names) (l : List Names) → IsOf q l → (i : ℕ) × (i < length l) × ((d : Names) → get_or l i d ≡ q)
+pub place_of : {A : Type 0} (q : A) (l : List A) → IsOf q l → (i : ℕ) × (i < length l) × ((d : A) → get_or l i d ≡ q)
 place_of q [] is = absurd is
 place_of q (x ∷ l) (inl same) = (0, omega arith, λ d. sym same)
 place_of q (x ∷ l) (inr more) = let at = place_of q l more in (suc at.0, omega (arith, at.1), λ d. at.2 d)
 
-of_place : (l : List Names) (i : ℕ) (d : Names) → i < length l → IsOf (get_or l i d) l
+of_place : {A : Type 0} (l : List A) (i : ℕ) (d : A) → i < length l → IsOf (get_or l i d) l
 of_place [] i d h = absurd (omega (arith, h))
 of_place (x ∷ l) zero d h = inl refl
 of_place (x ∷ l) (suc i) d h = inr (of_place l i d (omega (arith, h)))
 
--- the same paths in another order
-of_moved : (xs ys : List Names) (q : Names) → IsPermutation xs ys → IsOf q ys → IsOf q xs
+-- the same in another order
+pub of_moved : {A : Type 0} (xs ys : List A) (q : A) → IsPermutation xs ys → IsOf q ys → IsOf q xs
 of_moved xs ys q moved is =
     let at = place_of q ys is in
     subst (λ x. IsOf x xs) (at.2 q) (All-permutation (λ x. IsOf x xs) xs ys moved (λ k d h. of_place xs k d h) at.0 q at.1)

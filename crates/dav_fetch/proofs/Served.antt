@@ -25,7 +25,7 @@ use Rattle.dav_fetch.specs.Peer.{peer_rules, peer_settings}
 abbrev pub is_awaited : ℕ → Bool
 is_awaited status = status == 200 || (status == 206 || status == 304)
 
-abbrev asked : Fields → Names → Query
+abbrev pub asked : Fields → Names → Query
 asked fields names = query peer_settings fields Get (file_path names)
 
 pub record Served (w : World) (names : Names) (fields : Fields) (reply : Reply) : Type 0 where
@@ -34,16 +34,16 @@ pub record Served (w : World) (names : Names) (fields : Fields) (reply : Reply) 
   pub sent : IsSent Get (file_path names) (stood_in w row) (sent_of Get fields (stood_in w row)) reply
 
 -- what is due there, by what a look finds
-abbrev due_kinds : Kind → WebPath → Stood → Due
+abbrev pub due_kinds : Kind → WebPath → Stood → Due
 due_kinds Dir path stood = to_slash path
 due_kinds File path stood = file path stood
 due_kinds Link path stood = refused 405 false
 
-abbrev due_by : World → Names → Result Row DiskError → Due
+abbrev pub due_by : World → Names → Result Row DiskError → Due
 due_by w names (Err e) = refused (fs_status (fs_error_of e)) false
 due_by w names (Ok row) = due_kinds row.kind (file_path names) (stood_in w row)
 
-due_is : (w : World) (fields : Fields) (names : Names) (found : Result Row DiskError) → look w.tree (resolved peer_rules w.tree names) ≡ found
+pub due_is : (w : World) (fields : Fields) (names : Names) (found : Result Row DiskError) → look w.tree (resolved peer_rules w.tree names) ≡ found
     → due (shown_in peer_rules w) (asked fields names) ≡ due_by w names found
 due_is w fields names (Err e) is = ap (λ f. due_looked (shown_in peer_rules w) (asked fields names) (stood_at false w f)) is
 due_is w fields names (Ok row) is =

@@ -177,7 +177,8 @@ takes_sound way made most old s pages rest result t new kept told met takes k is
 
 goes_sound : (due : List Names) (way : Way) (made most : ℕ) (old : Copied) (s : PeerState) (pages rest : List Visit) (result : Result Unit MirrorError) (t : PeerState) (new : Copied)
     → AreKept old.files → AllTold rest → ((w : World) → MetIn w (pages ++ rest) → IsMet old.files w) → Goes due way made most old s rest result t new → IsSound old (pages ++ rest) new
-goes_sound [] way made most old s pages rest result t new kept told met goes = takes_sound way made most old s pages rest result t new kept told met goes
+goes_sound [] way made most old s pages rest result t new kept told met (inl takes) = takes_sound way made most old s pages rest result t new kept told met takes
+goes_sound [] way made most old s pages rest result t new kept told met (inr un) = λ k is. inl (subst (λ (c : Copied). IsOf k c.files) un.same is)
 goes_sound (dir ∷ due) way made most old s pages rest (Ok x) t new kept told met goes = absurd goes
 goes_sound (dir ∷ due) way made most old s pages rest (Err e) t new kept told met (at, same) = λ k is. inl (subst (λ (c : Copied). IsOf k c.files) same is)
 

@@ -33,7 +33,7 @@ use Rattle.std.proofs.Math.Seq.{take-append_seam}
 use Rattle.std.proofs.lemmas.List.{length-append, length-drop, take_all, take-append-drop}
 
 -- the reply that sends this of a file
-abbrev reply_of : World → Names → Row → Option (List ℕ) → Sent → Reply
+abbrev pub reply_of : World → Names → Row → Option (List ℕ) → Sent → Reply
 reply_of w names row date sent = sent_reply true (type_of_last (last_name names)) (stood_in w row) date sent
 
 -- ---- its head
@@ -41,11 +41,11 @@ reply_of w names row date sent = sent_reply true (type_of_last (last_name names)
 length_of_all : (w : World) (names : Names) (row : Row) (date : Option (List ℕ)) → value_of (codes "content-length") (reply_of w names row date All).fields ≡ Some (decimal (length (bytes_of w row.number)))
 length_of_all w names row date = refl
 
-abbrev quoted_of : Option (List ℕ) → Option (List ℕ)
+abbrev pub quoted_of : Option (List ℕ) → Option (List ℕ)
 quoted_of None = None
 quoted_of (Some t) = Some (quoted t)
 
-tag_behind : (type : List ℕ) (tag date : Option (List ℕ)) (stood : Stood) → stood.tag ≡ tag → value_of (codes "etag") (sent_reply true type stood date All).fields ≡ quoted_of tag
+pub tag_behind : (type : List ℕ) (tag date : Option (List ℕ)) (stood : Stood) → stood.tag ≡ tag → value_of (codes "etag") (sent_reply true type stood date All).fields ≡ quoted_of tag
 tag_behind type None None stood is = rw is refl
 tag_behind type None (Some d) stood is = rw is refl
 tag_behind type (Some t) date stood is = rw is refl
@@ -89,7 +89,7 @@ front_of : (kept came more bytes : List ℕ) → bytes ≡ kept ++ (came ++ more
 front_of kept came more bytes is = sym (ap (take (length (kept ++ came))) (is ∙ sym (append_assoc kept came more)) ∙ take-append_seam (kept ++ came) more)
 
 -- the body of a slice is what stands there
-slice_bytes : (w : World) (number start count : ℕ) → start + count ≡ length (bytes_of w number) → body_in w (slice_where number start count) ≡ drop start (bytes_of w number)
+pub slice_bytes : (w : World) (number start count : ℕ) → start + count ≡ length (bytes_of w number) → body_in w (slice_where number start count) ≡ drop start (bytes_of w number)
 slice_bytes w number start count fits = by (count == 0) refl
   where
     rest_is : length (drop start (bytes_of w number)) ≡ count
@@ -155,18 +155,18 @@ from_rest w names row k came more at path tag front inside body = record {
 
 -- ---- the three requests
 
-record HasTag (w : World) (names : Names) (k : Kept) : Type 0 where
+pub record HasTag (w : World) (names : Names) (k : Kept) : Type 0 where
   pub tag : List ℕ
   pub is : k.tag ≡ quoted tag
   pub text : IsTagText tag
   pub good : IsGood w names k
 
-abbrev GoodFor : World → Names → Awaits → Type 0
+abbrev pub GoodFor : World → Names → Awaits → Type 0
 GoodFor w names whole = Unit {0}
 GoodFor w names (rest k) = HasTag w names k × (length k.bytes < k.len)
 GoodFor w names (same k) = HasTag w names k
 
-good_for : (w : World) (names : Names) (old : Option Kept) → IfSome old (IsGood w names) → GoodFor w names (awaits old)
+pub good_for : (w : World) (names : Names) (old : Option Kept) → IfSome old (IsGood w names) → GoodFor w names (awaits old)
 good_for w names None good = tt
 good_for w names (Some k) good = by (length k.tag == 0) (length k.bytes == k.len) (length k.bytes == 0) refl refl
   where
@@ -186,7 +186,7 @@ text_value : (o : Option (List ℕ)) (tag : List ℕ) → has_text o tag ≡ tru
 text_value None tag e = cc
 text_value (Some t) tag e = ap quoted (sym ((bytes_eq-Decides tag t).0 e))
 
-front_there : (w : World) (names : Names) (row : Row) (k : Kept) (h : HasTag w names k) → IsFileAt w names row → has_text (stood_in w row).tag h.tag ≡ true
+pub front_there : (w : World) (names : Names) (row : Row) (k : Kept) (h : HasTag w names k) → IsFileAt w names row → has_text (stood_in w row).tag h.tag ≡ true
     → (k.tag ≡ tag_in w row) × IsFrontOf k (bytes_of w row.number)
 front_there w names row k h at e =
     let same : tag_in w row ≡ k.tag = text_value (stood_in w row).tag h.tag e ∙ sym h.is in
@@ -206,7 +206,7 @@ when_whole w names fields reply got s f n left came more small headers body piec
     (sym (body ∙ ap (λ (r : Reply). body_in w r.parts) is) ∙ pieces)
 
 -- the status of what is sent
-sent_as : (w : World) (names : Names) (fields : Fields) (reply : Reply) (s : Served w names fields reply) (sent : Sent) → sent_of Get fields (stood_in w s.row) ≡ sent → reply.status ≡ sent_status sent
+pub sent_as : (w : World) (names : Names) (fields : Fields) (reply : Reply) (s : Served w names fields reply) (sent : Sent) → sent_of Get fields (stood_in w s.row) ≡ sent → reply.status ≡ sent_status sent
 sent_as w names fields reply s sent e = ap (λ (r : Reply). r.status) s.sent.2 ∙ ap sent_status e
 
 is_ok : (status : ℕ) → (status == 200) ≡ true → is_awaited status ≡ true

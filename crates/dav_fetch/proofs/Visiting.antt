@@ -1,5 +1,5 @@
 -- The visit of a file, from the calls that made it.
-use Rattle.std.proofs.Common.{◌≡◌, ◌⊎◌, inl, inr, ◌<◌, ℕ, List, [], ◌∷◌, Option, Result, Ok, Err, IfErr, refl, sym, ap, subst}
+use Rattle.std.proofs.Common.{◌≡◌, ◌⊎◌, inl, inr, ◌<◌, ℕ, List, [], ◌∷◌, Option, Result, Ok, Err, IfErr, refl, sym, ap, subst, arith}
 use Rattle.dav_io.specs.declared.fields.Field.{Field}
 use Rattle.dav_core.specs.DavPath.{WebPath}
 use Rattle.dav_core.specs.Path.{Names}
@@ -34,22 +34,22 @@ file_visit names old s m at t path asked got g came worth result r path_is asked
 
 pub bytes_visit : (path : WebPath) (names : Names) (f : Kept) (n : ℕ) (visit : Visit) (ended : Result Unit MirrorError) (s t : PeerState) → path ≡ file_path names → BytesEnd path n visit.came ended s t → VisitEnds names (gives f n) visit ended s t
 bytes_visit path names f n visit (Ok x) s t is h = h
-bytes_visit path names f n visit (Err (Short p got announced)) s t is (at, b, c, d, over, stays) = (subst (λ q. p ≡ q) is at, b, c, d, over)
+bytes_visit path names f n visit (Err (Short p got announced)) s t is (at, b, c, d, over, stays) = (subst (λ q. p ≡ q) is at, b, c, d, over, stays)
 bytes_visit path names f n visit (Err PeerFailed) s t is h = h
-bytes_visit path names f n visit (Err NoMemory) s t is h = tt
+bytes_visit path names f n visit (Err NoMemory) s t is h = h
 bytes_visit path names f n visit (Err (Refused p status)) s t is h = absurd h
 bytes_visit path names f n visit (Err (NotAPage p)) s t is h = absurd h
 bytes_visit path names f n visit (Err (BadReply p)) s t is h = absurd h
 bytes_visit path names f n visit (Err (TooLong p)) s t is h = absurd h
 bytes_visit path names f n visit (Err (Budget m)) s t is h = absurd h
 
-pub refused_visit : (path : WebPath) (names : Names) (visit : Visit) (e : MirrorError) (s t : PeerState) → path ≡ file_path names → (e ≡ Refused path visit.got.status) ⊎ (e ≡ NoMemory) → FileEnds names refuses visit e s t
-refused_visit path names visit e s t is (inl so) = subst (λ x. FileEnds names refuses visit x s t) (sym so) (is, refl)
-refused_visit path names visit e s t is (inr so) = subst (λ x. FileEnds names refuses visit x s t) (sym so) tt
+pub refused_visit : (path : WebPath) (names : Names) (visit : Visit) (e : MirrorError) (s : PeerState) → path ≡ file_path names → (e ≡ Refused path visit.got.status) ⊎ (e ≡ NoMemory) → FileEnds names refuses visit e s s
+refused_visit path names visit e s is (inl so) = subst (λ x. FileEnds names refuses visit x s s) (sym so) (is, refl, refl)
+refused_visit path names visit e s is (inr so) = subst (λ x. FileEnds names refuses visit x s s) (sym so) (omega arith)
 
-pub spoiled_visit : (path : WebPath) (names : Names) (visit : Visit) (e : MirrorError) (s t : PeerState) → path ≡ file_path names → (e ≡ BadReply path) ⊎ (e ≡ NoMemory) → FileEnds names spoils visit e s t
-spoiled_visit path names visit e s t is (inl so) = subst (λ x. FileEnds names spoils visit x s t) (sym so) is
-spoiled_visit path names visit e s t is (inr so) = subst (λ x. FileEnds names spoils visit x s t) (sym so) tt
+pub spoiled_visit : (path : WebPath) (names : Names) (visit : Visit) (e : MirrorError) (s : PeerState) → path ≡ file_path names → (e ≡ BadReply path) ⊎ (e ≡ NoMemory) → FileEnds names spoils visit e s s
+spoiled_visit path names visit e s is (inl so) = subst (λ x. FileEnds names spoils visit x s s) (sym so) (is, refl)
+spoiled_visit path names visit e s is (inr so) = subst (λ x. FileEnds names spoils visit x s s) (sym so) (omega arith)
 
 pub takes_from : (names : Names) (old : Option Kept) (made most : ℕ) (s t : PeerState) (result : Taken) → made < most → link_is_short (file_path names) → AsksFile names old s result t → TakesFile names old made most s result t
 takes_from names old made most s t result few short (inl visit) = inl (few, visit)
@@ -57,7 +57,7 @@ takes_from names old made most s t result few short (inr (e, ended, kept, why)) 
 
 page_due : (dir : Names) (made most : ℕ) (s t : PeerState) (e : MirrorError) → made < most → link_is_short (dir_path dir) → PageFails dir s e t → (last : List Visit) × AtPage dir made most e s last t
 page_due dir made most s t e few short (inl not) = ([], inl (refl, not_got (dir_path dir) made most e s t few short not))
-page_due dir made most s t e few short (inr (visit, m, visited, ends)) = (visit ∷ [], inr (visit, m, refl, visited, ends))
+page_due dir made most s t e few short (inr (visit, m, visited, is, ends)) = (visit ∷ [], inr (visit, m, refl, visited, is, ends))
 
 pub pages_due : {A : Type 0} (dir : Names) (path : WebPath) (made most : ℕ) (s t : PeerState) (r : Result A MirrorError) → path ≡ dir_path dir → made < most → link_is_short path
     → IfErr r (λ e. PageFails path.names s e t) → IfErr r (λ e. (last : List Visit) × AtPage dir made most e s last t)

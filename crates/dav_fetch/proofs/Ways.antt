@@ -6,7 +6,7 @@ use Rattle.std.proofs.lemmas.List.{drop-append-le}
 use Rattle.dav_core.specs.Path.{Names, is_plain}
 use Rattle.dav_page.specs.declared.row.PageRow.{PageRow}
 use Rattle.dav_fetch.specs.declared.found.Found.{Found}
-use Rattle.dav_fetch.specs.Fetching.{Visits}
+use Rattle.dav_fetch.specs.Fetching.{Visits, WholeVisits}
 use Rattle.dav_fetch.specs.Peer.{PeerState}
 use Rattle.dav_fetch.proofs.Orders.{drop_step}
 use Rattle.dav_fetch.specs.Walk.{IsFound, IsPageOf, Pages, Visit, Way, dirs_on, each_once, files_on, way_of, with_all}
@@ -14,6 +14,14 @@ use Rattle.dav_fetch.specs.Walk.{IsFound, IsPageOf, Pages, Visit, Way, dirs_on, 
 pub visits_then : (s m t : PeerState) (a b : List Visit) → Visits s a m → Visits m b t → Visits s (a ++ b) t
 visits_then s m t [] b p q = subst (λ x. Visits x b t) p q
 visits_then s m t (v ∷ a) b (n, here, p) q = (n, here, visits_then n m t a b p q)
+
+pub whole_then : (s m t : PeerState) (a b : List Visit) → WholeVisits s a m → WholeVisits m b t → WholeVisits s (a ++ b) t
+whole_then s m t [] b p q = subst (λ x. WholeVisits x b t) p q
+whole_then s m t (v ∷ a) b (n, here, over, p) q = (n, here, over, whole_then n m t a b p q)
+
+pub whole_visits : (s t : PeerState) (a : List Visit) → WholeVisits s a t → Visits s a t
+whole_visits s t [] p = p
+whole_visits s t (v ∷ a) (n, here, over, p) = (n, here, whole_visits n t a p)
 
 pub pages_then : (x y z : Way) (a b : List Visit) → Pages x a y → Pages y b z → Pages x (a ++ b) z
 pages_then x y z [] b p q = subst (λ w. Pages w b z) p q

@@ -29,16 +29,16 @@ stops_fetched s t old most e stop = record {
   goes = subst (λ due. Goes due stop.way (length stop.visits) most old stop.mid stop.last (Err e) t old) (sym stop.is_due) (stop.at, refl);
 }
 
-pub lacks_fetched : (s t : PeerState) (old : Copied) (most : ℕ) → Fetched s old most (Err NoMemory) t old
-lacks_fetched s t old most = record {
-  pages = [];
-  way = start;
-  read = refl;
-  mid = s;
-  chain = refl;
-  within = omega arith;
+pub unplanned_fetched : (s t : PeerState) (old : Copied) (most : ℕ) (w : Walked) → WalksTo s most (Ok w) t → Fetched s old most (Err NoMemory) t old
+unplanned_fetched s t old most w (visits, chain, read, made, within) = record {
+  pages = visits;
+  way = record { due = []; dirs = drop 1 w.dirs.items; files = w.files.items };
+  read = read;
+  mid = t;
+  chain = chain;
+  within = subst (λ k. k ≤ most) made within;
   rest = [];
-  goes = (inl (refl, tt), refl);
+  goes = inr (record { lacks = refl; none = refl; stays = refl; same = refl });
 }
 
 pub gathered_fetched : (s m t : PeerState) (old : Copied) (most : ℕ) (w : Walked) (dirs paths : List Names) (g : Gathered) → WalksTo s most (Ok w) m → IsOrdered (drop 1 w.dirs.items) dirs → IsOrdered w.files.items paths
@@ -51,7 +51,7 @@ gathered_fetched s m t old most w dirs paths g (visits, chain, read, made, withi
   chain = chain;
   within = subst (λ k. k ≤ most) made within;
   rest = gathers.visits ++ gathers.last;
-  goes = record {
+  goes = inl (record {
     dirs = dirs_are;
     paths = paths;
     ordered = paths_are;
@@ -65,7 +65,7 @@ gathered_fetched s m t old most w dirs paths g (visits, chain, read, made, withi
     chain = gathers.chain;
     within = subst (λ k. k + length gathers.visits ≤ most) made gathers.within;
     ends = subst (λ k. FilesEnd gathers.left old.files gathers.got (k + length gathers.visits) most g.ended gathers.mid gathers.last t g.files.items) made gathers.ends;
-  };
+  });
 }
 
 -- ---- files have names
@@ -107,5 +107,5 @@ pub within_all : (files : List Kept) → AllByRecursion IsKept files → AllByRe
 within_all [] each = tt
 within_all (f ∷ fs) each = (each.0.within, within_all fs each.1)
 
-pub lacks_stop : (s t : PeerState) (most : ℕ) → StopsAt s most NoMemory t
-lacks_stop s t most = record { visits = []; way = start; dir = []; due = []; mid = s; last = []; chain = refl; read = refl; is_due = refl; within = omega arith; at = inl (refl, tt) }
+pub lacks_stop : (s : PeerState) (most : ℕ) → StopsAt s most NoMemory s
+lacks_stop s most = record { visits = []; way = start; dir = []; due = []; mid = s; last = []; chain = refl; read = refl; is_due = refl; within = omega arith; at = inl (refl, inl refl) }

@@ -16,7 +16,7 @@ use Rattle.dav_fetch.specs.Copy.{IsOf, path_cmp}
 use Rattle.dav_fetch.specs.Judging.{Use, gives, keeps, refuses, spoils, use_of, grown}
 use Rattle.dav_fetch.specs.Peer.{PeerState, RepliesIn, links_most}
 use Rattle.dav_fetch.specs.Reading.{IsOver, ReadOn}
-use Rattle.dav_fetch.specs.Walk.{Visit, IsPageOf, Way, Pages, start}
+use Rattle.dav_fetch.specs.Walk.{Visit, IsPageOf, Way, Pages, page_most, start}
 
 -- ---- visits over a peer
 
@@ -29,6 +29,11 @@ pub record Visited (s : PeerState) (visit : Visit) (t : PeerState) : Type 0 wher
 abbrev pub Visits : PeerState → List Visit → PeerState → Type 0
 Visits s [] t = t ≡ s
 Visits s (visit ∷ visits) t = (m : PeerState) × Visited s visit m × Visits m visits t
+
+-- the same, and each body was read to its end
+abbrev pub WholeVisits : PeerState → List Visit → PeerState → Type 0
+WholeVisits s [] t = t ≡ s
+WholeVisits s (visit ∷ visits) t = (m : PeerState) × Visited s visit m × IsOver m × WholeVisits m visits t
 
 -- ---- files
 
@@ -71,44 +76,45 @@ Files old (path ∷ paths) (visit ∷ visits) got left = (worth : Use) × (rest 
 
 -- ---- why it ended
 
--- the most bytes of a page
-abbrev pub page_most : ℕ
-page_most = 16777216
-
 abbrev pub link_is_short : WebPath → Type 0
 link_is_short path = length (link_of (shown path)) ≤ links_most
 
--- The request for this path is due. It isn't made, or gets no answer.
+-- The request for this path is due. It isn't made, or gets no answer. Where memory is refused, it is either.
 abbrev pub NotAsked : WebPath → ℕ → ℕ → MirrorError → PeerState → PeerState → Type 0
 NotAsked path made most (TooLong p) s t = (p ≡ path) × (made < most) × (link_is_short path → ⊥) × (t ≡ s)
 NotAsked path made most (Budget m) s t = (made ≡ most) × (m ≡ made) × (t ≡ s)
 NotAsked path made most PeerFailed s t = link_is_short path × (made < most) × Rose s.faults t.faults
-NotAsked path made most NoMemory s t = Unit {0}
+NotAsked path made most NoMemory s t = (t ≡ s) ⊎ ((made < most) × link_is_short path × (s.faults ≤ t.faults))
 NotAsked path made most (Refused p status) s t = ⊥
 NotAsked path made most (NotAPage p) s t = ⊥
 NotAsked path made most (BadReply p) s t = ⊥
 NotAsked path made most (Short p got announced) s t = ⊥
 
+-- The page of this directory was asked for.
+pub record IsPageVisit (dir : Names) (visit : Visit) : Type 0 where
+  pub path : visit.path ≡ dir_path dir
+  pub asked : visit.asked ≡ []
+
 -- A page was asked for, and isn't good for anything.
 abbrev pub PageEnds : Names → Visit → MirrorError → PeerState → PeerState → Type 0
-PageEnds dir visit (Refused p status) s t = (p ≡ dir_path dir) × (status ≡ visit.got.status) × (status ≢ 200)
-PageEnds dir visit (TooLong p) s t = (p ≡ dir_path dir) × (visit.got.status ≡ 200) × (page_most < length visit.came)
+PageEnds dir visit (Refused p status) s t = (p ≡ dir_path dir) × (status ≡ visit.got.status) × (status ≢ 200) × (t ≡ s)
+PageEnds dir visit (TooLong p) s t = (p ≡ dir_path dir) × (visit.got.status ≡ 200) × (page_most < length visit.came) × (t ≡ s)
 PageEnds dir visit (NotAPage p) s t = (p ≡ dir_path dir) × (visit.got.status ≡ 200) × IsOver t
-    × ((found : List Found) → IsPageOf dir visit found → ⊥)
+    × (length visit.came ≤ page_most) × ((found : List Found) → IsPageOf dir visit found → ⊥) × (t ≡ s)
 PageEnds dir visit PeerFailed s t = (visit.got.status ≡ 200) × Rose s.faults t.faults
-PageEnds dir visit NoMemory s t = Unit {0}
+PageEnds dir visit NoMemory s t = s.faults ≤ t.faults
 PageEnds dir visit (Budget m) s t = ⊥
 PageEnds dir visit (BadReply p) s t = ⊥
 PageEnds dir visit (Short p got announced) s t = ⊥
 
 -- A file was asked for, and didn't come whole.
 abbrev pub FileEnds : Names → Use → Visit → MirrorError → PeerState → PeerState → Type 0
-FileEnds path refuses visit (Refused p status) s t = (p ≡ file_path path) × (status ≡ visit.got.status)
-FileEnds path spoils visit (BadReply p) s t = p ≡ file_path path
+FileEnds path refuses visit (Refused p status) s t = (p ≡ file_path path) × (status ≡ visit.got.status) × (t ≡ s)
+FileEnds path spoils visit (BadReply p) s t = (p ≡ file_path path) × (t ≡ s)
 FileEnds path (gives f n) visit (Short p got announced) s t = (p ≡ file_path path) × (got ≡ length visit.came)
-    × (announced ≡ n) × (got < n) × IsOver t
+    × (announced ≡ n) × (got < n) × IsOver t × (t ≡ s)
 FileEnds path (gives f n) visit PeerFailed s t = (length visit.came < n) × Rose s.faults t.faults
-FileEnds path worth visit NoMemory s t = Unit {0}
+FileEnds path worth visit NoMemory s t = s.faults ≤ t.faults
 FileEnds path worth visit e s t = ⊥
 
 -- the paths in order, each once
@@ -122,7 +128,8 @@ pub record IsOrdered (found paths : List Names) : Type 0 where
 -- A page was due. After an error in the pages the copy is as it was.
 abbrev pub AtPage : Names → ℕ → ℕ → MirrorError → PeerState → List Visit → PeerState → Type 0
 AtPage dir made most e s last t = ((last ≡ []) × NotAsked (dir_path dir) made most e s t)
-    ⊎ ((visit : Visit) × (m : PeerState) × (last ≡ visit ∷ []) × Visited s visit m × PageEnds dir visit e m t)
+    ⊎ ((visit : Visit) × (m : PeerState) × (last ≡ visit ∷ []) × Visited s visit m × IsPageVisit dir visit
+    × PageEnds dir visit e m t)
 
 -- A file was due, and its request wasn't made or got no answer: what is kept of it stays.
 pub record FileNotAsked (path : Names) (more : List Names) (old got : List Kept) (made most : ℕ) (e : MirrorError)
@@ -168,8 +175,17 @@ pub record Takes (way : Way) (made most : ℕ) (old : Copied) (s : PeerState) (r
   pub within : made + length visits ≤ most
   pub ends : FilesEnd left old.files got (made + length visits) most result mid last t new.files
 
+-- All pages are read, and memory is refused to what they name: no file is asked, and the copy is as it was.
+pub record Unplanned (old : Copied) (s : PeerState) (rest : List Visit) (result : Result Unit MirrorError)
+    (t : PeerState) (new : Copied) : Type 0 where
+  pub lacks : result ≡ Err NoMemory
+  pub none : rest ≡ []
+  pub stays : t ≡ s
+  pub same : new ≡ old
+
 abbrev pub Goes : List Names → Way → ℕ → ℕ → Copied → PeerState → List Visit → Result Unit MirrorError → PeerState → Copied → Type 0
 Goes [] way made most old s rest result t new = Takes way made most old s rest result t new
+    ⊎ Unplanned old s rest result t new
 Goes (dir ∷ due) way made most old s rest (Ok x) t new = ⊥
 Goes (dir ∷ due) way made most old s rest (Err e) t new = AtPage dir made most e s rest t × (new ≡ old)
 
@@ -179,7 +195,7 @@ pub record Fetched (s : PeerState) (old : Copied) (most : ℕ) (result : Result 
   pub way : Way
   pub read : Pages start pages way
   pub mid : PeerState
-  pub chain : Visits s pages mid
+  pub chain : WholeVisits s pages mid
   pub within : length pages ≤ most
   -- the visits behind the pages: to files, and the one that ended it
   pub rest : List Visit

@@ -5,14 +5,14 @@ use Rattle.dav_core.specs.Path.{Names}
 use Rattle.dav_fetch.specs.declared.error.MirrorError.{MirrorError}
 use Rattle.dav_fetch.specs.declared.error.MirrorError.TheVariants.{Peer as PeerFailed, Refused, NotAPage, BadReply, Short, TooLong, Budget, NoMemory}
 use Rattle.dav_fetch.specs.declared.walking.Walked.{Walked}
-use Rattle.dav_fetch.specs.Fetching.{AtPage, PageEnds, Visited, Visits}
+use Rattle.dav_fetch.specs.Fetching.{AtPage, IsPageVisit, PageEnds, Visited, WholeVisits}
 use Rattle.dav_fetch.specs.Peer.{PeerState}
 use Rattle.dav_fetch.specs.Walk.{Pages, Visit, Way, start}
 
 -- A request that may be made got no answer.
 abbrev pub NotGot : MirrorError → PeerState → PeerState → Type 0
 NotGot PeerFailed s t = Rose s.faults t.faults
-NotGot NoMemory s t = Unit {0}
+NotGot NoMemory s t = s.faults ≤ t.faults
 NotGot (Refused p status) s t = ⊥
 NotGot (NotAPage p) s t = ⊥
 NotGot (BadReply p) s t = ⊥
@@ -22,7 +22,8 @@ NotGot (Budget m) s t = ⊥
 
 -- A page was asked for in vain.
 abbrev pub PageFails : Names → PeerState → MirrorError → PeerState → Type 0
-PageFails dir s e t = NotGot e s t ⊎ ((visit : Visit) × (m : PeerState) × Visited s visit m × PageEnds dir visit e m t)
+PageFails dir s e t = NotGot e s t ⊎ ((visit : Visit) × (m : PeerState) × Visited s visit m × IsPageVisit dir visit
+    × PageEnds dir visit e m t)
 
 -- The pages were read so far, and then this is due.
 pub record StopsAt (s : PeerState) (most : ℕ) (e : MirrorError) (t : PeerState) : Type 0 where
@@ -32,14 +33,14 @@ pub record StopsAt (s : PeerState) (most : ℕ) (e : MirrorError) (t : PeerState
   pub due : List Names
   pub mid : PeerState
   pub last : List Visit
-  pub chain : Visits s visits mid
+  pub chain : WholeVisits s visits mid
   pub read : Pages start visits way
   pub is_due : way.due ≡ dir ∷ due
   pub within : length visits ≤ most
   pub at : AtPage dir (length visits) most e mid last t
 
 abbrev pub WalksTo : PeerState → ℕ → Result Walked MirrorError → PeerState → Type 0
-WalksTo s most (Ok w) t = (visits : List Visit) × Visits s visits t
+WalksTo s most (Ok w) t = (visits : List Visit) × WholeVisits s visits t
     × Pages start visits (record { due = []; dirs = drop 1 w.dirs.items; files = w.files.items })
     × (w.made ≡ length visits) × (w.made ≤ most)
 WalksTo s most (Err e) t = StopsAt s most e t

@@ -20,7 +20,7 @@ abbrev pub BytesEnd : WebPath → ℕ → List ℕ → Result Unit MirrorError �
 BytesEnd path n came (Ok x) s t = (n ≤ length came) × (t ≡ s)
 BytesEnd path n came (Err (Short p got announced)) s t = (p ≡ path) × (got ≡ length came) × (announced ≡ n) × (got < n) × IsOver t × (t ≡ s)
 BytesEnd path n came (Err PeerFailed) s t = (length came < n) × Rose s.faults t.faults
-BytesEnd path n came (Err NoMemory) s t = Unit {0}
+BytesEnd path n came (Err NoMemory) s t = s.faults ≤ t.faults
 BytesEnd path n came (Err e) s t = ⊥
 
 -- So many bytes were read of a file, as far as they came.

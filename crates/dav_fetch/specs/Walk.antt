@@ -1,5 +1,5 @@
 -- How the pages are asked, and what is found in them.
-use Rattle.std.specs.Prelude.{◌≡◌, ℕ, List, [], ◌∷◌, ◌++◌, drop, cond, Bool, true, Option}
+use Rattle.std.specs.Prelude.{◌≡◌, ◌≤◌, ℕ, List, [], ◌∷◌, ◌++◌, length, drop, cond, Bool, true, Option}
 use Rattle.std.specs.List.{AllZip, list_any}
 use Rattle.dav_io.specs.declared.fields.Field.{Field}
 use Rattle.dav_core.specs.DavPath.{WebPath, final_slash, shown}
@@ -88,11 +88,16 @@ with_all dir found way = record {
   files = way.files ++ files_on dir found;
 }
 
+-- the most bytes of a page
+abbrev pub page_most : ℕ
+page_most = 16777216
+
 -- A page of this directory was read whole, and names these.
 pub record IsPageOf (dir : Names) (visit : Visit) (names : List Found) : Type 0 where
   pub path : visit.path ≡ dir_path dir
   pub asked : visit.asked ≡ []
   pub status : visit.got.status ≡ 200
+  pub fits : length visit.came ≤ page_most
   pub found : IsFoundIn dir visit.came names
 
 -- the pages in their order

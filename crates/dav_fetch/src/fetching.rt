@@ -77,7 +77,8 @@ fn gather<P: Peer>(
     requires order { AreInOrder old.items }
     requires kept { AllByRecursion (λ f. length f.bytes ≤ f.len) old.items }
     requires made { made ≤ most }
-    ensures { Gathers old.items paths.now made most (P.state peer.old) result (P.state peer.new) }
+    ensures gathers { Gathers old.items paths.now made most (P.state peer.old) result (P.state peer.new) }
+    ensures loan { P.loan peer.new ≡ P.loan peer.old }
 {
     old.reverse();
     let mut made = made;
@@ -122,6 +123,7 @@ pub fn fetch<P: Peer>(
     requires { IsCopy copy.old }
     ensures fetched { Fetched (P.state peer.old) copy.old most result (P.state peer.new) copy.new }
     ensures copy { IsCopy copy.new }
+    ensures loan { P.loan peer.new ≡ P.loan peer.old }
 {
     let walked = walk(alloc, peer, most)?;
     let Ok(plan) = planned(alloc, walked) else {

@@ -1,6 +1,5 @@
 //! What holds of the definitions alone. Each function has nothing to do, and its contract is the law.
-ghost use Rattle.std.specs.Prelude.{◌≡◌, ◌++◌, ◌∷◌, ℕ, List, Bool, IfSome, Option, Some, true};
-ghost use Rattle.std.specs.Prelude.{Result};
+ghost use Rattle.std.specs.Prelude.{◌≡◌, ◌<◌, ◌++◌, ◌∷◌, ℕ, List, Bool, IfSome, length, Ok, Option, Result, Some, true};
 ghost use Rattle.std.specs.List.{AllByRecursion, AllZip};
 ghost use Rattle.dav_core.specs.declared.member.Member.{Member as Shown};
 ghost use Rattle.dav_core.specs.Path.{Names, is_plain};
@@ -18,7 +17,7 @@ ghost use Rattle.dav_fetch.specs.Asking.{asked_for, awaits, dir_path, file_path}
 ghost use Rattle.dav_fetch.specs.Copy.{IsOfWorld};
 ghost use Rattle.dav_fetch.specs.Fetching.{Fetched, visits_of};
 ghost use Rattle.dav_fetch.specs.Judging.{gives, grown, use_of};
-ghost use Rattle.dav_fetch.specs.Mirroring.{AllTold, AreKept, AreShort, IsGood, IsMet, IsSound, MetIn};
+ghost use Rattle.dav_fetch.specs.Mirroring.{AllTold, AreKept, AreShort, IsGood, IsLinkless, IsMet, IsMirror, IsOverOne, IsSound, IsWithinLimits, MetIn, Mirrors, visible_rows};
 ghost use Rattle.dav_fetch.specs.Peer.{PeerState, RepliesOf, body_in};
 ghost use Rattle.dav_fetch.specs.Walk.{IsFound, IsMember};
 
@@ -51,4 +50,24 @@ pub fn a_fetched_copy_is_sound()
     ensures { (s t : PeerState) (old new : Copy) (most : ℕ) (result : Result Unit Error) (f : Fetched s old most result t new)
         → AreKept old.files → AllTold (visits_of f)
         → ((w : World) → MetIn w (visits_of f) → IsMet old.files w) → IsSound old (visits_of f) new }
+{}
+
+/// Whole: where the peer told one world throughout and refused nothing, Ok leaves exactly that world's tree, as far as it
+/// is reached by names not beginning with a dot.
+pub fn a_still_tree_is_mirrored()
+    ensures { (s t : PeerState) (old new : Copy) (most : ℕ) (f : Fetched s old most (Ok tt) t new) → (w : World)
+        → IsOverOne w s old (visits_of f) t → IsMirror w new }
+{}
+
+/// Reached: where no link stands in that tree, what is shown is within the limits, and a request more is allowed than there
+/// are visible rows, it comes to that, or memory is refused.
+pub fn a_still_tree_is_fetched()
+    ensures { (s t : PeerState) (old new : Copy) (most : ℕ) (result : Result Unit Error) (f : Fetched s old most result t new)
+        → (w : World) → IsOverOne w s old (visits_of f) t → IsLinkless w → IsWithinLimits w
+        → length (visible_rows w) < most → Mirrors w result new }
+{}
+
+/// A tree has one mirror at most.
+pub fn a_tree_has_one_mirror()
+    ensures { (w : World) (one other : Copy) → IsMirror w one → IsMirror w other → one ≡ other }
 {}

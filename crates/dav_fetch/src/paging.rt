@@ -3,6 +3,7 @@ ghost use Rattle.std.specs.List.{AllZip};
 ghost use Rattle.dav_fetch.specs.declared.found.Found.{Found as It};
 ghost use Rattle.dav_fetch.specs.Asking.{dir_path};
 ghost use Rattle.dav_fetch.specs.Fetching.{Visited, link_is_short};
+ghost use Rattle.dav_fetch.specs.Reading.{IsOver};
 ghost use Rattle.dav_fetch.specs.Steps.{PageFails};
 ghost use Rattle.dav_fetch.specs.Walk.{IsFoundIn, IsPageOf, Visit};
 
@@ -42,8 +43,9 @@ pub(crate) fn ask_page<P: Peer>(
     requires dir { dir.now ≡ dir_path dir.now.names }
     requires link { link_is_short dir.now }
     ensures ok { IfOk result (λ found. (visit : Visit) × Visited (P.state peer.old) visit (P.state peer.new)
-        × IsPageOf dir.now.names visit found.items) }
+        × IsPageOf dir.now.names visit found.items × IsOver (P.state peer.new)) }
     ensures err { IfErr result (λ e. PageFails dir.now.names (P.state peer.old) e (P.state peer.new)) }
+    ensures loan { P.loan peer.new ≡ P.loan peer.old }
 {
     let Ok(path) = dir.try_clone() else {
         return Err(MirrorError::NoMemory);

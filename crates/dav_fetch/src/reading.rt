@@ -27,8 +27,9 @@ fn least(count: usize, left: u64) -> usize
 
 // Reads the body of the last reply, up to so many bytes, and puts them behind those that are there.
 pub(crate) fn read_up_to<P: Peer>(peer: &mut P, due: u64, into: &mut Vec<u8>) -> Ended
-    ensures { (came : List ℕ) × ReadsTo (P.state peer.old) due came result (P.state peer.new)
+    ensures reads { (came : List ℕ) × ReadsTo (P.state peer.old) due came result (P.state peer.new)
         × (into.new.items ≡ into.old.items ++ take due came) }
+    ensures loan { P.loan peer.new ≡ P.loan peer.old }
 {
     let mut buffer = [0u8; 4096];
     let mut left = due;

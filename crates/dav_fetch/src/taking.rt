@@ -49,7 +49,8 @@ fn short(path: &DavPath, got: usize, announced: u64) -> MirrorError
 
 // Reads the bytes that are due of a file, behind those that are kept.
 fn read_file<P: Peer>(peer: &mut P, path: &DavPath, file: Kept, due: u64) -> Taken
-    ensures { ReadsFile path.now file due (P.state peer.old) result (P.state peer.new) }
+    ensures reads { ReadsFile path.now file due (P.state peer.old) result (P.state peer.new) }
+    ensures loan { P.loan peer.new ≡ P.loan peer.old }
 {
     let Kept {
         path: names,
@@ -99,7 +100,8 @@ fn ask_file<P: Peer>(alloc: Global, peer: &mut P, path: &DavPath, kept: Option<K
     requires path { path.now ≡ file_path path.now.names }
     requires link { link_is_short path.now }
     requires kept { ForSome kept (λ f. length f.bytes ≤ f.len) }
-    ensures { AsksFile path.now.names kept (P.state peer.old) result (P.state peer.new) }
+    ensures asks { AsksFile path.now.names kept (P.state peer.old) result (P.state peer.new) }
+    ensures loan { P.loan peer.new ≡ P.loan peer.old }
 {
     let Ok(fields) = fields_for(alloc, &kept) else {
         return stopped(kept, MirrorError::NoMemory);
@@ -133,7 +135,8 @@ pub(crate) fn take_file<P: Peer>(
     requires names { 0 < length names.now }
     requires made { made ≤ most }
     requires kept { ForSome kept (λ f. length f.bytes ≤ f.len) }
-    ensures { TakesFile names.now kept made most (P.state peer.old) result (P.state peer.new) }
+    ensures takes { TakesFile names.now kept made most (P.state peer.old) result (P.state peer.new) }
+    ensures loan { P.loan peer.new ≡ P.loan peer.old }
 {
     let Ok(path) = file_of(alloc, names) else {
         return stopped(kept, MirrorError::NoMemory);

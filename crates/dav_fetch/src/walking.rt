@@ -1,7 +1,8 @@
 ghost use Rattle.std.specs.Prelude.{true, ◌≡◌, ◌<◌, ◌≤◌, ◌+◌, ◌++◌, [], ◌∷◌, ℕ, List, IfOk, IfErr, OnOk, length, slice_index_or};
 ghost use Rattle.std.specs.List.{list_all};
 ghost use Rattle.dav_core.specs.Path.{is_plain};
-ghost use Rattle.dav_fetch.specs.Fetching.{AtPage, Visited, Visits};
+ghost use Rattle.dav_fetch.specs.Fetching.{AtPage, Visited, WholeVisits};
+ghost use Rattle.dav_fetch.specs.Reading.{IsOver};
 ghost use Rattle.dav_fetch.specs.Steps.{WalksTo};
 ghost use Rattle.dav_fetch.specs.Walk.{IsPageOf, Pages, Visit, dirs_on, each_once, files_on, is_among as the_is_among, way_of, with_new};
 
@@ -101,10 +102,11 @@ fn ask_due<P: Peer>(
 ) -> Result<Vec<Found>, MirrorError>
     requires { made ≤ most }
     ensures ok { IfOk result (λ found. (visit : Visit) × Visited (P.state peer.old) visit (P.state peer.new)
-        × IsPageOf dir.now visit found.items) }
+        × IsPageOf dir.now visit found.items × IsOver (P.state peer.new)) }
     ensures few { OnOk result (made < most) }
     ensures err { IfErr result (λ e. (last : List Visit)
         × AtPage dir.now made most e (P.state peer.old) last (P.state peer.new)) }
+    ensures loan { P.loan peer.new ≡ P.loan peer.old }
 {
     let Ok(path) = dir_of(alloc, dir) else {
         return Err(MirrorError::NoMemory);
@@ -126,7 +128,7 @@ fn go_on<P: Peer>(
 ) -> Result<(), MirrorError>
     requires at { at < length walked.old.dirs.items }
     requires made { walked.old.made ≤ most }
-    ensures done { OnOk result ((visit : Visit) × Visits (P.state peer.old) (visit ∷ []) (P.state peer.new)
+    ensures done { OnOk result ((visit : Visit) × WholeVisits (P.state peer.old) (visit ∷ []) (P.state peer.new)
         × Pages (way_of at walked.old.dirs.items walked.old.files.items) (visit ∷ [])
         (way_of (at + 1) walked.new.dirs.items walked.new.files.items)) }
     ensures inside { OnOk result (at < length walked.new.dirs.items) }
@@ -134,6 +136,7 @@ fn go_on<P: Peer>(
     ensures ends { IfErr result (λ e. (last : List Visit)
         × AtPage (slice_index_or walked.old.dirs.items at []) walked.old.made most e (P.state peer.old) last
         (P.state peer.new)) }
+    ensures loan { P.loan peer.new ≡ P.loan peer.old }
 {
     let found = match ask_due(alloc, peer, &walked.dirs[at], walked.made, most) {
         Ok(found) => found,
@@ -149,7 +152,8 @@ fn go_on<P: Peer>(
 
 // Asks for the page of each directory that is found, in the order of finding, from the root on.
 pub(crate) fn walk<P: Peer>(alloc: Global, peer: &mut P, most: u64) -> Result<Walked, MirrorError>
-    ensures { WalksTo (P.state peer.old) most result (P.state peer.new) }
+    ensures walks { WalksTo (P.state peer.old) most result (P.state peer.new) }
+    ensures loan { P.loan peer.new ≡ P.loan peer.old }
 {
     let mut walked = Walked {
         dirs: Vec::new(alloc),

@@ -20,6 +20,7 @@ loop-at-init g c =
       subst AreInOrder back c.requires.order,
       search rules,
       search rules,
+      refl,
     )
 
 pub take_file-kept-requires-clause-kept : goal.take_file-kept-requires-clause-kept
@@ -36,8 +37,8 @@ keep_rest-requires-clause-paths g c =
     let paths = c.args.paths.now in
     subst AreAscending (sym (take_all (length paths - (c.loop-at.at + 1)) (drop (c.loop-at.at + 1) paths) (omega (arith, length-drop (c.loop-at.at + 1) paths)))) (ascend_drop (c.loop-at.at + 1) paths c.requires.paths)
 
-pub returns-in-Err : goal.returns-in-Err
-returns-in-Err g c =
+pub returns-in-Err-clause-gathers : goal.returns-in-Err-clause-gathers
+returns-in-Err-clause-gathers g c =
     let i = c.loop-at.invariant in
     let paths = c.args.paths.now in
     let old = c.args.old.items in
@@ -48,7 +49,7 @@ returns-in-Err g c =
     let kept : c.next_kept-kept.result ≡ kept_at path old = c.next_kept-kept.ensures.found ∙ same.0 in
     let up : AreAscending (path ∷ more) = subst AreAscending parts (ascend_drop c.loop-at.at paths c.requires.paths) in
     let behind = same_behind path old (reverse c.loop-at.old.items) (reverse c.next_kept-kept.new.rest.items) more (first_below path more up) c.next_kept-kept.ensures.behind same.1 in
-    let takes = subst (λ o. TakesFile path o c.loop-at.made c.args.most (g.P.Peer.state c.loop-at.peer) c.take_file-kept.result (g.P.Peer.state c.take_file-kept.new.peer)) kept c.take_file-kept.ensures in
+    let takes = subst (λ o. TakesFile path o c.loop-at.made c.args.most (g.P.Peer.state c.loop-at.peer) c.take_file-kept.result (g.P.Peer.state c.take_file-kept.new.peer)) kept c.take_file-kept.ensures.takes in
     let rest : kept_of (take (length paths - (c.loop-at.at + 1)) more) (reverse c.next_kept-kept.new.rest.items) ≡ kept_of more old =
     ap (λ ps. kept_of ps (reverse c.next_kept-kept.new.rest.items)) (take_all (length paths - (c.loop-at.at + 1)) more (omega (arith, length-drop (c.loop-at.at + 1) paths)))
     ∙ kept_same old (reverse c.next_kept-kept.new.rest.items) more behind in
@@ -68,7 +69,7 @@ loop-at-preserved g c =
     let same : SameAt old (reverse c.loop-at.old.items) (path ∷ more) = subst (SameAt old (reverse c.loop-at.old.items)) parts i.5 in
     let kept : c.next_kept-kept.result ≡ kept_at path old = c.next_kept-kept.ensures.found ∙ same.0 in
     let up : AreAscending (path ∷ more) = subst AreAscending parts (ascend_drop c.loop-at.at paths c.requires.paths) in
-    let takes = subst (λ o. TakesFile path o c.loop-at.made c.args.most (g.P.Peer.state c.loop-at.peer) c.take_file-kept.result (g.P.Peer.state c.take_file-kept.new.peer)) kept c.take_file-kept.ensures in
+    let takes = subst (λ o. TakesFile path o c.loop-at.made c.args.most (g.P.Peer.state c.loop-at.peer) c.take_file-kept.result (g.P.Peer.state c.take_file-kept.new.peer)) kept c.take_file-kept.ensures.takes in
     let went = gathers_ok old paths c.args.made c.args.most _ _ _ i.0 c.loop-at.files.items (drop c.loop-at.at paths) path more c.loop-at.made c.take_file-kept.result c.in_default.field-0
     i.1 i.2 parts i.3 takes c.in_default.is in (
       went.all,
@@ -79,5 +80,6 @@ loop-at-preserved g c =
       same_behind path old (reverse c.loop-at.old.items) (reverse c.next_kept-kept.new.rest.items) more (first_below path more up) c.next_kept-kept.ensures.behind same.1,
       c.next_kept-kept.ensures.order,
       omega (arith, i.7, c.push_kept.ensures.len, c.push_kept.ensures.capacity, ap length parts),
+      search rules,
       search rules,
     )

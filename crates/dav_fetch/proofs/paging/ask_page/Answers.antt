@@ -1,4 +1,4 @@
-use Rattle.std.proofs.Common.{◌≡◌, ◌∙◌, ◌<◌, ◌++◌, ℕ, List, length, take, Ok, [], inr, sym, ap, subst, rules, arith}
+use Rattle.std.proofs.Common.{◌≡◌, ◌∙◌, ◌<◌, ◌≤◌, ◌++◌, ℕ, List, length, take, Ok, [], inr, refl, sym, ap, subst, rules, arith}
 use Rattle.std.proofs.lemmas.List.{take_all}
 use Rattle.dav_page.proofs.Found.{some_is}
 use Rattle.dav_fetch.specs.Asking.{dir_path}
@@ -11,47 +11,56 @@ use Rattle.dav_fetch.proofs.paging.ask_page.Goals as goal
 page_is : (came page : List ℕ) (due : ℕ) → length came < due → page ≡ [] ++ take due came → page ≡ came
 page_is came page due fewer is = is ∙ take_all due came (omega (arith, fewer))
 
+few : (came : List ℕ) → length came < 16777217 → length came ≤ 16777216
+few came fewer = omega (arith, fewer)
+
 pub returns-in-Ok-Some-clause-ok : goal.returns-in-Ok-Some-clause-ok
 returns-in-Ok-Some-clause-ok g c =
-    let r = c.in-Over.ensures in
+    let r = c.in-Over.ensures.reads in
     let same : c.read_up_to.new.into.items ≡ r.0 = page_is r.0 c.read_up_to.new.into.items _ r.1.ends.2 (r.2 ∙ ap (λ z. z ++ take 16777217 r.0) c.new-page.ensures.items) in (
-      visit_of _ _ c.args.dir.now c.empty-fields.result c.in-Ok-get.got c.in-Ok-get.ensures r.0,
-      visited _ _ _ _ _ _ c.in-Ok-get.ensures r.0 (subst (ReadOn (g.P.Peer.state c.get.new.self) r.0) (sym r.1.ends.0) r.1.read),
-      record { path = c.requires.dir; asked = c.empty-fields.ensures; status = search rules; found = subst (λ p. IsFoundIn c.args.dir.now.names p c.in-Ok-Some.found.items) (c.deref.ensures.value ∙ same) (some_is _ _ _ c.in-Ok-Some.field-0-is c.in-Ok-Some.ensures.some) },
+      visit_of _ _ c.args.dir.now c.empty-fields.result c.in-Ok-get.got c.in-Ok-get.ensures.gets r.0,
+      visited _ _ _ _ _ _ c.in-Ok-get.ensures.gets r.0 (subst (ReadOn (g.P.Peer.state c.get.new.self) r.0) (sym r.1.ends.0) r.1.read),
+      record { path = c.requires.dir; asked = c.empty-fields.ensures; status = search rules; fits = few r.0 r.1.ends.2; found = subst (λ p. IsFoundIn c.args.dir.now.names p c.in-Ok-Some.found.items) (c.deref.ensures.value ∙ same) (some_is _ _ _ c.in-Ok-Some.field-0-is c.in-Ok-Some.ensures.some) },
+      subst IsOver (sym r.1.ends.0) r.1.ends.1,
     )
 
 pub returns-then-status-ne200-clause-err : goal.returns-then-status-ne200-clause-err
 returns-then-status-ne200-clause-err g c = inr (
-  visit_of _ _ c.args.dir.now c.empty-fields.result c.in-Ok-get.got c.in-Ok-get.ensures [],
+  visit_of _ _ c.args.dir.now c.empty-fields.result c.in-Ok-get.got c.in-Ok-get.ensures.gets [],
   g.P.Peer.state c.get.new.self,
-  visited _ _ _ _ _ _ c.in-Ok-get.ensures [] (read_none _),
-  (search rules, search rules, search rules),
+  visited _ _ _ _ _ _ c.in-Ok-get.ensures.gets [] (read_none _),
+  record { path = c.requires.dir; asked = c.empty-fields.ensures },
+  (search rules, search rules, search rules, refl),
 )
 
 pub returns-in-Full-clause-err : goal.returns-in-Full-clause-err
 returns-in-Full-clause-err g c =
-    let r = c.in-Full.ensures in
+    let r = c.in-Full.ensures.reads in
     let path_is : c.in-Ok.path ≡ dir_path c.args.dir.now.names = c.in-Ok.ensures ∙ c.requires.dir in
     let status_is : c.in-Ok-get.got.status ≡ 200 = search rules in inr (
-      visit_of _ _ c.args.dir.now c.empty-fields.result c.in-Ok-get.got c.in-Ok-get.ensures r.0,
+      visit_of _ _ c.args.dir.now c.empty-fields.result c.in-Ok-get.got c.in-Ok-get.ensures.gets r.0,
       g.P.Peer.state c.read_up_to.new.peer,
-      visited _ _ _ _ _ _ c.in-Ok-get.ensures r.0 (subst (ReadOn (g.P.Peer.state c.get.new.self) r.0) (sym r.1.ends.0) r.1.read),
-      (path_is, status_is, r.1.ends.1),
+      visited _ _ _ _ _ _ c.in-Ok-get.ensures.gets r.0 (subst (ReadOn (g.P.Peer.state c.get.new.self) r.0) (sym r.1.ends.0) r.1.read),
+      record { path = c.requires.dir; asked = c.empty-fields.ensures },
+      (path_is, status_is, r.1.ends.1, refl),
     )
 
 pub returns-in-Ok-None-clause-err : goal.returns-in-Ok-None-clause-err
 returns-in-Ok-None-clause-err g c =
-    let r = c.in-Over.ensures in
+    let r = c.in-Over.ensures.reads in
     let same : c.read_up_to.new.into.items ≡ r.0 = page_is r.0 c.read_up_to.new.into.items _ r.1.ends.2 (r.2 ∙ ap (λ z. z ++ take 16777217 r.0) c.new-page.ensures.items) in
     let path_is : c.in-Ok.path ≡ dir_path c.args.dir.now.names = c.in-Ok.ensures ∙ c.requires.dir in
     let status_is : c.in-Ok-get.got.status ≡ 200 = search rules in inr (
-      visit_of _ _ c.args.dir.now c.empty-fields.result c.in-Ok-get.got c.in-Ok-get.ensures r.0,
+      visit_of _ _ c.args.dir.now c.empty-fields.result c.in-Ok-get.got c.in-Ok-get.ensures.gets r.0,
       g.P.Peer.state c.read_up_to.new.peer,
-      visited _ _ _ _ _ _ c.in-Ok-get.ensures r.0 (subst (ReadOn (g.P.Peer.state c.get.new.self) r.0) (sym r.1.ends.0) r.1.read),
+      visited _ _ _ _ _ _ c.in-Ok-get.ensures.gets r.0 (subst (ReadOn (g.P.Peer.state c.get.new.self) r.0) (sym r.1.ends.0) r.1.read),
+      record { path = c.requires.dir; asked = c.empty-fields.ensures },
       (
         path_is,
         status_is,
         subst IsOver (sym r.1.ends.0) r.1.ends.1,
+        few r.0 r.1.ends.2,
         λ found is. c.in-Ok-None.ensures.none (ap (λ o. Ok o) c.in-Ok-None.field-0-is) found (subst (λ p. IsFoundIn c.args.dir.now.names p found) (sym (c.deref.ensures.value ∙ same)) is.found),
+        refl,
       ),
     )

@@ -9,8 +9,9 @@ loop-left-preserved g c =
     let wanted = c.least-wanted.result in
     let added : c.extend_from_slice.new.self.items ≡ c.loop-left.into.items ++ take wanted c.piece.new.into = search rules in (
       i.0 ++ take c.in-Ok.count c.piece.new.into,
-      read_more _ _ _ i.0 c.piece.new.into c.in-Ok.count i.1 c.in-Ok.ensures,
+      read_more _ _ _ i.0 c.piece.new.into c.in-Ok.count i.1 c.in-Ok.ensures.gives,
       added ∙ ap (λ z. z ++ take wanted c.piece.new.into) i.2 ∙ kept_more c.args.due c.in-Ok.count wanted i.0 c.piece.new.into c.args.into.now.items fewer (c.least-wanted.ensures ∙ ap (min c.in-Ok.count) i.3),
-      left_more c.args.due c.in-Ok.count wanted c.loop-left.left i.0 c.piece.new.into c.in-Ok.ensures.is.0 c.least-wanted.ensures i.3,
+      left_more c.args.due c.in-Ok.count wanted c.loop-left.left i.0 c.piece.new.into c.in-Ok.ensures.gives.is.0 c.least-wanted.ensures i.3,
+      search rules,
       search rules,
     )

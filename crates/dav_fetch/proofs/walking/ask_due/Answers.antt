@@ -1,6 +1,7 @@
 use Rattle.std.proofs.Common.{[], IfOk, inl, refl, ap, subst, rules}
 use Rattle.dav_core.specs.DavPath.{WebPath}
 use Rattle.dav_fetch.specs.Fetching.{NotAsked, Visited}
+use Rattle.dav_fetch.specs.Reading.{IsOver}
 use Rattle.dav_fetch.specs.Walk.{IsPageOf, Visit}
 use Rattle.dav_fetch.proofs.Visiting.{pages_due}
 use Rattle.dav_fetch.proofs.walking.ask_due.Goals as goal
@@ -10,7 +11,7 @@ returns-clause-err g c = pages_due c.args.dir.now c.in-Ok.path c.args.made c.arg
 
 pub returns-clause-ok : goal.returns-clause-ok
 returns-clause-ok g c =
-    subst (λ n. IfOk c.ask_page.result (λ found. (visit : Visit) × Visited (g.P.Peer.state c.args.peer.now) visit (g.P.Peer.state c.ask_page.new.peer) × IsPageOf n visit found.items))
+    subst (λ n. IfOk c.ask_page.result (λ found. (visit : Visit) × Visited (g.P.Peer.state c.args.peer.now) visit (g.P.Peer.state c.ask_page.new.peer) × IsPageOf n visit found.items × IsOver (g.P.Peer.state c.ask_page.new.peer)))
     (ap (λ (p : WebPath). p.names) c.in-Ok.ensures) c.ask_page.ensures.ok
 
 pub returns-in-Err-clause-err : goal.returns-in-Err-clause-err

@@ -2,18 +2,18 @@ use Rattle.std.proofs.Common.{◌≡◌, ◌+◌, ℕ, List, ◌∙◌, ◌∷�
 use Rattle.std.proofs.lemmas.List.{length-append}
 use Rattle.dav_fetch.specs.Fetching.{AtPage}
 use Rattle.dav_fetch.specs.Walk.{Visit, start, way_of}
-use Rattle.dav_fetch.proofs.Ways.{due_first, pages_then, visits_then}
+use Rattle.dav_fetch.proofs.Ways.{due_first, pages_then, whole_then}
 use Rattle.dav_fetch.proofs.Whole.{lacks_stop}
 use Rattle.dav_fetch.proofs.walking.walk.Goals as goal
 
 one_longer : (n : ℕ) (a : List Visit) (v : Visit) → n ≡ length a → n + 1 ≡ length (a ++ v ∷ [])
 one_longer n a v e = ap (λ k. k + 1) e ∙ sym (length-append a (v ∷ []))
 
-pub returns-then-is_err : goal.returns-then-is_err
-returns-then-is_err g c = lacks_stop _ _ c.args.most
+pub returns-then-is_err-clause-walks : goal.returns-then-is_err-clause-walks
+returns-then-is_err-clause-walks g c = lacks_stop _ c.args.most
 
-pub returns-in-Err : goal.returns-in-Err
-returns-in-Err g c =
+pub returns-in-Err-clause-walks : goal.returns-in-Err-clause-walks
+returns-in-Err-clause-walks g c =
     let i = c.loop-at.invariant in
     let e = c.in-Err.ensures.ends in
     record {
@@ -35,9 +35,10 @@ loop-at-preserved g c =
     let i = c.loop-at.invariant in
     let e = c.in-Ok.ensures.done in (
       i.0 ++ e.0 ∷ [],
-      visits_then _ _ _ i.0 (e.0 ∷ []) i.1 e.1,
+      whole_then _ _ _ i.0 (e.0 ∷ []) i.1 e.1,
       pages_then start _ _ i.0 (e.0 ∷ []) i.2 e.2,
       c.in-Ok.ensures.made.0 ∙ one_longer c.loop-at.walked.made i.0 e.0 i.3,
       c.in-Ok.ensures.made.1,
       omega (arith, c.in-Ok.ensures.inside),
+      search rules,
     )

@@ -1,12 +1,13 @@
 use Rattle.std.proofs.Common.{◌≡◌, ◌≤◌, ◌-◌, List, length}
-use Rattle.dav_fetch.specs.Fetching.{Visits}
+use Rattle.dav_fetch.specs.Fetching.{WholeVisits}
 use Rattle.dav_fetch.specs.Walk.{Pages, Visit, start, way_of}
 use Rattle.dav_fetch.proofs.walking.walk.Given as goal
 
 abbrev pub invariant-loop-at : goal.invariant-loop-at
-invariant-loop-at g l = (visits : List Visit) × Visits (g.P.Peer.state l.initial.peer) visits (g.P.Peer.state l.peer)
+invariant-loop-at g l = (visits : List Visit) × WholeVisits (g.P.Peer.state l.initial.peer) visits (g.P.Peer.state l.peer)
     × Pages start visits (way_of l.at l.walked.dirs.items l.walked.files.items)
     × (l.walked.made ≡ length visits) × (l.walked.made ≤ l.most) × (l.at ≤ length l.walked.dirs.items)
+    × (g.P.Peer.loan l.peer ≡ g.P.Peer.loan l.initial.peer)
 
 abbrev pub decreases-loop-at : goal.decreases-loop-at
 decreases-loop-at g l = l.most - l.walked.made
