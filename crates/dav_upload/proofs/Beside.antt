@@ -135,7 +135,7 @@ dir_through (Some x) found p e = by x.kind refl
 parent_one : (name : List ℕ) → parent_of (name ∷ []) ≡ []
 parent_one name = refl
 
-parent_more : (name next : List ℕ) (names : Names) → parent_of (name ∷ next ∷ names) ≡ name ∷ parent_of (next ∷ names)
+pub parent_more : (name next : List ℕ) (names : Names) → parent_of (name ∷ next ∷ names) ≡ name ∷ parent_of (next ∷ names)
 parent_more name next names =
     let e : length (name ∷ next ∷ names) - 1 ≡ suc (length (next ∷ names) - 1) = omega arith in
     ap (λ n. take n (name ∷ next ∷ names)) e

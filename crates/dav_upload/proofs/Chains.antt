@@ -105,11 +105,11 @@ new_at tree path edit e = by (place tree path) refl e
     by (Ok (Some row)) f g = cc
     by (Ok None) f g = (f, sym (ok_edit (Some (makes path File [])) edit g))
 
-hidden_long : (p : Names) → is_hidden_path p ≡ true → 0 < length p
+pub hidden_long : (p : Names) → is_hidden_path p ≡ true → 0 < length p
 hidden_long [] e = cc
 hidden_long (x ∷ p) e = omega arith
 
-named_long : (p : Names) → p ≢ [] → 0 < length p
+pub named_long : (p : Names) → p ≢ [] → 0 < length p
 named_long [] ne = absurd (ne refl)
 named_long (x ∷ p) ne = omega arith
 
@@ -154,7 +154,7 @@ module _ {S C F : Type 0} (view : View S C F) (writes : Writes F) (c : C) (test 
         subst (λ x. Began view.file.handle (view.state t).live x v w) (sym is) (shown_then v u w (kept_unseen v u same) (kept_unseen u w (told clear)))
     opened_began target token u m (Ok f) r here same clear p opens one is =
         let path = (hidden_beside target token).names in
-        let (edit, row, allowed, edited, at, open_at) = told_pair (view.state m).told (view.state t).told _ u w (takes_all.opens m t (hidden_beside target token) (Ok f) p opens).1 here now clear in
+        let (edit, row, allowed, edited, at, open_at, of_kind) = told_pair (view.state m).told (view.state t).told _ u w (takes_all.opens m t (hidden_beside target token) (Ok f) p opens).1 here now clear in
         let (free, made) = new_at u.tree path edit allowed in
         let did : Edited (makes path File []) u w = subst (λ e. EditedBy e u w) made edited in
         let world = takes_all.worlds m u here in
@@ -169,7 +169,7 @@ module _ {S C F : Type 0} (view : View S C F) (writes : Writes F) (c : C) (test 
         subst (λ x. Began view.file.handle (view.state t).live x v w) (sym is) (
           shown_then v u w (kept_unseen v u same) unseen,
           links_then v u w (links_kept v u same) (links_made u w path [] did),
-          made_stands (view.file.handle f) (view.state m).live (view.state t).live u w others path (view.file.handle f) row world hides none did unseen at refl one.live one.options open_at,
+          made_stands (view.file.handle f) (view.state m).live (view.state t).live u w others path (view.file.handle f) row world hides none did unseen at refl one.live one.options of_kind open_at,
         )
 
     refused_began : (r : Result (Upload F) UploadError) (e : UploadError) → r ≡ Err e → SameShown v w → Began view.file.handle (view.state t).live r v w
@@ -213,6 +213,7 @@ module _ {S C F : Type 0} (view : View S C F) (writes : Writes F) (c : C) (test 
       any_pieces broken e f = record {
         lives = stands.lives;
         how = stands.how;
+        file = stands.file;
         held = stands.held;
         opens = stands.opens;
         row = stands.row;

@@ -58,7 +58,7 @@ renewed_kind number t r = by (r.number == number) refl
     by true e = rw e refl
     by false e = rw e refl
 
-renewed_number : (number : ℕ) (t : FileTime) (r : Row) → (renewed_row number t r).number ≡ r.number
+pub renewed_number : (number : ℕ) (t : FileTime) (r : Row) → (renewed_row number t r).number ≡ r.number
 renewed_number number t r = by (r.number == number) refl
   where
     by : (b : Bool) → (r.number == number) ≡ b → (renewed_row number t r).number ≡ r.number

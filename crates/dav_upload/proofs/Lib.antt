@@ -12,3 +12,8 @@ pub mod MembersTaken
 pub mod Links
 pub mod Chains
 pub mod Sweeps
+pub mod Leaves
+pub mod Others
+pub mod StepsLeave
+pub mod ReadsLeave
+pub mod SweepsLeave

@@ -18,7 +18,7 @@ use Rattle.dav_upload.proofs.Kept.{IsMadeIn, kept_filled, made_in, same_keep, un
 use Rattle.dav_upload.proofs.Making.{filled_unseen}
 use Rattle.dav_upload.proofs.Moving.{numbered}
 
-some_of : {A : Type 0} (o : Option A) → IsSome o → (a : A) × (o ≡ Some a)
+pub some_of : {A : Type 0} (o : Option A) → IsSome o → (a : A) × (o ≡ Some a)
 some_of None s = cc
 some_of (Some a) s = (a, refl)
 
@@ -47,6 +47,7 @@ module _ (own : ℕ) (live then : ℕ → Option Live) (v w : World) (others : O
       let holds : Holds w s.held.number = subst (Holds w) there (inl (numbered w.tree hidden row at)) in record {
         lives = subst IsSome (sym (others.lives h ne)) s.lives;
         how = λ l is. s.how l (sym (others.lives h ne) ∙ is);
+        file = λ l is. s.file l (sym (others.lives h ne) ∙ is);
         held = s.held;
         opens = opens;
         row = row;
@@ -62,8 +63,8 @@ module _ (own : ℕ) (live then : ℕ → Option Live) (v w : World) (others : O
   -- ---- the upload that begins
 
   pub made_stands : (hidden : Names) (h : ℕ) (row : Row) → IsWorld v → is_hidden_path hidden ≡ true → row_at v.tree hidden ≡ None → Edited (makes hidden File []) v w → SameShown v w
-      → row_at w.tree hidden ≡ Some row → own ≡ h → IsSome (then h) → ((l : Live) → then h ≡ Some l → l.how ≡ upload_options) → w.opens h ≡ Some (at_start row.number) → StandsIn then w hidden h false []
-  made_stands hidden h row is hides none edited same at owned alive how opens =
+      → row_at w.tree hidden ≡ Some row → own ≡ h → IsSome (then h) → ((l : Live) → then h ≡ Some l → l.how ≡ upload_options) → ((l : Live) → then h ≡ Some l → l.kind ≡ row.kind) → w.opens h ≡ Some (at_start row.number) → StandsIn then w hidden h false []
+  made_stands hidden h row is hides none edited same at owned alive how of opens =
       let made : IsMadeIn v w hidden = made_in v w hidden none edited in
       let one : Some made.row ≡ Some row = sym made.at ∙ at in
       let here : made.row ≡ row = cc in
@@ -72,6 +73,7 @@ module _ (own : ℕ) (live then : ℕ → Option Live) (v w : World) (others : O
       let holds : Holds w row.number = inl (numbered w.tree hidden row at) in record {
         lives = alive;
         how = how;
+        file = λ l is_live. of l is_live ∙ (ap (λ (r : Row). r.kind) (sym here) ∙ made.kind);
         held = at_start row.number;
         opens = opens;
         row = row;
@@ -98,6 +100,7 @@ module _ (own : ℕ) (live then : ℕ → Option Live) (v w : World) (others : O
       let holds : Holds w s.held.number = subst (Holds w) (there ∙ number) (inl (numbered w.tree hidden row at)) in record {
         lives = subst IsSome (sym alive) s.lives;
         how = λ l is. s.how l (sym alive ∙ is);
+        file = λ l is. s.file l (sym alive ∙ is);
         held = now;
         opens = opens;
         row = row;

@@ -9,7 +9,7 @@ use Rattle.dav_core.specs.declared.tree.Kind.TheVariants.{Dir, File, Link}
 use Rattle.dav_core.specs.declared.tree.Row.{Row}
 use Rattle.dav_core.specs.Allowed.{found_then, taking_file, taking_file_row}
 use Rattle.dav_core.specs.DavPath.{WebPath, last_name}
-use Rattle.dav_core.specs.Edits.{Edit, takes}
+use Rattle.dav_core.specs.Edits.{Edit, Edited, takes}
 use Rattle.dav_core.specs.Listing.{or_empty}
 use Rattle.dav_core.specs.Path.{Names}
 use Rattle.dav_core.specs.Tree.{is_dir, is_link, is_linked, row_at}
@@ -24,7 +24,7 @@ use Rattle.dav_upload.specs.declared.error.UploadError.{UploadError}
 use Rattle.dav_upload.specs.declared.error.UploadError.TheVariants.{NoMemory}
 use Rattle.dav_upload.specs.Ends.{EndsAs, is_spoiled}
 use Rattle.dav_upload.specs.Names.{is_hidden, is_hidden_path}
-use Rattle.dav_upload.specs.Shown.{SameShown}
+use Rattle.dav_upload.specs.Shown.{IsHiddenIn, SameShown}
 use Rattle.dav_upload.specs.Steps.{HasClearNames}
 use Rattle.dav_upload.specs.Takes.{ReadsPlainly, TakesUploads}
 use Rattle.dav_upload.specs.Uploading.{Sweeps, TakesAll, hidden_files, in_dir, is_hidden_file}
@@ -41,7 +41,7 @@ use Rattle.dav_upload.proofs.Tokens.{last_of}
 -- ---- one removal
 
 -- What is shown stays, and no link stands where none stood.
-record Unseen (v w : World) : Type 0 where
+pub record Unseen (v w : World) : Type 0 where
   pub shown : SameShown v w
   pub clear : (p : Names) → is_linked v.tree p ≡ false → is_linked w.tree p ≡ false
 
@@ -58,35 +58,40 @@ dir_refused v w row hidden r is at kind ends = by r ends
     by (Ok x) (edit, allowed, edited) = let f : Err IsDir ≡ Ok edit = sym refused ∙ allowed in cc
     by (Err e) left = left_refused (is_spoiled e) IsDir v w (subst (λ a. LeftBy (is_spoiled e) a v w) refused left)
 
-hidden_taken : (v w : World) (hidden : Names) (r : Result Unit FsError) → IsWorld v → is_hidden_path hidden ≡ true → is_linked v.tree hidden ≡ false → EndsAs (taking_file v.tree hidden) r v w → Unseen v w
-hidden_taken v w hidden r is hides clear ends = by (row_at v.tree hidden) refl
+-- The file with a hidden name is taken, or all stays.
+abbrev pub Took : Names → World → World → Type 0
+Took hidden v w = (IsHiddenIn v hidden × Edited (takes hidden) v w) ⊎ SameBesidesOpens v w
+
+pub hidden_took : (v w : World) (hidden : Names) (r : Result Unit FsError) → IsWorld v → is_hidden_path hidden ≡ true → is_linked v.tree hidden ≡ false → EndsAs (taking_file v.tree hidden) r v w → Took hidden v w
+hidden_took v w hidden r is hides clear ends = by (row_at v.tree hidden) refl
   where
-    by_kind : (row : Row) → row_at v.tree hidden ≡ Some row → (k : Kind) → row.kind ≡ k → Unseen v w
-    by_kind row at Dir kind = unseen_kept v w (dir_refused v w row hidden r is at kind ends)
+    by_kind : (row : Row) → row_at v.tree hidden ≡ Some row → (k : Kind) → row.kind ≡ k → Took hidden v w
+    by_kind row at Dir kind = inr (dir_refused v w row hidden r is at kind ends)
     by_kind row at Link kind = never (is_link row.kind) (ap is_link kind) (unlinked_row v.tree hidden row (looked_at v hidden row is at) clear)
     by_kind row at File kind = elim (taken_or_left v w hidden row r is at kind ends) [
-      | inl edited ↦ record {
-        shown = taken_unseen v w hidden (file_hidden v hidden row is hides at kind) edited;
-        clear = λ p free. taken_unlinked v w hidden p edited free;
-      }
-      | inr same ↦ unseen_kept v w same
+      | inl edited ↦ inl (file_hidden v hidden row is hides at kind, edited)
+      | inr same ↦ inr same
     ]
 
-    by : (o : Option Row) → row_at v.tree hidden ≡ o → Unseen v w
-    by None none = unseen_kept v w (none_taken v w hidden r none ends)
+    by : (o : Option Row) → row_at v.tree hidden ≡ o → Took hidden v w
+    by None none = inr (none_taken v w hidden r none ends)
     by (Some row) at = by_kind row at row.kind refl
+
+took_unseen : (v w : World) (hidden : Names) → Took hidden v w → Unseen v w
+took_unseen v w hidden (inl (stands, edited)) = record { shown = taken_unseen v w hidden stands edited; clear = λ p free. taken_unlinked v w hidden p edited free }
+took_unseen v w hidden (inr same) = unseen_kept v w same
 
 -- ---- the paths of a sweep
 
 -- Each path has a hidden name, and no link stands on the way to it.
-abbrev AreClear : World → List WebPath → Type 0
+abbrev pub AreClear : World → List WebPath → Type 0
 AreClear w paths = AllByRecursion (λ (p : WebPath). (is_hidden_path p.names ≡ true) × (is_linked w.tree p.names ≡ false)) paths
 
-still_clear : (v w : World) (paths : List WebPath) → Unseen v w → AreClear v paths → AreClear w paths
+pub still_clear : (v w : World) (paths : List WebPath) → Unseen v w → AreClear v paths → AreClear w paths
 still_clear v w [] unseen all = tt
 still_clear v w (path ∷ paths) unseen ((hides, free), all) = ((hides, unseen.clear path.names free), still_clear v w paths unseen all)
 
-files_clear : (w : World) (dir : WebPath) (members : List Child) → HasClearNames w dir.names → AreClear w (hidden_files dir members)
+pub files_clear : (w : World) (dir : WebPath) (members : List Child) → HasClearNames w dir.names → AreClear w (hidden_files dir members)
 files_clear w dir [] clear = tt
 files_clear w dir (m ∷ members) clear = by (is_hidden_file m) refl (files_clear w dir members clear)
   where
@@ -98,10 +103,14 @@ files_clear w dir (m ∷ members) clear = by (is_hidden_file m) refl (files_clea
 
 module _ {S C F : Type 0} (view : View S C F) (writes : Writes F) (c : C) (test : S → Bool) (takes_all : TakesUploads view writes c test) where
   module _ {L E : Type 0} (lists : Listings S C L E) (reads : ReadsPlainly view lists c test) where
-    removed_one : (path : WebPath) (s m : S) (v x : World) (r : Result Unit FsError) → (view.state s).told ≡ Some v → (view.state m).told ≡ Some x → test s ≡ true
+    pub took_one : (path : WebPath) (s m : S) (v x : World) (r : Result Unit FsError) → (view.state s).told ≡ Some v → (view.state m).told ≡ Some x → test s ≡ true
+        → is_hidden_path path.names ≡ true → is_linked v.tree path.names ≡ false → view.removes_file s c path r m → Took path.names v x
+    took_one path s m v x r was now plain hides free removes =
+        hidden_took v x path.names r (takes_all.worlds s v was) hides free (told_pair (view.state s).told (view.state m).told _ v x (takes_all.removes s m path r plain removes).1 was now free)
+
+    pub removed_one : (path : WebPath) (s m : S) (v x : World) (r : Result Unit FsError) → (view.state s).told ≡ Some v → (view.state m).told ≡ Some x → test s ≡ true
         → is_hidden_path path.names ≡ true → is_linked v.tree path.names ≡ false → view.removes_file s c path r m → Unseen v x
-    removed_one path s m v x r was now plain hides free removes =
-        hidden_taken v x path.names r (takes_all.worlds s v was) hides free (told_pair (view.state s).told (view.state m).told _ v x (takes_all.removes s m path r plain removes).1 was now free)
+    removed_one path s m v x r was now plain hides free removes = took_unseen v x path.names (took_one path s m v x r was now plain hides free removes)
 
     taken_all : (paths : List WebPath) (n : ℕ) (s t : S) (r : Result ℕ UploadError) (v w : World) → (view.state s).told ≡ Some v → (view.state t).told ≡ Some w → test s ≡ true → TakesAll view lists c paths n s r t
         → AreClear v paths → SameShown v w

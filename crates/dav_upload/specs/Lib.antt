@@ -7,3 +7,4 @@ pub mod Ends
 pub mod Uploading
 pub mod Takes
 pub mod Steps
+pub mod Others

@@ -16,6 +16,7 @@ pub record StandsIn (live : ℕ → Option Live) (w : World) (hidden : Names) (h
     : Type 0 where
   pub lives : IsSome (live h)
   pub how : (l : Live) → live h ≡ Some l → l.how ≡ upload_options
+  pub file : (l : Live) → live h ≡ Some l → l.kind ≡ File
   pub held : OpenFile
   pub opens : w.opens h ≡ Some held
   pub row : Row

@@ -30,7 +30,7 @@ module _ {S C F : Type 0} (view : View S C F) (writes : Writes F) (c : C) where
         → test n ≡ true
     pub opens : (m n : S) (path : WebPath) (r : Result F FsError) → test m ≡ true
         → view.opens m c path upload_options r n → (test n ≡ true)
-        × Told m n (λ v w. is_linked v.tree path.names ≡ false → MakesFile view.file.handle path.names r v w)
+        × Told m n (λ v w. is_linked v.tree path.names ≡ false → MakesFile view.file.handle (view.state n).live path.names r v w)
     pub removes : (m n : S) (path : WebPath) (r : Result Unit FsError) → test m ≡ true
         → view.removes_file m c path r n → (test n ≡ true)
         × Told m n (λ v w. is_linked v.tree path.names ≡ false → EndsAs (taking_file v.tree path.names) r v w)

@@ -1,2 +1,5 @@
 mod LocalTakes
 mod LocalReading
+mod Places
+mod Succeeds
+mod SweptExactly

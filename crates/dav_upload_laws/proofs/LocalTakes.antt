@@ -1,7 +1,7 @@
 -- What the calls of a local store that an upload makes do to the told world, where names don't fold and the disk's root is served: each is one call of the disk
 -- at the path as it is written.
 use Rattle.std.proofs.Common.{◌≡◌, ◌⊎◌, ◌≤◌, inl, inr, ◌&&◌, ◌||◌, ℕ, Bool, true, false, not, List, [], length, drop, Option, None, Some, Result, Ok, Err, refl, sym, ap, subst, ◌∙◌}
-use Rattle.std.specs.Option.{is_some}
+use Rattle.std.specs.Option.{is_some, option_map}
 use Rattle.dav_io.specs.Told.{Both}
 use Rattle.dav_io.proofs.ToldLemmas.{both_map, both_same, both_then}
 use Rattle.dav_io.specs.declared.clock.Moment.{Moment}
@@ -16,14 +16,15 @@ use Rattle.dav_core.specs.declared.tree.Kind.TheVariants.{Dir, File}
 use Rattle.dav_core.specs.declared.tree.Row.{Row}
 use Rattle.dav_core.specs.Allowed.{Allowed, moving, opening, taking_file}
 use Rattle.dav_core.specs.DavPath.{WebPath}
-use Rattle.dav_core.specs.Disk.{DiskState, Live, Metas, OpenedOver, Opens, at_start, kind_opened}
-use Rattle.dav_core.specs.Edits.{SameOpens}
+use Rattle.dav_core.specs.Disk.{DiskState, Live, Metas, OpenedOver, Opens, Refused, at_start, kind_opened}
+use Rattle.dav_core.specs.Edits.{Edit, SameOpens}
 use Rattle.dav_core.specs.Errors.{fs_error_of}
 use Rattle.dav_core.specs.Path.{Names}
 use Rattle.dav_core.specs.Tree.{is_dir, is_linked, look, row_at}
 use Rattle.dav_core.specs.World.{OpenFile, SameBesidesOpens, World, bytes_of}
 use Rattle.dav_core.specs.Writing.{DoesIn, LeftBy, Renames, RemovesFile, WrittenIn, WroteIn, appends, can_write}
 use Rattle.dav_core.proofs.UnchangedLemmas.{put_same, same_besides, same_besides_then}
+use Rattle.dav_store.specs.Files.{Spoiled}
 use Rattle.dav_store.specs.View.{Listings, View}
 use Rattle.dav_methods.specs.Pouring.{Writes, WritesFile}
 use Rattle.dav_methods.proofs.Stages.{both_known}
@@ -44,6 +45,7 @@ use Rattle.dav_local_laws.specs.LocalStore.{IsLocalStore, place}
 use Rattle.dav_upload.specs.Ends.{EndsAs, MakesFile, WritesAt, is_spoiled}
 use Rattle.dav_upload.specs.Pieces.{upload_options}
 use Rattle.dav_upload.specs.Takes.{TakesUploads}
+use Rattle.dav_upload.proofs.Chains.{told_on}
 use Rattle.dav_upload_laws.specs.Written.{finds_as_written}
 
 -- ---- what is told
@@ -56,7 +58,7 @@ both_and (Some v) (Some w) P Q p q = (p, q)
 
 -- ---- where a path is found
 
-written_parts : (ways : Ways) → finds_as_written ways ≡ true → (ways.alone ≡ None) × (ways.folds ≡ false)
+pub written_parts : (ways : Ways) → finds_as_written ways ≡ true → (ways.alone ≡ None) × (ways.folds ≡ false)
 written_parts ways e = by ways.alone ways.folds refl refl e
   where
     by : (alone : Option Names) (folds : Bool) → ways.alone ≡ alone → ways.folds ≡ folds → (not (is_some alone) && not folds) ≡ true → (ways.alone ≡ None) × (ways.folds ≡ false)
@@ -184,7 +186,7 @@ module _ {S C : Type 0} (view : View S C LocalFsFile) (lists : Listings S C Loca
   -- ---- an opening
 
   opened_at : (path : WebPath) (h : Handle) (t : DiskState) (v w : World) → OpenedOver path.names upload_options (Ok h) (kind_opened (Ok h) t) v w → is_linked v.tree path.names ≡ false
-      → MakesFile view.file.handle path.names (filed (Ok h)) v w
+      → MakesFile view.file.handle t.live path.names (filed (Ok h)) v w
   opened_at path h t v w (number, opens, listings, held, rows) clear =
       let (edit, row, allowed, edited, there, numbered, of) = rows clear in
       let own : view.file.handle (record { handle = h }) ≡ h.0 = local.handle (record { handle = h }) in (
@@ -194,32 +196,64 @@ module _ {S C : Type 0} (view : View S C LocalFsFile) (lists : Listings S C Loca
         edited,
         there,
         ap w.opens own ∙ (ap (λ (f : ℕ → Option OpenFile). f h.0) opens ∙ (put_same h.0 (Some (at_start number)) v.opens ∙ ap (λ k. Some (at_start k)) (sym numbered))),
+        λ l is. (let at : t.live h.0 ≡ Some l = ap t.live (sym own) ∙ is in
+            let both : Some l.kind ≡ Some row.kind = sym (ap (option_map (λ (x : Live). x.kind)) at) ∙ of in
+            cc),
       )
 
-  abbrev Made : WebPath → Result LocalFsFile FsError → World → World → Type 0
-  Made path r v w = is_linked v.tree path.names ≡ false → MakesFile view.file.handle path.names r v w
+  abbrev Made : (ℕ → Option Live) → WebPath → Result LocalFsFile FsError → World → World → Type 0
+  Made live path r v w = is_linked v.tree path.names ≡ false → MakesFile view.file.handle live path.names r v w
 
-  opened_told : (path : WebPath) (answer : Result Handle DiskError) (s t : DiskState) → Opens s path.names upload_options answer t → Both s.told t.told (Made path (filed answer))
-  opened_told path (Ok h) s t opens = both_map s.told t.told _ (Made path (filed (Ok h))) (λ v w over clear. opened_at path h t v w over clear) opens.told
-  opened_told path (Err d) s t opens = both_map s.told t.told _ (Made path (filed (Err d))) (λ v w over clear. (over.1 clear).0) opens.told
+  opened_told : (path : WebPath) (answer : Result Handle DiskError) (s t : DiskState) → Opens s path.names upload_options answer t → Both s.told t.told (Made t.live path (filed answer))
+  opened_told path (Ok h) s t opens = both_map s.told t.told _ (Made t.live path (filed (Ok h))) (λ v w over clear. opened_at path h t v w over clear) opens.told
+  opened_told path (Err d) s t opens = both_map s.told t.told _ (Made t.live path (filed (Err d))) (λ v w over clear. (over.1 clear).0) opens.told
 
-  makes_told : (m n : S) (path : WebPath) (r : Result LocalFsFile FsError) → plain m → view.opens m c path upload_options r n → Told m n (Made path r)
+  makes_told : (m n : S) (path : WebPath) (r : Result LocalFsFile FsError) → plain m → view.opens m c path upload_options r n → Told m n (Made (view.state n).live path r)
   makes_told m n path r p h = by (is_shut (ways m) path) refl
     where
       run : IsOpening (at m) path upload_options r (at n)
       run = (local.opens m n c path upload_options r h).0
 
-      lost : (e : FsError) → r ≡ Err e → at n ≡ at m → Told m n (Made path r)
-      lost e is same = subst (λ z. Told m n (Made path z)) (sym is) (unasked m n (Made path (Err e)) same (λ w clear. same_besides w))
+      lost : (e : FsError) → r ≡ Err e → at n ≡ at m → Told m n (Made (view.state n).live path r)
+      lost e is same = subst (λ z. Told m n (Made (view.state n).live path z)) (sym is) (unasked m n (Made (view.state n).live path (Err e)) same (λ w clear. same_besides w))
 
-      by : (b : Bool) → is_shut (ways m) path ≡ b → Told m n (Made path r)
+      by : (b : Bool) → is_shut (ways m) path ≡ b → Told m n (Made (view.state n).live path r)
       by true e = let (is, same) = run.forbidden e in lost fs.Forbidden is same
       by false e = elim (finds_here (at m) (at n) path.names _ r p (run.asked e)) [
         | inl (answer, t, opens, is, ends) ↦
             let same : t ≡ view.state n = sym (ap (λ (x : Place). x.disk) ends) in
-            subst (λ z. Told m n (Made path z)) (sym is) (subst (λ (d : DiskState). Both (view.state m).told d.told (Made path (filed answer))) same (opened_told path answer (view.state m) t opens))
+            subst (λ z. Told m n (Made (view.state n).live path z)) (sym is) (subst (λ (d : DiskState). Both (view.state m).told d.told (Made d.live path (filed answer))) same (opened_told path answer (view.state m) t opens))
         | inr (none, same) ↦ lost fs.NoMemory none same
       ]
+
+  -- a hidden file that may be made isn't refused but for a fault or want of memory
+  pub local_opens_only : (m n : S) (path : WebPath) (e : FsError) → plain m → is_shut (ways m) path ≡ false → view.opens m c path upload_options (Err e) n → (v : World) → (view.state m).told ≡ Some v
+      → is_linked v.tree path.names ≡ false → (edit : Option Edit) → opening v.tree path.names upload_options ≡ Ok edit → Spoiled {T = LocalFsFile} (view.state m) (Err e) (view.state n)
+  local_opens_only m n path e p shut h v was clear edit allowed = elim (finds_here (at m) (at n) path.names _ (Err e) p ((local.opens m n c path upload_options (Err e) h).0.asked shut)) [
+    | inl (answer, t, opens, is, ends) ↦
+        let same : t ≡ view.state n = sym (ap (λ (x : Place). x.disk) ends) in
+        subst (λ (d : DiskState). Spoiled {T = LocalFsFile} (view.state m) (Err e) d) same (by answer t opens is)
+    | inr (none, same) ↦ inr none
+  ]
+    where
+      called : (d : DiskError) (t : DiskState) → Opens (view.state m) path.names upload_options (Err d) t → Refused d (opening v.tree path.names upload_options)
+      called d t opens = let (w, here, over) = told_on (view.state m).told t.told _ v opens.told was in (over.1 clear).1
+
+      never_allowed : (d : DiskError) (t : DiskState) → opening v.tree path.names upload_options ≡ Err d → Spoiled {T = LocalFsFile} (view.state m) (Err e) t
+      never_allowed d t is = let f : Ok edit ≡ Err d = sym allowed ∙ is in cc
+
+      by_error : (d : DiskError) (t : DiskState) → Opens (view.state m) path.names upload_options (Err d) t → ◌≡◌ {A = Result LocalFsFile FsError} (Err e) (Err (fs_error_of d)) → Spoiled {T = LocalFsFile} (view.state m) (Err e) t
+      by_error Failed t opens is = inl (is, opens.asks.rose refl)
+      by_error NoMemory t opens is = inr is
+      by_error NotFound t opens is = never_allowed NotFound t (called NotFound t opens)
+      by_error Exists t opens is = never_allowed Exists t (called Exists t opens)
+      by_error NotDir t opens is = never_allowed NotDir t (called NotDir t opens)
+      by_error IsDir t opens is = never_allowed IsDir t (called IsDir t opens)
+      by_error NotEmpty t opens is = never_allowed NotEmpty t (called NotEmpty t opens)
+
+      by : (answer : Result Handle DiskError) (t : DiskState) → Opens (view.state m) path.names upload_options answer t → Err e ≡ filed answer → Spoiled {T = LocalFsFile} (view.state m) (Err e) t
+      by (Ok f) t opens is = cc
+      by (Err d) t opens is = by_error d t opens is
 
   -- ---- a removal
 

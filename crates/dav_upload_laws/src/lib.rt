@@ -1,22 +1,30 @@
 //! What uploads make of the world that is shown, over a local store. The calls do nothing.
 #![tactic(auto)]
 
-ghost use Rattle.std.specs.Prelude.{◌≡◌, ℕ, List, Result, Some, false, true};
+ghost use Rattle.std.specs.Prelude.{◌≡◌, ℕ, List, None, Result, Some, false, true};
+ghost use Rattle.dav_io.specs.Counts.{RefusedNothing};
 ghost use Rattle.dav_core.specs.DavPath.{WebPath};
-ghost use Rattle.dav_core.specs.Tree.{is_linked};
+ghost use Rattle.dav_core.specs.Tree.{is_linked, row_at};
 ghost use Rattle.dav_core.specs.World.{World};
 ghost use Rattle.dav_local.specs.declared.file.LocalFsFile.{LocalFsFile};
 ghost use Rattle.dav_local.specs.declared.fs.LocalFs.{LocalFs};
+ghost use Rattle.dav_local.specs.Shown.{knowledge_of};
+ghost use Rattle.dav_local.specs.Ways.{rules_of};
 ghost use Rattle.dav_model.specs.Conditions.{Fields};
+ghost use Rattle.dav_model.specs.Finding.{is_clear, is_forbidden};
+ghost use Rattle.dav_model.specs.Valid.{IsRegular};
 ghost use Rattle.dav_model.specs.declared.outcome.Outcome.{Outcome};
 ghost use Rattle.dav_upload.specs.declared.error.UploadError.{UploadError as Refusal};
 ghost use Rattle.dav_upload.specs.declared.upload.Upload.{Upload};
-ghost use Rattle.dav_upload.specs.Names.{hidden_beside};
+ghost use Rattle.dav_upload.specs.Names.{hidden_beside, is_taken};
+ghost use Rattle.dav_upload.specs.Others.{IsNot, IsNotHiddenIn, LeavesOthers};
 ghost use Rattle.dav_upload.specs.Shown.{SameShown};
 ghost use Rattle.dav_upload.specs.Standing.{StandsIn};
 ghost use Rattle.dav_upload.specs.Steps.{Began, Committed, HasClearNames, IsBeside, IsClear, Pieced};
 ghost use Rattle.dav_upload.specs.Takes.{ReadsPlainly, TakesUploads};
 ghost use Rattle.dav_upload.specs.Uploading.{Aborts, Begins, Commits, Sweeps, WritesPiece};
+ghost use Rattle.dav_upload_laws.specs.Passing.{PassesTable, Succeeds};
+ghost use Rattle.dav_upload_laws.specs.Swept.{Swept};
 ghost use Rattle.dav_upload_laws.specs.Written.{finds_as_written};
 
 use dav_cache::Remember;
@@ -73,4 +81,91 @@ pub fn local_uploads_are_whole<D: Disk, R: Remember>(_fs: &LocalFs<D, R>)
         → SameShown v w }
 {
     local_stores_take_uploads(_fs)
+}
+
+/// Over such a store each step of an upload leaves to others what they have: the bytes of each file but its own stay as
+/// long as somebody holds it, what another handle has open stays open with its bytes, and each upload with another
+/// hidden path goes on standing. A sweep leaves so what stands at all but the hidden names of its directory.
+pub fn local_uploads_leave_others<D: Disk, R: Remember>(_fs: &LocalFs<D, R>)
+    ensures begins { (s t : LocalFs D R) (v w : World) (target : WebPath) (fields : Fields) (token : ℕ)
+        (r : Result (Upload LocalFsFile) Refusal) → (D.state s.disk).told ≡ Some v → (D.state t.disk).told ≡ Some w
+        → finds_as_written s.ways ≡ true → is_linked v.tree (hidden_beside target token).names ≡ false
+        → Begins ⟦<LocalFs<D, R> as DavFileSystem>⟧.view tt target fields token s r t
+        → LeavesOthers None (IsNot (hidden_beside target token).names) (D.state s.disk).live (D.state t.disk).live v w }
+    ensures pieces { (u x : Upload LocalFsFile) (s t : LocalFs D R) (v w : World) (bytes pieces : List ℕ)
+        (r : Result Unit Refusal) → (D.state s.disk).told ≡ Some v → (D.state t.disk).told ≡ Some w
+        → StandsIn (D.state s.disk).live v u.hidden.names (⟦<LocalFs<D, R> as DavFileSystem>⟧.view.file.handle u.file)
+        u.broken pieces
+        → WritesPiece ⟦<LocalFs<D, R> as DavFileSystem>⟧.view ⟦<LocalFsFile as DavFile<D>>⟧.view.writes u bytes s r t x
+        → LeavesOthers (Some (⟦<LocalFs<D, R> as DavFileSystem>⟧.view.file.handle u.file)) (IsNot u.hidden.names) (D.state s.disk).live (D.state t.disk).live v w }
+    ensures commits { (u : Upload LocalFsFile) (s t : LocalFs D R) (v w : World) (pieces : List ℕ) (fields : Fields)
+        (r : Result Outcome Refusal) → (D.state s.disk).told ≡ Some v → (D.state t.disk).told ≡ Some w
+        → finds_as_written s.ways ≡ true
+        → StandsIn (D.state s.disk).live v u.hidden.names (⟦<LocalFs<D, R> as DavFileSystem>⟧.view.file.handle u.file)
+        u.broken pieces
+        → IsBeside u.target.names u.hidden.names → IsClear v u.target.names u.hidden.names
+        → Commits ⟦<LocalFs<D, R> as DavFileSystem>⟧.view tt u fields s r t
+        → LeavesOthers (Some (⟦<LocalFs<D, R> as DavFileSystem>⟧.view.file.handle u.file)) (IsNot u.hidden.names) (D.state s.disk).live (D.state t.disk).live v w }
+    ensures aborts { (u : Upload LocalFsFile) (s t : LocalFs D R) (v w : World) (pieces : List ℕ)
+        (r : Result Unit Refusal) → (D.state s.disk).told ≡ Some v → (D.state t.disk).told ≡ Some w
+        → finds_as_written s.ways ≡ true
+        → StandsIn (D.state s.disk).live v u.hidden.names (⟦<LocalFs<D, R> as DavFileSystem>⟧.view.file.handle u.file)
+        u.broken pieces
+        → is_linked v.tree u.hidden.names ≡ false
+        → Aborts ⟦<LocalFs<D, R> as DavFileSystem>⟧.view tt u s r t
+        → LeavesOthers (Some (⟦<LocalFs<D, R> as DavFileSystem>⟧.view.file.handle u.file)) (IsNot u.hidden.names) (D.state s.disk).live (D.state t.disk).live v w }
+    ensures sweeps { (dir : WebPath) (s t : LocalFs D R) (v w : World) (r : Result ℕ Refusal)
+        → (D.state s.disk).told ≡ Some v → (D.state t.disk).told ≡ Some w → finds_as_written s.ways ≡ true
+        → HasClearNames v dir.names → Sweeps ⟦<LocalFs<D, R> as DavFileSystem>⟧.view ⟦<LocalFs<D, R> as DavFileSystem>⟧.listings tt dir s r t
+        → LeavesOthers None (IsNotHiddenIn dir.names) (D.state s.disk).live (D.state t.disk).live v w }
+{
+    local_stores_take_uploads(_fs)
+}
+
+/// Where the disk refused nothing, in a world of a valid run: an upload begins where no line of the table of PUT refuses
+/// the target and the token's name is free, its pieces are written, it is given up, and it is committed where the table
+/// passes still and the target's name isn't one that the rules for macOS forbid; unless memory was wanting.
+pub fn local_uploads_succeed<D: Disk, R: Remember>(_fs: &LocalFs<D, R>)
+    ensures begins { (s t : LocalFs D R) (v : World) (target : WebPath) (fields : Fields) (token : ℕ)
+        (r : Result (Upload LocalFsFile) Refusal) → (D.state s.disk).told ≡ Some v → finds_as_written s.ways ≡ true
+        → IsRegular (rules_of s.ways) (knowledge_of (R.state s.memory)) v → is_taken target ≡ false
+        → is_linked v.tree target.names ≡ false → is_linked v.tree (hidden_beside target token).names ≡ false
+        → row_at v.tree (hidden_beside target token).names ≡ None → PassesTable (rules_of s.ways) v target fields
+        → RefusedNothing (D.state s.disk).faults (D.state t.disk).faults
+        → Begins ⟦<LocalFs<D, R> as DavFileSystem>⟧.view tt target fields token s r t → Succeeds r }
+    ensures pieces { (u x : Upload LocalFsFile) (s t : LocalFs D R) (v : World) (bytes pieces : List ℕ)
+        (r : Result Unit Refusal)
+        → StandsIn (D.state s.disk).live v u.hidden.names (⟦<LocalFs<D, R> as DavFileSystem>⟧.view.file.handle u.file)
+        u.broken pieces
+        → u.broken ≡ false → RefusedNothing (D.state s.disk).faults (D.state t.disk).faults
+        → WritesPiece ⟦<LocalFs<D, R> as DavFileSystem>⟧.view ⟦<LocalFsFile as DavFile<D>>⟧.view.writes u bytes s r t x → Succeeds r }
+    ensures commits { (u : Upload LocalFsFile) (s t : LocalFs D R) (v : World) (pieces : List ℕ) (fields : Fields)
+        (r : Result Outcome Refusal) → (D.state s.disk).told ≡ Some v → finds_as_written s.ways ≡ true
+        → StandsIn (D.state s.disk).live v u.hidden.names (⟦<LocalFs<D, R> as DavFileSystem>⟧.view.file.handle u.file)
+        u.broken pieces
+        → u.broken ≡ false → IsBeside u.target.names u.hidden.names → IsClear v u.target.names u.hidden.names
+        → IsRegular (rules_of s.ways) (knowledge_of (R.state s.memory)) v
+        → is_forbidden (rules_of s.ways) u.target ≡ false → PassesTable (rules_of s.ways) v u.target fields
+        → RefusedNothing (D.state s.disk).faults (D.state t.disk).faults
+        → Commits ⟦<LocalFs<D, R> as DavFileSystem>⟧.view tt u fields s r t → Succeeds r }
+    ensures aborts { (u : Upload LocalFsFile) (s t : LocalFs D R) (v : World) (pieces : List ℕ)
+        (r : Result Unit Refusal) → (D.state s.disk).told ≡ Some v → finds_as_written s.ways ≡ true
+        → StandsIn (D.state s.disk).live v u.hidden.names (⟦<LocalFs<D, R> as DavFileSystem>⟧.view.file.handle u.file)
+        u.broken pieces
+        → u.hidden.slash ≡ false → is_linked v.tree u.hidden.names ≡ false
+        → RefusedNothing (D.state s.disk).faults (D.state t.disk).faults
+        → Aborts ⟦<LocalFs<D, R> as DavFileSystem>⟧.view tt u s r t → Succeeds r }
+{
+    calls_are_local(_fs)
+}
+
+/// A sweep of a directory in which no link stands takes exactly the regular files with hidden names among its members,
+/// and counts them. One that is refused took some of them.
+pub fn local_sweeps_take_what_is_left<D: Disk, R: Remember>(_fs: &LocalFs<D, R>)
+    ensures { (dir : WebPath) (s t : LocalFs D R) (v w : World) (r : Result ℕ Refusal)
+        → (D.state s.disk).told ≡ Some v → (D.state t.disk).told ≡ Some w → finds_as_written s.ways ≡ true
+        → HasClearNames v dir.names → is_clear v.tree dir.names ≡ true
+        → Sweeps ⟦<LocalFs<D, R> as DavFileSystem>⟧.view ⟦<LocalFs<D, R> as DavFileSystem>⟧.listings tt dir s r t → Swept dir r v w }
+{
+    calls_are_local(_fs)
 }

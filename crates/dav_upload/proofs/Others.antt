@@ -1,0 +1,169 @@
+-- What the steps of an upload leave to those who read, and to other uploads.
+use Rattle.std.proofs.Common.{◌≡◌, ◌≢◌, ◌⊎◌, ◌≤◌, ◌<◌, ◌+◌, ◌++◌, inl, inr, ℕ, List, [], ◌∷◌, Bool, true, false, Option, None, Some, IsSome, Result, Ok, Err, refl, sym, ap, subst, ◌∙◌, arith}
+use Rattle.std.specs.Option.{option_map}
+use Rattle.dav_core.specs.declared.tree.Row.{Row}
+use Rattle.dav_core.specs.Disk.{DiskState, Live}
+use Rattle.dav_core.specs.Path.{Names}
+use Rattle.dav_core.specs.Tree.{row_at}
+use Rattle.dav_core.specs.Unchanged.{Keeps, KeepsBut}
+use Rattle.dav_core.specs.World.{Holds, IsWorld, OpenFile, SameBesidesOpens, World, bytes_of}
+use Rattle.dav_store.specs.Frames.{KeepsOpen, KeepsOpenBut}
+use Rattle.dav_upload.specs.Kept.{KeepsRow}
+use Rattle.dav_upload.specs.Names.{is_hidden_path}
+use Rattle.dav_upload.specs.Others.{IsNot, LeavesOthers}
+use Rattle.dav_upload.specs.Shown.{IsUnseen, SameShown}
+use Rattle.dav_upload.specs.Standing.{OthersOpen, StandsIn}
+use Rattle.dav_upload.proofs.Beside.{below_greatest}
+use Rattle.dav_upload.proofs.Chains.{told_pair}
+use Rattle.dav_upload.proofs.Kept.{unseen_same}
+use Rattle.dav_upload.proofs.Leaves.{Leaves, leaves_same, one_path}
+use Rattle.dav_upload.proofs.Making.{kept_unseen}
+use Rattle.dav_upload.proofs.Stands.{other_stands, some_of}
+
+-- every number
+abbrev pub IsOfAny : ℕ → Type 0
+IsOfAny n = Unit {0}
+
+-- another hidden path
+abbrev pub IsHiddenBut : Names → Names → Type 0
+IsHiddenBut path p = (p ≢ path) × (is_hidden_path p ≡ true)
+
+-- ---- what is open
+
+pub frame_but : (own : ℕ) (s t : DiskState) (v w : World) → s.told ≡ Some v → t.told ≡ Some w → KeepsOpenBut own s t → OthersOpen own s.live t.live v w
+frame_but own s t v w was now k = record {
+  lives = k.live;
+  opens = λ h l ne alive. told_pair s.told t.told _ v w (k.opens h l ne alive) was now;
+}
+
+pub frame_open : (s t : DiskState) (v w : World) → s.told ≡ Some v → t.told ≡ Some w → KeepsOpen s t → (own : ℕ) → OthersOpen own s.live t.live v w
+frame_open s t v w was now k own = record {
+  lives = λ h ne. k.live h;
+  opens = λ h l ne alive. told_pair s.told t.told _ v w (k.opens h l alive) was now;
+}
+
+-- ---- what is left, by what is open and what stays
+
+module _ (live then : ℕ → Option Live) (v w : World) (is : IsWorld v) (P : ℕ → Type 0) (other : Names → Type 0) (leaves : Leaves P other v w)
+    (of_row : (path : Names) (row : Row) → other path → row_at v.tree path ≡ Some row → P row.number) where
+  pub file_left : (path : Names) (row : Row) → other path → row_at v.tree path ≡ Some row → Holds w row.number → bytes_of w row.number ≡ bytes_of v row.number
+  file_left path row is_other at holds = (leaves.bytes row.number (of_row path row is_other at) holds).1
+
+  module _ (own : ℕ) (frame : OthersOpen own live then v w) where
+    pub body_left : (k : ℕ) (l : Live) (o : OpenFile) → k ≢ own → P o.number → live k ≡ Some l → v.opens k ≡ Some o → (then k ≡ Some l) × (w.opens k ≡ Some o) × (bytes_of w o.number ≡ bytes_of v o.number)
+    body_left k l o ne of alive opens =
+        let still : w.opens k ≡ Some o = frame.opens k l ne alive ∙ opens in
+        (frame.lives k ne ∙ alive, still, (leaves.bytes o.number of (inr (k, ap (option_map (λ (x : OpenFile). x.number)) still))).1)
+
+    pub upload_left : (hidden : Names) (h : ℕ) (broken : Bool) (pieces : List ℕ) → other hidden → (s : StandsIn live v hidden h broken pieces) → h ≢ own → IsUnseen w s.held.number
+        → ((l : Live) (o : OpenFile) → then own ≡ Some l → w.opens own ≡ Some o → o.number ≢ s.held.number) → StandsIn then w hidden h broken pieces
+    upload_left hidden h broken pieces is_other s ne unseen fresh =
+        other_stands own live then v w frame hidden h broken pieces s ne (leaves.rows hidden is_other) (λ was. unseen)
+        (λ holds. (leaves.bytes s.held.number (subst P s.number (of_row hidden s.row is_other s.at)) holds).1) fresh
+
+    -- the upload of the step stands, so that no other has its number
+    pub fresh_from : (path : Names) (bad : Bool) (all : List ℕ) → StandsIn then w path own bad all → (hidden : Names) (h : ℕ) (broken : Bool) (pieces : List ℕ) → (s : StandsIn live v hidden h broken pieces) → h ≢ own
+        → (l : Live) (o : OpenFile) → then own ≡ Some l → w.opens own ≡ Some o → o.number ≢ s.held.number
+    fresh_from path bad all n hidden h broken pieces s ne l o is_live opens e =
+        let (m, alive) = some_of (live h) s.lives in
+        let same : Some n.held ≡ Some o = sym n.opens ∙ opens in
+        let here : n.held ≡ o = cc in
+        ne (n.apart h m s.held (frame.lives h ne ∙ alive) (frame.opens h m ne alive ∙ s.opens) (sym e ∙ ap (λ (x : OpenFile). x.number) (sym here)))
+
+  -- Nothing was opened or closed.
+  pub all_left : ((own : ℕ) → OthersOpen own live then v w) → SameShown v w → ((k : ℕ) (l : Live) (o : OpenFile) → live k ≡ Some l → v.opens k ≡ Some o → P o.number) → LeavesOthers None other live then v w
+  all_left frames same of_body = record {
+    files = file_left;
+    bodies = λ k l o ne alive opens. body_left (k + 1) (frames (k + 1)) k l o (λ e. omega (arith, e)) (of_body k l o alive opens) alive opens;
+    uploads = λ hidden h broken pieces is_other s.
+        upload_left (h + 1) (frames (h + 1)) hidden h broken pieces is_other s (λ e. omega (arith, e)) (unseen_same v w s.held.number same s.unseen)
+        (λ l o is_live opens e.
+        (let frame = frames (h + 2) in
+        let ne : h + 1 ≢ h + 2 = λ f. omega (arith, f) in
+        let was : live (h + 1) ≡ Some l = sym (frame.lives (h + 1) ne) ∙ is_live in
+        let back : h + 1 ≡ h = s.apart (h + 1) l o was (sym (frame.opens (h + 1) l ne was) ∙ opens) e in
+        omega (arith, back)));
+  }
+
+-- ---- calls that change nothing that stands
+
+pub quiet_left : (other : Names → Type 0) (s t : DiskState) (v w : World) → s.told ≡ Some v → t.told ≡ Some w → IsWorld v → KeepsOpen s t → SameBesidesOpens v w → LeavesOthers None other s.live t.live v w
+quiet_left other s t v w was now is keeps same =
+    all_left s.live t.live v w is (λ n. Unit {0}) other (leaves_same (λ n. Unit {0}) other v w same) (λ path row is_other at. tt) (frame_open s t v w was now keeps) (kept_unseen v w same) (λ k l o alive opens. tt)
+
+-- what is left to all is left to all but one
+pub left_but : (own : ℕ) (other : Names → Type 0) (live then : ℕ → Option Live) (v w : World) → LeavesOthers None other live then v w → LeavesOthers (Some own) other live then v w
+left_but own other live then v w left = record {
+  files = left.files;
+  bodies = λ k l o ne. left.bodies k l o (λ e. cc);
+  uploads = left.uploads;
+}
+
+pub not_own : (own k : ℕ) → ◌≢◌ {A = Option ℕ} (Some own) (Some k) → k ≢ own
+not_own own k ne e = ne (ap (λ n. Some n) (sym e))
+
+-- an upload with another hidden path has another number, and another handle
+pub other_number : (v : World) → IsWorld v → (live : ℕ → Option Live) (p q : Names) (h k : ℕ) (a b : Bool) (x y : List ℕ) → (m : StandsIn live v p h a x) → (n : StandsIn live v q k b y) → q ≢ p → n.held.number ≢ m.held.number
+other_number v is live p q h k a b x y m n ne e = ne (one_path v is q p n.row m.row n.at m.at (n.number ∙ (e ∙ sym m.number)))
+
+pub other_handle : (v : World) → IsWorld v → (live : ℕ → Option Live) (p q : Names) (h k : ℕ) (a b : Bool) (x y : List ℕ) → StandsIn live v p h a x → StandsIn live v q k b y → q ≢ p → k ≢ h
+other_handle v is live p q h k a b x y m n ne e =
+    let same : Some n.held ≡ Some m.held = sym n.opens ∙ (ap v.opens e ∙ m.opens) in
+    let here : n.held ≡ m.held = cc in
+    other_number v is live p q h k a b x y m n ne (ap (λ (o : OpenFile). o.number) here)
+
+-- ---- the three ways of a step's own upload
+
+module _ (s t : DiskState) (v w : World) (was : s.told ≡ Some v) (now : t.told ≡ Some w) (is : IsWorld v) (path : Names) (h : ℕ) (keeps : KeepsOpenBut h s t) where
+  frame : OthersOpen h s.live t.live v w
+  frame = frame_but h s t v w was now keeps
+
+  -- It began.
+  pub new_left : Leaves (λ n. n ≤ v.greatest) (IsNot path) v w → s.live h ≡ None → SameShown v w → StandsIn t.live w path h false [] → LeavesOthers None (IsNot path) s.live t.live v w
+  new_left leaves fresh shown stands = record {
+    files = file_left s.live t.live v w is (λ n. n ≤ v.greatest) (IsNot path) leaves of_row;
+    bodies = λ k l o ne alive opens. body_left s.live t.live v w is (λ n. n ≤ v.greatest) (IsNot path) leaves of_row h frame k l o (dead k l alive) (is.given.opens k o opens) alive opens;
+    uploads = λ hidden k broken pieces ne other.
+        (let away : k ≢ h = λ e. (let (l, alive) = some_of (s.live k) other.lives in dead k l alive e) in
+        upload_left s.live t.live v w is (λ n. n ≤ v.greatest) (IsNot path) leaves of_row h frame hidden k broken pieces ne other away (unseen_same v w other.held.number shown other.unseen)
+        (fresh_from s.live t.live v w is (λ n. n ≤ v.greatest) (IsNot path) leaves of_row h frame path false [] stands hidden k broken pieces other away));
+  }
+    where
+      of_row : (x : Names) (row : Row) → IsNot path x → row_at v.tree x ≡ Some row → row.number ≤ v.greatest
+      of_row x row ne at = below_greatest v is x row at
+
+      dead : (k : ℕ) (l : Live) → s.live k ≡ Some l → k ≢ h
+      dead k l alive e = let g : Some l ≡ None = sym alive ∙ (ap s.live e ∙ fresh) in cc
+
+  module _ (bad : Bool) (pieces : List ℕ) (stood : StandsIn s.live v path h bad pieces) where
+    -- Its file was written.
+    pub written_left : (wrong : Bool) (all : List ℕ) → Leaves (λ n. n ≢ stood.held.number) (IsNot path) v w → SameShown v w → StandsIn t.live w path h wrong all → LeavesOthers (Some h) (IsNot path) s.live t.live v w
+    written_left wrong all leaves shown stands = record {
+      files = file_left s.live t.live v w is (λ n. n ≢ stood.held.number) (IsNot path) leaves of_row;
+      bodies = λ k l o ne alive opens.
+          body_left s.live t.live v w is (λ n. n ≢ stood.held.number) (IsNot path) leaves of_row h frame k l o (not_own h k ne) (λ e. not_own h k ne (stood.apart k l o alive opens e)) alive opens;
+      uploads = λ hidden k broken some ne other.
+          (let away : k ≢ h = other_handle v is s.live path hidden h k bad broken pieces some stood other ne in
+          upload_left s.live t.live v w is (λ n. n ≢ stood.held.number) (IsNot path) leaves of_row h frame hidden k broken some ne other away (unseen_same v w other.held.number shown other.unseen)
+          (fresh_from s.live t.live v w is (λ n. n ≢ stood.held.number) (IsNot path) leaves of_row h frame path wrong all stands hidden k broken some other away));
+    }
+      where
+        of_row : (x : Names) (row : Row) → IsNot path x → row_at v.tree x ≡ Some row → row.number ≢ stood.held.number
+        of_row x row ne at e = ne (one_path v is x path row stood.row at stood.at (e ∙ sym stood.number))
+
+    -- Its file was closed, and taken or moved.
+    pub ended_left : Leaves IsOfAny (IsHiddenBut path) v w → t.live h ≡ None → ((n : ℕ) → n ≢ stood.held.number → IsUnseen v n → IsUnseen w n) → LeavesOthers (Some h) (IsNot path) s.live t.live v w
+    ended_left leaves gone unseen = record {
+      files = λ x row ne at holds. (leaves.bytes row.number tt holds).1;
+      bodies = λ k l o ne alive opens. body_left s.live t.live v w is IsOfAny (IsHiddenBut path) leaves of_row h frame k l o (not_own h k ne) tt alive opens;
+      uploads = λ hidden k broken some ne other.
+          upload_left s.live t.live v w is IsOfAny (IsHiddenBut path) leaves of_row h frame hidden k broken some (ne, other.hides) other
+          (other_handle v is s.live path hidden h k bad broken pieces some stood other ne)
+          (unseen other.held.number (other_number v is s.live path hidden h k bad broken pieces some stood other ne) other.unseen) (λ l o is_live opens e. none l is_live);
+    }
+      where
+        of_row : (x : Names) (row : Row) → IsHiddenBut path x → row_at v.tree x ≡ Some row → IsOfAny row.number
+        of_row x row other at = tt
+
+        none : (l : Live) → t.live h ≡ Some l → ⊥
+        none l is_live = let g : None ≡ Some l = sym gone ∙ is_live in cc

@@ -1,0 +1,34 @@
+-- What a step of an upload leaves to others: to those who read, and to other uploads.
+use Rattle.std.specs.Prelude.{◌≡◌, ◌≢◌, ℕ, List, Bool, true, Option, Some}
+use Rattle.dav_core.specs.declared.tree.Row.{Row}
+use Rattle.dav_core.specs.Disk.{Live}
+use Rattle.dav_core.specs.Path.{Names, parent_of}
+use Rattle.dav_core.specs.Tree.{row_at}
+use Rattle.dav_core.specs.World.{Holds, OpenFile, World, bytes_of}
+use Rattle.dav_upload.specs.Names.{is_hidden_path}
+use Rattle.dav_upload.specs.Standing.{StandsIn}
+
+-- `own` is the handle of the step's upload, where it has one, and `other` the paths that aren't the step's own.
+pub record LeavesOthers (own : Option ℕ) (other : Names → Type 0) (live then : ℕ → Option Live) (v w : World)
+    : Type 0 where
+  -- The bytes of a file that stood at another path stay, as long as somebody holds it.
+  pub files : (path : Names) (row : Row) → other path → row_at v.tree path ≡ Some row → Holds w row.number
+      → bytes_of w row.number ≡ bytes_of v row.number
+  -- What another handle has open stays open, at its place and with its bytes.
+  pub bodies : (k : ℕ) (l : Live) (o : OpenFile) → own ≢ Some k → live k ≡ Some l → v.opens k ≡ Some o
+      → (then k ≡ Some l) × (w.opens k ≡ Some o) × (bytes_of w o.number ≡ bytes_of v o.number)
+  -- An upload with another hidden path goes on standing.
+  pub uploads : (hidden : Names) (h : ℕ) (broken : Bool) (pieces : List ℕ) → other hidden
+      → StandsIn live v hidden h broken pieces → StandsIn then w hidden h broken pieces
+
+-- all paths but one
+abbrev pub IsNot : Names → Names → Type 0
+IsNot path p = p ≢ path
+
+-- all paths but the hidden names of a directory
+abbrev pub IsNotHiddenIn : Names → Names → Type 0
+IsNotHiddenIn dir p = is_hidden_path p ≡ true → parent_of p ≢ dir
+
+-- every path
+abbrev pub IsAny : Names → Type 0
+IsAny p = Unit {0}
