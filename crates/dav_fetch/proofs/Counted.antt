@@ -1,10 +1,9 @@
 -- No more requests are made than a tree has rows to show, and one for the root.
-use Rattle.std.proofs.Common.{◌≡◌, inl, inr, ◌<◌, ◌≤◌, ◌+◌, ◌==◌, ◌&&◌, ◌||◌, ℕ, suc, List, [], ◌∷◌, ◌++◌, length, map, Bool, true, false, not, Result, Ok, refl, sym, ap, subst, ◌∙◌, arith}
+use Rattle.std.proofs.Common.{◌≡◌, inl, inr, ◌<◌, ◌≤◌, ◌+◌, ◌==◌, ◌||◌, ℕ, suc, List, [], ◌∷◌, ◌++◌, length, map, Bool, true, false, not, refl, sym, ap, subst, ◌∙◌, arith}
 use Rattle.std.specs.List.{list_any}
 use Rattle.std.proofs.lemmas.Bool.{and_from}
 use Rattle.std.proofs.lemmas.Bool.Decides.{nat_tests}
 use Rattle.std.proofs.lemmas.List.{length-append, length-map}
-use Rattle.dav_core.specs.declared.handle.DiskError.{DiskError}
 use Rattle.dav_core.specs.declared.tree.Kind.{Kind}
 use Rattle.dav_core.specs.declared.tree.Kind.TheVariants.{Dir, File, Link}
 use Rattle.dav_core.specs.declared.tree.Row.{Row}
@@ -15,9 +14,9 @@ use Rattle.dav_fetch.specs.declared.copied.Kept.{Kept}
 use Rattle.dav_fetch.specs.Copy.{IsOf}
 use Rattle.dav_fetch.specs.Fetching.{Files}
 use Rattle.dav_fetch.specs.Keeping.{AreAscending}
-use Rattle.dav_fetch.specs.Mirroring.{IsLinkless, IsShownAt, is_shown, is_visible_row, visible_rows}
+use Rattle.dav_fetch.specs.Mirroring.{IsShownAt, is_shown, is_visible_row, visible_rows}
 use Rattle.dav_fetch.specs.Walk.{Visit, Way}
-use Rattle.dav_fetch.proofs.Among.{Apart, apart_both, apart_fewer, ascending_apart, to_filter, to_map}
+use Rattle.dav_fetch.proofs.Among.{apart_both, apart_fewer, ascending_apart, to_filter, to_map}
 use Rattle.dav_fetch.proofs.Orders.{none_ascend, of_parts}
 use Rattle.dav_fetch.proofs.TreeRows.{looked_is, same_row}
 use Rattle.dav_fetch.proofs.Walks.{Walked, read_long}

@@ -1,7 +1,6 @@
 -- A told peer answers a directory's request with its page.
-use Rattle.std.proofs.Common.{◌≡◌, ◌⊎◌, inl, inr, ◌&&◌, ◌++◌, ℕ, List, [], ◌∷◌, true, cond, map, Result, Ok, Err, refl, sym, ap, subst, ◌∙◌}
-use Rattle.std.specs.List.{AllByRecursion, filter, flat_map}
-use Rattle.dav_core.specs.declared.error.FsError.{FsError}
+use Rattle.std.proofs.Common.{◌≡◌, inl, inr, ◌&&◌, ◌++◌, ℕ, List, [], ◌∷◌, true, cond, map, Ok, Err, refl, ap, subst, ◌∙◌}
+use Rattle.std.specs.List.{flat_map}
 use Rattle.dav_core.specs.declared.error.FsError.TheVariants.{Forbidden}
 use Rattle.dav_core.specs.declared.method.DavMethod.TheVariants.{Get}
 use Rattle.dav_core.specs.declared.tree.Kind.{Kind}

@@ -2,7 +2,6 @@
 use Rattle.std.proofs.Common.{◌≡◌, [], List, subst, sym}
 use Rattle.std.specs.List.Sorted.{IsStrictlySortedBy}
 use Rattle.dav_core.specs.Path.{Names}
-use Rattle.dav_fetch.specs.declared.copied.Copied.{Copied}
 use Rattle.dav_fetch.specs.declared.copied.Kept.{Kept}
 use Rattle.dav_fetch.specs.Copy.{IsCopy}
 

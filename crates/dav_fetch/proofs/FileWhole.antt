@@ -1,5 +1,5 @@
 -- The file of a visit that came whole, or was kept, is the whole of what its path has.
-use Rattle.std.proofs.Common.{◌≡◌, inl, inr, ◌<◌, ◌≤◌, ◌+◌, ◌-◌, ◌^◌, ◌==◌, ◌||◌, ◌++◌, ℕ, List, [], ◌∷◌, length, take, codes, Bool, true, false, cond, Option, None, Some, IfSome, Ok, refl, sym, ap, subst, ◌∙◌, arith, eqb-true, true≢false}
+use Rattle.std.proofs.Common.{◌≡◌, ◌<◌, ◌≤◌, ◌+◌, ◌-◌, ◌^◌, ◌==◌, ◌||◌, ℕ, List, length, take, codes, Bool, true, false, cond, Option, None, Some, IfSome, Ok, refl, sym, ap, subst, ◌∙◌, arith, eqb-true, true≢false}
 use Rattle.std.proofs.lemmas.List.{length-append, length-take-le, take_all}
 use Rattle.dav_io.specs.Counts.{Rose}
 use Rattle.dav_io.specs.declared.fields.Field.{Field}
@@ -9,14 +9,13 @@ use Rattle.dav_core.specs.Path.{Names}
 use Rattle.dav_core.specs.Tree.{look}
 use Rattle.dav_core.specs.World.{World, bytes_of}
 use Rattle.dav_model.specs.Announced.{value_of}
-use Rattle.dav_model.specs.declared.sent.Sent.{Sent}
 use Rattle.dav_model.specs.declared.sent.Sent.TheVariants.{All, Alone}
 use Rattle.dav_model.specs.Head.{sent_of, stood_in}
 use Rattle.dav_core.specs.declared.method.DavMethod.TheVariants.{Get}
 use Rattle.dav_fetch.specs.declared.copied.Kept.{Kept}
 use Rattle.dav_fetch.specs.declared.peer.Got.{Got}
 use Rattle.dav_fetch.specs.Asking.{Awaits, asked_for, awaits, file_path, rest, same, whole}
-use Rattle.dav_fetch.specs.Copy.{IsFaithful, IsFileAt, IsFrontOf, IsOfWorld, tag_in, tag_value}
+use Rattle.dav_fetch.specs.Copy.{IsFileAt, IsFrontOf, IsOfWorld, tag_in, tag_value}
 use Rattle.dav_fetch.specs.Fetching.{IsFileVisit, IsWhole, Visited, taken}
 use Rattle.dav_fetch.specs.Judging.{Use, gives, grown, is_rest_of, keeps, new_file, number_said, refuses, replaced, rest_use, spoils, use_of}
 use Rattle.dav_fetch.specs.Mirroring.{AreShort, IsGood, ShowsSame, whole_file}

@@ -1,5 +1,5 @@
 -- A file's answer over a still world is good: it gives as many bytes as its body has, or the file is kept.
-use Rattle.std.proofs.Common.{◌≡◌, inl, inr, ◌<◌, ◌≤◌, ◌+◌, ◌-◌, ◌^◌, ◌==◌, ◌&&◌, ◌++◌, ℕ, List, [], ◌∷◌, length, drop, bytes_eq, codes, decimal, Bool, true, false, cond, nat_le, nat_lt, Option, None, Some, IfSome, Ok, refl, sym, ap, subst, ◌∙◌, arith}
+use Rattle.std.proofs.Common.{◌≡◌, ◌<◌, ◌≤◌, ◌+◌, ◌-◌, ◌^◌, ◌==◌, ◌&&◌, ◌++◌, ℕ, List, length, codes, decimal, Bool, true, false, cond, nat_le, nat_lt, Option, None, Some, IfSome, Ok, refl, sym, ap, subst, ◌∙◌, arith}
 use Rattle.std.specs.Str.{all_ascii_digits}
 use Rattle.std.specs.Str.Parse.{digits_value}
 use Rattle.std.proofs.lemmas.Bool.{and_from}
@@ -7,7 +7,6 @@ use Rattle.std.proofs.lemmas.Bool.Decides.{nat_tests}
 use Rattle.std.proofs.lemmas.Fmt.{decimal_is_IsNumeral, decimal_nonempty, digits_decimal, length-decimal-le}
 use Rattle.std.proofs.lemmas.List.{length-drop}
 use Rattle.std.proofs.lemmas.Slice.Eq.{bytes_eq-Decides}
-use Rattle.dav_io.specs.declared.fields.Field.{Field}
 use Rattle.dav_core.specs.declared.method.DavMethod.TheVariants.{Get}
 use Rattle.dav_core.specs.declared.tree.Kind.TheVariants.{File}
 use Rattle.dav_core.specs.declared.tree.Row.{Row}
@@ -22,20 +21,20 @@ use Rattle.dav_model.specs.declared.sent.Sent.{Sent}
 use Rattle.dav_model.specs.declared.sent.Sent.TheVariants.{All, Alone, One}
 use Rattle.dav_model.specs.Due.{IsHead, IsRight, query}
 use Rattle.dav_model.specs.Finding.{shown_in}
-use Rattle.dav_model.specs.Head.{IsSent, Reply, Stood, quoted, sent_of, sent_reply, slice_where, span_text, stood_in}
+use Rattle.dav_model.specs.Head.{IsSent, Reply, Stood, quoted, sent_of, sent_reply, span_text, stood_in}
 use Rattle.dav_model.proofs.PlainWalks.{plain_resolved}
 use Rattle.dav_fetch.specs.declared.copied.Kept.{Kept}
 use Rattle.dav_fetch.specs.declared.peer.Got.{Got}
 use Rattle.dav_fetch.specs.Asking.{Awaits, asked_for, awaits, file_path, rest, same, whole}
 use Rattle.dav_fetch.specs.Copy.{IsFileAt}
-use Rattle.dav_fetch.specs.Judging.{Use, gives, has_number, has_value, is_rest_of, keeps, new_file, number_said, refuses, replaced, rest_use, span_behind, spoils, strong_said, use_of}
+use Rattle.dav_fetch.specs.Judging.{Use, gives, has_number, has_value, is_rest_of, keeps, new_file, number_said, refuses, replaced, rest_use, span_behind, spoils, use_of}
 use Rattle.dav_fetch.specs.Mirroring.{IsGood}
 use Rattle.dav_fetch.specs.Peer.{RepliesOf, body_in, peer_rules, peer_settings}
 use Rattle.dav_fetch.proofs.Digits.{own}
 use Rattle.dav_fetch.proofs.DirServed.{is_head}
 use Rattle.dav_fetch.proofs.Sending.{has_text, rest_sent, same_sent, whole_sent}
 use Rattle.dav_fetch.proofs.Served.{asked, due_is, due_kinds}
-use Rattle.dav_fetch.proofs.Stepping.{GoodFor, front_there, good_for, quoted_of, reply_of, slice_bytes, tag_behind}
+use Rattle.dav_fetch.proofs.Stepping.{GoodFor, front_there, good_for, quoted_of, reply_of, slice_bytes}
 
 -- It gives just so many bytes, or keeps the file.
 abbrev pub IsWorth : List ℕ → Use → Type 0

@@ -1,8 +1,6 @@
 -- What a whole fetch of a still tree leaves is exactly what is shown of it.
-use Rattle.std.proofs.Common.{◌≡◌, inl, inr, ◌<◌, ◌≤◌, ◌+◌, ◌^◌, ◌++◌, ℕ, List, [], ◌∷◌, length, true, false, Bool, Option, None, Some, IfSome, Result, Ok, Err, refl, sym, ap, subst, ◌∙◌, arith}
+use Rattle.std.proofs.Common.{◌≡◌, inl, inr, ◌<◌, ◌≤◌, ◌++◌, ℕ, List, [], ◌∷◌, length, true, false, Option, None, Some, IfSome, Result, Ok, Err, refl, sym, ap, subst, ◌∙◌, arith}
 use Rattle.std.specs.Option.{option_to_list}
-use Rattle.dav_io.specs.Counts.{RefusedNothing}
-use Rattle.dav_core.specs.declared.handle.DiskError.{DiskError}
 use Rattle.dav_core.specs.declared.tree.Kind.{Kind}
 use Rattle.dav_core.specs.declared.tree.Kind.TheVariants.{Dir, File, Link}
 use Rattle.dav_core.specs.declared.tree.Row.{Row}
@@ -14,17 +12,17 @@ use Rattle.dav_fetch.specs.declared.copied.Kept.{Kept}
 use Rattle.dav_fetch.specs.declared.error.MirrorError.{MirrorError}
 use Rattle.dav_fetch.specs.declared.error.MirrorError.TheVariants.{NoMemory}
 use Rattle.dav_fetch.specs.Copy.{IsCopy, IsOf}
-use Rattle.dav_fetch.specs.Fetching.{Fetched, Files, FilesEnd, Goes, Takes, Visits, kept_at, taken, visits_of}
-use Rattle.dav_fetch.specs.Mirroring.{IsGood, IsMirror, IsOverOne, IsShownAt, IsShownDir, IsWholeFile, TellsOne, is_shown, whole_file}
+use Rattle.dav_fetch.specs.Fetching.{Fetched, Files, Goes, Takes, Visits, kept_at, visits_of}
+use Rattle.dav_fetch.specs.Mirroring.{IsGood, IsMirror, IsOverOne, IsShownDir, IsWholeFile, TellsOne, is_shown, whole_file}
 use Rattle.dav_fetch.specs.Peer.{PeerState}
 use Rattle.dav_fetch.specs.Walk.{Visit, Way}
 use Rattle.dav_fetch.proofs.Copies.{fetched_copy, kept_well}
 use Rattle.dav_fetch.proofs.FileWhole.{IsAllOf, visit_whole}
-use Rattle.dav_fetch.proofs.PagesWalked.{WalkedOn, pages_walked}
+use Rattle.dav_fetch.proofs.PagesWalked.{pages_walked}
 use Rattle.dav_fetch.proofs.Quiet.{quiet_first, visits_count}
 use Rattle.dav_fetch.proofs.Soundness.{found}
 use Rattle.dav_fetch.proofs.TreeRows.{root_stands, same_row, tree_parts}
-use Rattle.dav_fetch.proofs.Walks.{IsOtherAt, Walked, dir_found, file_found}
+use Rattle.dav_fetch.proofs.Walks.{Walked, dir_found, file_found}
 use Rattle.dav_fetch.proofs.Ways.{whole_visits}
 
 pub told_parts : (w : World) (a b : List Visit) → TellsOne w (a ++ b) → TellsOne w a × TellsOne w b

@@ -1,13 +1,12 @@
 -- What the page of a directory of a world names: the rows that are shown there, each under its name.
-use Rattle.std.proofs.Common.{◌≡◌, ◌&&◌, inl, inr, ◌++◌, ℕ, List, [], ◌∷◌, Bool, true, false, cond, length, not, map, refl, sym, ap, subst, ◌∙◌}
-use Rattle.std.specs.List.{All, AllByRecursion, AllZip, filter, flat_map, list_all}
+use Rattle.std.proofs.Common.{◌≡◌, inl, inr, ◌++◌, ℕ, List, [], ◌∷◌, Bool, true, false, cond, length, not, map, refl, sym, ap, subst, ◌∙◌}
+use Rattle.std.specs.List.{AllByRecursion, AllZip, filter, flat_map}
 use Rattle.std.specs.List.Sorted.{IsPermutation}
 use Rattle.std.proofs.lemmas.Bool.{and_parts, not-true}
 use Rattle.std.proofs.lemmas.List.Folds.{list_all-append}
 use Rattle.std.proofs.lemmas.List.Sorted.{IsPermutation-sym}
 use Rattle.dav_core.specs.declared.member.Member.{Member}
 use Rattle.dav_core.specs.declared.tree.Row.{Row}
-use Rattle.dav_core.specs.DavPath.{shown}
 use Rattle.dav_core.specs.Listing.{name_of, stands_in}
 use Rattle.dav_core.specs.Members.{member_of, members}
 use Rattle.dav_core.specs.Path.{Names, all_plain, is_plain}

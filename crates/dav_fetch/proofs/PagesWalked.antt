@@ -1,10 +1,8 @@
 -- The pages of a still world, one after another, are a walk of its tree.
-use Rattle.std.proofs.Common.{◌≡◌, inl, inr, ◌≤◌, ◌+◌, ◌++◌, suc, ℕ, List, [], ◌∷◌, length, Ok, Some, refl, sym, ap, subst, ◌∙◌, arith, append_assoc, append-nil}
+use Rattle.std.proofs.Common.{◌≡◌, inl, inr, ◌+◌, ◌++◌, suc, ℕ, List, [], ◌∷◌, length, Some, refl, sym, ap, subst, ◌∙◌, arith}
 use Rattle.std.specs.List.{flat_map}
 use Rattle.std.proofs.lemmas.List.{length-append}
 use Rattle.dav_io.specs.Counts.{RefusedNothing, Rose}
-use Rattle.dav_core.specs.declared.tree.Kind.TheVariants.{Dir}
-use Rattle.dav_core.specs.declared.tree.Row.{Row}
 use Rattle.dav_core.specs.Members.{members}
 use Rattle.dav_core.specs.Path.{Names}
 use Rattle.dav_core.specs.Tree.{look}
@@ -16,12 +14,11 @@ use Rattle.dav_fetch.specs.Copy.{IsOf}
 use Rattle.dav_fetch.specs.Fetching.{Visited, WholeVisits}
 use Rattle.dav_fetch.specs.Mirroring.{TellsOne}
 use Rattle.dav_fetch.specs.Peer.{PeerState, RepliesOf, Seen}
-use Rattle.dav_fetch.specs.Reading.{IsOver}
-use Rattle.dav_fetch.specs.Walk.{IsPageOf, Pages, Visit, Way, start, with_all}
+use Rattle.dav_fetch.specs.Walk.{Pages, Visit, Way, start, with_all}
 use Rattle.dav_fetch.proofs.DirServed.{page_sent}
 use Rattle.dav_fetch.proofs.Orders.{of_append}
 use Rattle.dav_fetch.proofs.PageNames.{IsListing, members_same, page_listing}
-use Rattle.dav_fetch.proofs.Quiet.{IsToldOf, ToldReply, came_over, no_rise, quiet_first, quiet_rest, told_reply, visit_counts, visits_count}
+use Rattle.dav_fetch.proofs.Quiet.{IsToldOf, came_over, no_rise, quiet_first, quiet_rest, told_reply, visit_counts, visits_count}
 use Rattle.dav_fetch.proofs.TreeRows.{tree_parts}
 use Rattle.dav_fetch.proofs.Walks.{IsDirAt, Walked, at_start, one_more}
 use Rattle.dav_fetch.proofs.Ways.{whole_visits}

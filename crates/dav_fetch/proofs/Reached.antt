@@ -1,33 +1,32 @@
 -- A fetch of a still tree within the limits, with a request for each visible row and one more, comes to its end.
-use Rattle.std.proofs.Common.{◌≡◌, inl, inr, ◌<◌, ◌≤◌, ◌+◌, ◌^◌, ◌++◌, ℕ, List, [], ◌∷◌, length, true, false, Option, None, Some, IfSome, Result, Ok, Err, refl, sym, ap, subst, ◌∙◌, arith}
+use Rattle.std.proofs.Common.{◌≡◌, inl, inr, ◌<◌, ◌≤◌, ◌+◌, ◌^◌, ◌++◌, ℕ, List, [], ◌∷◌, length, Result, Ok, Err, refl, sym, ap, subst, ◌∙◌, arith}
 use Rattle.std.specs.List.{flat_map}
 use Rattle.std.proofs.lemmas.List.{length-append}
 use Rattle.dav_io.specs.Counts.{RefusedNothing, Rose, greatest}
-use Rattle.dav_core.specs.declared.tree.Kind.TheVariants.{Dir, File}
-use Rattle.dav_core.specs.declared.tree.Row.{Row}
+use Rattle.dav_core.specs.declared.tree.Kind.TheVariants.{File}
 use Rattle.dav_core.specs.DavPath.{WebPath}
 use Rattle.dav_core.specs.Path.{Names}
 use Rattle.dav_core.specs.Tree.{is_dir, is_file, look}
-use Rattle.dav_core.specs.World.{World, bytes_of}
+use Rattle.dav_core.specs.World.{World}
 use Rattle.dav_fetch.specs.declared.copied.Copied.{Copied}
 use Rattle.dav_fetch.specs.declared.copied.Kept.{Kept}
 use Rattle.dav_fetch.specs.declared.error.MirrorError.{MirrorError}
 use Rattle.dav_fetch.specs.declared.error.MirrorError.TheVariants.{Peer as PeerFailed, Refused, NotAPage, BadReply, Short, TooLong, Budget, NoMemory}
-use Rattle.dav_fetch.specs.Asking.{asked_for, awaits, dir_path, file_path}
-use Rattle.dav_fetch.specs.Copy.{IsFileAt, IsOf}
-use Rattle.dav_fetch.specs.Fetching.{AtFile, AtPage, Fetched, FileAsked, FileEnds, FileNotAsked, FilesEnd, Goes, IsFileVisit, NotAsked, PageEnds, Takes, Visited, kept_at, link_is_short, visits_of}
-use Rattle.dav_fetch.specs.Judging.{Use, gives, keeps, refuses, spoils, use_of}
-use Rattle.dav_fetch.specs.Mirroring.{IsGood, IsLinkless, IsMirror, IsOverOne, IsShownAt, IsWithinLimits, Mirrors, TellsOne, visible_rows}
+use Rattle.dav_fetch.specs.Asking.{dir_path, file_path}
+use Rattle.dav_fetch.specs.Copy.{IsOf}
+use Rattle.dav_fetch.specs.Fetching.{AtFile, AtPage, Fetched, FileEnds, Goes, IsFileVisit, NotAsked, PageEnds, Visited, kept_at, link_is_short, visits_of}
+use Rattle.dav_fetch.specs.Judging.{Use, gives, keeps, refuses, spoils}
+use Rattle.dav_fetch.specs.Mirroring.{IsLinkless, IsOverOne, IsWithinLimits, Mirrors, TellsOne, visible_rows}
 use Rattle.dav_fetch.specs.Peer.{PeerState, RepliesOf}
 use Rattle.dav_fetch.specs.Reading.{IsOver}
 use Rattle.dav_fetch.specs.Walk.{Visit, Way, page_most}
 use Rattle.dav_fetch.proofs.Counted.{file_allowed, files_left, is_a_file, no_link, page_allowed}
-use Rattle.dav_fetch.proofs.FileWhole.{bytes_there, file_here, goods_there}
+use Rattle.dav_fetch.proofs.FileWhole.{bytes_there, goods_there}
 use Rattle.dav_fetch.proofs.Judged.{IsWorth, worth}
 use Rattle.dav_fetch.proofs.Mirrored.{mirrored, old_good, told_parts}
 use Rattle.dav_fetch.proofs.Orders.{of_append}
 use Rattle.dav_fetch.proofs.PageNames.{page_found}
-use Rattle.dav_fetch.proofs.PagesWalked.{WalkedOn, page_given, pages_walked}
+use Rattle.dav_fetch.proofs.PagesWalked.{page_given, pages_walked}
 use Rattle.dav_fetch.proofs.Quiet.{IsToldOf, came_left, came_over, no_rise, quiet_first, risen, told_reply, visit_counts, visits_count}
 use Rattle.dav_fetch.proofs.TreeRows.{looked_is}
 use Rattle.dav_fetch.proofs.Walks.{IsDirAt, IsOtherAt, Walked}

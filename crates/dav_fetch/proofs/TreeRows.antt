@@ -1,6 +1,6 @@
 -- Rows of a tree: what a look finds, and what stands in a directory.
-use Rattle.std.proofs.Common.{◌≡◌, ◌==◌, ◌<◌, ◌+◌, ◌-◌, ◌&&◌, ◌||◌, ◌⊎◌, inl, inr, ℕ, zero, suc, Bool, true, false, not, cond, List, [], ◌∷◌, ◌++◌, length, take, slice_get, Option, None, Some, Result, Ok, refl, sym, ap, subst, ◌∙◌, append_assoc, append-nil, arith, eqb-true}
-use Rattle.std.specs.List.{list_all, list_any}
+use Rattle.std.proofs.Common.{◌≡◌, ◌==◌, ◌+◌, ◌-◌, ◌&&◌, ◌||◌, inl, inr, ℕ, zero, suc, Bool, true, false, not, cond, List, [], ◌∷◌, ◌++◌, length, take, slice_get, Option, None, Some, Result, Ok, refl, sym, ap, subst, ◌∙◌, append_assoc, append-nil, arith, eqb-true}
+use Rattle.std.specs.List.{list_all}
 use Rattle.std.proofs.lemmas.Bool.{and_parts, and_from, not-true}
 use Rattle.std.proofs.lemmas.Bool.Decides.{nat_tests}
 use Rattle.std.proofs.lemmas.List.{length-append}
@@ -12,12 +12,12 @@ use Rattle.dav_core.specs.declared.tree.Kind.TheVariants.{Dir, File, Link}
 use Rattle.dav_core.specs.declared.tree.Row.{Row}
 use Rattle.dav_core.specs.DavPath.{last_name}
 use Rattle.dav_core.specs.Listing.{name_of, or_empty, stands_in}
-use Rattle.dav_core.specs.Path.{Names, is_front, parent_of, same_names}
+use Rattle.dav_core.specs.Path.{Names, is_front, same_names}
 use Rattle.dav_core.specs.Tree.{below, below_kind, has_dir, is_apart, is_dir, is_dir_row, is_free, is_placed, is_tree, look, look_from, row_at, standing}
 use Rattle.dav_core.specs.World.{is_numbered}
 use Rattle.dav_core.proofs.Plain.{names_same}
 use Rattle.dav_model.specs.Finding.{IsOf as IsRowOf}
-use Rattle.dav_model.proofs.LooseWalks.{find_row, names_equal, parent_pushed}
+use Rattle.dav_model.proofs.LooseWalks.{find_row, names_equal}
 use Rattle.dav_fetch.specs.Copy.{IsOf}
 
 -- ---- tests

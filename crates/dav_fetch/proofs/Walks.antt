@@ -1,13 +1,12 @@
 -- The walk over the pages of a tree: what it has found, and that in the end it has found all that is shown.
-use Rattle.std.proofs.Common.{◌≡◌, ◌<◌, ◌+◌, ◌&&◌, inl, inr, ℕ, Bool, true, false, not, List, [], ◌∷◌, ◌++◌, length, Result, Ok, refl, sym, ap, subst, ◌∙◌, append_assoc, append-nil, arith}
-use Rattle.std.specs.List.{list_all}
+use Rattle.std.proofs.Common.{◌≡◌, ◌<◌, ◌+◌, inl, inr, ℕ, Bool, true, false, not, List, [], ◌∷◌, ◌++◌, length, Ok, refl, sym, ap, subst, ◌∙◌, append_assoc, append-nil, arith}
 use Rattle.std.proofs.lemmas.Bool.{and_from, and_parts, not-true}
 use Rattle.std.proofs.lemmas.List.{length-append}
 use Rattle.std.proofs.lemmas.List.Folds.{list_all-append}
 use Rattle.dav_core.specs.declared.tree.Kind.TheVariants.{Dir}
 use Rattle.dav_core.specs.declared.tree.Row.{Row}
 use Rattle.dav_core.specs.Path.{Names, parent_of}
-use Rattle.dav_core.specs.Tree.{is_dir, look, look_from}
+use Rattle.dav_core.specs.Tree.{is_dir, look_from}
 use Rattle.dav_core.specs.World.{World}
 use Rattle.dav_page.specs.Listed.{begins_with_dot}
 use Rattle.dav_model.proofs.LooseWalks.{parent_pushed}
@@ -18,7 +17,7 @@ use Rattle.dav_fetch.specs.Walk.{Way, dirs_on, each_once, files_on, start, with_
 use Rattle.dav_fetch.proofs.Among.{Apart, IsNamed, apart_behind, apart_both, apart_once, of_dirs, of_files, of_once, to_dirs, to_files, to_once}
 use Rattle.dav_fetch.proofs.Orders.{of_append, of_parts}
 use Rattle.dav_fetch.proofs.PageNames.{IsListing}
-use Rattle.dav_fetch.proofs.TreeRows.{IsTree, dir_here, dir_kind, looked_is, next_found, root_stands, row_here, stands_below}
+use Rattle.dav_fetch.proofs.TreeRows.{IsTree, dir_here, dir_kind, next_found, root_stands, row_here, stands_below}
 
 -- a directory that is shown, or the root
 pub record IsDirAt (w : World) (path : Names) : Type 0 where
