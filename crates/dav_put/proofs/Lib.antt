@@ -1,3 +1,5 @@
 mod WholeStored
 mod Poured
 mod Ended
+mod TokensTried
+mod Performed

@@ -1,6 +1,7 @@
 -- What is known of an upload into which pieces of an input went.
-use Rattle.std.proofs.Common.{◌≡◌, ◌++◌, ℕ, List, [], length, take, IsSome, Option, None, Some, Result, Ok, Err, refl, sym, ap, subst, ◌∙◌}
+use Rattle.std.proofs.Common.{◌≡◌, ◌+◌, ◌++◌, ℕ, List, [], length, take, IsSome, Option, None, Some, Result, Ok, Err, refl, sym, ap, subst, ◌∙◌, rules}
 use Rattle.dav_io.specs.Outside.{Stream, Takes}
+use Rattle.dav_io.specs.Counts.{Rose}
 use Rattle.dav_io.specs.Told.{Both}
 use Rattle.dav_io.proofs.ToldLemmas.{both_map}
 use Rattle.dav_io.specs.declared.failure.Failed.{Failed}
@@ -36,22 +37,25 @@ live_still h a s t p live = subst (λ k. IsSome (t.live k)) (sym p.handle) (subs
 pub gives_taken : (i j : Stream) (buffer : List ℕ) (n : ℕ) → Takes i buffer (Ok n) j → Gives i (take n buffer) j
 gives_taken i j buffer n takes = both_map i.bytes j.bytes _ (λ old new. old ≡ take n buffer ++ new) (λ old new told. told.0) takes.told
 
+pub failed_taken : (i j : Stream) (buffer : List ℕ) (e : Failed) → Takes i buffer (Err e) j → Rose i.faults j.faults
+failed_taken i j buffer e takes = search (rules, takes.failed)
+
 pub over_taken : (i j : Stream) (buffer : List ℕ) (n : ℕ) → n ≡ 0 → Takes i buffer (Ok n) j → IsOver i j
 over_taken i j buffer n none takes = both_map i.bytes j.bytes _ (λ old new. (old ≡ []) × (new ≡ [])) (λ old new told. (told.1 none, sym (told.0 ∙ ap (λ k. take k buffer ++ new) none) ∙ told.1 none)) takes.told
 
 module _ {S C F : Type 0} (view : View S C F) (writes : Writes F) where
-  -- so many bytes went into the upload, from where it began
-  pub record SoFar (s : S) (u : Upload F) (i : Stream) (t : S) (v : Upload F) (j : Stream) : Type 0 where
+  -- so many pieces went into the upload, from where it began
+  pub record SoFar (count : ℕ) (s : S) (u : Upload F) (i : Stream) (t : S) (v : Upload F) (j : Stream) : Type 0 where
     pub bytes : List ℕ
-    pub fed : Fed view writes s u i bytes t v j
+    pub fed : Fed view writes s u i count bytes t v j
 
-  pub none_yet : (s : S) (u : Upload F) (i : Stream) → SoFar s u i s u i
+  pub none_yet : (s : S) (u : Upload F) (i : Stream) → SoFar 0 s u i s u i
   none_yet s u i = record { bytes = []; fed = begun }
 
-  pub one_more : (s m t : S) (u x y : Upload F) (i j k : Stream) (piece bytes : List ℕ) → SoFar s u i m x j → Gives j piece k → bytes ≡ piece → WritesPiece view writes x bytes m (Ok tt) t y → SoFar s u i t y k
-  one_more s m t u x y i j k piece bytes far gives same piece_so = record {
+  pub one_more : (count : ℕ) (s m t : S) (u x y : Upload F) (i j k : Stream) (piece bytes : List ℕ) → SoFar count s u i m x j → Gives j piece k → bytes ≡ piece → WritesPiece view writes x bytes m (Ok tt) t y → SoFar (count + 1) s u i t y k
+  one_more count s m t u x y i j k piece bytes far gives same piece_so = record {
     bytes = far.bytes ++ piece;
-    fed = goes far.bytes piece m t x y j k far.fed gives (subst (λ b. WritesPiece view writes x b m (Ok tt) t y) same piece_so);
+    fed = goes count far.bytes piece m t x y j k far.fed gives (subst (λ b. WritesPiece view writes x b m (Ok tt) t y) same piece_so);
   }
 
   -- what calls of the store keep of it, and of the upload

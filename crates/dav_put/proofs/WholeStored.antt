@@ -18,6 +18,7 @@ use Rattle.dav_model.proofs.LooseWalks.{parent_pushed}
 use Rattle.dav_methods.specs.Lines.{Given}
 use Rattle.dav_methods.specs.Pouring.{Writes, WritesFile}
 use Rattle.dav_upload.specs.declared.error.UploadError.{UploadError}
+use Rattle.dav_upload.specs.declared.error.UploadError.TheVariants.{Busy}
 use Rattle.dav_upload.specs.declared.upload.Upload.{Upload}
 use Rattle.dav_upload.specs.Names.{begins_hidden, hidden_beside, hidden_name, is_digit, is_hidden, is_hidden_path, is_taken}
 use Rattle.dav_upload.specs.Shown.{IsCommitted, SameShown}
@@ -32,7 +33,7 @@ use Rattle.dav_upload.proofs.Moving.{never}
 use Rattle.dav_upload.proofs.Tokens.{beside_hides, token_hides}
 use Rattle.dav_put.specs.declared.storing.Stop.{Stop}
 use Rattle.dav_put.specs.declared.storing.Stop.TheVariants.{Refused, SourceFailed, TooMuch}
-use Rattle.dav_put.specs.Storing.{BeginsSome, Ends, Fed, Gives, IsOver, Pours, Stops, Stores, Tried}
+use Rattle.dav_put.specs.Storing.{BeginsSome, Ends, Fed, Gives, IsOver, Pours, Stops, Stores, Tried, token_after}
 use Rattle.dav_put.specs.Storing.Fed.{begun, goes}
 use Rattle.dav_put.specs.Storing.Tried.{more, none}
 use Rattle.dav_put.specs.Whole.{IsOpenTo, StoredWhole}
@@ -116,9 +117,10 @@ module _ {S C F : Type 0} (view : View S C F) (writes : Writes F) (c : C) (test 
       by false (inl (same, is)) = waits_same v s t same x
       by false (inr j) = by_may j.judged (judged_waits v target fields token s t (Err e) x j) j.may j.opens
 
-  tried_waits : (v : World) (target : WebPath) (fields : Fields) (s t : S) → IsOpenTo v target.names → Waits v s → Tried view writes c target fields s t → Waits v t
-  tried_waits v target fields s t clear x none = x
-  tried_waits v target fields s t clear x (more token e m n before begins) = refused_waits v target fields token m t e clear (tried_waits v target fields s m clear x before) begins
+  tried_waits : (v : World) (target : WebPath) (fields : Fields) (first : ℕ) (s : S) (tries : ℕ) (t : S) → IsOpenTo v target.names → Waits v s → Tried view writes c target fields first s tries t → Waits v t
+  tried_waits v target fields first s tries t clear x none = x
+  tried_waits v target fields first s tries t clear x (more count name m n before begins) =
+      refused_waits v target fields (token_after first count) m t (Busy name) clear (tried_waits v target fields first s count m clear x before) begins
 
   -- What is known where an upload began and pieces were written.
   record Going (v : World) (target : WebPath) (pieces : List ℕ) (m : S) (u : Upload F) : Type 0 where
@@ -200,18 +202,18 @@ module _ {S C F : Type 0} (view : View S C F) (writes : Writes F) (c : C) (test 
       by false e (Ok y, file, writes_so, is, answer) = ap (λ (z : Upload F). z.broken) is
       by false e (Err y, file, writes_so, is, answer) = cc
 
-  fed_going : (v : World) (target : WebPath) (s : S) (u : Upload F) (i : Stream) → u.broken ≡ false → Going v target [] s u → (t : S) (x : Upload F) (j : Stream) (bytes : List ℕ) → Fed view writes s u i bytes t x j
+  fed_going : (v : World) (target : WebPath) (s : S) (u : Upload F) (i : Stream) → u.broken ≡ false → Going v target [] s u → (t : S) (x : Upload F) (j : Stream) (count : ℕ) (bytes : List ℕ) → Fed view writes s u i count bytes t x j
       → Going v target bytes t x × (x.broken ≡ false)
-  fed_going v target s u i whole g t x j bytes begun = (g, whole)
-  fed_going v target s u i whole g t x j bytes (goes front piece m n y z a b before gives piece_so) =
-      let (here, still) = fed_going v target s u i whole g m y a front before in
+  fed_going v target s u i whole g t x j count bytes begun = (g, whole)
+  fed_going v target s u i whole g t x j count bytes (goes before_count front piece m n y z a b before gives piece_so) =
+      let (here, still) = fed_going v target s u i whole g m y a before_count front before in
       (piece_going v target front piece m t y x (Ok tt) still here piece_so, still_whole piece m t y x still piece_so)
 
-  fed_gave : (s : S) (u : Upload F) (i : Stream) (all : List ℕ) → i.bytes ≡ Some all → (t : S) (x : Upload F) (j : Stream) (bytes : List ℕ) → Fed view writes s u i bytes t x j
+  fed_gave : (s : S) (u : Upload F) (i : Stream) (all : List ℕ) → i.bytes ≡ Some all → (t : S) (x : Upload F) (j : Stream) (count : ℕ) (bytes : List ℕ) → Fed view writes s u i count bytes t x j
       → (rest : List ℕ) × (j.bytes ≡ Some rest) × (all ≡ bytes ++ rest)
-  fed_gave s u i all told t x j bytes begun = (all, told, refl)
-  fed_gave s u i all told t x j bytes (goes front piece m n y z a b before gives piece_so) =
-      let (mid, there, is) = fed_gave s u i all told m y a front before in
+  fed_gave s u i all told t x j count bytes begun = (all, told, refl)
+  fed_gave s u i all told t x j count bytes (goes before_count front piece m n y z a b before gives piece_so) =
+      let (mid, there, is) = fed_gave s u i all told m y a before_count front before in
       let (rest, end, more_is) = gave a j piece mid there gives in
       (rest, end, is ∙ (ap (λ k. front ++ k) more_is ∙ sym (append_assoc front piece rest)))
 
@@ -274,28 +276,28 @@ module _ {S C F : Type 0} (view : View S C F) (writes : Writes F) (c : C) (test 
       poured_whole n x j r whole g p ends = by r p.stops ends
         where
           far : Going v target p.bytes p.place p.upload × (p.upload.broken ≡ false)
-          far = fed_going v target s u i whole g p.place p.upload p.left p.bytes p.fed
+          far = fed_going v target s u i whole g p.place p.upload p.left p.count p.bytes p.fed
 
           moved : (m : S) (y : Upload F) (pieces : List ℕ) → m ≡ p.place → y ≡ p.upload → Going v target pieces p.place p.upload → Going v target pieces m y
           moved m y pieces same like h = subst (λ a. Going v target pieces a y) (sym same) (subst (λ b. Going v target pieces p.place b) (sym like) h)
 
-          by : (r : Result Unit Stop) → Stops view writes p.place p.upload p.left r n x j → Ends view writes c r x fields n result t → StoredWhole target.names bytes result v w
+          by : (r : Result Unit Stop) → Stops view writes p.count p.place p.upload p.left r n x j → Ends view writes c r x fields n result t → StoredWhole target.names bytes result v w
           by (Ok y) (over, same, like) ends =
-              let (rest, left, is) = fed_gave s u i bytes told p.place p.upload p.left p.bytes p.fed in
+              let (rest, left, is) = fed_gave s u i bytes told p.place p.upload p.left p.count p.bytes p.fed in
               let all : bytes ≡ p.bytes = is ∙ (ap (λ k. p.bytes ++ k) (was_over p.left j rest left over) ∙ append-nil p.bytes) in
               subst (λ b. StoredWhole target.names b result v w) (sym all)
               (committed_whole p.bytes n x result (ap (λ (z : Upload F). z.broken) like ∙ far.1) (moved n x p.bytes same like far.0) ends)
-          by (Err SourceFailed) (same, like) (answer, aborts, is) = refused_whole bytes p.bytes n x SourceFailed result (moved n x p.bytes same like far.0) answer aborts is
-          by (Err TooMuch) (same, like) (answer, aborts, is) = refused_whole bytes p.bytes n x TooMuch result (moved n x p.bytes same like far.0) answer aborts is
-          by (Err (Refused e)) (piece, piece_so) (answer, aborts, is) =
+          by (Err SourceFailed) (rose, same, like) (answer, aborts, is) = refused_whole bytes p.bytes n x SourceFailed result (moved n x p.bytes same like far.0) answer aborts is
+          by (Err TooMuch) (full, same, like, still) (answer, aborts, is) = refused_whole bytes p.bytes n x TooMuch result (moved n x p.bytes same like far.0) answer aborts is
+          by (Err (Refused e)) (piece, gives, piece_so) (answer, aborts, is) =
               refused_whole bytes (p.bytes ++ piece) n x (Refused e) result (piece_going v target p.bytes piece p.place n p.upload x (Err e) far.1 far.0 piece_so) answer aborts is
 
-  pub stored_whole : (target : WebPath) (fields : Fields) (s t : S) (i j : Stream) (result : Result Outcome Stop) (v w : World) (bytes : List ℕ) → target.names ≢ [] → (view.state s).told ≡ Some v → (view.state t).told ≡ Some w
-      → i.bytes ≡ Some bytes → IsOpenTo v target.names → test s ≡ true → Stores view writes c target fields s i result t j → StoredWhole target.names bytes result v w
-  stored_whole target fields s t i j result v w bytes named was now told clear plain (inl (e, b, is)) =
-      let x = refused_waits v target fields b.token b.middle t e clear (tried_waits v target fields s b.middle clear (waits_at v s was plain) b.tried) b.begins in
+  pub stored_whole : (target : WebPath) (fields : Fields) (first : ℕ) (s t : S) (i j : Stream) (result : Result Outcome Stop) (v w : World) (bytes : List ℕ) → target.names ≢ [] → (view.state s).told ≡ Some v → (view.state t).told ≡ Some w
+      → i.bytes ≡ Some bytes → IsOpenTo v target.names → test s ≡ true → Stores view writes c target fields first s i result t j → StoredWhole target.names bytes result v w
+  stored_whole target fields first s t i j result v w bytes named was now told clear plain (inl (e, b, is)) =
+      let x = refused_waits v target fields (token_after first b.tries) b.middle t e clear (tried_waits v target fields first s b.tries b.middle clear (waits_at v s was plain) b.tried) b.begins in
       let same : x.world ≡ w = one_told (view.state t).told x.world w x.here now in
       subst (λ z. StoredWhole target.names bytes z v w) (sym is) (inl (subst (SameShown v) same (kept_unseen v x.world x.same)))
-  stored_whole target fields s t i j result v w bytes named was now told clear plain (inr (u, x, m, n, r, b, pours, ends)) =
-      let begun_so = begun_going v target fields b.token b.middle m u clear (tried_waits v target fields s b.middle clear (waits_at v s was plain) b.tried) b.begins in
+  stored_whole target fields first s t i j result v w bytes named was now told clear plain (inr (u, x, m, n, r, b, pours, ends)) =
+      let begun_so = begun_going v target fields (token_after first b.tries) b.middle m u clear (tried_waits v target fields first s b.tries b.middle clear (waits_at v s was plain) b.tried) b.begins in
       poured_whole target fields named v clear t w now m u i bytes told result n x j r begun_so.1 begun_so.0 pours ends

@@ -1,2 +1,4 @@
 pub mod Storing
 pub mod Whole
+pub mod Ending
+pub mod Performs

@@ -1,10 +1,12 @@
 //! What the program does: it stores an input, or sweeps what runs that were cut off left.
-ghost use Rattle.std.specs.Prelude.{◌≡◌, ◌<◌, Bool, List, Some, length, ℕ, true};
+ghost use Rattle.std.specs.Prelude.{◌≡◌, ◌<◌, [], Bool, IfErr, IfOk, List, Some, length, ℕ, true};
 ghost use Rattle.dav_core.specs.DavPath.{WebPath};
+ghost use Rattle.dav_core.specs.Grammar.{parsed};
 ghost use Rattle.dav_core.specs.World.{World};
 ghost use Rattle.dav_put.specs.declared.running.Task.TheVariants.{Store, Sweep};
-ghost use Rattle.dav_put.specs.Whole.{EndedBy, EndsWhole, IsOpenTo};
-ghost use Rattle.dav_upload.specs.declared.error.UploadError.TheVariants.{Dav};
+ghost use Rattle.dav_put.specs.Ending.{IsUnsaid, ending_by, ending_of, exit_of};
+ghost use Rattle.dav_put.specs.Performs.{Performs, StoresAt, SweepsAt};
+ghost use Rattle.dav_put.specs.Whole.{EndsWhole, IsOpenTo};
 ghost use Rattle.dav_upload.specs.Shown.{SameShown};
 ghost use Rattle.dav_upload.specs.Steps.{HasClearNames};
 ghost use Rattle.dav_upload.specs.Takes.{ReadsPlainly, TakesUploads};
@@ -46,8 +48,11 @@ pub enum Ending {
 }
 
 impl Ending {
-    /// The status of the program.
-    pub fn status(&self) -> u8 {
+    /// The status of the program: 0 where all was done, 1 where it was refused, 2 where the words aren't understood, 3
+    /// where the source failed, 5 where the disk did, and 101 for want of memory.
+    pub fn status(&self) -> u8
+        ensures { result ≡ exit_of self.now }
+    {
         match *self {
             Ending::Done => 0,
             Ending::Refused(_) | Ending::Busy => 1,
@@ -60,7 +65,10 @@ impl Ending {
 }
 
 // The path that a word says, as a request's target would.
-fn path_said(alloc: Global, word: &str) -> Result<DavPath, Ending> {
+fn path_said(alloc: Global, word: &str) -> Result<DavPath, Ending>
+    ensures ok { IfOk result (λ path. parsed word.now [] ≡ Ok path) }
+    ensures err { IfErr result IsUnsaid }
+{
     match DavPath::new(alloc, word) {
         Ok(path) => Ok(path),
         Err(ParseError::NoMemory) => Err(Ending::NoMemory),
@@ -72,7 +80,9 @@ fn path_said(alloc: Global, word: &str) -> Result<DavPath, Ending> {
 /// target of a request says it.
 ///
 /// Errors: `Words` where they say something else; `NoMemory`.
-pub fn task_said(alloc: Global, words: &[String]) -> Result<Task, Ending> {
+pub fn task_said(alloc: Global, words: &[String]) -> Result<Task, Ending>
+    ensures { IfErr result IsUnsaid }
+{
     match words {
         [_root, path] => Ok(Task::Store(path_said(alloc, path.as_str())?)),
         [_root, verb, dir] if verb.as_str() == "--sweep" => Ok(Task::Sweep(path_said(
@@ -85,7 +95,7 @@ pub fn task_said(alloc: Global, words: &[String]) -> Result<Task, Ending> {
 
 // How the program ends where a PUT would be refused so.
 fn refused_as(error: DavError) -> Ending
-    ensures { EndedBy (Dav error) result }
+    ensures { result ≡ ending_by error }
 {
     match error {
         DavError::NoMemory
@@ -98,7 +108,7 @@ fn refused_as(error: DavError) -> Ending
 
 // How it ends where an upload was refused.
 fn ended_by(error: UploadError) -> Ending
-    ensures { EndedBy error result }
+    ensures { result ≡ ending_of error }
 {
     match error {
         UploadError::Dav(error) => refused_as(error),
@@ -119,6 +129,8 @@ fn store_at<S: GuardedFileSystem<C>, C, R: Source>(
     token: u64,
 ) -> Ending
     requires room { 0 < length buffer.old }
+    ensures table { StoresAt S.view S.listings S.File.view.writes credentials.now path.now token fs.old (R.stream source.old) result fs.new
+        (R.stream source.new) }
     ensures whole { (test : S → Bool) → TakesUploads S.view S.File.view.writes credentials.now test → test fs.old ≡ true
         → (v w : World) (bytes : List ℕ) → (S.view.state fs.old).told ≡ Some v → (S.view.state fs.new).told ≡ Some w
         → (R.stream source.old).bytes ≡ Some bytes → IsOpenTo v path.now.names
@@ -143,6 +155,7 @@ fn sweep_at<S: GuardedFileSystem<C>, C>(
     credentials: &C,
     dir: &DavPath,
 ) -> Ending
+    ensures table { SweepsAt S.view S.listings S.File.view.writes credentials.now dir.now fs.old result fs.new }
     ensures unseen { (test : S → Bool) → TakesUploads S.view S.File.view.writes credentials.now test
         → ReadsPlainly S.view S.listings credentials.now test → test fs.old ≡ true
         → (v w : World) → (S.view.state fs.old).told ≡ Some v → (S.view.state fs.new).told ≡ Some w
@@ -157,7 +170,8 @@ fn sweep_at<S: GuardedFileSystem<C>, C>(
 /// Does what is asked for, over any store, and answers how it ends. Over a store whose calls do what the tree allows at
 /// paths as they are written, and where no link stands on the way to the target: where the input is stored, the target
 /// is a file of its bytes. Else what is shown is as it was; only where the disk failed or memory was wanting at the last
-/// call, which moves the file to its place, it may be there whole. A sweep leaves what is shown.
+/// call, which moves the file to its place, it may be there whole. A sweep leaves what is shown. `table` tells which
+/// calls of the store were made, and how it ends by what they gave.
 pub fn perform<S: GuardedFileSystem<C>, C, R: Source>(
     alloc: Global,
     fs: &mut S,
@@ -168,6 +182,8 @@ pub fn perform<S: GuardedFileSystem<C>, C, R: Source>(
     token: u64,
 ) -> Ending
     requires room { 0 < length buffer.old }
+    ensures table { Performs S.view S.listings S.File.view.writes credentials.now task.now token fs.old (R.stream source.old) result fs.new
+        (R.stream source.new) }
     ensures whole { (target : WebPath) → task.now ≡ Store target
         → (test : S → Bool) → TakesUploads S.view S.File.view.writes credentials.now test → test fs.old ≡ true
         → (v w : World) (bytes : List ℕ) → (S.view.state fs.old).told ≡ Some v → (S.view.state fs.new).told ≡ Some w

@@ -1,7 +1,7 @@
 //! An input is stored at a path by an upload.
 ghost use Rattle.std.specs.Prelude.{◌≡◌, ◌≢◌, ◌<◌, [], Bool, IfOk, IsSome, List, Some, length, ℕ, true};
 ghost use Rattle.dav_core.specs.World.{World};
-ghost use Rattle.dav_put.specs.Storing.{BeginsSome, Ends, Pours, Stores};
+ghost use Rattle.dav_put.specs.Storing.{BeginsSome, Ends, Pours, Stores, is_busy as the_is_busy};
 ghost use Rattle.dav_put.specs.Whole.{IsOpenTo, StoredWhole};
 ghost use Rattle.dav_store.specs.View.{StaysBy};
 ghost use Rattle.dav_upload.specs.Pieces.{KeepsUpload};
@@ -29,6 +29,13 @@ pub enum Stop {
     Refused(UploadError),
 }
 
+// Whether the hidden name of a token stands already.
+fn is_busy(error: &UploadError) -> bool
+    ensures { result ≡ the_is_busy error.now }
+{
+    matches!(error, UploadError::Busy { name: _name })
+}
+
 // Begins an upload, with the first token whose hidden name doesn't stand already.
 fn begin_some<S: GuardedFileSystem<C>, C>(
     alloc: Global,
@@ -38,19 +45,24 @@ fn begin_some<S: GuardedFileSystem<C>, C>(
     fields: &HeaderMap,
     first: u64,
 ) -> Result<Upload<S::File>, UploadError>
-    ensures begins { BeginsSome S.view S.File.view.writes credentials.now path.now fields.now fs.old result fs.new }
+    ensures begins { BeginsSome S.view S.File.view.writes credentials.now path.now fields.now first fs.old result fs.new }
     ensures live { IfOk result (λ u. IsSome ((S.view.state fs.new).live (S.view.file.handle u.file))) }
     ensures reads_from { IfOk result (λ u. S.view.file.reads_from u.file (S.view.state fs.new)) }
 {
     let mut token = first;
-    'tokens: for _ in 0..TOKENS {
+    'tokens: for _tries in 0..TOKENS {
         match begin(alloc, fs, credentials, path, fields, token) {
-            Err(UploadError::Busy { name: _name }) => token = token.wrapping_add(1),
-            Err(error) => return Err(error),
             Ok(upload) => return Ok(upload),
+            Err(error) => {
+                if !is_busy(&error) {
+                    return Err(error);
+                }
+                token = token.wrapping_add(1);
+            }
         }
     }
-    begin(alloc, fs, credentials, path, fields, token)
+    let last = begin(alloc, fs, credentials, path, fields, token);
+    last
 }
 
 // Writes what the source gives, each piece as it comes, up to its end.
@@ -68,7 +80,7 @@ fn pour<S: GuardedFileSystem<C>, C, R: Source>(
     ensures stays { StaysBy S.view (KeepsUpload (S.view.file.handle upload.old.file) (S.view.file.handle upload.new.file)) fs.old
         fs.new }
 {
-    'pieces: for _ in 0..u64::MAX {
+    'pieces: for _pieces in 0..u64::MAX {
         let count = match source.take(buffer) {
             Ok(count) => count,
             Err(_) => return Err(Stop::SourceFailed),
@@ -121,7 +133,7 @@ fn store_by<S: GuardedFileSystem<C>, C, R: Source>(
     token: u64,
 ) -> Result<Outcome, Stop>
     requires room { 0 < length buffer.old }
-    ensures table { Stores S.view S.File.view.writes credentials.now path.now fields.now fs.old (R.stream source.old) result
+    ensures table { Stores S.view S.File.view.writes credentials.now path.now fields.now token fs.old (R.stream source.old) result
         fs.new (R.stream source.new) }
 {
     match begin_some(alloc, fs, credentials, path, fields, token) {
@@ -137,7 +149,8 @@ fn store_by<S: GuardedFileSystem<C>, C, R: Source>(
 /// takes the target's place when all is there. Where the hidden name of the token stands already, others are tried.
 /// `buffer` is for the pieces.
 ///
-/// Errors: `SourceFailed`; `TooMuch` where the source gave 2^64 pieces; the refusal of the upload.
+/// Errors: `SourceFailed`; `TooMuch` where the source gave 2^64 - 1 pieces and no end; the refusal of the upload, `Busy`
+/// where the hidden names of 17 tokens stand.
 pub fn store<S: GuardedFileSystem<C>, C, R: Source>(
     alloc: Global,
     fs: &mut S,
@@ -150,7 +163,7 @@ pub fn store<S: GuardedFileSystem<C>, C, R: Source>(
 ) -> Result<Outcome, Stop>
     requires room { 0 < length buffer.old }
     requires named { path.now.names ≢ [] }
-    ensures table { Stores S.view S.File.view.writes credentials.now path.now fields.now fs.old (R.stream source.old) result fs.new
+    ensures table { Stores S.view S.File.view.writes credentials.now path.now fields.now token fs.old (R.stream source.old) result fs.new
         (R.stream source.new) }
     ensures whole { (test : S → Bool) → TakesUploads S.view S.File.view.writes credentials.now test → test fs.old ≡ true
         → (v w : World) (bytes : List ℕ) → (S.view.state fs.old).told ≡ Some v → (S.view.state fs.new).told ≡ Some w

@@ -6,7 +6,7 @@ use Rattle.dav_put.proofs.storing.pour.Given as goal
 
 abbrev pub invariant-pieces : goal.invariant-pieces
 invariant-pieces g l = record {
-  far : SoFar g.S.GuardedFileSystem.view g.S.File.DavFile.view.writes l.initial.fs l.initial.upload (g.R.Source.stream l.initial.source) l.fs l.upload
+  far : SoFar g.S.GuardedFileSystem.view g.S.File.DavFile.view.writes l._pieces l.initial.fs l.initial.upload (g.R.Source.stream l.initial.source) l.fs l.upload
       (g.R.Source.stream l.source);
   stays : StaysBy g.S.GuardedFileSystem.view
       (KeepsUpload (g.S.GuardedFileSystem.view.file.handle l.initial.upload.file) (g.S.GuardedFileSystem.view.file.handle l.upload.file)) l.initial.fs l.fs;
