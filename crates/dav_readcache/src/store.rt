@@ -16,6 +16,7 @@ use std::alloc::Global;
 use std::marker::PhantomData;
 
 /// A store that holds the contents of files by their entity tags.
+#[derive(Drop)]
 pub struct ReadCache<S, C> {
     pub(crate) store: S,
     pub(crate) shelf: Shelf,
