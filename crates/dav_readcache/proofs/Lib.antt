@@ -1,0 +1,10 @@
+pub mod Alike
+pub mod Filling
+pub mod Fronts
+pub mod Opened
+pub mod Orders
+pub mod Showing
+pub mod Sounds
+pub mod Stepping
+pub mod Told
+pub mod Writing

@@ -1,0 +1,145 @@
+-- Open files whose contents may be held.
+use Rattle.std.specs.Prelude.{◌≡◌, ◌<◌, ◌≤◌, ◌+◌, ◌==◌, ◌&&◌, ◌^◌, nat_lt, [], ℕ, List, Bool, true, false, cond, length, take, drop, min, Option, None, Some, IsSome, Result, Ok, Err, IfOk, nat_eq}
+use Rattle.std.specs.Option.{option_map}
+use Rattle.std.specs.Cmp.Lexicographic.{pointwise}
+use Rattle.dav_core.specs.declared.error.FsError.{FsError}
+use Rattle.dav_core.specs.Disk.{DiskState, Live}
+use Rattle.dav_core.specs.Info.{Info}
+use Rattle.dav_io.specs.Told.{Both}
+use Rattle.dav_core.specs.Tree.{is_file}
+use Rattle.dav_core.specs.declared.tree.Kind.{Kind}
+use Rattle.dav_core.specs.Unchanged.{KeepsBut}
+use Rattle.dav_core.specs.Writing.{reading}
+use Rattle.dav_store.specs.Files.{AsksOnce, FileReads}
+use Rattle.dav_store.specs.FileView.{FileView}
+use Rattle.dav_store.specs.Standing.{Seen, Standing}
+use Rattle.dav_readcache.specs.declared.cached.Content.{Content}
+use Rattle.dav_readcache.specs.declared.cached.Reading.{Reading}
+use Rattle.dav_readcache.specs.declared.cached.CachedFile.{CachedFile}
+
+-- whether something with this tag is held
+abbrev pub is_tag : List ℕ → Option (List ℕ) → Bool
+is_tag tag None = false
+is_tag tag (Some other) = pointwise nat_eq tag other
+
+-- whether a regular file of this tag is held
+abbrev pub is_of : Content → Kind → Option (List ℕ) → Bool
+is_of c kind tag = is_file kind && is_tag c.tag tag
+
+-- A file is shown with the bytes that are held, as long as it has their tag.
+abbrev pub shown : Option Content → Standing → Standing
+shown None there = there
+shown (Some c) there = cond (is_of c there.kind there.tag) (record there { bytes = c.bytes }) there
+
+abbrev pub place_of : Option ℕ → ℕ → ℕ
+place_of None place = place
+place_of (Some p) place = p
+
+abbrev pub seen_as : Reading → Seen → Seen
+seen_as r f = record { stands = shown r.content f.stands; place = place_of r.pending f.place }
+
+abbrev pub seen_reading : Option Reading → Option Seen → Option Seen
+seen_reading None seen = seen
+seen_reading (Some r) seen = option_map (seen_as r) seen
+
+abbrev pub seen_by : {F : Type 0} → FileView F → CachedFile F → DiskState → Option Seen
+seen_by view f s = seen_reading f.reading (view.seen f.file s)
+
+abbrev pub place_or : Option ℕ → Option ℕ → Option ℕ
+place_or None at = at
+place_or (Some p) at = Some p
+
+-- the place where it is read next, where it is known
+abbrev pub place_in : Reading → Option ℕ
+place_in r = place_or r.pending r.at
+
+abbrev pub pending_at : Option ℕ → ℕ → Option ℕ
+pending_at None place = Some place
+pending_at (Some at) place = cond (at == place) None (Some place)
+
+abbrev pub placed_at : ℕ → Reading → Reading
+placed_at place r = record r { pending = pending_at r.at place }
+
+-- The store's file is where it is known to be. Where a content is held, that is known.
+abbrev pub IsKnown : Reading → Option Seen → Type 0
+IsKnown r seen = (IsSome r.content → IsSome r.at) × ((at : ℕ) (f : Seen) → r.at ≡ Some at → seen ≡ Some f → f.place ≡ at)
+
+abbrev pub IsAtKnown : Option Reading → Option Seen → Type 0
+IsAtKnown None seen = Unit {0}
+IsAtKnown (Some r) seen = IsKnown r seen
+
+-- what is read by a cache was opened for reading alone
+abbrev pub IsShut : Option Reading → Option Live → Type 0
+IsShut None live = Unit {0}
+IsShut (Some r) live = (l : Live) → live ≡ Some l → l.how ≡ reading
+
+abbrev pub reads_by : {F : Type 0} → FileView F → CachedFile F → DiskState → Type 0
+reads_by view f s = view.reads_from f.file s × IsAtKnown f.reading (view.seen f.file s)
+    × IsShut f.reading (s.live (view.handle f.file))
+
+-- An open file of a store, as it is shown by a cache. It is written as the store's file is; a move asks nothing, and a
+-- read may ask more than once.
+abbrev pub cached_file : {F : Type 0} → FileView F → FileView (CachedFile F)
+cached_file view = record {
+  handle = λ f. view.handle f.file;
+  seen = seen_by view;
+  writes = λ f s from result g t. view.writes f.file s from result g.file t × (g.reading ≡ f.reading);
+  reads_from = reads_by view;
+  asks_once = ⊥;
+}
+
+-- ---- steps of a read
+
+abbrev pub added : Option ℕ → ℕ → Option ℕ
+added None n = None
+added (Some at) n = cond (nat_lt (at + n) (2 ^ 64)) (Some (at + n)) None
+
+-- The file is shown as it was, and no other is touched.
+pub record Stays (h : ℕ) (s : DiskState) (seen : Option Seen) (t : DiskState) (after : Option Seen) : Type 0 where
+  pub keeps : KeepsBut h s t
+  pub live : t.live h ≡ s.live h
+  pub told : Both seen after (λ f g. g ≡ f)
+
+-- whether the content that is held is of what has this metadata
+abbrev pub is_held : Option Content → Info → Bool
+is_held None info = false
+is_held (Some c) info = is_of c info.kind info.tag
+
+-- A content of another tag is dropped.
+abbrev pub IsFreshFor : Bool → Reading → Result Bool FsError → Reading → Type 0
+IsFreshFor true r result q = (result ≡ Ok true) × (q ≡ r)
+IsFreshFor false r result q = (result ≡ Ok false) × (q ≡ record r { content = None })
+
+abbrev pub IsFresh : Result Info FsError → Reading → Result Bool FsError → Reading → Type 0
+IsFresh (Err e) r result q = (result ≡ Err e) × (q ≡ r)
+IsFresh (Ok info) r result q = IsFreshFor (is_held r.content info) r result q
+
+abbrev pub bytes_in : Option Content → List ℕ
+bytes_in None = []
+bytes_in (Some c) = c.bytes
+
+-- All bytes of the content that stand from its place on and fit are copied.
+pub record Copies (r : Reading) (buffer : List ℕ) (n : ℕ) (q : Reading) : Type 0 where
+  pub place : ℕ
+  pub at : place_in r ≡ Some place
+  pub some : 0 < length buffer
+  pub count : n ≡ min (length buffer) (length (drop place (bytes_in r.content)))
+  pub copied : take n buffer ≡ take n (drop place (bytes_in r.content))
+  pub left : q ≡ placed_at (place + n) r
+
+-- A read of a file that has the tag of the content that is held asks the disk once, where that refuses nothing, and
+-- gives all bytes that stand there and fit.
+abbrev pub IsHit : Reading → Option Seen → DiskState → List ℕ → Result ℕ FsError → DiskState → Type 0
+IsHit r seen s buffer result t = (c : Content) (f : Seen) → r.content ≡ Some c → seen ≡ Some f
+    → is_of c f.stands.kind f.stands.tag ≡ true → AsksOnce s t
+    × IfOk result (λ n. n ≡ min (length buffer) (length (drop (place_of r.pending f.place) c.bytes)))
+
+-- the same of a cached file
+abbrev pub HitsBy : Option Reading → Option Seen → DiskState → List ℕ → Result ℕ FsError → DiskState → Type 0
+HitsBy None seen s buffer result t = Unit {0}
+HitsBy (Some r) seen s buffer result t = IsHit r seen s buffer result t
+
+-- A move of a file that was opened for reading alone asks nothing, and is never refused.
+abbrev pub MovesFree : Option Reading → DiskState → ℕ → Result ℕ FsError → DiskState → Type 0
+MovesFree None s place result t = Unit {0}
+MovesFree (Some r) s place result t = (result ≡ Ok place) × (t ≡ s)
