@@ -6,7 +6,7 @@ use dav_cache::Owned;
 use dav_host::{HostDisk, StdSource, SystemClock};
 use dav_io::{Clock, NoMemory};
 use dav_local::LocalFs;
-use dav_put::{Ending, Task, perform, task_said};
+use dav_put::{Ending, Task, perform_local, task_said};
 use std::env;
 use std::io::ErrorKind;
 use std::process::ExitCode;
@@ -50,10 +50,9 @@ fn put(rt: &HostRuntime, root: &str, task: &Task) -> Result<Ending, NoMemory> {
     let mut source = StdSource::new(rt.reader());
     let token = SystemClock::new(rt).now().0;
     let mut buffer = vec![in rt.alloc(); 0u8; PIECE]?;
-    Ok(perform(
+    Ok(perform_local(
         rt.alloc(),
         &mut store,
-        &(),
         task,
         &mut source,
         buffer.as_mut_slice(),

@@ -1,0 +1,4 @@
+pub mod Failing
+pub mod Fields
+pub mod Paths
+pub mod Telling

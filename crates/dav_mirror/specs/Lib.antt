@@ -1,0 +1,5 @@
+pub mod Asking
+pub mod Seen
+pub mod Playing
+pub mod Lines
+pub mod Mirrors

@@ -1,0 +1,10 @@
+//! Mirrors of a tree over a player: a player as a peer, and the listing of what is fetched from it.
+#![tactic(auto)]
+
+mod asking;
+mod lines;
+mod mirroring;
+mod play_peer;
+
+pub use mirroring::mirror;
+pub use play_peer::PlayPeer;

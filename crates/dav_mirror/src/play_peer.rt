@@ -1,0 +1,193 @@
+ghost use Rattle.std.specs.Prelude.{◌≡◌, ◌≤◌, ◌<◌, ◌+◌, ◌^◌, [], ◌++◌, drop, length, min, take, None, false};
+ghost use Rattle.dav_handler.specs.Player.{playing_of, stage_of};
+
+use crate::asking::{Asking, request_for};
+use dav_cache::Remember;
+use dav_core::{DavPath, Disk};
+use dav_fetch::{Got, Peer, PeerFault};
+use dav_handler::{Answer, Player, Step};
+use dav_io::{Fields, Moment, NoMemory, Octets};
+use http::Request;
+use std::alloc::Global;
+use std::mem;
+
+// How many replies a player gives to a peer.
+const MOST_REPLIES: u32 = 2_147_483_648;
+
+/// A player, asked as a server is: it answers each `get` by the steps Abandon of the last body, Turn and Request, and
+/// each `piece` by Poll, and keeps the rest of a piece that doesn't fit.
+///
+/// It tells the world of its last reply where the disk tells a world without links, and where the player has the rules
+/// of a peer that tells: pages are permitted, nothing else is set but the size of the read buffer, and each path is
+/// meant as it is written. Its count of faults is that of the disk and one of its own together: a `get` where the player
+/// has given 2^31 replies fails, and asks nothing. What no request can say is answered 400, as by a server that reads
+/// it, and of that reply nothing is told; nor of one to a path under a prefix, or to a field `if`.
+pub struct PlayPeer<D: Disk, R: Remember> {
+    alloc: Global,
+    player: Player<D, R>,
+    // The number of the last reply, where the player gave it.
+    body: Option<u32>,
+    // Whether it is the reply to a GET of the path that was asked for.
+    heard: bool,
+    // The last piece, and how much of it is given.
+    piece: Octets,
+    at: usize,
+    refused: u64,
+    ghost inside: { at ≤ length piece },
+}
+
+// Copies as many bytes as there are, and as there is room for.
+fn copy_front(rest: &[u8], into: &mut [u8]) -> usize
+    ensures count { result ≡ min (length rest.now) (length into.old) }
+    ensures copied { take result into.new ≡ take result rest.now }
+    ensures len { length into.new ≡ length into.old }
+{
+    let count = rest.len().min(into.len());
+    into[..count].copy_from_slice(&rest[..count]);
+    count
+}
+
+impl<D: Disk, R: Remember> PlayPeer<D, R> {
+    ghost use Rattle.dav_mirror.specs.Playing.{peer_of};
+    ghost use Rattle.dav_mirror.specs.Seen.{peer_in};
+
+    /// A peer over a player, of which nothing was asked yet.
+    pub fn new(alloc: Global, player: Player<D, R>) -> Self
+        ensures peer { peer_of result ≡ peer_in false [] None 0 (stage_of player) }
+        ensures player { result.player ≡ player }
+        ensures refused { result.refused ≡ 0 }
+    {
+        PlayPeer {
+            alloc,
+            player,
+            body: None,
+            heard: false,
+            piece: Octets::empty(alloc),
+            at: 0,
+            refused: 0,
+        }
+    }
+
+    /// How many times it failed since the player had given all its replies.
+    pub fn refused(&self) -> u64
+        ensures { result ≡ self.now.refused }
+    {
+        self.refused
+    }
+
+    /// Gives the player back. The body of the last reply may still be open.
+    pub fn into_player(self) -> Player<D, R>
+        ensures { result ≡ self.player }
+    {
+        let PlayPeer {
+            alloc: _,
+            player,
+            body: _,
+            heard: _,
+            piece: _,
+            at: _,
+            refused: _,
+        } = self;
+        player
+    }
+
+    // Ends the last reply.
+    fn end_reply(&mut self)
+        requires { (playing_of self.old.player).replies + 1 < 2 ^ 32 }
+        ensures body { self.new.body ≡ None }
+        ensures piece { drop self.new.at self.new.piece ≡ [] }
+        ensures refused { self.new.refused ≡ self.old.refused }
+        ensures faults { (D.state self.old.player.store.disk).faults ≤ (D.state self.new.player.store.disk).faults }
+        ensures replies { (playing_of self.new.player).replies ≡ (playing_of self.old.player).replies }
+        ensures loan { D.loan self.new.player.store.disk ≡ D.loan self.old.player.store.disk }
+    {
+        self.at = 0;
+        self.piece = Octets::empty(self.alloc);
+        if let Some(body) = self.body.take() {
+            let _ = self.player.step(&Step::Abandon(body));
+        }
+    }
+
+    // Gives what is kept of the last piece, as far as there is room.
+    fn give(&mut self, into: &mut [u8]) -> usize
+        ensures count { result ≡ min (length (drop self.old.at self.old.piece)) (length into.old) }
+        ensures given { drop self.old.at self.old.piece ≡ take result into.new ++ drop self.new.at self.new.piece }
+        ensures player { self.new.player ≡ self.old.player }
+        ensures stage { stage_of self.new.player ≡ stage_of self.old.player }
+        ensures body { (self.new.body ≡ self.old.body) × (self.new.heard ≡ self.old.heard) }
+        ensures refused { self.new.refused ≡ self.old.refused }
+        ensures len { length into.new ≡ length into.old }
+    {
+        let (_, rest) = self.piece.as_slice().split_at(self.at);
+        let count = copy_front(rest, into);
+        self.at += count;
+        count
+    }
+}
+
+impl<D: Disk, R: Remember> Peer for PlayPeer<D, R> {
+    ghost use Rattle.dav_mirror.specs.Playing.{peer_of};
+
+    ghost state = { λ p. peer_of p };
+
+    ghost loan = { λ p. D.loan p.player.store.disk };
+
+    fn get(&mut self, path: &DavPath, fields: &Fields) -> Result<Got, PeerFault> {
+        if self.player.replies() >= MOST_REPLIES {
+            self.refused = self.refused.saturating_add(1);
+            return Err(PeerFault::Failed);
+        }
+        self.end_reply();
+        let asking = match request_for(self.alloc, path, fields) {
+            Ok(asking) => asking,
+            Err(_) => return Err(PeerFault::NoMemory),
+        };
+        let Some(Asking { request, heard }) = asking else {
+            return Ok(Got {
+                status: 400,
+                headers: Fields::empty(self.alloc),
+            });
+        };
+        if self.player.turn().is_err() {
+            return Err(PeerFault::NoMemory);
+        }
+        match self.player.request(&request, Moment(0)) {
+            Ok(
+                Answer::Reply {
+                    status,
+                    headers,
+                    body,
+                },
+            ) => {
+                self.body = Some(body);
+                self.heard = heard;
+                Ok(Got { status, headers })
+            }
+            Ok(_) => unreachable!("a request is answered by a reply"),
+            Err(_) => Err(PeerFault::NoMemory),
+        }
+    }
+
+    fn piece(&mut self, into: &mut [u8]) -> Result<usize, PeerFault> {
+        if self.at < self.piece.as_slice().len() {
+            return Ok(self.give(into));
+        }
+        let Some(body) = self.body else {
+            return Ok(0);
+        };
+        self.at = 0;
+        let mut spare = mem::replace(&mut self.piece, Octets::empty(self.alloc)).into_vec();
+        match self.player.poll_over(body, &mut spare) {
+            Ok(Answer::Piece(piece)) => {
+                self.piece = piece;
+                Ok(self.give(into))
+            }
+            Ok(Answer::End) => Ok(0),
+            Ok(Answer::Broken) => Err(PeerFault::Failed),
+            // A poll is answered by no other.
+            Ok(Answer::Reply { .. }) => Ok(0),
+            Ok(Answer::Done) => Ok(0),
+            Err(_) => Err(PeerFault::NoMemory),
+        }
+    }
+}
