@@ -3,5 +3,5 @@ use Rattle.dav_disk.specs.Failing.{mem_state}
 use Rattle.session_rows.specs.Told.{IsToldOf}
 use Rattle.session_rows.proofs.told.told_sessions.Given as goal
 
-abbrev pub invariant-loop-_i : goal.invariant-loop-_i
-invariant-loop-_i l = All (λ s. IsToldOf (mem_state s.disk) s.steps) l.sessions.items
+abbrev pub invariant-loop-i : goal.invariant-loop-i
+invariant-loop-i l = All (λ s. IsToldOf (mem_state s.disk) s.steps) l.sessions.items
