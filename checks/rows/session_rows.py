@@ -2,7 +2,7 @@
 often disks are asked is counted as if the sessions were played one after another over what all of them remember."""
 from model import Settings
 from play import Player, told
-from step_rows import Scene
+from step_rows import Scene, names_of
 from store import Memory, Store
 from texts import Unread, print_wanted
 
@@ -17,38 +17,77 @@ def scenes_of(text):
     return [Scene(parts.split("|")) for parts in text.split("&")] if text.strip() else []
 
 
-def played(text, memory):
+def played(text, memory, before=lambda scene: None):
     """The answers of all scenes, each with its disk, over a memory or over none."""
     scenes = scenes_of(text)
     settings, folds, macos = settings_of(scenes)
     for scene in scenes:
+        before(scene)
         player = Player(Store(scene.disk, memory or Memory(), folds, macos), settings)
         yield "".join(told(player.step(step)) + " | " for step in scene.steps), scene.disk
 
 
+def asked_and_failed(disk, count):
+    return f"{'' if count is None else f'asked {count}, '}failed {disk.faults}"
+
+
+def joined(scenes, memory, behind=lambda place: "", before=lambda scene: None):
+    """What is told of all scenes. How often a disk was asked is told where there is a memory to count it by."""
+    alone = list(played(scenes, None))
+    counts = [disk.asked for _, disk in played(scenes, memory, before)] if memory else [None] * len(alone)
+    return " & ".join(answers + asked_and_failed(disk, count) + behind(place)
+                      for place, ((answers, disk), count) in enumerate(zip(alone, counts)))
+
+
 def wanted(row, memory):
-    least, scenes = None, row
-    if row.startswith("least "):
-        _, least, scenes = row.split(" ", 2)
-    alone, asked = list(played(scenes, None)), [disk.asked for _, disk in played(scenes, memory)]
-    first = scenes_of(scenes)[:1]
-    counted = least is None and first != [] and first[0].counted
-    lines = [f"{answers}{f'asked {count}, ' if counted else ''}failed {disk.faults}"
-             for (answers, disk), count in zip(alone, asked)]
-    line = " & ".join(lines)
-    return line if least is None else f"{line}, asked so often {str(sum(asked) >= int(least)).lower()}"
+    if not row.startswith("least "):
+        first = scenes_of(row)[:1]
+        return joined(row, memory if first and first[0].counted else None)
+    _, least, scenes = row.split(" ", 2)
+    asked = sum(disk.asked for _, disk in played(scenes, memory))
+    return f"{joined(scenes, None)}, asked so often {str(asked >= int(least)).lower()}"
+
+
+def watch(disk, path):
+    """The paths at which a disk is looked at from now on, as far as they are this one."""
+    seen, meta = [], disk.meta
+
+    def look(at):
+        seen.extend([at] if at == path else [])
+        return meta(at)
+    disk.meta = look
+    return seen
+
+
+def wanted_meeting(row):
+    """All but the first session are asked as if they were alone behind it: none leaves anything that another finds."""
+    times, path, scenes = row.split(" ", 2)
+    looks = []
+    told = joined(scenes, Memory(ROOM, ROOM), lambda place: f", met {str(looks[place] != []).lower()}" if place else "",
+                  lambda scene: looks.append(watch(scene.disk, names_of(path))))
+    return f"{told}, alike {times}"
+
+
+TOLD = "set autoindex yes | macos | dir /d 2 1 | file /d/._a 3 1 a | GET /d/ | GET /d/._b | GET /d/._a"
+
+FORMS = {
+    "meet": wanted_meeting,
+    "twice": lambda scenes: joined(scenes, None) + ", purged alike true",
+    "told": lambda count: joined(" & ".join([TOLD] * int(count)), None),
+}
 
 
 def wanted_all(rows):
     memory, lines = None, []
     for row in rows:
+        form, _, rest = row.partition(" ")
         if row.startswith("#"):
             lines.append(row)
             continue
-        if not row.startswith("again "):
+        if form not in FORMS and form != "again":
             memory = Memory(ROOM, ROOM)
         try:
-            lines.append(wanted(row.removeprefix("again "), memory))
+            lines.append(FORMS[form](rest) if form in FORMS else wanted(row.removeprefix("again "), memory))
         except Unread:
             lines.append("no answer")
     return lines

@@ -1,7 +1,10 @@
 //! A server of one's own, as docs/EMBEDDING.md shows it: a folder in memory behind a handler, and five requests to it.
 //!
-//! What each is answered with stands a line on standard output: its status, and the bytes of its body.
+//! What each is answered with stands a line on standard output: its status, and the bytes of its body. Behind them
+//! stand the statuses of clients whose stores share caches (docs/CACHES.md).
 #![tactic(auto)]
+
+mod sessions;
 
 ghost use Rattle.std.specs.Prelude.{◌≡◌, IfOk, IfSome};
 ghost use Rattle.dav_body.specs.Bodies.{MayPoll};
@@ -110,6 +113,9 @@ fn main(rt: HostRuntime) -> Result<()> {
         let request = request_of(alloc, method, target, bytes)?;
         let line = told(alloc, &mut handler, request)?;
         println!(rt; "{method} {target}: {line}")?;
+    }
+    for status in &sessions::statuses(&rt, alloc)? {
+        println!(rt; "GET /Letter.txt over shared caches: {status}")?;
     }
     Ok(())
 }

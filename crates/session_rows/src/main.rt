@@ -2,47 +2,48 @@
 //! each session a line on standard output, with `&` between them.
 //!
 //! A row is scenes with `&` between them, one for each session, as `dav_scenes` reads them. The settings of the first
-//! count for all. Behind the word `again` the caches are those of the row before; else they are new. Of a scene that
-//! isn't `uncounted` it is told how often its disk was asked; behind `least NUMBER` only whether all disks together
-//! were asked so many calls. A row that begins with `#` is written as it stands, and one that isn't understood has no
-//! answer.
+//! count for all. Of a scene that isn't `uncounted` it is told how often its disk was asked. The caches are new; what
+//! stands before the scenes changes that or more:
+//!
+//!     again SCENES               the caches are those of the row before
+//!     least NUMBER SCENES        of the calls it is told alone whether all disks together were asked so many; `again`
+//!                                may stand before it
+//!     meet COUNT PATH SCENES     so many times over new caches: the first session is played by itself, and then all
+//!                                others, each over a disk that waits, at its first look at the path, until the disks
+//!                                of all others were looked at there. Of each of these it is told whether it was
+//!                                looked at there and all came, and then how many times told the same.
+//!     twice SCENES               once more over new caches, which another thread purges all the time: it is told whether
+//!                                all answers were the same. Each scene is to be `uncounted`.
+//!     host FOLDER SCENES         each over this folder of the machine; nothing is told of calls
+//!     told COUNT                 so many sessions over caches of folder 1 and the book that tells of it, each over a
+//!                                disk of which the book is true: the root and its directory `/d` of 1 s with the file
+//!                                `/d/._a`. Each asks for `/d/`, `/d/._b` and `/d/._a`, with pages and the rules for
+//!                                macOS.
+//!
+//! A row that begins with `#` is written as it stands, and one that isn't understood has no answer.
 #![tactic(auto)]
 
+mod meet;
+mod meeting;
+mod over;
+mod played;
+mod purged;
 mod table;
+mod told;
 
+use dav_host::HostDisk;
 use dav_rows::Line;
-use dav_sessions::play_sessions;
 use dav_shared::{SharedCache, UntoldBook};
+use meet::meet;
+use over::play_over;
+use played::{play, room_for_all};
+use purged::play_twice;
 use std::alloc::Global;
 use std::io;
 use std::sync::Wait;
 use std::thread::Threads;
-use table::{Table, are_short, table_of, tell_table};
-
-// How many paths are remembered, and how many directories and names together.
-const ROOM: usize = 64;
-
-// Plays all sessions, unless one has more steps than any row has.
-fn play_all<R: Threads + Wait + Sync>(
-    rt: &R,
-    alloc: Global,
-    cache: &SharedCache<UntoldBook>,
-    table: &mut Table,
-) -> bool {
-    if !are_short(table.sessions.as_slice()) {
-        return false;
-    }
-    play_sessions(
-        rt,
-        alloc,
-        &table.settings,
-        table.folds,
-        table.macos,
-        cache,
-        table.sessions.as_mut_slice(),
-    );
-    true
-}
+use table::{table_of, tell_table};
+use told::play_told;
 
 // Plays a row over these caches.
 fn play_row<R: Threads + Wait + Sync>(
@@ -52,32 +53,66 @@ fn play_row<R: Threads + Wait + Sync>(
     line: &mut Line,
     row: &str,
 ) {
-    let Some(cache) = cache else {
+    let (Some(cache), Some(mut table)) = (cache, table_of(alloc, line, row)) else {
         return line.refuse();
     };
-    let Some(mut table) = table_of(alloc, line, row) else {
-        return line.refuse();
-    };
-    if play_all(rt, alloc, cache, &mut table) {
-        tell_table(line, &table);
+    let played = play(rt, alloc, cache, &table.ways, table.sessions.as_mut_slice());
+    tell_table(line, &table);
+    line.need(played);
+}
+
+// Answers a row. The caches are kept for those that go on with them.
+fn answer<R: Threads + Wait + Sync>(
+    rt: &R,
+    alloc: Global,
+    kept: &mut Option<SharedCache<UntoldBook>>,
+    line: &mut Line,
+    row: &str,
+) {
+    if row.starts_with('#') {
+        line.add(row);
+    } else if let Some(scenes) = row.strip_prefix("again ") {
+        play_row(rt, alloc, kept, line, scenes);
+    } else if let Some(scenes) = row.strip_prefix("meet ") {
+        meet(rt, alloc, line, scenes);
+    } else if let Some(scenes) = row.strip_prefix("twice ") {
+        play_twice(rt, alloc, line, scenes);
+    } else if let Some(count) = row.strip_prefix("told ") {
+        play_told(rt, alloc, line, count);
     } else {
-        line.refuse();
+        *kept = room_for_all(alloc);
+        play_row(rt, alloc, kept, line, row);
     }
+}
+
+// A disk for each scene, all of one folder of the machine.
+fn disks_of<'a>(
+    rt: &'a HostRuntime,
+    alloc: Global,
+    folder: &str,
+    scenes: &str,
+) -> Option<Vec<HostDisk<&'a HostRuntime>>> {
+    let mut disks = Vec::new(alloc);
+    for _scene in scenes.split('&') {
+        disks.push(HostDisk::new(alloc, rt, folder).ok()?).ok()?;
+    }
+    Some(disks)
 }
 
 fn main(rt: HostRuntime) -> io::Result<()> {
     let alloc = rt.alloc();
-    let mut cache = None;
+    let mut kept = None;
     for row in rt.lines(alloc) {
         let row = row?;
         let mut line = Line::new(alloc);
-        match row.as_str().strip_prefix("again ") {
-            Some(scenes) => play_row(&rt, alloc, &cache, &mut line, scenes),
-            None if row.as_str().starts_with('#') => line.add(row.as_str()),
-            None => {
-                cache = SharedCache::new(alloc, 1, ROOM, ROOM).ok();
-                play_row(&rt, alloc, &cache, &mut line, row.as_str());
+        if let Some(row) = row.as_str().strip_prefix("host ") {
+            let (folder, scenes) = row.split_once(' ').unwrap_or((row, ""));
+            match disks_of(&rt, alloc, folder, scenes) {
+                Some(disks) => play_over(&rt, alloc, &mut line, scenes, disks),
+                None => line.refuse(),
             }
+        } else {
+            answer(&rt, alloc, &mut kept, &mut line, row.as_str());
         }
         println!(rt; "{}", line.as_str())?;
     }

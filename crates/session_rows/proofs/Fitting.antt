@@ -1,0 +1,89 @@
+-- What a book tells stands in a world with this tree.
+use Rattle.std.proofs.Common.{◌≡◌, ◌⊎◌, inl, inr, ◌&&◌, ◌==◌, Bool, true, false, List, [], ◌∷◌, ℕ, Option, None, Some, codes, refl, ap, sym, subst, ◌∙◌}
+use Rattle.std.specs.List.{AllByRecursion, list_any}
+use Rattle.dav_core.specs.declared.time.FileTime.{FileTime}
+use Rattle.dav_core.specs.declared.tree.Row.{Row}
+use Rattle.dav_core.specs.Disk.{DiskState}
+use Rattle.dav_core.specs.Path.{Names}
+use Rattle.dav_core.specs.Tree.{is_linked}
+use Rattle.dav_core.specs.World.{World}
+use Rattle.dav_core.proofs.UnchangedLemmas.{same_besides}
+use Rattle.dav_model.specs.declared.step.Step.{Step}
+use Rattle.dav_model.specs.Folds.{Name, dir_time, has_name}
+use Rattle.dav_model.specs.Rules.{Rules, SameDots}
+use Rattle.dav_model.specs.Still.{Fits, is_quiet}
+use Rattle.dav_model.specs.Trail.{Point}
+use Rattle.dav_cache.specs.Trees.{same_path, same_time}
+use Rattle.dav_cache.proofs.Keys.{path_decides}
+use Rattle.dav_shared.specs.Books.{has_in, one_book, one_folder, seconds}
+use Rattle.dav_sessions.specs.Sessions.{IsStill, known_by_page}
+use Rattle.session_rows.specs.Told.{AreQuiet, IsQuiet, IsToldOf, TellsTree, told_tree}
+
+-- ---- names of two letters and more, of which there is no other
+
+never : (b : Bool) → (b && false) ≡ false
+never true = refl
+never false = refl
+
+not_d : (x : Name) → Rattle.dav_model.specs.Folds.is_dot x ≡ true → has_in [] x ≡ has_name told_tree [] x
+not_d [] dot = cc
+not_d (a ∷ []) dot = cc
+not_d (a ∷ b ∷ rest) dot = rw (never (Rattle.dav_cache.specs.Trees.is_dot (a ∷ b ∷ rest)), never (a == 100)) refl
+
+only_a : (x : Name) → Rattle.dav_model.specs.Folds.is_dot x ≡ true → has_in (codes "._a" ∷ []) x ≡ has_name told_tree (codes "d" ∷ []) x
+only_a [] dot = cc
+only_a (a ∷ []) dot = cc
+only_a (a ∷ b ∷ rest) dot = rw dot refl
+
+-- ---- what the book tells
+
+abbrev Tells : Names → FileTime → (Name → Bool) → Type 0
+Tells dir time has = ((dir ≡ []) × (has ≡ has_in [])) ⊎ ((dir ≡ codes "d" ∷ []) × (has ≡ has_in (codes "._a" ∷ [])))
+
+tells : (dir : Names) (time : FileTime) (has : Name → Bool) → (known_by_page (one_book 1)).names dir time ≡ Some has → Tells dir time has
+tells dir time has is = (elim (same_path dir []) as (λ b. same_path dir [] ≡ b → Tells dir time has) [
+  | true ↦ λ root. inl (
+    (path_decides dir []).0 root,
+    (elim (same_time time (seconds 0)) as (λ b. same_time time (seconds 0) ≡ b → has ≡ has_in []) [
+      | true ↦ λ at. let e : Some (has_in []) ≡ Some has = (rw (root, at) refl) ∙ is in cc
+      | false ↦ λ at. let e : None ≡ Some has = (rw (root, at) refl) ∙ is in absurd cc
+    ]) refl,
+  )
+  | false ↦ λ other. (elim (same_path dir (codes "d" ∷ [])) as (λ b. same_path dir (codes "d" ∷ []) ≡ b → Tells dir time has) [
+    | true ↦ λ d. inr (
+      (path_decides dir (codes "d" ∷ [])).0 d,
+      (elim (same_time time (seconds 1)) as (λ b. same_time time (seconds 1) ≡ b → has ≡ has_in (codes "._a" ∷ [])) [
+        | true ↦ λ at. let e : Some (has_in (codes "._a" ∷ [])) ≡ Some has = (rw (other, d, at) refl) ∙ is in cc
+        | false ↦ λ at. let e : None ≡ Some has = (rw (other, d, at) refl) ∙ is in absurd cc
+      ]) refl,
+    )
+    | false ↦ λ d. let e : None ≡ Some has = (rw (other, d) refl) ∙ is in absurd cc
+  ]) refl
+]) refl
+
+same_dots : (dir : Names) (time : FileTime) (has : Name → Bool) → Tells dir time has → SameDots has (has_name told_tree dir)
+same_dots dir time has (inl (root, is)) = rw (root, is) not_d
+same_dots dir time has (inr (d, is)) = rw (d, is) only_a
+
+pub fits : (w : World) → w.tree ≡ told_tree → Fits (known_by_page (one_book 1)) w
+fits w tree = rw tree (record {
+  way = λ dir time has is. refl;
+  names = λ dir time has is at. same_dots dir time has (tells dir time has is);
+})
+
+-- ---- a session over such a disk
+
+quiet_by : (rules : Rules) (steps : List Step) → AllByRecursion IsQuiet steps → AllByRecursion (λ step. is_quiet rules step ≡ true) steps
+quiet_by rules [] quiet = tt
+quiet_by rules (step ∷ steps) (first, others) = (first rules, quiet_by rules steps others)
+
+pub told_still : (s : DiskState) (steps : List Step) → TellsTree s → AreQuiet steps → IsToldOf s steps
+told_still s steps tells quiet = record {
+  still = λ rules. record {
+    world = tells.world;
+    stands = record { now = tells.world; told = tells.told; same = same_besides tells.world; script = tells.script };
+    quiet = quiet_by rules steps quiet.quiet;
+    fits = fits tells.world tells.tree;
+  };
+  room = quiet.room;
+}

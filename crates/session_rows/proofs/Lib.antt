@@ -1,0 +1,4 @@
+mod Fitting
+mod Quiet
+mod Telling
+mod Untold
