@@ -8,8 +8,9 @@ use dav_io::{Failed, NoMemory, Sink, put_all};
 use std::alloc::Global;
 use std::marker::Model;
 
-/// So many bytes are held at most.
-const ROOM: usize = 32_768;
+/// So many bytes are held at most: an answer with a body of 64 KiB leaves in one put, since a sink that delays small
+/// packets waits between two.
+const ROOM: usize = 69_632;
 
 // A piece of so many bytes or more isn't copied where nothing is held.
 const LONG: usize = 8_192;
@@ -27,7 +28,7 @@ impl Model for Output {
 
     ghost view = { λ o. o.held.items };
 
-    ghost invariant = { λ o. (vec_len o.held ≤ 32768) × (32768 ≤ vec_capacity o.held) };
+    ghost invariant = { λ o. (vec_len o.held ≤ 69632) × (69632 ≤ vec_capacity o.held) };
 }
 
 impl Output {
@@ -114,7 +115,7 @@ impl Output {
 
     // Holds bytes for which there is room.
     fn hold(&mut self, bytes: &[u8])
-        requires { length self.old + length bytes.now ≤ 32768 }
+        requires { length self.old + length bytes.now ≤ 69632 }
         ensures { self.new ≡ self.old ++ bytes.now }
     {
         match self.held.extend_from_slice(bytes) {
