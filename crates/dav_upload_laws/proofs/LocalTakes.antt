@@ -73,7 +73,7 @@ known_written ways e = let (a, f) = written_parts ways e in ap (λ o. is_some o 
 abbrev Lost : {T : Type 0} → Place → Result T FsError → Place → Type 0
 Lost p r q = (r ≡ Err fs.NoMemory) × (q ≡ p)
 
-finds_here : {T : Type 0} (p q : Place) (names : Names) (call : Names → Place → Result T FsError → Place → Type 0) (r : Result T FsError) → finds_as_written p.ways ≡ true → Finds p names call r q
+pub finds_here : {T : Type 0} (p q : Place) (names : Names) (call : Names → Place → Result T FsError → Place → Type 0) (r : Result T FsError) → finds_as_written p.ways ≡ true → Finds p names call r q
     → call names p r q ⊎ Lost p r q
 finds_here p q names call r plain (Ok at, m, resolves, after) =
     let (same, is) = resolves.known (known_written p.ways plain) in
