@@ -1,5 +1,5 @@
 -- Over a store that refuses few things the program ends as one whose disk failed only where the disk's count of faults rose.
-use Rattle.std.proofs.Common.{◌≡◌, ◌≤◌, ◌⊎◌, ◌+◌, inl, inr, ℕ, List, [], ◌∷◌, Bool, true, false, cond, Result, Ok, Err, refl, sym, ap, subst, ◌∙◌, arith}
+use Rattle.std.proofs.Common.{◌≡◌, ◌≤◌, ◌+◌, inl, inr, ℕ, List, [], Bool, true, false, cond, Result, Ok, Err, refl, sym, ap, subst, ◌∙◌, arith}
 use Rattle.dav_io.specs.Counts.{Rose}
 use Rattle.dav_io.specs.Outside.{Stream}
 use Rattle.dav_io.proofs.AppendingLemmas.{rose_after, rose_before}
@@ -13,12 +13,10 @@ use Rattle.dav_core.specs.Statuses.{lacks_memory, of_fs, status_of}
 use Rattle.dav_store.specs.View.{Closes, Listings, View}
 use Rattle.dav_model.specs.declared.outcome.Outcome.{Outcome}
 use Rattle.dav_model.specs.Conditions.{Fields}
-use Rattle.dav_methods.specs.declared.child.Child.{Child}
-use Rattle.dav_methods.specs.Answers.{IsAnswer, RefusesUsually, Usual}
+use Rattle.dav_methods.specs.Answers.{RefusesUsually, Usual}
 use Rattle.dav_methods.specs.Lines.{Given}
 use Rattle.dav_methods.specs.Pouring.{Writes}
 use Rattle.dav_methods.specs.Putting.{MayPut}
-use Rattle.dav_methods.specs.Reading.{HasNoMembers}
 use Rattle.dav_methods.proofs.AnswersListed.{IsListed, put_listed}
 use Rattle.dav_methods.proofs.RemovalsListed.{unread_listed}
 use Rattle.dav_upload.specs.declared.error.UploadError.{UploadError}

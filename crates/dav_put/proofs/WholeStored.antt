@@ -1,38 +1,35 @@
 -- What is stored by an upload is stored whole, or not at all.
-use Rattle.std.proofs.Common.{◌≡◌, ◌≢◌, ◌⊎◌, ◌++◌, ◌&&◌, ◌==◌, inl, inr, ℕ, List, [], ◌∷◌, length, drop, Bool, true, false, Option, None, Some, Result, Ok, Err, refl, sym, ap, subst, ◌∙◌, append-nil, append_assoc}
+use Rattle.std.proofs.Common.{◌≡◌, ◌≢◌, ◌++◌, ◌&&◌, ◌==◌, inl, inr, ℕ, List, [], ◌∷◌, length, drop, Bool, true, false, Some, Result, Ok, Err, refl, sym, ap, subst, ◌∙◌, append-nil, append_assoc}
 use Rattle.std.specs.List.{list_all}
 use Rattle.dav_io.specs.Outside.{Stream}
-use Rattle.dav_core.specs.declared.error.FsError.{FsError}
 use Rattle.dav_core.specs.DavPath.{WebPath, last_name}
 use Rattle.dav_core.specs.Listing.{or_empty}
 use Rattle.dav_core.specs.Path.{Names, parent_of}
 use Rattle.dav_core.specs.Tree.{is_linked}
 use Rattle.dav_core.specs.World.{SameBesidesOpens, World}
-use Rattle.dav_core.specs.Unchanged.{Keeps}
 use Rattle.dav_core.proofs.UnchangedLemmas.{same_besides, same_besides_then}
 use Rattle.dav_store.specs.View.{View}
 use Rattle.dav_model.specs.declared.outcome.Outcome.{Outcome}
 use Rattle.dav_model.specs.Conditions.{Fields}
 use Rattle.dav_model.proofs.LooseWalks.{parent_pushed}
 use Rattle.dav_methods.specs.Lines.{Given}
-use Rattle.dav_methods.specs.Pouring.{Writes, WritesFile}
+use Rattle.dav_methods.specs.Pouring.{Writes}
 use Rattle.dav_upload.specs.declared.error.UploadError.{UploadError}
 use Rattle.dav_upload.specs.declared.error.UploadError.TheVariants.{Busy}
 use Rattle.dav_upload.specs.declared.upload.Upload.{Upload}
 use Rattle.dav_upload.specs.Names.{begins_hidden, hidden_beside, hidden_name, is_digit, is_hidden, is_hidden_path, is_taken}
 use Rattle.dav_upload.specs.Shown.{IsCommitted, SameShown}
 use Rattle.dav_upload.specs.Standing.{StandsIn}
-use Rattle.dav_upload.specs.Steps.{Began, Committed, HasClearNames, IsBeside, IsClear, Pieced, SameLinks}
+use Rattle.dav_upload.specs.Steps.{Committed, IsBeside, IsClear, SameLinks}
 use Rattle.dav_upload.specs.Takes.{TakesUploads}
 use Rattle.dav_upload.specs.Uploading.{Aborts, AfterJudging, Begins, BeginsAs, Commits, Judges, PieceOn, WritesPiece, begun as upload_begun}
 use Rattle.dav_upload.proofs.Chains.{aborted, began, commit_between, committed, judged_plain, never_appends, one_told, pieced, shown_then, told_on}
-use Rattle.dav_upload.proofs.Links.{links_kept, links_same, links_then}
+use Rattle.dav_upload.proofs.Links.{links_kept, links_then}
 use Rattle.dav_upload.proofs.Making.{kept_unseen}
-use Rattle.dav_upload.proofs.Moving.{never}
-use Rattle.dav_upload.proofs.Tokens.{beside_hides, token_hides}
+use Rattle.dav_upload.proofs.Tokens.{token_hides}
 use Rattle.dav_put.specs.declared.storing.Stop.{Stop}
 use Rattle.dav_put.specs.declared.storing.Stop.TheVariants.{Refused, SourceFailed, TooMuch}
-use Rattle.dav_put.specs.Storing.{BeginsSome, Ends, Fed, Gives, IsOver, Pours, Stops, Stores, Tried, token_after}
+use Rattle.dav_put.specs.Storing.{Ends, Fed, Gives, IsOver, Pours, Stops, Stores, Tried, token_after}
 use Rattle.dav_put.specs.Storing.Fed.{begun, goes}
 use Rattle.dav_put.specs.Storing.Tried.{more, none}
 use Rattle.dav_put.specs.Whole.{IsOpenTo, StoredWhole}

@@ -1,6 +1,6 @@
 -- A GET over a local store opens a file that is shown, and its polls keep that file: so both leave uploads.
 use Rattle.std.proofs.Common.{◌≡◌, ◌⊎◌, inl, inr, ℕ, Bool, true, false, cond, List, [], ◌∷◌, Option, None, Some, Result, Ok, Err, refl, sym, ap, subst, ◌∙◌}
-use Rattle.std.specs.Option.{is_some, option_map}
+use Rattle.std.specs.Option.{option_map}
 use Rattle.dav_io.specs.Told.{Both}
 use Rattle.dav_io.specs.declared.clock.Moment.{Moment}
 use Rattle.dav_core.specs.declared.error.FsError.{FsError}
@@ -8,12 +8,11 @@ use Rattle.dav_core.specs.declared.dav_error.DavError.TheVariants.{NoMemory}
 use Rattle.dav_core.specs.declared.handle.DiskError.{DiskError}
 use Rattle.dav_core.specs.declared.handle.Handle.{Handle}
 use Rattle.dav_core.specs.declared.member.Member.{Member}
-use Rattle.dav_core.specs.declared.tree.Kind.{Kind}
 use Rattle.dav_core.specs.declared.tree.Row.{Row}
 use Rattle.dav_core.specs.DavPath.{WebPath}
 use Rattle.dav_core.specs.Disk.{DiskState, Live, OpenedIn, Opens as DiskOpens, at_start, kind_opened}
 use Rattle.dav_core.specs.Info.{Info}
-use Rattle.dav_core.specs.Path.{Names, is_plain}
+use Rattle.dav_core.specs.Path.{is_plain}
 use Rattle.dav_core.specs.Tree.{is_dir, is_linked, row_at}
 use Rattle.dav_core.specs.Unchanged.{Keeps, KeepsBut}
 use Rattle.dav_core.specs.World.{IsWorld, OpenFile, SameBesidesOpens, World}
@@ -24,7 +23,6 @@ use Rattle.dav_store.specs.Files.{SeeksIn}
 use Rattle.dav_store.specs.View.{Listings, Says, Seeks, View, seen_in}
 use Rattle.dav_methods.specs.Pouring.{Writes}
 use Rattle.dav_cache.specs.Memory.{MemoryState}
-use Rattle.dav_model.specs.declared.ranges.Slice.{Slice}
 use Rattle.dav_model.specs.declared.sent.Sent.{Sent}
 use Rattle.dav_model.specs.Due.{Course, OfItsPaths, Query, course, dir_course, directing, index_course, index_path, listing, opening, page_course, refusing}
 use Rattle.dav_model.specs.Due as due
@@ -36,7 +34,7 @@ use Rattle.dav_get.specs.declared.part.BodyPart.{BodyPart}
 use Rattle.dav_get.specs.Bodies.{TouchesOwn}
 use Rattle.dav_get.specs.Lives.{OpenOnlyHeld, OpensOnly}
 use Rattle.dav_get.specs.OpenFiles.{SameStands}
-use Rattle.dav_get.specs.Table.{AfterListing, AfterLook, AfterMeta, AfterOpen, AfterRedirect, Answer, ByCourse, ByFile, ByRedirect, ByWellKnown, Gets, GetsFile, Given, Holds, IfMoved, IsPageBody, Opens, Redirects, Sends, SendsFile, asked_at, first_place, sent_after, sent_for}
+use Rattle.dav_get.specs.Table.{AfterListing, AfterLook, AfterMeta, AfterRedirect, Answer, ByCourse, ByFile, ByRedirect, ByWellKnown, Gets, GetsFile, Given, Holds, IfMoved, IsPageBody, Opens, Redirects, Sends, SendsFile, asked_at, first_place, sent_after, sent_for}
 use Rattle.dav_local.specs.declared.entry.LocalFsDirEntry.{LocalFsDirEntry}
 use Rattle.dav_local.specs.declared.file.LocalFsFile.{LocalFsFile}
 use Rattle.dav_local.specs.declared.gathering.LocalFsReadDir.{LocalFsReadDir}
@@ -47,7 +45,6 @@ use Rattle.dav_local.specs.Standing.{seen_at, seen_with}
 use Rattle.dav_local.specs.Standing as local_seen
 use Rattle.dav_local.proofs.Rows.{looked_row}
 use Rattle.dav_local_laws.specs.LocalStore.{IsLocalStore, place}
-use Rattle.dav_upload.specs.Names.{is_hidden_path}
 use Rattle.dav_upload.specs.Others.{IsAny, LeavesOthers}
 use Rattle.dav_upload.specs.Shown.{SameShown}
 use Rattle.dav_upload.proofs.Chains.{told_on}

@@ -1,4 +1,4 @@
-use Rattle.std.proofs.Common.{◌≡◌, ◌≢◌, [], Err, Ok, inr, refl, rules, subst}
+use Rattle.std.proofs.Common.{◌≢◌, [], Err, inr, refl, rules, subst}
 use Rattle.dav_put.specs.Whole.{StoredWhole}
 use Rattle.dav_put.proofs.Ended.{ends_as}
 use Rattle.dav_put.proofs.running.store_at.Goals as goal
