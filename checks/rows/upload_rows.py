@@ -13,6 +13,7 @@ MOST_BYTES = 64
 FRONT = ".upload-"
 MAKING = Options("write", "create_new")
 SETS = ("dir", "file", "fail")
+READS = ("open", "read", "close")
 
 
 class Busy(Exception):
@@ -126,7 +127,7 @@ def call(store, words):
 
 class Row:
     def __init__(self):
-        self.store, self.slots = Store(Disk(), Memory(1, 1)), {}
+        self.store, self.slots, self.reader = Store(Disk(), Memory(1, 1)), {}, None
 
     def set(self, words):
         disk = self.store.disk
@@ -158,10 +159,27 @@ class Row:
         upload.abort(self.store)
         return "ok"
 
+    def of_reader(self, words):
+        """A file that stays open to the calls that follow."""
+        if words[0] == "open":
+            if self.reader:
+                return "one is open"
+            self.reader = self.store.open(path_of(words[1]), READING)
+            return "ok"
+        if self.reader is None:
+            return "none is open"
+        if words[0] == "close":
+            self.reader = None
+            return "closed"
+        count = number(word(words, 1) or "0")
+        if not 0 < count <= MOST_BYTES:
+            return "no bytes"
+        return "gives " + self.store.asks(self.store.disk.read, self.reader, count).decode()
+
     def answer(self, words):
         if words[0] not in ("1", "2"):
             try:
-                return call(self.store, words)
+                return self.of_reader(words) if words[0] in READS else call(self.store, words)
             except FsError as error:
                 if words[0] == "sweep":
                     return f"refused {STATUSES[error.name]}"

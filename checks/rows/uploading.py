@@ -6,7 +6,8 @@
 
 The random lists are answered once more by a model that knows only what is shown: a map of paths to bytes, or to None for
 a directory. An upload changes the map at its commit alone, to all its pieces; a hidden name is seen by who lists its
-directory, and by nobody else. What the module of the driver wants has to be the same.
+directory, and by nobody else. Who has a file open goes on with the bytes that it had when it was opened. What the module
+of the driver wants has to be the same.
 """
 import os
 import random
@@ -28,12 +29,17 @@ TARGETS = ["/f.txt", "/f.txt", "/f.txt", "/g", "/n", "/d/h", "/d/n"]
 ODD = ["/", "/d", "/d/", "/no/x", "/f.txt/x", "/.upload-x", "/d/.upload-0000000000000001", "/.uploadx"]
 FIELDS = ["", "", "", "", "", " if-match:*", " if-none-match:*"]
 PIECES = ["a", "bc", "def", "0123", "a-longer-piece"]
+COUNTS = [1, 2, 3, 4, 5, 64]
 FAULTED = [
     "file /f.txt 10 1 old | 1 begin /f.txt 1 | 1 piece ab | get /f.txt | 1 piece cd | 1 commit | get /f.txt | names /",
     "file /f.txt 10 1 old | 1 begin /f.txt 1 | 1 piece ab | 1 abort | get /f.txt | names /",
     "dir /d 9 1 | 1 begin /d/n 1 | 1 piece ab | 2 begin /d/n 2 | 2 piece cd | 1 commit | 2 commit | get /d/n | names /d",
     "file /f 10 1 old | file /.upload-000000000000000c 12 1 c | file /.upload-000000000000000d 13 1 d | sweep / | names /"
     " | get /f",
+    "file /f.txt 10 1 0123456789 | 1 begin /f.txt 1 | 1 piece ab | open /f.txt | read 4 | 1 commit | read 4 | read 4 | get /f.txt"
+    " | names /",
+    "file /f.txt 10 1 0123456789 | open /f.txt | 1 begin /f.txt 1 | 2 begin /f.txt 2 | 1 piece ab | 2 piece cd | read 4"
+    " | 1 commit | 2 commit | read 64 | close | open /f.txt | read 64 | names /",
 ]
 
 
@@ -42,7 +48,7 @@ class Shown:
 
     def __init__(self):
         self.tree = {"/": None, **dict(SCENE)}
-        self.hidden, self.slots = {}, {}
+        self.hidden, self.slots, self.reader = {}, {}, None
 
     def put_refusal(self, path, fields):
         up = path.rstrip("/").rpartition("/")[0] or "/"
@@ -96,9 +102,29 @@ class Shown:
         names = [p.rpartition("/")[2] for p in [*self.tree, *self.hidden] if p != "/" and p.rpartition("/")[0] == front]
         return f"names {len(names)}" + "".join(f" {name}" for name in sorted(names))
 
+    def of_reader(self, words):
+        """What is left of the bytes that stood when the file was opened."""
+        if words[0] == "open":
+            there = self.tree.get(words[1])
+            if self.reader is not None:
+                return "one is open"
+            if there is None:
+                return FS_TEXTS["NotFound"]
+            self.reader = there
+            return "ok"
+        if self.reader is None:
+            return "none is open"
+        if words[0] == "close":
+            self.reader = None
+            return "closed"
+        given, self.reader = self.reader[:int(words[1])], self.reader[int(words[1]):]
+        return f"gives {given}"
+
     def answer(self, words):
         if words[0] in ("1", "2"):
             return self.of_slot(words[0], words[1:])
+        if words[0] in upload_rows.READS:
+            return self.of_reader(words)
         if words[0] == "names":
             return self.names(words[1])
         if words[0] == "sweep":
@@ -109,9 +135,16 @@ class Shown:
         return FS_TEXTS["NotFound"] if there is None else f"has {there[:64]}"
 
 
+def read_step(rng, shown):
+    """A step of the reader that stays open: most read on in pieces, as long as there is something open."""
+    if shown.reader is None and rng.randrange(10):
+        return f"open {rng.choice(TARGETS)}"
+    return "close" if rng.randrange(5) == 0 else f"read {rng.choice(COUNTS)}"
+
+
 def step(rng, shown):
     """A step, more often one that goes on with what is under way."""
-    kind = rng.randrange(12)
+    kind = rng.randrange(15)
     if kind < 7:
         slot = rng.choice("12")
         if slot not in shown.slots or rng.randrange(20) == 0:
@@ -125,6 +158,8 @@ def step(rng, shown):
         return f"get {rng.choice(TARGETS)}"
     if kind == 10:
         return f"rm {rng.choice(TARGETS)}"
+    if kind > 11:
+        return read_step(rng, shown)
     return rng.choice(["names /", "names /d"] + ([] if shown.hidden else ["sweep /", "sweep /d/"]))
 
 
@@ -161,11 +196,14 @@ def own_rows():
 
 
 def check_faults(rows):
-    """Whatever fails, a file that was shown is read whole: as it was, or as all pieces of a commit made it."""
+    """Whatever fails, a file that was shown is read whole: as it was, or as all pieces of a commit made it. What is open
+    over a commit is read on in one of these."""
     whole = {"old", "abcd", "ab", "cd", "0123456789"}
     for row in rows:
+        read = ""
         for answer in upload_rows.wanted(row).split(" | "):
-            if answer.startswith("has ") and answer[4:] not in whole:
+            read = "" if answer == "closed" else read + answer[6:] if answer.startswith("gives ") else read
+            if answer.startswith("has ") and answer[4:] not in whole or not any(text.startswith(read) for text in whole):
                 raise SystemExit(f"a file is shown in part:\n{row}\n{answer}")
 
 

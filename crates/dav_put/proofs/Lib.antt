@@ -3,3 +3,5 @@ mod Poured
 mod Ended
 mod TokensTried
 mod Performed
+mod Failing
+mod WordsSaid

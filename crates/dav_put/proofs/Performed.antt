@@ -6,8 +6,8 @@ use Rattle.dav_store.specs.View.{Listings, View}
 use Rattle.dav_methods.specs.Pouring.{Writes}
 use Rattle.dav_put.specs.declared.running.Ending.{Ending}
 use Rattle.dav_put.specs.declared.running.Task.{Task}
-use Rattle.dav_put.specs.declared.running.Task.TheVariants.{Store, Sweep}
-use Rattle.dav_put.specs.Performs.{Performs, StoresAt, SweepsAt}
+use Rattle.dav_put.specs.declared.running.Task.TheVariants.{Sweep}
+use Rattle.dav_put.specs.Performs.{Performs, SweepsAt}
 
 module _ {S C F L E : Type 0} (view : View S C F) (lists : Listings S C L E) (writes : Writes F) (c : C) where
   pub swept_of : (task : Task) (dir : WebPath) (first : ℕ) (s : S) (i : Stream) (ending : Ending) (t : S) (j : Stream) → task ≡ Sweep dir → Performs view lists writes c task first s i ending t j → SweepsAt view lists writes c dir s ending t

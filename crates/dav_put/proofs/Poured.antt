@@ -1,16 +1,11 @@
 -- What is known of an upload into which pieces of an input went.
-use Rattle.std.proofs.Common.{◌≡◌, ◌+◌, ◌++◌, ℕ, List, [], length, take, IsSome, Option, None, Some, Result, Ok, Err, refl, sym, ap, subst, ◌∙◌, rules}
+use Rattle.std.proofs.Common.{◌≡◌, ◌≢◌, ◌+◌, ◌++◌, ℕ, List, [], take, IsSome, Option, Ok, refl, sym, subst, ◌∙◌, arith}
 use Rattle.dav_io.specs.Outside.{Stream, Takes}
-use Rattle.dav_io.specs.Counts.{Rose}
-use Rattle.dav_io.specs.Told.{Both}
-use Rattle.dav_io.proofs.ToldLemmas.{both_map}
-use Rattle.dav_io.specs.declared.failure.Failed.{Failed}
 use Rattle.dav_core.specs.Disk.{DiskState, Live}
 use Rattle.dav_store.specs.Frames.{KeepsOpenBut}
 use Rattle.dav_store.specs.View.{StaysBy, View}
 use Rattle.dav_methods.specs.Pouring.{Writes}
 use Rattle.dav_methods.proofs.KeptOpen.{but_same, but_then}
-use Rattle.dav_upload.specs.declared.error.UploadError.{UploadError}
 use Rattle.dav_upload.specs.declared.upload.Upload.{Upload}
 use Rattle.dav_upload.specs.Pieces.{KeepsUpload}
 use Rattle.dav_upload.specs.Uploading.{WritesPiece}
@@ -34,14 +29,11 @@ live_still h a s t p live = subst (λ k. IsSome (t.live k)) (sym p.handle) (subs
 
 -- ---- what a source gave
 
-pub gives_taken : (i j : Stream) (buffer : List ℕ) (n : ℕ) → Takes i buffer (Ok n) j → Gives i (take n buffer) j
-gives_taken i j buffer n takes = both_map i.bytes j.bytes _ (λ old new. old ≡ take n buffer ++ new) (λ old new told. told.0) takes.told
-
-pub failed_taken : (i j : Stream) (buffer : List ℕ) (e : Failed) → Takes i buffer (Err e) j → Rose i.faults j.faults
-failed_taken i j buffer e takes = search (rules, takes.failed)
+pub gives_taken : (i j : Stream) (buffer : List ℕ) (n : ℕ) → (n ≡ 0 → ⊥) → Takes i buffer (Ok n) j → Gives i (take n buffer) j
+gives_taken i j buffer n some takes = (buffer, n, takes, (let other : n ≢ 0 = some in omega arith), refl)
 
 pub over_taken : (i j : Stream) (buffer : List ℕ) (n : ℕ) → n ≡ 0 → Takes i buffer (Ok n) j → IsOver i j
-over_taken i j buffer n none takes = both_map i.bytes j.bytes _ (λ old new. (old ≡ []) × (new ≡ [])) (λ old new told. (told.1 none, sym (told.0 ∙ ap (λ k. take k buffer ++ new) none) ∙ told.1 none)) takes.told
+over_taken i j buffer n none takes = (buffer, subst (λ k. Takes i buffer (Ok k) j) none takes)
 
 module _ {S C F : Type 0} (view : View S C F) (writes : Writes F) where
   -- so many pieces went into the upload, from where it began

@@ -1,5 +1,5 @@
 -- The tokens that are tried, one after the other.
-use Rattle.std.proofs.Common.{◌≡◌, ◌+◌, ℕ, Bool, true, false, List, Result, Err, refl, sym, ap, subst, ◌∙◌}
+use Rattle.std.proofs.Common.{◌≡◌, ◌+◌, ℕ, true, false, List, Result, Err, refl, sym, ap, subst, ◌∙◌}
 use Rattle.dav_core.specs.DavPath.{WebPath}
 use Rattle.dav_model.specs.Conditions.{Fields}
 use Rattle.dav_store.specs.View.{View}

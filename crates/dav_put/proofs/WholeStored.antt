@@ -1,39 +1,35 @@
 -- What is stored by an upload is stored whole, or not at all.
-use Rattle.std.proofs.Common.{◌≡◌, ◌≢◌, ◌⊎◌, ◌++◌, ◌&&◌, ◌==◌, inl, inr, ℕ, List, [], ◌∷◌, length, drop, Bool, true, false, Option, None, Some, Result, Ok, Err, refl, sym, ap, subst, ◌∙◌, append-nil, append_assoc}
+use Rattle.std.proofs.Common.{◌≡◌, ◌≢◌, ◌++◌, ◌&&◌, ◌==◌, inl, inr, ℕ, List, [], ◌∷◌, length, drop, Bool, true, false, Some, Result, Ok, Err, refl, sym, ap, subst, ◌∙◌, append-nil, append_assoc}
 use Rattle.std.specs.List.{list_all}
 use Rattle.dav_io.specs.Outside.{Stream}
-use Rattle.dav_io.specs.Told.{Both}
-use Rattle.dav_core.specs.declared.error.FsError.{FsError}
 use Rattle.dav_core.specs.DavPath.{WebPath, last_name}
 use Rattle.dav_core.specs.Listing.{or_empty}
 use Rattle.dav_core.specs.Path.{Names, parent_of}
 use Rattle.dav_core.specs.Tree.{is_linked}
 use Rattle.dav_core.specs.World.{SameBesidesOpens, World}
-use Rattle.dav_core.specs.Unchanged.{Keeps}
 use Rattle.dav_core.proofs.UnchangedLemmas.{same_besides, same_besides_then}
 use Rattle.dav_store.specs.View.{View}
 use Rattle.dav_model.specs.declared.outcome.Outcome.{Outcome}
 use Rattle.dav_model.specs.Conditions.{Fields}
 use Rattle.dav_model.proofs.LooseWalks.{parent_pushed}
 use Rattle.dav_methods.specs.Lines.{Given}
-use Rattle.dav_methods.specs.Pouring.{Writes, WritesFile}
+use Rattle.dav_methods.specs.Pouring.{Writes}
 use Rattle.dav_upload.specs.declared.error.UploadError.{UploadError}
 use Rattle.dav_upload.specs.declared.error.UploadError.TheVariants.{Busy}
 use Rattle.dav_upload.specs.declared.upload.Upload.{Upload}
 use Rattle.dav_upload.specs.Names.{begins_hidden, hidden_beside, hidden_name, is_digit, is_hidden, is_hidden_path, is_taken}
 use Rattle.dav_upload.specs.Shown.{IsCommitted, SameShown}
 use Rattle.dav_upload.specs.Standing.{StandsIn}
-use Rattle.dav_upload.specs.Steps.{Began, Committed, HasClearNames, IsBeside, IsClear, Pieced, SameLinks}
+use Rattle.dav_upload.specs.Steps.{Committed, IsBeside, IsClear, SameLinks}
 use Rattle.dav_upload.specs.Takes.{TakesUploads}
 use Rattle.dav_upload.specs.Uploading.{Aborts, AfterJudging, Begins, BeginsAs, Commits, Judges, PieceOn, WritesPiece, begun as upload_begun}
 use Rattle.dav_upload.proofs.Chains.{aborted, began, commit_between, committed, judged_plain, never_appends, one_told, pieced, shown_then, told_on}
-use Rattle.dav_upload.proofs.Links.{links_kept, links_same, links_then}
+use Rattle.dav_upload.proofs.Links.{links_kept, links_then}
 use Rattle.dav_upload.proofs.Making.{kept_unseen}
-use Rattle.dav_upload.proofs.Moving.{never}
-use Rattle.dav_upload.proofs.Tokens.{beside_hides, token_hides}
+use Rattle.dav_upload.proofs.Tokens.{token_hides}
 use Rattle.dav_put.specs.declared.storing.Stop.{Stop}
 use Rattle.dav_put.specs.declared.storing.Stop.TheVariants.{Refused, SourceFailed, TooMuch}
-use Rattle.dav_put.specs.Storing.{BeginsSome, Ends, Fed, Gives, IsOver, Pours, Stops, Stores, Tried, token_after}
+use Rattle.dav_put.specs.Storing.{Ends, Fed, Gives, IsOver, Pours, Stops, Stores, Tried, token_after}
 use Rattle.dav_put.specs.Storing.Fed.{begun, goes}
 use Rattle.dav_put.specs.Storing.Tried.{more, none}
 use Rattle.dav_put.specs.Whole.{IsOpenTo, StoredWhole}
@@ -60,20 +56,12 @@ open_still v w target links clear = record {
 
 -- the bytes that are told of it are those that were taken, and those that are left
 gave : (i j : Stream) (taken bytes : List ℕ) → i.bytes ≡ Some bytes → Gives i taken j → (rest : List ℕ) × (j.bytes ≡ Some rest) × (bytes ≡ taken ++ rest)
-gave i j taken bytes told gives = by i.bytes j.bytes refl told gives
-  where
-    by : (a b : Option (List ℕ)) → j.bytes ≡ b → a ≡ Some bytes → Both a b (λ old new. old ≡ taken ++ new) → (rest : List ℕ) × (j.bytes ≡ Some rest) × (bytes ≡ taken ++ rest)
-    by None b f e both = cc
-    by (Some x) None f e both = absurd both
-    by (Some x) (Some y) f e both = (y, f, (let same : x ≡ bytes = cc in sym same ∙ both))
+gave i j taken bytes told (buffer, n, takes, some, is) =
+    let (rest, left, old) = told_on i.bytes j.bytes _ bytes takes.told told in
+    (rest, left, old.0 ∙ ap (λ (k : List ℕ). k ++ rest) (sym is))
 
 was_over : (i j : Stream) (bytes : List ℕ) → i.bytes ≡ Some bytes → IsOver i j → bytes ≡ []
-was_over i j bytes told over = by i.bytes j.bytes told over
-  where
-    by : (a b : Option (List ℕ)) → a ≡ Some bytes → Both a b (λ old new. (old ≡ []) × (new ≡ [])) → bytes ≡ []
-    by None b e both = cc
-    by (Some x) None e both = absurd both
-    by (Some x) (Some y) e both = let same : x ≡ bytes = cc in sym same ∙ both.0
+was_over i j bytes told (buffer, takes) = let (rest, left, old) = told_on i.bytes j.bytes _ bytes takes.told told in old.1 refl
 
 module _ {S C F : Type 0} (view : View S C F) (writes : Writes F) (c : C) (test : S → Bool) (takes_all : TakesUploads view writes c test) where
   -- a world behind calls that changed nothing of what is shown
@@ -287,14 +275,14 @@ module _ {S C F : Type 0} (view : View S C F) (writes : Writes F) (c : C) (test 
               let all : bytes ≡ p.bytes = is ∙ (ap (λ k. p.bytes ++ k) (was_over p.left j rest left over) ∙ append-nil p.bytes) in
               subst (λ b. StoredWhole target.names b result v w) (sym all)
               (committed_whole p.bytes n x result (ap (λ (z : Upload F). z.broken) like ∙ far.1) (moved n x p.bytes same like far.0) ends)
-          by (Err SourceFailed) (rose, same, like) (answer, aborts, is) = refused_whole bytes p.bytes n x SourceFailed result (moved n x p.bytes same like far.0) answer aborts is
+          by (Err SourceFailed) (fails, same, like) (answer, aborts, is) = refused_whole bytes p.bytes n x SourceFailed result (moved n x p.bytes same like far.0) answer aborts is
           by (Err TooMuch) (full, same, like, still) (answer, aborts, is) = refused_whole bytes p.bytes n x TooMuch result (moved n x p.bytes same like far.0) answer aborts is
           by (Err (Refused e)) (piece, gives, piece_so) (answer, aborts, is) =
               refused_whole bytes (p.bytes ++ piece) n x (Refused e) result (piece_going v target p.bytes piece p.place n p.upload x (Err e) far.1 far.0 piece_so) answer aborts is
 
   pub stored_whole : (target : WebPath) (fields : Fields) (first : ℕ) (s t : S) (i j : Stream) (result : Result Outcome Stop) (v w : World) (bytes : List ℕ) → target.names ≢ [] → (view.state s).told ≡ Some v → (view.state t).told ≡ Some w
       → i.bytes ≡ Some bytes → IsOpenTo v target.names → test s ≡ true → Stores view writes c target fields first s i result t j → StoredWhole target.names bytes result v w
-  stored_whole target fields first s t i j result v w bytes named was now told clear plain (inl (e, b, is)) =
+  stored_whole target fields first s t i j result v w bytes named was now told clear plain (inl (e, b, is, unasked)) =
       let x = refused_waits v target fields (token_after first b.tries) b.middle t e clear (tried_waits v target fields first s b.tries b.middle clear (waits_at v s was plain) b.tried) b.begins in
       let same : x.world ≡ w = one_told (view.state t).told x.world w x.here now in
       subst (λ z. StoredWhole target.names bytes z v w) (sym is) (inl (subst (SameShown v) same (kept_unseen v x.world x.same)))

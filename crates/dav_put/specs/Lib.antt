@@ -1,4 +1,5 @@
 pub mod Storing
 pub mod Whole
 pub mod Ending
+pub mod Words
 pub mod Performs

@@ -1,8 +1,7 @@
 -- An input is stored by an upload, over the calls of any store.
-use Rattle.std.specs.Prelude.{◌≡◌, ◌≤◌, ◌+◌, ◌-◌, ◌%◌, ◌^◌, ◌++◌, ◌⊎◌, ℕ, List, [], Bool, true, false, Result, Ok, Err}
-use Rattle.dav_io.specs.Outside.{Stream}
-use Rattle.dav_io.specs.Counts.{Rose}
-use Rattle.dav_io.specs.Told.{Both}
+use Rattle.std.specs.Prelude.{◌≡◌, ◌≤◌, ◌<◌, ◌+◌, ◌-◌, ◌%◌, ◌^◌, ◌++◌, ◌⊎◌, ℕ, List, [], take, Bool, true, false, Result, Ok, Err}
+use Rattle.dav_io.specs.declared.failure.Failed.{Failed}
+use Rattle.dav_io.specs.Outside.{Stream, Takes}
 use Rattle.dav_core.specs.DavPath.{WebPath}
 use Rattle.dav_store.specs.View.{View}
 use Rattle.dav_model.specs.declared.outcome.Outcome.{Outcome}
@@ -15,13 +14,17 @@ use Rattle.dav_upload.specs.declared.error.UploadError.TheVariants.{Busy}
 use Rattle.dav_upload.specs.declared.upload.Upload.{Upload}
 use Rattle.dav_upload.specs.Uploading.{Aborts, Begins, Commits, WritesPiece}
 
--- a source gave these bytes
+-- A source was asked once, and gave these bytes.
 abbrev pub Gives : Stream → List ℕ → Stream → Type 0
-Gives i piece j = Both i.bytes j.bytes (λ old new. old ≡ piece ++ new)
+Gives i piece j = (buffer : List ℕ) × (n : ℕ) × Takes i buffer (Ok n) j × (0 < n) × (piece ≡ take n buffer)
 
--- a source was at its end
+-- It was asked once, and was at its end.
 abbrev pub IsOver : Stream → Stream → Type 0
-IsOver i j = Both i.bytes j.bytes (λ old new. (old ≡ []) × (new ≡ []))
+IsOver i j = (buffer : List ℕ) × Takes i buffer (Ok 0) j
+
+-- It was asked once, and failed.
+abbrev pub Fails : Stream → Stream → Type 0
+Fails i j = (buffer : List ℕ) × (failed : Failed) × Takes i buffer (Err failed) j
 
 module _ {S C F : Type 0} (view : View S C F) (writes : Writes F) where
   -- So many pieces that a source gave were written, each as it came: these bytes in all.
@@ -34,7 +37,7 @@ module _ {S C F : Type 0} (view : View S C F) (writes : Writes F) where
   -- refused.
   abbrev pub Stops : ℕ → S → Upload F → Stream → Result Unit Stop → S → Upload F → Stream → Type 0
   Stops count s u i (Ok x) t v j = IsOver i j × (t ≡ s) × (v ≡ u)
-  Stops count s u i (Err SourceFailed) t v j = Rose i.faults j.faults × (t ≡ s) × (v ≡ u)
+  Stops count s u i (Err SourceFailed) t v j = Fails i j × (t ≡ s) × (v ≡ u)
   Stops count s u i (Err TooMuch) t v j = (count ≡ 2 ^ 64 - 1) × (t ≡ s) × (v ≡ u) × (j ≡ i)
   Stops count s u i (Err (Refused e)) t v j = (piece : List ℕ) × Gives i piece j
       × WritesPiece view writes u piece s (Err e) t v
@@ -87,8 +90,8 @@ module _ {S C F : Type 0} (view : View S C F) (writes : Writes F) (c : C) where
   Ends (Err stop) u fields s result t = (answer : Result Unit UploadError) × Aborts view c u s answer t
       × (result ≡ Err stop)
 
-  -- An input is stored by an upload that begins with it.
+  -- An input is stored by an upload that begins with it. Where none begins the source isn't asked.
   abbrev pub Stores : WebPath → Fields → ℕ → S → Stream → Result Outcome Stop → S → Stream → Type 0
-  Stores target fields first s i result t j = ((e : UploadError) × BeginsSome target fields first s (Err e) t × (result ≡ Err (Refused e)))
+  Stores target fields first s i result t j = ((e : UploadError) × BeginsSome target fields first s (Err e) t × (result ≡ Err (Refused e)) × (j ≡ i))
       ⊎ ((u : Upload F) × (v : Upload F) × (m : S) × (n : S) × (r : Result Unit Stop) × BeginsSome target fields first s (Ok u) m
       × Pours view writes m u i r n v j × Ends r v fields n result t)

@@ -1,6 +1,5 @@
 -- What the storing of an input makes of the shown world: all of it, or nothing.
 use Rattle.std.specs.Prelude.{◌≡◌, ◌⊎◌, ℕ, List, Result, Ok, Err, false, true}
-use Rattle.dav_io.specs.Outside.{Stream}
 use Rattle.dav_core.specs.Path.{Names, parent_of}
 use Rattle.dav_core.specs.Tree.{is_linked}
 use Rattle.dav_core.specs.World.{World}

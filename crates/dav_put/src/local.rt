@@ -1,5 +1,6 @@
 //! What the program does over a folder: over a local store.
 ghost use Rattle.std.specs.Prelude.{◌≡◌, ◌<◌, ℕ, List, Result, Some, length, true};
+ghost use Rattle.dav_io.specs.Counts.{Rose};
 ghost use Rattle.dav_core.specs.DavPath.{WebPath};
 ghost use Rattle.dav_core.specs.World.{World};
 ghost use Rattle.dav_model.specs.Finding.{is_clear};
@@ -18,6 +19,7 @@ use dav_cache::Remember;
 use dav_core::Disk;
 use dav_io::Source;
 use dav_local::{LocalFs, LocalFsFile};
+use dav_local_laws::local_stores_refuse_few;
 use dav_store::{DavFile, DavFileSystem};
 use dav_upload_laws::{local_stores_take_uploads, local_sweeps_take_what_is_left};
 use std::alloc::Global;
@@ -26,7 +28,8 @@ use std::alloc::Global;
 /// disk tells its world, and no link stands on the way to the target: where the input is stored, the target is a file of
 /// its bytes. Else what is shown is as it was; only where the disk failed or memory was wanting at the last call, which
 /// moves the file to its place, it may be there whole. A sweep leaves what is shown, and where no link stands in the
-/// directory it takes exactly the regular files with hidden names there.
+/// directory it takes exactly the regular files with hidden names there. It ends with `DiskFailed` only where the disk's
+/// count of faults rose.
 pub fn perform_local<D: Disk, R: Remember, I: Source>(
     alloc: Global,
     fs: &mut LocalFs<D, R>,
@@ -50,7 +53,9 @@ pub fn perform_local<D: Disk, R: Remember, I: Source>(
         → (v w : World) → (D.state fs.old.disk).told ≡ Some v → (D.state fs.new.disk).told ≡ Some w
         → HasClearNames v dir.names → is_clear v.tree dir.names ≡ true
         → (r : Result ℕ Refusal) × Swept dir r v w × (result ≡ ending_swept r) }
+    ensures failed { result ≡ Ending.DiskFailed → Rose (D.state fs.old.disk).faults (D.state fs.new.disk).faults }
 {
+    local_stores_refuse_few(fs);
     local_stores_take_uploads(fs);
     local_sweeps_take_what_is_left(fs);
     perform(alloc, fs, &(), task, source, buffer, token)

@@ -1,5 +1,6 @@
 //! What the program does: it stores an input, or sweeps what runs that were cut off left.
-ghost use Rattle.std.specs.Prelude.{◌≡◌, ◌<◌, [], Bool, IfErr, IfOk, List, Some, length, ℕ, true};
+ghost use Rattle.std.specs.Prelude.{◌≡◌, ◌<◌, [], Bool, IfErr, List, Some, length, ℕ, true};
+ghost use Rattle.dav_io.specs.Counts.{Rose};
 ghost use Rattle.dav_core.specs.DavPath.{WebPath};
 ghost use Rattle.dav_core.specs.Grammar.{parsed};
 ghost use Rattle.dav_core.specs.World.{World};
@@ -7,6 +8,8 @@ ghost use Rattle.dav_put.specs.declared.running.Task.TheVariants.{Store, Sweep};
 ghost use Rattle.dav_put.specs.Ending.{IsUnsaid, ending_by, ending_of, exit_of};
 ghost use Rattle.dav_put.specs.Performs.{Performs, StoresAt, SweepsAt};
 ghost use Rattle.dav_put.specs.Whole.{EndsWhole, IsOpenTo};
+ghost use Rattle.dav_put.specs.Words.{IsPathSaid, IsSaid, task_said as the_task_said};
+ghost use Rattle.dav_methods.specs.Answers.{RefusesUsually};
 ghost use Rattle.dav_upload.specs.Shown.{SameShown};
 ghost use Rattle.dav_upload.specs.Steps.{HasClearNames};
 ghost use Rattle.dav_upload.specs.Takes.{ReadsPlainly, TakesUploads};
@@ -66,7 +69,7 @@ impl Ending {
 
 // The path that a word says, as a request's target would.
 fn path_said(alloc: Global, word: &str) -> Result<DavPath, Ending>
-    ensures ok { IfOk result (λ path. parsed word.now [] ≡ Ok path) }
+    ensures said { IsPathSaid (parsed word.now []) result }
     ensures err { IfErr result IsUnsaid }
 {
     match DavPath::new(alloc, word) {
@@ -79,16 +82,20 @@ fn path_said(alloc: Global, word: &str) -> Result<DavPath, Ending>
 /// What the words behind the program's name ask for, which are `ROOT PATH` or `ROOT --sweep DIR`, each path as the
 /// target of a request says it.
 ///
-/// Errors: `Words` where they say something else; `NoMemory`.
+/// Errors: `Words` exactly where they say something else; `NoMemory`.
 pub fn task_said(alloc: Global, words: &[String]) -> Result<Task, Ending>
-    ensures { IfErr result IsUnsaid }
+    ensures said { IsSaid (the_task_said words.now) result }
+    ensures err { IfErr result IsUnsaid }
 {
     match words {
-        [_root, path] => Ok(Task::Store(path_said(alloc, path.as_str())?)),
-        [_root, verb, dir] if verb.as_str() == "--sweep" => Ok(Task::Sweep(path_said(
-            alloc,
-            dir.as_str(),
-        )?)),
+        [_root, path] => match path_said(alloc, path.as_str()) {
+            Ok(path) => Ok(Task::Store(path)),
+            Err(ending) => Err(ending),
+        },
+        [_root, verb, dir] if verb.as_str() == "--sweep" => match path_said(alloc, dir.as_str()) {
+            Ok(dir) => Ok(Task::Sweep(dir)),
+            Err(ending) => Err(ending),
+        },
         _ => Err(Ending::Words),
     }
 }
@@ -171,7 +178,8 @@ fn sweep_at<S: GuardedFileSystem<C>, C>(
 /// paths as they are written, and where no link stands on the way to the target: where the input is stored, the target
 /// is a file of its bytes. Else what is shown is as it was; only where the disk failed or memory was wanting at the last
 /// call, which moves the file to its place, it may be there whole. A sweep leaves what is shown. `table` tells which
-/// calls of the store were made, and how it ends by what they gave.
+/// calls of the store were made, and how it ends by what they gave. Over a store that refuses few things it ends with
+/// `DiskFailed` only where the disk's count of faults rose.
 pub fn perform<S: GuardedFileSystem<C>, C, R: Source>(
     alloc: Global,
     fs: &mut S,
@@ -194,6 +202,8 @@ pub fn perform<S: GuardedFileSystem<C>, C, R: Source>(
         → ReadsPlainly S.view S.listings credentials.now test → test fs.old ≡ true
         → (v w : World) → (S.view.state fs.old).told ≡ Some v → (S.view.state fs.new).told ≡ Some w
         → HasClearNames v dir.names → SameShown v w }
+    ensures failed { RefusesUsually S.view S.listings S.File.view.writes credentials.now → result ≡ Ending.DiskFailed
+        → Rose (S.view.state fs.old).faults (S.view.state fs.new).faults }
 {
     match task {
         Task::Store(path) => store_at(alloc, fs, credentials, path, source, buffer, token),

@@ -3,3 +3,4 @@ mod LocalReading
 mod Places
 mod Succeeds
 mod SweptExactly
+mod GetsLeave

@@ -1,12 +1,9 @@
 -- A local store reads a directory without a change of how it finds paths.
-use Rattle.std.proofs.Common.{◌≡◌, List, true, ap, ◌∙◌}
+use Rattle.std.proofs.Common.{ap, ◌∙◌}
 use Rattle.dav_io.specs.declared.clock.Moment.{Moment}
-use Rattle.dav_core.specs.DavPath.{WebPath}
 use Rattle.dav_store.specs.View.{Listings, View}
-use Rattle.dav_methods.specs.declared.child.Child.{Child}
 use Rattle.dav_methods.specs.Follows.{here}
 use Rattle.dav_methods.specs.Pouring.{Writes}
-use Rattle.dav_methods.specs.Reading.{HasMembers}
 use Rattle.dav_methods.proofs.ListingsLead.{listed_on}
 use Rattle.dav_cache.specs.Memory.{MemoryState}
 use Rattle.dav_local.specs.declared.entry.LocalFsDirEntry.{LocalFsDirEntry}

@@ -1,6 +1,6 @@
 -- What the calls of a local store that an upload makes do to the told world, where names don't fold and the disk's root is served: each is one call of the disk
 -- at the path as it is written.
-use Rattle.std.proofs.Common.{◌≡◌, ◌⊎◌, ◌≤◌, inl, inr, ◌&&◌, ◌||◌, ℕ, Bool, true, false, not, List, [], length, drop, Option, None, Some, Result, Ok, Err, refl, sym, ap, subst, ◌∙◌}
+use Rattle.std.proofs.Common.{◌≡◌, ◌⊎◌, ◌≤◌, inl, inr, ◌&&◌, ◌||◌, ℕ, Bool, true, false, not, List, length, drop, Option, None, Some, Result, Ok, Err, refl, sym, ap, subst, ◌∙◌}
 use Rattle.std.specs.Option.{is_some, option_map}
 use Rattle.dav_io.specs.Told.{Both}
 use Rattle.dav_io.proofs.ToldLemmas.{both_map, both_same, both_then}
@@ -11,8 +11,7 @@ use Rattle.dav_core.specs.declared.handle.DiskError.{DiskError}
 use Rattle.dav_core.specs.declared.handle.DiskError.TheVariants.{NotFound, Exists, NotDir, IsDir, NotEmpty, Failed, NoMemory}
 use Rattle.dav_core.specs.declared.handle.Handle.{Handle}
 use Rattle.dav_core.specs.declared.handle.Meta.{Meta}
-use Rattle.dav_core.specs.declared.tree.Kind.{Kind}
-use Rattle.dav_core.specs.declared.tree.Kind.TheVariants.{Dir, File}
+use Rattle.dav_core.specs.declared.tree.Kind.TheVariants.{File}
 use Rattle.dav_core.specs.declared.tree.Row.{Row}
 use Rattle.dav_core.specs.Allowed.{Allowed, moving, opening, taking_file}
 use Rattle.dav_core.specs.DavPath.{WebPath}
@@ -20,7 +19,7 @@ use Rattle.dav_core.specs.Disk.{DiskState, Live, Metas, OpenedOver, Opens, Refus
 use Rattle.dav_core.specs.Edits.{Edit, SameOpens}
 use Rattle.dav_core.specs.Errors.{fs_error_of}
 use Rattle.dav_core.specs.Path.{Names}
-use Rattle.dav_core.specs.Tree.{is_dir, is_linked, look, row_at}
+use Rattle.dav_core.specs.Tree.{is_dir, is_linked, row_at}
 use Rattle.dav_core.specs.World.{OpenFile, SameBesidesOpens, World, bytes_of}
 use Rattle.dav_core.specs.Writing.{DoesIn, LeftBy, Renames, RemovesFile, WrittenIn, WroteIn, appends, can_write}
 use Rattle.dav_core.proofs.UnchangedLemmas.{put_same, same_besides, same_besides_then}
@@ -73,7 +72,7 @@ known_written ways e = let (a, f) = written_parts ways e in ap (λ o. is_some o 
 abbrev Lost : {T : Type 0} → Place → Result T FsError → Place → Type 0
 Lost p r q = (r ≡ Err fs.NoMemory) × (q ≡ p)
 
-finds_here : {T : Type 0} (p q : Place) (names : Names) (call : Names → Place → Result T FsError → Place → Type 0) (r : Result T FsError) → finds_as_written p.ways ≡ true → Finds p names call r q
+pub finds_here : {T : Type 0} (p q : Place) (names : Names) (call : Names → Place → Result T FsError → Place → Type 0) (r : Result T FsError) → finds_as_written p.ways ≡ true → Finds p names call r q
     → call names p r q ⊎ Lost p r q
 finds_here p q names call r plain (Ok at, m, resolves, after) =
     let (same, is) = resolves.known (known_written p.ways plain) in

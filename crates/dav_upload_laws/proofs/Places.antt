@@ -1,5 +1,5 @@
 -- Where the table of PUT passes, the directory above a target stands, and no directory at it: so a hidden file may be made beside it, and moved to it.
-use Rattle.std.proofs.Common.{◌≡◌, ◌<◌, ◌&&◌, ◌||◌, ◌++◌, List, [], ◌∷◌, ℕ, length, Bool, true, false, cond, Option, None, Some, Result, Ok, Err, refl, sym, ap, subst, ◌∙◌, arith, append-nil, append_assoc, ◌-◌, drop, take-append-drop}
+use Rattle.std.proofs.Common.{◌≡◌, ◌<◌, ◌&&◌, ◌||◌, ◌++◌, List, [], ◌∷◌, ℕ, length, Bool, true, false, cond, Option, None, Some, Ok, Err, refl, sym, ap, subst, ◌∙◌, arith, append-nil, append_assoc, ◌-◌, drop, take-append-drop}
 use Rattle.std.proofs.lemmas.Bool.Decides.{nat_tests}
 use Rattle.dav_core.specs.declared.handle.DiskError.TheVariants.{NotDir, NotEmpty, IsDir}
 use Rattle.dav_core.specs.declared.tree.Kind.{Kind}

@@ -1,9 +1,8 @@
 -- Over a disk that refused nothing an upload that the table allows is refused only for want of memory.
-use Rattle.std.proofs.Common.{◌≡◌, ◌≢◌, ◌⊎◌, ◌≤◌, ◌<◌, ◌&&◌, ◌||◌, ◌++◌, inl, inr, ℕ, List, [], ◌∷◌, length, codes, Bool, true, false, not, cond, Option, None, Some, IsSome, Result, Ok, Err, refl, sym, ap, subst, ◌∙◌, arith}
+use Rattle.std.proofs.Common.{◌≡◌, ◌⊎◌, ◌≤◌, ◌&&◌, ◌||◌, inl, inr, ℕ, List, [], ◌∷◌, codes, Bool, true, false, not, cond, Option, None, Some, IsSome, Result, Ok, Err, refl, sym, ap, subst, ◌∙◌, arith}
 use Rattle.std.specs.Str.{bytes_eq}
 use Rattle.std.proofs.lemmas.Slice.Eq.{bytes_eq-Decides}
 use Rattle.dav_io.specs.Counts.{RefusedNothing, Rose}
-use Rattle.dav_io.specs.Told.{Both}
 use Rattle.dav_io.specs.declared.clock.Moment.{Moment}
 use Rattle.dav_core.specs.declared.dav_error.DavError.{DavError}
 use Rattle.dav_core.specs.declared.dav_error.DavError.TheVariants as dav
@@ -16,9 +15,9 @@ use Rattle.dav_core.specs.declared.method.DavMethod.TheVariants.{Put}
 use Rattle.dav_core.specs.declared.tree.Kind.TheVariants.{Dir, File, Link}
 use Rattle.dav_core.specs.declared.tree.Kind.{Kind}
 use Rattle.dav_core.specs.declared.tree.Row.{Row}
-use Rattle.dav_core.specs.Allowed.{Allowed, moving, opening, place, taking_file}
+use Rattle.dav_core.specs.Allowed.{Allowed, moving, opening, taking_file}
 use Rattle.dav_core.specs.DavPath.{WebPath, last_name}
-use Rattle.dav_core.specs.Disk.{DiskState, Live, Opens, Refused}
+use Rattle.dav_core.specs.Disk.{DiskState, Live}
 use Rattle.dav_core.specs.Edits.{Edit, makes, moves, takes}
 use Rattle.dav_core.specs.Info.{Info}
 use Rattle.dav_core.specs.Listing.{or_empty}
@@ -29,26 +28,25 @@ use Rattle.dav_core.specs.Unchanged.{Keeps}
 use Rattle.dav_core.specs.World.{IsWorld, SameBesidesOpens, World}
 use Rattle.dav_core.specs.Writing.{can_write}
 use Rattle.dav_core.proofs.UnchangedLemmas.{same_besides_then}
-use Rattle.dav_store.specs.Files.{IsFault, Spoiled}
-use Rattle.dav_store.specs.Frames.{KeepsOpen, OpensOne}
+use Rattle.dav_store.specs.Files.{Spoiled}
 use Rattle.dav_store.specs.View.{Closes, Listings, View}
 use Rattle.dav_cache.specs.Memory.{MemoryState}
 use Rattle.dav_model.specs.declared.outcome.Outcome.{Outcome}
 use Rattle.dav_model.specs.declared.settings.Settings.{Settings}
-use Rattle.dav_model.specs.Conditions.{Fields, condition, condition_of, strong}
+use Rattle.dav_model.specs.Conditions.{Fields, condition, strong}
 use Rattle.dav_model.specs.Finding.{empty_file, has_slash, is_forbidden, is_localized, is_named, is_virtual, or_walk, resolved, resolved_from, stood_at}
 use Rattle.dav_model.specs.Head.{Stood, stood_in}
-use Rattle.dav_model.specs.Plans.{Halt, above as the_above, failing, first, has_parent, is_dir_found, line, refused, refused_there, stands, unmet as the_unmet, when}
-use Rattle.dav_model.specs.Rules.{Knowledge, Rules}
+use Rattle.dav_model.specs.Plans.{Halt, above as the_above, failing, first, has_parent, is_dir_found, refused_there, stands, unmet as the_unmet, when}
+use Rattle.dav_model.specs.Rules.{Rules}
 use Rattle.dav_model.specs.Valid.{IsRegular, TellsApart}
 use Rattle.dav_model.proofs.LooseWalks.{parent_pushed}
 use Rattle.dav_model.proofs.PlainWalks.{plain_resolved}
-use Rattle.dav_methods.specs.Follows.{Agrees, Calls, CallsFor, Finds, Follows, IfBothFound, IfFound, IfPlaced, LooksBy, Reached, UnlessShut}
+use Rattle.dav_methods.specs.Follows.{Calls, CallsFor, Finds, Follows, LooksBy, Reached}
 use Rattle.dav_methods.specs.Follows.Reached.{copies as copies_to, ends_file as ends_to, here, listed as listed_to, looks as looks_to, looks_at_link as links_to, makes_dir as makes_to, opens as opens_to, removes_dir as dir_to, removes_file as removes_to, renames as renames_to, unlisted as unlisted_to, writes_file as writes_to}
-use Rattle.dav_methods.specs.Lines.{Given, Line, above, done_over, fails_when, first_of, is_dir_there, may_put, no_parent, refused_but_missing, unless, unmet, with_status}
+use Rattle.dav_methods.specs.Lines.{Given, Line, above, done_over, fails_when, first_of, may_put, no_parent, unless, unmet, with_status}
 use Rattle.dav_methods.specs.Pouring.{Writes, WritesFile}
 use Rattle.dav_methods.specs.Putting.{MayPut, MayReplace}
-use Rattle.dav_methods.specs.Table.{Below, Ends, Looks, Next, Unless}
+use Rattle.dav_methods.specs.Table.{Below, Ends, Next, Unless}
 use Rattle.dav_methods.proofs.Stages.{regular_same, stands_same}
 use Rattle.dav_local.specs.declared.entry.LocalFsDirEntry.{LocalFsDirEntry}
 use Rattle.dav_local.specs.declared.file.LocalFsFile.{LocalFsFile}
@@ -67,9 +65,9 @@ use Rattle.dav_upload.specs.Names.{hidden_beside, hidden_name, is_hidden, is_hid
 use Rattle.dav_upload.specs.Pieces.{upload_options}
 use Rattle.dav_upload.specs.Standing.{StandsIn}
 use Rattle.dav_upload.specs.Steps.{IsBeside, IsClear}
-use Rattle.dav_upload.specs.Uploading.{AfterClose, AfterJudged, AfterJudging, AfterMove, Aborts, Begins, BeginsAs, Commits, Judges, PieceOn, WritesPiece, done_as, opened_as, refusal_of, refused_by, refused_opening}
+use Rattle.dav_upload.specs.Uploading.{AfterClose, AfterJudged, AfterJudging, AfterMove, Aborts, Begins, BeginsAs, Commits, Judges, PieceOn, WritesPiece, done_as, opened_as, refusal_of, refused_by}
 use Rattle.dav_upload.proofs.Beside.{looked_at}
-use Rattle.dav_upload.proofs.Chains.{hidden_long, named_long, told_on, told_pair}
+use Rattle.dav_upload.proofs.Chains.{hidden_long, named_long, told_on}
 use Rattle.dav_upload.proofs.Moving.{never, same_yes}
 use Rattle.dav_upload.proofs.Tokens.{beside_hides}
 use Rattle.dav_upload_laws.specs.Passing.{PassesTable, Succeeds}

@@ -2,12 +2,10 @@
 use Rattle.std.proofs.Common.{◌≡◌, ◌⊎◌, ◌+◌, ◌&&◌, ◌==◌, ◌++◌, inl, inr, ℕ, List, [], ◌∷◌, length, drop, map, Bool, true, false, not, cond, Option, None, Some, Result, Ok, Err, refl, sym, ap, subst, ◌∙◌, arith, length-append, length-drop}
 use Rattle.std.proofs.lemmas.Bool.{and_parts}
 use Rattle.std.proofs.lemmas.Bool.Decides.{nat_tests}
-use Rattle.std.specs.List.{AllByRecursion, filter}
+use Rattle.std.specs.List.{filter}
 use Rattle.std.specs.Option.{option_map}
 use Rattle.dav_io.specs.declared.clock.Moment.{Moment}
-use Rattle.dav_core.specs.declared.error.FsError.{FsError}
 use Rattle.dav_core.specs.declared.handle.DiskError.TheVariants.{IsDir}
-use Rattle.dav_core.specs.declared.time.FileTime.{FileTime}
 use Rattle.dav_core.specs.declared.tree.Kind.{Kind}
 use Rattle.dav_core.specs.declared.tree.Kind.TheVariants.{Dir, File, Link}
 use Rattle.dav_core.specs.declared.tree.Row.{Row}
@@ -18,11 +16,10 @@ use Rattle.dav_core.specs.Edits.{Edit, Edited, EditedBy, takes}
 use Rattle.dav_core.specs.Listing.{name_of, or_empty, stands_in}
 use Rattle.dav_core.specs.Path.{Names, is_front, parent_of, same_names}
 use Rattle.dav_core.specs.Tree.{is_dir, is_link, is_linked, row_at}
-use Rattle.dav_core.specs.Unchanged.{Keeps}
 use Rattle.dav_core.specs.World.{IsWorld, SameBesidesOpens, World}
 use Rattle.dav_store.specs.View.{Listings, View}
 use Rattle.dav_cache.specs.Memory.{MemoryState}
-use Rattle.dav_model.specs.Finding.{is_clear, resolved}
+use Rattle.dav_model.specs.Finding.{is_clear}
 use Rattle.dav_model.specs.Unset.{nothing_set}
 use Rattle.dav_model.specs.Walks.{dir_first, in_order, put_by}
 use Rattle.dav_model.proofs.LooseWalks.{parent_pushed}
@@ -46,7 +43,7 @@ use Rattle.dav_upload.specs.Kept.{KeepsRow}
 use Rattle.dav_upload.specs.Names.{is_hidden, is_hidden_path}
 use Rattle.dav_upload.specs.Steps.{HasClearNames}
 use Rattle.dav_upload.specs.Takes.{TakesUploads}
-use Rattle.dav_upload.specs.Uploading.{Sweeps, TakesAll, hidden_files, in_dir, is_hidden_file}
+use Rattle.dav_upload.specs.Uploading.{Sweeps, TakesAll, hidden_files, is_hidden_file}
 use Rattle.dav_upload.specs.Uploading.TakesAll.{done, goes, short, stops}
 use Rattle.dav_upload.proofs.Beside.{looked_at}
 use Rattle.dav_upload.proofs.Chains.{hidden_long, one_told, told_on, told_pair}
@@ -55,7 +52,7 @@ use Rattle.dav_upload.proofs.Leaves.{rows_then}
 use Rattle.dav_upload.proofs.Links.{links_kept}
 use Rattle.dav_upload.proofs.Moving.{beside_at, gone_at, never, path_of, same_of, same_yes, timed_at}
 use Rattle.dav_upload.proofs.StepsLeave.{equal_worlds}
-use Rattle.dav_upload.proofs.Sweeps.{AreClear, Took, Unseen, files_clear, removed_one, still_clear, took_one}
+use Rattle.dav_upload.proofs.Sweeps.{AreClear, Took, files_clear, removed_one, still_clear, took_one}
 use Rattle.dav_upload.proofs.Tokens.{last_of}
 use Rattle.dav_upload_laws.specs.Swept.{IsLeftOver, Swept}
 use Rattle.dav_upload_laws.specs.Written.{finds_as_written}

@@ -1,3 +1,4 @@
 pub mod Written
 pub mod Passing
 pub mod Swept
+pub mod Reading

@@ -1,5 +1,5 @@
 -- What a sweep takes of a tree.
-use Rattle.std.specs.Prelude.{◌≡◌, ℕ, true, length, List, None, Some, Result, Ok}
+use Rattle.std.specs.Prelude.{◌≡◌, ℕ, true, length, None, Some, Result, Ok}
 use Rattle.dav_core.specs.declared.tree.Kind.TheVariants.{File}
 use Rattle.dav_core.specs.declared.tree.Row.{Row}
 use Rattle.dav_core.specs.DavPath.{WebPath}

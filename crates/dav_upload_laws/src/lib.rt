@@ -1,34 +1,41 @@
 //! What uploads make of the world that is shown, over a local store. The calls do nothing.
 #![tactic(auto)]
 
-ghost use Rattle.std.specs.Prelude.{◌≡◌, ℕ, List, None, Result, Some, false, true};
+ghost use Rattle.std.specs.Prelude.{◌≡◌, ◌⊎◌, ℕ, List, Err, None, Option, Result, Some, false, true};
 ghost use Rattle.dav_io.specs.Counts.{RefusedNothing};
 ghost use Rattle.dav_core.specs.DavPath.{WebPath};
+ghost use Rattle.dav_core.specs.Disk.{DiskState};
 ghost use Rattle.dav_core.specs.Tree.{is_linked, row_at};
-ghost use Rattle.dav_core.specs.World.{World};
+ghost use Rattle.dav_core.specs.World.{IsWorld, World};
+ghost use Rattle.dav_get.specs.Bodies.{TouchesOwn};
+ghost use Rattle.dav_get.specs.Lives.{OpenOnlyHeld};
+ghost use Rattle.dav_get.specs.Table.{ByCourse, Gets, Given};
+ghost use Rattle.dav_get.specs.declared.open_at.OpenAt.{OpenAt};
 ghost use Rattle.dav_local.specs.declared.file.LocalFsFile.{LocalFsFile};
 ghost use Rattle.dav_local.specs.declared.fs.LocalFs.{LocalFs};
 ghost use Rattle.dav_local.specs.Shown.{knowledge_of};
 ghost use Rattle.dav_local.specs.Ways.{rules_of};
 ghost use Rattle.dav_model.specs.Conditions.{Fields};
+ghost use Rattle.dav_model.specs.Due.{OfItsPaths, Query, page_course};
 ghost use Rattle.dav_model.specs.Finding.{is_clear, is_forbidden};
 ghost use Rattle.dav_model.specs.Valid.{IsRegular};
 ghost use Rattle.dav_model.specs.declared.outcome.Outcome.{Outcome};
 ghost use Rattle.dav_upload.specs.declared.error.UploadError.{UploadError as Refusal};
 ghost use Rattle.dav_upload.specs.declared.upload.Upload.{Upload};
 ghost use Rattle.dav_upload.specs.Names.{hidden_beside, is_taken};
-ghost use Rattle.dav_upload.specs.Others.{IsNot, IsNotHiddenIn, LeavesOthers};
+ghost use Rattle.dav_upload.specs.Others.{IsAny, IsNot, IsNotHiddenIn, LeavesOthers};
 ghost use Rattle.dav_upload.specs.Shown.{SameShown};
 ghost use Rattle.dav_upload.specs.Standing.{StandsIn};
 ghost use Rattle.dav_upload.specs.Steps.{Began, Committed, HasClearNames, IsBeside, IsClear, Pieced};
 ghost use Rattle.dav_upload.specs.Takes.{ReadsPlainly, TakesUploads};
 ghost use Rattle.dav_upload.specs.Uploading.{Aborts, Begins, Commits, Sweeps, WritesPiece};
 ghost use Rattle.dav_upload_laws.specs.Passing.{PassesTable, Succeeds};
+ghost use Rattle.dav_upload_laws.specs.Reading.{IsRead, IsShownAt, handle_of};
 ghost use Rattle.dav_upload_laws.specs.Swept.{Swept};
 ghost use Rattle.dav_upload_laws.specs.Written.{finds_as_written};
 
 use dav_cache::Remember;
-use dav_core::Disk;
+use dav_core::{DavError, Disk};
 use dav_local::{LocalFs, LocalFsFile};
 use dav_local_laws::calls_are_local;
 use dav_store::{DavFile, DavFileSystem};
@@ -120,6 +127,34 @@ pub fn local_uploads_leave_others<D: Disk, R: Remember>(_fs: &LocalFs<D, R>)
         → LeavesOthers None (IsNotHiddenIn dir.names) (D.state s.disk).live (D.state t.disk).live v w }
 {
     local_stores_take_uploads(_fs)
+}
+
+/// A GET or HEAD of a path that isn't hidden, over a local store that finds each path as it is written, leaves what is
+/// shown and each upload standing, where no link stands on the way to the path, or to the index file that may stand for
+/// it: what its body has open is the file of a row that is shown. A page that is asked for by itself opens none. A poll
+/// keeps that file or closes it, and leaves the same.
+pub fn local_reads_leave_uploads<D: Disk, R: Remember>(_fs: &LocalFs<D, R>)
+    ensures gets { (q : Query) (s t : LocalFs D R) (v w : World) (r : Given LocalFsFile)
+        → (D.state s.disk).told ≡ Some v → (D.state t.disk).told ≡ Some w → finds_as_written s.ways ≡ true
+        → OfItsPaths q (IsShownAt v)
+        → Gets ⟦<LocalFs<D, R> as DavFileSystem>⟧.view ⟦<LocalFs<D, R> as DavFileSystem>⟧.listings q tt s r t
+        ⊎ (r ≡ Err DavError.NoMemory)
+        → OpenOnlyHeld ⟦<LocalFs<D, R> as DavFileSystem>⟧.view s r t
+        → SameShown v w × LeavesOthers None IsAny (D.state s.disk).live (D.state t.disk).live v w }
+    ensures pages { (q : Query) (s t : LocalFs D R) (v w : World) (r : Given LocalFsFile)
+        → (D.state s.disk).told ≡ Some v → (D.state t.disk).told ≡ Some w
+        → ByCourse ⟦<LocalFs<D, R> as DavFileSystem>⟧.view ⟦<LocalFs<D, R> as DavFileSystem>⟧.listings
+        (page_course q.settings) q tt s r t ⊎ (r ≡ Err DavError.NoMemory)
+        → OpenOnlyHeld ⟦<LocalFs<D, R> as DavFileSystem>⟧.view s r t
+        → SameShown v w × LeavesOthers None IsAny (D.state s.disk).live (D.state t.disk).live v w }
+    ensures polls { (m n : DiskState) (v w : World) (before after : Option (OpenAt LocalFsFile)) → m.told ≡ Some v
+        → n.told ≡ Some w → IsWorld v → IsRead ⟦<LocalFs<D, R> as DavFileSystem>⟧.view.file.handle m before
+        → TouchesOwn ⟦<LocalFs<D, R> as DavFileSystem>⟧.view.file m before n after
+        → SameShown v w
+        × LeavesOthers (handle_of ⟦<LocalFs<D, R> as DavFileSystem>⟧.view.file.handle before) IsAny m.live n.live v w
+        × IsRead ⟦<LocalFs<D, R> as DavFileSystem>⟧.view.file.handle n after }
+{
+    calls_are_local(_fs)
 }
 
 /// Where the disk refused nothing, in a world of a valid run: an upload begins where no line of the table of PUT refuses

@@ -1,26 +1,38 @@
--- An upload that may be under way, from one call to the next.
+-- What may be open from one call to the next, by its handles: the files of two uploads, and that of a reader.
 use Rattle.std.specs.Prelude.{◌≡◌, ◌≢◌, ℕ, Option, None, Some, IsSome, IfSome}
 use Rattle.dav_core.specs.Disk.{DiskState}
 use Rattle.dav_upload.specs.declared.upload.Upload.{Upload}
 
-module _ {F : Type 0} (handle : F → ℕ) where
-  -- The upload's file is open.
-  abbrev pub IsLive : Option (Upload F) → DiskState → Type 0
-  IsLive slot s = IfSome slot (λ u. IsSome (s.live (handle u.file)))
+-- the handle of a file that may be open
+abbrev pub file_of : {F : Type 0} → (F → ℕ) → Option F → Option ℕ
+file_of handle None = None
+file_of handle (Some file) = Some (handle file)
 
-  -- It isn't this handle that the upload has.
-  abbrev pub IsNot : Option (Upload F) → ℕ → Type 0
-  IsNot None k = Unit {0}
-  IsNot (Some u) k = k ≢ handle u.file
+-- the handle of an upload that may be under way
+abbrev pub upload_of : {F : Type 0} → (F → ℕ) → Option (Upload F) → Option ℕ
+upload_of handle None = None
+upload_of handle (Some u) = Some (handle u.file)
 
-  -- The upload goes on, ends or begins, and all else that is open stays.
-  pub record Goes (old : Option (Upload F)) (s : DiskState) (new : Option (Upload F)) (t : DiskState) : Type 0 where
-    pub live : IsLive new t
-    pub others : (k : ℕ) → IsSome (s.live k) → IsNot old k → t.live k ≡ s.live k
-    pub apart : (k : ℕ) → IsSome (s.live k) → IsNot old k → IsNot new k
+-- The handle is live.
+abbrev pub IsLive : Option ℕ → DiskState → Type 0
+IsLive slot s = IfSome slot (λ h. IsSome (s.live h))
 
-  -- Both uploads that may be under way are live, and aren't one.
-  pub record Under (one other : Option (Upload F)) (s : DiskState) : Type 0 where
-    pub first : IsLive one s
-    pub second : IsLive other s
-    pub apart : IfSome one (λ u. IsNot other (handle u.file))
+-- It isn't this handle.
+abbrev pub IsNot : Option ℕ → ℕ → Type 0
+IsNot None k = Unit {0}
+IsNot (Some h) k = k ≢ h
+
+-- The file goes on, ends or begins, and all else that is open stays.
+pub record Goes (old : Option ℕ) (s : DiskState) (new : Option ℕ) (t : DiskState) : Type 0 where
+  pub live : IsLive new t
+  pub others : (k : ℕ) → IsSome (s.live k) → IsNot old k → t.live k ≡ s.live k
+  pub apart : (k : ℕ) → IsSome (s.live k) → IsNot old k → IsNot new k
+
+-- All that may be open is live, and no two are one.
+pub record Under (one other reader : Option ℕ) (s : DiskState) : Type 0 where
+  pub first : IsLive one s
+  pub second : IsLive other s
+  pub third : IsLive reader s
+  pub first_second : IfSome one (IsNot other)
+  pub first_third : IfSome one (IsNot reader)
+  pub second_third : IfSome other (IsNot reader)

@@ -10,18 +10,22 @@
 //!     SLOT abort                      gives it up
 //!     sweep PATH                      sweeps a directory, and answers how many files went
 //!     get PATH                        the bytes of a file, at most 64
+//!     open PATH                       opens a file, which stays open to the calls that follow
+//!     read COUNT                      reads on in it, at most 64 bytes
+//!     close                           closes it
 //!     names PATH                      the names in a directory, hidden ones too
 //!     rm PATH                         removes a file, as another client would; `mkdir` makes a directory
 //!
-//! Behind the last part uploads that are under way are given up. The last word is how many calls the disk was asked. A
-//! row that begins with `#` is written as it stands.
+//! Behind the last part uploads that are under way are given up, and what is open is closed. The last word is how many
+//! calls the disk was asked. A row that begins with `#` is written as it stands.
 #![tactic(auto)]
 
 ghost use Rattle.std.specs.Prelude.{None};
 ghost use Rattle.dav_core.specs.Disk.{DiskState};
 ghost use Rattle.dav_store.specs.Frames.{KeepsOpen};
-ghost use Rattle.upload_rows.specs.Slots.{Goes, IsLive};
+ghost use Rattle.upload_rows.specs.Slots.{Goes, IsLive, upload_of};
 
+mod reading;
 mod scene;
 mod steps;
 mod words;
@@ -34,9 +38,10 @@ use dav_local::LocalFs;
 use dav_rows::Line;
 use dav_store::{DavFile, GuardedFileSystem, read_members};
 use dav_upload::{Upload, abort, sweep};
+use reading::{close, get, read_on};
 use scene::{disk_of, is_set};
 use std::alloc::Global;
-use steps::{get, step, tell_refusal};
+use steps::{step, tell_refusal};
 use words::{CallWords, said};
 
 fn tell_names(line: &mut Line, answer: Result<Vec<Member>, FsError>) {
@@ -58,7 +63,7 @@ fn tell_done(line: &mut Line, answer: Result<(), FsError>) {
     }
 }
 
-// Makes a call of no upload.
+// Makes a call of no upload, and of no reader that stays.
 fn call<S: GuardedFileSystem<()>>(alloc: Global, line: &mut Line, store: &mut S, said: &CallWords)
     ensures { KeepsOpen (S.view.state store.old) (S.view.state store.new) }
 {
@@ -78,8 +83,8 @@ fn call<S: GuardedFileSystem<()>>(alloc: Global, line: &mut Line, store: &mut S,
 // Gives up an upload that is under way.
 #[tactic(auto, using(crate::proofs::SlotsGo::goes_ended, crate::proofs::SlotsGo::goes_same))]
 fn give_up<S: GuardedFileSystem<()>>(store: &mut S, slot: Option<Upload<S::File>>)
-    requires { IsLive S.view.file.handle slot (S.view.state store.old) }
-    ensures { Goes S.view.file.handle slot (S.view.state store.old) None (S.view.state store.new) }
+    requires { IsLive (upload_of S.view.file.handle slot) (S.view.state store.old) }
+    ensures { Goes (upload_of S.view.file.handle slot) (S.view.state store.old) None (S.view.state store.new) }
 {
     match slot {
         Some(upload) => {
@@ -100,6 +105,7 @@ fn play<S: GuardedFileSystem<()>>(
 {
     let mut one: Option<Upload<S::File>> = None;
     let mut other: Option<Upload<S::File>> = None;
+    let mut reader: Option<S::File> = None;
     'calls: for said in calls {
         match said.call() {
             Some(made) => {
@@ -109,12 +115,16 @@ fn play<S: GuardedFileSystem<()>>(
                     one = step(alloc, line, store, one, &made, &said.fields);
                 }
             }
-            None => call(alloc, line, store, said),
+            None => match said.reading() {
+                Some(made) => reader = read_on(line, store, reader, &made),
+                None => call(alloc, line, store, said),
+            },
         }
         line.add(" | ");
     }
     give_up(store, one);
     give_up(store, other);
+    close(store, reader);
 }
 
 fn answer(alloc: Global, row: &str, line: &mut Line) -> Result<()> {

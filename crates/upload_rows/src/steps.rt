@@ -1,18 +1,14 @@
 //! The calls of an upload that may be under way, over any store. What they answer is added to a line.
 ghost use Rattle.std.specs.Prelude.{◌≡◌, ◌<◌, IsSome, None, Some, length};
 ghost use Rattle.dav_core.specs.Disk.{DiskState};
-ghost use Rattle.dav_store.specs.Frames.{KeepsOpen};
-ghost use Rattle.upload_rows.specs.Slots.{Goes, IsLive};
+ghost use Rattle.upload_rows.specs.Slots.{Goes, IsLive, upload_of};
 
-use dav_core::{DavError, DavPath, FsError, OpenOptions, ParseError};
+use dav_core::{DavError, DavPath, FsError, ParseError};
 use dav_rows::Line;
-use dav_store::{DavFile, GuardedFileSystem, file_close, file_read};
+use dav_store::{DavFile, GuardedFileSystem};
 use dav_upload::{Upload, UploadError, abort, begin, commit, piece};
 use http::HeaderMap;
 use std::alloc::Global;
-
-// The most bytes that are read of a file.
-const MOST_BYTES: usize = 64;
 
 /// A call of an upload.
 #[derive(Clone, Copy)]
@@ -61,7 +57,7 @@ fn begin_here<S: GuardedFileSystem<()>>(
     fields: &HeaderMap,
     token: u64,
 ) -> Option<Upload<S::File>>
-    ensures { Goes S.view.file.handle None (S.view.state fs.old) result (S.view.state fs.new) }
+    ensures { Goes None (S.view.state fs.old) (upload_of S.view.file.handle result) (S.view.state fs.new) }
 {
     match begin(alloc, fs, &(), path, fields, token) {
         Ok(upload) => {
@@ -85,7 +81,8 @@ fn piece_here<S: GuardedFileSystem<()>>(
 ) -> Option<Upload<S::File>>
     requires live { IsSome ((S.view.state fs.old).live (S.view.file.handle upload.file)) }
     requires reads_from { (f : S.File) (s : DiskState) → S.view.file.reads_from f s }
-    ensures { Goes S.view.file.handle (Some upload) (S.view.state fs.old) result (S.view.state fs.new) }
+    ensures { Goes (Some (S.view.file.handle upload.file)) (S.view.state fs.old) (upload_of S.view.file.handle result)
+        (S.view.state fs.new) }
 {
     if bytes.is_empty() {
         line.add("no bytes");
@@ -105,7 +102,8 @@ fn commit_here<S: GuardedFileSystem<()>>(
     fields: &HeaderMap,
 ) -> Option<Upload<S::File>>
     requires { IsSome ((S.view.state fs.old).live (S.view.file.handle upload.file)) }
-    ensures { Goes S.view.file.handle (Some upload) (S.view.state fs.old) result (S.view.state fs.new) }
+    ensures { Goes (Some (S.view.file.handle upload.file)) (S.view.state fs.old) (upload_of S.view.file.handle result)
+        (S.view.state fs.new) }
 {
     match commit(alloc, fs, &(), upload, fields) {
         Ok(outcome) => line.add_number("", u64::from(outcome.status)),
@@ -121,7 +119,8 @@ fn abort_here<S: GuardedFileSystem<()>>(
     upload: Upload<S::File>,
 ) -> Option<Upload<S::File>>
     requires { IsSome ((S.view.state fs.old).live (S.view.file.handle upload.file)) }
-    ensures { Goes S.view.file.handle (Some upload) (S.view.state fs.old) result (S.view.state fs.new) }
+    ensures { Goes (Some (S.view.file.handle upload.file)) (S.view.state fs.old) (upload_of S.view.file.handle result)
+        (S.view.state fs.new) }
 {
     tell_done(line, abort(fs, &(), upload));
     None
@@ -137,9 +136,10 @@ pub fn step<S: GuardedFileSystem<()>>(
     call: &Call<'_>,
     fields: &HeaderMap,
 ) -> Option<Upload<S::File>>
-    requires live { IsLive S.view.file.handle slot (S.view.state fs.old) }
+    requires live { IsLive (upload_of S.view.file.handle slot) (S.view.state fs.old) }
     requires reads_from { (f : S.File) (s : DiskState) → S.view.file.reads_from f s }
-    ensures { Goes S.view.file.handle slot (S.view.state fs.old) result (S.view.state fs.new) }
+    ensures { Goes (upload_of S.view.file.handle slot) (S.view.state fs.old) (upload_of S.view.file.handle result)
+        (S.view.state fs.new) }
 {
     match slot {
         None => match call {
@@ -161,27 +161,5 @@ pub fn step<S: GuardedFileSystem<()>>(
             Call::Commit => commit_here(alloc, line, fs, upload, fields),
             Call::Abort => abort_here(line, fs, upload),
         },
-    }
-}
-
-/// Reads a file.
-#[tactic(auto, using(crate::proofs::SlotsGo::read_closed))]
-pub fn get<S: GuardedFileSystem<()>>(line: &mut Line, fs: &mut S, path: &DavPath)
-    ensures { KeepsOpen (S.view.state fs.old) (S.view.state fs.new) }
-{
-    match fs.open(path, OpenOptions::read(), &()) {
-        Ok(mut file) => {
-            let mut into = [0u8; MOST_BYTES];
-            let read = file_read::<S, ()>(fs, &mut file, &mut into);
-            file_close::<S, ()>(fs, file);
-            match read {
-                Ok(count) => {
-                    let text = str::from_utf8(into.get(..count).unwrap_or(b"?"));
-                    line.tell("has ", text.unwrap_or("?"));
-                }
-                Err(error) => line.add_value(&error),
-            }
-        }
-        Err(error) => line.add_value(&error),
     }
 }

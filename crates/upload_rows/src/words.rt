@@ -1,4 +1,5 @@
 //! The words of a call.
+use crate::reading::Reading;
 use crate::steps::Call;
 use anyhow::{Result, bail};
 use dav_core::DavPath;
@@ -7,7 +8,7 @@ use http::HeaderMap;
 use http::header::{HeaderName, HeaderValue};
 use std::alloc::Global;
 
-/// A part that makes a call: of the upload of a slot, or another.
+/// A part that makes a call: of the upload of a slot, of the reader, or another.
 #[derive(Drop)]
 pub struct CallWords {
     pub first: bool,
@@ -30,6 +31,16 @@ impl CallWords {
             "piece" => Some(Call::Piece(self.bytes.as_str())),
             "commit" => Some(Call::Commit),
             "abort" => Some(Call::Abort),
+            _ => None,
+        }
+    }
+
+    /// The call of the reader, where it is one. Without a number it reads no bytes.
+    pub fn reading(&self) -> Option<Reading<'_>> {
+        match self.kind.as_str() {
+            "open" => Some(Reading::Open(&self.path)),
+            "read" => Some(Reading::Read(self.bytes.as_str().parse::<usize>().unwrap_or(0))),
+            "close" => Some(Reading::Close),
             _ => None,
         }
     }
@@ -57,8 +68,8 @@ fn path_of(alloc: Global, word: &str) -> Result<DavPath> {
     }
 }
 
-/// What a part says: `SLOT begin PATH TOKEN FIELD..`, `SLOT piece BYTES`, `SLOT commit FIELD..`, `SLOT abort`, or a word
-/// and a path. A token is written in hexadecimal digits.
+/// What a part says: `SLOT begin PATH TOKEN FIELD..`, `SLOT piece BYTES`, `SLOT commit FIELD..`, `SLOT abort`,
+/// `read COUNT`, `close`, or a word and a path. A token is written in hexadecimal digits.
 pub fn said(alloc: Global, part: &str) -> Result<CallWords> {
     let first = part.starts_with("1 ");
     let second = part.starts_with("2 ");
@@ -66,7 +77,8 @@ pub fn said(alloc: Global, part: &str) -> Result<CallWords> {
     let kind = words.split(' ').next().unwrap_or("");
     let word = words.split(' ').nth(1).unwrap_or("");
     let begins = kind == "begin";
-    let has_path = begins || !(first || second);
+    let reads = matches!(kind, "read" | "close");
+    let has_path = begins || !(first || second || reads);
     let mut fields = HeaderMap::new(alloc);
     if begins || kind == "commit" {
         for field in words.split(' ').skip(if begins { 3 } else { 1 }) {

@@ -14,3 +14,6 @@ pub returns-clause-swept : goal.returns-clause-swept
 returns-clause-swept g c = λ dir is plain v w was now names clear.
     (let (r, sweeps, ended) = swept_of _ _ _ tt _ dir _ _ _ _ _ _ is c.perform.ensures.table in
     (r, c.local_sweeps_take_what_is_left.ensures dir _ _ v w r was now plain names clear sweeps, ended))
+
+pub returns-clause-failed : goal.returns-clause-failed
+returns-clause-failed g c = c.perform.ensures.failed c.local_stores_refuse_few.ensures

@@ -1,4 +1,4 @@
-use Rattle.std.proofs.Common.{◌≡◌, ◌∙◌, arith, sym}
+use Rattle.std.proofs.Common.{◌∙◌, arith, sym}
 use Rattle.dav_put.specs.Storing.Tried.{none}
 use Rattle.dav_put.proofs.TokensTried.{never_busy, one_more_busy}
 use Rattle.dav_put.proofs.storing.begin_some.Goals as goal

@@ -1,5 +1,5 @@
 use Rattle.std.proofs.Common.{take, refl, arith}
-use Rattle.dav_put.proofs.Poured.{failed_taken, gives_taken, none_yet, one_more, over_taken, stays_same, stays_then}
+use Rattle.dav_put.proofs.Poured.{gives_taken, none_yet, one_more, over_taken, stays_same, stays_then}
 use Rattle.dav_put.proofs.storing.pour.Goals as goal
 
 pub pieces-init : goal.pieces-init
@@ -29,7 +29,7 @@ returns-in-Err-clause-pours g c = record {
   upload = c.pieces.upload;
   left = g.R.Source.stream c.pieces.source;
   fed = c.pieces.invariant.far.fed;
-  stops = (failed_taken _ _ c.take.new.into _ c.in-Err.ensures, refl, refl);
+  stops = ((c.take.new.into, _, c.in-Err.ensures), refl, refl);
 }
 
 pub returns-in-Err-piece-clause-pours : goal.returns-in-Err-piece-clause-pours
@@ -40,7 +40,7 @@ returns-in-Err-piece-clause-pours g c = record {
   upload = c.pieces.upload;
   left = g.R.Source.stream c.pieces.source;
   fed = c.pieces.invariant.far.fed;
-  stops = (take c.in-Ok.count c.take.new.into, gives_taken _ _ c.take.new.into c.in-Ok.count c.in-Ok.ensures, c.in-Err-piece.ensures.table);
+  stops = (take c.in-Ok.count c.take.new.into, gives_taken _ _ c.take.new.into c.in-Ok.count c.if-count-eq0.false c.in-Ok.ensures, c.in-Err-piece.ensures.table);
 }
 
 pub returns-clause-pours : goal.returns-clause-pours
@@ -61,7 +61,7 @@ returns-in-Err-piece-clause-stays g c =
 pub pieces-preserved : goal.pieces-preserved
 pieces-preserved g c = record {
   far = one_more g.S.GuardedFileSystem.view _ c.pieces._pieces _ _ _ _ _ _ _ _ _ (take c.in-Ok.count c.take.new.into) _ c.pieces.invariant.far
-      (gives_taken _ _ c.take.new.into c.in-Ok.count c.in-Ok.ensures) refl c.in-Ok-piece.ensures.table;
+      (gives_taken _ _ c.take.new.into c.in-Ok.count c.if-count-eq0.false c.in-Ok.ensures) refl c.in-Ok-piece.ensures.table;
   stays = stays_then g.S.GuardedFileSystem.view g.S.File.DavFile.view.writes c.args.fs.now c.pieces.fs c.piece.new.fs c.args.upload.now c.pieces.upload c.piece.new.upload c.pieces.invariant.stays c.in-Ok-piece.ensures.stays;
   reads_from = c.in-Ok-piece.ensures.reads_from;
   room = omega (arith, c.take.auto.into, c.pieces.invariant.room);
