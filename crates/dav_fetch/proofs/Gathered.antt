@@ -10,7 +10,7 @@ use Rattle.dav_fetch.specs.declared.error.MirrorError.{MirrorError}
 use Rattle.dav_fetch.specs.declared.fetching.Gathered.{Gathered}
 use Rattle.dav_fetch.specs.declared.taking.Taken.{Taken}
 use Rattle.dav_fetch.specs.Asking.{file_path}
-use Rattle.dav_fetch.specs.Copy.{IsOf}
+use Rattle.dav_fetch.specs.Copy.{IsKept, IsOf}
 use Rattle.dav_fetch.specs.Fetching.{Files, FilesEnd, IsFileVisit, IsWhole, NotAsked, Visits, kept_at, kept_of, taken}
 use Rattle.dav_fetch.specs.Gathering.{Gathers}
 use Rattle.dav_fetch.specs.Peer.{PeerState}
@@ -42,12 +42,12 @@ files_more old (p ∷ paths) (v ∷ vs) got left path more visit worth (w, rest,
 )
 
 -- what is kept of a file fits it
-pub kept_fits : (path : Names) (old : List Kept) → AllByRecursion (λ (f : Kept). length f.bytes ≤ f.len) old → (o : Option Kept) → kept_at path old ≡ o → ForSome o (λ f. length f.bytes ≤ f.len)
+pub kept_fits : (path : Names) (old : List Kept) → AllByRecursion IsKept old → (o : Option Kept) → kept_at path old ≡ o → ForSome o IsKept
 kept_fits path old each o e k is = of old each k (found path old k (e ∙ is)).1
   where
-    of : (old : List Kept) → AllByRecursion (λ (f : Kept). length f.bytes ≤ f.len) old → (k : Kept) → IsOf k old → length k.bytes ≤ k.len
+    of : (old : List Kept) → AllByRecursion IsKept old → (k : Kept) → IsOf k old → IsKept k
     of [] each k is = absurd is
-    of (f ∷ fs) each k (inl here) = subst (λ (x : Kept). length x.bytes ≤ x.len) (sym here) each.0
+    of (f ∷ fs) each k (inl here) = subst IsKept (sym here) each.0
     of (f ∷ fs) each k (inr more) = of fs each.1 k more
 
 -- The file that is due didn't come whole.

@@ -30,3 +30,5 @@ pub mod Judged
 pub mod Counted
 pub mod Reached
 pub mod OneMirror
+pub mod Counting
+pub mod StillTold

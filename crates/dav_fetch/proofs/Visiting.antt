@@ -11,7 +11,7 @@ use Rattle.dav_fetch.specs.declared.taking.Taken.{Taken}
 use Rattle.dav_fetch.specs.Asking.{asked_for, awaits, dir_path, file_path}
 use Rattle.dav_fetch.specs.Fetching.{AtPage, FileEnds, link_is_short, taken}
 use Rattle.dav_fetch.specs.Judging.{Use, gives, refuses, spoils, use_of}
-use Rattle.dav_fetch.specs.Peer.{Gets, PeerState}
+use Rattle.dav_fetch.specs.Peer.{Gets, IsAskable, PeerState}
 use Rattle.dav_fetch.specs.Reading.{ReadOn}
 use Rattle.dav_fetch.specs.Steps.{PageFails}
 use Rattle.dav_fetch.specs.Taking.{AsksFile, BytesEnd, TakesFile, VisitEnds, VisitsFile}
@@ -20,13 +20,13 @@ use Rattle.dav_fetch.proofs.Made.{visit_of, visited}
 use Rattle.dav_fetch.proofs.NotAskedLaws.{not_got}
 
 pub file_visit : (names : Names) (old : Option Kept) (s m at t : PeerState) (path : WebPath) (asked : List Field) (got : Got) (g : Gets s path asked (Ok got) m) (came : List ℕ) (worth : Use) (result : Taken)
-    → ReadOn m came at → path ≡ file_path names → asked ≡ asked_for (awaits old) → use_of names (awaits old) got.status got.headers ≡ worth
+    → IsAskable path asked → ReadOn m came at → path ≡ file_path names → asked ≡ asked_for (awaits old) → use_of names (awaits old) got.status got.headers ≡ worth
     → result.kept ≡ taken old worth came → VisitEnds names worth (visit_of s m path asked got g came) result.ended at t → VisitsFile names old s result t
-file_visit names old s m at t path asked got g came worth result r path_is asked_is judged kept ends = record {
+file_visit names old s m at t path asked got g came worth result askable r path_is asked_is judged kept ends = record {
   visit = visit_of s m path asked got g came;
   worth = worth;
   at = at;
-  visited = visited s m at path asked got g came r;
+  visited = visited s m at path asked got g came askable r;
   is = record { path_is = path_is; asked = asked_is; judged = judged };
   kept = kept;
   ends = ends;

@@ -4,13 +4,12 @@ use Rattle.std.specs.List.{AllByRecursion}
 use Rattle.std.proofs.lemmas.List.{length-append}
 use Rattle.dav_core.specs.Path.{Names}
 use Rattle.dav_fetch.specs.declared.copied.Copied.{Copied}
-use Rattle.dav_fetch.specs.declared.copied.Kept.{Kept}
 use Rattle.dav_fetch.specs.declared.error.MirrorError.{MirrorError}
 use Rattle.dav_fetch.specs.declared.error.MirrorError.TheVariants.{NoMemory}
 use Rattle.dav_fetch.specs.declared.fetching.Gathered.{Gathered}
 use Rattle.dav_fetch.specs.declared.found.Found.{Found}
 use Rattle.dav_fetch.specs.declared.walking.Walked.{Walked}
-use Rattle.dav_fetch.specs.Copy.{IsKept, IsOf}
+use Rattle.dav_fetch.specs.Copy.{IsOf}
 use Rattle.dav_fetch.specs.Fetching.{Fetched, FilesEnd, Goes, IsOrdered}
 use Rattle.dav_fetch.specs.Gathering.{Gathers}
 use Rattle.dav_fetch.specs.Peer.{PeerState}
@@ -102,10 +101,6 @@ pub walked_named : (s m : PeerState) (most : ℕ) (w : Walked) (paths : List Nam
 walked_named s m most w paths (visits, chain, read, made, within) ordered =
     let named = pages_named start (record { due = []; dirs = drop 1 w.dirs.items; files = w.files.items }) visits read tt in
     each_named paths (λ q is. of_named w.files.items q named (ordered.from q is))
-
-pub within_all : (files : List Kept) → AllByRecursion IsKept files → AllByRecursion (λ (f : Kept). length f.bytes ≤ f.len) files
-within_all [] each = tt
-within_all (f ∷ fs) each = (each.0.within, within_all fs each.1)
 
 pub lacks_stop : (s : PeerState) (most : ℕ) → StopsAt s most NoMemory s
 lacks_stop s most = record { visits = []; way = start; dir = []; due = []; mid = s; last = []; chain = refl; read = refl; is_due = refl; within = omega arith; at = inl (refl, inl refl) }

@@ -1,5 +1,5 @@
 -- What `fetch` does: the visits that it made, one after the other, what the copy is by them, and why it ended.
-use Rattle.std.specs.Prelude.{◌≡◌, ◌≢◌, ◌+◌, ◌<◌, ◌≤◌, ◌⊎◌, ℕ, List, [], ◌∷◌, ◌++◌, length, Option, Some, Result, Ok, Err}
+use Rattle.std.specs.Prelude.{◌≡◌, ◌≢◌, ◌+◌, ◌<◌, ◌≤◌, ◌⊎◌, ℕ, List, [], ◌∷◌, ◌++◌, length, Bool, true, false, Option, Some, Result, Ok, Err}
 use Rattle.std.specs.Option.{option_to_list}
 use Rattle.std.specs.List.{find}
 use Rattle.std.specs.List.Sorted.{IsStrictlySortedBy}
@@ -14,7 +14,7 @@ use Rattle.dav_fetch.specs.declared.found.Found.{Found}
 use Rattle.dav_fetch.specs.Asking.{awaits, asked_for, dir_path, file_path}
 use Rattle.dav_fetch.specs.Copy.{IsOf, path_cmp}
 use Rattle.dav_fetch.specs.Judging.{Use, gives, keeps, refuses, spoils, use_of, grown}
-use Rattle.dav_fetch.specs.Peer.{PeerState, RepliesIn, links_most}
+use Rattle.dav_fetch.specs.Peer.{Calls, CountsFailure, PeerState, RepliesIn, StaysStill, links_most}
 use Rattle.dav_fetch.specs.Reading.{IsOver, ReadOn}
 use Rattle.dav_fetch.specs.Walk.{Visit, IsPageOf, Way, Pages, page_most, start}
 
@@ -24,6 +24,7 @@ pub record Visited (s : PeerState) (visit : Visit) (t : PeerState) : Type 0 wher
   pub at : PeerState
   pub counts : s.faults ≤ at.faults
   pub is : RepliesIn visit.world visit.path visit.asked (Rose s.faults at.faults) visit.got at.told
+  pub stays : StaysStill s at
   pub read : ReadOn at visit.came t
 
 abbrev pub Visits : PeerState → List Visit → PeerState → Type 0
@@ -205,3 +206,24 @@ pub record Fetched (s : PeerState) (old : Copied) (most : ℕ) (result : Result 
 abbrev pub visits_of : {s : PeerState} {old : Copied} {most : ℕ} {result : Result Unit MirrorError} {t : PeerState} {new : Copied}
     → Fetched s old most result t new → List Visit
 visits_of f = f.pages ++ f.rest
+
+-- ---- calls of the peer
+
+abbrev pub is_peer_error : MirrorError → Bool
+is_peer_error PeerFailed = true
+is_peer_error NoMemory = false
+is_peer_error (Refused p status) = false
+is_peer_error (NotAPage p) = false
+is_peer_error (BadReply p) = false
+is_peer_error (Short p got announced) = false
+is_peer_error (TooLong p) = false
+is_peer_error (Budget m) = false
+
+abbrev pub is_peer_failure : {A : Type 0} → Result A MirrorError → Bool
+is_peer_failure (Ok a) = false
+is_peer_failure (Err e) = is_peer_error e
+
+-- No more replies are counted than requests were allowed. A failure of a call is told as such, and nothing else is.
+pub record CountsFetch (before : Calls) (most : ℕ) (result : Result Unit MirrorError) (after : Calls) : Type 0 where
+  pub replies : after.replies ≤ before.replies + most
+  pub failures : CountsFailure (is_peer_failure result) before after

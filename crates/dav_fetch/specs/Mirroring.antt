@@ -6,7 +6,7 @@ use Rattle.dav_core.specs.declared.tree.Row.{Row}
 use Rattle.dav_core.specs.Members.{members}
 use Rattle.dav_core.specs.Path.{Names}
 use Rattle.dav_core.specs.Tree.{is_dir, is_file, is_link, look}
-use Rattle.dav_core.specs.World.{IsWorld, World, bytes_of, is_numbered}
+use Rattle.dav_core.specs.World.{IsWorld, SameBesidesOpens, World, bytes_of, is_numbered}
 use Rattle.dav_page.specs.Index.{IsIndex}
 use Rattle.dav_page.specs.Listed.{AreRows, begins_with_dot}
 use Rattle.dav_fetch.specs.declared.copied.Copied.{Copied}
@@ -16,7 +16,7 @@ use Rattle.dav_fetch.specs.declared.error.MirrorError.TheVariants.{NoMemory}
 use Rattle.dav_fetch.specs.Asking.{dir_path}
 use Rattle.dav_fetch.specs.Copy.{IsCopy, IsFaithful, IsFileAt, IsKept, IsOf, IsOfWorld, tag_in}
 use Rattle.dav_fetch.specs.Fetching.{link_is_short}
-use Rattle.dav_fetch.specs.Peer.{PeerState}
+use Rattle.dav_fetch.specs.Peer.{PeerState, Seen}
 use Rattle.dav_fetch.specs.Walk.{Visit, page_most}
 
 -- a visit is of this world
@@ -95,6 +95,13 @@ pub record ShowsSame (w v : World) : Type 0 where
 -- Each visit was told, and of a world that shows the same as this one.
 abbrev pub TellsOne : World → List Visit → Type 0
 TellsOne w visits = AllByRecursion (λ (visit : Visit). (v : World) × (visit.world ≡ Some v) × ShowsSame w v) visits
+
+-- It tells this world, of which nothing is to change.
+pub record TellsStill (w : World) (s : PeerState) : Type 0 where
+  pub now : Seen
+  pub told : s.told ≡ Some now
+  pub same : SameBesidesOpens w now.world
+  pub script : w.script ≡ []
 
 -- What is asked of a call: the peer refused nothing in it, and told the same of one world throughout; what was kept at
 -- entry is faithful for that world; and lengths are those of files.

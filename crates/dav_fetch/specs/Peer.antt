@@ -1,12 +1,13 @@
 -- What a server is from outside: its replies by a world, and their bodies piece by piece.
-use Rattle.std.specs.Prelude.{◌≡◌, ◌≤◌, ℕ, List, [], ◌++◌, take, drop, replicate, length, map, true, Option, None, Some, Result, Ok, Err}
+use Rattle.std.specs.Prelude.{◌≡◌, ◌≤◌, ◌+◌, ℕ, List, [], ◌++◌, take, drop, replicate, length, map, Bool, true, false, Option, None, Some, Result, Ok, Err, OnOk}
 use Rattle.std.specs.List.{filter, flat_map}
+use Rattle.std.specs.Option.{ForSome}
 use Rattle.std.specs.Str.{bytes_eq}
 use Rattle.dav_io.specs.Counts.{Rose}
 use Rattle.dav_io.specs.Told.{Both}
 use Rattle.dav_io.specs.declared.fields.Field.{Field}
 use Rattle.dav_core.specs.declared.method.DavMethod.TheVariants.{Get}
-use Rattle.dav_core.specs.DavPath.{WebPath}
+use Rattle.dav_core.specs.DavPath.{IsPath, WebPath}
 use Rattle.dav_core.specs.World.{World, SameBesidesOpens, bytes_of}
 use Rattle.dav_model.specs.declared.settings.Settings.{Settings}
 use Rattle.dav_model.specs.Bodies.{Part, text, slice}
@@ -16,9 +17,12 @@ use Rattle.dav_model.specs.Finding.{shown_in}
 use Rattle.dav_model.specs.Head.{Reply}
 use Rattle.dav_model.specs.Rules.{Rules, plain_rules}
 use Rattle.dav_model.specs.Unset.{nothing_set}
+use Rattle.dav_fetch.specs.declared.copied.Kept.{Kept}
 use Rattle.dav_fetch.specs.declared.peer.Got.{Got}
 use Rattle.dav_fetch.specs.declared.peer.PeerFault.{PeerFault}
 use Rattle.dav_fetch.specs.declared.peer.PeerFault.TheVariants.{Failed, NoMemory}
+use Rattle.dav_fetch.specs.Asking.{asked_for, awaits}
+use Rattle.dav_fetch.specs.Copy.{IsKept}
 
 -- the most bytes of a link
 abbrev pub links_most : ℕ
@@ -39,6 +43,11 @@ pub record Seen : Type 0 where
 pub record PeerState : Type 0 where
   pub told : Option Seen
   pub faults : ℕ
+
+-- What its calls came to: how many replies it counts, and how many failures, which stop at the greatest u64.
+pub record Calls : Type 0 where
+  pub replies : ℕ
+  pub failures : ℕ
 
 -- the bytes of a part in a world, and zeros where none stand
 abbrev pub part_bytes : World → Part → List ℕ
@@ -77,9 +86,22 @@ IsGot path asked s (Ok got) t = (world : Option World) × RepliesIn world path a
 IsGot path asked s (Err Failed) t = Rose s.faults t.faults
 IsGot path asked s (Err NoMemory) t = Unit {0}
 
+-- What a fetch asks: a path under no prefix, with the fields for what is kept of its file.
+pub record IsAskable (path : WebPath) (asked : List Field) : Type 0 where
+  pub is : IsPath path
+  pub prefix : path.prefix ≡ []
+  pub old : Option Kept
+  pub kept : ForSome old IsKept
+  pub fields : asked ≡ asked_for (awaits old)
+
+-- Where it told a world with no change to come, it tells the same one.
+abbrev pub StaysStill : PeerState → PeerState → Type 0
+StaysStill s t = (v : Seen) → s.told ≡ Some v → v.world.script ≡ [] → (w : Seen) × (t.told ≡ Some w) × SameBesidesOpens v.world w.world
+
 pub record Gets (s : PeerState) (path : WebPath) (asked : List Field) (result : Result Got PeerFault) (t : PeerState) : Type 0 where
   pub counts : s.faults ≤ t.faults
   pub is : IsGot path asked s result t
+  pub stays : IsAskable path asked → OnOk result (StaysStill s t)
 
 -- The world stays. These bytes of the body came; none come only at its end.
 abbrev pub Came : List ℕ → Seen → Seen → Type 0
@@ -93,3 +115,25 @@ Gave s into (Err NoMemory) t = Both s.told t.told (Came [])
 pub record Gives (s : PeerState) (into : List ℕ) (result : Result ℕ PeerFault) (t : PeerState) : Type 0 where
   pub counts : s.faults ≤ t.faults
   pub is : Gave s into result t
+
+-- ---- what calls come to
+
+abbrev pub is_failure : {A : Type 0} → Result A PeerFault → Bool
+is_failure (Ok a) = false
+is_failure (Err Failed) = true
+is_failure (Err NoMemory) = false
+
+-- Failures are counted, and nothing else is.
+abbrev pub CountsFailure : Bool → Calls → Calls → Type 0
+CountsFailure true before after = Rose before.failures after.failures
+CountsFailure false before after = after.failures ≡ before.failures
+
+-- A request gets one reply at most.
+pub record CountsGet {A : Type 0} (before : Calls) (result : Result A PeerFault) (after : Calls) : Type 0 where
+  pub replies : after.replies ≤ before.replies + 1
+  pub failures : CountsFailure (is_failure result) before after
+
+-- A piece is none.
+pub record CountsPiece {A : Type 0} (before : Calls) (result : Result A PeerFault) (after : Calls) : Type 0 where
+  pub replies : after.replies ≤ before.replies
+  pub failures : CountsFailure (is_failure result) before after

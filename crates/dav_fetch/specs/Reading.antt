@@ -1,5 +1,5 @@
 -- The body of a reply, read piece by piece.
-use Rattle.std.specs.Prelude.{◌≡◌, ◌<◌, ◌≤◌, ℕ, List, [], length, Some}
+use Rattle.std.specs.Prelude.{◌≡◌, ◌<◌, ◌≤◌, ℕ, List, [], length, Bool, true, false, Some}
 use Rattle.dav_io.specs.Counts.{Rose}
 use Rattle.dav_io.specs.Told.{Both}
 use Rattle.dav_fetch.specs.declared.reading.Ended.{Ended}
@@ -28,3 +28,10 @@ pub record ReadsTo (s : PeerState) (due : ℕ) (came : List ℕ) (ended : Ended)
   pub read : ReadOn s came at
   pub counts : at.faults ≤ t.faults
   pub ends : EndsAs ended due came at t
+
+-- the peer failed
+abbrev pub is_failed_end : Ended → Bool
+is_failed_end Over = false
+is_failed_end Full = false
+is_failed_end Failed = true
+is_failed_end NoMemory = false

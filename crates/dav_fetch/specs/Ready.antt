@@ -4,10 +4,14 @@ use Rattle.dav_io.specs.Counts.{one_more}
 use Rattle.dav_fetch.specs.declared.canned.Canned.{Canned}
 use Rattle.dav_fetch.specs.declared.canned.MemPeer.{MemPeer}
 use Rattle.dav_fetch.specs.declared.peer.Got.{Got}
-use Rattle.dav_fetch.specs.Peer.{PeerState}
+use Rattle.dav_fetch.specs.Peer.{Calls, PeerState}
 
 abbrev pub peer_state : MemPeer → PeerState
 peer_state p = record { told = None; faults = p.faults.met }
+
+-- It doesn't count its replies, and each fault that it meets is a failure.
+abbrev pub peer_calls : MemPeer → Calls
+peer_calls p = record { replies = 0; failures = p.faults.met }
 
 -- the replies to come, in their order
 abbrev pub coming : MemPeer → List Canned

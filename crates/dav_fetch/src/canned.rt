@@ -64,14 +64,17 @@ impl MemPeer {
 
 impl Peer for MemPeer {
     ghost use Rattle.dav_core.specs.DavPath.{link_of, shown};
-    ghost use Rattle.dav_fetch.specs.Peer.{Gets, Gives, links_most};
-    ghost use Rattle.dav_fetch.specs.Ready.{FailsNext, GivesNext, coming, left_in, peer_state};
+    ghost use Rattle.dav_fetch.specs.Peer.{CountsGet, CountsPiece, Gets, Gives, links_most};
+    ghost use Rattle.dav_fetch.specs.Ready.{FailsNext, GivesNext, coming, left_in, peer_calls, peer_state};
 
     ghost state = { peer_state };
+
+    ghost calls = { peer_calls };
 
     /// It fails exactly where the schedule has its number, and else gives the next reply.
     fn get(&mut self, path: &DavPath, fields: &Fields) -> Result<Got, PeerFault>
         ensures gets { Gets (peer_state self.old) path.now fields.now result (peer_state self.new) }
+        ensures calls { CountsGet (peer_calls self.old) result (peer_calls self.new) }
         ensures fails { IsErr result ↔ FailsNext self.old }
         ensures next { IfOk result (GivesNext self.old self.new) }
     {
@@ -98,6 +101,7 @@ impl Peer for MemPeer {
     fn piece(&mut self, into: &mut [u8]) -> Result<usize, PeerFault>
         requires { 0 < length into.old }
         ensures given { Gives (peer_state self.old) into.new result (peer_state self.new) }
+        ensures calls { CountsPiece (peer_calls self.old) result (peer_calls self.new) }
         ensures fails { IsErr result ↔ FailsNext self.old }
         ensures gives { IfOk result (λ n. left_in self.old ≡ take n into.new ++ left_in self.new) }
         ensures count { IfOk result (λ n. n ≡ min (length (left_in self.old)) (length into.old)) }

@@ -1,7 +1,8 @@
 // Whether a request that is due may be made.
-ghost use Rattle.std.specs.Prelude.{◌≡◌, ◌<◌, ◌≤◌, ◌↔◌, IfOk, IfErr, IsTrue, OnOk, length};
+ghost use Rattle.std.specs.Prelude.{◌≡◌, ◌<◌, ◌≤◌, ◌↔◌, IfOk, IfErr, IsTrue, OnOk, false, length};
+ghost use Rattle.dav_core.specs.DavPath.{IsPath};
 ghost use Rattle.dav_fetch.specs.Asking.{dir_path, file_path};
-ghost use Rattle.dav_fetch.specs.Fetching.{NotAsked, link_is_short};
+ghost use Rattle.dav_fetch.specs.Fetching.{NotAsked, is_peer_error, link_is_short};
 ghost use Rattle.dav_fetch.specs.Peer.{PeerState};
 
 use crate::error::MirrorError;
@@ -14,7 +15,8 @@ const LINKS_MOST: usize = 65_000;
 
 // The path of a directory, as a peer is asked for it.
 pub(crate) fn dir_of(alloc: Global, names: &FsPath) -> Result<DavPath, NoMemory>
-    ensures { IfOk result (λ path. path ≡ dir_path names.now) }
+    ensures value { IfOk result (λ path. path ≡ dir_path names.now) }
+    ensures is { IfOk result IsPath }
 {
     let mut path = match DavPath::new(alloc, "/") {
         Ok(path) => path,
@@ -30,7 +32,8 @@ pub(crate) fn dir_of(alloc: Global, names: &FsPath) -> Result<DavPath, NoMemory>
 // The path of a file, as a peer is asked for it. It has a name at least.
 pub(crate) fn file_of(alloc: Global, names: &FsPath) -> Result<DavPath, NoMemory>
     requires { 0 < length names.now }
-    ensures { IfOk result (λ path. path ≡ file_path names.now) }
+    ensures value { IfOk result (λ path. path ≡ file_path names.now) }
+    ensures is { IfOk result IsPath }
 {
     let mut path = match DavPath::new(alloc, "/") {
         Ok(path) => path,
@@ -56,6 +59,7 @@ pub(crate) fn may_ask(path: &DavPath, made: u64, most: u64) -> Result<(), Mirror
     requires { made ≤ most }
     ensures ok { OnOk result ((made < most) × link_is_short path.now) }
     ensures err { IfErr result (λ e. (s : PeerState) → NotAsked path.now made most e s s) }
+    ensures none { IfErr result (λ e. is_peer_error e ≡ false) }
 {
     if made == most {
         return Err(MirrorError::Budget { made });

@@ -1,10 +1,11 @@
 //! A tree is fetched: its pages first, then its files.
-ghost use Rattle.std.specs.Prelude.{◌≡◌, ◌<◌, ◌≤◌, [], drop, length, vec_capacity, IfOk};
+ghost use Rattle.std.specs.Prelude.{◌≡◌, ◌+◌, ◌<◌, ◌≤◌, [], drop, length, vec_capacity, IfOk};
 ghost use Rattle.std.specs.List.{AllByRecursion};
-ghost use Rattle.dav_fetch.specs.Copy.{IsCopy};
-ghost use Rattle.dav_fetch.specs.Fetching.{Fetched, IsOrdered};
+ghost use Rattle.dav_fetch.specs.Copy.{IsCopy, IsKept};
+ghost use Rattle.dav_fetch.specs.Fetching.{CountsFetch, Fetched, IsOrdered, is_peer_failure};
 ghost use Rattle.dav_fetch.specs.Keeping.{AreAscending, AreInOrder};
 ghost use Rattle.dav_fetch.specs.Gathering.{Gathers};
+ghost use Rattle.dav_fetch.specs.Peer.{CountsFailure};
 
 use crate::copied::{Copied, Kept, KeptFiles, Paths};
 use crate::error::MirrorError;
@@ -75,9 +76,11 @@ fn gather<P: Peer>(
     requires paths { AreAscending paths.now }
     requires named { AllByRecursion (λ path. 0 < length path) paths.now }
     requires order { AreInOrder old.items }
-    requires kept { AllByRecursion (λ f. length f.bytes ≤ f.len) old.items }
+    requires kept { AllByRecursion IsKept old.items }
     requires made { made ≤ most }
     ensures gathers { Gathers old.items paths.now made most (P.state peer.old) result (P.state peer.new) }
+    ensures few { (P.calls peer.new).replies + made ≤ (P.calls peer.old).replies + most }
+    ensures failures { CountsFailure (is_peer_failure result.ended) (P.calls peer.old) (P.calls peer.new) }
     ensures loan { P.loan peer.new ≡ P.loan peer.old }
 {
     old.reverse();
@@ -122,6 +125,7 @@ pub fn fetch<P: Peer>(
 ) -> Result<(), MirrorError>
     requires { IsCopy copy.old }
     ensures fetched { Fetched (P.state peer.old) copy.old most result (P.state peer.new) copy.new }
+    ensures calls { CountsFetch (P.calls peer.old) most result (P.calls peer.new) }
     ensures copy { IsCopy copy.new }
     ensures loan { P.loan peer.new ≡ P.loan peer.old }
 {

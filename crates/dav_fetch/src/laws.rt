@@ -17,7 +17,7 @@ ghost use Rattle.dav_fetch.specs.Asking.{asked_for, awaits, dir_path, file_path}
 ghost use Rattle.dav_fetch.specs.Copy.{IsOfWorld};
 ghost use Rattle.dav_fetch.specs.Fetching.{Fetched, visits_of};
 ghost use Rattle.dav_fetch.specs.Judging.{gives, grown, use_of};
-ghost use Rattle.dav_fetch.specs.Mirroring.{AllTold, AreKept, AreShort, IsGood, IsLinkless, IsMet, IsMirror, IsOverOne, IsSound, IsWithinLimits, MetIn, Mirrors, visible_rows};
+ghost use Rattle.dav_fetch.specs.Mirroring.{AllTold, AreKept, AreShort, IsGood, IsLinkless, IsMet, IsMirror, IsOverOne, IsSound, IsWithinLimits, MetIn, Mirrors, TellsOne, TellsStill, visible_rows};
 ghost use Rattle.dav_fetch.specs.Peer.{PeerState, RepliesOf, body_in};
 ghost use Rattle.dav_fetch.specs.Walk.{IsFound, IsMember};
 
@@ -65,6 +65,12 @@ pub fn a_still_tree_is_fetched()
     ensures { (s t : PeerState) (old new : Copy) (most : ℕ) (result : Result Unit Error) (f : Fetched s old most result t new)
         → (w : World) → IsOverOne w s old (visits_of f) t → IsLinkless w → IsWithinLimits w
         → length (visible_rows w) < most → Mirrors w result new }
+{}
+
+/// A peer that tells a world of which nothing is to change tells it at each visit of a fetch.
+pub fn a_still_peer_tells_one_world()
+    ensures { (s t : PeerState) (old new : Copy) (most : ℕ) (result : Result Unit Error) (f : Fetched s old most result t new)
+        → (w : World) → TellsStill w s → TellsOne w (visits_of f) }
 {}
 
 /// A tree has one mirror at most.

@@ -1,8 +1,10 @@
-ghost use Rattle.std.specs.Prelude.{◌≡◌, ◌<◌, ◌≤◌, [], ◌∷◌, ℕ, List, IfOk, IfErr, IfSome, Ok, None, length};
+ghost use Rattle.std.specs.Prelude.{◌≡◌, ◌+◌, ◌<◌, ◌≤◌, [], ◌∷◌, ℕ, List, IfOk, IfErr, IfSome, Ok, None, length};
 ghost use Rattle.std.specs.List.{AllZip};
+ghost use Rattle.dav_core.specs.DavPath.{IsPath};
 ghost use Rattle.dav_fetch.specs.declared.found.Found.{Found as It};
 ghost use Rattle.dav_fetch.specs.Asking.{dir_path};
-ghost use Rattle.dav_fetch.specs.Fetching.{Visited, link_is_short};
+ghost use Rattle.dav_fetch.specs.Fetching.{Visited, is_peer_failure, link_is_short};
+ghost use Rattle.dav_fetch.specs.Peer.{CountsFailure};
 ghost use Rattle.dav_fetch.specs.Reading.{IsOver};
 ghost use Rattle.dav_fetch.specs.Steps.{PageFails};
 ghost use Rattle.dav_fetch.specs.Walk.{IsFoundIn, IsPageOf, Visit};
@@ -41,10 +43,13 @@ pub(crate) fn ask_page<P: Peer>(
     dir: &DavPath,
 ) -> Result<Vec<Found>, MirrorError>
     requires dir { dir.now ≡ dir_path dir.now.names }
+    requires is { IsPath dir.now }
     requires link { link_is_short dir.now }
     ensures ok { IfOk result (λ found. (visit : Visit) × Visited (P.state peer.old) visit (P.state peer.new)
         × IsPageOf dir.now.names visit found.items × IsOver (P.state peer.new)) }
     ensures err { IfErr result (λ e. PageFails dir.now.names (P.state peer.old) e (P.state peer.new)) }
+    ensures replies { (P.calls peer.new).replies ≤ (P.calls peer.old).replies + 1 }
+    ensures failures { CountsFailure (is_peer_failure result) (P.calls peer.old) (P.calls peer.new) }
     ensures loan { P.loan peer.new ≡ P.loan peer.old }
 {
     let Ok(path) = dir.try_clone() else {

@@ -1,7 +1,7 @@
 ghost use Rattle.std.specs.Prelude.{◌≡◌, ◌<◌, ◌≤◌, Option, None, length};
 ghost use Rattle.std.specs.Borrow.{GName};
 ghost use Rattle.dav_core.specs.DavPath.{link_of, shown};
-ghost use Rattle.dav_fetch.specs.Peer.{PeerState, Gets, Gives, links_most};
+ghost use Rattle.dav_fetch.specs.Peer.{Calls, CountsGet, CountsPiece, PeerState, Gets, Gives, links_most};
 
 use dav_core::DavPath;
 use dav_io::Fields;
@@ -27,6 +27,9 @@ pub trait Peer {
     /// faults.
     ghost state: { Self → PeerState };
 
+    /// How many replies and how many failures it counts.
+    ghost calls: { Self → Calls };
+
     /// The loan that the peer stands on: none, or that of what it asks in place of a server. A call leaves it.
     ghost loan: { Self → Option GName } = { λ _. None };
 
@@ -34,11 +37,13 @@ pub trait Peer {
     fn get(&mut self, path: &DavPath, fields: &Fields) -> Result<Got, PeerFault>
         requires { length (link_of (shown path.now)) ≤ links_most }
         ensures gets { Gets (state self.old) path.now fields.now result (state self.new) }
+        ensures calls { CountsGet (calls self.old) result (calls self.new) }
         ensures loan { loan self.new ≡ loan self.old };
 
     /// The next bytes of the last reply's body, put at the front of `into`. 0 is its end.
     fn piece(&mut self, into: &mut [u8]) -> Result<usize, PeerFault>
         requires { 0 < length into.old }
         ensures gives { Gives (state self.old) into.new result (state self.new) }
+        ensures calls { CountsPiece (calls self.old) result (calls self.new) }
         ensures loan { loan self.new ≡ loan self.old };
 }

@@ -1,5 +1,6 @@
-ghost use Rattle.std.specs.Prelude.{◌≡◌, ◌++◌, ℕ, List, min, take};
-ghost use Rattle.dav_fetch.specs.Reading.{ReadsTo};
+ghost use Rattle.std.specs.Prelude.{◌≡◌, ◌≤◌, ◌++◌, ℕ, List, min, take};
+ghost use Rattle.dav_fetch.specs.Peer.{CountsFailure};
+ghost use Rattle.dav_fetch.specs.Reading.{ReadsTo, is_failed_end};
 
 use crate::peer::{Peer, PeerFault};
 
@@ -29,6 +30,8 @@ fn least(count: usize, left: u64) -> usize
 pub(crate) fn read_up_to<P: Peer>(peer: &mut P, due: u64, into: &mut Vec<u8>) -> Ended
     ensures reads { (came : List ℕ) × ReadsTo (P.state peer.old) due came result (P.state peer.new)
         × (into.new.items ≡ into.old.items ++ take due came) }
+    ensures replies { (P.calls peer.new).replies ≤ (P.calls peer.old).replies }
+    ensures failures { CountsFailure (is_failed_end result) (P.calls peer.old) (P.calls peer.new) }
     ensures loan { P.loan peer.new ≡ P.loan peer.old }
 {
     let mut buffer = [0u8; 4096];

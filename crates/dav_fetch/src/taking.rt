@@ -1,8 +1,11 @@
 // The visit of one file.
-ghost use Rattle.std.specs.Prelude.{◌≡◌, ◌<◌, ◌≤◌, ◌⊎◌, Err, length};
+ghost use Rattle.std.specs.Prelude.{◌≡◌, ◌+◌, ◌<◌, ◌≤◌, ◌⊎◌, Err, length};
 ghost use Rattle.std.specs.Option.{ForSome};
+ghost use Rattle.dav_core.specs.DavPath.{IsPath};
 ghost use Rattle.dav_fetch.specs.Asking.{file_path};
-ghost use Rattle.dav_fetch.specs.Fetching.{link_is_short};
+ghost use Rattle.dav_fetch.specs.Copy.{IsKept};
+ghost use Rattle.dav_fetch.specs.Fetching.{is_peer_failure, link_is_short};
+ghost use Rattle.dav_fetch.specs.Peer.{CountsFailure};
 ghost use Rattle.dav_fetch.specs.Taking.{AsksFile, ReadsFile, TakesFile};
 
 use crate::asking::fields_for;
@@ -50,6 +53,8 @@ fn short(path: &DavPath, got: usize, announced: u64) -> MirrorError
 // Reads the bytes that are due of a file, behind those that are kept.
 fn read_file<P: Peer>(peer: &mut P, path: &DavPath, file: Kept, due: u64) -> Taken
     ensures reads { ReadsFile path.now file due (P.state peer.old) result (P.state peer.new) }
+    ensures replies { (P.calls peer.new).replies ≤ (P.calls peer.old).replies }
+    ensures failures { CountsFailure (is_peer_failure result.ended) (P.calls peer.old) (P.calls peer.new) }
     ensures loan { P.loan peer.new ≡ P.loan peer.old }
 {
     let Kept {
@@ -98,9 +103,12 @@ fn spoiled(path: &DavPath) -> MirrorError
 // The file is asked for, and what its answer gives is kept.
 fn ask_file<P: Peer>(alloc: Global, peer: &mut P, path: &DavPath, kept: Option<Kept>) -> Taken
     requires path { path.now ≡ file_path path.now.names }
+    requires is { IsPath path.now }
     requires link { link_is_short path.now }
-    requires kept { ForSome kept (λ f. length f.bytes ≤ f.len) }
+    requires kept { ForSome kept IsKept }
     ensures asks { AsksFile path.now.names kept (P.state peer.old) result (P.state peer.new) }
+    ensures replies { (P.calls peer.new).replies ≤ (P.calls peer.old).replies + 1 }
+    ensures failures { CountsFailure (is_peer_failure result.ended) (P.calls peer.old) (P.calls peer.new) }
     ensures loan { P.loan peer.new ≡ P.loan peer.old }
 {
     let Ok(fields) = fields_for(alloc, &kept) else {
@@ -134,8 +142,11 @@ pub(crate) fn take_file<P: Peer>(
 ) -> Taken
     requires names { 0 < length names.now }
     requires made { made ≤ most }
-    requires kept { ForSome kept (λ f. length f.bytes ≤ f.len) }
+    requires kept { ForSome kept IsKept }
     ensures takes { TakesFile names.now kept made most (P.state peer.old) result (P.state peer.new) }
+    ensures replies { (P.calls peer.new).replies ≤ (P.calls peer.old).replies + 1 }
+    ensures few { (P.calls peer.new).replies + made ≤ (P.calls peer.old).replies + most }
+    ensures failures { CountsFailure (is_peer_failure result.ended) (P.calls peer.old) (P.calls peer.new) }
     ensures loan { P.loan peer.new ≡ P.loan peer.old }
 {
     let Ok(path) = file_of(alloc, names) else {

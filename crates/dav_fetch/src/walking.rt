@@ -1,7 +1,8 @@
 ghost use Rattle.std.specs.Prelude.{true, ◌≡◌, ◌<◌, ◌≤◌, ◌+◌, ◌++◌, [], ◌∷◌, ℕ, List, IfOk, IfErr, OnOk, length, slice_index_or};
 ghost use Rattle.std.specs.List.{list_all};
 ghost use Rattle.dav_core.specs.Path.{is_plain};
-ghost use Rattle.dav_fetch.specs.Fetching.{AtPage, Visited, WholeVisits};
+ghost use Rattle.dav_fetch.specs.Fetching.{AtPage, Visited, WholeVisits, is_peer_failure};
+ghost use Rattle.dav_fetch.specs.Peer.{CountsFailure};
 ghost use Rattle.dav_fetch.specs.Reading.{IsOver};
 ghost use Rattle.dav_fetch.specs.Steps.{WalksTo};
 ghost use Rattle.dav_fetch.specs.Walk.{IsPageOf, Pages, Visit, dirs_on, each_once, files_on, is_among as the_is_among, way_of, with_new};
@@ -106,6 +107,9 @@ fn ask_due<P: Peer>(
     ensures few { OnOk result (made < most) }
     ensures err { IfErr result (λ e. (last : List Visit)
         × AtPage dir.now made most e (P.state peer.old) last (P.state peer.new)) }
+    ensures replies { (P.calls peer.new).replies ≤ (P.calls peer.old).replies + 1 }
+    ensures within { (P.calls peer.new).replies + made ≤ (P.calls peer.old).replies + most }
+    ensures failures { CountsFailure (is_peer_failure result) (P.calls peer.old) (P.calls peer.new) }
     ensures loan { P.loan peer.new ≡ P.loan peer.old }
 {
     let Ok(path) = dir_of(alloc, dir) else {
@@ -136,6 +140,9 @@ fn go_on<P: Peer>(
     ensures ends { IfErr result (λ e. (last : List Visit)
         × AtPage (slice_index_or walked.old.dirs.items at []) walked.old.made most e (P.state peer.old) last
         (P.state peer.new)) }
+    ensures replies { (P.calls peer.new).replies ≤ (P.calls peer.old).replies + 1 }
+    ensures within { (P.calls peer.new).replies + walked.old.made ≤ (P.calls peer.old).replies + most }
+    ensures failures { CountsFailure (is_peer_failure result) (P.calls peer.old) (P.calls peer.new) }
     ensures loan { P.loan peer.new ≡ P.loan peer.old }
 {
     let found = match ask_due(alloc, peer, &walked.dirs[at], walked.made, most) {
@@ -153,6 +160,9 @@ fn go_on<P: Peer>(
 // Asks for the page of each directory that is found, in the order of finding, from the root on.
 pub(crate) fn walk<P: Peer>(alloc: Global, peer: &mut P, most: u64) -> Result<Walked, MirrorError>
     ensures walks { WalksTo (P.state peer.old) most result (P.state peer.new) }
+    ensures replies { IfOk result (λ walked. (P.calls peer.new).replies ≤ (P.calls peer.old).replies + walked.made) }
+    ensures within { (P.calls peer.new).replies ≤ (P.calls peer.old).replies + most }
+    ensures failures { CountsFailure (is_peer_failure result) (P.calls peer.old) (P.calls peer.new) }
     ensures loan { P.loan peer.new ≡ P.loan peer.old }
 {
     let mut walked = Walked {

@@ -1,22 +1,21 @@
 -- Where a fetch ends because its peer failed, the peer's count rose in it.
 use Rattle.std.specs.Prelude.{IsErr}
-use Rattle.std.proofs.Common.{◌≡◌, Bool, true, false, ◌⊎◌, inl, inr, ◌≤◌, ◌<◌, ◌+◌, ℕ, List, [], ◌∷◌, Option, None, Some, Result, Ok, Err, IfOk, refl, sym, ap, subst, ◌∙◌, arith, length}
-use Rattle.dav_io.specs.Counts.{Rose, greatest}
+use Rattle.std.proofs.Common.{◌≡◌, ◌==◌, ◌^◌, min, cond, Bool, true, false, inl, inr, ◌≤◌, ◌+◌, ℕ, List, [], ◌∷◌, Result, Err, refl, sym, ap, subst, arith, length, eqb-true}
+use Rattle.dav_io.specs.Counts.{Rose}
 use Rattle.dav_io.specs.Outside.{Stream}
 use Rattle.dav_io.specs.declared.failure.NoMemory.{NoMemory}
 use Rattle.dav_core.specs.Disk.{DiskState}
-use Rattle.dav_core.specs.DavPath.{WebPath}
 use Rattle.dav_core.specs.Path.{Names}
 use Rattle.dav_fetch.specs.declared.copied.Copied.{Copied}
 use Rattle.dav_fetch.specs.declared.copied.Kept.{Kept}
 use Rattle.dav_fetch.specs.declared.error.MirrorError.{MirrorError}
 use Rattle.dav_fetch.specs.declared.error.MirrorError.TheVariants.{Peer as PeerFailed, Refused, NotAPage, BadReply, Short, TooLong, Budget, NoMemory as LacksMemory}
-use Rattle.dav_fetch.specs.Asking.{dir_path, file_path}
 use Rattle.dav_fetch.specs.Fetching.{AtFile, AtPage, Fetched, FileEnds, Goes, Visited, Visits, WholeVisits}
 use Rattle.dav_fetch.specs.Judging.{Use, gives, keeps, refuses, spoils}
-use Rattle.dav_fetch.specs.Peer.{PeerState, Seen}
+use Rattle.dav_fetch.specs.Peer.{PeerState}
 use Rattle.dav_fetch.specs.Walk.{Visit, Way}
 use Rattle.dav_mirror.specs.Mirrors.{EndsBy, Mirrors, status_of}
+use Rattle.dav_mirror.specs.Seen.{replies_in}
 
 rose_from : (a b c : ℕ) → a ≤ b → Rose b c → Rose a c
 rose_from a b c less (inl more) = inl (omega (arith, less, more))
@@ -62,27 +61,32 @@ pub fetched_rose : (s t : PeerState) (old new : Copied) (most : ℕ) → Fetched
 fetched_rose s t old new most f =
     rose_from s.faults f.mid.faults t.faults (whole_count s f.mid f.pages f.chain) (goes_rose f.way.due f.way (length f.pages) most old f.mid t f.rest new f.goes)
 
--- the same of the disk, where the peer's own count stands at 0
-pub disk_rose : (first last : PeerState) (before after own : ℕ) → first.faults ≡ before → last.faults ≡ after + own → own ≡ 0 → Rose first.faults last.faults → Rose before after
-disk_rose first last before after own a b c (inl more) = inl (omega (arith, a, b, c, more))
-disk_rose first last before after own a b c (inr most) = inr (omega (arith, b, c, most))
+-- the same of the disk, whose count the peer has
+pub disk_rose : (first last : PeerState) (before after : ℕ) → first.faults ≡ before → last.faults ≡ after → Rose first.faults last.faults → Rose before after
+disk_rose first last before after a b rose = subst (λ n. Rose n after) a (subst (λ n. Rose first.faults n) b rose)
 
 -- how a mirror ends behind an error
-pub ends_by_error : (e : MirrorError) (spent : Bool) (copy : Copied) (before after : ℕ) (old new : Stream) (result : Result ℕ NoMemory) → new ≡ old → result ≡ status_of e spent
-    → (e ≡ PeerFailed → spent ≡ false → Rose before after) → EndsBy (Err e) copy before after old result new
-ends_by_error PeerFailed true copy before after old new result same is rose = (same, subst (λ r. IfOk r (λ status. (status ≡ 5) × Rose before after)) (sym is) tt)
-ends_by_error PeerFailed false copy before after old new result same is rose = (same, subst (λ r. IfOk r (λ status. (status ≡ 5) × Rose before after)) (sym is) (refl, rose refl refl))
-ends_by_error LacksMemory spent copy before after old new result same is rose = (same, subst (λ r. IsErr r) (sym is) refl)
-ends_by_error (Refused p status) spent copy before after old new result same is rose = (same, is)
-ends_by_error (NotAPage p) spent copy before after old new result same is rose = (same, is)
-ends_by_error (BadReply p) spent copy before after old new result same is rose = (same, is)
-ends_by_error (Short p got announced) spent copy before after old new result same is rose = (same, is)
-ends_by_error (TooLong p) spent copy before after old new result same is rose = (same, is)
-ends_by_error (Budget made) spent copy before after old new result same is rose = (same, is)
+pub ends_by_error : (e : MirrorError) (copy : Copied) (before after : ℕ) (old new : Stream) (result : Result ℕ NoMemory) → new ≡ old → result ≡ status_of e
+    → (e ≡ PeerFailed → Rose before after) → EndsBy (Err e) copy before after old result new
+ends_by_error PeerFailed copy before after old new result same is rose = (same, is, rose refl)
+ends_by_error LacksMemory copy before after old new result same is rose = (same, subst (λ r. IsErr r) (sym is) refl)
+ends_by_error (Refused p status) copy before after old new result same is rose = (same, is)
+ends_by_error (NotAPage p) copy before after old new result same is rose = (same, is)
+ends_by_error (BadReply p) copy before after old new result same is rose = (same, is)
+ends_by_error (Short p got announced) copy before after old new result same is rose = (same, is)
+ends_by_error (TooLong p) copy before after old new result same is rose = (same, is)
+ends_by_error (Budget made) copy before after old new result same is rose = (same, is)
 
--- A peer's own count that isn't over 0 is 0.
-pub no_more : (own : ℕ) (spent : Bool) → (spent ≡ false → own ≤ 0) → spent ≡ false → own ≡ 0
-no_more own spent h e = omega (arith, h e)
+-- So few requests never ask the player for all its replies.
+pub none_refused : (given refused : ℕ) → replies_in given refused ≤ 1000000 → refused ≡ 0
+none_refused given refused few = by (refused == 0) refl few
+  where
+    by : (b : Bool) → (refused == 0) ≡ b → cond b (min given (2 ^ 31)) (2 ^ 31) ≤ 1000000 → refused ≡ 0
+    by true e few = eqb-true refused 0 e
+    by false e few = absurd (omega (arith, few))
+
+pub same_faults : (faults refused : ℕ) → refused ≡ 0 → faults + refused ≡ faults
+same_faults faults refused none = omega (arith, none)
 
 -- the same of a disk in that state
 pub mirrored : (before after disk : DiskState) (old : Stream) (result : Result ℕ NoMemory) (new : Stream) → after ≡ disk → Mirrors before disk old result new → Mirrors before after old result new

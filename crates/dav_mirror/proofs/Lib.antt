@@ -2,3 +2,8 @@ pub mod Failing
 pub mod Fields
 pub mod Paths
 pub mod Telling
+pub mod Targets
+pub mod Askable
+pub mod Standing
+pub mod Listing
+pub mod Hearing

@@ -1,5 +1,9 @@
 -- Paths that are one.
-use Rattle.std.proofs.Common.{◌≡◌, ◌∙◌, Bool, true, false, cond, not, IfSome, Option, None, Some, List, ℕ, refl, sym, ap, ap₂, true≢false}
+use Rattle.std.proofs.Common.{◌≡◌, ◌↔◌, ◌∙◌, Bool, true, false, cond, not, IfSome, Option, None, Some, Result, Ok, Err, refl, sym, ap, ap₂, nat_eq, true≢false}
+use Rattle.std.specs.Cmp.{unsigned_Decides}
+use Rattle.std.specs.Cmp.Lexicographic.{pointwise}
+use Rattle.std.proofs.lemmas.Slice.Eq.{slice_eq-Decides}
+use Rattle.dav_core.specs.declared.parse_error.ParseError.{ParseError}
 use Rattle.dav_core.specs.DavPath.{WebPath}
 use Rattle.dav_core.specs.Path.{Names, same_names}
 use Rattle.dav_core.proofs.Plain.{names_same}
@@ -24,3 +28,31 @@ same_paths a b p q m n x y z pa qb px xt ma nb my yt zs zt =
 pub if_some : {A : Type 0} (P : A → Type 0) (o : Option A) (x : A) → o ≡ Some x → IfSome o P → P x
 if_some P None x e p = cc
 if_some P (Some y) x e p = let same : y ≡ x = cc in rw (← same) p
+
+same_self : (names : Names) → same_names names names ≡ true
+same_self names = (slice_eq-Decides (λ c d. slice_eq-Decides unsigned_Decides c d (pointwise nat_eq c d) refl) names names (same_names names names) refl).1 refl
+
+-- names that are told apart aren't the same
+pub never_same : (p q m n : Names) (x : Bool) → m ≡ p → n ≡ q → x ≡ same_names m n → x ≡ false → p ≡ q → ⊥
+never_same p q m n x a b is apart e =
+    true≢false (sym (same_self q) ∙ sym (ap₂ same_names (a ∙ e) b) ∙ sym is ∙ apart)
+
+pub end_same : (a b : WebPath) (z : Bool) → z ≡ cond a.slash b.slash (not b.slash) → a ≡ b → z ≡ true
+end_same a b z is e = is ∙ ap (λ (x : WebPath). cond x.slash b.slash (not b.slash)) e ∙ by b.slash
+  where
+    by : (s : Bool) → cond s s (not s) ≡ true
+    by true = refl
+    by false = refl
+
+-- whether the path that was read is this one
+pub back_same : (p : Result WebPath ParseError) (back path : WebPath) (b : Bool) → p ≡ Ok back → (b ≡ true ↔ back ≡ path) → (b ≡ true ↔ p ≡ Ok path)
+back_same p back path b is same = (
+  λ e. is ∙ ap (λ z. Ok z) (same.0 e),
+  λ e. same.1 (let both : (◌≡◌ {A = Result WebPath ParseError} (Ok back) (Ok path)) = sym is ∙ e in cc),
+)
+
+pub back_none : (p : Result WebPath ParseError) (fault : ParseError) (path : WebPath) → p ≡ Err fault → (false ≡ true ↔ p ≡ Ok path)
+back_none p fault path is = (
+  λ e. absurd (true≢false (sym e)),
+  λ e. let both : (◌≡◌ {A = Result WebPath ParseError} (Err fault) (Ok path)) = sym is ∙ e in cc,
+)

@@ -1,5 +1,5 @@
 -- What a player tells as a peer, before and after its steps.
-use Rattle.std.proofs.Common.{◌≡◌, ◌≢◌, ◌⊎◌, inl, inr, ◌≤◌, ◌<◌, ◌+◌, ◌-◌, ◌==◌, ◌&&◌, ◌||◌, ◌++◌, ℕ, List, [], ◌∷◌, length, take, drop, min, replicate, Bool, true, false, cond, not, is_some, Option, None, Some, Result, Ok, Err, refl, sym, ap, ap₂, subst, ◌∙◌, arith, append_assoc, eqb-true, true≢false, codes}
+use Rattle.std.proofs.Common.{◌≡◌, ◌≢◌, inl, inr, ◌≤◌, ◌<◌, ◌+◌, ◌==◌, ◌&&◌, ◌||◌, ◌++◌, ℕ, List, [], ◌∷◌, length, take, drop, min, replicate, Bool, true, false, cond, not, is_some, Option, None, Some, Result, Ok, Err, refl, sym, ap, ap₂, subst, ◌∙◌, arith, append_assoc, eqb-true, true≢false}
 use Rattle.std.proofs.lemmas.Bool.{and_parts, or_parts}
 use Rattle.std.specs.List.{AllByRecursion, filter, list_all, list_any}
 use Rattle.http.specs.Request.{head_of, body_of}
@@ -19,24 +19,23 @@ use Rattle.dav_core.specs.DavPath.{WebPath}
 use Rattle.dav_core.specs.Listing.{stands_in}
 use Rattle.dav_core.specs.Path.{Names, is_front}
 use Rattle.dav_core.specs.Tree.{is_link, is_linked}
-use Rattle.dav_core.specs.World.{World, SameBesidesOpens, Holds, bytes_of, bytes_or_none, number_of, put}
+use Rattle.dav_core.specs.World.{World, SameBesidesOpens, bytes_or_none}
 use Rattle.dav_core.proofs.UnchangedLemmas.{other_keys, put_same, same_besides}
 use Rattle.dav_model.specs.declared.answer.Answer.{Answer}
 use Rattle.dav_model.specs.declared.answer.Answer.TheVariants.{Reply as Replied, Piece, End, Broken, Done}
 use Rattle.dav_model.specs.declared.settings.Settings.{Settings}
 use Rattle.dav_model.specs.declared.step.Step.{Step}
 use Rattle.dav_model.specs.declared.step.Step.TheVariants.{Abandon, Poll, Request, Turn}
-use Rattle.dav_model.specs.declared.target.Target.{Target}
 use Rattle.dav_model.specs.declared.target.Target.TheVariants.{At}
-use Rattle.dav_model.specs.Bodies.{Gives as GivesPart, HasBytes, NoneEmpty, Part, Polls, moved, read_size_of, slice, text}
+use Rattle.dav_model.specs.Bodies.{Gives as GivesPart, NoneEmpty, Part, Polls, read_size_of, slice, text}
 use Rattle.dav_model.specs.Conditions.{Asked, Fields, fields_of}
 use Rattle.dav_model.specs.Due.{Due, IsRight, IsHead, IsSpoiled, Query, dir_course, due, due_course, due_kind, due_looked, file as sends, known, page, query, refused, to_slash}
-use Rattle.dav_model.specs.Finding.{is_clear, resolved, shown_in}
+use Rattle.dav_model.specs.Finding.{is_clear, shown_in}
 use Rattle.dav_core.specs.Methods.{method_of}
-use Rattle.dav_model.specs.Gates.{admitted, bulk_of, has_field, is_partial, or_refused, unless, weighed, with_method, with_path}
+use Rattle.dav_model.specs.Gates.{admitted, bulk_of, is_partial, or_refused, unless, weighed, with_method, with_path}
 use Rattle.dav_model.specs.Head.{Reply, Stood}
 use Rattle.dav_model.specs.Shown.{Shown}
-use Rattle.dav_model.specs.Play.{Answered, AreFull, EachByTree, Gets, HasOpen, IsOfTree, MeetsNoLink, Plays, Playing, Polled, Refuses, RepliesByTree, Stage, Stands, StaysOpen, Stepped}
+use Rattle.dav_model.specs.Play.{Answered, AreFull, Gets, HasOpen, IsOfTree, MeetsNoLink, Plays, Playing, Polled, Refuses, RepliesByTree, Stage, StaysOpen, Stepped}
 use Rattle.dav_model.specs.Rules.{Rules, plain_rules}
 use Rattle.dav_model.specs.Trail.{Leaves, Move, Point, target_of}
 use Rattle.dav_model.specs.Valid.{Valid}
@@ -45,10 +44,10 @@ use Rattle.dav_model.proofs.Denied.{each_by_tree}
 use Rattle.dav_fetch.specs.declared.peer.Got.{Got}
 use Rattle.dav_fetch.specs.declared.peer.PeerFault.{PeerFault}
 use Rattle.dav_fetch.specs.declared.peer.PeerFault.TheVariants.{Failed as PeerFailed, NoMemory as LacksMemory}
-use Rattle.dav_fetch.specs.Peer.{Came, Carries, Gets as GetsPeer, Gives as GivesPeer, PeerState, RepliesIn, RepliesOf, Seen, body_in, part_bytes, peer_rules, peer_settings}
+use Rattle.dav_fetch.specs.Peer.{Came, Gets as GetsPeer, Gives as GivesPeer, IsAskable, IsGot, PeerState, RepliesIn, Seen, StaysStill, body_in, part_bytes, peer_rules, peer_settings}
 use Rattle.dav_fetch.proofs.PollBytes.{poll_bytes}
 use Rattle.dav_mirror.specs.Asking.{IsAskedFor, IsGet, IsHeard}
-use Rattle.dav_mirror.specs.Seen.{are_peer_rules, has_links, is_none, is_on, is_peer_set, peer_in, seen_in, seen_of}
+use Rattle.dav_mirror.specs.Seen.{are_peer_rules, has_links, is_none, is_on, is_peer_set, left_at, peer_in, seen_in, seen_of}
 
 -- ---- rules of a peer
 
@@ -200,10 +199,10 @@ target_is n path asked request get heard =
     ∙ ap (λ r. weighed (fields_of request) (bulk_of []) (with_path Get r)) heard.back
     ∙ ap (λ x. or_refused None (unless (not (x || is_partial (fields_of request) Get)) 501 true) (At Get path)) heard.plain
 
-target_by : (r : Rules) (path : WebPath) (asked : List Field) (request : Asked) → are_peer_rules r ≡ true → IsGet asked request → IsHeard path request → target_of r request ≡ At Get path
+pub target_by : (r : Rules) (path : WebPath) (asked : List Field) (request : Asked) → are_peer_rules r ≡ true → IsGet asked request → IsHeard path request → target_of r request ≡ At Get path
 target_by r path asked request e get heard = ap (λ z. target_of z request) (rules_are r e) ∙ target_is r.settings.read_buf_size path asked request get heard
 
-leaves_by : (p q : Playing) (s t : Point) (request : Asked) (answer : Answer) (path : WebPath) → target_of p.rules request ≡ At Get path → Answered p s t request answer q → Leaves s t
+pub leaves_by : (p q : Playing) (s t : Point) (request : Asked) (answer : Answer) (path : WebPath) → target_of p.rules request ≡ At Get path → Answered p s t request answer q → Leaves s t
 leaves_by p q s t request answer path target x = subst (λ z. Makes z p.rules p.knows (fields_of request) (body_of request) (Ok x.reply) s t) target x.makes
 
 right_by : (p q : Playing) (s t : Point) (request : Asked) (now : Moment) (answer : Answer) (path : WebPath) (v w : World) → are_peer_rules p.rules ≡ true → target_of p.rules request ≡ At Get path
@@ -263,7 +262,7 @@ untold x kept parts = refl
 seen_linked : (kept : List ℕ) (parts : List Part) (w : World) → has_links w.tree ≡ true → seen_in true kept parts (Some w) ≡ None
 seen_linked kept parts w e = ap (λ x. cond (not x) (Some (record { world = w; left = kept ++ body_in w parts })) None) e
 
-seen_some : (kept : List ℕ) (parts : List Part) (w : World) → has_links w.tree ≡ false → seen_in true kept parts (Some w) ≡ Some (record { world = w; left = kept ++ body_in w parts })
+pub seen_some : (kept : List ℕ) (parts : List Part) (w : World) → has_links w.tree ≡ false → seen_in true kept parts (Some w) ≡ Some (record { world = w; left = kept ++ body_in w parts })
 seen_some kept parts w e = ap (λ x. cond (not x) (Some (record { world = w; left = kept ++ body_in w parts })) None) e
 
 -- what holds of what is told before and after, where the world stays
@@ -442,12 +441,11 @@ module _ (heard : Bool) (body : ℕ) (p q : Playing) (s t : Point) where
 
 -- What is kept of a piece is given, and the world stays.
 pub gave_kept : (heard : Bool) (body : Option ℕ) (kept came more : List ℕ) (a : Stage) → kept ≡ came ++ more → Both (seen_of heard kept body a) (seen_of heard more body a) (Came came)
-gave_kept heard None kept came more a cut = tt
-gave_kept heard (Some body) kept came more a cut =
-    both_seen (heard && are_peer_rules a.playing.rules) kept more (a.playing.left body) (a.playing.left body) a.at.told a.at.told (Came came) (both_same a.at.told a.at.told SameBesidesOpens same_besides refl)
+gave_kept heard body kept came more a cut =
+    both_seen (heard && are_peer_rules a.playing.rules) kept more (left_at body a.playing) (left_at body a.playing) a.at.told a.at.told (Came came) (both_same a.at.told a.at.told SameBesidesOpens same_besides refl)
     (λ v w old new same.
     let one : v ≡ w = some_same v w (sym old ∙ new) in
-    (same, ap (λ k. k ++ body_in v (a.playing.left body)) cut ∙ append_assoc came more (body_in v (a.playing.left body)) ∙ ap (λ u. came ++ (more ++ body_in u (a.playing.left body))) one))
+    (same, ap (λ k. k ++ body_in v (left_at body a.playing)) cut ∙ append_assoc came more (body_in v (left_at body a.playing)) ∙ ap (λ u. came ++ (more ++ body_in u (left_at body a.playing))) one))
   where
     some_same : (v w : World) → Some v ≡ Some w → v ≡ w
     some_same v w e = cc
@@ -457,13 +455,14 @@ gave_kept heard (Some body) kept came more a cut =
 -- a reply was given to a request that a player was asked behind other steps
 pub gets_reply : (s : PeerState) (m b : Stage) (request : Asked) (now : Moment) (answer : Answer) (path : WebPath) (asked : List Field) (heard : Bool) (own : ℕ) (kept : List ℕ)
     (status : ℕ) (headers : List Field) (number : ℕ) → kept ≡ [] → IsAskedFor path asked request heard → s.faults ≤ m.at.faults + own → answer ≡ Replied status headers number
-    → Stepped m (Request request now) (Ok answer) b → GetsPeer s path asked (Ok (record { status = status; headers = headers })) (peer_in heard kept (Some number) own b)
-gets_reply s m b request now answer path asked heard own kept status headers number none is less said (x, holds) =
-    subst (λ k. GetsPeer s path asked (Ok (record { status = status; headers = headers })) (peer_in heard k (Some number) own b)) (sym none)
-    (record {
-      counts = omega (arith, less, x.goes.faults);
-      is = replied m.playing b.playing m.at b.at request now answer path asked heard s.faults own status headers number is less said x holds;
-    })
+    → Stepped m (Request request now) (Ok answer) b → (IsAskable path asked → StaysStill s (peer_in heard kept (Some number) own b))
+    → GetsPeer s path asked (Ok (record { status = status; headers = headers })) (peer_in heard kept (Some number) own b)
+gets_reply s m b request now answer path asked heard own kept status headers number none is less said (x, holds) stays = record {
+  counts = omega (arith, less, x.goes.faults);
+  is = subst (λ k. IsGot path asked s (Ok (record { status = status; headers = headers })) (peer_in heard k (Some number) own b)) (sym none)
+      (replied m.playing b.playing m.at b.at request now answer path asked heard s.faults own status headers number is less said x holds);
+  stays = stays;
+}
 
 not_zero : (n a b : ℕ) → n ≡ min a b → 0 < a → 0 < b → n ≡ 0 → ⊥
 not_zero n a b e f g h = omega (arith, e, f, g, h)
@@ -484,8 +483,15 @@ gives_kept heard body own a kept into more n cut count some room = record {
 }
 
 -- nothing is left where there was no reply
-pub gives_none : (heard : Bool) (own : ℕ) (a : Stage) (kept into : List ℕ) → GivesPeer (peer_in heard kept None own a) into (Ok 0) (peer_in heard kept None own a)
-gives_none heard own a kept into = record { counts = omega arith; is = (omega arith, tt) }
+pub gives_none : (heard : Bool) (own : ℕ) (a : Stage) (kept into : List ℕ) → kept ≡ [] → GivesPeer (peer_in heard kept None own a) into (Ok 0) (peer_in heard kept None own a)
+gives_none heard own a kept into none = subst (λ k. GivesPeer (peer_in heard k None own a) into (Ok 0) (peer_in heard k None own a)) (sym none) (record {
+  counts = omega arith;
+  is = (
+    omega arith,
+    both_seen (heard && are_peer_rules a.playing.rules) [] [] [] [] a.at.told a.at.told (λ v w. Came (take 0 into) v w × (◌≡◌ {A = ℕ} 0 0 → v.left ≡ []))
+        (both_same a.at.told a.at.told SameBesidesOpens same_besides refl) (λ v w old new same. ((same, refl), λ zero. refl)),
+  );
+})
 
 module _ (heard : Bool) (body own : ℕ) (a b : Stage) (kept into : List ℕ) (none : kept ≡ []) where
   from_none : (result : Result ℕ PeerFault) (t : PeerState) → GivesPeer (peer_in heard [] (Some body) own a) into result t → GivesPeer (peer_in heard kept (Some body) own a) into result t
@@ -584,7 +590,7 @@ is_replied a b request now answer (x, holds) none = none _ _ _ x.is
 -- A call that was refused for the count of replies raised a count of its own.
 pub gets_refused : (heard : Bool) (kept : List ℕ) (body : Option ℕ) (own more : ℕ) (a : Stage) (path : WebPath) (asked : List Field) → own ≤ more → Rose own more
     → GetsPeer (peer_in heard kept body own a) path asked (Err PeerFailed) (peer_in heard kept body more a)
-gets_refused heard kept body own more a path asked less rose = record { counts = omega (arith, less); is = by rose }
+gets_refused heard kept body own more a path asked less rose = record { counts = omega (arith, less); is = by rose; stays = λ askable. tt }
   where
     by : Rose own more → Rose (a.at.faults + own) (a.at.faults + more)
     by (inl lt) = inl (omega (arith, lt))
@@ -600,26 +606,25 @@ one_rose own less = by (own == greatest) refl
 
 -- Memory was refused, or what was asked no request can say: nothing is told of a reply.
 pub gets_lacking : (s t : PeerState) (path : WebPath) (asked : List Field) → s.faults ≤ t.faults → GetsPeer s path asked (Err LacksMemory) t
-gets_lacking s t path asked less = record { counts = less; is = tt }
+gets_lacking s t path asked less = record { counts = less; is = tt; stays = λ askable. tt }
 
-pub gets_unheard : (s : PeerState) (heard : Bool) (kept : List ℕ) (own : ℕ) (a : Stage) (path : WebPath) (asked : List Field) (got : Got) → s.faults ≤ a.at.faults + own
-    → GetsPeer s path asked (Ok got) (peer_in heard kept None own a)
-gets_unheard s heard kept own a path asked got less = record { counts = less; is = (None, refl) }
+pub gets_unheard : (s : PeerState) (kept : List ℕ) (own : ℕ) (a : Stage) (path : WebPath) (asked : List Field) (got : Got) → s.faults ≤ a.at.faults + own → (IsAskable path asked → ⊥)
+    → GetsPeer s path asked (Ok got) (peer_in false kept None own a)
+gets_unheard s kept own a path asked got less never = record { counts = less; is = (None, seen_none kept [] a.at.told); stays = λ askable. absurd (never askable) }
 
 -- What is told is the disk's world.
 pub told_world : (heard : Bool) (kept : List ℕ) (body : Option ℕ) (a : Stage) (v : Seen) → seen_of heard kept body a ≡ Some v → a.at.told ≡ Some v.world
-told_world heard kept None a v e = cc
-told_world heard kept (Some body) a v e = by (heard && are_peer_rules a.playing.rules) a.at.told refl e
+told_world heard kept body a v e = by (heard && are_peer_rules a.playing.rules) a.at.told refl e
   where
     some_world : (u w : Seen) → Some u ≡ Some w → Some u.world ≡ Some w.world
     some_world u w e = cc
 
-    by : (x : Bool) (told : Option World) → a.at.told ≡ told → seen_in x kept (a.playing.left body) told ≡ Some v → a.at.told ≡ Some v.world
+    by : (x : Bool) (told : Option World) → a.at.told ≡ told → seen_in x kept (left_at body a.playing) told ≡ Some v → a.at.told ≡ Some v.world
     by x None is e = cc
     by x (Some w) is e = by_test (x && not (has_links w.tree)) e
       where
-        by_test : (b : Bool) → cond b (Some (record { world = w; left = kept ++ body_in w (a.playing.left body) })) None ≡ Some v → a.at.told ≡ Some v.world
-        by_test true e = is ∙ some_world (record { world = w; left = kept ++ body_in w (a.playing.left body) }) v e
+        by_test : (b : Bool) → cond b (Some (record { world = w; left = kept ++ body_in w (left_at body a.playing) })) None ≡ Some v → a.at.told ≡ Some v.world
+        by_test true e = is ∙ some_world (record { world = w; left = kept ++ body_in w (left_at body a.playing) }) v e
         by_test false e = cc
 
 -- The same call, of states that are the same.

@@ -1,16 +1,19 @@
 -- How a mirror ends: what is written, and with which status, by what the fetch answered.
-use Rattle.std.specs.Prelude.{◌≡◌, ◌≤◌, ◌⊎◌, ℕ, List, ◌++◌, [], Bool, cond, take, Some, Result, Ok, Err, IfOk, IsErr}
-use Rattle.dav_io.specs.Counts.{Rose}
+use Rattle.std.specs.Prelude.{◌≡◌, ◌<◌, ◌≤◌, ◌⊎◌, ℕ, List, ◌++◌, [], length, take, true, Some, Result, Ok, Err, IfOk, IsErr}
+use Rattle.dav_io.specs.Counts.{RefusedNothing, Rose}
 use Rattle.dav_io.specs.Outside.{Stream}
 use Rattle.dav_io.specs.Told.{Both}
 use Rattle.dav_io.specs.declared.failure.NoMemory.{NoMemory}
 use Rattle.dav_core.specs.Disk.{DiskState}
+use Rattle.dav_core.specs.World.{IsWorld, World}
 use Rattle.dav_fetch.specs.declared.copied.Copied.{Copied}
 use Rattle.dav_fetch.specs.declared.error.MirrorError.{MirrorError}
-use Rattle.dav_fetch.specs.declared.error.MirrorError.TheVariants.{Peer as PeerFailed, Refused, NotAPage, BadReply, Short, TooLong, Budget, NoMemory as LacksMemory}
+use Rattle.dav_fetch.specs.declared.error.MirrorError.TheVariants.{Peer as PeerFailed, NoMemory as LacksMemory}
 use Rattle.dav_fetch.specs.Fetching.{Fetched}
+use Rattle.dav_fetch.specs.Mirroring.{IsLinkless, IsMirror, IsWithinLimits, visible_rows}
 use Rattle.dav_fetch.specs.Peer.{PeerState, Seen}
 use Rattle.dav_mirror.specs.Lines.{lines_of}
+use Rattle.dav_mirror.specs.Seen.{seen_in}
 
 -- how many requests may be made
 abbrev pub most_requests : ℕ
@@ -27,29 +30,51 @@ pub record Writes (bytes : List ℕ) (old : Stream) (result : Result ℕ NoMemor
   pub status : IfOk result (λ status. (status ≡ 0) ⊎ ((status ≡ 4) × Rose old.faults new.faults))
   pub told : Both old.bytes new.bytes (FrontWritten bytes result)
 
--- The status of an error, by whether the player gave all its replies.
-abbrev pub status_of : MirrorError → Bool → Result ℕ NoMemory
-status_of PeerFailed spent = cond spent (Err (record {})) (Ok 5)
-status_of LacksMemory spent = Err (record {})
-status_of other spent = Ok 8
+-- the status of an error
+abbrev pub status_of : MirrorError → Result ℕ NoMemory
+status_of PeerFailed = Ok 5
+status_of LacksMemory = Err (record {})
+status_of other = Ok 8
 
 -- What a mirror over a disk whose count of faults went so far gives and writes, by what the fetch answered: the lines of
 -- the copy; 5, where the peer failed, so that the disk's count rose; 8 for each other error but want of memory. No byte is
 -- written behind an error.
 abbrev pub EndsBy : Result Unit MirrorError → Copied → (before after : ℕ) → Stream → Result ℕ NoMemory → Stream → Type 0
 EndsBy (Ok x) copy before after old result new = Writes (lines_of copy.files) old result new
-EndsBy (Err PeerFailed) copy before after old result new = (new ≡ old) × IfOk result (λ status. (status ≡ 5) × Rose before after)
+EndsBy (Err PeerFailed) copy before after old result new = (new ≡ old) × (result ≡ Ok 5) × Rose before after
 EndsBy (Err LacksMemory) copy before after old result new = (new ≡ old) × IsErr result
 EndsBy (Err other) copy before after old result new = (new ≡ old) × (result ≡ Ok 8)
 
--- A tree was fetched into a copy of nothing from a peer over the disk, and it ended so. The peer begins with the disk's
--- count, and tells no other world at the end than the disk's.
+-- the peer over a disk of which nothing was asked yet: it tells the disk's world, if no link stands there
+abbrev pub peer_at : DiskState → PeerState
+peer_at s = record { told = seen_in true [] [] s.told; faults = s.faults }
+
+-- A tree was fetched into a copy of nothing from a peer over the disk, and it ended so. The peer has the disk's count, and
+-- tells no other world at the end than the disk's.
 pub record Mirrors (before after : DiskState) (old : Stream) (result : Result ℕ NoMemory) (new : Stream) : Type 0 where
-  pub first : PeerState
-  pub begins : first.faults ≡ before.faults
   pub last : PeerState
+  pub faults : last.faults ≡ after.faults
   pub tells : (v : Seen) → last.told ≡ Some v → after.told ≡ Some v.world
   pub copy : Copied
   pub answer : Result Unit MirrorError
-  pub fetched : Fetched first (record { dirs = []; files = [] }) most_requests answer last copy
+  pub fetched : Fetched (peer_at before) (record { dirs = []; files = [] }) most_requests answer last copy
   pub ends : EndsBy answer copy before.faults after.faults old result new
+
+-- ---- a tree that stands still
+
+-- What is asked of a disk: it tells this world, of which nothing is to change, refused nothing, and what is shown is
+-- without links, within the limits, and not too much.
+pub record StandsStill (before after : DiskState) (w : World) : Type 0 where
+  pub told : before.told ≡ Some w
+  pub script : w.script ≡ []
+  pub world : IsWorld w
+  pub linkless : IsLinkless w
+  pub nothing : RefusedNothing before.faults after.faults
+  pub limits : IsWithinLimits w
+  pub few : length (visible_rows w) < most_requests
+
+-- The lines of the world's files are written, each with its length, in the order of their paths; or memory is refused,
+-- and nothing is written.
+abbrev pub Lists : World → Stream → Result ℕ NoMemory → Stream → Type 0
+Lists w old result new = ((copy : Copied) × IsMirror w copy × Writes (lines_of copy.files) old result new)
+    ⊎ ((new ≡ old) × IsErr result)

@@ -1,12 +1,15 @@
 // The request that a player is asked for a path.
-ghost use Rattle.std.specs.Prelude.{◌≡◌, [], bytes_eq, cond, not, IfOk, IfSome, Ok, true};
-ghost use Rattle.http_header.specs.FieldValue.{plain_value};
+ghost use Rattle.std.specs.Prelude.{◌≡◌, ◌↔◌, ◌≤◌, [], bytes_eq, codes, cond, false, is_some, not, IfOk, IfSome, Ok, length, true};
+ghost use Rattle.http_header.specs.FieldName.{IsHeaderName};
+ghost use Rattle.http_header.specs.FieldValue.{IsFieldValue, plain_value};
 ghost use Rattle.http_header.specs.HeaderMap.{append};
 ghost use Rattle.http_uri.specs.Uri.{uri_path};
+ghost use Rattle.dav_core.specs.DavPath.{link_of, shown};
 ghost use Rattle.dav_core.specs.Grammar.{parsed};
 ghost use Rattle.dav_core.specs.Path.{same_names};
-ghost use Rattle.dav_fetch.specs.Peer.{Carries};
-ghost use Rattle.dav_mirror.specs.Asking.{IsAskedFor};
+ghost use Rattle.dav_model.specs.Gates.{has_field};
+ghost use Rattle.dav_fetch.specs.Peer.{Carries, IsAskable, links_most};
+ghost use Rattle.dav_mirror.specs.Asking.{AreSaid, CanBeTarget, Hears, IsAskedFor, IsSaid, IsSmall, IsTarget};
 
 use dav_core::{DavPath, FsPath, ParseError};
 use dav_io::{Field, Fields, NoMemory, Octets};
@@ -24,7 +27,9 @@ pub(crate) struct Asking {
 }
 
 // The target of a path. None where no request can have it.
-fn target_of(alloc: Global, path: &DavPath) -> Result<Option<Uri>, NoMemory> {
+fn target_of(alloc: Global, path: &DavPath) -> Result<Option<Uri>, NoMemory>
+    ensures { CanBeTarget path.now → IfOk result (IsTarget path.now) }
+{
     let link = path.as_url_string()?;
     match PathAndQuery::from_str(alloc, link.as_str()) {
         Ok(target) => Ok(Some(Uri::from(target))),
@@ -53,7 +58,7 @@ fn has_same_end(a: &DavPath, b: &DavPath) -> bool
 
 // Whether both are one path.
 fn is_same(a: &DavPath, b: &DavPath) -> bool
-    ensures { result ≡ true → a.now ≡ b.now }
+    ensures { result ≡ true ↔ a.now ≡ b.now }
 {
     let same_prefix = is_equal(a.prefix(), b.prefix());
     if !same_prefix {
@@ -68,13 +73,29 @@ fn is_same(a: &DavPath, b: &DavPath) -> bool
 
 // Whether the target leads back to the path, at a server that stands under no prefix.
 fn leads_back(alloc: Global, target: &Uri, path: &DavPath) -> Result<bool, NoMemory>
-    ensures { IfOk result (λ b. b ≡ true → parsed (uri_path target.now) [] ≡ Ok path.now) }
+    ensures { IfOk result (λ b. b ≡ true ↔ parsed (uri_path target.now) [] ≡ Ok path.now) }
 {
     match DavPath::from_uri_and_prefix(alloc, target, "") {
         Ok(back) => Ok(is_same(&back, path)),
         Err(ParseError::NoMemory) => Err(NoMemory),
         Err(_) => Ok(false),
     }
+}
+
+// Whether a server hears a request of this target with these fields as one of the path.
+fn is_heard(
+    alloc: Global,
+    target: &Uri,
+    path: &DavPath,
+    headers: &HeaderMap,
+) -> Result<bool, NoMemory>
+    ensures { IfOk result (λ b. b ≡ true ↔ ((parsed (uri_path target.now) [] ≡ Ok path.now)
+        × (has_field headers.now (codes "if") ≡ false))) }
+{
+    if headers.get("if").is_some() {
+        return Ok(false);
+    }
+    leads_back(alloc, target, path)
 }
 
 // Whether both are the same text.
@@ -86,7 +107,8 @@ fn is_text(a: &str, b: &str) -> bool
 
 // The name of a field. None where it is no name of a field, or isn't in lower case.
 fn name_of(alloc: Global, field: &Field) -> Result<Option<HeaderName>, NoMemory>
-    ensures { IfOk result (λ o. IfSome o (λ name. name ≡ field.now.name)) }
+    ensures name { IfOk result (λ o. IfSome o (λ name. name ≡ field.now.name)) }
+    ensures some { IsHeaderName field.now.name → IfOk result (λ o. is_some o ≡ true) }
 {
     let name = match HeaderName::from_bytes(alloc, field.name.as_slice()) {
         Ok(name) => name,
@@ -101,7 +123,8 @@ fn name_of(alloc: Global, field: &Field) -> Result<Option<HeaderName>, NoMemory>
 
 // The value of a field. None where no field can have it.
 fn value_of(alloc: Global, field: &Field) -> Result<Option<HeaderValue>, NoMemory>
-    ensures { IfOk result (λ o. IfSome o (λ value. value ≡ plain_value field.now.value)) }
+    ensures value { IfOk result (λ o. IfSome o (λ value. value ≡ plain_value field.now.value)) }
+    ensures some { IsFieldValue field.now.value → IfOk result (λ o. is_some o ≡ true) }
 {
     match HeaderValue::from_bytes(alloc, field.value.as_slice()) {
         Ok(value) => Ok(Some(value)),
@@ -112,8 +135,9 @@ fn value_of(alloc: Global, field: &Field) -> Result<Option<HeaderValue>, NoMemor
 
 // Adds a field, and tells whether it can be one.
 fn add_field(alloc: Global, headers: &mut HeaderMap, field: &Field) -> Result<bool, NoMemory>
-    ensures { IfOk result (λ added. added ≡ true
+    ensures adds { IfOk result (λ added. added ≡ true
         → headers.new ≡ append headers.old field.now.name (plain_value field.now.value)) }
+    ensures added { IsSaid field.now → IsSmall 1000 headers.old → IfOk result (λ added. added ≡ true) }
 {
     let Some(name) = name_of(alloc, field)? else {
         return Ok(false);
@@ -130,7 +154,8 @@ fn add_field(alloc: Global, headers: &mut HeaderMap, field: &Field) -> Result<bo
 
 // The map of these fields. None where no request can have them.
 fn headers_of(alloc: Global, fields: &[Field]) -> Result<Option<HeaderMap>, NoMemory>
-    ensures { IfOk result (λ o. IfSome o (λ headers. Carries fields.now headers)) }
+    ensures carries { IfOk result (λ o. IfSome o (λ headers. Carries fields.now headers)) }
+    ensures some { AreSaid fields.now → IfOk result (λ o. is_some o ≡ true) }
 {
     let mut headers = HeaderMap::new(alloc);
     for field in fields {
@@ -147,7 +172,9 @@ pub(crate) fn request_for(
     path: &DavPath,
     fields: &Fields,
 ) -> Result<Option<Asking>, NoMemory>
-    ensures { IfOk result (λ o. IfSome o (λ asking. IsAskedFor path.now fields.now asking.request asking.heard)) }
+    requires { length (link_of (shown path.now)) ≤ links_most }
+    ensures asks { IfOk result (λ o. IfSome o (λ asking. IsAskedFor path.now fields.now asking.request asking.heard)) }
+    ensures hears { IsAskable path.now fields.now → IfOk result Hears }
 {
     let Some(uri) = target_of(alloc, path)? else {
         return Ok(None);
@@ -155,7 +182,7 @@ pub(crate) fn request_for(
     let Some(headers) = headers_of(alloc, fields.as_slice())? else {
         return Ok(None);
     };
-    let heard = leads_back(alloc, &uri, path)? && headers.get("if").is_none();
+    let heard = is_heard(alloc, &uri, path, &headers)?;
     let mut head = Parts::new(alloc);
     head.uri = uri;
     head.headers = headers;

@@ -1,8 +1,8 @@
 // A tree is fetched from a player over a disk, and what was fetched is listed.
-ghost use Rattle.std.specs.Prelude.{◌≡◌, ◌+◌, [], None, false};
+ghost use Rattle.std.specs.Prelude.{◌≡◌};
 ghost use Rattle.dav_mirror.specs.Lines.{lines_of};
-ghost use Rattle.dav_mirror.specs.Mirrors.{Mirrors, Writes, status_of as the_status_of};
-ghost use Rattle.dav_mirror.specs.Playing.{peer_of};
+ghost use Rattle.dav_mirror.specs.Mirrors.{Mirrors, Writes, peer_at, status_of as the_status_of};
+ghost use Rattle.dav_mirror.specs.Playing.{calls_of, peer_of};
 
 use crate::lines::text_of;
 use crate::play_peer::PlayPeer;
@@ -18,8 +18,8 @@ const MOST_REQUESTS: u64 = 1_000_000;
 
 // A peer over the disk from its root on: pages are permitted, and nothing else is set.
 fn peer_over<D: Disk + Drop>(alloc: Global, disk: D) -> PlayPeer<D, Forget>
-    ensures faults { (peer_of result).faults ≡ (D.state disk).faults }
-    ensures refused { result.refused ≡ 0 }
+    ensures peer { peer_of result ≡ peer_at (D.state disk) }
+    ensures calls { calls_of result ≡ record { replies = 0; failures = 0 } }
     ensures loan { D.loan result.player.store.disk ≡ D.loan disk }
 {
     let mut settings = Settings::defaults(alloc);
@@ -39,12 +39,12 @@ fn write_lines<K: Sink>(alloc: Global, files: &[Kept], sink: &mut K) -> Result<u
     }
 }
 
-// The status of an error: 5 where the disk failed. Where the player gave all its replies there is none.
-fn status_of(error: MirrorError, spent: bool) -> Result<u8, NoMemory>
-    ensures { result ≡ the_status_of error spent }
+// The status of an error: 5 where the disk failed. Where memory was refused there is none.
+fn status_of(error: MirrorError) -> Result<u8, NoMemory>
+    ensures { result ≡ the_status_of error }
 {
     match error {
-        MirrorError::Peer => { if spent { Err(NoMemory) } else { Ok(5) } }
+        MirrorError::Peer => Ok(5),
         MirrorError::NoMemory => Err(NoMemory),
         MirrorError::Refused { .. }
         | MirrorError::NotAPage { .. }
@@ -68,12 +68,10 @@ pub fn mirror<D: Disk, K: Sink>(alloc: Global, disk: &mut D, sink: &mut K) -> Re
     let mut peer = peer_over(alloc, &mut *disk);
     let mut copy = Copied::empty(alloc);
     let answer = fetch(alloc, &mut peer, &mut copy, MOST_REQUESTS);
-    // So few requests never ask the player for all its replies; no status says that they did.
-    let spent = peer.refused() > 0;
     let mut memory = None;
     let _ = peer.into_player().into_disk(&mut memory);
     match answer {
         Ok(()) => write_lines(alloc, copy.files.as_slice(), sink),
-        Err(error) => status_of(error, spent),
+        Err(error) => status_of(error),
     }
 }

@@ -1,5 +1,7 @@
-ghost use Rattle.std.specs.Prelude.{◌≡◌, ◌≤◌, ◌<◌, ◌+◌, ◌^◌, [], ◌++◌, drop, length, min, take, None, false};
+ghost use Rattle.std.specs.Prelude.{◌≡◌, ◌≤◌, ◌<◌, ◌+◌, ◌^◌, [], ◌++◌, drop, length, min, take, None, true};
+ghost use Rattle.dav_core.specs.World.{World};
 ghost use Rattle.dav_handler.specs.Player.{playing_of, stage_of};
+ghost use Rattle.dav_model.specs.Still.{StandsAs};
 
 use crate::asking::{Asking, request_for};
 use dav_cache::Remember;
@@ -17,22 +19,24 @@ const MOST_REPLIES: u32 = 2_147_483_648;
 /// A player, asked as a server is: it answers each `get` by the steps Abandon of the last body, Turn and Request, and
 /// each `piece` by Poll, and keeps the rest of a piece that doesn't fit.
 ///
-/// It tells the world of its last reply where the disk tells a world without links, and where the player has the rules
-/// of a peer that tells: pages are permitted, nothing else is set but the size of the read buffer, and each path is
-/// meant as it is written. Its count of faults is that of the disk and one of its own together: a `get` where the player
-/// has given 2^31 replies fails, and asks nothing. What no request can say is answered 400, as by a server that reads
-/// it, and of that reply nothing is told; nor of one to a path under a prefix, or to a field `if`.
+/// It tells the disk's world where the disk tells one without links, and where the player has the rules of a peer that
+/// tells: pages are permitted, nothing else is set but the size of the read buffer, and each path is meant as it is
+/// written. Its count of faults is that of the disk and one of its own together: a `get` where the player has given 2^31
+/// replies fails, and asks nothing. What no request can say is answered 400, as by a server that reads it, and nothing
+/// is told then; nor behind a reply to a path under a prefix, or to a field `if`.
 pub struct PlayPeer<D: Disk, R: Remember> {
     alloc: Global,
     player: Player<D, R>,
     // The number of the last reply, where the player gave it.
     body: Option<u32>,
-    // Whether it is the reply to a GET of the path that was asked for.
+    // Whether the last reply, if there was one, is that to a GET of the path that was asked for.
     heard: bool,
     // The last piece, and how much of it is given.
     piece: Octets,
     at: usize,
     refused: u64,
+    // How many calls failed.
+    failures: u64,
     ghost inside: { at ≤ length piece },
 }
 
@@ -48,31 +52,25 @@ fn copy_front(rest: &[u8], into: &mut [u8]) -> usize
 }
 
 impl<D: Disk, R: Remember> PlayPeer<D, R> {
-    ghost use Rattle.dav_mirror.specs.Playing.{peer_of};
-    ghost use Rattle.dav_mirror.specs.Seen.{peer_in};
+    ghost use Rattle.dav_mirror.specs.Playing.{calls_of, peer_of};
+    ghost use Rattle.dav_mirror.specs.Seen.{calls_in, peer_in};
 
     /// A peer over a player, of which nothing was asked yet.
     pub fn new(alloc: Global, player: Player<D, R>) -> Self
-        ensures peer { peer_of result ≡ peer_in false [] None 0 (stage_of player) }
+        ensures peer { peer_of result ≡ peer_in true [] None 0 (stage_of player) }
         ensures player { result.player ≡ player }
-        ensures refused { result.refused ≡ 0 }
+        ensures calls { calls_of result ≡ calls_in (playing_of player).replies 0 0 }
     {
         PlayPeer {
             alloc,
             player,
             body: None,
-            heard: false,
+            heard: true,
             piece: Octets::empty(alloc),
             at: 0,
             refused: 0,
+            failures: 0,
         }
-    }
-
-    /// How many times it failed since the player had given all its replies.
-    pub fn refused(&self) -> u64
-        ensures { result ≡ self.now.refused }
-    {
-        self.refused
     }
 
     /// Gives the player back. The body of the last reply may still be open.
@@ -87,6 +85,7 @@ impl<D: Disk, R: Remember> PlayPeer<D, R> {
             piece: _,
             at: _,
             refused: _,
+            failures: _,
         } = self;
         player
     }
@@ -99,6 +98,11 @@ impl<D: Disk, R: Remember> PlayPeer<D, R> {
         ensures refused { self.new.refused ≡ self.old.refused }
         ensures faults { (D.state self.old.player.store.disk).faults ≤ (D.state self.new.player.store.disk).faults }
         ensures replies { (playing_of self.new.player).replies ≡ (playing_of self.old.player).replies }
+        ensures rules { (playing_of self.new.player).rules ≡ (playing_of self.old.player).rules }
+        ensures still { (w : World) → StandsAs w (D.state self.old.player.store.disk)
+            → StandsAs w (D.state self.new.player.store.disk) }
+        ensures heard { self.new.heard ≡ self.old.heard }
+        ensures failures { self.new.failures ≡ self.old.failures }
         ensures loan { D.loan self.new.player.store.disk ≡ D.loan self.old.player.store.disk }
     {
         self.at = 0;
@@ -116,6 +120,7 @@ impl<D: Disk, R: Remember> PlayPeer<D, R> {
         ensures stage { stage_of self.new.player ≡ stage_of self.old.player }
         ensures body { (self.new.body ≡ self.old.body) × (self.new.heard ≡ self.old.heard) }
         ensures refused { self.new.refused ≡ self.old.refused }
+        ensures failures { self.new.failures ≡ self.old.failures }
         ensures len { length into.new ≡ length into.old }
     {
         let (_, rest) = self.piece.as_slice().split_at(self.at);
@@ -126,15 +131,18 @@ impl<D: Disk, R: Remember> PlayPeer<D, R> {
 }
 
 impl<D: Disk, R: Remember> Peer for PlayPeer<D, R> {
-    ghost use Rattle.dav_mirror.specs.Playing.{peer_of};
+    ghost use Rattle.dav_mirror.specs.Playing.{calls_of, peer_of};
 
     ghost state = { λ p. peer_of p };
+
+    ghost calls = { λ p. calls_of p };
 
     ghost loan = { λ p. D.loan p.player.store.disk };
 
     fn get(&mut self, path: &DavPath, fields: &Fields) -> Result<Got, PeerFault> {
         if self.player.replies() >= MOST_REPLIES {
             self.refused = self.refused.saturating_add(1);
+            self.failures = self.failures.saturating_add(1);
             return Err(PeerFault::Failed);
         }
         self.end_reply();
@@ -143,6 +151,7 @@ impl<D: Disk, R: Remember> Peer for PlayPeer<D, R> {
             Err(_) => return Err(PeerFault::NoMemory),
         };
         let Some(Asking { request, heard }) = asking else {
+            self.heard = false;
             return Ok(Got {
                 status: 400,
                 headers: Fields::empty(self.alloc),
@@ -183,7 +192,10 @@ impl<D: Disk, R: Remember> Peer for PlayPeer<D, R> {
                 Ok(self.give(into))
             }
             Ok(Answer::End) => Ok(0),
-            Ok(Answer::Broken) => Err(PeerFault::Failed),
+            Ok(Answer::Broken) => {
+                self.failures = self.failures.saturating_add(1);
+                Err(PeerFault::Failed)
+            }
             // A poll is answered by no other.
             Ok(Answer::Reply { .. }) => Ok(0),
             Ok(Answer::Done) => Ok(0),

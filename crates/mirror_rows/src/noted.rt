@@ -53,6 +53,8 @@ fn note(line: &mut Line, path: &DavPath, fields: &Fields) {
 impl Peer for Noted {
     ghost state = { λ n. ⟦<MemPeer as Peer>⟧.state n.peer };
 
+    ghost calls = { λ n. ⟦<MemPeer as Peer>⟧.calls n.peer };
+
     fn get(&mut self, path: &DavPath, fields: &Fields) -> Result<Got, PeerFault> {
         note(&mut self.line, path, fields);
         self.peer.get(path, fields)

@@ -1,9 +1,9 @@
-use Rattle.std.proofs.Common.{◌≡◌, ◌<◌, ◌≤◌, ℕ, List, length, sym, subst, rules}
+use Rattle.std.proofs.Common.{◌≡◌, ◌<◌, ℕ, List, length, sym, subst, rules}
 use Rattle.std.specs.List.{AllByRecursion}
-use Rattle.dav_fetch.specs.declared.copied.Kept.{Kept}
+use Rattle.dav_fetch.specs.Copy.{IsKept}
 use Rattle.dav_fetch.specs.Gathering.{Gathers}
 use Rattle.dav_fetch.proofs.Copies.{fetched_copy}
-use Rattle.dav_fetch.proofs.Whole.{gathered_fetched, unplanned_fetched, walked_named, within_all}
+use Rattle.dav_fetch.proofs.Whole.{gathered_fetched, unplanned_fetched, walked_named}
 use Rattle.dav_fetch.proofs.fetching.fetch.Goals as goal
 
 pub returns-in_default-clause-fetched : goal.returns-in_default-clause-fetched
@@ -17,7 +17,7 @@ gather-files-requires-clause-named g c =
 pub gather-files-requires-clause-kept : goal.gather-files-requires-clause-kept
 gather-files-requires-clause-kept g c =
     let old_is : c.into_vec-old.result.items ≡ c.args.copy.now.files = search rules in
-    subst (AllByRecursion (λ (f : Kept). length f.bytes ≤ f.len)) (sym old_is) (within_all c.args.copy.now.files c.requires.each)
+    subst (AllByRecursion IsKept) (sym old_is) c.requires.each
 
 pub returns-clause-fetched : goal.returns-clause-fetched
 returns-clause-fetched g c =

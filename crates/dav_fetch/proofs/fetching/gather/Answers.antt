@@ -1,9 +1,11 @@
 use Rattle.std.proofs.Common.{◌≡◌, ◌∙◌, ◌+◌, ◌-◌, ◌++◌, ◌∷◌, [], drop, take, length, reverse, refl, sym, ap, subst, rules, arith}
 use Rattle.std.specs.Option.{option_to_list}
 use Rattle.std.proofs.lemmas.List.{length-drop, reverse-reverse, take_all}
-use Rattle.dav_fetch.specs.Fetching.{Files, kept_at, kept_of}
+use Rattle.dav_fetch.specs.Fetching.{Files, is_peer_failure, kept_at, kept_of}
 use Rattle.dav_fetch.specs.Keeping.{AreAscending, AreInOrder}
+use Rattle.dav_fetch.specs.Peer.{CountsFailure}
 use Rattle.dav_fetch.specs.Taking.{TakesFile}
+use Rattle.dav_fetch.proofs.Counting.{counts_behind}
 use Rattle.dav_fetch.proofs.Gathered.{gathers_err, gathers_ok, kept_fits}
 use Rattle.dav_fetch.proofs.Orders.{SameAt, ascend_drop, drop_step, first_below, kept_same, same_at_all, same_behind}
 use Rattle.dav_fetch.proofs.fetching.gather.Goals as goal
@@ -20,6 +22,8 @@ loop-at-init g c =
       subst AreInOrder back c.requires.order,
       search rules,
       search rules,
+      refl,
+      omega arith,
       refl,
     )
 
@@ -82,4 +86,14 @@ loop-at-preserved g c =
       omega (arith, i.7, c.push_kept.ensures.len, c.push_kept.ensures.capacity, ap length parts),
       search rules,
       search rules,
+      omega (arith, i.10, c.take_file-kept.ensures.replies),
+      subst (λ e. CountsFailure (is_peer_failure e) (g.P.Peer.calls c.loop-at.peer) (g.P.Peer.calls c.take_file-kept.new.peer)) c.in_default.is c.take_file-kept.ensures.failures ∙ i.11,
     )
+
+pub returns-in-Err-clause-few : goal.returns-in-Err-clause-few
+returns-in-Err-clause-few g c = omega (arith, c.loop-at.invariant.10, c.take_file-kept.ensures.few)
+
+pub returns-in-Err-clause-failures : goal.returns-in-Err-clause-failures
+returns-in-Err-clause-failures g c =
+    let told = subst (λ e. CountsFailure (is_peer_failure e) (g.P.Peer.calls c.loop-at.peer) (g.P.Peer.calls c.take_file-kept.new.peer)) c.in-Err.is c.take_file-kept.ensures.failures in
+    counts_behind _ (g.P.Peer.calls c.args.peer.now) (g.P.Peer.calls c.loop-at.peer) (g.P.Peer.calls c.take_file-kept.new.peer) c.loop-at.invariant.11 told

@@ -12,6 +12,8 @@ invariant-loop-at g l = (visits : List Visit) × Visits (g.P.Peer.state l.fn.pee
     × SameAt l.fn.old.items (reverse l.old.items) (drop l.at l.paths) × AreInOrder (reverse l.old.items)
     × (vec_len l.files + length (drop l.at l.paths) ≤ vec_capacity l.files) × (l.at ≤ length l.paths)
     × (g.P.Peer.loan l.peer ≡ g.P.Peer.loan l.fn.peer)
+    × ((g.P.Peer.calls l.peer).replies + l.fn.made ≤ (g.P.Peer.calls l.fn.peer).replies + l.made)
+    × ((g.P.Peer.calls l.peer).failures ≡ (g.P.Peer.calls l.fn.peer).failures)
 
 abbrev pub decreases-loop-at : goal.decreases-loop-at
 decreases-loop-at g l = length l.paths - l.at

@@ -14,4 +14,6 @@ loop-left-preserved g c =
       left_more c.args.due c.in-Ok.count wanted c.loop-left.left i.0 c.piece.new.into c.in-Ok.ensures.gives.is.0 c.least-wanted.ensures i.3,
       search rules,
       search rules,
+      omega (arith, i.6, c.in-Ok.ensures.calls.replies),
+      c.in-Ok.ensures.calls.failures ∙ i.7,
     )

@@ -41,4 +41,6 @@ loop-at-preserved g c =
       c.in-Ok.ensures.made.1,
       omega (arith, c.in-Ok.ensures.inside),
       search rules,
+      omega (arith, i.7, c.in-Ok.ensures.replies, c.in-Ok.ensures.made.0),
+      c.in-Ok.ensures.failures ∙ i.8,
     )

@@ -1,4 +1,4 @@
-use Rattle.std.proofs.Common.{◌≡◌, ◌≤◌, ◌-◌, List, length}
+use Rattle.std.proofs.Common.{◌≡◌, ◌≤◌, ◌+◌, ◌-◌, List, length}
 use Rattle.dav_fetch.specs.Fetching.{WholeVisits}
 use Rattle.dav_fetch.specs.Walk.{Pages, Visit, start, way_of}
 use Rattle.dav_fetch.proofs.walking.walk.Given as goal
@@ -8,6 +8,8 @@ invariant-loop-at g l = (visits : List Visit) × WholeVisits (g.P.Peer.state l.i
     × Pages start visits (way_of l.at l.walked.dirs.items l.walked.files.items)
     × (l.walked.made ≡ length visits) × (l.walked.made ≤ l.most) × (l.at ≤ length l.walked.dirs.items)
     × (g.P.Peer.loan l.peer ≡ g.P.Peer.loan l.initial.peer)
+    × ((g.P.Peer.calls l.peer).replies ≤ (g.P.Peer.calls l.initial.peer).replies + l.walked.made)
+    × ((g.P.Peer.calls l.peer).failures ≡ (g.P.Peer.calls l.initial.peer).failures)
 
 abbrev pub decreases-loop-at : goal.decreases-loop-at
 decreases-loop-at g l = l.most - l.walked.made
