@@ -6,13 +6,24 @@ from texts import bytes_of, number, print_wanted, spelt_in_runs
 ROOM = 100_000
 
 
+def path_of(cell):
+    return tuple(bytes_of(name).decode() for name in cell.split("/"))
+
+
+def change_of(text):
+    """A change of the outside, as the model's disk makes it."""
+    word, path, *more = text.split(" ", 2)
+    third = "".join(more)
+    return word, path_of(path), number(third) if word == "cut" else bytes_of(third)
+
+
 class Scene:
     """The words of a run, and the objects that it runs over."""
 
     def __init__(self, row):
         self.words, self.input, self.take, self.put, self.room = ["folder", "serve"], b"", ROOM, ROOM, ROOM
         self.source_fails, self.sink_fails, self.gain = set(), set(), 0
-        self.disk = Disk()
+        self.disk, self.next = Disk(), 0x20
         self.disk.add(("f.txt",), 0x1a, SECOND, b"0123456789")
         self.disk.add(("e.txt",), 0x1b, SECOND, b"")
         for part in row.split("|"):
@@ -37,6 +48,14 @@ class Scene:
             self.disk.scripts += [[], [], [("cut", ("f.txt",), number(text))]]
         elif word == "long":
             self.disk.add(("long.bin",), 0x1c, SECOND, b"\x07" * number(text))
+        elif word == "bare":
+            self.disk = Disk()
+        elif word in ("dir", "file"):
+            path, _, data = text.partition(" ")
+            self.disk.add(path_of(path), self.next, SECOND, bytes_of(data) if word == "file" else None)
+            self.next += 1
+        elif word == "turn":
+            self.disk.scripts.append([change_of(change) for change in text.split(",") if change])
         elif word == "docs":
             self.disk.add(("Docs",), 0x1d, SECOND)
             self.disk.add(("Docs", "A.txt"), 0x1e, SECOND, b"0123456789")

@@ -3,6 +3,7 @@ import re
 
 import wire
 from disk import SECOND
+from mirroring import mirrored
 from model import Request, Settings, is_plain
 from play import Player
 from store import Memory, Store
@@ -14,10 +15,10 @@ FLAGS = {"--autoindex": "autoindex", "--fold": "folds", "--macos": "macos"}
 
 
 class Words:
-    """What the words behind the program's name say: `serve` with settings, or `bench` with a seed."""
+    """What the words behind the program's name say: `serve` with settings, `bench` with a seed, or `mirror`."""
 
     def __init__(self):
-        self.settings, self.folds, self.macos, self.seed = Settings(), False, False, None
+        self.settings, self.folds, self.macos, self.seed, self.mirrors = Settings(), False, False, None, False
 
 
 def decimal(text, most):
@@ -32,9 +33,12 @@ def prefix_fits(text):
 
 def words_of(words):
     """What the words say, or None where they aren't in the grammar."""
-    if len(words) < 2 or not words[0] or words[1] not in ("serve", "bench"):
+    if len(words) < 2 or not words[0] or words[1] not in ("serve", "bench", "mirror"):
         return None
     said = Words()
+    if words[1] == "mirror":
+        said.mirrors = True
+        return said if len(words) == 2 else None
     if words[1] == "bench":
         said.seed = decimal(words[2], SEED_MOST) if len(words) == 3 else None
         return None if said.seed is None else said
@@ -175,8 +179,19 @@ def bench(seed, sink):
     total = 2 * sum(10 * (i + 1) + j for i in range(8) for j in range(count))
     lines = (f"requests {16 * count}\nok {16 * count}\npieces {16 * count}\nbytes {total}\n"
              f"listings {8 * count + 8}\n")
+    return put_all(lines.encode(), sink)
+
+
+def mirror(disk, sink):
+    """The listing of a tree. Behind an error nothing is written."""
+    status, lines = mirrored(disk)
+    return status or put_all(lines, sink)
+
+
+def put_all(data, sink):
+    """The status where this is all that is written."""
     try:
-        sink.put(lines.encode())
+        sink.put(data)
     except Stop as stop:
         return stop.status
     return 0
@@ -189,4 +204,6 @@ def run(words, source, sink, disk, gain=0):
         return 2
     if said.seed is not None:
         return bench(said.seed, sink)
+    if said.mirrors:
+        return mirror(disk, sink)
     return Run(said, source, sink, disk, gain).serve()

@@ -8,7 +8,7 @@ use Rattle.dav_io.specs.declared.failure.Failed.{Failed as SinkFailed}
 use Rattle.dav_io.proofs.ToldLemmas.{both_map, both_then}
 use Rattle.dav_wire.specs.Announced.{announced_by, announces}
 use Rattle.dav_wire.specs.Bodies.{IsBody, BodyRefusal, IsBodyUnfinished}
-use Rattle.dav_wire.specs.BodyReading.{ReadsOn, ReadsBody, GivesBody, IsEmptiedBy as IsBodyEmptiedBy}
+use Rattle.dav_wire.specs.BodyReading.{ReadsOn, ReadsBody, GivesBody}
 use Rattle.dav_wire.specs.Heads.{IsRead}
 use Rattle.dav_wire.specs.Messages.{refused_head, refused_body, open_head, open_body}
 use Rattle.dav_wire.specs.Reading.{Behind, Fills, FillsThen, Finds, Moves, sending, Pending}
@@ -25,7 +25,7 @@ use Rattle.dav_wire.proofs.BodyLaws.{bodies_stay, parts_announce}
 use Rattle.dav_wire.proofs.BodyProgress.{nothing_read}
 use Rattle.dav_wire.proofs.Pushing.{pushes_then}
 use Rattle.dav_wire.proofs.RequestLemmas.{request_stays}
-use Rattle.dav_serve.specs.Next.{GivesNext, IsEmptiedBy, ReadsNext, next_by, over_with}
+use Rattle.dav_serve.specs.Next.{GivesNext, ReadsNext, next_by, over_with}
 use Rattle.dav_serve.specs.Serving.{IsEmptied, IsWanting, wanting_head, wanting_body}
 use Rattle.dav_serve.specs.declared.asking.Next.{Next}
 use Rattle.dav_serve.specs.declared.asking.Next.TheVariants.{Refused}

@@ -1,5 +1,5 @@
 -- A purge leaves a valid run valid, so each later reply is that of the tree.
-use Rattle.std.proofs.Common.{◌≡◌, inl, List, [], ◌∷◌, refl, sym, ap, subst, ◌∙◌}
+use Rattle.std.proofs.Common.{◌≡◌, inl, List, [], ◌∷◌, sym, ap, subst, ◌∙◌}
 use Rattle.dav_io.specs.declared.clock.Moment.{Moment}
 use Rattle.dav_model.specs.declared.answer.Answer.{Answer}
 use Rattle.dav_model.specs.declared.step.Step.TheVariants.{Purge}

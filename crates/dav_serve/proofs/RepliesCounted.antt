@@ -1,10 +1,7 @@
 -- How many replies a player gave.
-use Rattle.std.proofs.Common.{◌≡◌, ◌+◌, ℕ, Ok, ap, arith}
-use Rattle.dav_model.specs.declared.answer.Answer.{Answer}
+use Rattle.std.proofs.Common.{ℕ}
 use Rattle.dav_model.specs.declared.step.Step.{Step}
 use Rattle.dav_model.specs.declared.step.Step.TheVariants.{Request, Poll, Abandon, Purge, Turn}
-use Rattle.dav_model.specs.Play.{Playing, Stage, Stands, Stepped}
-use Rattle.dav_model.specs.Trail.{Point}
 
 -- how many replies a step gives
 abbrev pub replies_to : Step → ℕ

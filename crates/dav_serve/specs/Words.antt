@@ -141,6 +141,11 @@ seed_said (root ∷ verb ∷ seed ∷ []) =
     then number_said 399 (string_bytes seed) else None
 seed_said words = None
 
+-- Whether the words say that the tree is fetched: `ROOT mirror`, with a root that isn't empty.
+abbrev pub mirror_said : {A : Type 0} → List (String A) → Bool
+mirror_said (root ∷ verb ∷ []) = not (length (string_bytes root) == 0) && bytes_eq (string_bytes verb) (codes "mirror")
+mirror_said words = false
+
 -- the words aren't understood
 abbrev pub NothingSaid : {A : Type 0} → List (String A) → Type 0
-NothingSaid words = (rules_said words ≡ None) × (seed_said words ≡ None)
+NothingSaid words = (rules_said words ≡ None) × (seed_said words ≡ None) × (mirror_said words ≡ false)

@@ -1,21 +1,23 @@
 // The top call: all that the program does, over what is handed in.
-ghost use Rattle.std.specs.Prelude.{◌≡◌, ◌≤◌, ◌+◌, ◌↔◌, IfOk, IfSome, None, Ok, OnErr};
+ghost use Rattle.std.specs.Prelude.{◌≡◌, ◌≤◌, ◌+◌, ◌↔◌, IfOk, IfSome, None, Ok, OnErr, false, true};
 ghost use Rattle.dav_bench.specs.Report.{Benches};
 ghost use Rattle.dav_cache.specs.Memory.{memory_of};
 ghost use Rattle.dav_local.specs.Shown.{knowledge_of};
+ghost use Rattle.dav_mirror.specs.Mirrors.{Mirrors};
 ghost use Rattle.dav_model.specs.Rules.{nothing_known};
-ghost use Rattle.dav_serve.specs.Words.{NothingSaid, rules_said, seed_said as the_seed_said, set_by};
+ghost use Rattle.dav_serve.specs.Words.{NothingSaid, mirror_said as the_mirror_said, rules_said, seed_said as the_seed_said, set_by};
 ghost use Rattle.dav_serve.specs.Serving.{EndsBy, HoldsSoFar, ServeEnds, ServedPartly, setup_with};
 ghost use Rattle.dav_serve.specs.Stages.{outside_of};
 ghost use Rattle.dav_serve.specs.Completing.{StatusIs};
 
 use crate::ending::Ending;
 use crate::serving::serve;
-use crate::words::{Options, options_said, seed_said};
+use crate::words::{Options, mirror_said, options_said, seed_said};
 use dav_bench::bench;
 use dav_cache::Owned;
 use dav_core::Disk;
 use dav_io::{Client, Clock, NoMemory, Sink};
+use dav_mirror::mirror;
 use std::alloc::Global;
 
 // For how many paths a memory has room, and for how many directories and names together that may be absent.
@@ -70,13 +72,15 @@ fn bench_remembering<K: Sink>(alloc: Global, seed: u32, sink: &mut K) -> Result<
 /// Runs the program over these words, which stand behind its name, and answers its status: 0 where the input was read
 /// to its end, or to a request whose answer closes; 2 where the words are not understood, and then nothing is read or
 /// written; 3, 4 and 5 where the source, the sink or the disk failed; 6 where the input has no valid request at its
-/// place; 7 where 2^60 bytes were taken.
+/// place; 7 where 2^60 bytes were taken; 8 where a tree can't be fetched, though the disk didn't fail in a body.
 ///
 /// For the settings that the words say, what the sink gets is told for each status (`serves`) and for want of memory
 /// (`memory`), and the status by the input where no fault ends the run (`complete`). The client is asked for more only
 /// where all whole requests that came are answered and all answers are written (`waits`); a source may always be asked.
 /// Where the words say a large input, it is played, what was counted over it is written, and the status is 0, or 4
-/// where the sink failed (`benches`); nothing is read, and the disk isn't asked.
+/// where the sink failed (`benches`); nothing is read, and the disk isn't asked. Where they say a tree, it is fetched
+/// from the disk as a client of a server over it would, and a line is written for each of its files; the status is 0, or
+/// 4 where the sink failed; 5 and 8 are told of the fetch, and then nothing is written (`mirrors`). Nothing is read.
 pub fn run<S: Client<K>, K: Sink, D: Disk, C: Clock>(
     alloc: Global,
     words: &[String],
@@ -92,7 +96,8 @@ pub fn run<S: Client<K>, K: Sink, D: Disk, C: Clock>(
     ensures words { (result ≡ Ok 2) ↔ NothingSaid words.now }
     ensures source { rules_said words.now ≡ None → S.stream source.new ≡ S.stream source.old }
     ensures sink { NothingSaid words.now → K.stream sink.new ≡ K.stream sink.old }
-    ensures disk { rules_said words.now ≡ None → D.state disk.new ≡ D.state disk.old }
+    ensures disk { rules_said words.now ≡ None → the_mirror_said words.now ≡ false
+        → D.state disk.new ≡ D.state disk.old }
     ensures clock { C.shows clock.new ≡ C.shows clock.old }
     ensures serves { IfSome (rules_said words.now) (λ rules. IfOk result (ServeEnds
         (setup_with (C.shows clock.old) rules)
@@ -108,6 +113,8 @@ pub fn run<S: Client<K>, K: Sink, D: Disk, C: Clock>(
         (outside_of (S.stream source.new) (K.stream sink.new) (D.state disk.new)))) }
     ensures benches { IfSome (the_seed_said words.now) (λ seed. Benches (seed + 1) (K.stream sink.old) result
         (K.stream sink.new)) }
+    ensures mirrors { the_mirror_said words.now ≡ true
+        → Mirrors (D.state disk.old) (D.state disk.new) (K.stream sink.old) result (K.stream sink.new) }
 {
     match options_said(words) {
         Some(options) => match serve_remembering(alloc, &options, source, sink, disk, clock) {
@@ -116,7 +123,12 @@ pub fn run<S: Client<K>, K: Sink, D: Disk, C: Clock>(
         },
         None => match seed_said(words) {
             Some(seed) => bench_remembering(alloc, seed, sink),
-            None => Ok(2),
+            None => {
+                if mirror_said(words) {
+                    return mirror(alloc, disk, sink);
+                }
+                Ok(2)
+            }
         },
     }
 }

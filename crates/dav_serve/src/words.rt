@@ -2,7 +2,7 @@
 ghost use Rattle.std.specs.Prelude.{◌≡◌, ◌≤◌, IfOk, IfSome, None, Some, cond, map, option_map, string_bytes};
 ghost use Rattle.dav_model.specs.Unset.{nothing_set};
 ghost use Rattle.std.specs.List.{list_all};
-ghost use Rattle.dav_serve.specs.Words.{has_names as the_has_names, is_name as the_is_name, is_prefix as the_is_prefix, is_prefix_byte as the_is_prefix_byte, is_switch as the_is_switch, number_said as the_number_said, options_set, prefix_said, rules_said, seed_said as the_seed_said, set_by, settings_by, size_said as the_size_said, with_buffer as the_with_buffer, with_index as the_with_index, with_prefix as the_with_prefix, with_switch as the_with_switch, with_value as the_with_value};
+ghost use Rattle.dav_serve.specs.Words.{has_names as the_has_names, is_name as the_is_name, is_prefix as the_is_prefix, is_prefix_byte as the_is_prefix_byte, is_switch as the_is_switch, mirror_said as the_mirror_said, number_said as the_number_said, options_set, prefix_said, rules_said, seed_said as the_seed_said, set_by, settings_by, size_said as the_size_said, with_buffer as the_with_buffer, with_index as the_with_index, with_prefix as the_with_prefix, with_switch as the_with_switch, with_value as the_with_value};
 ghost use Rattle.std.specs.Option.{option_and_then};
 ghost use Rattle.dav_serve.specs.Words.{name_said};
 
@@ -99,6 +99,22 @@ pub fn seed_said(words: &[String]) -> Option<u32>
             }
         }
         _ => None,
+    }
+}
+
+/// Whether the words behind the program's name say that the tree is fetched, which are `ROOT mirror` with a root that
+/// isn't empty.
+pub fn mirror_said(words: &[String]) -> bool
+    ensures { result ≡ the_mirror_said words.now }
+{
+    match words {
+        [root, verb] => {
+            if root.as_str().is_empty() {
+                return false;
+            }
+            verb.as_str() == "mirror"
+        }
+        _ => false,
     }
 }
 

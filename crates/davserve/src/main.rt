@@ -1,5 +1,5 @@
 //! The program: it serves a folder to the requests on standard input, and writes the answers to standard output, or
-//! plays a large input of its own, and writes what was counted.
+//! plays a large input of its own, and writes what was counted, or lists the files of a folder as a client fetches them.
 #![tactic(auto)]
 
 use dav_host::{HostDisk, StdSink, StdSource, SystemClock};
@@ -9,12 +9,15 @@ use std::io::ErrorKind;
 use std::process::ExitCode;
 use std::{env, fs, io};
 
-const USAGE: &str = "usage: davserve ROOT serve [OPTION].., or davserve ROOT bench SEED";
+const USAGE: &str =
+    "usage: davserve ROOT serve [OPTION].., or davserve ROOT bench SEED, or davserve ROOT mirror";
 
 // What `--help` says behind the usage.
 const HELP: &str = "
   ROOT serve          serves the folder ROOT to the requests on standard input, and answers on standard output
   ROOT bench SEED     plays a large input, made from the number SEED from 0 to 399, over a disk in memory
+  ROOT mirror         fetches the folder ROOT page by page and file by file, as a client would, and writes a line for
+                      each file: its length and its link; names that begin with a dot are left out
 
 Options of serve, in any order, each at most once:
   --autoindex         a directory is answered with a page of its entries
@@ -31,7 +34,7 @@ Alone, as the only word:
   --version           the name and its version
 
 Status: 0 answered, 2 the words are not understood, 3 reading, 4 writing, or 5 the disk failed, 6 the input is no
-valid request, 7 too many bytes were read, 101 out of memory.";
+valid request, 7 too many bytes were read, 8 the folder cannot be fetched, 101 out of memory.";
 
 // What stands in the words behind the program's name.
 enum Arguments {
@@ -62,7 +65,7 @@ fn is_word(words: &[String], word: &str) -> bool {
     }
 }
 
-// The folder that is served, or none.
+// The folder that is served or fetched, or none.
 fn root_of(words: &[String]) -> &str {
     match words.first() {
         Some(root) => root.as_str(),
@@ -114,6 +117,7 @@ fn line_of(status: u8) -> &'static str {
         5 => "davserve: the disk failed in the middle of a body",
         6 => "davserve: the input is no valid request",
         7 => "davserve: too many bytes were read",
+        8 => "davserve: no folder is there, or a page or a file of it can't be had",
         _ => "",
     }
 }

@@ -35,6 +35,14 @@ pub fn bytes_of(alloc: Global, text: &str) -> Result<Vec<u8>> {
     Ok(bytes)
 }
 
+/// The text of a cell.
+pub fn word_of(alloc: Global, cell: &str) -> Result<String> {
+    match String::from_utf8(bytes_of(alloc, cell)?) {
+        Ok(word) => Ok(word),
+        Err(_) => bail!("no text"),
+    }
+}
+
 // Appends a byte that comes so often in a row.
 fn show_run(line: &mut String, byte: u8, count: u64) -> Result<()> {
     let set: AsciiSet = CONTROLS.add(b'%');

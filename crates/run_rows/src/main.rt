@@ -14,6 +14,11 @@
 //!     cut COUNT            after the first piece of a body, `f.txt` is cut to so many bytes
 //!     long COUNT           the file `long.bin` has so many bytes
 //!     docs                 there is a directory `Docs` with the file `A.txt` of ten digits
+//!     bare                 the disk has neither file; it stands first
+//!     dir PATH             there is a directory at this path, names with slashes between them
+//!     file PATH TEXT       there is a file with these bytes
+//!     turn CHANGE,..       the next turn of the disk makes `remove PATH`, `cut PATH COUNT`, `dir PATH` or `file PATH
+//!                          TEXT`; `turn` alone for none
 //!     gains SECONDS        the clock gains so many seconds each time that it is asked
 //!     listings             behind the rest stands how many listings the disk was asked for
 //!     rooms                the run is made with each smaller room as well
@@ -28,6 +33,7 @@ mod cells;
 mod clock;
 mod rooms;
 mod scene;
+mod tree;
 
 use anyhow::Result;
 use cells::show;

@@ -1,15 +1,16 @@
 //! What a row sets.
-use crate::cells::{bytes_of, number};
+use crate::cells::{bytes_of, number, word_of};
+use crate::tree::{add_docs, add_turn, folder, parted, set_dir, set_file};
 use anyhow::{Result, bail};
-use dav_core::{Change, FileTime, FsPath};
 use dav_disk::MemDisk;
-use dav_io::{Octets, Text};
+use dav_io::Octets;
 use std::alloc::Global;
 
 // More bytes than any row writes.
 const ROOM: usize = 100_000;
 
-const SECOND: FileTime = FileTime { secs: 1, nanos: 0 };
+// The number of the first file or directory that a row adds by its path.
+const FIRST: u64 = 0x20;
 
 /// The program's words, and the objects that it runs over.
 #[derive(Drop)]
@@ -24,67 +25,16 @@ pub struct Scene {
     pub sink_fails: Vec<u64>,
     // How many seconds the clock gains at each call.
     pub gain: u64,
-}
-
-// The path of these names, with slashes between them.
-fn path_of(alloc: Global, text: &str) -> Result<FsPath> {
-    let mut names = Vec::new(alloc);
-    for name in text.split('/') {
-        names.push(Text::copy(alloc, name)?)?;
-    }
-    if !FsPath::fits(&names) {
-        bail!("no path");
-    }
-    Ok(FsPath::new(names))
-}
-
-// Sets a file, where the disk takes it.
-fn set_file(
-    alloc: Global,
-    disk: &mut MemDisk,
-    text: &str,
-    number: u64,
-    bytes: &[u8],
-) -> Result<()> {
-    let path = path_of(alloc, text)?;
-    if disk.can_add(&path, number, SECOND) {
-        disk.add_file(&path, number, SECOND, bytes)?;
-    }
-    Ok(())
-}
-
-// A folder with a file of ten bytes and an empty one.
-fn folder(alloc: Global) -> Result<MemDisk> {
-    let mut disk = MemDisk::new(alloc)?;
-    set_file(alloc, &mut disk, "f.txt", 0x1a, b"0123456789")?;
-    set_file(alloc, &mut disk, "e.txt", 0x1b, b"")?;
-    Ok(disk)
-}
-
-// A directory with a file of ten bytes.
-fn add_docs(alloc: Global, disk: &mut MemDisk) -> Result<()> {
-    let path = path_of(alloc, "Docs")?;
-    if disk.can_add(&path, 0x1d, SECOND) {
-        disk.add_dir(&path, 0x1d, SECOND)?;
-    }
-    set_file(alloc, disk, "Docs/A.txt", 0x1e, b"0123456789")
+    // The number of the next file or directory that is added by its path.
+    next: u64,
 }
 
 // The third turn of a run is the one behind the first piece of a body.
-fn cut(alloc: Global, disk: &mut MemDisk, count: u64) -> Result<()> {
-    disk.script(Vec::new(alloc))?;
-    disk.script(Vec::new(alloc))?;
-    let mut batch = Vec::new(alloc);
-    batch.push(Change::Cut(path_of(alloc, "f.txt")?, count))?;
-    disk.script(batch)?;
-    Ok(())
-}
-
-fn word_of(alloc: Global, cell: &str) -> Result<String> {
-    match String::from_utf8(bytes_of(alloc, cell)?) {
-        Ok(word) => Ok(word),
-        Err(_) => bail!("no text"),
-    }
+fn cut(alloc: Global, disk: &mut MemDisk, count: &str) -> Result<()> {
+    add_turn(alloc, disk, "")?;
+    add_turn(alloc, disk, "")?;
+    let change = format!(in alloc; "cut f.txt {count}")?;
+    add_turn(alloc, disk, change.as_str())
 }
 
 fn words_of(alloc: Global, cell: Option<&str>) -> Result<Vec<String>> {
@@ -109,6 +59,18 @@ fn count_of(cell: &str) -> Result<usize> {
     Ok(number(cell)?.min(1_000_000) as usize)
 }
 
+// Adds a file or a directory by its path.
+fn add(alloc: Global, scene: &mut Scene, word: &str, text: &str) -> Result<()> {
+    let (path, bytes) = parted(text);
+    let number = scene.next;
+    scene.next = number.saturating_add(1);
+    if word == "dir" {
+        return set_dir(alloc, &mut scene.disk, path, number);
+    }
+    let bytes = bytes_of(alloc, bytes)?;
+    set_file(alloc, &mut scene.disk, path, number, bytes.as_slice())
+}
+
 fn set(alloc: Global, scene: &mut Scene, part: &str) -> Result<()> {
     let (word, cell) = match part.split_once(' ') {
         Some((word, cell)) => (word, Some(cell)),
@@ -124,7 +86,10 @@ fn set(alloc: Global, scene: &mut Scene, part: &str) -> Result<()> {
         "source-fails" => scene.source_fails.push(number(text)?)?,
         "sink-fails" => scene.sink_fails.push(number(text)?)?,
         "disk-fails" => scene.disk.fail(number(text)?)?,
-        "cut" => cut(alloc, &mut scene.disk, number(text)?)?,
+        "cut" => cut(alloc, &mut scene.disk, text)?,
+        "bare" => scene.disk = MemDisk::new(alloc)?,
+        "dir" | "file" => add(alloc, scene, word, text)?,
+        "turn" => add_turn(alloc, &mut scene.disk, text)?,
         "long" => {
             let bytes = Vec::from_elem(alloc, 7u8, count_of(text)?)?;
             set_file(alloc, &mut scene.disk, "long.bin", 0x1c, bytes.as_slice())?;
@@ -156,6 +121,7 @@ pub fn scene_of(alloc: Global, row: &str) -> Result<Scene> {
         source_fails: Vec::new(alloc),
         sink_fails: Vec::new(alloc),
         gain: 0,
+        next: FIRST,
     };
     set_all(alloc, &mut scene, row)?;
     Ok(scene)

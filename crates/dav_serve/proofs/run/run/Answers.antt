@@ -1,5 +1,5 @@
 use Rattle.std.proofs.Common.{◌≡◌, ◌∙◌, Option, Some, option_map, IfSome, sym, ap, subst}
-use Rattle.dav_serve.proofs.OneIsSaid.{serving_says_no_seed, unsaid}
+use Rattle.dav_serve.proofs.OneIsSaid.{serving_says_no_mirror, serving_says_no_seed, unheard, unsaid}
 use Rattle.dav_serve.proofs.StatusByInput.{completes}
 use Rattle.dav_serve.proofs.run.run.Goals as goal
 
@@ -22,3 +22,12 @@ returns-in-Ok-clause-benches g c =
 pub returns-in-Err-clause-benches : goal.returns-in-Err-clause-benches
 returns-in-Err-clause-benches g c =
     unsaid _ _ (serving_says_no_seed c.args.words.now _ (said_as _ _ _ c.options_said.ensures _ c.in-Some.is))
+
+-- nor that the tree is fetched
+pub returns-in-Ok-clause-mirrors : goal.returns-in-Ok-clause-mirrors
+returns-in-Ok-clause-mirrors g c =
+    unheard _ (serving_says_no_mirror c.args.words.now _ (said_as _ _ _ c.options_said.ensures _ c.in-Some.is))
+
+pub returns-in-Err-clause-mirrors : goal.returns-in-Err-clause-mirrors
+returns-in-Err-clause-mirrors g c =
+    unheard _ (serving_says_no_mirror c.args.words.now _ (said_as _ _ _ c.options_said.ensures _ c.in-Some.is))

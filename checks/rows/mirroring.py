@@ -1,0 +1,191 @@
+"""A mirror: the tree of a disk as a client of a server over it fetches it, and the lines that are written of its files.
+
+    checks/rows/mirroring.py         writes its rows anew, which stand last in `run_rows`
+"""
+import os
+import random
+
+from disk import SECOND, Disk
+from mirror_rows import Failed, Fetch, Page, Peer, link_of
+from model import Fields, Request, Settings
+from pages import read_page
+from play import Player
+from store import Memory, Store
+from texts import quoted
+
+MOST = 1_000_000
+
+
+def page_of(body):
+    """The body of an answer as a fetch reads it: a page with its links, or what is none."""
+    text = b"".join(part for part in body.parts if isinstance(part, bytes))
+    rows = read_page(text.decode())
+    return b"" if rows is None else Page([quoted(row[0]).encode() for row in rows])
+
+
+class Played(Peer):
+    """A player that is asked as a server is: each request ends the answer before it, and stands behind a turn."""
+
+    def __init__(self, disk):
+        super().__init__([], ())
+        settings = Settings()
+        settings.autoindex = True
+        self.player, self.number = Player(Store(disk, Memory(), False, False), settings), None
+
+    def get(self, path, fields):
+        if self.number is not None:
+            self.player.step(("abandon", self.number))
+        self.player.step(("turn",))
+        request = Request("GET", link_of(path).decode(), Fields(fields))
+        _, reply, self.number = self.player.step(("request", request, 0))
+        return reply.status, reply.sorted(), page_of(reply.body)
+
+    def piece(self):
+        answered = self.player.step(("poll", self.number))
+        if answered[0] == "broken":
+            raise Failed
+        return b"" if answered[0] == "end" else answered[1]
+
+
+def mirrored(disk):
+    """The status of a fetch, and what is written of it."""
+    copy = [[], {}]
+    ended = Fetch(copy, MOST, Played(disk)).run()
+    if ended != "ok":
+        return 5 if ended == "peer" else 8, b""
+    links = {path: link_of(b"".join(b"/" + name for name in path)) for path in copy[1]}
+    return 0, b"".join(b"%d %s\n" % (copy[1][path][1], links[path]) for path in sorted(copy[1]))
+
+
+# ---- the rows
+
+MIRROR = "words folder,mirror"
+HEADING = "# A tree is fetched, and its files are listed in the order of their paths, names with a dot in front left out."
+SMALL = ("dir d", "file d/g 20000*x", "file f hi")
+NAMES = ("a", "b", "c.txt", "a-b", "A", ".h", "é", "d e", "%41", "+", "<b>", '"', "&amp;", "'", "~", "x" * 30, "\n", "☃")
+
+
+def spelt(name):
+    """A name as a row spells it."""
+    return "".join(chr(b) if chr(b).isalnum() and b < 128 or chr(b) in "._-~" else f"%{b:02X}" for b in name.encode())
+
+
+def row(*parts):
+    return " | ".join(("bare",) + parts + (MIRROR,))
+
+
+def worked():
+    """Trees that were worked out by hand, with the lines of each."""
+    yield ("dir a", "file a/x.txt hi", "file f.txt 0123456789", "file .h"), "2 /a/x.txt 10 /f.txt"
+    yield (), ""
+    yield ("dir a", "dir a/b", "dir .c"), ""
+    yield ("file A", "dir a", "file a/x 1", "file a-b 12", "file a.b 123"), "0 /A 1 /a/x 2 /a-b 3 /a.b"
+    yield ("dir .d", "file .d/x", "dir d", "file d/.x", "file d/y ab"), "2 /d/y"
+    yield (("file %C3%A9%20b.txt a", "file %2541 ab", "file %3Cb%3E\"&'.txt abc", "file a+b~c abcd"),
+           "2 /%2541 3 /%3Cb%3E%22%26%27.txt 4 /a%2Bb~c 1 /%C3%A9%20b.txt")
+    yield (("dir a", "dir a/b", "dir a/b/c", "file a/b/c/d 1", "file a/b/e 12", "file a/f 123", "file g"),
+           "1 /a/b/c/d 2 /a/b/e 3 /a/f 0 /g")
+    yield ("file %0A 1", "file %7C 12", "file ... 123", "file ..a"), "1 /%0A 2 /%7C"
+    deep = "/".join("d" * 40)
+    yield tuple("dir " + deep[:2 * at + 1] for at in range(40)) + (f"file {deep}/f deep",), f"4 /{deep}/f"
+
+
+def refused_words():
+    for words in ("folder,mirror,y", "folder,mirror,", ",mirror", "mirror", "folder,Mirror", "folder,mirrors", "folder,mirro",
+                  "mirror,folder", "folder,mirror,--fold", "folder,mirror,0", "folder,--autoindex,mirror"):
+        yield f"words {words} | in GET / HTTP/1.1%0D%0A%0D%0A"
+
+
+def outside():
+    """Rows in which the outside fails or changes."""
+    listed = SMALL + ("dir e", "file e/h")
+    yield "# The input isn't read, and a sink takes the lines in pieces of any size, or fails."
+    yield row(*listed, "in GET / HTTP/1.1%0D%0A%0D%0A", "source-fails 1")
+    for put in (1, 2, 7, 100):
+        yield row(*listed, f"put {put}")
+    for call in (1, 2, 3, 4, 5):
+        yield row(*listed, "put 7", f"sink-fails {call}")
+    for room in (0, 1, 12, 25, 26):
+        yield row(*listed, f"room {room}")
+    yield row("rooms").replace(f"rooms | {MIRROR}", f"{MIRROR} | rooms")
+    yield row(*listed) + " | rooms"
+    yield row("sink-fails 1")
+    yield "# Each call of the disk fails in turn: a body breaks, a request is refused, or a page lacks rows."
+    for call in range(1, calls_of(listed) + 2):
+        yield row(*listed, f"disk-fails {call}")
+    yield row(*listed, "disk-fails 1", "sink-fails 1")
+    yield "# Two calls fail."
+    chance = random.Random(18)
+    for _ in range(12):
+        first, second = sorted(chance.sample(range(1, calls_of(listed)), 2))
+        yield row(*listed, f"disk-fails {first}", f"disk-fails {second}")
+    yield "# What changes between two requests: each is answered by what stands there then."
+    for turns in (("remove f",), ("", "", "remove f"), ("", "", "", "remove f"), ("", "", "", "", "remove f"),
+                  ("", "remove d"), ("", "remove d,file d 1"), ("", "", "", "remove f,dir f"), ("", "", "", "", "cut f 1"),
+                  ("", "", "", "cut d/g 3"), ("", "", "", "remove d/g,file d/g abc"), ("", "file d/i 12"),
+                  ("", "", "file d/i 12"), ("", "", "", "", "", "", "remove f"), ("", "", "", "", "cut f 9", "cut f 1"),
+                  ("remove d,remove e,remove f",)):
+        yield row(*listed, *(f"turn {text}".strip() for text in turns))
+
+
+def calls_of(parts):
+    """How many calls a disk with these gets where nothing fails."""
+    disk = Disk()
+    for at, part in enumerate(parts):
+        kind, path, data = (part + " ").split(" ", 2)
+        disk.add(tuple(path.split("/")), 0x20 + at, SECOND, bytes(20_000) if "*" in data else None if kind == "dir" else b"x")
+    mirrored(disk)
+    return disk.asked
+
+
+def random_tree(seed):
+    """A random tree, and its lines by the paths alone."""
+    chance, dirs, files = random.Random(seed), [()], {}
+    parts = []
+    for _ in range(chance.randrange(1, 14)):
+        path = chance.choice(dirs) + (chance.choice(NAMES),)
+        if path in dirs or path in files or len(path) > 4:
+            continue
+        cell = "/".join(map(spelt, path))
+        if chance.random() < 0.4:
+            dirs.append(path)
+            parts.append(f"dir {cell}")
+        else:
+            files[path] = chance.choice((0, 1, 2, 9, 10, 99, 16_383, 16_384, 16_385, 40_000))
+            parts.append(f"file {cell} {files[path]}*x")
+    shown = [path for path in files if not any(name.startswith(".") for name in path)]
+    shown.sort(key=lambda path: [name.encode() for name in path])
+    return tuple(parts), "".join(f"{files[path]} " + "".join("/" + quoted(name) for name in path) + "\n" for path in shown)
+
+
+def rows():
+    yield HEADING
+    for parts, lines in worked():
+        yield row(*parts), "".join(" ".join(both) + "\n" for both in zip(*[iter(lines.split())] * 2))
+    yield "# Other words with `mirror` aren't understood."
+    yield from refused_words()
+    yield from outside()
+    yield "# Random trees."
+    for seed in range(60):
+        parts, lines = random_tree(seed)
+        yield row(*parts), lines
+
+
+def main():
+    here = os.path.dirname(os.path.abspath(__file__))
+    path = os.path.join(os.path.dirname(os.path.dirname(here)), "crates", "run_rows", "stdin")
+    with open(path, newline="\n", encoding="utf-8") as file:
+        before = file.read().split(HEADING)[0]
+    # Beside it stands the list that a row has by itself, without a fetch.
+    from run_rows import came_of
+    lines = []
+    for it in rows():
+        text, wanted = it if isinstance(it, tuple) else (it, None)
+        assert wanted is None or came_of(text)[:2] == (0, wanted.encode()), text
+        lines.append(text + "\n")
+    with open(path, "w", newline="\n", encoding="utf-8") as file:
+        file.write(before + "".join(lines))
+
+
+if __name__ == "__main__":
+    main()
