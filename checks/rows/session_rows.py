@@ -48,6 +48,14 @@ def wanted(row, memory):
     return f"{joined(scenes, None)}, asked so often {str(asked >= int(least)).lower()}"
 
 
+def wanted_room(row):
+    """One session over caches for so many paths, and for so many directories and names together. As a call of its disk
+    may fail, its answers are those over what is remembered."""
+    paths, dots, scenes = row.split(" ", 2)
+    (answers, disk), = played(scenes, Memory(int(paths), int(dots)))
+    return answers + asked_and_failed(disk, disk.asked)
+
+
 def watch(disk, path):
     """The paths at which a disk is looked at from now on, as far as they are this one."""
     seen, meta = [], disk.meta
@@ -68,12 +76,22 @@ def wanted_meeting(row):
     return f"{told}, alike {times}"
 
 
-TOLD = "set autoindex yes | macos | dir /d 2 1 | file /d/._a 3 1 a | GET /d/ | GET /d/._b | GET /d/._a"
+STEPS = "GET /d/ | GET /d/._b | GET /d/._a"
+TOLD = f"set autoindex yes | macos | dir /d 2 1 | file /d/._a 3 1 a | {STEPS}"
+OTHER = f"set autoindex yes | macos | dir /d 2 2 | file /d/._b 3 2 a | {STEPS}"
+
+
+def wanted_told(counts):
+    """So many sessions over the disk of which a book tells, and so many over another one, each as by itself."""
+    count, _, others = counts.partition(" ")
+    return joined(" & ".join([TOLD] * int(count) + [OTHER] * int(others or 0)), None)
+
 
 FORMS = {
+    "room": wanted_room,
     "meet": wanted_meeting,
     "twice": lambda scenes: joined(scenes, None) + ", purged alike true",
-    "told": lambda count: joined(" & ".join([TOLD] * int(count)), None),
+    "told": wanted_told,
 }
 
 

@@ -1,4 +1,4 @@
-ghost use Rattle.std.specs.Prelude.{◌≡◌, ◌<◌, ◌+◌, ◌^◌, ℕ, All, length, slice_index_or};
+ghost use Rattle.std.specs.Prelude.{◌≡◌, ◌<◌, ◌+◌, ◌^◌, ℕ, All, false, length, slice_index_or};
 ghost use Rattle.dav_handler.specs.Player.{playing_of, stage_of};
 ghost use Rattle.dav_model.specs.Play.{PlayedOn};
 ghost use Rattle.dav_sessions.specs.Sessions.{MayShare, Plays, PlaysFrom, known_by_page, own_of, ready, rules_of};
@@ -48,7 +48,8 @@ fn play_on<'a, D: Disk, B: Book, W: Wait>(
     Ok(())
 }
 
-// A player over the disk from its root on and the shared caches, by these settings. It gave no reply yet.
+// A player over the disk from its root on and the shared caches, by these settings. It gave no reply yet, and makes
+// nothing that is open to everybody.
 fn player_over<'a, D: Disk, B: Book, W: Wait>(
     rt: &'a W,
     alloc: Global,
@@ -59,6 +60,7 @@ fn player_over<'a, D: Disk, B: Book, W: Wait>(
     disk: D,
 ) -> Player<D, Sharing<'a, B, W>>
     ensures loan { D.loan result.store.disk ≡ D.loan disk }
+    ensures public { result.store.public ≡ false }
     ensures stage { stage_of result ≡ ready (B.names cache.now.folder) (rules_of settings fold macos) (D.state disk) }
 {
     let store = LocalFs::new(disk, Sharing::new(rt, cache), false, fold, macos);

@@ -17,7 +17,7 @@ use Rattle.dav_cache.proofs.Keys.{path_decides, time_decides}
 use Rattle.dav_shared.specs.Books.{Page, Listing, IsUntold, has_in, is_of, kept_by, known_in}
 use Rattle.std.specs.Option.{is_some}
 use Rattle.dav_shared.specs.declared.waiting.Waiting.{Waiting}
-use Rattle.dav_shared.specs.Waits.{lists, waiting}
+use Rattle.dav_shared.specs.Waits.{WaitsThen, listing_of, lists, waiting}
 use Rattle.dav_shared.proofs.Keeping.{has_sealable}
 
 learns_none : (page : Page) (waits : Option Listing) → LearnsNothing (kept_by page waits) (kept_by page waits)
@@ -40,13 +40,13 @@ denied_by page dir name time s t (Ok meta) metas has untold =
     let parts = and_parts (is_dir meta.kind) (is_time time meta.modified) has in
     (meta, time, metas, parts.0, time_of_found time meta.modified parts.1, may_deny page dir time name (page dir time) refl untold)
 
--- a directory was found with the time of its entry
+-- the directory was looked at
 pub negates_by : (page : Page) (dir : Names) (name : Name) (time : FileTime) (s t : DiskState) (answer : Result Meta DiskError) (absent : Bool)
-    → Metas s dir answer t → has_time time answer ≡ true → (IsTrue absent → IsUntold page dir time name)
+    → Metas s dir answer t → (IsTrue absent → (has_time time answer ≡ true) × IsUntold page dir time name)
     → Negates (kept_by page None) dir name s absent (kept_by page None) t
-negates_by page dir name time s t answer absent metas has untold = record {
+negates_by page dir name time s t answer absent metas sound = record {
   asks = inr (dir, answer, metas);
-  denied = λ is. denied_by page dir name time s t answer metas has (untold is);
+  denied = λ is. let (has, untold) = sound is in denied_by page dir name time s t answer metas has untold;
   dots = tt;
   paths = refl;
   learns = learns_none page None;
@@ -111,3 +111,8 @@ seals_nothing page waits dir time names now result = record { dots = tt; paths =
 pub none_waits : (o : Option Waiting) → is_some o ≡ false → waiting o ≡ None
 none_waits None e = refl
 none_waits (Some w) e = cc
+
+-- none waited, so this listing waits now
+pub none_waited : (o : Option Waiting) (l : Listing) (now : Moment) (w : Waiting) → is_some o ≡ false → listing_of w ≡ l → w.now ≡ now → WaitsThen o l now Done (Some w)
+none_waited None l now w e is at = (w, refl, is, at)
+none_waited (Some other) l now w e is at = cc

@@ -59,6 +59,11 @@ KeepsTo page dots = (dir : Names) (e : DuEntry) (told : List Name) → lookup (s
 abbrev pub stands_at : Dots → DuKey → FileTime → Bool
 stands_at dots key time = option_map_or (λ e. same_time e.time time) (lookup (same_key key) dots) false
 
+-- whether the directory's entry has this time and number, and the name's entry doesn't have the number
+abbrev pub denies_at : Dots → DuKey → DuKey → ℕ → FileTime → Bool
+denies_at dots dir name number time =
+    stands_at dots dir time && (stands dots dir number && not (stands dots name number))
+
 -- A name that the page doesn't tell of the directory at the time, where it tells names.
 abbrev pub IsUntold : Page → Names → FileTime → Name → Type 0
 IsUntold page dir time x = (told : List Name) → page dir time ≡ Some told → has_in told x ≡ false

@@ -1,10 +1,10 @@
 // The cache of absent names as its lock keeps it.
-ghost use Rattle.std.specs.Prelude.{◌≡◌, ◌<◌, ◌==◌, ◌&&◌, [], IfOk, IsTrue, None, not, option_map, true};
+ghost use Rattle.std.specs.Prelude.{◌≡◌, ◌<◌, ◌==◌, ◌&&◌, [], IfOk, IsTrue, None, not, option_map, true, if◌then◌else◌};
 ghost use Rattle.dav_cache.specs.Trees.{Name};
 ghost use Rattle.dav_cache.specs.Entries.{are_sealable, is_old_dot, purged, same_key, stands, without, name_key as the_name_key};
 ghost use Rattle.std.specs.Map.{lookup};
-ghost use Rattle.dav_cache.specs.Calls.{Seals};
-ghost use Rattle.dav_shared.specs.Books.{IsUntold, KeepsTo, MaySeal, stands_at};
+ghost use Rattle.dav_shared.specs.Books.{IsUntold, KeepsTo, MaySeal, denies_at, stands_at};
+ghost use Rattle.dav_shared.specs.Holds.{SealsFor};
 
 use crate::Book;
 use dav_cache::{DuCache, DuKey, Sealed};
@@ -14,7 +14,7 @@ use std::alloc::Global;
 use std::marker::PhantomData;
 
 /// A cache of absent names that keeps to what a book tells of a folder. Who holds its lock can't know which folder that
-/// is, so each call is told it, and does nothing for another.
+/// is, so `peek`, `denies` and `seal` are told it, and tell and remember nothing for another.
 #[derive(Drop)]
 pub struct BookedDots<B: Book> {
     folder: u64,
@@ -39,8 +39,8 @@ impl<B: Book> BookedDots<B> {
 
     /// The number and the time of a directory's entry.
     pub fn peek(&self, folder: u64, dir: &DuKey) -> Option<(u64, FileTime)>
-        ensures { self.now.folder ≡ folder → result ≡ option_map (λ e. (e.number, e.time))
-            (lookup (same_key dir.now) self.now.dots.entries) }
+        ensures { result ≡ (if self.now.folder == folder
+            then option_map (λ e. (e.number, e.time)) (lookup (same_key dir.now) self.now.dots.entries) else None) }
     {
         if self.folder == folder {
             self.dots.peek_dir(dir)
@@ -60,8 +60,8 @@ impl<B: Book> BookedDots<B> {
         time: FileTime,
     ) -> bool
         requires { dir.now.name ≡ None }
-        ensures value { result ≡ ((self.now.folder == folder) && (stands_at self.now.dots.entries dir.now time
-            && (stands self.now.dots.entries dir.now number && not (stands self.now.dots.entries name.now number)))) }
+        ensures value { result ≡ ((self.now.folder == folder)
+            && denies_at self.now.dots.entries dir.now name.now number time) }
         ensures untold { IsTrue result → (x : Name) → name.now ≡ the_name_key dir.now.dir x
             → IsUntold (B.names folder) dir.now.dir time x }
     {
@@ -95,6 +95,33 @@ impl<B: Book> BookedDots<B> {
         self.dots.drop_dir(dir);
     }
 
+    /// What follows on a look at the directory: whether the name is absent, where the disk found the directory with this
+    /// time, the one of its entry. Else the entry is taken out.
+    pub fn conclude(
+        &mut self,
+        folder: u64,
+        dir: &DuKey,
+        name: &DuKey,
+        number: u64,
+        time: FileTime,
+        found: bool,
+    ) -> bool
+        requires { dir.now.name ≡ None }
+        ensures value { result ≡ (found && ((self.old.folder == folder)
+            && denies_at self.old.dots.entries dir.now name.now number time)) }
+        ensures untold { IsTrue result → (x : Name) → name.now ≡ the_name_key dir.now.dir x
+            → IsUntold (B.names folder) dir.now.dir time x }
+        ensures folder { self.new.folder ≡ self.old.folder }
+        ensures dots { self.new.dots ≡ (if found then self.old.dots
+            else record self.old.dots { entries = without (same_key dir.now) self.old.dots.entries }) }
+    {
+        if found {
+            return self.denies(folder, dir, name, number, time);
+        }
+        self.drop_dir(dir);
+        false
+    }
+
     #[tactic(auto, using(crate::proofs::Keeping::keeps_sealed))]
     /// Puts the directory's entry with the next number, and then each name in order.
     pub fn seal(
@@ -109,7 +136,8 @@ impl<B: Book> BookedDots<B> {
         requires names { are_sealable names.now ≡ true }
         requires may { MaySeal (B.names folder) dir.now.dir time names.now }
         ensures folder { self.new.folder ≡ self.old.folder }
-        ensures dots { self.old.folder ≡ folder → Seals self.old.dots dir.now time now names.now result self.new.dots }
+        ensures dots { SealsFor (self.old.folder == folder) self.old.dots dir.now time now names.now result
+            self.new.dots }
     {
         if self.folder != folder {
             return Sealed::Done;

@@ -1,9 +1,12 @@
-ghost use Rattle.std.specs.Prelude.{◌≡◌, ◌<◌, IfOk, IfSome, IsTrue, OnErr, None, true};
+ghost use Rattle.std.specs.Prelude.{◌≡◌, ◌<◌, IfOk, IfSome, IsTrue, OnErr, None, option_map, true};
+ghost use Rattle.std.specs.Map.{lookup};
+ghost use Rattle.dav_core.specs.Disk.{Metas};
 ghost use Rattle.dav_cache.specs.Calls.{LacksMemory, Opening, Seeing, has_time as the_has_time};
-ghost use Rattle.dav_cache.specs.Entries.{are_sealable, name_key as the_name_key};
+ghost use Rattle.dav_cache.specs.Entries.{are_sealable, promoted, name_key as the_name_key};
 ghost use Rattle.dav_cache.specs.Memory.{GetsBy, Negates};
-ghost use Rattle.dav_cache.specs.Trees.{Name, fold_path};
+ghost use Rattle.dav_cache.specs.Trees.{Name, fold_path, same_path};
 ghost use Rattle.dav_shared.specs.Books.{IsUntold, MaySeal, MaySettle, kept_by};
+ghost use Rattle.dav_shared.specs.Holds.{AsksFor, LooksAt, OpensToRead};
 ghost use Rattle.dav_shared.specs.Waits.{waiting};
 
 use crate::Book;
@@ -50,11 +53,7 @@ impl<B: Book> SharedCache<B> {
         ensures { IfOk result (λ found. IfSome found (λ f. fold_path f.1 ≡ fold_path path.now)) }
     {
         let mut paths = self.paths.lock(rt);
-        let found = paths.place_of(path)?;
-        if let Some((key, _)) = &found {
-            paths.promote(key);
-        }
-        Ok(found)
+        recalled(&mut *paths, path)
     }
 
     fn forget<W: Wait>(&self, rt: &W, key: &FoldedPath) {
@@ -65,27 +64,23 @@ impl<B: Book> SharedCache<B> {
         self.dots.lock(rt).peek(self.folder, dir)
     }
 
-    fn denies<W: Wait>(
+    fn conclude<W: Wait>(
         &self,
         rt: &W,
         dir: &DuKey,
         name: &DuKey,
         number: u64,
         time: FileTime,
+        found: bool,
     ) -> bool
         requires { dir.now.name ≡ None }
-        ensures { IsTrue result → (x : Name) → name.now ≡ the_name_key dir.now.dir x
+        ensures found { IsTrue result → IsTrue found }
+        ensures untold { IsTrue result → (x : Name) → name.now ≡ the_name_key dir.now.dir x
             → IsUntold (B.names self.now.folder) dir.now.dir time x }
     {
         self.dots
             .lock(rt)
-            .denies(self.folder, dir, name, number, time)
-    }
-
-    fn drop_dir<W: Wait>(&self, rt: &W, dir: &DuKey)
-        requires { dir.now.name ≡ None }
-    {
-        self.dots.lock(rt).drop_dir(dir);
+            .conclude(self.folder, dir, name, number, time, found)
     }
 
     // ---- the calls
@@ -99,6 +94,7 @@ impl<B: Book> SharedCache<B> {
     ) -> Result<Option<(FsPath, Meta)>, NoMemory>
         ensures done { IfOk result (λ found. GetsBy Seeing (kept_by (B.names self.now.folder) None) path.now
             (D.state disk.old) found (kept_by (B.names self.now.folder) None) (D.state disk.new)) }
+        ensures asks { AsksFor Metas path.now (D.state disk.old) (D.state disk.new) }
         ensures unasked { OnErr result (D.state disk.new ≡ D.state disk.old) }
         ensures loan { D.loan disk.new ≡ D.loan disk.old }
     {
@@ -124,6 +120,7 @@ impl<B: Book> SharedCache<B> {
     ) -> Result<Option<(FsPath, Handle)>, NoMemory>
         ensures done { IfOk result (λ found. GetsBy Opening (kept_by (B.names self.now.folder) None) path.now
             (D.state disk.old) found (kept_by (B.names self.now.folder) None) (D.state disk.new)) }
+        ensures asks { AsksFor OpensToRead path.now (D.state disk.old) (D.state disk.new) }
         ensures starved { OnErr result (LacksMemory (D.state disk.old) (D.state disk.new)) }
         ensures loan { D.loan disk.new ≡ D.loan disk.old }
     {
@@ -158,6 +155,7 @@ impl<B: Book> SharedCache<B> {
     ) -> Result<bool, NoMemory>
         ensures done { IfOk result (λ absent. Negates (kept_by (B.names self.now.folder) None) dir.now name.now
             (D.state disk.old) absent (kept_by (B.names self.now.folder) None) (D.state disk.new)) }
+        ensures asks { LooksAt dir.now (D.state disk.old) (D.state disk.new) }
         ensures unasked { OnErr result (D.state disk.new ≡ D.state disk.old) }
         ensures loan { D.loan disk.new ≡ D.loan disk.old }
     {
@@ -166,12 +164,8 @@ impl<B: Book> SharedCache<B> {
         let Some((number, time)) = self.peek(rt, &dir_key) else {
             return Ok(false);
         };
-        if has_time(time, disk.meta(dir)) {
-            Ok(self.denies(rt, &dir_key, &name_key, number, time))
-        } else {
-            self.drop_dir(rt, &dir_key);
-            Ok(false)
-        }
+        let found = has_time(time, disk.meta(dir));
+        Ok(self.conclude(rt, &dir_key, &name_key, number, time, found))
     }
 
     /// Remembers the names of a directory that begin with `._`, as it had them at this time.
@@ -210,6 +204,24 @@ impl<B: Book> SharedCache<B> {
         self.paths.lock(rt).purge(now);
         self.dots.lock(rt).purge(now);
     }
+}
+
+// What is remembered of a path. Its entry comes to the front.
+fn recalled(paths: &mut Cache, path: &FsPath) -> Result<Option<(FoldedPath, FsPath)>, NoMemory>
+    ensures found { IfOk result (λ found. found ≡ option_map (λ e. (fold_path path.now, e.path))
+        (lookup (same_path (fold_path path.now)) paths.old.entries)) }
+    ensures folds { IfOk result (λ found. IfSome found (λ f. fold_path f.1 ≡ fold_path path.now)) }
+    ensures entries { IfOk result (λ found. paths.new ≡ record paths.old {
+      entries = promoted (fold_path path.now)
+          (lookup (same_path (fold_path path.now)) paths.old.entries) paths.old.entries;
+    }) }
+    ensures err { OnErr result (paths.new ≡ paths.old) }
+{
+    let found = paths.place_of(path)?;
+    if let Some((key, _)) = &found {
+        paths.promote(key);
+    }
+    Ok(found)
 }
 
 // Whether the disk found the directory with this time.

@@ -1,9 +1,13 @@
-ghost use Rattle.std.specs.Prelude.{◌≡◌, ◌&&◌, ◌<◌, IfOk, IsTrue, List, None, Some, Err, true, false};
+ghost use Rattle.std.specs.Prelude.{◌≡◌, ◌&&◌, ◌<◌, IfOk, IsTrue, List, None, OnErr, OnOk, Ok, Some, Err, true, false};
 ghost use Rattle.std.specs.List.{list_any};
+ghost use Rattle.dav_core.specs.Disk.{Metas};
 ghost use Rattle.dav_cache.specs.Trees.{Name, same_name};
+ghost use Rattle.dav_cache.specs.Calls.{LacksMemory};
 ghost use Rattle.dav_cache.specs.Entries.{are_sealable};
+ghost use Rattle.dav_cache.specs.Memory.{Gets, GetsOpen, Inserts, Negates, Purges, SealsIn};
 ghost use Rattle.dav_shared.specs.Books.{kept_by};
-ghost use Rattle.dav_shared.specs.Waits.{listing_of, lists, waiting};
+ghost use Rattle.dav_shared.specs.Holds.{AsksFor, LooksAt, OpensToRead};
+ghost use Rattle.dav_shared.specs.Waits.{WaitsThen, listing_of, lists, waiting};
 
 use crate::waiting::Waiting;
 use crate::{Book, SharedCache};
@@ -85,7 +89,8 @@ fn wait_with(
 ) -> Result<Waiting, NoMemory>
     requires dir { dir.now.name ≡ None }
     requires names { are_sealable names.now ≡ true }
-    ensures { IfOk result (λ w. listing_of w ≡ record { dir = dir.now.dir; time = time; names = names.now }) }
+    ensures listing { IfOk result (λ w. listing_of w ≡ record { dir = dir.now.dir; time = time; names = names.now }) }
+    ensures now { IfOk result (λ w. w.now ≡ now) }
 {
     let key = dir_key(&dir.dir)?;
     let names = copy_names(alloc, names)?;
@@ -105,7 +110,16 @@ impl<'a, B: Book, W: Wait> Remember for Sharing<'a, B, W> {
         _alloc: Global,
         path: &FsPath,
         disk: &mut D,
-    ) -> Result<Option<(FsPath, Meta)>, NoMemory> {
+    ) -> Result<Option<(FsPath, Meta)>, NoMemory>
+        ensures done { IfOk result (λ found. Gets
+            (kept_by (B.names self.old.cache.now.folder) (waiting self.old.waits)) path.now (D.state disk.old) found
+            (kept_by (B.names self.new.cache.now.folder) (waiting self.new.waits)) (D.state disk.new)) }
+        ensures err { OnErr result (self.new ≡ self.old) }
+        ensures same { self.new ≡ self.old }
+        ensures asks { AsksFor Metas path.now (D.state disk.old) (D.state disk.new) }
+        ensures unasked { OnErr result (D.state disk.new ≡ D.state disk.old) }
+        ensures loan { D.loan disk.new ≡ D.loan disk.old }
+    {
         self.cache.get(self.rt, path, disk)
     }
 
@@ -114,11 +128,26 @@ impl<'a, B: Book, W: Wait> Remember for Sharing<'a, B, W> {
         _alloc: Global,
         path: &FsPath,
         disk: &mut D,
-    ) -> Result<Option<(FsPath, Handle)>, NoMemory> {
+    ) -> Result<Option<(FsPath, Handle)>, NoMemory>
+        ensures done { IfOk result (λ found. GetsOpen
+            (kept_by (B.names self.old.cache.now.folder) (waiting self.old.waits)) path.now (D.state disk.old) found
+            (kept_by (B.names self.new.cache.now.folder) (waiting self.new.waits)) (D.state disk.new)) }
+        ensures err { OnErr result (self.new ≡ self.old) }
+        ensures same { self.new ≡ self.old }
+        ensures asks { AsksFor OpensToRead path.now (D.state disk.old) (D.state disk.new) }
+        ensures starved { OnErr result (LacksMemory (D.state disk.old) (D.state disk.new)) }
+        ensures loan { D.loan disk.new ≡ D.loan disk.old }
+    {
         self.cache.get_open(self.rt, path, disk)
     }
 
-    fn insert(&mut self, _alloc: Global, path: &FsPath, now: Moment) -> Result<(), NoMemory> {
+    fn insert(&mut self, _alloc: Global, path: &FsPath, now: Moment) -> Result<(), NoMemory>
+        ensures done { OnOk result (Inserts
+            (kept_by (B.names self.old.cache.now.folder) (waiting self.old.waits)) path.now now
+            (kept_by (B.names self.new.cache.now.folder) (waiting self.new.waits))) }
+        ensures err { OnErr result (self.new ≡ self.old) }
+        ensures same { self.new ≡ self.old }
+    {
         self.cache.insert(self.rt, path, now)
     }
 
@@ -128,7 +157,18 @@ impl<'a, B: Book, W: Wait> Remember for Sharing<'a, B, W> {
         dir: &FsPath,
         name: &Text,
         disk: &mut D,
-    ) -> Result<bool, NoMemory> {
+    ) -> Result<bool, NoMemory>
+        ensures done { IfOk result (λ absent. Negates
+            (kept_by (B.names self.old.cache.now.folder) (waiting self.old.waits)) dir.now name.now (D.state disk.old)
+            absent (kept_by (B.names self.new.cache.now.folder) (waiting self.new.waits)) (D.state disk.new)) }
+        ensures err { OnErr result (self.new ≡ self.old) }
+        ensures same { self.new ≡ self.old }
+        ensures listed { lists (waiting self.old.waits) dir.now name.now ≡ true
+            → (result ≡ Ok false) × (D.state disk.new ≡ D.state disk.old) }
+        ensures asks { LooksAt dir.now (D.state disk.old) (D.state disk.new) }
+        ensures unasked { OnErr result (D.state disk.new ≡ D.state disk.old) }
+        ensures loan { D.loan disk.new ≡ D.loan disk.old }
+    {
         if self.was_listed(dir, name) {
             return Ok(false);
         }
@@ -142,7 +182,15 @@ impl<'a, B: Book, W: Wait> Remember for Sharing<'a, B, W> {
         time: FileTime,
         names: &[Text],
         now: Moment,
-    ) -> Sealed {
+    ) -> Sealed
+        requires dir { dir.now.name ≡ None }
+        requires names { are_sealable names.now ≡ true }
+        ensures done { SealsIn (kept_by (B.names self.old.cache.now.folder) (waiting self.old.waits)) dir.now time
+            names.now now result (kept_by (B.names self.new.cache.now.folder) (waiting self.new.waits)) }
+        ensures waits { WaitsThen self.old.waits (record { dir = dir.now.dir; time = time; names = names.now }) now
+            result self.new.waits }
+        ensures cache { self.new.cache.now.folder ≡ self.old.cache.now.folder }
+    {
         if self.waits.is_some() {
             return Sealed::Done;
         }
@@ -155,7 +203,11 @@ impl<'a, B: Book, W: Wait> Remember for Sharing<'a, B, W> {
         }
     }
 
-    fn purge(&mut self, now: Moment) {
+    fn purge(&mut self, now: Moment)
+        ensures done { Purges (kept_by (B.names self.old.cache.now.folder) (waiting self.old.waits)) now
+            (kept_by (B.names self.new.cache.now.folder) (waiting self.new.waits)) }
+        ensures same { self.new ≡ self.old }
+    {
         self.cache.purge(self.rt, now);
     }
 }

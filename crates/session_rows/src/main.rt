@@ -5,6 +5,8 @@
 //! count for all. Of a scene that isn't `uncounted` it is told how often its disk was asked. The caches are new; what
 //! stands before the scenes changes that or more:
 //!
+//!     room PATHS DOTS SCENE      over caches with room for so many paths, and for so many directories and names
+//!                                together
 //!     again SCENES               the caches are those of the row before
 //!     least NUMBER SCENES        of the calls it is told alone whether all disks together were asked so many; `again`
 //!                                may stand before it
@@ -15,10 +17,12 @@
 //!     twice SCENES               once more over new caches, which another thread purges all the time: it is told whether
 //!                                all answers were the same. Each scene is to be `uncounted`.
 //!     host FOLDER SCENES         each over this folder of the machine; nothing is told of calls
-//!     told COUNT                 so many sessions over caches of folder 1 and the book that tells of it, each over a
-//!                                disk of which the book is true: the root and its directory `/d` of 1 s with the file
-//!                                `/d/._a`. Each asks for `/d/`, `/d/._b` and `/d/._a`, with pages and the rules for
-//!                                macOS.
+//!     told COUNT OTHERS          so many sessions over caches of folder 1 and the book that tells of it, each over a
+//!                                disk that has what the book tells: the root and its directory `/d` of 1 s with the
+//!                                file `/d/._a`. Behind them so many others over the same caches, with a `/d` of 2 s,
+//!                                of which the book tells nothing, and in it the file `/d/._b`. Each asks for `/d/`,
+//!                                `/d/._b` and `/d/._a`, with pages and the rules for macOS. A number that is missing
+//!                                is 0.
 //!
 //! A row that begins with `#` is written as it stands, and one that isn't understood has no answer.
 #![tactic(auto)]
@@ -33,10 +37,11 @@ mod told;
 
 use dav_host::HostDisk;
 use dav_rows::Line;
+use dav_scenes::number;
 use dav_shared::{SharedCache, UntoldBook};
 use meet::meet;
 use over::play_over;
-use played::{play, room_for_all};
+use played::{play, room_for, room_for_all};
 use purged::play_twice;
 use std::alloc::Global;
 use std::io;
@@ -61,6 +66,13 @@ fn play_row<R: Threads + Wait + Sync>(
     line.need(played);
 }
 
+// Empty caches for so many paths and so many names as the first two words of a row say, and the scenes behind them.
+fn room_of(alloc: Global, row: &str) -> (Option<SharedCache<UntoldBook>>, &str) {
+    let (paths, row) = row.split_once(' ').unwrap_or((row, ""));
+    let (dots, scenes) = row.split_once(' ').unwrap_or((row, ""));
+    (room_for(alloc, number(paths), number(dots)), scenes)
+}
+
 // Answers a row. The caches are kept for those that go on with them.
 fn answer<R: Threads + Wait + Sync>(
     rt: &R,
@@ -73,12 +85,15 @@ fn answer<R: Threads + Wait + Sync>(
         line.add(row);
     } else if let Some(scenes) = row.strip_prefix("again ") {
         play_row(rt, alloc, kept, line, scenes);
+    } else if let Some(row) = row.strip_prefix("room ") {
+        let (cache, scenes) = room_of(alloc, row);
+        play_row(rt, alloc, &cache, line, scenes);
     } else if let Some(scenes) = row.strip_prefix("meet ") {
         meet(rt, alloc, line, scenes);
     } else if let Some(scenes) = row.strip_prefix("twice ") {
         play_twice(rt, alloc, line, scenes);
-    } else if let Some(count) = row.strip_prefix("told ") {
-        play_told(rt, alloc, line, count);
+    } else if let Some(counts) = row.strip_prefix("told ") {
+        play_told(rt, alloc, line, counts);
     } else {
         *kept = room_for_all(alloc);
         play_row(rt, alloc, kept, line, row);

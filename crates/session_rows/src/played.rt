@@ -12,6 +12,9 @@ use std::thread::Threads;
 // How many paths are remembered, and how many directories and names together.
 pub const ROOM: usize = 64;
 
+// More than any row asks for.
+const MOST: u64 = 1_000;
+
 // More steps than any row has.
 const STEPS: usize = 100_000;
 
@@ -35,6 +38,13 @@ fn are_short<D>(sessions: &[Session<D>]) -> bool
 /// Empty caches.
 pub fn room_for_all(alloc: Global) -> Option<SharedCache<UntoldBook>> {
     SharedCache::new(alloc, 1, ROOM, ROOM).ok()
+}
+
+/// Empty caches for so many paths, and for so many directories and names together, but for one each at least.
+pub fn room_for(alloc: Global, paths: u64, dots: u64) -> Option<SharedCache<UntoldBook>> {
+    let paths = paths.min(MOST) as usize;
+    let dots = dots.min(MOST) as usize;
+    SharedCache::new(alloc, 1, paths.max(1), dots.max(1)).ok()
 }
 
 /// Plays all sessions, unless one has more steps than any row has.

@@ -1,7 +1,7 @@
-//! Sessions over disks of which a book is true.
-ghost use Rattle.std.specs.Prelude.{◌≡◌, All, IfOk};
+//! Sessions over disks of which a book is true: it tells what they have, or nothing of their time.
+ghost use Rattle.std.specs.Prelude.{◌≡◌, All, IfOk, OnOk};
 ghost use Rattle.dav_disk.specs.Failing.{mem_state};
-ghost use Rattle.session_rows.specs.Told.{AreQuiet, IsQuiet, IsToldOf, TellsTree};
+ghost use Rattle.session_rows.specs.Told.{AreQuiet, CanBeTold, IsQuiet, IsToldOf, TellsTree};
 
 use crate::played::ROOM;
 use crate::table::tell_session;
@@ -19,16 +19,16 @@ use std::alloc::Global;
 use std::sync::Wait;
 use std::thread::Threads;
 
-// More sessions than any row has.
+// More sessions of a kind than any row has.
 const SESSIONS: u64 = 64;
 
-// The root, the directory `/d` of 1 s, and in it a file `._a`.
-fn told_disk(alloc: Global) -> Result<MemDisk, NoMemory>
-    ensures { IfOk result (λ disk. TellsTree (mem_state disk)) }
+// The root, the directory `/d` of this time, and in it a file of this name.
+fn told_disk(alloc: Global, time: FileTime, name: &str) -> Result<MemDisk, NoMemory>
+    requires { CanBeTold time name.now }
+    ensures { IfOk result (λ disk. TellsTree time name.now (mem_state disk)) }
 {
-    let time = FileTime { secs: 1, nanos: 0 };
     let dir = FsPath::new(Vec::new(alloc)).child("d")?;
-    let file = dir.child("._a")?;
+    let file = dir.child(name)?;
     let mut disk = MemDisk::new(alloc)?;
     disk.add_dir(&dir, 2, time)?;
     disk.add_file(&file, 3, time, b"a")?;
@@ -62,21 +62,41 @@ fn asked_steps(alloc: Global) -> Result<Vec<Step>, NoMemory>
 }
 
 #[tactic(auto, using(crate::proofs::Fitting::told_still))]
-fn told_session(alloc: Global) -> Result<Session<MemDisk>, NoMemory>
+fn told_session(alloc: Global, time: FileTime, name: &str) -> Result<Session<MemDisk>, NoMemory>
+    requires { CanBeTold time name.now }
     ensures { IfOk result (λ s. IsToldOf (mem_state s.disk) s.steps) }
 {
-    let disk = told_disk(alloc)?;
+    let disk = told_disk(alloc, time, name)?;
     let steps = asked_steps(alloc)?;
     Ok(Session::new(alloc, disk, StepList::new(steps)))
 }
 
-fn told_sessions(alloc: Global, count: u64) -> Result<Vec<Session<MemDisk>>, NoMemory>
+// Adds so many sessions over such disks.
+fn add_sessions(
+    sessions: &mut Vec<Session<MemDisk>>,
+    count: u64,
+    time: FileTime,
+    name: &str,
+) -> Result<(), NoMemory>
+    requires told { CanBeTold time name.now }
+    requires others { All (λ s. IsToldOf (mem_state s.disk) s.steps) sessions.old.items }
+    ensures { OnOk result (All (λ s. IsToldOf (mem_state s.disk) s.steps) sessions.new.items) }
+{
+    let alloc = *sessions.allocator();
+    for _i in 0..count {
+        sessions.push(told_session(alloc, time, name)?)?;
+    }
+    Ok(())
+}
+
+// So many sessions over disks of which the book tells the names, and behind them so many over disks on which `/d` has
+// another time and other names.
+fn told_sessions(alloc: Global, count: u64, others: u64) -> Result<Vec<Session<MemDisk>>, NoMemory>
     ensures { IfOk result (λ sessions. All (λ s. IsToldOf (mem_state s.disk) s.steps) sessions.items) }
 {
     let mut sessions = Vec::new(alloc);
-    for _i in 0..count {
-        sessions.push(told_session(alloc)?)?;
-    }
+    add_sessions(&mut sessions, count, FileTime { secs: 1, nanos: 0 }, "._a")?;
+    add_sessions(&mut sessions, others, FileTime { secs: 2, nanos: 0 }, "._b")?;
     Ok(sessions)
 }
 
@@ -99,15 +119,18 @@ fn played_sessions<R: Threads + Wait + Sync>(
     rt: &R,
     alloc: Global,
     count: u64,
+    others: u64,
 ) -> Result<Vec<Session<MemDisk>>, NoMemory> {
-    let mut sessions = told_sessions(alloc, count)?;
+    let mut sessions = told_sessions(alloc, count, others)?;
     play_booked(rt, alloc, sessions.as_mut_slice())?;
     Ok(sessions)
 }
 
-/// Plays so many sessions, and tells each.
-pub fn play_told<R: Threads + Wait + Sync>(rt: &R, alloc: Global, line: &mut Line, count: &str) {
-    let Ok(sessions) = played_sessions(rt, alloc, number(count).min(SESSIONS)) else {
+/// Plays so many sessions of both kinds as two numbers say, and tells each. A number that is missing is 0.
+pub fn play_told<R: Threads + Wait + Sync>(rt: &R, alloc: Global, line: &mut Line, counts: &str) {
+    let (count, others) = counts.split_once(' ').unwrap_or((counts, ""));
+    let (count, others) = (number(count).min(SESSIONS), number(others).min(SESSIONS));
+    let Ok(sessions) = played_sessions(rt, alloc, count, others) else {
         return line.refuse();
     };
     for (at, session) in sessions.iter().enumerate() {

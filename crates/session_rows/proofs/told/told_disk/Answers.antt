@@ -6,11 +6,11 @@ use Rattle.session_rows.proofs.told.told_disk.Goals as goal
 
 pub add_dir-requires : goal.add_dir-requires
 add_dir-requires c =
-    can_add_dir _ c.in_ok-dir.dir (ap (λ (s : DiskState). s.told) c.in_ok-disk.ensures.made)
-    (c.in_ok-dir.ensures ∙ ap (λ (p : Names). p ++ codes "d" ∷ []) (c.new-2.ensures ∙ c.new.ensures.items))
+    can_add_dir _ c.in_ok-dir.dir c.args.time (ap (λ (s : DiskState). s.told) c.in_ok-disk.ensures.made)
+    (c.in_ok-dir.ensures ∙ ap (λ (p : Names). p ++ codes "d" ∷ []) (c.new-2.ensures ∙ c.new.ensures.items)) c.requires.set
 
 pub add_file-requires : goal.add_file-requires
 add_file-requires c =
-    can_add_file _ _ c.in_ok-dir.dir c.in_ok-file.file (ap (λ (s : DiskState). s.told) c.in_ok-disk.ensures.made)
+    can_add_file _ _ c.in_ok-dir.dir c.in_ok-file.file c.args.time c.args.name.now (ap (λ (s : DiskState). s.told) c.in_ok-disk.ensures.made)
     (c.in_ok-dir.ensures ∙ ap (λ (p : Names). p ++ codes "d" ∷ []) (c.new-2.ensures ∙ c.new.ensures.items))
-    (ap (λ (s : DiskState). s.told) c.in_ok-add_dir.ensures.ok) c.in_ok-file.ensures
+    (ap (λ (s : DiskState). s.told) c.in_ok-add_dir.ensures.ok) c.in_ok-file.ensures c.requires.set

@@ -1,15 +1,9 @@
-use Rattle.std.proofs.Common.{[], ◌∷◌}
-use Rattle.std.proofs.lemmas.List.Elements.{All-append, All-cons, All-nil}
-use Rattle.dav_disk.specs.declared.mem_disk.MemDisk.{MemDisk}
-use Rattle.dav_disk.specs.Failing.{mem_state}
-use Rattle.dav_sessions.specs.declared.session.Session.{Session}
-use Rattle.session_rows.specs.Told.{IsToldOf}
+use Rattle.std.proofs.Common.{refl}
+use Rattle.session_rows.proofs.Telling.{other_time}
 use Rattle.session_rows.proofs.told.told_sessions.Goals as goal
 
-abbrev IsFit : Session MemDisk → Type 0
-IsFit s = IsToldOf (mem_state s.disk) s.steps
+pub add_sessions-requires-clause-told : goal.add_sessions-requires-clause-told
+add_sessions-requires-clause-told c = record { set = refl; plain = refl; book = λ at. refl }
 
-pub loop-i-preserved : goal.loop-i-preserved
-loop-i-preserved c =
-    rw c.in_ok-push.ensures.items (All-append IsFit c.loop-i.sessions.items (c.in_ok-told_session.field-0 ∷ []) c.loop-i.invariant
-    (All-cons IsFit c.in_ok-told_session.field-0 [] c.in_ok-told_session.ensures (All-nil IsFit)))
+pub add_sessions-requires-2-clause-told : goal.add_sessions-requires-2-clause-told
+add_sessions-requires-2-clause-told c = record { set = refl; plain = refl; book = other_time _ }
