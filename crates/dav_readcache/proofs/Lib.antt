@@ -3,6 +3,7 @@ pub mod Contents
 pub mod Filling
 pub mod Fronts
 pub mod Inside
+pub mod KeptOpen
 pub mod Leading
 pub mod LocalView
 pub mod LocalWorlds
