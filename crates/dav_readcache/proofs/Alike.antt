@@ -16,22 +16,20 @@ use Rattle.dav_core.specs.DavPath.{WebPath}
 use Rattle.dav_core.specs.Disk.{DiskState}
 use Rattle.dav_core.specs.Info.{Info, known, tag_of}
 use Rattle.dav_core.specs.Tree.{is_file}
-use Rattle.dav_core.specs.World.{Stored, SameBesidesOpens, World, bytes_of, bytes_or_none, time_of}
-use Rattle.dav_core.specs.Writing.{reading}
+use Rattle.dav_core.specs.World.{Stored, SameBesidesOpens, World, bytes_or_none}
 use Rattle.dav_core.proofs.UnchangedLemmas.{equal_keys}
-use Rattle.dav_store.specs.Files.{IsFault, Spoiled, rest_of}
+use Rattle.dav_store.specs.Files.{Spoiled}
 use Rattle.dav_store.specs.Shows.{IsThere, Looked, OpensThere, Shows, here, looks, looks_at_link}
 use Rattle.dav_store.specs.Standing.{AgreesOpen, Seen, Standing}
-use Rattle.dav_store.specs.View.{Closes, Says, View, seen_in}
+use Rattle.dav_store.specs.View.{View, seen_in}
 use Rattle.dav_readcache.specs.declared.cached.CachedFile.{CachedFile}
-use Rattle.dav_readcache.specs.declared.cached.Content.{Content}
 use Rattle.dav_readcache.specs.declared.cached.Reading.{Reading}
 use Rattle.dav_readcache.specs.declared.keeping.Wanted.{Wanted}
 use Rattle.dav_readcache.specs.declared.store.ReadCache.{ReadCache}
-use Rattle.dav_readcache.specs.Cached.{cached_file, is_of, is_tag, pending_at, place_of, seen_as, shown}
-use Rattle.dav_readcache.specs.Opening.{AfterOpen, EndsOpen, Fetches, FrontIn, Holds, HoldsBy, HoldsOpened, HoldsWanted, Keeps, KeepsWhere, Opening, OpensCached, Starves, holding, put_back, says_tag, unheld, wanted_by, wanted_of}
+use Rattle.dav_readcache.specs.Cached.{cached_file, is_tag, place_of, seen_as, shown}
+use Rattle.dav_readcache.specs.Opening.{AfterOpen, EndsOpen, Fetches, FrontIn, Holds, HoldsBy, HoldsOpened, HoldsWanted, Keeps, KeepsWhere, Opening, Starves, holding, says_tag, unheld, wanted_by, wanted_of}
 use Rattle.dav_readcache.specs.Shelf.{Pairs, ShelfState, bytes_for}
-use Rattle.dav_readcache.specs.Sound.{AreFilesTold, AreSoundIn, IsFileIn, IsSoundIn, IsWorldThere, tag_in}
+use Rattle.dav_readcache.specs.Sound.{AreFilesTold, AreSoundIn, IsFileIn, IsSoundIn, IsWorldThere}
 use Rattle.dav_readcache.specs.Store.{cache_view}
 use Rattle.dav_readcache.proofs.Opened.{IsReadFrom, is_holding, is_unheld, kept_from, refused_any}
 use Rattle.dav_readcache.proofs.Showing.{same_bytes, tag_same}
@@ -59,7 +57,7 @@ found_when true w tag key bytes found rest same sound on e =
     subst (λ t. IsSoundIn w t found) k (subst (λ b. IsSoundIn w key b) is sound)
 found_when false w tag key bytes found rest same sound on e = on e
 
-found_sound : (w : World) (tag found : List ℕ) (pairs : Pairs) → AreSoundIn w pairs → lookup (pointwise nat_eq tag) pairs ≡ Some found → IsSoundIn w tag found
+pub found_sound : (w : World) (tag found : List ℕ) (pairs : Pairs) → AreSoundIn w pairs → lookup (pointwise nat_eq tag) pairs ≡ Some found → IsSoundIn w tag found
 found_sound w tag found [] all e = cc
 found_sound w tag found (pair ∷ pairs) (one, all) e =
     found_when (pointwise nat_eq tag pair.0) w tag pair.0 pair.1 found (lookup (pointwise nat_eq tag) pairs) refl one (found_sound w tag found pairs all) e
@@ -268,7 +266,7 @@ module _ {S C F : Type 0} (view : View S C F) where
 
   -- ---- what the cache shows
 
-  looked_inside : (s : ReadCache S C) (c : C) (t : ReadCache S C) → Looked (cache_view view) s c t → Looked view s.store c t.store × (t.shelf ≡ s.shelf)
+  pub looked_inside : (s : ReadCache S C) (c : C) (t : ReadCache S C) → Looked (cache_view view) s c t → Looked view s.store c t.store × (t.shelf ≡ s.shelf)
   looked_inside s c t here = (here, refl)
   looked_inside s c t (looks m n path r before call) =
       let (inside, same) = looked_inside s c m before in (looks m.store n.store path r inside call.0, ap (λ (x : ReadCache S C). x.shelf) call.1 ∙ same)

@@ -1,20 +1,19 @@
 -- Reads of a file to the front of a buffer, one after the other.
-use Rattle.std.proofs.Common.{◌≡◌, ◌≤◌, ◌<◌, ◌+◌, ◌-◌, ◌++◌, ◌⊎◌, ℕ, add-zero, add_assoc, List, [], length, take, drop, Bool, true, Option, None, Some, IfSome, Result, Ok, Err, OnErr, refl, sym, ap, subst, ◌∙◌, inl, inr, arith}
+use Rattle.std.proofs.Common.{◌≡◌, ◌≤◌, ◌<◌, ◌+◌, ◌++◌, ℕ, add-zero, add_assoc, List, [], length, take, drop, Bool, Option, None, Some, IfSome, Result, Ok, Err, refl, sym, ap, subst, ◌∙◌, inl, inr, arith}
 use Rattle.std.proofs.Math.Seq.{take-add}
-use Rattle.std.proofs.lemmas.List.{drop-drop, length-drop}
+use Rattle.std.proofs.lemmas.List.{drop-drop}
 use Rattle.std.proofs.lemmas.Grind.{common_steps}
-use Rattle.dav_io.specs.Counts.{Rose}
 use Rattle.dav_io.specs.Told.{Both}
-use Rattle.dav_io.proofs.ToldLemmas.{both_map, both_same, both_then}
+use Rattle.dav_io.proofs.ToldLemmas.{both_same, both_then}
 use Rattle.dav_core.specs.declared.error.FsError.{FsError}
 use Rattle.dav_core.specs.Disk.{can_read}
 use Rattle.dav_core.specs.Unchanged.{KeepsBut}
 use Rattle.dav_core.proofs.UnchangedLemmas.{but_then, keeps_but, keeps_same}
 use Rattle.dav_store.proofs.Reading.{rose_from}
-use Rattle.dav_store.specs.Files.{IsFault, ReadsIn, moved_by, rest_of}
+use Rattle.dav_store.specs.Files.{ReadsIn, moved_by, rest_of}
 use Rattle.dav_store.specs.Standing.{Seen}
 use Rattle.dav_store.specs.View.{Reads, View, seen_in}
-use Rattle.dav_readcache.specs.Opening.{FrontIn, ReadsFront, ReadsWhole}
+use Rattle.dav_readcache.specs.Opening.{FilledTo, Fills, FrontIn, GaveNone, ReadsFront, ReadsWhole, one_more}
 
 front_none : (buffer : List ℕ) (f : Seen) → FrontIn buffer 0 f f
 front_none buffer f = (omega arith, refl, ap (λ p. record f { place = p }) (sym (add-zero f.place)))
@@ -92,21 +91,48 @@ module _ {S C F : Type 0} (view : View S C F) where
           (λ a b c p q. front_kept (view.state m).whole old new n e a b c same p q) front.told reads.done.told;
     }
 
+    -- the bytes that lack
+    lacking : n < length new → n + length (drop n new) ≡ length new
+    lacking some = grind (arith, common_steps, some)
+
+    filled_as : FilledTo view (length old) s file n m g → FilledTo view (length new) s file n m g
+    filled_as filled = subst (λ k. FilledTo view k s file n m g) (sym long) filled
+
+    pub filled_more : (k : ℕ) → 0 < k → n < length new → FilledTo view (length old) s file n m g → Reads view m g (drop n new) (Ok k) t h → FilledTo view (length new) s file (n + k) t h
+    filled_more k more some filled reads = one_more n k m t g h (drop n new) (filled_as filled) (lacking some) more reads
+
+    ended_at : (result : Result ℕ FsError) → n < length new → FilledTo view (length old) s file n m g → Reads view m g (drop n new) result t h → GaveNone view result → Fills view (length new) s file n t h
+    ended_at result some filled reads gave = inr (record {
+      store = m;
+      at = g;
+      into = drop n new;
+      result = result;
+      filled = filled_as filled;
+      rest = lacking some;
+      some = some;
+      last = reads;
+      none = gave;
+    })
+
     -- the last of them gave nothing
-    pub reads_over : Reads view m g (drop n new) (Ok 0) t h → ReadsWhole view s file new n t h
-    reads_over reads = record {
+    pub reads_over : n < length new → FilledTo view (length old) s file n m g → Reads view m g (drop n new) (Ok 0) t h → ReadsWhole view s file new n t h
+    reads_over some filled reads = record {
+      calls = ended_at (Ok 0) some filled reads refl;
       reads = subst (λ k. ReadsFront view s file new k t h) (add-zero n) (reads_more 0 reads);
       ends = λ can. inr (inr (over_told (view.state m).whole (drop n new) (seen_in view m g) (seen_in view t h) reads.done.told));
     }
 
     -- or was refused
-    pub reads_stop : (e : FsError) → Reads view m g (drop n new) (Err e) t h → ReadsWhole view s file new n t h
-    reads_stop e reads = record {
+    pub reads_stop : (e : FsError) → n < length new → FilledTo view (length old) s file n m g → Reads view m g (drop n new) (Err e) t h → ReadsWhole view s file new n t h
+    reads_stop e some filled reads = record {
+      calls = ended_at (Err e) some filled reads tt;
       reads = reads_refused e reads;
       ends = λ can. inr (inl (rose_from (view.state s).faults (view.state m).faults (view.state t).faults front.keeps.counts
           (reads.done.refused (ap (λ k. can_read ((view.state m).live k)) front.handle ∙ (ap can_read front.live ∙ can))).1));
     }
 
   -- The buffer is full.
-  pub reads_full : (s t : S) (file h : F) (buffer : List ℕ) (n : ℕ) → ReadsFront view s file buffer n t h → length buffer ≤ n → ReadsWhole view s file buffer n t h
-  reads_full s t file h buffer n front full = record { reads = front; ends = λ can. inl (omega (arith, front.within, full)) }
+  pub reads_full : (s t : S) (file h : F) (buffer : List ℕ) (n : ℕ) → ReadsFront view s file buffer n t h → FilledTo view (length buffer) s file n t h → length buffer ≤ n → ReadsWhole view s file buffer n t h
+  reads_full s t file h buffer n front filled full =
+      let all : n ≡ length buffer = omega (arith, front.within, full) in
+      record { reads = front; calls = inl (filled, all); ends = λ can. inl all }

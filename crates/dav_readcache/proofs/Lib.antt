@@ -1,6 +1,12 @@
 pub mod Alike
+pub mod Contents
 pub mod Filling
 pub mod Fronts
+pub mod Inside
+pub mod KeptOpen
+pub mod Leading
+pub mod LocalView
+pub mod LocalWorlds
 pub mod Opened
 pub mod Orders
 pub mod Showing

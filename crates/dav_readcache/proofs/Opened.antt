@@ -6,7 +6,7 @@ use Rattle.std.proofs.lemmas.Bool.{and_parts}
 use Rattle.dav_io.specs.declared.failure.NoMemory.{NoMemory}
 use Rattle.dav_io.proofs.ToldLemmas.{told_before}
 use Rattle.dav_core.specs.declared.error.FsError.{FsError}
-use Rattle.dav_core.specs.Disk.{DiskState, Live}
+use Rattle.dav_core.specs.Disk.{DiskState}
 use Rattle.dav_core.specs.Info.{Info}
 use Rattle.dav_core.specs.Unchanged.{KeepsBut}
 use Rattle.dav_core.specs.Writing.{reading}
@@ -18,7 +18,7 @@ use Rattle.dav_store.specs.View.{Closes, Says, View, seen_in}
 use Rattle.dav_readcache.specs.declared.cached.CachedFile.{CachedFile}
 use Rattle.dav_readcache.specs.declared.cached.Reading.{Reading}
 use Rattle.dav_readcache.specs.declared.keeping.Wanted.{Wanted}
-use Rattle.dav_readcache.specs.Cached.{IsKnown, IsShut, cached_file, pending_at, place_of, reads_by, seen_as, seen_reading}
+use Rattle.dav_readcache.specs.Cached.{IsKnown, IsShut, cached_file, pending_at, place_of, reads_by, seen_as}
 use Rattle.dav_readcache.specs.Opening.{EndsOpen, Fetches, FrontIn, Holds, HoldsBy, HoldsOpened, HoldsWanted, Keeps, KeepsWhere, Opening, ReadsFront, Starves, holding, says_tag, unheld, wanted_by}
 use Rattle.dav_readcache.specs.Shelf.{ShelfState, bytes_for}
 use Rattle.dav_readcache.proofs.Stepping.{place_placed}

@@ -1,16 +1,16 @@
 -- A sound content is what stands there.
-use Rattle.std.specs.Prelude.{◌≡◌, ◌&&◌, ℕ, List, Bool, true, false, cond, Option, None, Some, refl, nat_eq}
+use Rattle.std.specs.Prelude.{◌≡◌, ℕ, List, Bool, true, false, cond, Option, None, Some, refl, nat_eq}
 use Rattle.std.proofs.Common.{sym, ap, ◌∙◌}
 use Rattle.std.specs.Cmp.{unsigned_Decides}
 use Rattle.std.specs.Cmp.Lexicographic.{pointwise}
 use Rattle.std.proofs.lemmas.Bool.{and_parts}
 use Rattle.std.proofs.lemmas.Slice.Eq.{slice_eq-Decides}
 use Rattle.dav_core.specs.Tree.{is_file}
-use Rattle.dav_core.specs.World.{World, bytes_of}
+use Rattle.dav_core.specs.World.{World}
 use Rattle.dav_store.specs.Standing.{Standing}
 use Rattle.dav_readcache.specs.declared.cached.Content.{Content}
 use Rattle.dav_readcache.specs.Cached.{is_of, is_tag, shown}
-use Rattle.dav_readcache.specs.Sound.{IsFileIn, IsSoundIn, tag_in}
+use Rattle.dav_readcache.specs.Sound.{IsFileIn, IsSoundIn}
 
 pub tag_same : (tag : List ℕ) (other : Option (List ℕ)) → is_tag tag other ≡ true → other ≡ Some tag
 tag_same tag None e = cc

@@ -1,17 +1,16 @@
 -- Entries stay sound.
-use Rattle.std.specs.Prelude.{◌≡◌, ◌+◌, ◌-◌, ◌==◌, ◌&&◌, ◌⊎◌, ℕ, List, [], ◌∷◌, length, take, drop, Bool, true, false, cond, nat_eq, nat_le, Option, None, Some, IfOk, IfSome, Result, Ok, Err, refl}
+use Rattle.std.specs.Prelude.{◌≡◌, ◌-◌, ◌==◌, ◌&&◌, ◌⊎◌, ℕ, List, [], ◌∷◌, length, Bool, true, false, cond, nat_eq, nat_le, Option, None, Some, IfOk, IfSome, Result, Ok, Err, refl}
 use Rattle.std.specs.Cmp.Lexicographic.{pointwise}
 use Rattle.std.specs.List.{AllByRecursion}
 use Rattle.std.specs.Map.{lookup_entry, remove_entry}
 use Rattle.std.specs.Option.{option_map, option_map_or}
-use Rattle.std.proofs.Common.{sym, ap, subst, ◌∙◌, inl, inr, arith}
+use Rattle.std.proofs.Common.{sym, ap, subst, ◌∙◌, inl, inr}
 use Rattle.std.proofs.lemmas.Bool.{and_parts}
 use Rattle.dav_io.specs.declared.failure.NoMemory.{NoMemory}
 use Rattle.dav_io.proofs.ToldLemmas.{told_after}
 use Rattle.dav_core.specs.declared.error.FsError.{FsError}
 use Rattle.dav_core.specs.declared.tree.Kind.TheVariants.{File}
 use Rattle.dav_core.specs.Info.{Info, known, tag_of}
-use Rattle.dav_core.specs.Tree.{is_file}
 use Rattle.dav_core.specs.World.{SameBesidesOpens, Stored, World, bytes_of, bytes_or_none}
 use Rattle.dav_core.proofs.UnchangedLemmas.{equal_keys}
 use Rattle.dav_store.specs.Standing.{AgreesOpen, Seen}
@@ -25,9 +24,9 @@ use Rattle.dav_readcache.specs.declared.keeping.Wanted.{Wanted}
 use Rattle.dav_readcache.specs.declared.store.ReadCache.{ReadCache}
 use Rattle.dav_readcache.specs.Store.{cache_view}
 use Rattle.dav_readcache.specs.Opening.{AfterOpen, EndsOpen, Fetches, FrontIn, Holds, HoldsBy, HoldsOpened, HoldsWanted, Keeps, KeepsWhere, Opening, Starves, says_tag, wanted_by, wanted_of}
-use Rattle.dav_readcache.specs.Shelf.{Pairs, ShelfState, bytes_for, front_within, made_room, promoted, put_first}
+use Rattle.dav_readcache.specs.Shelf.{Pairs, ShelfState, bytes_for, front_within}
 use Rattle.dav_readcache.specs.Sound.{AreFaithful, AreFilesTold, AreSound, In, IsFileIn, IsSound, OpensTold, tag_in}
-use Rattle.dav_readcache.proofs.Alike.{agrees_in, file_kind, read_all, wanted_parts}
+use Rattle.dav_readcache.proofs.Alike.{agrees_in, read_all}
 
 module _ (P : List ℕ × List ℕ → Type 0) where
   IsAlso : Option (List ℕ × List ℕ) → Type 0
@@ -64,7 +63,7 @@ module _ (P : List ℕ × List ℕ → Type 0) where
 -- A file of a world that differs only in what is open is one of the world.
 module _ (trail : List World) (faithful : AreFaithful trail) (w : World) (inside : In w trail) (f : Seen)
     (told : f.stands.kind ≡ File → (v : World) × SameBesidesOpens w v × IsFileIn v f.stands) where
-  read_sound : (tag : List ℕ) → f.stands.kind ≡ File → f.stands.tag ≡ Some tag → IsSound trail tag f.stands.bytes
+  pub read_sound : (tag : List ℕ) → f.stands.kind ≡ File → f.stands.tag ≡ Some tag → IsSound trail tag f.stands.bytes
   read_sound tag regular is =
       let (v, beside, there) = told regular in
       let (before, same) = beside.files f.stands.number there.held in

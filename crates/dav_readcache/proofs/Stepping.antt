@@ -1,23 +1,21 @@
 -- Reads in steps.
-use Rattle.std.specs.Prelude.{◌≡◌, ◌≤◌, ◌<◌, ◌+◌, ◌⊎◌, ℕ, List, Bool, true, false, OnErr, length, take, drop, min, IsTrue, Option, None, Some, IfSome, Result, Ok, Err, refl}
+use Rattle.std.specs.Prelude.{◌≡◌, ◌≤◌, ◌<◌, ◌+◌, ℕ, List, Bool, true, false, OnErr, length, take, drop, min, Option, None, Some, IfSome, Result, Ok, Err, refl}
 use Rattle.std.proofs.Common.{sym, ap, subst, ◌∙◌, inl, inr, arith}
 use Rattle.dav_io.specs.Counts.{Rose}
 use Rattle.dav_io.specs.Told.{Both}
 use Rattle.dav_core.specs.declared.error.FsError.{FsError}
 use Rattle.dav_core.specs.declared.error.FsError.TheVariants.{GeneralFailure}
-use Rattle.dav_core.specs.Disk.{DiskState, can_read, Live}
-use Rattle.dav_core.specs.Unchanged.{KeepsBut}
+use Rattle.dav_core.specs.Disk.{DiskState, can_read}
 use Rattle.dav_core.proofs.UnchangedLemmas.{but_then}
 use Rattle.dav_store.specs.Files.{FileReads, IsFault, ReadsIn}
 use Rattle.dav_store.specs.Standing.{Seen}
-use Rattle.std.specs.Prelude.{[], ◌∷◌, cond, not, ◌&&◌, ◌==◌}
+use Rattle.std.specs.Prelude.{[], ◌∷◌, cond, ◌&&◌, ◌==◌}
 use Rattle.std.specs.Option.{option_map}
 use Rattle.std.proofs.lemmas.Bool.Decides.{nat_tests}
 use Rattle.dav_core.specs.Info.{Info}
 use Rattle.dav_core.specs.Tree.{is_file}
-use Rattle.dav_core.specs.Unchanged.{Keeps}
 use Rattle.dav_core.proofs.UnchangedLemmas.{keeps_but}
-use Rattle.dav_store.specs.Files.{FileSays, moved_by, rest_of}
+use Rattle.dav_store.specs.Files.{FileSays, rest_of}
 use Rattle.dav_store.specs.Standing.{AgreesOpen, Standing}
 use Rattle.dav_readcache.specs.declared.cached.Content.{Content}
 use Rattle.dav_readcache.specs.declared.cached.Reading.{Reading}

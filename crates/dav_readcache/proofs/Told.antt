@@ -4,11 +4,10 @@ use Rattle.std.specs.Option.{option_map}
 use Rattle.std.proofs.Common.{ap, subst, ◌∙◌, inr}
 use Rattle.dav_core.specs.declared.tree.Kind.{Kind}
 use Rattle.dav_core.specs.declared.tree.Kind.TheVariants.{File}
-use Rattle.dav_core.specs.Disk.{DiskState, Live}
+use Rattle.dav_core.specs.Disk.{Live}
 use Rattle.dav_core.specs.Info.{known, tag_of}
 use Rattle.dav_core.specs.World.{OpenFile, World, bytes_of, time_of}
 use Rattle.dav_store.specs.Standing.{Seen}
-use Rattle.dav_local.specs.declared.file.LocalFsFile.{LocalFsFile}
 use Rattle.dav_local.specs.LocalFiles.{local_file}
 use Rattle.dav_local.specs.Standing.{seen_in, seen_with}
 use Rattle.dav_readcache.specs.Sound.{AreFilesTold, IsFileIn}

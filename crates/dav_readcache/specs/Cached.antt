@@ -1,16 +1,17 @@
 -- Open files whose contents may be held.
-use Rattle.std.specs.Prelude.{◌≡◌, ◌<◌, ◌≤◌, ◌+◌, ◌==◌, ◌&&◌, ◌^◌, nat_lt, [], ℕ, List, Bool, true, false, cond, length, take, drop, min, Option, None, Some, IsSome, Result, Ok, Err, IfOk, nat_eq}
+use Rattle.std.specs.Prelude.{◌≡◌, ◌<◌, ◌+◌, ◌==◌, ◌&&◌, ◌^◌, ◌⊎◌, nat_lt, [], ℕ, List, Bool, true, false, cond, length, take, drop, min, Option, None, Some, IsSome, Result, Ok, Err, IfOk, nat_eq}
 use Rattle.std.specs.Option.{option_map}
 use Rattle.std.specs.Cmp.Lexicographic.{pointwise}
 use Rattle.dav_core.specs.declared.error.FsError.{FsError}
 use Rattle.dav_core.specs.Disk.{DiskState, Live}
 use Rattle.dav_core.specs.Info.{Info}
+use Rattle.dav_io.specs.Counts.{one_more}
 use Rattle.dav_io.specs.Told.{Both}
 use Rattle.dav_core.specs.Tree.{is_file}
 use Rattle.dav_core.specs.declared.tree.Kind.{Kind}
 use Rattle.dav_core.specs.Unchanged.{KeepsBut}
 use Rattle.dav_core.specs.Writing.{reading}
-use Rattle.dav_store.specs.Files.{AsksOnce, FileReads}
+use Rattle.dav_store.specs.Files.{AsksOnce, FileSays}
 use Rattle.dav_store.specs.FileView.{FileView}
 use Rattle.dav_store.specs.Standing.{Seen, Standing}
 use Rattle.dav_readcache.specs.declared.cached.Content.{Content}
@@ -138,6 +139,69 @@ IsHit r seen s buffer result t = (c : Content) (f : Seen) → r.content ≡ Some
 abbrev pub HitsBy : Option Reading → Option Seen → DiskState → List ℕ → Result ℕ FsError → DiskState → Type 0
 HitsBy None seen s buffer result t = Unit {0}
 HitsBy (Some r) seen s buffer result t = IsHit r seen s buffer result t
+
+-- ---- which calls a read asks, where each move and each read of the store's file asks one
+
+abbrev pub AsksTwice : DiskState → DiskState → Type 0
+AsksTwice s t = t.asked ≡ one_more (one_more s.asked)
+
+-- The store's file is moved where it is read elsewhere than it stands.
+abbrev pub MovesThere : Type 0 → Option ℕ → Result Unit FsError → DiskState → DiskState → Type 0
+MovesThere once None result s t = (result ≡ Ok tt) × (t ≡ s)
+MovesThere once (Some place) result s t = once → AsksOnce s t
+
+-- It is moved, where that is to be, and read. Where the move is refused, it isn't read.
+abbrev pub AsksOn : Option ℕ → Result ℕ FsError → DiskState → DiskState → Type 0
+AsksOn None result s t = AsksOnce s t
+AsksOn (Some place) (Ok n) s t = AsksTwice s t
+AsksOn (Some place) (Err e) s t = AsksOnce s t ⊎ AsksTwice s t
+
+-- It is read without a content.
+abbrev pub ReadsOn : Type 0 → Reading → DiskState → Result ℕ FsError → DiskState → Reading → Type 0
+ReadsOn once r s result t q = (once → AsksOn r.pending result s t) × (q.content ≡ None)
+
+-- Where metadata has the tag of the content that is held, the bytes come from that, and nothing more is asked. Else the
+-- content is dropped.
+abbrev pub AfterTag : Bool → Type 0 → Reading → DiskState → List ℕ → Result ℕ FsError → DiskState → Reading → Type 0
+AfterTag true once r m buffer result t q = (n : ℕ) × (result ≡ Ok n) × (t ≡ m) × (q.content ≡ r.content)
+    × Copies r buffer n q
+AfterTag false once r m buffer result t q = ReadsOn once r m result t q
+
+-- Where metadata is refused, that is the answer.
+abbrev pub AfterSaid : Type 0 → Reading → Result Info FsError → DiskState → List ℕ → Result ℕ FsError → DiskState
+    → Reading → Type 0
+AfterSaid once r (Err e) m buffer result t q = (result ≡ Err e) × (t ≡ m) × (q ≡ r)
+AfterSaid once r (Ok info) m buffer result t q = AfterTag (is_held r.content info) once r m buffer result t q
+
+-- Where a content is held, metadata is asked first.
+pub record SaysFirst (once : Type 0) (h : ℕ) (r : Reading) (seen : Option Seen) (s : DiskState) (buffer : List ℕ)
+    (result : Result ℕ FsError) (t : DiskState) (q : Reading) : Type 0 where
+  pub said : Result Info FsError
+  pub disk : DiskState
+  pub seen_then : Option Seen
+  pub says : FileSays s h seen said disk seen_then
+  pub after : AfterSaid once r said disk buffer result t q
+
+abbrev pub StepsWith : Option Content → Type 0 → ℕ → Reading → Option Seen → DiskState → List ℕ → Result ℕ FsError
+    → DiskState → Reading → Type 0
+StepsWith None once h r seen s buffer result t q = ReadsOn once r s result t q
+StepsWith (Some c) once h r seen s buffer result t q = SaysFirst once h r seen s buffer result t q
+
+-- What a read asks in order, in every run, and what is held after it.
+abbrev pub StepsBy : Type 0 → ℕ → Reading → Option Seen → DiskState → List ℕ → Result ℕ FsError → DiskState → Reading
+    → Type 0
+StepsBy once h r seen s buffer result t q = StepsWith r.content once h r seen s buffer result t q
+
+-- the same of a cached file: without a reading its calls pass on
+abbrev pub Steps : Type 0 → ℕ → Option Reading → Option Seen → DiskState → List ℕ → Result ℕ FsError → DiskState
+    → Option Reading → Type 0
+Steps once h None seen s buffer result t q = (once → AsksOnce s t) × (q ≡ None)
+Steps once h (Some r) seen s buffer result t q = (g : Reading) × (q ≡ Some g)
+    × StepsBy once h r seen s buffer result t g
+
+-- where a cached file is read next
+abbrev pub moved_to : ℕ → Option Reading → Option Reading
+moved_to place reading = option_map (placed_at place) reading
 
 -- A move of a file that was opened for reading alone asks nothing, and is never refused.
 abbrev pub MovesFree : Option Reading → DiskState → ℕ → Result ℕ FsError → DiskState → Type 0

@@ -1,9 +1,7 @@
 -- What others do leaves the number and the place of an open file whose content may be held.
-use Rattle.std.specs.Prelude.{◌≡◌, ℕ, None, Some, IsSome, Option, refl}
+use Rattle.std.specs.Prelude.{◌≡◌, ℕ, None, Some, Option, refl}
 use Rattle.std.proofs.Common.{sym, ap, subst, ◌∙◌}
 use Rattle.std.specs.Prelude.{cond, Bool, true, false}
-use Rattle.std.specs.Option.{option_map}
-use Rattle.dav_io.specs.Told.{Both}
 use Rattle.dav_core.specs.Disk.{DiskState, Live}
 use Rattle.dav_store.specs.FileView.{FileView, SameFiles}
 use Rattle.dav_store.specs.Files.{LeavesOpen, SameSeen}
@@ -11,7 +9,7 @@ use Rattle.dav_store.specs.Standing.{Seen, Standing}
 use Rattle.dav_readcache.specs.declared.cached.Content.{Content}
 use Rattle.dav_readcache.specs.declared.cached.Reading.{Reading}
 use Rattle.dav_readcache.specs.declared.cached.CachedFile.{CachedFile}
-use Rattle.dav_readcache.specs.Cached.{IsAtKnown, IsKnown, IsShut, cached_file, is_of, place_of, reads_by, seen_as, seen_by, seen_reading, shown}
+use Rattle.dav_readcache.specs.Cached.{IsAtKnown, IsShut, cached_file, is_of, place_of, reads_by, seen_by, seen_reading, shown}
 
 same_when : (on : Bool) (c : Content) (there : Standing) → (cond on (record there { bytes = c.bytes }) there).number ≡ there.number
 same_when true c there = refl

@@ -1,5 +1,5 @@
 -- What an opening for reading alone asks, and what it leaves: the content that the file holds, and the entries.
-use Rattle.std.specs.Prelude.{◌≡◌, ◌≤◌, ◌==◌, ◌&&◌, ◌⊎◌, ℕ, List, [], length, take, Bool, true, false, not, cond, nat_eq, nat_le, Option, None, Some, IfSome, Result, Ok, Err, IsErr}
+use Rattle.std.specs.Prelude.{◌≡◌, ◌<◌, ◌≤◌, ◌+◌, ◌==◌, ◌&&◌, ◌⊎◌, ℕ, List, [], length, take, Bool, true, false, not, cond, nat_le, Option, None, Some, IfSome, Result, Ok, Err, IsErr}
 use Rattle.std.specs.Option.{option_map}
 use Rattle.dav_io.specs.Counts.{Rose}
 use Rattle.dav_io.specs.Told.{Both}
@@ -12,12 +12,10 @@ use Rattle.dav_core.specs.Disk.{can_read}
 use Rattle.dav_core.specs.Info.{Info}
 use Rattle.dav_core.specs.Tree.{is_file}
 use Rattle.dav_core.specs.Unchanged.{KeepsBut}
-use Rattle.dav_core.specs.Writing.{reading}
 use Rattle.dav_store.specs.Files.{moved_by, rest_of}
 use Rattle.dav_store.specs.Standing.{Seen}
-use Rattle.dav_store.specs.View.{Closes, Lent, Says, View, seen_in}
+use Rattle.dav_store.specs.View.{Closes, Lent, Reads, Says, View, seen_in}
 use Rattle.dav_readcache.specs.declared.cached.CachedFile.{CachedFile}
-use Rattle.dav_readcache.specs.declared.cached.Content.{Content}
 use Rattle.dav_readcache.specs.declared.cached.Reading.{Reading}
 use Rattle.dav_readcache.specs.declared.keeping.Wanted.{Wanted}
 use Rattle.dav_readcache.specs.declared.store.ReadCache.{ReadCache}
@@ -85,10 +83,38 @@ module _ {S C F : Type 0} (view : View S C F) where
     pub lent : Lent view s t
     pub told : Both (seen_in view s file) (seen_in view t after) (FrontIn buffer n)
 
+  -- Reads that gave bytes lead here, one behind the other, and nothing else was asked: so many bytes of so many.
+  pub data FilledTo (len : ℕ) (s : S) (file : F) : ℕ → S → F → Type 0 where
+    none : FilledTo len s file 0 s file
+    one_more : (n k : ℕ) (m t : S) (g after : F) (into : List ℕ) → FilledTo len s file n m g
+        → n + length into ≡ len → 0 < k → Reads view m g into (Ok k) t after → FilledTo len s file (n + k) t after
+
+  -- a read that gave no byte, or was refused
+  abbrev pub GaveNone : Result ℕ FsError → Type 0
+  GaveNone (Ok n) = n ≡ 0
+  GaveNone (Err e) = Unit {0}
+
+  -- The last read gave no byte.
+  pub record EndsEarly (len : ℕ) (s : S) (file : F) (n : ℕ) (t : S) (after : F) : Type 0 where
+    pub store : S
+    pub at : F
+    pub into : List ℕ
+    pub result : Result ℕ FsError
+    pub filled : FilledTo len s file n store at
+    pub rest : n + length into ≡ len
+    pub some : n < len
+    pub last : Reads view store at into result t after
+    pub none : GaveNone result
+
+  -- The calls that were asked: reads, until all bytes came, or one gave none.
+  abbrev pub Fills : ℕ → S → F → ℕ → S → F → Type 0
+  Fills len s file n t after = (FilledTo len s file n t after × (n ≡ len)) ⊎ EndsEarly len s file n t after
+
   -- Reads until the buffer is full, no byte stands there, or one is refused. Of a regular file that was opened for
   -- reading one is refused only by a fault.
   pub record ReadsWhole (s : S) (file : F) (buffer : List ℕ) (n : ℕ) (t : S) (after : F) : Type 0 where
     pub reads : ReadsFront s file buffer n t after
+    pub calls : Fills (length buffer) s file n t after
     pub ends : can_read ((view.state s).live (view.file.handle file)) ≡ true → (n ≡ length buffer)
         ⊎ (Rose (view.state s).faults (view.state t).faults ⊎ IfSome (seen_in view t after) (λ g. rest_of g ≡ []))
 

@@ -3,7 +3,7 @@ ghost use Rattle.dav_core.specs.declared.error.FsError.{FsError};
 ghost use Rattle.dav_core.specs.Info.{Info};
 ghost use Rattle.dav_store.specs.Files.{FileReads, FileSays, IsFault};
 ghost use Rattle.dav_core.specs.Disk.{can_read};
-ghost use Rattle.dav_readcache.specs.Cached.{IsFresh, IsHit, IsKnown, Stays, added, place_in, seen_reading};
+ghost use Rattle.dav_readcache.specs.Cached.{AsksOn, IsFresh, IsHit, IsKnown, MovesThere, Stays, StepsBy, added, place_in, seen_reading};
 
 use bytes::{Buf, Bytes};
 use dav_core::{DavMetaData, Disk, FsError};
@@ -111,6 +111,7 @@ fn move_there<D: Disk, F: DavFile<D>>(
         (seen_reading (Some reading.new) (F.view.seen file.new (D.state disk.new))) }
     ensures refused { can_read ((D.state disk.old).live (F.view.handle file.old)) ≡ true
         → OnErr result (IsFault (D.state disk.old) result (D.state disk.new)) }
+    ensures asks { MovesThere F.view.asks_once reading.old.pending result (D.state disk.old) (D.state disk.new) }
     ensures here { OnOk result (reading.new.pending ≡ None) }
     ensures reads_from { F.view.reads_from file.new (D.state disk.new) }
     ensures known { IsKnown reading.new (F.view.seen file.new (D.state disk.new)) }
@@ -157,6 +158,7 @@ fn read_on<D: Disk, F: DavFile<D>>(
     ensures done { FileReads (D.state disk.old) (F.view.handle file.old)
         (seen_reading (Some reading.old) (F.view.seen file.old (D.state disk.old))) into.new result (D.state disk.new)
         (seen_reading (Some reading.new) (F.view.seen file.new (D.state disk.new))) }
+    ensures asks { F.view.asks_once → AsksOn reading.old.pending result (D.state disk.old) (D.state disk.new) }
     ensures reads_from { F.view.reads_from file.new (D.state disk.new) }
     ensures known { IsKnown reading.new (F.view.seen file.new (D.state disk.new)) }
     ensures none { reading.new.content ≡ None }
@@ -231,6 +233,8 @@ fn read_reading<D: Disk, F: DavFile<D>>(
         (seen_reading (Some reading.new) (F.view.seen file.new (D.state disk.new))) }
     ensures hit { IsHit reading.old (F.view.seen file.old (D.state disk.old)) (D.state disk.old) into.new result
         (D.state disk.new) }
+    ensures steps { StepsBy F.view.asks_once (F.view.handle file.old) reading.old
+        (F.view.seen file.old (D.state disk.old)) (D.state disk.old) into.new result (D.state disk.new) reading.new }
     ensures reads_from { F.view.reads_from file.new (D.state disk.new) }
     ensures known { IsKnown reading.new (F.view.seen file.new (D.state disk.new)) }
     ensures handle { F.view.handle file.new ≡ F.view.handle file.old }
@@ -247,7 +251,7 @@ fn read_reading<D: Disk, F: DavFile<D>>(
 }
 
 impl<D: Disk, F: DavFile<D>> DavFile<D> for CachedFile<F> {
-    ghost use Rattle.dav_readcache.specs.Cached.{HitsBy, MovesFree, cached_file, reads_by, seen_by};
+    ghost use Rattle.dav_readcache.specs.Cached.{HitsBy, MovesFree, Steps, cached_file, moved_to, reads_by, seen_by};
     ghost use Rattle.dav_readcache.specs.CachedStays.{cached_reads_on, cached_stays};
     ghost use Rattle.dav_store.specs.Files.{FileReads, FileSeeks};
 
@@ -270,6 +274,7 @@ impl<D: Disk, F: DavFile<D>> DavFile<D> for CachedFile<F> {
         ensures handle { F.view.handle self.new.file ≡ F.view.handle self.old.file }
         ensures loan { D.loan disk.new ≡ D.loan disk.old }
         ensures free { MovesFree self.old.reading (D.state disk.old) place result (D.state disk.new) }
+        ensures placed { self.new.reading ≡ moved_to place self.old.reading }
     {
         let Some(reading) = &mut self.reading else {
             return self.file.seek(disk, place);
@@ -293,6 +298,9 @@ impl<D: Disk, F: DavFile<D>> DavFile<D> for CachedFile<F> {
         ensures loan { D.loan disk.new ≡ D.loan disk.old }
         ensures hit { HitsBy self.old.reading (F.view.seen self.old.file (D.state disk.old)) (D.state disk.old) into.new
             result (D.state disk.new) }
+        ensures steps { Steps F.view.asks_once (F.view.handle self.old.file) self.old.reading
+            (F.view.seen self.old.file (D.state disk.old)) (D.state disk.old) into.new result (D.state disk.new)
+            self.new.reading }
     {
         match &mut self.reading {
             Some(reading) => read_reading(&mut self.file, reading, disk, into),

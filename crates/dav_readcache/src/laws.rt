@@ -1,20 +1,29 @@
-ghost use Rattle.std.specs.Prelude.{◌≡◌, ℕ, List, Result, Some};
+ghost use Rattle.std.specs.Prelude.{◌≡◌, ℕ, List, Ok, Result, Some};
 ghost use Rattle.dav_core.specs.declared.error.FsError.{FsError};
 ghost use Rattle.dav_core.specs.DavPath.{WebPath};
+ghost use Rattle.dav_core.specs.declared.member.Member.{Member};
+ghost use Rattle.dav_core.specs.declared.tree.Kind.TheVariants.{File};
+ghost use Rattle.dav_core.specs.Disk.{DiskState};
 ghost use Rattle.dav_core.specs.World.{Holds, World, bytes_of};
 ghost use Rattle.dav_core.specs.Writing.{reading};
+ghost use Rattle.dav_store.specs.Leads.{LeadsOn};
+ghost use Rattle.dav_store.specs.Members.{ShowsMembers};
 ghost use Rattle.dav_store.specs.Shows.{Shows};
-ghost use Rattle.dav_store.specs.Standing.{Standing};
+ghost use Rattle.dav_store.specs.Standing.{Seen, Standing};
 ghost use Rattle.dav_local.specs.LocalFiles.{local_file};
-ghost use Rattle.dav_readcache.specs.declared.cached.CachedFile.{CachedFile};
+ghost use Rattle.dav_local.specs.declared.fs.LocalFs.{LocalFs as Store};
+ghost use Rattle.dav_readcache.specs.declared.cached.CachedFile.{CachedFile as Held};
 ghost use Rattle.dav_readcache.specs.declared.cached.Content.{Content};
 ghost use Rattle.dav_readcache.specs.declared.store.ReadCache.{ReadCache as Cache};
-ghost use Rattle.dav_readcache.specs.Cached.{shown};
-ghost use Rattle.dav_readcache.specs.Sound.{AreFaithful, AreFilesTold, AreSound, AreSoundIn, In, IsFileIn, IsSound, IsSoundIn, IsWorldThere, OpensTold, tag_in};
-ghost use Rattle.dav_readcache.specs.Store.{cache_view};
+ghost use Rattle.dav_readcache.specs.Cached.{Steps, cached_file, shown};
+ghost use Rattle.dav_readcache.specs.Sound.{AreFaithful, AreFilesTold, AreSound, AreSoundIn, In, IsFileIn, IsHeldSound, IsSound, IsSoundIn, IsWorldThere, OpensTold, content_of, tag_in};
+ghost use Rattle.dav_readcache.specs.Store.{cache_listings, cache_view};
 
-use crate::ReadCache;
-use dav_store::GuardedFileSystem;
+use crate::{CachedFile, ReadCache};
+use dav_cache::Remember;
+use dav_core::Disk;
+use dav_local::LocalFs;
+use dav_store::{DavFile, DavFileSystem, GuardedFileSystem};
 
 /// A file is shown as it stands where the content that is held is sound.
 pub fn sound_contents_show()
@@ -39,13 +48,73 @@ pub fn sound_caches_show<S: GuardedFileSystem<C>, C>(_cache: &ReadCache<S, C>, _
 
 /// Where tags are faithful, the entries stay sound in all worlds of the trail: what an opening adds was read whole.
 pub fn entries_stay_sound<S: GuardedFileSystem<C>, C>(_cache: &ReadCache<S, C>, _credentials: &C)
-    ensures { (trail : List World) (w : World) (path : WebPath) (o : Result (CachedFile S.File) FsError)
+    ensures { (trail : List World) (w : World) (path : WebPath) (o : Result (Held S.File) FsError)
         (t : Cache S C) → AreFaithful trail → In w trail → AreFilesTold S.view.file
         → OpensTold S.view _cache.now.store _credentials.now path w → AreSound trail _cache.now.shelf.entries
         → (cache_view S.view).opens _cache.now _credentials.now path reading o t → AreSound trail t.shelf.entries }
 {}
 
+/// Where tags are faithful, what a file holds that was opened is sound in all worlds of the trail.
+pub fn held_contents_are_sound<S: GuardedFileSystem<C>, C>(
+    _cache: &ReadCache<S, C>,
+    _credentials: &C,
+)
+    ensures { (trail : List World) (w : World) (path : WebPath) (file : Held S.File) (t : Cache S C)
+        → AreFaithful trail → In w trail → AreFilesTold S.view.file
+        → OpensTold S.view _cache.now.store _credentials.now path w → AreSound trail _cache.now.shelf.entries
+        → (cache_view S.view).opens _cache.now _credentials.now path reading (Ok file) t
+        → IsHeldSound (IsSound trail) (content_of file) }
+{}
+
+/// What a file holds after a read it held before. So what is sound stays so.
+pub fn reads_leave_contents<D: Disk, F: DavFile<D>>(_file: &CachedFile<F>)
+    ensures { (s : DiskState) (buffer : List ℕ) (result : Result ℕ FsError) (t : DiskState) (after : Held F)
+        (c : Content) → Steps F.view.asks_once (F.view.handle _file.now.file) _file.now.reading
+        (F.view.seen _file.now.file s) s buffer result t after.reading → content_of after ≡ Some c
+        → content_of _file.now ≡ Some c }
+{}
+
+/// An open regular file whose content is sound in the world that the disk tells is shown as it stands there.
+pub fn sound_files_stand<D: Disk, F: DavFile<D>>(_file: &CachedFile<F>)
+    ensures { (s : DiskState) (w : World) (f : Seen) → AreFilesTold F.view → s.told ≡ Some w
+        → IsHeldSound (IsSoundIn w) (content_of _file.now) → F.view.seen _file.now.file s ≡ Some f
+        → f.stands.kind ≡ File
+        → (g : Seen) × ((cached_file F.view).seen _file.now s ≡ Some g) × (g.stands ≡ f.stands)
+        × IsFileIn w f.stands }
+{}
+
+/// The members of a directory that the store inside shows the cache shows.
+pub fn caches_show_members<S: GuardedFileSystem<C>, C>(_cache: &ReadCache<S, C>, _credentials: &C)
+    ensures { (path : WebPath) (found : Result (List Member) FsError)
+        → ShowsMembers S.view S.listings _cache.now.store _credentials.now path found
+        → ShowsMembers (cache_view S.view) (cache_listings S.listings) _cache.now _credentials.now path found }
+{}
+
+/// Where tags are faithful, a reader's calls leave the entries sound in all worlds of the trail, over a store of which
+/// what is opened is told.
+pub fn reads_leave_entries_sound<S: GuardedFileSystem<C>, C>(
+    _cache: &ReadCache<S, C>,
+    _credentials: &C,
+)
+    ensures { (trail : List World) (w : World) (t : Cache S C) → AreFaithful trail → In w trail
+        → AreFilesTold S.view.file
+        → ((m : S) (v : World) (path : WebPath) → (S.view.state m).told ≡ Some v
+        → OpensTold S.view m _credentials.now path v)
+        → (S.view.state _cache.now.store).told ≡ Some w → AreSound trail _cache.now.shelf.entries
+        → LeadsOn (cache_view S.view) (cache_listings S.listings) _credentials.now _cache.now t
+        → AreSound trail t.shelf.entries }
+{}
+
 /// An open regular file of a local store is shown as the world has it that the disk tells.
 pub fn local_files_are_told()
     ensures { AreFilesTold local_file }
+{}
+
+/// The disk of a local store tells the same world after looks and openings for reading, but for what is open, and what is
+/// opened is told, at its first byte.
+pub fn local_worlds_stay<D: Disk, R: Remember>(_fs: &LocalFs<D, R>)
+    ensures there { (s : Store D R) (w : World) (path : WebPath) → (D.state s.disk).told ≡ Some w
+        → IsWorldThere ⟦<LocalFs<D, R> as DavFileSystem>⟧.view s tt path w }
+    ensures opened { (s : Store D R) (w : World) (path : WebPath) → (D.state s.disk).told ≡ Some w
+        → OpensTold ⟦<LocalFs<D, R> as DavFileSystem>⟧.view s tt path w }
 {}

@@ -9,8 +9,9 @@ mod store;
 
 pub use cached::{CachedFile, Content, Reading};
 pub use laws::{
-    entries_stay_sound, local_files_are_told, sound_caches_show, sound_contents_show,
-    whole_reads_are_sound,
+    caches_show_members, entries_stay_sound, held_contents_are_sound, local_files_are_told,
+    local_worlds_stay, reads_leave_contents, reads_leave_entries_sound, sound_caches_show,
+    sound_contents_show, sound_files_stand, whole_reads_are_sound,
 };
 pub use shelf::Shelf;
 pub use store::ReadCache;

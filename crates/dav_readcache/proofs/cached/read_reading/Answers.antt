@@ -1,4 +1,4 @@
-use Rattle.std.specs.Prelude.{Ok, Err, Some}
+use Rattle.std.specs.Prelude.{Ok, Some}
 use Rattle.std.proofs.Common.{ap, ◌∙◌}
 use Rattle.dav_readcache.specs.Cached.{seen_reading}
 use Rattle.dav_readcache.proofs.Stepping.{reads_by_same, reads_then, says_dropped, says_held, says_refused}

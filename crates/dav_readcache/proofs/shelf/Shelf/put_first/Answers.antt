@@ -1,4 +1,4 @@
-use Rattle.std.proofs.Common.{◌≡◌, ◌≤◌, ◌+◌, ◌-◌, length, sym, ap, subst, ◌∙◌, arith}
+use Rattle.std.proofs.Common.{◌≡◌, ◌≤◌, ◌-◌, length, sym, ap, subst, ◌∙◌, arith}
 use Rattle.dav_readcache.specs.Shelf.{ShelfState, made_room, put_first, total}
 use Rattle.dav_readcache.proofs.Fronts.{put_is, put_within, total_front}
 use Rattle.dav_readcache.proofs.shelf.Shelf.put_first.Goals as goal

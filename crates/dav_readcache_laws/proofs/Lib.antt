@@ -1,0 +1,7 @@
+pub mod AlikeOpen
+pub mod Joined
+pub mod LocalAll
+pub mod LocalStore
+pub mod RuledCache
+pub mod RuledLocal
+pub mod RuledReads

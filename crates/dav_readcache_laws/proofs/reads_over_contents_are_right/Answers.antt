@@ -1,0 +1,12 @@
+use Rattle.dav_readcache.proofs.LocalView.{local_view}
+use Rattle.dav_readcache_laws.proofs.LocalStore.{local_lists, local_store}
+use Rattle.dav_readcache_laws.proofs.RuledCache.{cache_by_rules}
+use Rattle.dav_readcache_laws.proofs.RuledLocal.{local_by_rules}
+use Rattle.dav_readcache_laws.proofs.RuledReads.{ruled_reads}
+use Rattle.dav_readcache_laws.proofs.reads_over_contents_are_right.Goals as goal
+
+pub returns : goal.returns
+returns g c = λ s t q result reply life heard same.
+    ruled_reads _ _ _ _
+    (cache_by_rules (local_view g.D.Disk.state g.D.Disk.loan g.R.Remember.state) (local_lists g.D.Disk.state g.D.Disk.loan g.R.Remember.state) _ _ (local_by_rules (local_view g.D.Disk.state g.D.Disk.loan g.R.Remember.state) (local_lists g.D.Disk.state g.D.Disk.loan g.R.Remember.state) _ _ _ _ (local_store g.D.Disk.state g.D.Disk.loan g.R.Remember.state g.met.D.Disk.world)))
+    q tt s result t life reply same heard
