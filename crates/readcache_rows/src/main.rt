@@ -114,11 +114,11 @@ fn answer_both(alloc: Global, line: &mut Line, row: &str) -> Option<()> {
 fn answer_host(rt: &HostRuntime, line: &mut Line, row: &str) -> Option<()> {
     let steps = steps_of(rt.alloc(), row)?;
     let disk = HostDisk::new(rt.alloc(), rt, word(row, 1)).ok()?;
-    if word(row, 2) == "plain" {
+    let store = row.splitn(3, ' ').nth(2).unwrap_or("");
+    if word(store, 0) == "plain" {
         play(rt.alloc(), line, &mut plain_over(disk), &steps);
         return Some(());
     }
-    let (_, store) = row.split_once(" held ").unwrap_or(("", ""));
     let mut cache = held_over(rt.alloc(), disk, store)?;
     play_held(rt.alloc(), line, &mut cache, &steps);
     tell_kept(line, &cache);
