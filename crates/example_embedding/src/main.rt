@@ -1,9 +1,11 @@
 //! A server of one's own, as docs/EMBEDDING.md shows it: a folder in memory behind a handler, and five requests to it.
 //!
 //! What each is answered with stands a line on standard output: its status, and the bytes of its body. Behind them
-//! stand the statuses of clients whose stores share caches (docs/CACHES.md).
+//! stand the statuses of clients whose stores share caches, and the answers of a store that holds small files
+//! (docs/CACHES.md).
 #![tactic(auto)]
 
+mod read_cache;
 mod sessions;
 
 ghost use Rattle.std.specs.Prelude.{◌≡◌, IfOk, IfSome};
@@ -21,7 +23,7 @@ use dav_disk::MemDisk;
 use dav_get::GetBody;
 use dav_io::{Moment, Octets};
 use dav_local::{LocalFs, LocalFsFile};
-use dav_store::{DavFileSystem, OneBody};
+use dav_store::{DavFile, DavFileSystem, OneBody};
 use http::{Method, Request, Uri};
 use std::alloc::Global;
 
@@ -55,8 +57,8 @@ fn answered(handler: &mut Handler, request: Request<OneBody>) -> Answered<LocalF
 }
 
 // Ends a body. Where it wasn't read to its end, its file is open still, and closed here.
-fn end(disk: &mut MemDisk, body: Body<GetBody<LocalFsFile>>)
-    requires { MayPoll (λ b d. IsHeld local_file (mem_state d) b) body.inner disk.old }
+fn end<F: DavFile<MemDisk>>(disk: &mut MemDisk, body: Body<GetBody<F>>)
+    requires { MayPoll (λ b d. IsHeld F.view (mem_state d) b) body.inner disk.old }
 {
     let Body { inner } = body;
     match inner {
@@ -66,12 +68,12 @@ fn end(disk: &mut MemDisk, body: Body<GetBody<LocalFsFile>>)
 }
 
 // All bytes of a body, which is polled with the disk of its store until it ends.
-fn gathered(
+fn gathered<F: DavFile<MemDisk>>(
     alloc: Global,
     disk: &mut MemDisk,
-    body: Body<GetBody<LocalFsFile>>,
+    body: Body<GetBody<F>>,
 ) -> Result<Octets, BodyFault>
-    requires { MayPoll (λ b d. IsHeld local_file (mem_state d) b) body.inner disk.old }
+    requires { MayPoll (λ b d. IsHeld F.view (mem_state d) b) body.inner disk.old }
 {
     let mut body = body;
     let all = collect(alloc, &mut body, disk);
@@ -116,6 +118,9 @@ fn main(rt: HostRuntime) -> Result<()> {
     }
     for status in &sessions::statuses(&rt, alloc)? {
         println!(rt; "GET /Letter.txt over shared caches: {status}")?;
+    }
+    for answer in &read_cache::answers(alloc, sessions::folder(alloc)?, "/letter.txt")? {
+        println!(rt; "GET /letter.txt over held contents: {answer}")?;
     }
     Ok(())
 }

@@ -23,8 +23,8 @@ fn shared_caches(alloc: Global) -> Result<SharedCache<UntoldBook>> {
     Ok(cache)
 }
 
-// A disk with the file `/letter.txt`.
-fn folder(alloc: Global) -> Result<MemDisk> {
+/// A disk with the file `/letter.txt`.
+pub fn folder(alloc: Global) -> Result<MemDisk> {
     let mut disk = MemDisk::new(alloc)?;
     let path = FsPath::new(Vec::new(alloc)).child("letter.txt")?;
     let time = FileTime { secs: 1, nanos: 0 };

@@ -1,0 +1,5 @@
+use Rattle.readcache_rows.specs.Open.{IsFor}
+use Rattle.readcache_rows.proofs.steps.play.Given as goal
+
+abbrev pub invariant-loop-said : goal.invariant-loop-said
+invariant-loop-said g l = IsFor g.S.File.DavFile.view l.opened (g.S.Disk.Disk.state (g.S.GuardedFileSystem.inside l.store))
