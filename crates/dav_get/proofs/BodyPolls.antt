@@ -71,7 +71,7 @@ module _ {F : Type 0} (files : FileView F) where
 
   pub fill_touches : (s m : DiskState) (file other : Option (OpenAt F)) (slice : Slice) (most : ℕ) (buffer : List ℕ) (result : Option ℕ) (h g : OpenAt F)
       → Fills files s h slice most buffer result m g → file ≡ Some h → other ≡ Some g → TouchesOwn files s file m other
-  fill_touches s m file other slice most buffer result h g fills before after = rw (before, after) (fills.keeps, fills.same, fills.live, fills.stands)
+  fill_touches s m file other slice most buffer result h g fills before after = rw (before, after) (fills.keeps, fills.same, fills.live, fills.stands, fills.becomes)
 
   pub slice_polls : (s m t : DiskState) (b d c : GetBody F) (slice : Slice) (rest : List BodyPart) (most : ℕ) (buffer : List ℕ) (n : ℕ) (h g : OpenAt F)
       → left_of b ≡ SliceOf slice ∷ rest → IsHeld files s b → most ≡ b.most

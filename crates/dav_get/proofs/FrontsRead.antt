@@ -28,9 +28,9 @@ module _ {F : Type 0} (files : FileView F) where
   -- bytes came
   pub read_fills : (s t : DiskState) (h : OpenAt F) (file : F) (slice : Slice) (most n : ℕ) (buf back : List ℕ) → IsAt files s h → h.place ≡ slice.start → 0 < n
       → length buf ≡ min slice.count most → FileReads s (files.handle h.file) (files.seen h.file s) buf (Ok n) t (files.seen file t) → files.handle file ≡ files.handle h.file
-      → (files.asks_once → AsksOnce s t) → files.reads_from file t
+      → (files.asks_once → AsksOnce s t) → files.reads_from file t → files.becomes h.file file
       → Fills files s h slice most (buf ++ back) (Some n) t (record { file = file; place = slice.start + n })
-  read_fills s t h file slice most n buf back at here some size reads same asked from =
+  read_fills s t h file slice most n buf back at here some size reads same asked from becomes =
       let within : n ≤ length buf = reads.within in
       let front : take n (buf ++ back) ≡ take n buf = take-append-le n buf back within in
       let long : length (take n (buf ++ back)) ≡ n = grind (arith, common_steps) in
@@ -39,6 +39,7 @@ module _ {F : Type 0} (files : FileView F) where
         same = same;
         live = reads.live;
         stands = both_map (files.seen h.file s) (files.seen file t) (ReadsIn s.whole buf (Ok n)) (λ f g. g.stands ≡ f.stands) (λ f g read. ap (λ (k : Seen). k.stands) read.4) reads.told;
+        becomes = becomes;
         asks = λ once. record { here = λ e. asked once; there = λ ne. absurd (ne here) };
         answer = (
           grind (arith, common_steps),
@@ -66,9 +67,9 @@ module _ {F : Type 0} (files : FileView F) where
   -- no byte came, and zeros stand in their place
   pub zeros_fill : (s t : DiskState) (h : OpenAt F) (file : F) (slice : Slice) (most n m : ℕ) (buf filled : List ℕ) → IsAt files s h → h.place ≡ slice.start → 0 < slice.count
       → m ≡ 0 → FileReads s (files.handle h.file) (files.seen h.file s) buf (Ok m) t (files.seen file t) → files.handle file ≡ files.handle h.file
-      → (files.asks_once → AsksOnce s t) → files.reads_from file t → n ≡ min slice.count zeros_size → n ≤ length filled → take n filled ≡ replicate n 0
+      → (files.asks_once → AsksOnce s t) → files.reads_from file t → files.becomes h.file file → n ≡ min slice.count zeros_size → n ≤ length filled → take n filled ≡ replicate n 0
       → Fills files s h slice most filled (Some n) t (record { file = file; place = h.place })
-  zeros_fill s t h file slice most n m buf filled at here some none reads same asked from size fits front =
+  zeros_fill s t h file slice most n m buf filled at here some none reads same asked from becomes size fits front =
       let long : length (take n filled) ≡ n = grind (arith, common_steps) in
       let more : 0 < n = omega arith in
       record {
@@ -76,6 +77,7 @@ module _ {F : Type 0} (files : FileView F) where
         same = same;
         live = reads.live;
         stands = both_map (files.seen h.file s) (files.seen file t) (ReadsIn s.whole buf (Ok m)) (λ f g. g.stands ≡ f.stands) (λ f g read. ap (λ (k : Seen). k.stands) read.4) reads.told;
+        becomes = becomes;
         asks = λ once. record { here = λ e. asked once; there = λ ne. absurd (ne here) };
         answer = (
           fits,

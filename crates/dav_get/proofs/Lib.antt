@@ -8,6 +8,7 @@ pub mod BodyRight
 pub mod BodyKept
 pub mod BodyBound
 pub mod FilesLeftOpen
+pub mod FileOpened
 pub mod BodyEnds
 pub mod Framing
 pub mod Sending

@@ -38,7 +38,7 @@ stands_then a b c p q = both_then a b c (λ f g. g.stands ≡ f.stands) (λ f g.
 module _ {F : Type 0} (files : FileView F) where
   pub touches_none : (s : DiskState) (file : Option (OpenAt F)) → TouchesOwn files s file s file
   touches_none s None = refl
-  touches_none s (Some h) = (keeps_but (files.handle h.file) s s (keeps_same s), refl, refl, same_stands (files.seen h.file s))
+  touches_none s (Some h) = (keeps_but (files.handle h.file) s s (keeps_same s), refl, refl, same_stands (files.seen h.file s), files.becomes_same h.file)
 
   pub touches_then : (s m t : DiskState) (f g k : Option (OpenAt F)) → TouchesOwn files s f m g → TouchesOwn files m g t k → TouchesOwn files s f t k
   touches_then s m t None None None p q = q ∙ p
@@ -46,10 +46,10 @@ module _ {F : Type 0} (files : FileView F) where
   touches_then s m t None (Some g) k p q = absurd p
   touches_then s m t (Some h) None None (keeps, closed) q = rw q (keeps, closed)
   touches_then s m t (Some h) None (Some k) p q = absurd q
-  touches_then s m t (Some h) (Some g) None (keeps, same, live, stands) (more, closed) =
+  touches_then s m t (Some h) (Some g) None (keeps, same, live, stands, becomes) (more, closed) =
       (but_then (files.handle h.file) s m t keeps (rw same at more), rw same at closed)
-  touches_then s m t (Some h) (Some g) (Some k) (keeps, same, live, stands) (more, still, alive, also) =
-      (but_then (files.handle h.file) s m t keeps (rw same at more), still ∙ same, (rw same at alive) ∙ live, stands_then _ _ _ stands also)
+  touches_then s m t (Some h) (Some g) (Some k) (keeps, same, live, stands, becomes) (more, still, alive, also, on) =
+      (but_then (files.handle h.file) s m t keeps (rw same at more), still ∙ same, (rw same at alive) ∙ live, stands_then _ _ _ stands also, files.becomes_then h.file g.file k.file becomes on)
 
   pub closes_touch : (s t : DiskState) (file : Option (OpenAt F)) → Closes files.handle s file t → TouchesOwn files s file t None
   closes_touch s t None same = same

@@ -103,7 +103,7 @@ TouchesOwn files s None t (Some g) = ⊥
 TouchesOwn files s (Some h) t None = KeepsBut (files.handle h.file) s t × (t.live (files.handle h.file) ≡ None)
 TouchesOwn files s (Some h) t (Some g) = KeepsBut (files.handle h.file) s t
     × (files.handle g.file ≡ files.handle h.file) × (t.live (files.handle h.file) ≡ s.live (files.handle h.file))
-    × SameStands (files.seen h.file s) (files.seen g.file t)
+    × SameStands (files.seen h.file s) (files.seen g.file t) × files.becomes h.file g.file
 
 -- P, where a piece is given
 abbrev pub IfPiece : Answer → (List ℕ → Type 0) → Type 0

@@ -2,7 +2,11 @@
 use Rattle.std.specs.Prelude.{◌≡◌, ℕ, true, Option, None, Some, Ok, Err}
 use Rattle.std.specs.List.{list_any}
 use Rattle.dav_core.specs.Disk.{DiskState}
+use Rattle.dav_core.specs.DavPath.{WebPath}
+use Rattle.dav_core.specs.Info.{Info}
 use Rattle.dav_core.specs.Unchanged.{Keeps, KeepsBut}
+use Rattle.dav_core.specs.Writing.{reading}
+use Rattle.dav_model.specs.Due.{Query, course, opening}
 use Rattle.dav_model.specs.Play.{read_file}
 use Rattle.dav_store.specs.View.{View}
 use Rattle.dav_get.specs.declared.open_at.OpenAt.{OpenAt}
@@ -31,6 +35,25 @@ module _ {S C F : Type 0} (view : View S C F) where
   OpenOnlyHeld s (Ok r) t = IsHeld view.file (view.state t) r.1
       × OpensOnly view.file.handle (view.state s) r.1.file (view.state t)
   OpenOnlyHeld s (Err e) t = Keeps (view.state s) (view.state t)
+
+module _ {S C F : Type 0} (view : View S C F) (q : Query) (c : C) (s : S) where
+  -- It is what a file became that was opened in the call: for reading alone, at the path that is due for what a look told.
+  pub record IsOpenedHere (file : F) : Type 0 where
+    pub info : Info
+    pub before : S
+    pub looks : view.looks s c q.path (Ok info) before
+    pub keeps : Keeps (view.state s) (view.state before)
+    pub path : WebPath
+    pub due : course q info.kind ≡ opening path
+    pub opened : F
+    pub after : S
+    pub opens : view.opens before c path reading (Ok opened) after
+    pub becomes : view.file.becomes opened file
+
+  -- The body's file was opened in the call.
+  abbrev pub HasOpened : Given F → Type 0
+  HasOpened (Ok r) = (h : OpenAt F) → r.1.file ≡ Some h → IsOpenedHere h.file
+  HasOpened (Err e) = Unit {0}
 
 -- where slices of a file are left, a piece has at most so many bytes
 abbrev pub HasMost : {F : Type 0} → ℕ → Given F → Type 0

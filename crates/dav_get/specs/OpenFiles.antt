@@ -29,6 +29,7 @@ pub record Moves {F : Type 0} (files : FileView F) (s : DiskState) (h : OpenAt F
   pub same : files.handle g.file ≡ files.handle h.file
   pub live : t.live (files.handle h.file) ≡ s.live (files.handle h.file)
   pub stands : SameStands (files.seen h.file s) (files.seen g.file t)
+  pub becomes : files.becomes h.file g.file
   pub stays : h.place ≡ start → IsTrue moved × (t.asked ≡ s.asked)
   pub goes : h.place ≢ start → files.asks_once → AsksOnce s t
   pub at : IsTrue moved → IsAt files t g
@@ -50,6 +51,7 @@ pub record Fills {F : Type 0} (files : FileView F) (s : DiskState) (h : OpenAt F
   pub same : files.handle g.file ≡ files.handle h.file
   pub live : t.live (files.handle h.file) ≡ s.live (files.handle h.file)
   pub stands : SameStands (files.seen h.file s) (files.seen g.file t)
+  pub becomes : files.becomes h.file g.file
   pub asks : files.asks_once → AsksToRead h.place slice.start (is_some result) s.asked t.asked
   pub answer : MatchOption result (Rose s.faults t.faults)
       (λ n. (n ≤ length buffer) × (n ≤ slice.count) × (0 < n) × IsPieceOf files.seen s h slice most (take n buffer)

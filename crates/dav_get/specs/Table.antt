@@ -143,6 +143,7 @@ module _ {S C F : Type 0} (view : View S C F) where
     pub done : FileRedirects (view.state s) (seen_in view s file) result (view.state t) (seen_in view t after)
     pub reads_from : view.file.reads_from file (view.state s) → view.file.reads_from after (view.state t)
     pub handle : view.file.handle after ≡ view.file.handle file
+    pub becomes : view.file.becomes file after
     pub lent : Lent view s t
 
   -- A body of these parts has the file at its place; where there are none, it is closed.

@@ -18,7 +18,7 @@ ghost use Rattle.dav_store.specs.Standing.{Seen, Standing};
 ghost use Rattle.dav_store.specs.View.{Closes};
 ghost use Rattle.dav_get.specs.Calls.{AsksByOne, fields_given, status_given};
 ghost use Rattle.dav_get.specs.Heard.{Heard};
-ghost use Rattle.dav_get.specs.Lives.{HeldOrClosed, HasMost, OpenOnlyHeld};
+ghost use Rattle.dav_get.specs.Lives.{HasOpened, HeldOrClosed, HasMost, OpenOnlyHeld};
 ghost use Rattle.dav_get.specs.OpenFiles.{IsAt};
 ghost use Rattle.dav_get.specs.Prepared.{AreReady, IsSentOf};
 ghost use Rattle.dav_get.specs.Right.{reply_at};
@@ -451,7 +451,8 @@ fn is_well_known(asked: &Asked<'_>) -> bool
 /// none. `heard` says, of any store, that the answer is right for what its look and its opening or listing answered;
 /// `right`, that it is right for what the store shows at the path, and at the one that is opened or listed for what
 /// stands there, unless a fault was met. Either way memory may be refused. `asks` says, of a store that looks and opens
-/// by one call each, as it is now, how many calls of the disk it takes, where no page is given.
+/// by one call each, as it is now, how many calls of the disk it takes, where no page is given. `opened` says where the
+/// body's file was opened, and that it is what that file became by calls of its own.
 pub fn handle_get<S: GuardedFileSystem<C>, C>(
     alloc: Global,
     settings: &Settings,
@@ -479,6 +480,7 @@ pub fn handle_get<S: GuardedFileSystem<C>, C>(
         (S.view.state fs.old).asked (S.view.state fs.new).asked }
     ensures leads { LeadsOn S.view S.listings credentials.now fs.old fs.new }
     ensures life { OpenOnlyHeld S.view fs.old result fs.new }
+    ensures opened { HasOpened S.view (query settings.now fields.now method path.now) credentials.now fs.old result }
     ensures most { HasMost (read_size_of settings.now.read_buf_size) result }
     ensures loan { S.view.loan fs.new ≡ S.view.loan fs.old }
 {

@@ -48,7 +48,7 @@ pub touches_lets : (s t : DiskState) (f g : Option (OpenAt LocalFsFile)) → Tou
 touches_lets s t None None same = (refl, ap (λ (x : DiskState). x.live) same)
 touches_lets s t None (Some g) touches = absurd touches
 touches_lets s t (Some f) None (keeps, gone) = put_by (handle_of f.file) None s.live t.live gone (λ n ne. keeps.live n ne)
-touches_lets s t (Some f) (Some g) (keeps, same, live, stands) = (same, same_by (handle_of f.file) s.live t.live live (λ n ne. keeps.live n ne))
+touches_lets s t (Some f) (Some g) (keeps, same, live, stands, becomes) = (same, same_by (handle_of f.file) s.live t.live live (λ n ne. keeps.live n ne))
 
 closes_lets : (s t : DiskState) (file : Option (OpenAt LocalFsFile)) → Closes handle_of s file t → Lets (handle_in file) None s.live t.live
 closes_lets s t None same = (refl, ap (λ (x : DiskState). x.live) same)

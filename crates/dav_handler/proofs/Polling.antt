@@ -56,7 +56,7 @@ touched_seen : (s t : DiskState) (f g : Option (OpenAt LocalFsFile)) (w : World)
 touched_seen s t None None w touches told was k e = cc
 touched_seen s t None (Some g) w touches told was k e = absurd touches
 touched_seen s t (Some f) None w touches told was k e = cc
-touched_seen s t (Some f) (Some g) w (keeps, same, live, stands) told was k e =
+touched_seen s t (Some f) (Some g) w (keeps, same, live, stands, becomes) told was k e =
     let (v, old, between) = told_before s.told t.told SameBesidesOpens w keeps.world told in
     let is : g ≡ k = cc in
     subst (λ x. is_some (seen_by x.file t) ≡ true) is (both_some (seen_by f.file s) (seen_by g.file t) (λ a b. b.stands ≡ a.stands) stands (was v f old refl))
@@ -72,14 +72,14 @@ touched_parts : (s t : DiskState) (f g : Option (OpenAt LocalFsFile)) (left : Li
 touched_parts s t None None left touches needs = refl
 touched_parts s t None (Some g) left touches needs = absurd touches
 touched_parts s t (Some f) None left touches needs = texts_any 0 (number_in s (Some f)) left (no_slices (list_any is_slice left) needs)
-touched_parts s t (Some f) (Some g) left (keeps, same, live, stands) needs = ap (λ n. parts_of n left) (stands_number (seen_by f.file s) (seen_by g.file t) stands)
+touched_parts s t (Some f) (Some g) left (keeps, same, live, stands, becomes) needs = ap (λ n. parts_of n left) (stands_number (seen_by f.file s) (seen_by g.file t) stands)
 
 touched_handle : (s t : DiskState) (f g : Option (OpenAt LocalFsFile)) (k : OpenAt LocalFsFile) → TouchesOwn local_file s f t g → g ≡ Some k
     → (h : OpenAt LocalFsFile) × (f ≡ Some h) × (handle_of k.file ≡ handle_of h.file)
 touched_handle s t None None k touches e = cc
 touched_handle s t None (Some g) k touches e = absurd touches
 touched_handle s t (Some f) None k touches e = cc
-touched_handle s t (Some f) (Some g) k (keeps, same, live, stands) e = let is : g ≡ k = cc in (f, refl, subst (λ (x : OpenAt LocalFsFile). handle_of x.file ≡ handle_of f.file) is same)
+touched_handle s t (Some f) (Some g) k (keeps, same, live, stands, becomes) e = let is : g ≡ k = cc in (f, refl, subst (λ (x : OpenAt LocalFsFile). handle_of x.file ≡ handle_of f.file) is same)
 
 number_of_seen : (o : Option Seen) (f : Seen) → o ≡ Some f → f.stands.number ≡ number_seen o
 number_of_seen None f e = cc

@@ -21,10 +21,10 @@ use Rattle.dav_readcache.specs.declared.cached.Content.{Content}
 use Rattle.dav_readcache.specs.declared.cached.Reading.{Reading}
 use Rattle.dav_readcache.specs.declared.keeping.Wanted.{Wanted}
 use Rattle.dav_readcache.specs.declared.store.ReadCache.{ReadCache}
-use Rattle.dav_readcache.specs.Cached.{AfterSaid, AfterTag, Steps, StepsWith, is_held, seen_as, seen_reading, shown}
+use Rattle.dav_readcache.specs.Cached.{AfterSaid, AfterTag, IsLeft, Steps, StepsWith, content_in, content_of, is_held, seen_as, seen_reading, shown}
 use Rattle.dav_readcache.specs.Opening.{AfterOpen, EndsOpen, Fetches, FrontIn, Holds, HoldsBy, HoldsWanted, Keeps, KeepsWhere, Opening, Starves, holding, says_tag, unheld, wanted_by, wanted_of}
 use Rattle.dav_readcache.specs.Shelf.{Pairs, ShelfState, bytes_for}
-use Rattle.dav_readcache.specs.Sound.{AreFaithful, AreFilesTold, AreSound, AreSoundIn, In, IsFileIn, IsHeldSound, IsSound, IsSoundIn, OpensTold, content_in, content_of}
+use Rattle.dav_readcache.specs.Sound.{AreFaithful, AreFilesTold, AreSound, AreSoundIn, In, IsFileIn, IsHeldSound, IsSound, IsSoundIn, OpensTold}
 use Rattle.dav_readcache.specs.Store.{cache_view}
 use Rattle.dav_readcache.proofs.Alike.{agrees_in, found_sound, read_all}
 use Rattle.dav_readcache.proofs.Showing.{shows_there}
@@ -134,10 +134,6 @@ module _ {S C F : Type 0} (view : View S C F) where
   held_sound s c trail w path file t faithful inside files told all (first, k, opens, after) = opened_had trail w s t c path first k file faithful inside files told all opens after
 
 -- ---- reads
-
--- what is held by the second is held by the first
-abbrev pub IsLeft : Option Content → Option Content → Type 0
-IsLeft a b = (c : Content) → b ≡ Some c → a ≡ Some c
 
 none_left : (a b : Option Content) → b ≡ None → IsLeft a b
 none_left a b none = λ c is. cc

@@ -3,6 +3,7 @@ use Rattle.std.specs.Prelude.{◌≡◌, ◌<◌, ◌+◌, ◌==◌, ◌&&◌, �
 use Rattle.std.specs.Option.{option_map}
 use Rattle.std.specs.Cmp.Lexicographic.{pointwise}
 use Rattle.dav_core.specs.declared.error.FsError.{FsError}
+use Rattle.dav_core.specs.declared.error.FsError.TheVariants.{NoMemory}
 use Rattle.dav_core.specs.Disk.{DiskState, Live}
 use Rattle.dav_core.specs.Info.{Info}
 use Rattle.dav_io.specs.Counts.{one_more}
@@ -78,6 +79,22 @@ abbrev pub reads_by : {F : Type 0} → FileView F → CachedFile F → DiskState
 reads_by view f s = view.reads_from f.file s × IsAtKnown f.reading (view.seen f.file s)
     × IsShut f.reading (s.live (view.handle f.file))
 
+-- the content that a file holds
+abbrev pub content_in : Option Reading → Option Content
+content_in None = None
+content_in (Some r) = r.content
+
+abbrev pub content_of : {F : Type 0} → CachedFile F → Option Content
+content_of file = content_in file.reading
+
+-- What is held then was held before.
+abbrev pub IsLeft : Option Content → Option Content → Type 0
+IsLeft before after = (c : Content) → after ≡ Some c → before ≡ Some c
+
+-- What it becomes: the store's file what that becomes, and no other content is held.
+abbrev pub becomes_by : {F : Type 0} → FileView F → CachedFile F → CachedFile F → Type 0
+becomes_by view f g = view.becomes f.file g.file × IsLeft (content_of f) (content_of g)
+
 -- An open file of a store, as it is shown by a cache. It is written as the store's file is; a move asks nothing, and a
 -- read may ask more than once.
 abbrev pub cached_file : {F : Type 0} → FileView F → FileView (CachedFile F)
@@ -87,6 +104,9 @@ cached_file view = record {
   writes = λ f s from result g t. view.writes f.file s from result g.file t × (g.reading ≡ f.reading);
   reads_from = reads_by view;
   asks_once = ⊥;
+  becomes = becomes_by view;
+  becomes_same = λ f. (view.becomes_same f.file, λ c is. is);
+  becomes_then = λ f g k one other. (view.becomes_then f.file g.file k.file one.0 other.0, λ c is. one.1 c (other.1 c is));
 }
 
 -- ---- steps of a read
@@ -198,6 +218,18 @@ abbrev pub Steps : Type 0 → ℕ → Option Reading → Option Seen → DiskSta
 Steps once h None seen s buffer result t q = (once → AsksOnce s t) × (q ≡ None)
 Steps once h (Some r) seen s buffer result t q = (g : Reading) × (q ≡ Some g)
     × StepsBy once h r seen s buffer result t g
+
+-- the bytes at the front of a buffer, or want of memory for a value of their own
+abbrev pub GivesFront : List ℕ → Result ℕ FsError → Result (List ℕ) FsError → Type 0
+GivesFront buffer (Ok n) result = (result ≡ Ok (take n buffer)) ⊎ (result ≡ Err NoMemory)
+GivesFront buffer (Err e) result = result ≡ Err e
+
+-- Bytes are given by one read into a buffer of that length. Where memory for the buffer is refused, nothing is asked.
+abbrev pub GivesBySteps : Type 0 → ℕ → Option Reading → Option Seen → DiskState → ℕ → Result (List ℕ) FsError
+    → DiskState → Option Reading → Type 0
+GivesBySteps once h r seen s count result t q = ((result ≡ Err NoMemory) × (t ≡ s) × (q ≡ r))
+    ⊎ ((buffer : List ℕ) × (read : Result ℕ FsError) × (length buffer ≡ count) × Steps once h r seen s buffer read t q
+    × HitsBy r seen s buffer read t × GivesFront buffer read result)
 
 -- where a cached file is read next
 abbrev pub moved_to : ℕ → Option Reading → Option Reading

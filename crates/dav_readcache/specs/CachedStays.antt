@@ -87,4 +87,5 @@ cached_files {one = one} {other = other} same = record {
     shut_at f.reading s (other.handle f.file) (one.handle f.file) (same.handle f.file) reads.2,
   );
   asks_once = λ o. o;
+  becomes = λ f g b. (same.becomes f.file g.file b.0, b.1);
 }

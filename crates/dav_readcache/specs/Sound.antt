@@ -13,9 +13,7 @@ use Rattle.dav_store.specs.FileView.{FileView}
 use Rattle.dav_store.specs.Shows.{Looked}
 use Rattle.dav_store.specs.Standing.{Seen, Standing}
 use Rattle.dav_store.specs.View.{View}
-use Rattle.dav_readcache.specs.declared.cached.CachedFile.{CachedFile}
 use Rattle.dav_readcache.specs.declared.cached.Content.{Content}
-use Rattle.dav_readcache.specs.declared.cached.Reading.{Reading}
 use Rattle.dav_readcache.specs.Shelf.{Pairs}
 
 -- the tag of the regular file of a number, also of one that is open alone
@@ -38,14 +36,6 @@ IsSound trail tag bytes = (w : World) → In w trail → IsSoundIn w tag bytes
 abbrev pub AreFaithful : List World → Type 0
 AreFaithful trail = (v w : World) (m n : ℕ) (tag : List ℕ) → In v trail → In w trail → Holds v m → Holds w n
     → tag_in v m ≡ Some tag → tag_in w n ≡ Some tag → bytes_of w n ≡ bytes_of v m
-
--- the content that a file holds
-abbrev pub content_in : Option Reading → Option Content
-content_in None = None
-content_in (Some r) = r.content
-
-abbrev pub content_of : {F : Type 0} → CachedFile F → Option Content
-content_of file = content_in file.reading
 
 -- What is held is sound: in a world, or for a trail.
 abbrev pub IsHeldSound : (List ℕ → List ℕ → Type 0) → Option Content → Type 0

@@ -117,6 +117,7 @@ fn move_there<D: Disk, F: DavFile<D>>(
     ensures known { IsKnown reading.new (F.view.seen file.new (D.state disk.new)) }
     ensures none { reading.new.content ≡ None }
     ensures handle { F.view.handle file.new ≡ F.view.handle file.old }
+    ensures becomes { F.view.becomes file.old file.new }
     ensures loan { D.loan disk.new ≡ D.loan disk.old }
 {
     let Some(place) = reading.pending else {
@@ -163,6 +164,7 @@ fn read_on<D: Disk, F: DavFile<D>>(
     ensures known { IsKnown reading.new (F.view.seen file.new (D.state disk.new)) }
     ensures none { reading.new.content ≡ None }
     ensures handle { F.view.handle file.new ≡ F.view.handle file.old }
+    ensures becomes { F.view.becomes file.old file.new }
     ensures loan { D.loan disk.new ≡ D.loan disk.old }
 {
     match move_there(file, reading, disk) {
@@ -190,6 +192,7 @@ fn is_fresh<D: Disk, F: DavFile<D>>(
         × IsFresh r reading.old result reading.new }
     ensures reads_from { F.view.reads_from file.old (D.state disk.old) → F.view.reads_from file.new (D.state disk.new) }
     ensures handle { F.view.handle file.new ≡ F.view.handle file.old }
+    ensures becomes { F.view.becomes file.old file.new }
     ensures loan { D.loan disk.new ≡ D.loan disk.old }
 {
     let meta = match file.metadata(disk) {
@@ -238,6 +241,7 @@ fn read_reading<D: Disk, F: DavFile<D>>(
     ensures reads_from { F.view.reads_from file.new (D.state disk.new) }
     ensures known { IsKnown reading.new (F.view.seen file.new (D.state disk.new)) }
     ensures handle { F.view.handle file.new ≡ F.view.handle file.old }
+    ensures becomes { F.view.becomes file.old file.new }
     ensures loan { D.loan disk.new ≡ D.loan disk.old }
 {
     if reading.content.is_none() {
@@ -251,9 +255,9 @@ fn read_reading<D: Disk, F: DavFile<D>>(
 }
 
 impl<D: Disk, F: DavFile<D>> DavFile<D> for CachedFile<F> {
-    ghost use Rattle.dav_readcache.specs.Cached.{HitsBy, MovesFree, Steps, cached_file, moved_to, reads_by, seen_by};
+    ghost use Rattle.dav_readcache.specs.Cached.{becomes_by, GivesBySteps, HitsBy, MovesFree, Steps, cached_file, moved_to, reads_by, seen_by};
     ghost use Rattle.dav_readcache.specs.CachedStays.{cached_reads_on, cached_stays};
-    ghost use Rattle.dav_store.specs.Files.{FileReads, FileSeeks};
+    ghost use Rattle.dav_store.specs.Files.{FileGives, FileReads, FileSeeks};
 
     type Meta = F::Meta;
 
@@ -272,6 +276,7 @@ impl<D: Disk, F: DavFile<D>> DavFile<D> for CachedFile<F> {
             (seen_by F.view self.new (D.state disk.new)) }
         ensures reads_from { reads_by F.view self.new (D.state disk.new) }
         ensures handle { F.view.handle self.new.file ≡ F.view.handle self.old.file }
+        ensures becomes { becomes_by F.view self.old self.new }
         ensures loan { D.loan disk.new ≡ D.loan disk.old }
         ensures free { MovesFree self.old.reading (D.state disk.old) place result (D.state disk.new) }
         ensures placed { self.new.reading ≡ moved_to place self.old.reading }
@@ -295,6 +300,7 @@ impl<D: Disk, F: DavFile<D>> DavFile<D> for CachedFile<F> {
             (seen_by F.view self.new (D.state disk.new)) }
         ensures reads_from { reads_by F.view self.new (D.state disk.new) }
         ensures handle { F.view.handle self.new.file ≡ F.view.handle self.old.file }
+        ensures becomes { becomes_by F.view self.old self.new }
         ensures loan { D.loan disk.new ≡ D.loan disk.old }
         ensures hit { HitsBy self.old.reading (F.view.seen self.old.file (D.state disk.old)) (D.state disk.old) into.new
             result (D.state disk.new) }
@@ -305,6 +311,36 @@ impl<D: Disk, F: DavFile<D>> DavFile<D> for CachedFile<F> {
         match &mut self.reading {
             Some(reading) => read_reading(&mut self.file, reading, disk, into),
             None => self.file.read_into(disk, into),
+        }
+    }
+
+    /// Reads at most `count` bytes from its place on, by one read into memory that was had before.
+    fn read_bytes(&mut self, alloc: Global, disk: &mut D, count: usize) -> Result<Bytes, FsError>
+        requires live { IsSome ((D.state disk.old).live (F.view.handle self.old.file)) }
+        requires reads_from { reads_by F.view self.old (D.state disk.old) }
+        requires some { 0 < count }
+        ensures done { FileGives (D.state disk.old) (F.view.handle self.old.file)
+            (seen_by F.view self.old (D.state disk.old)) count result (D.state disk.new)
+            (seen_by F.view self.new (D.state disk.new)) }
+        ensures reads_from { reads_by F.view self.new (D.state disk.new) }
+        ensures handle { F.view.handle self.new.file ≡ F.view.handle self.old.file }
+        ensures becomes { becomes_by F.view self.old self.new }
+        ensures loan { D.loan disk.new ≡ D.loan disk.old }
+        ensures steps { GivesBySteps F.view.asks_once (F.view.handle self.old.file) self.old.reading
+            (F.view.seen self.old.file (D.state disk.old)) (D.state disk.old) count result (D.state disk.new)
+            self.new.reading }
+    {
+        let Ok(mut buffer) = vec![in alloc; 0u8; count] else {
+            return Err(FsError::NoMemory);
+        };
+        let length = match self.read_into(disk, buffer.as_mut_slice()) {
+            Ok(length) => length,
+            Err(error) => return Err(error),
+        };
+        buffer.truncate(length);
+        match Bytes::from_vec(buffer) {
+            Ok(bytes) => Ok(bytes),
+            Err(_) => Err(FsError::NoMemory),
         }
     }
 

@@ -15,8 +15,8 @@ ghost use Rattle.dav_local.specs.declared.fs.LocalFs.{LocalFs as Store};
 ghost use Rattle.dav_readcache.specs.declared.cached.CachedFile.{CachedFile as Held};
 ghost use Rattle.dav_readcache.specs.declared.cached.Content.{Content};
 ghost use Rattle.dav_readcache.specs.declared.store.ReadCache.{ReadCache as Cache};
-ghost use Rattle.dav_readcache.specs.Cached.{Steps, cached_file, shown};
-ghost use Rattle.dav_readcache.specs.Sound.{AreFaithful, AreFilesTold, AreSound, AreSoundIn, In, IsFileIn, IsHeldSound, IsSound, IsSoundIn, IsWorldThere, OpensTold, content_of, tag_in};
+ghost use Rattle.dav_readcache.specs.Cached.{Steps, cached_file, content_of, shown};
+ghost use Rattle.dav_readcache.specs.Sound.{AreFaithful, AreFilesTold, AreSound, AreSoundIn, In, IsFileIn, IsHeldSound, IsSound, IsSoundIn, IsWorldThere, OpensTold, tag_in};
 ghost use Rattle.dav_readcache.specs.Store.{cache_listings, cache_view};
 
 use crate::{CachedFile, ReadCache};
@@ -72,6 +72,12 @@ pub fn reads_leave_contents<D: Disk, F: DavFile<D>>(_file: &CachedFile<F>)
         (c : Content) → Steps F.view.asks_once (F.view.handle _file.now.file) _file.now.reading
         (F.view.seen _file.now.file s) s buffer result t after.reading → content_of after ≡ Some c
         → content_of _file.now ≡ Some c }
+{}
+
+/// What a file holds after calls of its own, whichever and however many, it held before. So what is sound stays so.
+pub fn calls_leave_contents<D: Disk, F: DavFile<D>>(_file: &CachedFile<F>)
+    ensures { (after : Held F) (c : Content) → (cached_file F.view).becomes _file.now after
+        → content_of after ≡ Some c → content_of _file.now ≡ Some c }
 {}
 
 /// An open regular file whose content is sound in the world that the disk tells is shown as it stands there.

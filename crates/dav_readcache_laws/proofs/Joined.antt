@@ -16,8 +16,8 @@ use Rattle.dav_get.specs.Bodies.{StandsIn}
 use Rattle.dav_get.specs.Told.{ShowsFor}
 use Rattle.dav_readcache.specs.declared.cached.CachedFile.{CachedFile}
 use Rattle.dav_readcache.specs.declared.store.ReadCache.{ReadCache}
-use Rattle.dav_readcache.specs.Cached.{cached_file}
-use Rattle.dav_readcache.specs.Sound.{AreFilesTold, AreSoundIn, IsHeldSound, IsSoundIn, IsWorldThere, content_of}
+use Rattle.dav_readcache.specs.Cached.{cached_file, content_of}
+use Rattle.dav_readcache.specs.Sound.{AreFilesTold, AreSoundIn, IsHeldSound, IsSoundIn, IsWorldThere}
 use Rattle.dav_readcache.specs.Store.{cache_listings, cache_view}
 use Rattle.dav_readcache.proofs.Alike.{shows_alike}
 use Rattle.dav_readcache.proofs.Contents.{file_stands}

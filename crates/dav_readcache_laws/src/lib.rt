@@ -25,8 +25,8 @@ ghost use Rattle.dav_local.specs.declared.fs.LocalFs.{LocalFs as Store};
 ghost use Rattle.dav_local_laws.specs.Simple.{opened, plain_ways};
 ghost use Rattle.dav_readcache.specs.declared.cached.CachedFile.{CachedFile as Held};
 ghost use Rattle.dav_readcache.specs.declared.store.ReadCache.{ReadCache as Cache};
-ghost use Rattle.dav_readcache.specs.Cached.{cached_file};
-ghost use Rattle.dav_readcache.specs.Sound.{AreFaithful, AreFilesTold, AreSound, AreSoundIn, In, IsHeldSound, IsSoundIn, IsWorldThere, content_of};
+ghost use Rattle.dav_readcache.specs.Cached.{cached_file, content_of};
+ghost use Rattle.dav_readcache.specs.Sound.{AreFaithful, AreFilesTold, AreSound, AreSoundIn, In, IsHeldSound, IsSoundIn, IsWorldThere};
 ghost use Rattle.dav_readcache.specs.Store.{cache_listings, cache_view};
 ghost use Rattle.dav_readcache_laws.specs.Plain.{HasNoLink, listed, looked};
 

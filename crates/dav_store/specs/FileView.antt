@@ -15,6 +15,10 @@ pub record FileView (F : Type 0) : Type 1 where
   pub reads_from : F → DiskState → Type 0
   -- Each move and each read of it asks its disk one call.
   pub asks_once : Type 0
+  -- What a file becomes by calls of its own: none, one, or one after another.
+  pub becomes : F → F → Type 0
+  pub becomes_same : (f : F) → becomes f f
+  pub becomes_then : (f g k : F) → becomes f g → becomes g k → becomes f k
 
 -- Two views say the same of each file. (They aren't equal: an equality of relations lies one universe higher.)
 pub record SameFiles {F : Type 0} (one other : FileView F) : Type 0 where
@@ -25,6 +29,7 @@ pub record SameFiles {F : Type 0} (one other : FileView F) : Type 0 where
   pub reads_from : (f : F) (s : DiskState) → one.reads_from f s → other.reads_from f s
   pub from_reads : (f : F) (s : DiskState) → other.reads_from f s → one.reads_from f s
   pub asks_once : one.asks_once → other.asks_once
+  pub becomes : (f g : F) → other.becomes f g → one.becomes f g
 
 pub same_files : {F : Type 0} (view : FileView F) → SameFiles view view
 same_files view = record {
@@ -34,4 +39,5 @@ same_files view = record {
   reads_from = λ f s r. r;
   from_reads = λ f s r. r;
   asks_once = λ o. o;
+  becomes = λ f g b. b;
 }

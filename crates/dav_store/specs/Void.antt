@@ -41,6 +41,9 @@ void_file = record {
   writes = λ _ s _ result _ t. Unbuilt s result t;
   reads_from = λ _ _. Unit {0};
   asks_once = Unit {0};
+  becomes = λ _ _. Unit {0};
+  becomes_same = λ _. tt;
+  becomes_then = λ _ _ _ _ _. tt;
 }
 
 -- A listing of nothing answers `NotImplemented` once, and then None.

@@ -24,6 +24,7 @@ pub trait DavFile<D: Disk> {
             (info_in Self.Meta.info result) (D.state disk.new) (view.seen self.new (D.state disk.new)) }
         ensures reads_from { view.reads_from self.old (D.state disk.old) → view.reads_from self.new (D.state disk.new) }
         ensures handle { view.handle self.new ≡ view.handle self.old }
+        ensures becomes { view.becomes self.old self.new }
         ensures loan { D.loan disk.new ≡ D.loan disk.old };
 
     /// Sets its place, in bytes from its first, and answers that place. A regular file that was opened for reading is
@@ -36,6 +37,7 @@ pub trait DavFile<D: Disk> {
         ensures reads_from { view.reads_from self.new (D.state disk.new) }
         ensures asks { view.asks_once → AsksOnce (D.state disk.old) (D.state disk.new) }
         ensures handle { view.handle self.new ≡ view.handle self.old }
+        ensures becomes { view.becomes self.old self.new }
         ensures loan { D.loan disk.new ≡ D.loan disk.old };
 
     /// Reads bytes from its place on to the front of `into`, and answers how many. 0 comes exactly where no byte stands
@@ -49,6 +51,7 @@ pub trait DavFile<D: Disk> {
         ensures reads_from { view.reads_from self.new (D.state disk.new) }
         ensures asks { view.asks_once → AsksOnce (D.state disk.old) (D.state disk.new) }
         ensures handle { view.handle self.new ≡ view.handle self.old }
+        ensures becomes { view.becomes self.old self.new }
         ensures loan { D.loan disk.new ≡ D.loan disk.old };
 
     /// Reads at most `count` bytes from its place on, by one read of the disk. Where the memory of the answer is
@@ -62,6 +65,7 @@ pub trait DavFile<D: Disk> {
         ensures reads_from { view.reads_from self.new (D.state disk.new) }
         ensures asks { view.asks_once → AsksToGive result (D.state disk.old) (D.state disk.new) }
         ensures handle { view.handle self.new ≡ view.handle self.old }
+        ensures becomes { view.becomes self.old self.new }
         ensures loan { D.loan disk.new ≡ D.loan disk.old }
     {
         let Ok(mut buffer) = vec![in alloc; 0u8; count] else {
@@ -85,6 +89,7 @@ pub trait DavFile<D: Disk> {
             buf.now result (D.state disk.new) (view.seen self.new (D.state disk.new)) }
         ensures reads_from { view.reads_from self.new (D.state disk.new) }
         ensures handle { view.handle self.new ≡ view.handle self.old }
+        ensures becomes { view.becomes self.old self.new }
         ensures loan { D.loan disk.new ≡ D.loan disk.old };
 
     /// The same of the bytes of a buffer.
@@ -96,6 +101,7 @@ pub trait DavFile<D: Disk> {
             (B.unread buf) result (D.state disk.new) (view.seen self.new (D.state disk.new)) }
         ensures reads_from { view.reads_from self.new (D.state disk.new) }
         ensures handle { view.handle self.new ≡ view.handle self.old }
+        ensures becomes { view.becomes self.old self.new }
         ensures loan { D.loan disk.new ≡ D.loan disk.old };
 
     /// Writes out what is held back, of which there is nothing. It asks the disk nothing.
@@ -105,6 +111,7 @@ pub trait DavFile<D: Disk> {
             (view.seen self.new (D.state disk.new)) }
         ensures reads_from { view.reads_from self.old (D.state disk.old) → view.reads_from self.new (D.state disk.new) }
         ensures handle { view.handle self.new ≡ view.handle self.old }
+        ensures becomes { view.becomes self.old self.new }
         ensures loan { D.loan disk.new ≡ D.loan disk.old };
 
     /// The address to which it sends a client, where it has one: a text of printable ASCII. It asks the disk at most
@@ -115,6 +122,7 @@ pub trait DavFile<D: Disk> {
             (D.state disk.new) (view.seen self.new (D.state disk.new)) }
         ensures reads_from { view.reads_from self.old (D.state disk.old) → view.reads_from self.new (D.state disk.new) }
         ensures handle { view.handle self.new ≡ view.handle self.old }
+        ensures becomes { view.becomes self.old self.new }
         ensures loan { D.loan disk.new ≡ D.loan disk.old };
 
     /// Ends it.

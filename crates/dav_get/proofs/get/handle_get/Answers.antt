@@ -1,6 +1,7 @@
 use Rattle.std.proofs.Common.{inl, inr}
 use Rattle.dav_model.specs.Due.{query}
 use Rattle.dav_get.proofs.Asking.{gets_asks}
+use Rattle.dav_get.proofs.FileOpened.{gets_opened}
 use Rattle.dav_get.proofs.Framing.{gets_framed, gets_sound}
 use Rattle.dav_get.proofs.HeardIsRight.{heard_right}
 use Rattle.dav_get.proofs.TableIsHeard.{gets_heard}
@@ -28,3 +29,7 @@ returns-clause-right g c = λ looked opened listed shows.
 pub returns-clause-asks : goal.returns-clause-asks
 returns-clause-asks g c = λ holds few here.
     gets_asks g.S.GuardedFileSystem.view g.S.GuardedFileSystem.listings (query c.args.settings.now c.args.fields.now c.args.method c.args.path.now) holds few c.args.credentials.now c.args.fs.now c.get_once.result c.get_once.new.fs here c.get_once.ensures.life c.get_once.ensures.table
+
+pub returns-clause-opened : goal.returns-clause-opened
+returns-clause-opened g c =
+    gets_opened g.S.GuardedFileSystem.view g.S.GuardedFileSystem.listings (query c.args.settings.now c.args.fields.now c.args.method c.args.path.now) c.args.credentials.now c.args.fs.now c.get_once.result c.get_once.new.fs c.get_once.ensures.table
