@@ -1,4 +1,5 @@
 pub mod AlikeOpen
+pub mod BodiesSound
 pub mod Joined
 pub mod LocalAll
 pub mod LocalStore
