@@ -8,8 +8,9 @@ use Rattle.dav_core.specs.declared.tree.Kind.{Kind}
 use Rattle.dav_core.specs.Disk.{DiskState, Metas, OpenedIn, kind_opened}
 use Rattle.dav_io.specs.Told.{Both}
 use Rattle.dav_core.specs.World.{World}
-use Rattle.dav_core.specs.Tree.{row_at, is_dir, is_linked, standing, below, below_kind, look_from, look}
+use Rattle.dav_core.specs.Tree.{row_at, is_dir, is_linked, look_from, look}
 use Rattle.dav_core.specs.declared.tree.Kind.TheVariants.{Dir, File, Link}
+use Rattle.dav_core.proofs.LookLemmas.{standing_row, below_ok}
 use Rattle.dav_cache.specs.Trees.{Name, Names, FileTime, Tree, same_path, has_row, time_of_row, fold_path}
 use Rattle.dav_cache.specs.Entries.{Paths, PathEntry, PathCache, DuEntry, DotCache, without, promoted, dir_key, same_key, concludes, is_time}
 use Rattle.dav_cache.specs.Calls.{LooksBy, Seeing, Opening, Denies, probed, found_by, has_time, dropped}
@@ -23,27 +24,14 @@ use Rattle.dav_cache.proofs.Invariant.{get-set_same}
 
 -- ---- what a walk finds
 
-standing_is : (o : Option Row) (row : Row) → standing o ≡ Ok row → o ≡ Some row
-standing_is None row e = cc
-standing_is (Some r) row e = cc
-
-below_kind_is : (kind : Kind) (found : Result Row DiskError) (row : Row) → below_kind kind found ≡ Ok row → found ≡ Ok row
-below_kind_is Dir found row e = e
-below_kind_is File found row e = cc
-below_kind_is Link found row e = cc
-
-below_is : (o : Option Row) (found : Result Row DiskError) (row : Row) → below o found ≡ Ok row → found ≡ Ok row
-below_is None found row e = cc
-below_is (Some r) found row e = below_kind_is r.kind found row e
-
 nothing_more : (at : Names) → at ++ [] ≡ at
 nothing_more [] = refl
 nothing_more (n ∷ at) = ap (λ (l : Names). n ∷ l) (nothing_more at)
 
 walk_is : (tree : Tree) (at names : Names) (row : Row) → look_from tree at names ≡ Ok row → row_at tree (at ++ names) ≡ Some row
-walk_is tree at [] row e = ap (row_at tree) (nothing_more at) ∙ standing_is (row_at tree at) row e
+walk_is tree at [] row e = ap (row_at tree) (nothing_more at) ∙ standing_row (row_at tree at) row e
 walk_is tree at (name ∷ names) row e =
-    ap (row_at tree) (sym (append_assoc at (name ∷ []) names)) ∙ walk_is tree (at ++ name ∷ []) names row (below_is (row_at tree at) _ row e)
+    ap (row_at tree) (sym (append_assoc at (name ∷ []) names)) ∙ walk_is tree (at ++ name ∷ []) names row (below_ok (row_at tree at) _ row e).3
 
 look_is : (tree : Tree) (path : Names) (row : Row) → look tree path ≡ Ok row → row_at tree path ≡ Some row
 look_is tree path row e = walk_is tree [] path row e

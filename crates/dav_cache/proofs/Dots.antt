@@ -4,6 +4,7 @@ use Rattle.std.specs.Map.{lookup}
 use Rattle.std.specs.Option.{option_map_or}
 use Rattle.std.specs.List.{list_any}
 use Rattle.std.proofs.lemmas.Bool.{ne_eqb, eq-eqb}
+use Rattle.std.proofs.Math.Bool.{or-false}
 use Rattle.dav_cache.specs.Trees.{Name, Names, Tree, same_name, is_dot, has_name, time_of}
 use Rattle.dav_cache.specs.Entries.{DuKey, DuEntry, Dots, Listed, without, put, dir_key, name_key, same_key, stands, put_name, put_dir, put_names, sealed}
 pub use Rattle.dav_cache.specs.Transparency.{AllBelow, Falling}
@@ -171,18 +172,11 @@ one-number (g ∷ gs) d d' e e' f h h' same = elim (key_tells (dir_key d) g.0) [
   ]
 ]
 
-eqb-same : (n : ℕ) → (n == n) ≡ true
-eqb-same n = eq-eqb n n refl
-
 or_swap : (a b c : Bool) → (a || (b || c)) ≡ ((b || a) || c)
 or_swap true true c = refl
 or_swap true false c = refl
 or_swap false true c = refl
 or_swap false false c = refl
-
-pub or-false : (a : Bool) → (a || false) ≡ a
-or-false true = refl
-or-false false = refl
 
 -- ---- a listing that is sealed
 
@@ -252,7 +246,7 @@ module _ (trees : List Tree) (size : ℕ) (old : Dots) (l : Listed) where
                 | inl is ↦
                     let at = lookup-front k E rest in
                     let at' = subst (λ y. lookup (same_key (name_key l.dir y)) ((k, E) ∷ rest) ≡ Some E) (sym is.1) at in
-                    ap (λ o. option_map_or (λ (w : DuEntry). w.number == l.number) o false) at' ∙ eqb-same l.number ∙ sym (ap (λ b. b || P x) is.0)
+                    ap (λ o. option_map_or (λ (w : DuEntry). w.number == l.number) o false) at' ∙ eq-eqb l.number l.number refl ∙ sym (ap (λ b. b || P x) is.0)
                 | inr is ↦
                     ap (λ o. option_map_or (λ (w : DuEntry). w.number == l.number) o false) (lookup-past k (name_key l.dir x) E rest (λ q. is.1 (same_member l.dir l.dir x name q)))
                     ∙ subst (λ n. stands rest (name_key l.dir x) n ≡ stands less (name_key l.dir x) n) was.0 (stands-take (size - 1) less l.dir e x falls (before l.dir e h))

@@ -10,6 +10,7 @@ use Rattle.std.proofs.lemmas.List.Filters.{dedup_is}
 use Rattle.std.proofs.lemmas.List.Kept.{Contains-dedup, Contains-from_dedup, IsStrictlySortedBy-dedup}
 use Rattle.std.proofs.lemmas.List.Sorted.{Contains-permutation, IsPermutation-sym}
 use Rattle.std.proofs.lemmas.Map.Views.{list_any-from_Contains, Contains-from_any}
+use Rattle.dav_io.proofs.Cases.{same_tests}
 use Rattle.dav_cache.specs.Builder.{BuilderState, with_name}
 use Rattle.dav_cache.specs.Trees.{Name, Names, FileTime, same_name, is_dot, is_less, is_after}
 use Rattle.dav_cache.specs.Entries.{kept, in_order, is_rising, are_sealable}
@@ -171,11 +172,6 @@ unfolding IsStrictlySortedBy
 rises [] strict = refl
 rises (n ∷ ns) strict = strict_rises n ns strict.0 strict.1
 
-both_ways : (a b : Bool) → (a ≡ true → b ≡ true) → (b ≡ true → a ≡ true) → a ≡ b
-both_ways true b f g = sym (f refl)
-both_ways false true f g = g refl
-both_ways false false f g = refl
-
 names_same : (x y : Name) → same_name x y ≡ true → x ≡ y
 names_same x y = (name_decides x y).0
 
@@ -191,7 +187,7 @@ order-sorted names sorted left permuted is filtered =
     let made : left ≡ dedup same_name sorted = dedup_is same_name sorted left filtered in
     let strict : IsStrictlySortedBy (slice_cmp nat_cmp) (dedup same_name sorted) = IsStrictlySortedBy-dedup nat_list_cmp_total texts_ties sorted is in
     made ∙ rise_once None (dedup same_name sorted) (in_order names) (rises (dedup same_name sorted) strict) (rising-order names)
-    (λ z. both_ways (list_any (same_name z) (dedup same_name sorted)) (list_any (same_name z) names)
+    (λ z. same_tests (list_any (same_name z) (dedup same_name sorted)) (list_any (same_name z) names)
     (λ h. among z names (Contains-permutation sorted names z (IsPermutation-sym names sorted permuted) (Contains-from_dedup same_name sorted z (stands_there z (dedup same_name sorted) h))))
     (λ h. among z (dedup same_name sorted) (Contains-dedup nat_list_eq_equiv names_same sorted z (Contains-permutation names sorted z permuted (stands_there z names h))))
     ∙ sym (any-order z names))

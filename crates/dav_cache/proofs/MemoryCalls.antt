@@ -4,6 +4,7 @@ use Rattle.std.specs.Option.{option_map_or}
 use Rattle.std.specs.List.{list_any}
 use Rattle.std.specs.Map.{lookup}
 use Rattle.std.proofs.lemmas.Bool.{false≢true, true≢false, and_parts, not-true}
+use Rattle.std.proofs.Math.Bool.{or-false}
 use Rattle.dav_io.specs.declared.clock.Moment.{Moment}
 use Rattle.dav_core.specs.declared.handle.Meta.{Meta}
 use Rattle.dav_core.specs.declared.handle.DiskError.{DiskError}
@@ -17,7 +18,7 @@ use Rattle.dav_cache.specs.Calls.{LooksBy, Denies, Seals, has_time, dropped, sea
 use Rattle.dav_cache.specs.Memory.{OwnedState, memory_of, known_at, known_by, WasKnown, LearnsNothing, AsksMeta, AsksOnceBy, Denied, GetsBy, Inserts, Negates, SealsIn, Purges}
 use Rattle.dav_cache.proofs.Keys.{time_decides, time_tells, path_tells, dir≢name, same_dir}
 use Rattle.dav_cache.proofs.Lists.{lookup-without_same, lookup-take, purged-take}
-use Rattle.dav_cache.proofs.Dots.{IsApart, dir≢, name≢, lookup-away, lookup-past, stands-take, falling-without, Sealing, sealing-put_dir, sealing-put_name, sealing-put_names, or-false}
+use Rattle.dav_cache.proofs.Dots.{IsApart, dir≢, name≢, lookup-away, lookup-past, stands-take, falling-without, Sealing, sealing-put_dir, sealing-put_name, sealing-put_names}
 use Rattle.dav_cache.proofs.Steps.{is_time_at}
 use Rattle.dav_cache.proofs.Facts.{nothing_known}
 

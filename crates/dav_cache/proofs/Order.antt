@@ -6,6 +6,8 @@ use Rattle.std.proofs.lemmas.Map.Text.{is_eq-slice_cmp}
 use Rattle.std.specs.List.{list_any, filter}
 use Rattle.std.proofs.lemmas.Bool.{cases_Bool, false≢true, true≢false, and_parts, and_from, or_cases}
 use Rattle.std.proofs.lemmas.Cmp.{tied_itself}
+use Rattle.std.proofs.Math.Bool.{and-true}
+use Rattle.dav_io.proofs.Cases.{less_is}
 use Rattle.dav_cache.specs.Trees.{Name, Names, Tree, same_name, is_less, is_dot, is_after, lesser, least, next_name, names_in, has_name}
 use Rattle.dav_cache.specs.Core.{Listing, given}
 pub use Rattle.dav_cache.specs.Transparency.{HasUpTo}
@@ -15,16 +17,7 @@ pub and_false : (b : Bool) → false ≡ (b && false)
 and_false true = refl
 and_false false = refl
 
-pub and_true : (b : Bool) → (b && true) ≡ b
-and_true true = refl
-and_true false = refl
-
 -- ---- the order of names
-
-lt_is : (o : Ordering) → is_lt o ≡ true → o ≡ Less
-lt_is Less h = refl
-lt_is Equal h = absurd (false≢true h)
-lt_is Greater h = absurd (false≢true h)
 
 exact : (a b : Name) → slice_cmp nat_cmp a b ≡ Equal → a ≡ b
 exact a b h = (name_decides a b).0 (sym (is_eq-slice_cmp a b) ∙ ap is_eq h)
@@ -33,7 +26,7 @@ pub less_itself : (a : Name) → is_less a a ≡ false
 less_itself a = ap is_lt (tied_itself nat_list_cmp_total a)
 
 pub less_trans : (a b c : Name) → is_less a b ≡ true → is_less b c ≡ true → is_less a c ≡ true
-less_trans a b c p q = ap is_lt (nat_list_cmp_total.trans a b c (lt_is _ p) (lt_is _ q))
+less_trans a b c p q = ap is_lt (nat_list_cmp_total.trans a b c (less_is _ p) (less_is _ q))
 
 pub less_other : (a b : Name) → is_less a b ≡ false → (a ≡ b) ⊎ (is_less b a ≡ true)
 less_other a b h = by_order (slice_cmp nat_cmp a b) refl
@@ -165,7 +158,7 @@ pub up_to_given : (l : Listing) (tree : Tree) (o : Option Name) → next_name tr
     → HasUpTo (given l o) tree
 up_to_given l tree None h open_ has x dot =
     let was = rw open_ at (has x dot) in
-    was ∙ at_end tree l.dir l.last h x ∙ sym (and_true (has_name tree l.dir x))
+    was ∙ at_end tree l.dir l.last h x ∙ sym (and-true (has_name tree l.dir x))
 up_to_given l tree (Some n) h open_ has x dot =
     let was : list_any (same_name x) l.names ≡ (has_name tree l.dir x && not (is_after l.last x)) = rw open_ at (has x dot) in
     let goal = at_next tree l.dir l.last n h x in

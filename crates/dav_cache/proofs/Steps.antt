@@ -3,6 +3,7 @@ use Rattle.std.proofs.Common.{◌≡◌, ℕ, ◌-◌, ◌^◌, Bool, true, fals
 use Rattle.std.specs.Map.{lookup}
 use Rattle.std.specs.List.{list_any}
 use Rattle.std.proofs.lemmas.Bool.{false≢true}
+use Rattle.std.proofs.Math.Bool.{and-true}
 use Rattle.dav_cache.specs.Trees.{Name, Names, FileTime, Tree, same_name, same_path, has_name, has_row, time_of, next_name, fold_path}
 use Rattle.dav_cache.specs.Entries.{DuEntry, Dots, PathEntry, Listed, without, put, purged, is_old_path, is_old_dot, promoted, sealed, dir_key, same_key, concludes, whole_seconds}
 use Rattle.dav_cache.specs.Core.{Event, Moment, State, Place, Told, Listing, goes, settled, one_time, is_time, time_told, ask, peeked, peek, check, conclude, drop_dir, begin, before, given, lists_next, list_next, after, new_dots, with_dots, seal, find, got, get, probe, drop, insert, purge, step}
@@ -13,7 +14,7 @@ use Rattle.dav_cache.specs.Transparency.{SoundAt, SameNames}
 use Rattle.dav_cache.proofs.Keys.{time_decides, path_cases}
 use Rattle.dav_cache.proofs.Lists.{purged-take, lookup-take}
 use Rattle.dav_cache.proofs.Dots.{AllBelow, Falling, below-lookup, below-take, below-without, falling-take, falling-without, sound-take, sound-dropped, kept-dropped, one-number, seals}
-use Rattle.dav_cache.proofs.Order.{HasUpTo, up_to_given, and_false, and_true}
+use Rattle.dav_cache.proofs.Order.{HasUpTo, up_to_given, and_false}
 use Rattle.dav_cache.proofs.Invariant.{AreNamesOf, PlaceOk, Data, Inv, Keeps, Passing, holds_on, next, get-set, get-set_same}
 
 -- a tree that an event sets is one of these
@@ -226,7 +227,7 @@ module _ (trees : List Tree) (same : SameNames trees) (A A' : ℕ → Names → 
             elim (inv.places c (Lists l) h parts.0 t parts.1) [
               | inl going ↦ λ tree known at x dot.
                   let all : list_any (same_name x) l.names ≡ (has_name s.tree l.dir x && true) = rw e at (going.1 x dot) in
-                  same tree s.tree known inv.entries.known l.dir t at now x ∙ sym (all ∙ and_true (has_name s.tree l.dir x))
+                  same tree s.tree known inv.entries.known l.dir t at now x ∙ sym (all ∙ and-true (has_name s.tree l.dir x))
               | inr away ↦ absurd (pass.gone c l.dir t away now)
             ])
         | false ↦ λ e pass. still s inv pass

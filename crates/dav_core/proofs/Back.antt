@@ -1,15 +1,13 @@
 -- A link is parsed back to its path.
-use Rattle.std.proofs.Common.{◌≡◌, ◌==◌, ℕ, suc, ◌+◌, ◌-◌, ◌/◌, ◌%◌, ◌<◌, ltb, Bool, true, false, not, cond, ◌&&◌, ◌||◌, List, [], ◌∷◌, ◌++◌, length, take, drop, map, slice_get, codes, Some, Ok, Err, All, refl, sym, ap, ap₂, ◌∙◌, subst, true≢false, append_assoc, append-nil, take_at, drop_at, length-append, nat_eq, ◌⊎◌, flat_map, bytes_eq, inl, inr, arith}
-use Rattle.std.proofs.lemmas.Bool.{and_parts, and_from, or_parts, or_from, cond_both, false_from_ne_true, ltb-true}
+use Rattle.std.proofs.Common.{◌≡◌, ◌==◌, ℕ, suc, ◌+◌, ◌-◌, ◌/◌, ◌%◌, ◌<◌, ltb, Bool, true, false, not, cond, ◌&&◌, ◌||◌, List, [], ◌∷◌, ◌++◌, length, take, drop, map, slice_get, codes, Ok, Err, All, refl, sym, ap, ap₂, ◌∙◌, subst, true≢false, append_assoc, append-nil, drop_at, length-append, ◌⊎◌, flat_map, bytes_eq, inl, inr, arith}
+use Rattle.std.proofs.lemmas.Bool.{and_parts, and_from, or_parts, or_from, cond_both, false_from_ne_true, ltb-true, not-true}
 use Rattle.std.proofs.lemmas.Bool.Decides.{nat_tests}
 use Rattle.std.proofs.lemmas.List.Elements.{All-nil, All-cons, All-head, All-tail, All-append, All-weaker}
 use Rattle.std.proofs.lemmas.List.Sums.{list_all-from_AllPass}
 use Rattle.std.proofs.lemmas.List.Splits.{slice_split_none, slice_split_at}
 use Rattle.std.proofs.lemmas.Grind.{flat_map-append}
 use Rattle.std.proofs.lemmas.List.{map-append}
-use Rattle.std.proofs.lemmas.Slice.Eq.{bytes_eq-Decides, slice_eq-Decides}
-use Rattle.std.specs.Cmp.{unsigned_Decides}
-use Rattle.std.specs.Cmp.Lexicographic.{pointwise}
+use Rattle.std.proofs.lemmas.Slice.Eq.{bytes_eq-Decides}
 use Rattle.std.proofs.lemmas.Str.{IsUtf8-from_is_utf8}
 use Rattle.std.specs.List.{list_all, list_any, position_or_len}
 use Rattle.std.specs.Str.{is_utf8}
@@ -20,9 +18,10 @@ use lib.Utf8.{scalar, scalars, scalar_cases, encode, encodes}
 use Rattle.dav_core.specs.declared.url.TheConstants.{LINK}
 use Rattle.dav_core.specs.declared.parse_error.ParseError.TheVariants.{InvalidPath, NotText, PrefixMismatch}
 use Rattle.dav_core.specs.DavPath.{WebPath, IsPath, are_texts, ends_well, last_name, stays, link_byte, link_of, slashed, final_slash, shown}
-use Rattle.dav_core.specs.Path.{Names, is_plain, is_front, parts_names, same_names}
+use Rattle.dav_core.specs.Path.{Names, is_plain, parts_names}
 use Rattle.dav_core.specs.Grammar.{and_then, readable, begins_with_slash, Left, kept_if, names_in, prefix_names, below, placed, parsed, is_path_byte, segments, is_skipped, is_up, is_empty, with_segment, left_of, before_query, name_of, decoded, all_decoded, ends, has_slash}
 use Rattle.dav_core.proofs.Links.{escapes, link_is, link_decodes}
+use Rattle.dav_core.proofs.Paths.{front_join, last_pushed}
 
 -- ---- a text has bytes
 
@@ -161,12 +160,8 @@ first_text name names h =
 abbrev tail_of : Bool → Names
 tail_of slash = cond slash ([] ∷ []) []
 
-false_from_not : (b : Bool) → not b ≡ true → b ≡ false
-false_from_not true e = absurd (true≢false (sym e))
-false_from_not false e = refl
-
 slashless : (name : List ℕ) → IsText name → list_any parts_names name ≡ false
-slashless name (plain, u) = false_from_not _ (and_parts _ _ (and_parts _ _ plain).1).0
+slashless name (plain, u) = not-true _ (and_parts _ _ (and_parts _ _ plain).1).0
 
 -- names behind a segment, each after a slash
 behind : (segment : List ℕ) (names : Names) (slash : Bool) → All IsOther segment → are_texts names ≡ true
@@ -199,14 +194,6 @@ say_all (name ∷ names) t =
     ∙ ap (λ r. and_then r (λ rest. Ok (name ∷ rest))) (say_all names p.1)
 
 -- ---- the final slash
-
--- the last of a list that ends with an element
-last_pushed : (names : Names) (last : List ℕ) → last_name (names ++ last ∷ []) ≡ Some last
-last_pushed [] last = refl
-last_pushed (name ∷ []) last = refl
-last_pushed (name ∷ next ∷ names) last =
-    let more : length (name ∷ next ∷ names ++ last ∷ []) - 1 ≡ suc (length (next ∷ names ++ last ∷ []) - 1) = omega arith in
-    ap (slice_get (name ∷ next ∷ names ++ last ∷ [])) more ∙ last_pushed (next ∷ names) last
 
 -- the last of names is the last name's
 ends_never : (name : List ℕ) (names : Names) → are_texts (name ∷ names) ≡ true → ends (last_name (links (name ∷ names))) ≡ false
@@ -268,7 +255,7 @@ small_bytes : (b : ℕ) → is_link_byte b ≡ true → is_path_byte b ≡ true
 small_bytes b h = (and_parts _ _ h).0
 
 no_query : (b : ℕ) → is_link_byte b ≡ true → (b == 63) ≡ false
-no_query b h = false_from_not _ (and_parts _ _ h).1
+no_query b h = not-true _ (and_parts _ _ h).1
 
 uncut : (text : List ℕ) → All (λ b. (b == 63) ≡ false) text → before_query text ≡ text
 uncut [] h = refl
@@ -294,14 +281,10 @@ can_be_read text bytes first =
 
 -- ---- the path again
 
-front_itself : (front names : Names) → is_front front (front ++ names) ≡ true
-front_itself front names =
-    ap (same_names front) (take_at front names (length front) refl) ∙ (slice_eq-Decides (λ c d. slice_eq-Decides unsigned_Decides c d (pointwise nat_eq c d) refl) front front (same_names front front) refl).1 refl
-
 -- names below a prefix
 below_itself : (path : WebPath) → below path.prefix (all_of path) ≡ Ok path.names
 below_itself path =
-    ap (λ b. cond b (Ok (drop (length path.prefix) (all_of path))) (Err PrefixMismatch)) (front_itself path.prefix path.names)
+    ap (λ b. cond b (Ok (drop (length path.prefix) (all_of path))) (Err PrefixMismatch)) (front_join path.prefix path.names)
     ∙ ap (λ names. Ok names) (drop_at path.prefix path.names (length path.prefix) refl)
 
 some_slash : (path : WebPath) → ends_well path ≡ true → (0 < length (all_of path)) ⊎ (path.slash ≡ true)

@@ -35,7 +35,7 @@ besides_files v w same = record {
 pub files_same : (w : World) → SameBesidesFiles w w
 files_same w = record { rows = rows_same w w w.tree; script = refl; greatest = omega arith; latest = not_after_itself w.latest }
 
-new_from : (a b c : World) (t : FileTime) → NotAfter a.latest b.latest → IsNew b t c → IsNew a t c
+pub new_from : (a b c : World) (t : FileTime) → NotAfter a.latest b.latest → IsNew b t c → IsNew a t c
 new_from a b c t before new = record { later = later_than t a.latest b.latest before new.later; used = new.used; nanos = new.nanos }
 
 new_on : (a b c : World) (t : FileTime) → NotAfter b.latest c.latest → IsNew a t b → IsNew a t c

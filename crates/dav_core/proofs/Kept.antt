@@ -1,5 +1,5 @@
 -- Segments kept and dropped, told from the left.
-use Rattle.std.proofs.Common.{◌≡◌, ℕ, zero, suc, ◌-◌, ◌+◌, ◌<◌, Bool, true, false, cond, List, [], ◌∷◌, ◌++◌, length, take, drop, get_or, map, Result, Ok, Err, refl, sym, ap, ◌∙◌, append_assoc, append-nil, IfOk, ◌&&◌, take-append-drop, arith}
+use Rattle.std.proofs.Common.{◌≡◌, ℕ, zero, suc, ◌-◌, ◌+◌, ◌<◌, Bool, true, false, cond, List, [], ◌∷◌, ◌++◌, length, take, drop, get_or, map, Result, Ok, Err, refl, sym, ap, ◌∙◌, append_assoc, append-nil, IfOk, ◌&&◌, take-append-drop}
 use Rattle.std.proofs.lemmas.List.{take_more, map_push, map-append}
 use Rattle.std.specs.Borrow.{Bor}
 use Rattle.std.specs.Str.{is_utf8}
@@ -8,6 +8,7 @@ use Rattle.dav_core.specs.declared.parse_error.ParseError.{ParseError}
 use Rattle.dav_core.specs.declared.parse_error.ParseError.TheVariants.{InvalidPath, NotText}
 use Rattle.dav_core.specs.Path.{Names, parent_of, is_plain, all_plain}
 use Rattle.dav_core.specs.Grammar.{and_then, is_skipped, is_up, Left, with_name, with_segment, left_of, kept_if, kept_of, without_last, keep, decoded, all_decoded}
+use Rattle.dav_core.proofs.Paths.{parent_cons}
 
 abbrev left : ℕ → Names → Left
 left ups kept = record { ups = ups; kept = kept }
@@ -43,9 +44,6 @@ after_name (x ∷ ss) s p q = ap (with_segment x) (after_name ss s p q) ∙ name
 abbrev popped : ℕ → Names → Left
 popped n [] = left (suc n) []
 popped n (k ∷ ks) = left n (parent_of (k ∷ ks))
-
-parent_cons : (x k : List ℕ) (ks : Names) → parent_of (x ∷ k ∷ ks) ≡ x ∷ parent_of (k ∷ ks)
-parent_cons x k ks = let e : length (x ∷ k ∷ ks) - 1 ≡ suc (length (k ∷ ks) - 1) = omega arith in ap (λ n. take n (x ∷ k ∷ ks)) e
 
 up_step : (b c : Bool) (x : List ℕ) (n : ℕ) (k : Names) → by_kind x b c (popped n k) ≡ popped (by_kind x b c (left n k)).ups (by_kind x b c (left n k)).kept
 up_step true c x n k = refl

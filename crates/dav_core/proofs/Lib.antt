@@ -4,6 +4,8 @@ pub mod Kept
 pub mod Utf8
 pub mod Fits
 pub mod Links
+pub mod Paths
+pub mod Elements
 pub mod Plain
 pub mod Back
 pub mod Made
@@ -14,10 +16,17 @@ pub mod TurnsLeaveOpens
 pub mod RefusedLemmas
 pub mod UnchangedLemmas
 pub mod TablesLemmas
+pub mod Rows
+pub mod ByteOrder
+pub mod UriPaths
+pub mod Listers
+pub mod LeftLemmas
+pub mod ChangedRows
 pub mod LookLemmas
 pub mod HeldStays
 pub mod AllowedRows
 pub mod PlaceLemmas
 pub mod TimesLemmas
+pub mod EditsLemmas
 pub mod FilesLemmas
 pub mod Untold

@@ -1,11 +1,9 @@
 -- Parts of lists of plain names.
-use Rattle.std.proofs.Common.{◌≡◌, ℕ, true, length, take, drop, sym, ap, ◌∙◌, take-append-drop, nat_eq, refl}
+use Rattle.std.proofs.Common.{◌≡◌, ℕ, true, length, take, drop, sym, ap, ◌∙◌, take-append-drop}
 use Rattle.std.proofs.lemmas.Bool.{and_parts}
 use Rattle.std.proofs.lemmas.List.Folds.{list_all-append}
-use Rattle.std.proofs.lemmas.Slice.Eq.{slice_eq-Decides}
-use Rattle.std.specs.Cmp.{unsigned_Decides}
-use Rattle.std.specs.Cmp.Lexicographic.{pointwise}
-use Rattle.dav_core.specs.Path.{Names, is_plain, all_plain, same_names, is_front}
+use Rattle.dav_core.specs.Path.{Names, is_plain, all_plain, is_front}
+pub use Rattle.dav_core.proofs.Paths.{names_same}
 
 both : (n : ℕ) (names : Names) → all_plain names ≡ true → (all_plain (take n names) ≡ true) × (all_plain (drop n names) ≡ true)
 both n names plain =
@@ -16,9 +14,6 @@ plain_take n names plain = (both n names plain).0
 
 pub plain_drop : (n : ℕ) (names : Names) → all_plain names ≡ true → all_plain (drop n names) ≡ true
 plain_drop n names plain = (both n names plain).1
-
-pub names_same : (a b : Names) → same_names a b ≡ true → a ≡ b
-names_same a b e = (slice_eq-Decides (λ c d. slice_eq-Decides unsigned_Decides c d (pointwise nat_eq c d) refl) a b (same_names a b) refl).0 e
 
 -- what plain names begin with is plain
 pub front_plain : (front names : Names) → is_front front names ≡ true → all_plain names ≡ true → all_plain front ≡ true

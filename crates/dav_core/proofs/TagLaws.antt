@@ -15,12 +15,6 @@ use Rattle.dav_core.specs.declared.etag_list.EtagList.TheVariants.{Any, Tags}
 
 -- ---- one tag
 
-bytes_same : (a b : List ℕ) → bytes_eq a b ≡ true → a ≡ b
-bytes_same a b e = (bytes_eq-Decides a b).0 e
-
-same_bytes : (a b : List ℕ) → a ≡ b → bytes_eq a b ≡ true
-same_bytes a b e = (bytes_eq-Decides a b).1 e
-
 closed_last : (text : List ℕ) (last : ℕ) → closed_by (reverse (text ++ last ∷ [])) ≡ cond (last == 34 && list_all is_tag_byte text) (Some text) None
 closed_last text last =
     ap closed_by (reverse-append text (last ∷ []))
@@ -68,7 +62,7 @@ tag_sound text tag e = by (bytes_eq (take 2 text) (codes "W/")) refl e
         spelled_so text rest parts.0 weak tag front quoted.0 quoted.1 parts.2
 
     by : (t : Bool) → bytes_eq (take 2 text) (codes "W/") ≡ t → cond t (marked true (unquoted (drop 2 text))) (marked false (unquoted text)) ≡ Some tag → IsTag text tag
-    by true f found = read true (drop 2 text) (sym (take-append-drop 2 text) ∙ ap (λ front. front ++ drop 2 text) (bytes_same _ _ f)) found
+    by true f found = read true (drop 2 text) (sym (take-append-drop 2 text) ∙ ap (λ front. front ++ drop 2 text) ((bytes_eq-Decides _ _).0 f)) found
     by false f found = read false text refl found
 
 closed_whole : (text : List ℕ) → list_all is_tag_byte text ≡ true → closed_by (reverse (text ++ 34 ∷ [])) ≡ Some text
@@ -303,7 +297,7 @@ to_list text list (Some (tag ∷ more)) e found =
     })
 
 list_by : (text : List ℕ) (list : EtagList) (t : Bool) → bytes_eq (trimmed text) (codes "*") ≡ t → cond t (Some Any) (some_tags (all_tags (members false text))) ≡ Some list → IsList text list
-list_by text list true star found = let same : Any ≡ list = cc in subst (IsList text) same (bytes_same (trimmed text) (codes "*") star)
+list_by text list true star found = let same : Any ≡ list = cc in subst (IsList text) same ((bytes_eq-Decides (trimmed text) (codes "*")).0 star)
 list_by text list false star found = to_list text list (all_tags (members false text)) refl found
 
 pub list_sound : (text : List ℕ) (list : EtagList) → list_of text ≡ Some list → IsList text list
@@ -336,11 +330,11 @@ tags_found text tags is =
 
 tags_by : (text : List ℕ) (tags : List ETag) (t : Bool) → bytes_eq (trimmed text) (codes "*") ≡ t → IsTagList text tags
     → cond t (Some Any) (some_tags (all_tags (members false text))) ≡ Some (Tags tags)
-tags_by text tags true star is = let none = no_tags text (bytes_same (trimmed text) (codes "*") star) in let found = tags_found text tags is in cc
+tags_by text tags true star is = let none = no_tags text ((bytes_eq-Decides (trimmed text) (codes "*")).0 star) in let found = tags_found text tags is in cc
 tags_by text tags false star is = ap some_tags (tags_found text tags is) ∙ some_found tags is.some
 
 pub list_complete : (text : List ℕ) (list : EtagList) → IsList text list → list_of text ≡ Some list
-list_complete text Any star = ap (λ t. cond t (Some Any) (some_tags (all_tags (members false text)))) (same_bytes (trimmed text) (codes "*") star)
+list_complete text Any star = ap (λ t. cond t (Some Any) (some_tags (all_tags (members false text)))) ((bytes_eq-Decides (trimmed text) (codes "*")).1 star)
 list_complete text (Tags tags) is = tags_by text tags (bytes_eq (trimmed text) (codes "*")) refl is
 
 pub one_tag : (text : List ℕ) (a b : ETag) → IsTag text a → IsTag text b → a ≡ b

@@ -2,6 +2,7 @@
 use Rattle.std.specs.Prelude.{◌≡◌, ◌≢◌, ◌≤◌, ◌+◌, ◌==◌, ℕ, List, Bool, true, false, IsTrue, Option, None, Some, Result, Ok, Err}
 use Rattle.std.proofs.Common.{refl, sym, ap, ◌∙◌, arith}
 use Rattle.std.proofs.lemmas.Bool.Decides.{nat_tests}
+pub use Rattle.std.proofs.lemmas.Bool.{eqb-true as equal_keys, eqb-false as other_keys}
 use Rattle.dav_io.specs.Told.{Both}
 use Rattle.dav_io.proofs.ToldLemmas.{both_then, both_map, both_same}
 use Rattle.dav_core.specs.declared.handle.Meta.{Meta}
@@ -39,12 +40,6 @@ put_same k a f = grind (arith, nat_tests)
 
 pub put_other : {A : Type 0} (k n : ℕ) (a : A) (f : ℕ → A) → n ≢ k → put k a f n ≡ f n
 put_other k n a f ne = grind (arith, nat_tests)
-
-pub equal_keys : (n k : ℕ) → (n == k) ≡ true → n ≡ k
-equal_keys n k t = grind (arith, nat_tests)
-
-pub other_keys : (n k : ℕ) → (n == k) ≡ false → n ≢ k
-other_keys n k t = grind (arith, nat_tests)
 
 -- two handles differ where one is live and the other isn't
 pub differ : (f : ℕ → Option Live) (h n : ℕ) (l : Live) → f h ≡ None → f n ≡ Some l → n ≢ h

@@ -4,12 +4,13 @@ use Rattle.std.specs.List.{AllByRecursion, AllZip, filter}
 use Rattle.std.proofs.lemmas.List.{length-append}
 use Rattle.dav_core.specs.Path.{Names, same_names}
 use Rattle.dav_core.proofs.Plain.{names_same}
-use Rattle.dav_model.proofs.LooseWalks.{names_equal}
+use Rattle.dav_core.proofs.Paths.{names_equal}
+use Rattle.dav_core.proofs.Elements.{in_either}
 use Rattle.dav_fetch.specs.declared.found.Found.{Found}
 use Rattle.dav_fetch.specs.Copy.{IsOf, path_cmp}
 use Rattle.dav_fetch.specs.Keeping.{AreAscending}
 use Rattle.dav_fetch.specs.Walk.{dirs_on, each_once, files_on, is_among, with_each, with_new}
-use Rattle.dav_fetch.proofs.Orders.{behind_first, first_below, less_differs, of_append, of_parts}
+use Rattle.dav_fetch.proofs.Orders.{behind_first, first_below, less_differs, of_append}
 
 -- ---- lists made of others
 
@@ -77,7 +78,7 @@ of_new p path paths is = by (is_among path paths) is
 
     by : (t : Bool) → IsOf p (cond t paths (paths ++ path ∷ [])) → IsOf p paths ⊎ (p ≡ path)
     by true o = inl o
-    by false o = elim (of_parts p paths (path ∷ []) o) [ inl old ↦ inl old | inr new ↦ last new ]
+    by false o = elim (in_either p paths (path ∷ []) o) [ inl old ↦ inl old | inr new ↦ last new ]
 
 to_new : (p path : Names) (paths : List Names) → IsOf p paths ⊎ (p ≡ path) → IsOf p (with_new path paths)
 to_new p path paths is = by (is_among path paths) refl is
@@ -167,7 +168,7 @@ Apart (x ∷ xs) = (IsOf x xs → ⊥) × Apart xs
 pub apart_both : {A : Type 0} (xs ys : List A) → Apart xs → Apart ys → ((x : A) → IsOf x xs → IsOf x ys → ⊥) → Apart (xs ++ ys)
 apart_both [] ys p q differ = q
 apart_both (x ∷ xs) ys p q differ = (
-  λ is. elim (of_parts x xs ys is) [ inl here ↦ p.0 here | inr there ↦ differ x (inl refl) there ],
+  λ is. elim (in_either x xs ys is) [ inl here ↦ p.0 here | inr there ↦ differ x (inl refl) there ],
   apart_both xs ys p.1 q (λ y here there. differ y (inr here) there),
 )
 
@@ -230,7 +231,7 @@ parts_at x (y ∷ ys) (inl same) = ([], ys, ap (λ z. z ∷ ys) (sym same))
 parts_at x (y ∷ ys) (inr more) = let (a, b, e) = parts_at x ys more in (y ∷ a, b, ap (λ z. y ∷ z) e)
 
 left_out : {A : Type 0} (a b : List A) (x y : A) → IsOf y (a ++ x ∷ b) → (y ≡ x → ⊥) → IsOf y (a ++ b)
-left_out a b x y is other = elim (of_parts y a (x ∷ b) is) [
+left_out a b x y is other = elim (in_either y a (x ∷ b) is) [
   | inl here ↦ of_append y a b (inl here)
   | inr there ↦ rest there
 ]

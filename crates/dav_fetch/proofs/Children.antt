@@ -1,9 +1,10 @@
 -- The path of a member, as its directory's page spells it.
-use Rattle.std.proofs.Common.{◌≡◌, ◌<◌, ◌+◌, ◌==◌, ◌||◌, zero, suc, ◌++◌, ◌∷◌, [], ℕ, List, Bool, true, false, not, length, take, get_or, refl, sym, ap, subst, ◌∙◌, arith, append_assoc, append-nil, codes, true≢false}
-use Rattle.std.proofs.lemmas.Bool.{and_parts, not-true}
+use Rattle.std.proofs.Common.{◌≡◌, ◌<◌, ◌+◌, ◌==◌, zero, suc, ◌++◌, ◌∷◌, [], ℕ, List, Bool, true, false, not, length, take, get_or, refl, sym, ap, subst, ◌∙◌, arith, append_assoc, append-nil, codes, true≢false}
+use Rattle.std.proofs.lemmas.Bool.{and_parts, not-true, or_right}
 use Rattle.std.proofs.lemmas.List.{append_cancel_right}
 use Rattle.std.proofs.Math.Seq.{take-suc}
 use Rattle.std.specs.List.{flat_map, list_any, AllZip}
+use Rattle.dav_io.proofs.Ends.{zip_push}
 use Rattle.dav_core.specs.DavPath.{final_slash, shown, slashed}
 use Rattle.dav_core.specs.Path.{Names, is_dots, is_plain, parts_names}
 use Rattle.dav_page.specs.declared.row.PageRow.{PageRow}
@@ -25,22 +26,16 @@ found_is dir row found (text, path, name) = record {
       ∙ ap (λ z. z ++ final_slash found.is_dir) (sym (slashed_behind dir found.name));
 }
 
-pub zip_more : {A B : Type 0} (R : A → B → Type 0) (xs : List A) (ys : List B) (x : A) (y : B) → AllZip R xs ys → R x y → AllZip R (xs ++ x ∷ []) (ys ++ y ∷ [])
-zip_more R [] [] x y z r = (r, tt)
-zip_more R [] (b ∷ ys) x y z r = absurd z
-zip_more R (a ∷ xs) [] x y z r = absurd z
-zip_more R (a ∷ xs) (b ∷ ys) x y z r = (z.0, zip_more R xs ys x y z.1 r)
-
 -- one more of the first list, and its fellow
 pub zip_step : {A B : Type 0} (R : A → B → Type 0) (xs : List A) (k : ℕ) (d x : A) (ys : List B) (y : B) → k < length xs → get_or xs k d ≡ x → AllZip R (take k xs) ys → R x y → AllZip R (take (k + 1) xs) (ys ++ y ∷ [])
 zip_step R xs k d x ys y inside is z r =
     subst (λ n. AllZip R (take n xs) (ys ++ y ∷ [])) (next k)
-    (subst (λ t. AllZip R t (ys ++ y ∷ [])) (ap (λ e. take k xs ++ e ∷ []) (sym is) ∙ sym (take-suc xs k d inside)) (zip_more R (take k xs) ys x y z r))
+    (subst (λ t. AllZip R t (ys ++ y ∷ [])) (ap (λ e. take k xs ++ e ∷ []) (sym is) ∙ sym (take-suc xs k d inside)) (zip_push R (take k xs) ys x y z r))
   where
     next : (k : ℕ) → suc k ≡ k + 1
     next k = omega arith
 
-child_text : (dir : Names) (name : List ℕ) (slash : Bool) → shown (record { prefix = []; names = dir ++ name ∷ []; slash = slash }) ≡ (flat_map slashed dir ++ codes "/") ++ (name ++ final_slash slash)
+pub child_text : (dir : Names) (name : List ℕ) (slash : Bool) → shown (record { prefix = []; names = dir ++ name ∷ []; slash = slash }) ≡ (flat_map slashed dir ++ codes "/") ++ (name ++ final_slash slash)
 child_text dir name slash = ap (λ z. z ++ final_slash slash) (slashed_behind dir name) ∙ append_assoc (flat_map slashed dir ++ codes "/") name (final_slash slash)
 
 -- and the other way
@@ -56,15 +51,11 @@ zip_fellow R (x ∷ xs) (y ∷ ys) (suc k) d z inside = zip_fellow R xs ys k d z
 
 -- ---- texts that are no names
 
-has_slash : (a b : List ℕ) → list_any parts_names (a ++ 47 ∷ b) ≡ true
+pub has_slash : (a b : List ℕ) → list_any parts_names (a ++ 47 ∷ b) ≡ true
 has_slash [] b = refl
 has_slash (x ∷ a) b = or_right (parts_names x) (list_any parts_names (a ++ 47 ∷ b)) (has_slash a b)
-  where
-    or_right : (p q : Bool) → q ≡ true → (p || q) ≡ true
-    or_right true q e = refl
-    or_right false q e = e
 
-no_slash : (name : List ℕ) → is_plain name ≡ true → list_any parts_names name ≡ false
+pub no_slash : (name : List ℕ) → is_plain name ≡ true → list_any parts_names name ≡ false
 no_slash name plain = not-true _ (and_parts (not (list_any parts_names name)) (not (is_dots name)) (and_parts (not (length name == 0)) _ plain).1).0
 
 slash_clash : (name a b : List ℕ) → is_plain name ≡ true → name ≡ a ++ 47 ∷ b → ⊥

@@ -10,6 +10,7 @@ use Rattle.dav_core.specs.declared.tree.Row.{Row}
 use Rattle.dav_core.specs.Path.{Names}
 use Rattle.dav_core.specs.Tree.{is_dir, is_link, look}
 use Rattle.dav_core.specs.World.{World}
+use Rattle.dav_core.proofs.Elements.{in_either}
 use Rattle.dav_fetch.specs.declared.copied.Kept.{Kept}
 use Rattle.dav_fetch.specs.Copy.{IsOf}
 use Rattle.dav_fetch.specs.Fetching.{Files}
@@ -17,7 +18,7 @@ use Rattle.dav_fetch.specs.Keeping.{AreAscending}
 use Rattle.dav_fetch.specs.Mirroring.{IsShownAt, is_shown, is_visible_row, visible_rows}
 use Rattle.dav_fetch.specs.Walk.{Visit, Way}
 use Rattle.dav_fetch.proofs.Among.{apart_both, apart_fewer, ascending_apart, to_filter, to_map}
-use Rattle.dav_fetch.proofs.Orders.{none_ascend, of_parts}
+use Rattle.dav_fetch.proofs.Orders.{none_ascend}
 use Rattle.dav_fetch.proofs.TreeRows.{looked_is, same_row}
 use Rattle.dav_fetch.proofs.Walks.{Walked, read_long}
 
@@ -51,7 +52,7 @@ found_fewer w read way paths walk up from =
         clash Link e f = cc
 
     among : (path : Names) → IsOf path (way.dirs ++ paths) → IsOf path (map (λ (r : Row). r.path) (visible_rows w))
-    among path is = elim (of_parts path way.dirs paths is) [
+    among path is = elim (in_either path way.dirs paths is) [
       | inl dir ↦ let d = walk.dirs path (inr dir) in visible w path d.row d.at (walk.named path dir)
       | inr file ↦ let f = walk.files path (from path file) in visible w path f.row f.at f.named
     ]
@@ -110,9 +111,3 @@ no_link (r ∷ rows) row e (inr more) = no_link rows row (later (is_link r.kind)
     later : (a b : Bool) → (a || b) ≡ false → b ≡ false
     later true b f = cc
     later false b f = f
-
--- What is neither directory nor link is a file.
-pub is_a_file : (k : Kind) → is_dir k ≡ false → is_link k ≡ false → k ≡ File
-is_a_file Dir d l = cc
-is_a_file File d l = refl
-is_a_file Link d l = cc

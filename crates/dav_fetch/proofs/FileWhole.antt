@@ -12,6 +12,7 @@ use Rattle.dav_model.specs.Announced.{value_of}
 use Rattle.dav_model.specs.declared.sent.Sent.TheVariants.{All, Alone}
 use Rattle.dav_model.specs.Head.{sent_of, stood_in}
 use Rattle.dav_core.specs.declared.method.DavMethod.TheVariants.{Get}
+use Rattle.dav_core.proofs.Rows.{numbered_in}
 use Rattle.dav_fetch.specs.declared.copied.Kept.{Kept}
 use Rattle.dav_fetch.specs.declared.peer.Got.{Got}
 use Rattle.dav_fetch.specs.Asking.{Awaits, asked_for, awaits, file_path, rest, same, whole}
@@ -25,12 +26,12 @@ use Rattle.dav_fetch.proofs.Quiet.{IsToldOf, came_left, told_reply}
 use Rattle.dav_fetch.proofs.Sending.{has_text, same_sent}
 use Rattle.dav_fetch.proofs.Served.{Served, served}
 use Rattle.dav_fetch.proofs.Stepping.{GoodFor, HasTag, front_there, good_for, sent_as, step}
-use Rattle.dav_fetch.proofs.TreeRows.{looked_is, numbered}
+use Rattle.dav_fetch.proofs.TreeRows.{looked_is}
 
 -- ---- worlds that show the same
 
 pub bytes_there : (w v : World) (path : Names) (row : Row) → ShowsSame w v → look w.tree path ≡ Ok row → bytes_of v row.number ≡ bytes_of w row.number
-bytes_there w v path row alike there = alike.bytes row.number (numbered row w.tree (looked_is w.tree path row there).0)
+bytes_there w v path row alike there = alike.bytes row.number (numbered_in w.tree row (looked_is w.tree path row there).0)
 
 pub file_here : (w v : World) (path : Names) (row : Row) → ShowsSame w v → IsFileAt v path row → IsFileAt w path row
 file_here w v path row alike at = record { there = subst (λ tree. look tree path ≡ Ok row) alike.tree at.there; file = at.file }

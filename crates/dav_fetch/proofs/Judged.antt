@@ -7,6 +7,7 @@ use Rattle.std.proofs.lemmas.Bool.Decides.{nat_tests}
 use Rattle.std.proofs.lemmas.Fmt.{decimal_is_IsNumeral, decimal_nonempty, digits_decimal, length-decimal-le}
 use Rattle.std.proofs.lemmas.List.{length-drop}
 use Rattle.std.proofs.lemmas.Slice.Eq.{bytes_eq-Decides}
+use Rattle.dav_io.proofs.Digits.{own}
 use Rattle.dav_core.specs.declared.method.DavMethod.TheVariants.{Get}
 use Rattle.dav_core.specs.declared.tree.Kind.TheVariants.{File}
 use Rattle.dav_core.specs.declared.tree.Row.{Row}
@@ -30,7 +31,6 @@ use Rattle.dav_fetch.specs.Copy.{IsFileAt}
 use Rattle.dav_fetch.specs.Judging.{Use, gives, has_number, has_value, is_rest_of, keeps, new_file, number_said, refuses, replaced, rest_use, span_behind, spoils, use_of}
 use Rattle.dav_fetch.specs.Mirroring.{IsGood}
 use Rattle.dav_fetch.specs.Peer.{RepliesOf, body_in, peer_rules, peer_settings}
-use Rattle.dav_fetch.proofs.Digits.{own}
 use Rattle.dav_fetch.proofs.DirServed.{is_head}
 use Rattle.dav_fetch.proofs.Sending.{has_text, rest_sent, same_sent, whole_sent}
 use Rattle.dav_fetch.proofs.Served.{asked, due_is, due_kinds}

@@ -7,6 +7,7 @@ use Rattle.dav_core.specs.declared.tree.Row.{Row}
 use Rattle.dav_core.specs.Path.{Names}
 use Rattle.dav_core.specs.Tree.{is_dir, is_file, is_tree, look}
 use Rattle.dav_core.specs.World.{World}
+use Rattle.dav_core.proofs.Rows.{tree_parts}
 use Rattle.dav_fetch.specs.declared.copied.Copied.{Copied}
 use Rattle.dav_fetch.specs.declared.copied.Kept.{Kept}
 use Rattle.dav_fetch.specs.declared.error.MirrorError.{MirrorError}
@@ -21,7 +22,7 @@ use Rattle.dav_fetch.proofs.FileWhole.{IsAllOf, visit_whole}
 use Rattle.dav_fetch.proofs.PagesWalked.{pages_walked}
 use Rattle.dav_fetch.proofs.Quiet.{quiet_first, visits_count}
 use Rattle.dav_fetch.proofs.Soundness.{found}
-use Rattle.dav_fetch.proofs.TreeRows.{root_stands, same_row, tree_parts}
+use Rattle.dav_fetch.proofs.TreeRows.{root_stands, same_row}
 use Rattle.dav_fetch.proofs.Walks.{Walked, dir_found, file_found}
 use Rattle.dav_fetch.proofs.Ways.{whole_visits}
 

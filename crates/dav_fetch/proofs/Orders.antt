@@ -11,6 +11,7 @@ use Rattle.std.proofs.lemmas.List.{length-append, reverse-append}
 use Rattle.std.proofs.lemmas.List.Sorted.{All-permutation, IsPermutation-sym, ranks_by, sorted_far}
 use Rattle.dav_core.specs.Path.{Names, same_names}
 use Rattle.dav_core.proofs.Plain.{names_same}
+use Rattle.dav_core.proofs.Elements.{in_either}
 use Rattle.dav_fetch.specs.declared.copied.Kept.{Kept}
 use Rattle.dav_fetch.specs.Copy.{IsOf, path_cmp}
 use Rattle.dav_fetch.specs.Fetching.{IsOrdered, kept_at, kept_of}
@@ -141,14 +142,6 @@ of_append a (x ∷ xs) ys (inl (inl same)) = inl same
 of_append a (x ∷ xs) ys (inl (inr more)) = inr (of_append a xs ys (inl more))
 of_append a (x ∷ xs) ys (inr is) = inr (of_append a xs ys (inr is))
 
-pub of_parts : {A : Type 0} (a : A) (xs ys : List A) → IsOf a (xs ++ ys) → IsOf a xs ⊎ IsOf a ys
-of_parts a [] ys is = inr is
-of_parts a (x ∷ xs) ys (inl same) = inl (inl same)
-of_parts a (x ∷ xs) ys (inr more) = elim (of_parts a xs ys more) [
-  | inl here ↦ inl (inr here)
-  | inr there ↦ inr there
-]
-
 snoc_of : (l : List Names) → (l ≡ []) ⊎ ((front : List Names) × (last : Names) × (l ≡ front ++ last ∷ []))
 snoc_of [] = inl refl
 snoc_of (x ∷ l) = elim (snoc_of l) [
@@ -178,15 +171,15 @@ once_none = record { order = none_ascend; from = λ q is. is; all = λ q is. is 
 added_last : (once all : List Names) (path : Names) → AreAscending (once ++ path ∷ []) → IsOnce once all → IsOnce (once ++ path ∷ []) (all ++ path ∷ [])
 added_last once all path up is = record {
   order = up;
-  from = λ q here. of_append q all (path ∷ []) (elim (of_parts q once (path ∷ []) here) [ inl old ↦ inl (is.from q old) | inr new ↦ inr new ]);
-  all = λ q here. of_append q once (path ∷ []) (elim (of_parts q all (path ∷ []) here) [ inl old ↦ inl (is.all q old) | inr new ↦ inr new ]);
+  from = λ q here. of_append q all (path ∷ []) (elim (in_either q once (path ∷ []) here) [ inl old ↦ inl (is.from q old) | inr new ↦ inr new ]);
+  all = λ q here. of_append q once (path ∷ []) (elim (in_either q all (path ∷ []) here) [ inl old ↦ inl (is.all q old) | inr new ↦ inr new ]);
 }
 
 stays_same : (once all : List Names) (path : Names) → IsOf path once → IsOnce once all → IsOnce once (all ++ path ∷ [])
 stays_same once all path there is = record {
   order = is.order;
   from = λ q here. of_append q all (path ∷ []) (inl (is.from q here));
-  all = λ q here. elim (of_parts q all (path ∷ []) here) [
+  all = λ q here. elim (in_either q all (path ∷ []) here) [
     | inl old ↦ is.all q old
     | inr new ↦ elim new [ inl same ↦ subst (λ x. IsOf x once) (sym same) there | inr none ↦ absurd none ]
   ];

@@ -1,29 +1,17 @@
 -- What is found in the rows of a directory's page are the members that they show.
-use Rattle.std.proofs.Common.{◌≡◌, ◌==◌, ◌||◌, ◌++◌, ℕ, List, [], ◌∷◌, Bool, true, false, not, codes, length, refl, sym, ap, ◌∙◌, true≢false, append_assoc, append-nil}
+use Rattle.std.proofs.Common.{◌≡◌, ◌++◌, ℕ, List, [], ◌∷◌, Bool, true, false, codes, refl, sym, ap, ◌∙◌, true≢false, append-nil}
 use Rattle.std.specs.List.{AllByRecursion, AllZip, flat_map, list_any}
-use Rattle.std.proofs.lemmas.Bool.{and_parts, not-true}
 use Rattle.std.proofs.lemmas.List.{append_cancel_left, append_cancel_right}
 use Rattle.dav_core.specs.declared.member.Member.{Member}
-use Rattle.dav_core.specs.DavPath.{final_slash, shown, slashed}
-use Rattle.dav_core.specs.Path.{Names, is_plain, parts_names, is_dots}
+use Rattle.dav_core.specs.DavPath.{final_slash, slashed}
+use Rattle.dav_core.specs.Path.{Names, is_plain, parts_names}
 use Rattle.dav_core.specs.Tree.{is_dir}
 use Rattle.dav_page.specs.declared.row.PageRow.{PageRow}
 use Rattle.dav_page.specs.Listed.{IsRowOf}
 use Rattle.dav_fetch.specs.declared.found.Found.{Found}
 use Rattle.dav_fetch.specs.Asking.{dir_path}
 use Rattle.dav_fetch.specs.Walk.{IsFound, IsMember}
-use Rattle.dav_fetch.proofs.Children.{slashed_behind}
-
-has_slash : (a b : List ℕ) → list_any parts_names (a ++ 47 ∷ b) ≡ true
-has_slash [] b = refl
-has_slash (x ∷ a) b = or_right (parts_names x) (list_any parts_names (a ++ 47 ∷ b)) (has_slash a b)
-  where
-    or_right : (p q : Bool) → q ≡ true → (p || q) ≡ true
-    or_right true q e = refl
-    or_right false q e = e
-
-no_slash : (name : List ℕ) → is_plain name ≡ true → list_any parts_names name ≡ false
-no_slash name plain = not-true _ (and_parts (not (list_any parts_names name)) (not (is_dots name)) (and_parts (not (length name == 0)) _ plain).1).0
+use Rattle.dav_fetch.proofs.Children.{has_slash, no_slash, child_text}
 
 -- a plain name is one thing with a slash behind it, or without
 names_once : (a b : List ℕ) (s t : Bool) → is_plain a ≡ true → is_plain b ≡ true → a ++ final_slash s ≡ b ++ final_slash t → (a ≡ b) × (s ≡ t)
@@ -31,9 +19,6 @@ names_once a b false false p q e = (sym (append-nil a) ∙ e ∙ append-nil b, r
 names_once a b true true p q e = (append_cancel_right a b (codes "/") e, refl)
 names_once a b true false p q e = absurd (true≢false (sym (has_slash a []) ∙ ap (list_any parts_names) (e ∙ append-nil b) ∙ no_slash b q))
 names_once a b false true p q e = absurd (true≢false (sym (has_slash b []) ∙ ap (list_any parts_names) (sym e ∙ append-nil a) ∙ no_slash a p))
-
-child_text : (dir : Names) (name : List ℕ) (slash : Bool) → shown (record { prefix = []; names = dir ++ name ∷ []; slash = slash }) ≡ (flat_map slashed dir ++ codes "/") ++ (name ++ final_slash slash)
-child_text dir name slash = ap (λ z. z ++ final_slash slash) (slashed_behind dir name) ∙ append_assoc (flat_map slashed dir ++ codes "/") name (final_slash slash)
 
 same_found : (dir : Names) (m : Member) (row : PageRow) (f : Found) → is_plain m.name ≡ true → IsRowOf (dir_path dir) m row → IsFound dir row f → IsMember f m
 same_found dir m row f plain of found =

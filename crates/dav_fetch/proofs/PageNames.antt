@@ -12,6 +12,7 @@ use Rattle.dav_core.specs.Members.{member_of, members}
 use Rattle.dav_core.specs.Path.{Names, all_plain, is_plain}
 use Rattle.dav_core.specs.Tree.{is_dir}
 use Rattle.dav_core.specs.World.{ArePlain, IsPlain, IsWorld, World, bytes_of}
+use Rattle.dav_core.proofs.Rows.{name_pushed, stands_there, path_in, numbered_in}
 use Rattle.dav_page.specs.declared.row.PageRow.{PageRow}
 use Rattle.dav_page.specs.Index.{IsIndex}
 use Rattle.dav_page.specs.Listed.{AreRows, IsRowOf, begins_with_dot, is_visible}
@@ -25,7 +26,6 @@ use Rattle.dav_fetch.specs.Walk.{IsFound, IsFoundIn, IsMember}
 use Rattle.dav_fetch.proofs.Among.{each_by, of_filter, of_map, to_filter, to_map, zip_left, zip_right}
 use Rattle.dav_fetch.proofs.Orders.{of_moved, place_of}
 use Rattle.dav_fetch.proofs.PageFound.{rows_found}
-use Rattle.dav_fetch.proofs.TreeRows.{name_behind, numbered, path_behind, stands_there}
 
 -- ---- worlds that show the same
 
@@ -44,7 +44,7 @@ rows_same v w f (r ∷ rows) same = by (f r) (rows_same v w f rows (λ row o. sa
 pub members_same : (w v : World) (dir : Names) → ShowsSame w v → members v dir ≡ members w dir
 members_same w v dir same =
     ap (λ t. map (member_of v) (filter (stands_in dir) t)) same.tree
-    ∙ rows_same v w (stands_in dir) w.tree (λ row o. same.bytes row.number (numbered row w.tree o))
+    ∙ rows_same v w (stands_in dir) w.tree (λ row o. same.bytes row.number (numbered_in w.tree row o))
 
 -- ---- rows with names
 
@@ -82,13 +82,13 @@ row_member w dir listed row name order of path visible =
     of_moved listed (filter is_visible (members w dir)) (member_of w row) (IsPermutation-sym (filter is_visible (members w dir)) listed order)
     (to_filter is_visible (member_of w row) (members w dir)
     (to_map (member_of w) row (filter (stands_in dir) w.tree) (to_filter (stands_in dir) row w.tree of (stands_there dir name row path)))
-    (ap not (ap begins_with_dot (name_behind dir name row path) ∙ visible)))
+    (ap not (ap begins_with_dot (name_pushed dir name row path) ∙ visible)))
 
 plain_name : (w : World) (dir : Names) (row : Row) → ArePlain w.tree → IsOf row w.tree → stands_in dir row ≡ true → is_plain (name_of row) ≡ true
 plain_name w dir row plain of stands =
     let (i, inside, is) = place_of row w.tree of in
     let here : all_plain row.path ≡ true = subst IsPlain (is row) (plain i row inside) in
-    let both = and_parts (all_plain dir) (all_plain (name_of row ∷ [])) (sym (list_all-append is_plain dir (name_of row ∷ [])) ∙ ap all_plain (sym (path_behind dir row stands)) ∙ here) in
+    let both = and_parts (all_plain dir) (all_plain (name_of row ∷ [])) (sym (list_all-append is_plain dir (name_of row ∷ [])) ∙ ap all_plain (sym (path_in dir row stands)) ∙ here) in
     (and_parts (is_plain (name_of row)) true both.1).0
 
 -- what a page's rows name, by its members
@@ -101,13 +101,13 @@ zip_listing w dir listed found order zip = record {
       record {
         row = r.row;
         of = r.of;
-        path = path_behind dir r.row r.stands ∙ ap (λ n. dir ++ n ∷ []) (sym named);
+        path = path_in dir r.row r.stands ∙ ap (λ n. dir ++ n ∷ []) (sym named);
         visible = ap begins_with_dot member.name ∙ r.visible;
         kind = member.is_dir ∙ ap (λ (x : Member). is_dir x.kind) r.is;
       });
   all = λ row name of path visible.
       (let (f, is, member) = zip_right IsMember found listed (member_of w row) zip (row_member w dir listed row name order of path visible) in
-      (f, is, member.name ∙ name_behind dir name row path, member.is_dir));
+      (f, is, member.name ∙ name_pushed dir name row path, member.is_dir));
 }
 
 -- The page of a directory of a world names what is shown there.

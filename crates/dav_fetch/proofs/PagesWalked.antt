@@ -3,10 +3,12 @@ use Rattle.std.proofs.Common.{◌≡◌, inl, inr, ◌+◌, ◌++◌, suc, ℕ, 
 use Rattle.std.specs.List.{flat_map}
 use Rattle.std.proofs.lemmas.List.{length-append}
 use Rattle.dav_io.specs.Counts.{RefusedNothing, Rose}
+use Rattle.dav_io.proofs.Rising.{no_rise}
 use Rattle.dav_core.specs.Members.{members}
 use Rattle.dav_core.specs.Path.{Names}
 use Rattle.dav_core.specs.Tree.{look}
 use Rattle.dav_core.specs.World.{IsWorld, World}
+use Rattle.dav_core.proofs.Rows.{tree_parts}
 use Rattle.dav_page.specs.Index.{IsIndex}
 use Rattle.dav_page.specs.Listed.{AreRows}
 use Rattle.dav_fetch.specs.Asking.{dir_path}
@@ -18,8 +20,7 @@ use Rattle.dav_fetch.specs.Walk.{Pages, Visit, Way, start, with_all}
 use Rattle.dav_fetch.proofs.DirServed.{page_sent}
 use Rattle.dav_fetch.proofs.Orders.{of_append}
 use Rattle.dav_fetch.proofs.PageNames.{IsListing, members_same, page_listing}
-use Rattle.dav_fetch.proofs.Quiet.{IsToldOf, came_over, no_rise, quiet_first, quiet_rest, told_reply, visit_counts, visits_count}
-use Rattle.dav_fetch.proofs.TreeRows.{tree_parts}
+use Rattle.dav_fetch.proofs.Quiet.{IsToldOf, came_over, quiet_first, quiet_rest, told_reply, visit_counts, visits_count}
 use Rattle.dav_fetch.proofs.Walks.{IsDirAt, Walked, at_start, one_more}
 use Rattle.dav_fetch.proofs.Ways.{whole_visits}
 

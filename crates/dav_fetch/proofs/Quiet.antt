@@ -9,10 +9,6 @@ use Rattle.dav_fetch.specs.Peer.{Came, PeerState, RepliesIn, RepliesOf, Seen}
 use Rattle.dav_fetch.specs.Reading.{IsOver, ReadOn}
 use Rattle.dav_fetch.specs.Walk.{Visit}
 
-pub no_rise : (a b : ℕ) → RefusedNothing a b → Rose a b → ⊥
-no_rise a b nothing (inl more) = let same = nothing.same in omega (arith, same, more)
-no_rise a b nothing (inr full) = let room = nothing.room in omega (arith, room, full)
-
 pub quiet_first : (a b c : ℕ) → a ≤ b → b ≤ c → RefusedNothing a c → RefusedNothing a b
 quiet_first a b c ab bc nothing = let same = nothing.same in let room = nothing.room in record { same = omega (arith, same, ab, bc); room = omega (arith, room, bc) }
 

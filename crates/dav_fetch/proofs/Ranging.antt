@@ -1,7 +1,6 @@
 -- The range from a byte on is read as the one slice to the end.
 use Rattle.std.proofs.Common.{◌≡◌, ◌<◌, ◌≤◌, ◌+◌, ◌-◌, ◌^◌, ◌==◌, ◌||◌, ◌++◌, ℕ, suc, List, [], ◌∷◌, length, take, drop, reverse, Bool, true, false, cond, not, codes, decimal, None, Some, map, option_map, refl, sym, ap, subst, ◌∙◌, arith, nat_lt, lt-ltb, ne_eqb}
 use Rattle.std.specs.List.{AllByRecursion, filter, position, position_or_len, slice_split}
-use Rattle.std.specs.Str.{all_ascii_digits}
 use Rattle.std.specs.Str.Parse.{IsNumeral, digits_value}
 use Rattle.std.proofs.lemmas.Bool.{and_from}
 use Rattle.std.proofs.lemmas.Fmt.{decimal_is_IsNumeral}
@@ -9,17 +8,15 @@ use Rattle.std.proofs.lemmas.List.Splits.{slice_split_none}
 use Rattle.std.proofs.lemmas.List.{length-append, reverse-append, reverse-reverse}
 use Rattle.std.proofs.lemmas.List.Recursion.{is_position_or_len}
 use Rattle.std.proofs.lemmas.List.Elements.{All-from_recursion}
-use Rattle.std.proofs.lemmas.Str.Parse.{IsNumeralModel, numerals_by_value, tells_all_ascii_digits, digit_from_value}
+use Rattle.std.proofs.lemmas.Str.Parse.{digit_from_value}
 use Rattle.std.proofs.Math.Seq.{take-append_seam}
 use Rattle.std.specs.Str.Parse.{AllDigits}
+use Rattle.dav_io.proofs.Digits.{own}
 use Rattle.dav_core.specs.Blanks.{is_blank, trimmed, without_end, without_front}
 use Rattle.dav_model.specs.declared.ranges.Ranges.TheVariants.{Parts}
 use Rattle.dav_model.specs.declared.ranges.Judged.TheVariants.{Unmet, Part}
 use Rattle.dav_model.specs.Slices.{Back, From, all_judged, answer, asked, asked_at, asked_from, judged, members, number, ranges, with_one}
 use Rattle.dav_fetch.specs.Asking.{range_from}
-
-own : IsNumeralModel (λ ds. all_ascii_digits ds ≡ true) (digits_value 10)
-own = numerals_by_value _ tells_all_ascii_digits
 
 -- ---- digits
 

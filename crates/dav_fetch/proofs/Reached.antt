@@ -3,11 +3,13 @@ use Rattle.std.proofs.Common.{◌≡◌, inl, inr, ◌<◌, ◌≤◌, ◌+◌, 
 use Rattle.std.specs.List.{flat_map}
 use Rattle.std.proofs.lemmas.List.{length-append}
 use Rattle.dav_io.specs.Counts.{RefusedNothing, Rose, greatest}
+use Rattle.dav_io.proofs.Rising.{no_rise}
 use Rattle.dav_core.specs.declared.tree.Kind.TheVariants.{File}
 use Rattle.dav_core.specs.DavPath.{WebPath}
 use Rattle.dav_core.specs.Path.{Names}
 use Rattle.dav_core.specs.Tree.{is_dir, is_file, look}
 use Rattle.dav_core.specs.World.{World}
+use Rattle.dav_core.proofs.Rows.{other_kind}
 use Rattle.dav_fetch.specs.declared.copied.Copied.{Copied}
 use Rattle.dav_fetch.specs.declared.copied.Kept.{Kept}
 use Rattle.dav_fetch.specs.declared.error.MirrorError.{MirrorError}
@@ -20,14 +22,14 @@ use Rattle.dav_fetch.specs.Mirroring.{IsLinkless, IsOverOne, IsWithinLimits, Mir
 use Rattle.dav_fetch.specs.Peer.{PeerState, RepliesOf}
 use Rattle.dav_fetch.specs.Reading.{IsOver}
 use Rattle.dav_fetch.specs.Walk.{Visit, Way, page_most}
-use Rattle.dav_fetch.proofs.Counted.{file_allowed, files_left, is_a_file, no_link, page_allowed}
+use Rattle.dav_fetch.proofs.Counted.{file_allowed, files_left, no_link, page_allowed}
 use Rattle.dav_fetch.proofs.FileWhole.{bytes_there, goods_there}
 use Rattle.dav_fetch.proofs.Judged.{IsWorth, worth}
 use Rattle.dav_fetch.proofs.Mirrored.{mirrored, old_good, told_parts}
 use Rattle.dav_fetch.proofs.Orders.{of_append}
 use Rattle.dav_fetch.proofs.PageNames.{page_found}
 use Rattle.dav_fetch.proofs.PagesWalked.{page_given, pages_walked}
-use Rattle.dav_fetch.proofs.Quiet.{IsToldOf, came_left, came_over, no_rise, quiet_first, risen, told_reply, visit_counts, visits_count}
+use Rattle.dav_fetch.proofs.Quiet.{IsToldOf, came_left, came_over, quiet_first, risen, told_reply, visit_counts, visits_count}
 use Rattle.dav_fetch.proofs.TreeRows.{looked_is}
 use Rattle.dav_fetch.proofs.Walks.{IsDirAt, IsOtherAt, Walked}
 use Rattle.dav_fetch.proofs.Ways.{whole_visits}
@@ -217,7 +219,7 @@ module _ (w : World) (s t : PeerState) (old new : Copied) (all : List Visit) (ov
 
   -- a file that is shown
   file_row : (path : Names) (at : IsOtherAt w path) → at.row.kind ≡ File
-  file_row path at = is_a_file at.row.kind at.kind (no_link w.tree at.row linkless (looked_is w.tree path at.row at.at.there).0)
+  file_row path at = other_kind at.row.kind at.kind (no_link w.tree at.row linkless (looked_is w.tree path at.row at.at.there).0)
 
   file_worth : (path : Names) (a m : PeerState) (visit : Visit) (use_is : Use) → IsOtherAt w path → IsToldOf w visit → (visited : Visited a visit m) → RefusedNothing a.faults visited.at.faults
       → IsFileVisit path (kept_at path old.files) visit use_is → (left : List ℕ) × IsWorth left use_is × (IsOver m → visit.came ≡ left)

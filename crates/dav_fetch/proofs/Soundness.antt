@@ -1,10 +1,12 @@
 -- Each file of a copy is one of the entry, or a front of what its path had in a world that was met: kept by each visit.
-use Rattle.std.proofs.Common.{◌≡◌, ◌⊎◌, inl, inr, ◌+◌, ◌++◌, length, ℕ, List, [], ◌∷◌, Bool, true, false, cond, Option, None, Some, IfSome, is_some, Result, Ok, Err, refl, sym, ap, subst, ◌∙◌}
+use Rattle.std.proofs.Common.{◌≡◌, ◌⊎◌, inl, inr, ◌+◌, ◌++◌, length, ℕ, List, [], ◌∷◌, Bool, true, false, cond, Option, None, Some, IfSome, Result, Ok, Err, refl, sym, ap, subst, ◌∙◌}
 use Rattle.std.specs.Option.{option_to_list}
 use Rattle.dav_io.specs.Counts.{Rose}
 use Rattle.dav_io.specs.Told.{Both}
+use Rattle.dav_io.proofs.Cases.{some_of}
 use Rattle.dav_core.specs.Path.{Names, same_names}
 use Rattle.dav_core.proofs.Plain.{names_same}
+use Rattle.dav_core.proofs.Elements.{in_either}
 use Rattle.dav_core.specs.World.{World}
 use Rattle.dav_fetch.specs.declared.copied.Copied.{Copied}
 use Rattle.dav_fetch.specs.declared.copied.Kept.{Kept}
@@ -23,14 +25,6 @@ use Rattle.dav_fetch.proofs.Stepping.{step}
 abbrev pub FromSome : List Kept → List Visit → Kept → Type 0
 FromSome old all k = IsOf k old ⊎ ((w : World) × MetIn w all × IsOfWorld w k)
 
-pub of_both : {A : Type 0} (a : A) (xs ys : List A) → IsOf a (xs ++ ys) → IsOf a xs ⊎ IsOf a ys
-of_both a [] ys is = inr is
-of_both a (x ∷ xs) ys (inl same) = inl (inl same)
-of_both a (x ∷ xs) ys (inr more) = elim (of_both a xs ys more) [
-  | inl here ↦ inl (inr here)
-  | inr there ↦ inr there
-]
-
 pub found : (path : Names) (files : List Kept) (k : Kept) → kept_at path files ≡ Some k → (k.path ≡ path) × IsOf k files
 found path [] k e = cc
 found path (f ∷ files) k e = by (found path files k) (same_names path f.path) refl e
@@ -47,7 +41,7 @@ of_kept path files k (Some f) e (inr more) = absurd more
 
 pub of_rest : (paths : List Names) (files : List Kept) (k : Kept) → IsOf k (kept_of paths files) → IsOf k files
 of_rest [] files k is = absurd is
-of_rest (path ∷ paths) files k is = elim (of_both k (option_to_list (kept_at path files)) (kept_of paths files) is) [
+of_rest (path ∷ paths) files k is = elim (in_either k (option_to_list (kept_at path files)) (kept_of paths files) is) [
   | inl here ↦ of_kept path files k (kept_at path files) refl here
   | inr there ↦ of_rest paths files k there
 ]
@@ -102,16 +96,12 @@ files_sound : (old : List Kept) (paths : List Names) (all visits : List Visit) (
 files_sound old paths all [] got left s t k kept met visits (none, same) is = absurd (subst (IsOf k) none is)
 files_sound old [] all (v ∷ vs) got left s t k kept met visits took is = absurd took
 files_sound old (path ∷ paths) all (v ∷ vs) got left s t k kept (here, met) (m, visited, visits) (worth, rest, file, whole, parts, took) is =
-    elim (of_both k (option_to_list (taken (kept_at path old) worth v.came)) rest (subst (IsOf k) parts is)) [
+    elim (in_either k (option_to_list (taken (kept_at path old) worth v.came)) rest (subst (IsOf k) parts is)) [
       | inl first ↦ let (w, told, good, of) = here in visit_sound w path old all s m v worth k kept good of told visited file first
       | inr more ↦ files_sound old paths all vs rest left m t k kept met visits took more
     ]
 
 -- ---- the whole work
-
-some_of : (o : Option World) → is_some o ≡ true → (w : World) × (o ≡ Some w)
-some_of None e = cc
-some_of (Some w) e = (w, refl)
 
 all_met : (old : List Kept) (all visits : List Visit) → AllTold visits → ((w : World) → MetIn w visits → MetIn w all) → ((w : World) → MetIn w all → IsMet old w) → AllMet old all visits
 all_met old all [] told inside met = tt
@@ -139,14 +129,14 @@ at_file : (old got : List Kept) (all last : List Visit) (left : List Names) (new
     → IsOf k new → FromSome old all k
 at_file old got all last [] new made most e s t k kept told inside met sound end is = absurd end
 at_file old got all last (path ∷ paths) new made most e s t k kept told inside met sound (inl not) is =
-    elim (of_both k got (kept_of (path ∷ paths) old) (subst (IsOf k) not.kept is)) [
+    elim (in_either k got (kept_of (path ∷ paths) old) (subst (IsOf k) not.kept is)) [
       | inl first ↦ sound first
       | inr more ↦ inl (of_rest (path ∷ paths) old k more)
     ]
 at_file old got all last (path ∷ paths) new made most e s t k kept told inside met sound (inr asked) is =
-    elim (of_both k got (option_to_list (taken (kept_at path old) asked.worth asked.visit.came) ++ kept_of paths old) (subst (IsOf k) asked.kept is)) [
+    elim (in_either k got (option_to_list (taken (kept_at path old) asked.worth asked.visit.came) ++ kept_of paths old) (subst (IsOf k) asked.kept is)) [
       | inl first ↦ sound first
-      | inr more ↦ elim (of_both k (option_to_list (taken (kept_at path old) asked.worth asked.visit.came)) (kept_of paths old) more) [
+      | inr more ↦ elim (in_either k (option_to_list (taken (kept_at path old) asked.worth asked.visit.came)) (kept_of paths old) more) [
         | inl here ↦ let (w, told_w) = some_of asked.visit.world (subst AllTold asked.one told).0 in
             let of = inside w (subst (MetIn w) (sym asked.one) (inl told_w)) in
             visit_sound w path old all s asked.at asked.visit asked.worth k kept (met w of) of told_w asked.visited asked.is here

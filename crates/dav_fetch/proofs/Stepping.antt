@@ -30,16 +30,13 @@ use Rattle.dav_core.proofs.TagLaws.{tag_complete}
 use Rattle.dav_core.specs.TagBytes.{info_has_tag_bytes}
 use Rattle.dav_core.specs.Tags.{HasTagBytes, IsTagText}
 use Rattle.std.proofs.Math.Seq.{take-append_seam}
-use Rattle.std.proofs.lemmas.List.{length-append, length-drop, take_all, take-append-drop}
+use Rattle.std.proofs.lemmas.List.{length-append, length-drop, take_all, take-append-drop, nil_from_length}
 
 -- the reply that sends this of a file
 abbrev pub reply_of : World → Names → Row → Option (List ℕ) → Sent → Reply
 reply_of w names row date sent = sent_reply true (type_of_last (last_name names)) (stood_in w row) date sent
 
 -- ---- its head
-
-length_of_all : (w : World) (names : Names) (row : Row) (date : Option (List ℕ)) → value_of (codes "content-length") (reply_of w names row date All).fields ≡ Some (decimal (length (bytes_of w row.number)))
-length_of_all w names row date = refl
 
 abbrev pub quoted_of : Option (List ℕ) → Option (List ℕ)
 quoted_of None = None
@@ -77,10 +74,6 @@ number_kept len n small e = by (nat_lt 0 (length (decimal len)) && (nat_le (leng
     by true f = let same : digits_value 10 (decimal len) ≡ n = cc in sym same ∙ (decimal_is_IsNumeral len small).1
     by false f = cc
 
-length_zero : (a : List ℕ) → length a ≡ 0 → a ≡ []
-length_zero [] e = refl
-length_zero (x ∷ a) e = absurd (omega (arith, e))
-
 -- What came of a body is a front of it.
 came_front : (came more : List ℕ) (n : ℕ) → length (came ++ more) ≤ n → take n came ≡ came
 came_front came more n fits = take_all n came (omega (arith, fits, length-append came more))
@@ -96,7 +89,7 @@ slice_bytes w number start count fits = by (count == 0) refl
     rest_is = length-drop start (bytes_of w number) ∙ omega (arith, fits)
 
     by : (t : Bool) → (count == 0) ≡ t → body_in w (cond t [] (slice number start count ∷ [])) ≡ drop start (bytes_of w number)
-    by true e = sym (length_zero (drop start (bytes_of w number)) (rest_is ∙ eqb-true count 0 e))
+    by true e = sym (nil_from_length (drop start (bytes_of w number)) (rest_is ∙ eqb-true count 0 e))
     by false e = append-nil (take count (drop start (bytes_of w number) ++ replicate count 0))
         ∙ ap (λ k. take k (drop start (bytes_of w number) ++ replicate count 0)) (sym rest_is) ∙ take-append_seam (drop start (bytes_of w number)) (replicate count 0)
 

@@ -14,7 +14,7 @@ use Rattle.dav_fetch.specs.Judging.{Use, gives, refuses, spoils, use_of}
 use Rattle.dav_fetch.specs.Peer.{Gets, IsAskable, PeerState}
 use Rattle.dav_fetch.specs.Reading.{ReadOn}
 use Rattle.dav_fetch.specs.Steps.{PageFails}
-use Rattle.dav_fetch.specs.Taking.{AsksFile, BytesEnd, TakesFile, VisitEnds, VisitsFile}
+use Rattle.dav_fetch.specs.Taking.{BytesEnd, VisitEnds, VisitsFile}
 use Rattle.dav_fetch.specs.Walk.{Visit}
 use Rattle.dav_fetch.proofs.Made.{visit_of, visited}
 use Rattle.dav_fetch.proofs.NotAskedLaws.{not_got}
@@ -50,10 +50,6 @@ refused_visit path names visit e s is (inr so) = subst (λ x. FileEnds names ref
 pub spoiled_visit : (path : WebPath) (names : Names) (visit : Visit) (e : MirrorError) (s : PeerState) → path ≡ file_path names → (e ≡ BadReply path) ⊎ (e ≡ NoMemory) → FileEnds names spoils visit e s s
 spoiled_visit path names visit e s is (inl so) = subst (λ x. FileEnds names spoils visit x s s) (sym so) (is, refl)
 spoiled_visit path names visit e s is (inr so) = subst (λ x. FileEnds names spoils visit x s s) (sym so) (omega arith)
-
-pub takes_from : (names : Names) (old : Option Kept) (made most : ℕ) (s t : PeerState) (result : Taken) → made < most → link_is_short (file_path names) → AsksFile names old s result t → TakesFile names old made most s result t
-takes_from names old made most s t result few short (inl visit) = inl (few, visit)
-takes_from names old made most s t result few short (inr (e, ended, kept, why)) = inr (e, ended, kept, not_got (file_path names) made most e s t few short why)
 
 page_due : (dir : Names) (made most : ℕ) (s t : PeerState) (e : MirrorError) → made < most → link_is_short (dir_path dir) → PageFails dir s e t → (last : List Visit) × AtPage dir made most e s last t
 page_due dir made most s t e few short (inl not) = ([], inl (refl, not_got (dir_path dir) made most e s t few short not))

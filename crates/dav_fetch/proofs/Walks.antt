@@ -8,16 +8,18 @@ use Rattle.dav_core.specs.declared.tree.Row.{Row}
 use Rattle.dav_core.specs.Path.{Names, parent_of}
 use Rattle.dav_core.specs.Tree.{is_dir, look_from}
 use Rattle.dav_core.specs.World.{World}
+use Rattle.dav_core.proofs.Rows.{dir_kind, IsTree}
+use Rattle.dav_core.proofs.Paths.{parent_pushed}
+use Rattle.dav_core.proofs.Elements.{in_either}
 use Rattle.dav_page.specs.Listed.{begins_with_dot}
-use Rattle.dav_model.proofs.LooseWalks.{parent_pushed}
 use Rattle.dav_fetch.specs.declared.found.Found.{Found}
 use Rattle.dav_fetch.specs.Copy.{IsOf}
 use Rattle.dav_fetch.specs.Mirroring.{IsShownAt, is_shown}
 use Rattle.dav_fetch.specs.Walk.{Way, dirs_on, each_once, files_on, start, with_all}
 use Rattle.dav_fetch.proofs.Among.{Apart, IsNamed, apart_behind, apart_both, apart_once, of_dirs, of_files, of_once, to_dirs, to_files, to_once}
-use Rattle.dav_fetch.proofs.Orders.{of_append, of_parts}
+use Rattle.dav_fetch.proofs.Orders.{of_append}
 use Rattle.dav_fetch.proofs.PageNames.{IsListing}
-use Rattle.dav_fetch.proofs.TreeRows.{IsTree, dir_here, dir_kind, next_found, root_stands, row_here, stands_below}
+use Rattle.dav_fetch.proofs.TreeRows.{dir_here, next_found, root_stands, row_here, stands_below}
 
 -- a directory that is shown, or the root
 pub record IsDirAt (w : World) (path : Names) : Type 0 where
@@ -105,20 +107,20 @@ module _ (w : World) (tree : IsTree w.tree) (read : List Names) (way : Way) (wal
       ap (λ z. z ++ new) (walk.parts ∙ ap (λ z. read ++ z) due) ∙ append_assoc read (dir ∷ rest) new ∙ sym (append_assoc read (dir ∷ []) (rest ++ new))
 
   step_dirs : (path : Names) → IsOf path ([] ∷ (way.dirs ++ new)) → IsDirAt w path
-  step_dirs path is = elim (of_parts path ([] ∷ way.dirs) new is) [ inl old ↦ walk.dirs path old | inr fresh ↦ (new_at path fresh).0 ]
+  step_dirs path is = elim (in_either path ([] ∷ way.dirs) new is) [ inl old ↦ walk.dirs path old | inr fresh ↦ (new_at path fresh).0 ]
 
   step_files : (path : Names) → IsOf path (way.files ++ files_on dir found) → IsOtherAt w path
-  step_files path is = elim (of_parts path way.files (files_on dir found) is) [
+  step_files path is = elim (in_either path way.files (files_on dir found) is) [
     | inl old ↦ walk.files path old
     | inr fresh ↦ let (row, at, kind, long) = found_at w dir found false path tree here listing (of_files path dir found fresh) in
         record { row = row; at = at; kind = kind; named = long }
   ]
 
   step_named : (path : Names) → IsOf path (way.dirs ++ new) → 0 < length path
-  step_named path is = elim (of_parts path way.dirs new is) [ inl old ↦ walk.named path old | inr fresh ↦ (new_at path fresh).1 ]
+  step_named path is = elim (in_either path way.dirs new is) [ inl old ↦ walk.named path old | inr fresh ↦ (new_at path fresh).1 ]
 
   step_parents : (path : Names) → IsOf path (way.dirs ++ new) → IsOf (parent_of path) (read ++ dir ∷ [])
-  step_parents path is = elim (of_parts path way.dirs new is) [
+  step_parents path is = elim (in_either path way.dirs new is) [
     | inl old ↦ of_append (parent_of path) read (dir ∷ []) (inl (walk.parents path old))
     | inr fresh ↦ of_append (parent_of path) read (dir ∷ []) (inr (inl (new_at path fresh).2))
   ]
@@ -140,7 +142,7 @@ module _ (w : World) (tree : IsTree w.tree) (read : List Names) (way : Way) (wal
   step_all_dirs : (d : Names) → IsOf d (read ++ dir ∷ []) → (row : Row) (name : List ℕ) → IsOf row w.tree → row.path ≡ d ++ name ∷ [] → begins_with_dot name ≡ false
       → is_dir row.kind ≡ true → IsOf (d ++ name ∷ []) (way.dirs ++ new)
   unfolding new
-  step_all_dirs d is row name of path visible kind = elim (of_parts d read (dir ∷ []) is) [
+  step_all_dirs d is row name of path visible kind = elim (in_either d read (dir ∷ []) is) [
     | inl old ↦ of_append (d ++ name ∷ []) way.dirs new (inl (walk.all_dirs d old row name of path visible kind))
     | inr last ↦ fresh last
   ]
@@ -154,7 +156,7 @@ module _ (w : World) (tree : IsTree w.tree) (read : List Names) (way : Way) (wal
 
   step_all_files : (d : Names) → IsOf d (read ++ dir ∷ []) → (row : Row) (name : List ℕ) → IsOf row w.tree → row.path ≡ d ++ name ∷ [] → begins_with_dot name ≡ false
       → is_dir row.kind ≡ false → IsOf (d ++ name ∷ []) (way.files ++ files_on dir found)
-  step_all_files d is row name of path visible kind = elim (of_parts d read (dir ∷ []) is) [
+  step_all_files d is row name of path visible kind = elim (in_either d read (dir ∷ []) is) [
     | inl old ↦ of_append (d ++ name ∷ []) way.files (files_on dir found) (inl (walk.all_files d old row name of path visible kind))
     | inr last ↦ fresh last
   ]

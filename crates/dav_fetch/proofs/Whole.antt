@@ -4,29 +4,16 @@ use Rattle.std.specs.List.{AllByRecursion}
 use Rattle.std.proofs.lemmas.List.{length-append}
 use Rattle.dav_core.specs.Path.{Names}
 use Rattle.dav_fetch.specs.declared.copied.Copied.{Copied}
-use Rattle.dav_fetch.specs.declared.error.MirrorError.{MirrorError}
 use Rattle.dav_fetch.specs.declared.error.MirrorError.TheVariants.{NoMemory}
 use Rattle.dav_fetch.specs.declared.fetching.Gathered.{Gathered}
 use Rattle.dav_fetch.specs.declared.found.Found.{Found}
 use Rattle.dav_fetch.specs.declared.walking.Walked.{Walked}
 use Rattle.dav_fetch.specs.Copy.{IsOf}
-use Rattle.dav_fetch.specs.Fetching.{Fetched, FilesEnd, Goes, IsOrdered}
+use Rattle.dav_fetch.specs.Fetching.{Fetched, FilesEnd, IsOrdered}
 use Rattle.dav_fetch.specs.Gathering.{Gathers}
 use Rattle.dav_fetch.specs.Peer.{PeerState}
 use Rattle.dav_fetch.specs.Steps.{StopsAt, WalksTo}
 use Rattle.dav_fetch.specs.Walk.{Pages, Visit, Way, files_on, start, with_all}
-
-pub stops_fetched : (s t : PeerState) (old : Copied) (most : ℕ) (e : MirrorError) → StopsAt s most e t → Fetched s old most (Err e) t old
-stops_fetched s t old most e stop = record {
-  pages = stop.visits;
-  way = stop.way;
-  read = stop.read;
-  mid = stop.mid;
-  chain = stop.chain;
-  within = stop.within;
-  rest = stop.last;
-  goes = subst (λ due. Goes due stop.way (length stop.visits) most old stop.mid stop.last (Err e) t old) (sym stop.is_due) (stop.at, refl);
-}
 
 pub unplanned_fetched : (s t : PeerState) (old : Copied) (most : ℕ) (w : Walked) → WalksTo s most (Ok w) t → Fetched s old most (Err NoMemory) t old
 unplanned_fetched s t old most w (visits, chain, read, made, within) = record {

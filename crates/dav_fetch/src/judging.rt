@@ -51,7 +51,7 @@ fn are_digits(text: &[u8]) -> bool
 }
 
 // Whether a text is 1 to 19 digits.
-#[tactic(auto, using(crate::proofs::Digits::all_are_digits))]
+#[tactic(auto, using(dav_io::proofs::Digits::all_are_digits))]
 fn is_number(text: &[u8]) -> bool
     ensures { result ≡ (nat_lt 0 (length text.now) && (nat_le (length text.now) 19 && all_ascii_digits text.now)) }
 {

@@ -1,19 +1,13 @@
 -- Calls that write, one after another.
-use Rattle.std.proofs.Common.{◌≡◌, ◌<◌, ℕ, ◌+◌, ◌≤◌, List, [], ◌++◌, length, take, drop, subst, Result, Ok, Err, refl, sym, ◌∙◌, ap, inl, inr, arith, append_assoc, append-nil, length-append}
+use Rattle.std.proofs.Common.{◌≡◌, ◌<◌, ℕ, ◌+◌, List, [], ◌++◌, length, take, drop, subst, Result, Ok, Err, refl, sym, ◌∙◌, ap, arith, append_assoc, append-nil, length-append}
 use Rattle.std.proofs.lemmas.Bool.{false≢true}
 use Rattle.std.proofs.lemmas.List.{take-append-le, take-append-drop}
 use Rattle.std.proofs.Math.Seq.{take-append-add}
 use Rattle.dav_io.specs.declared.failure.Failed.{Failed}
-use Rattle.dav_io.specs.Counts.{Rose}
 use Rattle.dav_io.proofs.ToldLemmas.{both_then, both_map, both_same}
+pub use Rattle.dav_io.proofs.Rising.{rose_before, rose_after}
 use Rattle.dav_io.specs.Outside.{Stream, Puts, Written}
 use Rattle.dav_io.specs.Appending.{Appends, Appended}
-
-pub rose_before : (a b c : ℕ) → a ≤ b → Rose b c → Rose a c
-rose_before a b c h r = elim r [ inl low ↦ inl (omega arith) | inr full ↦ inr full ]
-
-pub rose_after : (a b c : ℕ) → Rose a b → b ≤ c → Rose a c
-rose_after a b c r h = elim r [ inl low ↦ inl (omega arith) | inr full ↦ inr (omega arith) ]
 
 pub puts_appends : (s t : Stream) (from : List ℕ) (n : ℕ) → Puts s from (Ok n) t → Appends s (take n from) (Ok tt) t
 puts_appends s t from n p = record {

@@ -36,3 +36,17 @@ both_map (Some a) (Some b) P Q h p = h a b p
 pub both_same : {A : Type 0} (old new : Option A) (P : A → A → Type 0) → ((a : A) → P a a) → new ≡ old → Both old new P
 both_same None new P h e = rw e tt
 both_same (Some a) new P h e = rw e (h a)
+
+-- another fact, where it is known what was told before
+pub both_known : {A : Type 0} (old new : Option A) (P Q : A → A → Type 0) → ((a b : A) → old ≡ Some a → P a b → Q a b) → Both old new P → Both old new Q
+both_known None None P Q h p = tt
+both_known None (Some b) P Q h p = absurd p
+both_known (Some a) None P Q h p = absurd p
+both_known (Some a) (Some b) P Q h p = h a b refl p
+
+-- two facts at once
+pub both_and : {A : Type 0} (old new : Option A) (P Q : A → A → Type 0) → Both old new P → Both old new Q → Both old new (λ a b. P a b × Q a b)
+both_and None None P Q p q = tt
+both_and None (Some b) P Q p q = absurd p
+both_and (Some a) None P Q p q = absurd p
+both_and (Some a) (Some b) P Q p q = (p, q)

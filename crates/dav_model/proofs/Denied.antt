@@ -14,12 +14,12 @@ use Rattle.dav_core.specs.Path.{Names, same_names}
 use Rattle.dav_core.specs.Tree.{look, look_from, row_at, standing, below, below_kind, is_dir}
 use Rattle.dav_core.specs.World.{World}
 use Rattle.dav_core.proofs.Plain.{names_same}
+use Rattle.dav_core.proofs.LookLemmas.{standing_row}
 use Rattle.dav_model.specs.Folds.{Name, dir_time, dir_time_of, has_name, is_dot, member_name, names_in}
 use Rattle.dav_model.specs.Rules.{Rules, Knowledge, IsSound, MayDeny}
 use Rattle.dav_model.specs.Finding.{Finding, MayFind, stood_at}
 use Rattle.http.specs.Request.{body_of}
 use Rattle.dav_io.specs.Counts.{Rose}
-use Rattle.dav_io.specs.Told.{Both}
 use Rattle.dav_model.specs.Head.{Reply}
 use Rattle.dav_model.specs.Finding.{shown_in}
 use Rattle.dav_model.specs.Due.{Query, IsRight}
@@ -33,6 +33,7 @@ use Rattle.dav_model.specs.declared.answer.Answer.{Answer}
 use Rattle.dav_model.specs.declared.target.Target.{Target}
 use Rattle.dav_model.specs.declared.target.Target.TheVariants.{At, Methods, Refused, Writes}
 use Rattle.dav_io.specs.declared.failure.NoMemory.{NoMemory}
+use Rattle.dav_io.proofs.ToldLemmas.{both_known}
 use Rattle.dav_model.specs.Conditions.{Fields, fields_of}
 use Rattle.dav_model.specs.Due.{query}
 use Rattle.dav_model.specs.Trail.{target_of}
@@ -77,10 +78,6 @@ below_dir row found e = by_kind row.kind e
     by_kind File e = cc
     by_kind Link e = cc
 
-standing_some : (o : Option Row) (row : Row) → standing o ≡ Ok row → o ≡ Some row
-standing_some None row e = cc
-standing_some (Some r) row e = cc
-
 found_below : (o : Option Row) (found next : Result Row DiskError) (row : Row) (e : DiskError) → (found ≡ Ok row → next ≡ Err e) → below o found ≡ Ok row → below o next ≡ Err e
 found_below None found next row e h f = cc
 found_below (Some r) found next row e h f = by_kind r.kind f
@@ -94,7 +91,7 @@ found_below (Some r) found next row e h f = by_kind r.kind f
 missing : (tree : List Row) (at names : Names) (name : Name) (row : Row) → look_from tree at names ≡ Ok row → is_dir row.kind ≡ true → row_at tree ((at ++ names) ++ name ∷ []) ≡ None
     → look_from tree at (names ++ name ∷ []) ≡ Err disk.NotFound
 missing tree at [] name row e dir none =
-    ap (λ o. below o (standing (row_at tree (at ++ name ∷ [])))) (standing_some (row_at tree at) row e) ∙ below_dir row _ dir
+    ap (λ o. below o (standing (row_at tree (at ++ name ∷ [])))) (standing_row (row_at tree at) row e) ∙ below_dir row _ dir
     ∙ ap standing (subst (λ z. row_at tree (z ++ name ∷ []) ≡ None) (append-nil at) none)
 missing tree at (n ∷ names) name row e dir none =
     found_below (row_at tree at) (look_from tree (at ++ n ∷ []) names) (look_from tree (at ++ n ∷ []) (names ++ name ∷ [])) row disk.NotFound
@@ -127,12 +124,6 @@ pub in_valid_run : (rules : Rules) (k : Knowledge) (s t : Point) (q : Query) (re
     → MeetsNoLink rules w q → Reads rules k s t q reply → IsRight q (shown_in rules w) (Rose s.faults t.faults) reply
 in_valid_run rules k s t q reply w told apart sound clear reads =
     headline rules k s t q reply w told apart clear reads (λ may. denies_rightly rules k w may.finding may.may sound)
-
-both_known : {A : Type 0} (old new : Option A) (P Q : A → A → Type 0) → ((a b : A) → old ≡ Some a → P a b → Q a b) → Both old new P → Both old new Q
-both_known None None P Q h p = tt
-both_known None (Some b) P Q h p = absurd p
-both_known (Some a) None P Q h p = absurd p
-both_known (Some a) (Some b) P Q h p = h a b refl p
 
 replies_by_tree : (target : Target) (rules : Rules) (k : Knowledge) (s t : Point) (fields : Fields) (body : List ℕ) (reply : Reply) → ((w : World) → s.told ≡ Some w → rules.folds ≡ true → Twinless w)
     → ((w : World) → s.told ≡ Some w → rules.macos ≡ true → IsSound k w) → Makes target rules k fields body (Ok reply) s t → Replies target rules k s t fields reply

@@ -1,9 +1,9 @@
 -- The values of the fields of replies are field values: lengths in decimal, dates, tags, types and addresses.
-use Rattle.std.proofs.Common.{◌≡◌, ◌≤◌, ◌<◌, ◌+◌, ◌-◌, ◌/◌, ◌%◌, ◌==◌, ◌&&◌, ◌++◌, ℕ, zero, suc, List, [], ◌∷◌, Bool, true, false, cond, codes, decimal, find, if◌then◌else◌, slice_index_or, Option, None, Some, refl, sym, subst, ◌∙◌, append_assoc, arith}
+use Rattle.std.proofs.Common.{◌≡◌, ◌≤◌, ◌<◌, ◌+◌, ◌-◌, ◌/◌, ◌%◌, ◌==◌, ◌++◌, ℕ, zero, suc, List, [], ◌∷◌, Bool, true, false, cond, codes, decimal, find, if◌then◌else◌, slice_index_or, Option, None, Some, refl, sym, subst, ◌∙◌, append_assoc, arith}
 use Rattle.std.specs.Fmt.{digits, digits_onto, digit_glyph}
 use Rattle.std.specs.List.{list_all}
 use Rattle.std.specs.Str.{str_eq_ignore_ascii_case}
-use Rattle.std.proofs.lemmas.Bool.{and_parts}
+use Rattle.std.proofs.lemmas.Bool.{and_parts, and_from}
 use Rattle.std.proofs.lemmas.Bool.Decides.{nat_tests}
 use Rattle.std.proofs.lemmas.List.Folds.{list_all-append}
 use Rattle.http_header.specs.Token.{is_value_byte}
@@ -32,14 +32,11 @@ abbrev pub FitsWhere : Option (List ℕ) → Type 0
 FitsWhere None = Unit {0}
 FitsWhere (Some text) = Fits text
 
-both : (a b : Bool) → a ≡ true → b ≡ true → (a && b) ≡ true
-both a b e f = rw (e, f) refl
-
 more : (b : ℕ) (text : List ℕ) → is_value_byte b ≡ true → Fits text → Fits (b ∷ text)
-more b text p q = record { all = both (is_value_byte b) (list_all is_value_byte text) p q.all }
+more b text p q = record { all = and_from (is_value_byte b) (list_all is_value_byte text) p q.all }
 
 pub fits_both : (a b : List ℕ) → Fits a → Fits b → Fits (a ++ b)
-fits_both a b p q = record { all = list_all-append is_value_byte a b ∙ both (list_all is_value_byte a) (list_all is_value_byte b) p.all q.all }
+fits_both a b p q = record { all = list_all-append is_value_byte a b ∙ and_from (list_all is_value_byte a) (list_all is_value_byte b) p.all q.all }
 
 -- Bytes of another kind are bytes of a field value.
 of_kind : (test : ℕ → Bool) → ((b : ℕ) → test b ≡ true → is_value_byte b ≡ true) → (text : List ℕ) → list_all test text ≡ true → Fits text

@@ -99,7 +99,7 @@ given_length target reply value pieces framed own says polled =
     let by : IsFramedBy true reply = subst (λ b. IsFramedBy b reply) own framed in
     by value says ∙ ap decimal (sym (polled_bytes reply.parts pieces polled))
 
-none_polled : (parts : List Part) (pieces : List (List ℕ)) → parts ≡ [] → PolledToEnd parts pieces → pieces ≡ []
+pub none_polled : (parts : List Part) (pieces : List (List ℕ)) → parts ≡ [] → PolledToEnd parts pieces → pieces ≡ []
 none_polled [] [] e polled = refl
 none_polled [] (piece ∷ pieces) e (rest, poll, more) = let f : Piece piece ≡ End = poll.polls.0 in cc
 none_polled (part ∷ parts) pieces e polled = cc

@@ -1,9 +1,10 @@
 -- Joining: a run from where another ends is one run with it; and a list of steps that read keeps the tree and the bytes.
-use Rattle.std.proofs.Common.{◌≡◌, ◌≤◌, ◌<◌, ◌+◌, ◌⊎◌, inl, inr, ℕ, Bool, true, not, List, [], ◌∷◌, ◌++◌, map, length, take, drop, get_or, Option, None, Some, is_some, Result, Ok, Err, refl, sym, ap, subst, ◌∙◌, arith, append_assoc, append-nil, add-one, drop-cons}
+use Rattle.std.proofs.Common.{◌≡◌, ◌≤◌, ◌<◌, ◌+◌, ◌⊎◌, inl, inr, ℕ, Bool, true, not, List, [], ◌∷◌, ◌++◌, map, length, take, drop, get_or, Option, Some, is_some, Result, Ok, Err, refl, sym, ap, subst, ◌∙◌, arith, append_assoc, append-nil, add-one, drop-cons}
 use Rattle.dav_io.specs.Counts.{Rose}
 use Rattle.std.proofs.lemmas.List.{take-append-drop, take_more}
 use Rattle.std.specs.List.{AllByRecursion}
 use Rattle.dav_io.proofs.ToldLemmas.{both_map, both_same, both_then}
+use Rattle.dav_io.proofs.Cases.{some_of}
 use Rattle.dav_io.specs.declared.failure.NoMemory.{NoMemory}
 use Rattle.dav_core.specs.declared.time.FileTime.{FileTime}
 use Rattle.dav_core.specs.Unchanged.{SameBesidesOpens}
@@ -63,7 +64,7 @@ occurs_last w s (x ∷ xs) e = inr (occurs_last w x.to xs e)
 
 -- ---- what is known
 
-same_dots_then : (a b c : Name → Bool) → SameDots a b → SameDots b c → SameDots a c
+pub same_dots_then : (a b c : Name → Bool) → SameDots a b → SameDots b c → SameDots a c
 same_dots_then a b c p q x dot = p x dot ∙ q x dot
 
 pub learned_none : (points : List Point) (k : Knowledge) → Learned points k k
@@ -78,12 +79,8 @@ was_then points k l dir time has learned (had, e, same) = or_before (learned.kno
     or_before (inl (first, f, same')) = inl (first, f, same_dots_then has had first same same')
     or_before (inr (w, o, names)) = inr (w, o, λ clear. let shown = names clear in record { there = shown.there; names = same_dots_then has had (has_name w.tree dir) same shown.names })
 
-told_some : (o : Option World) → is_some o ≡ true → (w : World) × (o ≡ Some w)
-told_some None e = cc
-told_some (Some w) e = (w, refl)
-
 learns_occurs : (s : Point) (k l : Knowledge) → is_some s.told ≡ true → Learns s.told k l → Learned (s ∷ []) k l
-learns_occurs s k l told learns = let (w, e) = told_some s.told told in record {
+learns_occurs s k l told learns = let (w, e) = some_of s.told told in record {
   open_same = learns.open_same;
   known = λ dir time has f. elim (learns.known dir time has f) [ inl was ↦ inl was | inr names ↦ inr (w, inl e, names w e) ];
 }
@@ -118,10 +115,6 @@ step_rules p s t (Poll body) a q st = ap (λ (z : Playing). z.rules) st.gets.is
 step_rules p s t (Abandon body) a q (quiet, same, live, gets) = ap (λ (z : Playing). z.rules) gets.is
 step_rules p s t (Purge now) a q (d, same, (k, is, f)) = ap (λ (z : Playing). z.rules) is
 step_rules p s t Turn a q (d, turned, live, is) = ap (λ (z : Playing). z.rules) is
-
-pub rules_stay : (p : Playing) (s : Point) (xs : List Move) (q : Playing) → Plays p s xs q → q.rules ≡ p.rules
-rules_stay p s [] q e = ap (λ (z : Playing). z.rules) e
-rules_stay p s (x ∷ xs) q (m, st, o, rest) = rules_stay m x.to xs q rest ∙ step_rules p s x.to x.step x.answer m st
 
 -- What is known at the end of a trail was known at its start, or one of its worlds has it.
 pub learned_on : (p : Playing) (s : Point) (xs : List Move) (q : Playing) → Plays p s xs q

@@ -1,12 +1,7 @@
 -- The walk of the rules is a loose walk.
-use Rattle.std.proofs.Common.{◌≡◌, ◌⊎◌, inl, inr, ◌||◌, ◌&&◌, ◌+◌, ◌-◌, Bool, true, false, not, cond, List, [], ◌∷◌, ◌++◌, length, take, Option, None, Some, refl, sym, ap, subst, ◌∙◌, arith, nat_eq}
+use Rattle.std.proofs.Common.{◌≡◌, ◌⊎◌, inl, inr, ◌||◌, ◌&&◌, ◌+◌, ◌-◌, Bool, true, false, not, cond, List, [], ◌∷◌, ◌++◌, Option, None, Some, refl, sym, ap, ◌∙◌}
 use Rattle.std.specs.List.{find, list_any, list_all}
-use Rattle.std.proofs.lemmas.Bool.{and_parts}
-use Rattle.std.proofs.lemmas.List.{length-append}
-use Rattle.std.proofs.Math.Seq.{take-append_seam}
-use Rattle.std.proofs.lemmas.Slice.Eq.{slice_eq-Decides}
-use Rattle.std.specs.Cmp.{unsigned_Decides}
-use Rattle.std.specs.Cmp.Lexicographic.{pointwise}
+use Rattle.std.proofs.lemmas.Bool.{and_parts, or_cases}
 use Rattle.dav_core.proofs.Plain.{names_same}
 use Rattle.dav_core.specs.declared.tree.Row.{Row}
 use Rattle.dav_core.specs.Path.{Names, same_names, parent_of}
@@ -15,6 +10,7 @@ use Rattle.dav_model.specs.Folds.{Name, folds_like, fold_path}
 use Rattle.dav_model.specs.Rules.{Rules, Knowledge}
 use Rattle.dav_model.specs.Valid.{are_twins, no_twins}
 use Rattle.dav_model.specs.Finding.{is_alike, member_or, on_from, resolved_from, resolved, or_walk, IsOf, IsLoose, EndsLoosely, exactly, MayFind}
+pub use Rattle.dav_core.proofs.Paths.{names_refl, names_equal, parent_pushed}
 
 found : (f : Row → Bool) (b : Bool) (r x : Row) (rows : List Row) → f r ≡ b → (find f rows ≡ Some x → (f x ≡ true) × IsOf x rows) → cond b (Some r) (find f rows) ≡ Some x
     → (f x ≡ true) × ((x ≡ r) ⊎ IsOf x rows)
@@ -62,16 +58,6 @@ exactly_may rules k tree = record {
 
 -- ---- where no two names fold alike, each loose walk ends where the walk of the rules ends
 
-or_parts : (a b : Bool) → (a || b) ≡ true → (a ≡ true) ⊎ (b ≡ true)
-or_parts true b e = inl refl
-or_parts false b e = inr e
-
-pub names_refl : (a : Names) → same_names a a ≡ true
-names_refl a = (slice_eq-Decides (λ c d. slice_eq-Decides unsigned_Decides c d (pointwise nat_eq c d) refl) a a (same_names a a) refl).1 refl
-
-pub names_equal : (a b : Names) → a ≡ b → same_names a b ≡ true
-names_equal a b e = subst (λ z. same_names a z ≡ true) e (names_refl a)
-
 twins_of : (a b : Row) → parent_of a.path ≡ parent_of b.path → fold_path a.path ≡ fold_path b.path → are_twins a b ≡ true
 twins_of a b e f = and_both _ _ (names_equal _ _ e) (names_equal _ _ f)
   where
@@ -113,18 +99,12 @@ abbrev Near : Bool → Names → Name → Row → Type 0
 Near folds at name r = (at ++ name ∷ [] ≡ r.path) ⊎ ((folds ≡ true) × (parent_of r.path ≡ at) × (fold_path r.path ≡ fold_path (at ++ name ∷ [])))
 
 near : (folds : Bool) (at : Names) (name : Name) (r : Row) → is_alike folds at name r ≡ true → Near folds at name r
-near folds at name r e = elim (or_parts (same_names (at ++ name ∷ []) r.path) (folds && (same_names (parent_of r.path) at && folds_like r.path (at ++ name ∷ []))) e) [
+near folds at name r e = elim (or_cases (same_names (at ++ name ∷ []) r.path) (folds && (same_names (parent_of r.path) at && folds_like r.path (at ++ name ∷ []))) e) [
   | inl same ↦ inl (names_same _ _ same)
   | inr all ↦ let (x, rest) = and_parts folds (same_names (parent_of r.path) at && folds_like r.path (at ++ name ∷ [])) all in
       let (y, z) = and_parts (same_names (parent_of r.path) at) (folds_like r.path (at ++ name ∷ [])) rest in
       inr (x, names_same _ _ y, names_same _ _ z)
 ]
-
-pub parent_pushed : (at : Names) (name : Name) → parent_of (at ++ name ∷ []) ≡ at
-parent_pushed at name = ap (λ n. take (n - 1) (at ++ name ∷ [])) (length-append at (name ∷ [])) ∙ cut
-  where
-    cut : take (length at + 1 - 1) (at ++ name ∷ []) ≡ at
-    cut = ap (λ n. take n (at ++ name ∷ [])) (let e : length at + 1 - 1 ≡ length at = omega arith in e) ∙ take-append_seam at (name ∷ [])
 
 alike_one : (folds : Bool) (tree : List Row) (at : Names) (name : Name) (a b : Row) → (folds ≡ true → no_twins tree ≡ true) → IsOf a tree → IsOf b tree
     → Near folds at name a → Near folds at name b → a.path ≡ b.path

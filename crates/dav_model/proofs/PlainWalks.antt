@@ -1,20 +1,20 @@
 -- Over a plain store each path is found as it is written, and where no link is met no link stands.
-use Rattle.std.proofs.Common.{◌≡◌, inl, inr, ◌||◌, ◌&&◌, Bool, true, false, List, [], ◌∷◌, ◌++◌, length, take, drop, Option, None, Some, Result, Ok, refl, sym, ap, subst, ◌∙◌, append_assoc, append-nil}
+use Rattle.std.proofs.Common.{◌≡◌, inl, inr, ◌||◌, ◌&&◌, Bool, true, false, List, [], ◌∷◌, ◌++◌, length, take, drop, Option, None, Some, Ok, refl, sym, ap, ◌∙◌, append_assoc, append-nil}
 use Rattle.std.specs.List.{find}
 use Rattle.std.proofs.Math.Seq.{take-append_seam}
 use Rattle.std.proofs.lemmas.List.{take-append-drop}
-use Rattle.dav_core.specs.declared.handle.DiskError.{DiskError}
+use Rattle.std.proofs.lemmas.Bool.{false_from_ne_true}
 use Rattle.dav_core.specs.declared.tree.Row.{Row}
-use Rattle.dav_core.specs.declared.tree.Kind.{Kind}
-use Rattle.dav_core.specs.declared.tree.Kind.TheVariants.{Dir, File, Link}
 use Rattle.dav_core.specs.Path.{Names, is_front, same_names}
-use Rattle.dav_core.specs.Tree.{below, below_kind, is_link, is_linked, look, look_from, row_at, standing}
+use Rattle.dav_core.specs.Tree.{below, is_link, is_linked, look, row_at}
 use Rattle.dav_core.proofs.Plain.{names_same}
+use Rattle.dav_core.proofs.Paths.{names_equal, front_itself}
+use Rattle.dav_core.proofs.LookLemmas.{look_there}
 use Rattle.dav_model.specs.declared.settings.Settings.{Settings}
 use Rattle.dav_model.specs.Finding.{IsOf, is_alike, member, member_or, on_from, resolved, resolved_from}
 use Rattle.dav_model.specs.Folds.{Name}
 use Rattle.dav_model.specs.Rules.{plain_rules}
-use Rattle.dav_model.proofs.LooseWalks.{find_row, names_equal}
+use Rattle.dav_model.proofs.LooseWalks.{find_row}
 
 or_false : (b : Bool) → (b || false) ≡ true → b ≡ true
 or_false true e = refl
@@ -52,9 +52,6 @@ plain_resolved settings tree names = walk_itself tree [] names
 take_itself : (a : Names) → take (length a) a ≡ a
 take_itself a = ap (λ z. take (length a) z) (sym (append-nil a)) ∙ take-append_seam a []
 
-front_itself : (a : Names) → is_front a a ≡ true
-front_itself a = names_equal a (take (length a) a) (sym (take_itself a))
-
 linked_of : (tree : List Row) (row : Row) (path : Names) → IsOf row tree → is_link row.kind ≡ true → row.path ≡ path → is_linked tree path ≡ false → ⊥
 linked_of [] row path of link here e = of
 linked_of (r ∷ rows) row path (inl same) link here e =
@@ -70,35 +67,11 @@ linked_of (r ∷ rows) row path (inr of) link here e = linked_of rows row path o
     back true b q = cc
     back false b q = q
 
-stands_at : (o : Option Row) (row : Row) → standing o ≡ Ok row → o ≡ Some row
-stands_at None row e = cc
-stands_at (Some r) row e = cc
-
-goes_below : (o : Option Row) (found : Result Row DiskError) (row : Row) → below o found ≡ Ok row → found ≡ Ok row
-goes_below None found row e = cc
-goes_below (Some r) found row e = by_kind r.kind e
-  where
-    by_kind : (kind : Kind) → below_kind kind found ≡ Ok row → found ≡ Ok row
-    by_kind Dir e = e
-    by_kind File e = cc
-    by_kind Link e = cc
-
--- what is found at a path is the row of that path
-row_there : (tree : List Row) (at names : Names) (row : Row) → look_from tree at names ≡ Ok row → row_at tree (at ++ names) ≡ Some row
-row_there tree at [] row e = subst (λ z. row_at tree z ≡ Some row) (sym (append-nil at)) (stands_at (row_at tree at) row e)
-row_there tree at (name ∷ names) row e =
-    subst (λ z. row_at tree z ≡ Some row) (append_assoc at (name ∷ []) names)
-    (row_there tree (at ++ name ∷ []) names row (goes_below (row_at tree at) (look_from tree (at ++ name ∷ []) names) row e))
-
-not_link : (b : Bool) → (b ≡ true → ⊥) → b ≡ false
-not_link true h = absurd (h refl)
-not_link false h = refl
-
 -- Where no link is met on the way to a path or at it, what stands there is none.
 pub unlinked_row : (tree : List Row) (path : Names) (row : Row) → look tree path ≡ Ok row → is_linked tree path ≡ false → is_link row.kind ≡ false
 unlinked_row tree path row e clear =
-    let (same, of) = find_row (λ r. same_names path r.path) tree row (row_there tree [] path row e) in
-    not_link (is_link row.kind) (λ link. linked_of tree row path of link (sym (names_same path row.path same)) clear)
+    let (same, of) = find_row (λ r. same_names path r.path) tree row (look_there tree [] path row e) in
+    false_from_ne_true (is_link row.kind) (λ link. linked_of tree row path of link (sym (names_same path row.path same)) clear)
 
 -- What a path begins with, each path below it begins with.
 front_below : (a b c : Names) → is_front a b ≡ true → is_front a (b ++ c) ≡ true

@@ -59,7 +59,7 @@ stepped_forgotten a b x answer (st, held) = (stands_forgotten a.playing b.playin
 
 -- ---- the world stands still
 
-still_left : (w : World) (s t : Point) → Leaves s t → StandsAs w s → StandsAs w t
+pub still_left : (w : World) (s t : Point) → Leaves s t → StandsAs w s → StandsAs w t
 still_left w s t leaves st = let (v, told, same) = told_after s.told t.told SameBesidesOpens st.now leaves st.told in record {
   now = v;
   told = told;

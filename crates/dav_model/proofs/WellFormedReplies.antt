@@ -1,8 +1,7 @@
 -- The fields of each reply stand in order, and each is a field.
 use Rattle.std.proofs.Common.{◌≡◌, ◌&&◌, ◌⊎◌, inl, inr, ◌++◌, ℕ, List, [], ◌∷◌, map, Bool, true, false, cond, All, Contains, codes, bytes_eq, decimal, option_map, Option, None, Some, refl, sym, ap, subst, ◌∙◌, arith, true≢false}
 use Rattle.std.specs.Ordering.{nat_cmp, is_lt}
-use Rattle.std.specs.declared.cmp.Ordering.{Ordering}
-use Rattle.std.specs.declared.cmp.Ordering.TheVariants.{Less, Equal, Greater}
+use Rattle.std.specs.declared.cmp.Ordering.TheVariants.{Less}
 use Rattle.std.specs.Cmp.Lexicographic.{slice_cmp}
 use Rattle.std.specs.List.{list_all, AllByRecursion, filter, flat_map, join_by}
 use Rattle.std.specs.List.Sorted.{IsStrictlySortedBy}
@@ -11,6 +10,7 @@ use Rattle.std.proofs.lemmas.List.Elements.{All-cons, All-nil}
 use Rattle.std.proofs.lemmas.List.Sums.{AllPass-from_list_all}
 use Rattle.http_header.specs.Token.{IsToken, is_token_byte, is_value_byte}
 use Rattle.dav_io.specs.declared.fields.Field.{Field}
+use Rattle.dav_io.proofs.Cases.{less_is}
 use Rattle.dav_core.specs.declared.method.DavMethod.{DavMethod}
 use Rattle.dav_core.specs.declared.method.DavMethodSet.{DavMethodSet}
 use Rattle.dav_model.specs.declared.sent.Sent.{Sent}
@@ -37,18 +37,13 @@ abbrev in_order : List (List ℕ) → Bool
 in_order [] = true
 in_order (x ∷ xs) = list_all (λ y. is_lt (slice_cmp nat_cmp x y)) xs && in_order xs
 
-less : (o : Ordering) → is_lt o ≡ true → o ≡ Less
-less Less e = refl
-less Equal e = absurd (true≢false (sym e))
-less Greater e = absurd (true≢false (sym e))
-
 below : (x : List ℕ) (names : List (List ℕ)) (fields : List Field) → list_all (λ y. is_lt (slice_cmp nat_cmp x y)) names ≡ true → HasSome names fields
     → AllByRecursion (λ y. slice_cmp nat_cmp x y ≡ Less) (map (λ (f : Field). f.name) fields)
 below x names [] e has = tt
 below x [] (f ∷ fields) e has = absurd has
 below x (name ∷ names) (f ∷ fields) e (inl (same, is, has)) =
     let p = and_parts (is_lt (slice_cmp nat_cmp x name)) (list_all (λ y. is_lt (slice_cmp nat_cmp x y)) names) e in
-    (subst (λ y. slice_cmp nat_cmp x y ≡ Less) (sym same) (less (slice_cmp nat_cmp x name) p.0), below x names fields p.1 has)
+    (subst (λ y. slice_cmp nat_cmp x y ≡ Less) (sym same) (less_is (slice_cmp nat_cmp x name) p.0), below x names fields p.1 has)
 below x (name ∷ names) (f ∷ fields) e (inr has) =
     below x names (f ∷ fields) (and_parts (is_lt (slice_cmp nat_cmp x name)) (list_all (λ y. is_lt (slice_cmp nat_cmp x y)) names) e).1 has
 

@@ -2,12 +2,13 @@
 use Rattle.std.proofs.Common.{◌≡◌, ◌==◌, ◌||◌, ◌+◌, ◌<◌, ℕ, Bool, true, false, not, cond, suc, List, [], ◌∷◌, ◌++◌, codes, length, take, drop, get_or, Option, Some, None, refl, sym, ap, ap₂, ◌∙◌, subst, arith, append_assoc}
 use Rattle.std.specs.Borrow.{Bor}
 use Rattle.std.specs.List.{list_any, position_or_len, before_first}
-use Rattle.std.proofs.lemmas.Bool.{or_parts}
+use Rattle.std.proofs.lemmas.Bool.{or_parts, eq-eqb}
 use Rattle.std.proofs.lemmas.Bool.Decides.{Decides-eqb}
 use Rattle.std.proofs.lemmas.List.{append_cancel_left, take_all, take-append-drop, drop_more}
 use Rattle.std.proofs.lemmas.List.Folds.{length-prefix_len}
 use Rattle.std.proofs.lemmas.List.Sums.{passes_at_first}
 use Rattle.std.proofs.lemmas.Str.Pattern.{IsSplitOnceResult, split_once_first}
+use Rattle.std.proofs.Math.Bool.{or-true}
 use Rattle.dav_page.specs.Cuts.{IsBetween, IsCrumbFront, IsCut, IsFreeOf, IsRowFront}
 use Rattle.dav_page.specs.Pages.{CrumbTexts, RowTexts, crumb_text, row_text}
 
@@ -80,16 +81,13 @@ split_once p (c ∷ front) (d ∷ other) x y rest behind none free px py e =
     let split = split_once p front other x y rest behind none_later free_later px py later in
     (ap₂ (λ (b : ℕ) (bs : List ℕ). b ∷ bs) first split.0, split.1)
 
-stops_there : (stop : ℕ) → (stop == stop) ≡ true
-stops_there stop = (Decides-eqb stop stop).1 refl
-
 -- A text is cut at the first such byte in one way.
 pub cut_once : (stop : ℕ) (whole front other rest behind : List ℕ) → IsCut stop whole front rest → IsCut stop whole other behind
     → (front ≡ other) × (rest ≡ behind)
 cut_once stop whole front other rest behind p q =
     let same : front ++ stop ∷ p.more ≡ other ++ stop ∷ q.more =
     ap (λ z. front ++ z) (sym p.stops) ∙ (sym p.spells ∙ (q.spells ∙ ap (λ z. other ++ z) q.stops)) in
-    let once = split_once (λ b. b == stop) front other stop stop p.more q.more p.free q.free (stops_there stop) (stops_there stop) same in
+    let once = split_once (λ b. b == stop) front other stop stop p.more q.more p.free q.free (eq-eqb stop stop refl) (eq-eqb stop stop refl) same in
     (once.0, p.stops ∙ (once.1 ∙ sym q.stops))
 
 -- What stands between a literal and the first such byte is determined.
@@ -100,13 +98,9 @@ between_once literal stop whole text other rest behind p q =
     cut_once stop (text ++ rest) text other rest behind (record { more = p.more; spells = refl; free = p.free; stops = p.stops })
     (record { more = q.more; spells = same; free = q.free; stops = q.stops })
 
-or_true : (b : Bool) → (b || true) ≡ true
-or_true true = refl
-or_true false = refl
-
 found : (stop : ℕ) (front more : List ℕ) → list_any (λ b. b == stop) (front ++ stop ∷ more) ≡ true
-found stop [] more = ap (λ t. t || list_any (λ b. b == stop) more) (stops_there stop)
-found stop (c ∷ front) more = ap (λ t. (c == stop) || t) (found stop front more) ∙ or_true (c == stop)
+found stop [] more = ap (λ t. t || list_any (λ b. b == stop) more) (eq-eqb stop stop refl)
+found stop (c ∷ front) more = ap (λ t. (c == stop) || t) (found stop front more) ∙ or-true (c == stop)
 
 -- A text that has a byte isn't free of it.
 pub not_free : (stop : ℕ) (text front more : List ℕ) → text ≡ front ++ stop ∷ more → IsFreeOf stop text → ⊥

@@ -1,16 +1,15 @@
 -- The names of a heading, and the links to them.
-use Rattle.std.proofs.Common.{◌≡◌, ◌+◌, ◌-◌, ◌<◌, ◌≤◌, ◌&&◌, ℕ, true, List, [], ◌∷◌, ◌++◌, None, Some, codes, length, map, option_map, take, get_or, slice_get, refl, sym, ap, ap₂, ◌∙◌, subst, append_assoc, append-nil, arith}
+use Rattle.std.proofs.Common.{◌≡◌, ◌+◌, ◌-◌, ◌<◌, ◌≤◌, ◌&&◌, ℕ, true, List, [], ◌∷◌, ◌++◌, None, Some, codes, length, map, option_map, take, get_or, refl, sym, ap, ap₂, ◌∙◌, subst, append_assoc, append-nil, arith}
 use Rattle.std.specs.List.{AllZip, flat_map, list_all}
 use Rattle.std.specs.Str.{chars, is_utf8}
-use Rattle.std.proofs.Math.Seq.{get_or-append_seam}
 use Rattle.std.proofs.lemmas.Bool.{and_parts}
 use Rattle.std.proofs.lemmas.Grind.{flat_map-append}
-use Rattle.std.proofs.lemmas.List.{length-append, map-append, take_all, take_more}
+use Rattle.std.proofs.lemmas.List.{map-append, take_all, take_more}
 use Rattle.std.proofs.lemmas.List.Folds.{list_all-append}
-use Rattle.std.proofs.lemmas.Option.{slice_get-get_or}
 use Rattle.std.proofs.lemmas.Str.{IsUtf8-append, IsUtf8-from_is_utf8, is_utf8-from_IsUtf8}
-use Rattle.dav_core.specs.DavPath.{last_name, slashed}
+use Rattle.dav_core.specs.DavPath.{slashed}
 use Rattle.dav_core.specs.Path.{Names}
+use Rattle.dav_core.proofs.Paths.{last_pushed}
 use Rattle.dav_page.specs.Index.{IsHeading, crumbs_at, heading_of, name_text, written_crumb}
 use Rattle.dav_page.specs.Listed.{crumbs_from}
 use Rattle.dav_page.specs.Pages.{IsCrumb, IsLast, crumb_text, heading_text}
@@ -82,14 +81,6 @@ crumbs_front at (name ∷ []) last = refl
 crumbs_front at (name ∷ next ∷ front) last =
     ap (λ l. record { path = at ++ slashed name; name = name } ∷ l) (crumbs_front (at ++ slashed name) (next ∷ front) last)
 
-pub last_is : (front : Names) (last : List ℕ) → last_name (front ++ last ∷ []) ≡ Some last
-last_is front last =
-    let long : length (front ++ last ∷ []) ≡ length front + 1 = length-append front (last ∷ []) in
-    let at : length (front ++ last ∷ []) - 1 ≡ length front = omega (arith, long) in
-    ap (λ n. slice_get (front ++ last ∷ []) n) at
-    ∙ slice_get-get_or (front ++ last ∷ []) (length front) [] (omega (arith, long))
-    ∙ ap Some (get_or-append_seam front last [] [])
-
 pub crumbs_read : (at : List ℕ) (names : Names) → is_utf8 at ≡ true → list_all is_utf8 names ≡ true
     → AllZip IsCrumb (map written_crumb (crumbs_from at names)) (crumbs_from at names)
 crumbs_read at [] u all = tt
@@ -108,7 +99,7 @@ nothing_utf8 = refl
 -- the heading of the names of a path that isn't the root
 pub heading_is : (front : Names) (last : List ℕ) → heading_of (front ++ last ∷ [])
     ≡ heading_text (map written_crumb (crumbs_at [] front)) (Some (name_text last))
-heading_is front last = ap₂ (λ l o. heading_text (map written_crumb l) (option_map name_text o)) (crumbs_front [] front last) (last_is front last)
+heading_is front last = ap₂ (λ l o. heading_text (map written_crumb l) (option_map name_text o)) (crumbs_front [] front last) (last_pushed front last)
 
 -- A reader takes the names and links from it.
 pub heading_reads : (front : Names) (last : List ℕ) → list_all is_utf8 front ≡ true → is_utf8 last ≡ true
@@ -116,10 +107,10 @@ pub heading_reads : (front : Names) (last : List ℕ) → list_all is_utf8 front
 heading_reads front last all utf8 = record {
   texts = map written_crumb (crumbs_from [] (front ++ last ∷ []));
   last = Some (name_text last);
-  spells = ap (λ o. heading_text (map written_crumb (crumbs_from [] (front ++ last ∷ []))) (option_map name_text o)) (last_is front last);
+  spells = ap (λ o. heading_text (map written_crumb (crumbs_from [] (front ++ last ∷ []))) (option_map name_text o)) (last_pushed front last);
   root = tt;
   crumbs = crumbs_read [] (front ++ last ∷ []) nothing_utf8 (all_more front last all utf8);
-  ends = subst (IsLast (Some (name_text last))) (sym (last_is front last)) (name_written last utf8);
+  ends = subst (IsLast (Some (name_text last))) (sym (last_pushed front last)) (name_written last utf8);
 }
 
 pub root_reads : IsHeading [] (codes "/")

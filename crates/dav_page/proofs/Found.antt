@@ -1,14 +1,9 @@
 -- What a reader's steps find, carried over to the text that they began with.
-use Rattle.std.proofs.Common.{◌≡◌, ℕ, List, ◌++◌, codes, Option, Some, None, Result, Ok, Err, IfOk, IfSome, sym, ap, ◌∙◌, subst}
+use Rattle.std.proofs.Common.{◌≡◌, ℕ, List, ◌++◌, codes, Option, Some, None, Result, Ok, Err, IfOk, IfSome, sym, ap, ◌∙◌}
 use Rattle.std.specs.Borrow.{Bor}
 use Rattle.std.proofs.lemmas.List.{append_cancel_left}
 use Rattle.dav_page.specs.Cuts.{HasRoot}
 use Rattle.dav_page.specs.Pages.{before_rows}
-
--- the clause at a value that was found
-pub some_is : {A : Type 0} (P : A → Type 0) (o : Option A) (x : A) → o ≡ Some x → IfSome o P → P x
-some_is P None x e h = cc
-some_is P (Some y) x e h = let same : y ≡ x = cc in subst P same h
 
 -- What is said of a value that was found, in other words.
 pub some_map : {A : Type 0} (P Q : A → Type 0) (o : Option A) → ((x : A) → P x → Q x) → IfSome o P → IfSome o Q

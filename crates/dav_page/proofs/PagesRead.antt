@@ -12,11 +12,12 @@ use Rattle.htmlescape.specs.declared.alphabet.Alphabet.TheVariants.{Minimal}
 use Rattle.htmlescape.proofs.Escaping.{encoded_utf8}
 use Rattle.dav_core.specs.DavPath.{WebPath, final_slash, last_name, link_of, shown, slashed}
 use Rattle.dav_core.specs.Path.{Names}
+use Rattle.dav_core.proofs.Paths.{last_pushed}
 use Rattle.dav_page.specs.declared.row.PageRow.{PageRow}
 use Rattle.dav_page.specs.Index.{CanBeSaid, name_text, page_of, page_texts, written_crumb, written_page, written_row}
 use Rattle.dav_page.specs.Listed.{all_names, crumbs_from}
 use Rattle.dav_page.specs.Pages.{CrumbTexts, IsLast, IsPage, IsRow, NoCrumbsAtRoot, PageTexts, RowTexts, after_rows, before_heading, before_rows, before_title, crumb_text, has_two_digits, head_text, heading_text, is_link, is_link_byte, page_text, pieces_of, row_text}
-use Rattle.dav_page.proofs.Crumbs.{crumbs_read, joined_utf8, last_is, slashed_utf8}
+use Rattle.dav_page.proofs.Crumbs.{crumbs_read, joined_utf8, slashed_utf8}
 use Rattle.dav_page.proofs.PageMade.{end_utf8, joined, joined_rows, regroup}
 use Rattle.dav_page.proofs.Written.{link_written, name_written, title_written}
 
@@ -97,7 +98,7 @@ some_last : (first : List ℕ) (names : Names) → list_all is_utf8 (first ∷ n
 some_last first names all =
     let (front, last, e) = split_last first names in
     let p = and_parts (list_all is_utf8 front) (list_all is_utf8 (last ∷ [])) (sym (list_all-append is_utf8 front (last ∷ [])) ∙ (sym (ap (list_all is_utf8) e) ∙ all)) in
-    (last, ap last_name e ∙ last_is front last, (and_parts (is_utf8 last) true p.1).0)
+    (last, ap last_name e ∙ last_pushed front last, (and_parts (is_utf8 last) true p.1).0)
 
 abbrev lasts : Names → Option (List ℕ)
 lasts names = option_map name_text (last_name names)

@@ -3,6 +3,7 @@ use Rattle.std.proofs.Common.{◌≡◌, ◌+◌, ◌<◌, ℕ, true, List, [], 
 use Rattle.std.specs.List.{AllZip}
 use Rattle.std.proofs.lemmas.List.{take_more}
 use Rattle.std.proofs.lemmas.Str.{is_utf8-from_IsUtf8}
+use Rattle.dav_io.proofs.Ends.{zip_push}
 use Rattle.dav_core.specs.declared.member.Member.{Member}
 use Rattle.dav_core.specs.declared.time.FileTime.{FileTime}
 use Rattle.dav_core.specs.DavPath.{WebPath, link_of, shown}
@@ -29,13 +30,6 @@ row_written dir m texts text link_is link name_is name date size fits e utf8 = r
   reads = record { path = link; name = name; date_is = refl; date = date_fits (known m.modified) texts.date date; size_is = refl; size = fits };
   of = record { path = refl; name = refl; date = date; size = size };
 }
-
-zip_push : {A B : Type 0} (R : A → B → Type 0) (xs : List A) (ys : List B) (x : A) (y : B) → AllZip R xs ys → R x y
-    → AllZip R (xs ++ x ∷ []) (ys ++ y ∷ [])
-zip_push R [] [] x y h r = (r, tt)
-zip_push R [] (z ∷ ys) x y h r = elim h [ ]
-zip_push R (z ∷ xs) [] x y h r = elim h [ ]
-zip_push R (z ∷ xs) (w ∷ ys) x y h r = (h.0, zip_push R xs ys x y h.1 r)
 
 -- One more of the first list, and its like at the end of the second.
 pub zip_more : {A B : Type 0} (R : A → B → Type 0) (xs : List A) (ys : List B) (i : ℕ) (d : A) (y : B) → i < length xs → AllZip R (take i xs) ys

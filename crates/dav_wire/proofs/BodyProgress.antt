@@ -1,10 +1,10 @@
 -- How far a body was read, as bytes are passed and more are taken.
-use Rattle.std.proofs.Common.{◌≡◌, ℕ, ◌≤◌, List, [], ◌++◌, length, take, drop, Ok, Err, Result, refl, sym, ap, ◌∙◌, subst, arith, inl, inr, append_assoc, append-nil, length-append}
+use Rattle.std.proofs.Common.{◌≡◌, ℕ, List, [], ◌++◌, length, take, drop, Ok, Err, Result, refl, sym, ap, ◌∙◌, subst, arith, append_assoc, append-nil, length-append}
 use Rattle.std.proofs.lemmas.List.{take-append-drop, take_all, append_cancel_left, length-drop}
-use Rattle.dav_io.specs.Counts.{Rose}
 use Rattle.dav_io.specs.declared.failure.Failed.{Failed as SinkFailed}
 use Rattle.dav_io.specs.Outside.{Stream}
 use Rattle.dav_io.proofs.ToldLemmas.{both_same, both_then}
+use Rattle.dav_io.proofs.Rising.{rose_before}
 use Rattle.dav_wire.specs.Bodies.{BodyRefusal, IsBodyUnfinished}
 use Rattle.dav_wire.specs.BodyReading.{ReadsOn, ReadsBody}
 use Rattle.dav_wire.specs.BodySteps.{Stands, HaltsAt}
@@ -140,10 +140,10 @@ pub fills_more : {announced : Announced} {old new newer : Stream} {held kept : P
 fills_more later n p f = record { passed = p.passed; on = fills_on p.passed later n p.on f; stands = p.stands }
 
 -- nothing more came
-same_bytes : (kept later : Pending) (n : ℕ) → n ≡ 0 → Behind kept n later → later.bytes ≡ kept.bytes
+pub same_bytes : (kept later : Pending) (n : ℕ) → n ≡ 0 → Behind kept n later → later.bytes ≡ kept.bytes
 same_bytes kept later n none b = sym (take_all (length kept.bytes) later.bytes (let l = b.long in omega arith)) ∙ b.front
 
-none_left : (kept later before after : List ℕ) → later ≡ kept → before ≡ [] → kept ++ before ≡ later ++ after → after ≡ []
+pub none_left : (kept later before after : List ℕ) → later ≡ kept → before ≡ [] → kept ++ before ≡ later ++ after → after ≡ []
 none_left kept later before after same none e =
     append_cancel_left kept after [] (ap (λ x. x ++ after) (sym same) ∙ sym e ∙ ap (λ x. kept ++ x) none)
 
@@ -179,10 +179,6 @@ still_open : (announced : Announced) (passed : List ℕ) (kept later : Pending) 
 still_open announced passed kept later same unfinished =
     subst (λ (x : Pending). IsBodyUnfinished announced (passed ++ x.bytes)) (sym same) unfinished
 
-rose_on : (a b c : ℕ) → a ≤ b → Rose b c → Rose a c
-rose_on a b c le (inl less) = inl (omega arith)
-rose_on a b c le (inr top) = inr top
-
 pub is_stopped : {announced : Announced} {old new newer : Stream} {held kept : Pending} (later : Pending) (e : ReadError)
     → (w : Wants announced old held kept new) → FillsThen new kept (Err e) later newer → ReadsBody announced old held (Err e) later newer
 is_stopped {announced = announced} {kept = kept} later Failed w f = record {
@@ -191,7 +187,7 @@ is_stopped {announced = announced} {kept = kept} later Failed w f = record {
   gives = (
     still_open announced w.passed kept later f.grows w.unfinished,
     (let less = f.fewer refl in let same = ap (λ (x : Pending). x.taken) f.grows in omega arith),
-    rose_on _ _ _ w.on.counts (f.failed refl),
+    rose_before _ _ _ w.on.counts (f.failed refl),
   );
 }
 is_stopped {announced = announced} {kept = kept} later TooMuch w f = record {
@@ -207,7 +203,7 @@ is_stopped {announced = announced} {old = old} {new = new} {held = held} {kept =
 }
 
 -- whatever is read, an error says the same of the sink
-sending_same : (A B : Type 0) (e : ReadError) → sending {A = A} (Err e) ≡ sending {A = B} (Err e)
+pub sending_same : (A B : Type 0) (e : ReadError) → sending {A = A} (Err e) ≡ sending {A = B} (Err e)
 sending_same A B Failed = refl
 sending_same A B TooMuch = refl
 sending_same A B WithoutMemory = refl

@@ -1,6 +1,6 @@
 -- What each step of a reader of a body in chunks says of the text so far.
-use Rattle.std.proofs.Common.{◌≡◌, ℕ, ◌+◌, ◌-◌, ◌<◌, ◌≤◌, List, [], ◌∷◌, ◌++◌, length, take, drop, refl, sym, ap, ◌∙◌, subst, arith, append_assoc, append-nil, length-append, replicate}
-use Rattle.std.proofs.lemmas.List.{take-append-drop, length-take-le, length-replicate}
+use Rattle.std.proofs.Common.{◌≡◌, ℕ, ◌+◌, ◌-◌, ◌<◌, ◌≤◌, List, [], ◌++◌, length, take, drop, refl, sym, ap, ◌∙◌, subst, arith, append_assoc, append-nil, length-append, replicate}
+use Rattle.std.proofs.lemmas.List.{take-append-drop, length-take-le, length-replicate, nil_from_length}
 use Rattle.std.proofs.Math.Seq.{take-add, take-append_seam}
 use Rattle.dav_wire.specs.Bodies.{most_body, IsBody, BeginsBody, BodyRefusal, IsBodyUnfinished, HasNoSize, MayHaveSize, NeverHasSize, NeverEndsLine, NeverHasPiece, bad_line, bad_piece, open_line, open_piece, broken, large}
 use Rattle.dav_wire.specs.BodySteps.{StandsInChunk}
@@ -78,14 +78,10 @@ wants_piece passed held body more piece size left stands long whole short = reco
       (more, piece, [], (long, whole ∙ ap (λ x. piece ++ x) (sym (append-nil line_end))));
 }
 
-empty_is : (xs : List ℕ) → length xs ≡ 0 → xs ≡ []
-empty_is [] none = refl
-empty_is (x ∷ xs) none = absurd (omega arith)
-
 pub wants_bytes : (passed held body : List ℕ) (size left : ℕ) → StandsInChunk passed body size left → 0 < left → length held ≡ 0
     → IsBodyUnfinished InChunks (passed ++ held)
 wants_bytes passed held body size left stands some empty =
-    let none = empty_is held empty in
+    let none = nil_from_length held empty in
     let zeros : List ℕ = replicate left 0 in
     let counted = stands.counted in
     let long : length (stands.got ++ zeros) ≡ size = length-append stands.got zeros ∙ (let all : length zeros ≡ left = length-replicate left 0 in omega arith) in
@@ -138,7 +134,7 @@ goes_between passed held body size some stands here =
 pub ends_here : (passed held body : List ℕ) → StandsInChunk passed body 0 0 → FindsEnd held Here → IsBody InChunks (passed ++ take 2 held) body []
 ends_here passed held body stands here =
     let counted = stands.counted in
-    let none : stands.got ≡ [] = empty_is stands.got (omega arith) in
+    let none : stands.got ≡ [] = nil_from_length stands.got (omega arith) in
     let two = two_are held here in
     let line : HasSize (stands.rest ++ line_end) 0 (line_end ++ []) =
     subst (λ (x : List ℕ). HasSize (stands.rest ++ line_end) 0 x) (ap (λ x. x ++ line_end) none ∙ sym (append-nil line_end))

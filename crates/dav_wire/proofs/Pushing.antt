@@ -1,9 +1,9 @@
 -- What is sent and what is held, as bytes are given to a buffer in front of a sink.
-use Rattle.std.proofs.Common.{◌≡◌, ℕ, ◌≤◌, List, [], ◌++◌, take, drop, Result, Ok, Err, refl, sym, ap, ◌∙◌, subst, arith, inl, inr, append-nil, append_assoc}
+use Rattle.std.proofs.Common.{◌≡◌, ℕ, List, [], ◌++◌, take, drop, Result, Ok, Err, refl, sym, ap, ◌∙◌, subst, arith, append-nil, append_assoc}
 use Rattle.std.proofs.lemmas.List.{take-append-drop}
-use Rattle.dav_io.specs.Counts.{Rose}
 use Rattle.dav_io.specs.Outside.{Stream}
 use Rattle.dav_io.proofs.ToldLemmas.{both_same, both_map, both_then}
+use Rattle.dav_io.proofs.Rising.{rose_before}
 use Rattle.dav_io.specs.declared.failure.Failed.{Failed}
 use Rattle.dav_io.specs.Appending.{Appended, Appends}
 use Rattle.dav_wire.specs.Writing.{Adds, AddsFront, Pushed, Pushes, Sent, SentAll, SentFront}
@@ -46,10 +46,6 @@ fails old new held bytes later e p = record {
       (λ a b q. (q.0 ++ bytes, (q.1.0, q.1.1, left_more q.1.0 q.0 held bytes q.1.2))) p.told;
 }
 
-rose_later : (a b c : ℕ) → a ≤ b → Rose b c → Rose a c
-rose_later a b c le (inl lt) = inl (omega arith)
-rose_later a b c le (inr top) = inr top
-
 -- all that was held is sent
 nothing_left : (sent none held : List ℕ) → none ≡ [] → sent ++ none ≡ held ++ [] → sent ≡ held
 nothing_left sent none held empty e = sym (append-nil sent) ∙ ap (λ x. sent ++ x) (sym empty) ∙ e ∙ append-nil held
@@ -79,7 +75,7 @@ pub flushes_puts : (old mid new : Stream) (held bytes none : List ℕ) (result :
     → Appends mid bytes result new → Pushes old held bytes result none new
 flushes_puts old mid new held bytes none result p empty q = record {
   counts = let a = p.counts in let b = q.counts in omega arith;
-  failed = λ e. rose_later old.faults mid.faults new.faults p.counts (q.failed e);
+  failed = λ e. rose_before old.faults mid.faults new.faults p.counts (q.failed e);
   dropped = λ e. empty;
   told = both_then old.bytes mid.bytes new.bytes (Pushed held [] (Ok tt) none) (Appended bytes result) (Pushed held bytes result none)
       (λ a b d x y. sent_all held bytes none result a b d empty x y) p.told q.told;
@@ -201,7 +197,7 @@ pub pushes_then : (old mid new : Stream) (held first between second later : List
     → Pushes old held first (Ok tt) between mid → Pushes mid between second result later new → Pushes old held (first ++ second) result later new
 pushes_then old mid new held first between second later result p q = record {
   counts = let a = p.counts in let b = q.counts in omega arith;
-  failed = λ e. rose_later old.faults mid.faults new.faults p.counts (q.failed e);
+  failed = λ e. rose_before old.faults mid.faults new.faults p.counts (q.failed e);
   dropped = q.dropped;
   told = both_then old.bytes mid.bytes new.bytes (Pushed held first (Ok tt) between) (Pushed between second result later) (Pushed held (first ++ second) result later)
       (λ a b d x y. then_pushed held first between second later result a b d x y) p.told q.told;

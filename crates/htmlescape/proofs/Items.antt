@@ -2,7 +2,7 @@
 use Rattle.std.proofs.Common.{◌≡◌, ◌+◌, ℕ, Bool, true, false, cond, not, ◌&&◌, ◌||◌, ◌==◌, nat_lt, List, [], ◌∷◌, ◌++◌, length, take, drop, Option, Some, None, refl, ◌∙◌, ap, arith, append_assoc}
 use Rattle.std.specs.List.{list_any, list_all, prefix_len}
 use Rattle.std.specs.Char.{is_digit}
-use Rattle.std.proofs.lemmas.Bool.{and_parts, false≢true}
+use Rattle.std.proofs.lemmas.Bool.{and_parts, false≢true, not-true}
 use Rattle.std.proofs.lemmas.Bool.Decides.{nat_tests}
 use Rattle.std.proofs.Math.Seq.{take-append_seam, drop-append_seam, drop-length}
 use lib.Utf8.{scalar}
@@ -116,15 +116,11 @@ pub has_end : (name more : List ℕ) → list_any (λ d. d == 59) (name ++ 59 �
 has_end [] more = refl
 has_end (c ∷ name) more = ap (λ b. (c == 59) || b) (has_end name more) ∙ (elim (c == 59) as (λ t. (t || true) ≡ true) [ true ↦ refl | false ↦ refl ])
 
-pub flipped : (b : Bool) → not b ≡ true → b ≡ false
-flipped true e = absurd (false≢true e)
-flipped false e = refl
-
 pub has_none : (name : List ℕ) → list_all (λ d. not (d == 59)) name ≡ true → list_any (λ d. d == 59) name ≡ false
 has_none [] a = refl
 has_none (c ∷ name) a =
     let p = and_parts (not (c == 59)) (list_all (λ d. not (d == 59)) name) a in
-    ap (λ b. b || list_any (λ d. d == 59) name) (flipped (c == 59) p.0) ∙ has_none name p.1
+    ap (λ b. b || list_any (λ d. d == 59) name) (not-true (c == 59) p.0) ∙ has_none name p.1
 
 pub no_end : (name : List ℕ) → begins_name name ≡ true → list_all (λ d. not (d == 59)) name ≡ true
 no_end [] b = absurd (false≢true b)
@@ -135,16 +131,16 @@ entity_of_name [] rest b = absurd (false≢true b)
 entity_of_name (c ∷ cs) rest b =
     let p = and_parts (not (c == 35)) (list_all (λ d. not (d == 59)) (c ∷ cs)) b in
     let q = and_parts (not (c == 59)) (list_all (λ d. not (d == 59)) cs) p.1 in
-    ap (λ t. cond t None (cond (c == 35) (numbered_item (cs ++ rest)) (name_item (c ∷ (cs ++ rest))))) (flipped (c == 59) q.0)
-    ∙ ap (λ t. cond t (numbered_item (cs ++ rest)) (name_item (c ∷ (cs ++ rest)))) (flipped (c == 35) p.0)
+    ap (λ t. cond t None (cond (c == 35) (numbered_item (cs ++ rest)) (name_item (c ∷ (cs ++ rest))))) (not-true (c == 59) q.0)
+    ∙ ap (λ t. cond t (numbered_item (cs ++ rest)) (name_item (c ∷ (cs ++ rest)))) (not-true (c == 35) p.0)
 
 pub fault_of_name : (name rest : List ℕ) → begins_name name ≡ true → entity_fault (name ++ rest) ≡ name_fault (name ++ rest)
 fault_of_name [] rest b = absurd (false≢true b)
 fault_of_name (c ∷ cs) rest b =
     let p = and_parts (not (c == 35)) (list_all (λ d. not (d == 59)) (c ∷ cs)) b in
     let q = and_parts (not (c == 59)) (list_all (λ d. not (d == 59)) cs) p.1 in
-    ap (λ t. cond t UnknownEntity (cond (c == 35) (number_fault (cs ++ rest)) (name_fault (c ∷ (cs ++ rest))))) (flipped (c == 59) q.0)
-    ∙ ap (λ t. cond t (number_fault (cs ++ rest)) (name_fault (c ∷ (cs ++ rest)))) (flipped (c == 35) p.0)
+    ap (λ t. cond t UnknownEntity (cond (c == 35) (number_fault (cs ++ rest)) (name_fault (c ∷ (cs ++ rest))))) (not-true (c == 59) q.0)
+    ∙ ap (λ t. cond t (number_fault (cs ++ rest)) (name_fault (c ∷ (cs ++ rest)))) (not-true (c == 35) p.0)
 
 -- An item of the grammar is found again, whatever follows it.
 digits_of : (base : ℕ) (ds : List ℕ) (c : ℕ) → numbered base ds ≡ Some c → are_digits base ds ≡ true

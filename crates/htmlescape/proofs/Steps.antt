@@ -4,9 +4,10 @@ use lib.Utf8.{scalar, scalar_fits}
 use Rattle.std.specs.List.{list_all}
 use Rattle.std.specs.Char.{is_digit, digit_value, IsScalar}
 use Rattle.std.specs.Str.Parse.{digits_value, digits_value_after}
-use Rattle.std.proofs.lemmas.Bool.{and_parts, cases_lt}
+use Rattle.std.proofs.lemmas.Bool.{and_parts, cases_lt, ne_eqb}
 use Rattle.std.proofs.lemmas.Bool.Decides.{nat_tests, Decides-eqb}
 use Rattle.std.proofs.lemmas.List.Folds.{list_all-append}
+use Rattle.std.proofs.Math.Bool.{and-false}
 use Rattle.htmlescape.specs.Names.{named}
 use Rattle.htmlescape.specs.Grammar.{Item, Plain, Name, Decimal, Hexadecimal, meaning, numbered, are_digits, number_end, digits_fault, number_fault, entity_fault, fault_at}
 use Rattle.htmlescape.specs.Running.{Faulty, Judged, KeepsNumber, Stepped, begins_name}
@@ -17,11 +18,8 @@ use Rattle.htmlescape.specs.declared.state.Step.TheVariants.{More, Whole, Fault}
 use Rattle.htmlescape.proofs.Known.{named_scalar, lost_long, lost_wide}
 use Rattle.htmlescape.proofs.Items.{item_at, none_begins, numbered_item, number_item, digits_item, digits_item_is, digits_fault_is, decimal_item, decimal_fault, name_item_is, entity_item, checked, has_end, no_end, entity_of_name, fault_of_name}
 
-differs : (a b : ℕ) → a ≢ b → (a == b) ≡ false
-differs a b n = elim (a == b) as (λ t. (a == b) ≡ t → t ≡ false) [ true ↦ λ e. absurd (n ((Decides-eqb a b).0 e)) | false ↦ λ e. refl ] refl
-
 pub text_item : (c : ℕ) → c ≢ 38 → IsScalar c → Stepped (c ∷ []) (Whole c)
-text_item c n s = (s, Plain c, refl, ap (λ b. cond b None (Some c)) (differs c 38 n))
+text_item c n s = (s, Plain c, refl, ap (λ b. cond b None (Some c)) (ne_eqb c 38 n))
 
 pub ampersand_end : Faulty UnknownEntity (38 ∷ 59 ∷ [])
 unfolding item_at fault_at
@@ -58,7 +56,7 @@ malformed base c more = elim (c == 59) as (λ t. cond ((t && false) && nat_lt (d
 pub hash_none : (c : ℕ) → c ≢ 120 → (digit_value c < 10 → ⊥) → Faulty MalformedNumEscape (38 ∷ 35 ∷ c ∷ [])
 unfolding item_at fault_at
 hash_none c n d =
-    let x = differs c 120 n in
+    let x = ne_eqb c 120 n in
     let stop = no_digit c 10 d in
     record {
       none = λ more. none_begins (38 ∷ 35 ∷ c ∷ more) (
@@ -137,16 +135,12 @@ pub record Judges (base : ℕ) (make : List ℕ → Item) (ds : List ℕ) (c : �
 
 not_end : (base : ℕ) (make : List ℕ → Item) (ds : List ℕ) (c : ℕ) → c ≢ 59 → Judges base make ds c MalformedNumEscape
 not_end base make ds c n =
-    let e = differs c 59 n in
+    let e = ne_eqb c 59 n in
     record {
       none = λ more. ap (λ t. cond t (checked (make ds) more (meaning (make ds))) None) e;
       kind = λ more. ap (λ t. cond ((t && nat_lt 0 (length ds)) && nat_lt (digits_value base ds) 4294967296) InvalidCharacter MalformedNumEscape) e;
       met = λ m. cc;
     }
-
-last_false : (b : Bool) → (b && false) ≡ false
-last_false true = refl
-last_false false = refl
 
 too_great : (base : ℕ) (make : List ℕ → Item) (ds : List ℕ) (c value : ℕ) → meaning (make ds) ≡ numbered base ds → KeepsNumber base value ds
     → 4294967296 ≤ value
@@ -158,7 +152,7 @@ too_great base make ds c value same k h =
     record {
       none = λ more. either (c == 59) (make ds) more (meaning (make ds)) (same ∙ no_number base ds (not_scalar (digits_value base ds) great));
       kind = λ more. ap (λ t. cond ((c == 59 && nat_lt 0 (length ds)) && t) InvalidCharacter MalformedNumEscape) over
-          ∙ ap (λ t. cond t InvalidCharacter MalformedNumEscape) (last_false (c == 59 && nat_lt 0 (length ds)));
+          ∙ ap (λ t. cond t InvalidCharacter MalformedNumEscape) (and-false (c == 59 && nat_lt 0 (length ds)));
       met = λ m. cc;
     }
 

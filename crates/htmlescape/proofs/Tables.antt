@@ -2,8 +2,7 @@
 use Rattle.std.proofs.Common.{◌≡◌, ℕ, ◌+◌, ◌<◌, Bool, true, false, cond, ◌&&◌, List, [], ◌∷◌, length, refl, sym, ◌∙◌, ap, inl, inr, Option, Some, None, Err, bytes_eq, arith, nat_eq, map, get_or, zero, suc}
 use Rattle.std.specs.Map.{lookup}
 use Rattle.std.specs.Ordering.{nat_cmp, is_lt, is_eq, ordering_reverse}
-use Rattle.std.specs.declared.cmp.Ordering.{Ordering}
-use Rattle.std.specs.declared.cmp.Ordering.TheVariants.{Less, Equal, Greater}
+use Rattle.std.specs.declared.cmp.Ordering.TheVariants.{Less, Equal}
 use Rattle.std.specs.Cmp.Lexicographic.{slice_cmp}
 use Rattle.std.specs.List.{list_all, AllByRecursion}
 use Rattle.std.specs.List.Sorted.{IsStrictlySortedBy, IsBinarySearchResult, IsSortedBy}
@@ -15,6 +14,7 @@ use Rattle.std.proofs.lemmas.List.{get_or-map, length-map}
 use Rattle.std.proofs.lemmas.List.Sorted.{searchable_from_sorted}
 use Rattle.std.proofs.lemmas.Map.Keys.{Less-from_sorted}
 use Rattle.std.proofs.lemmas.Bool.Decides.{Decides-eqb}
+use Rattle.dav_io.proofs.Cases.{less_is}
 use Rattle.htmlescape.specs.Names.{entities, latin, symbols, special, named}
 use Rattle.htmlescape.specs.Table.{table, names, minimal_table}
 use Rattle.htmlescape.specs.Escapes.{minimal_entity}
@@ -44,15 +44,10 @@ entities_within : within entities table ≡ true
 unfolding table entities latin symbols special
 entities_within = refl
 
-less : (o : Ordering) → is_lt o ≡ true → o ≡ Less
-less Less e = refl
-less Equal e = absurd (false≢true e)
-less Greater e = absurd (false≢true e)
-
 all_below : (x : List ℕ) (ys : List (List ℕ)) → list_all (λ y. is_lt (slice_cmp nat_cmp x y)) ys ≡ true
     → AllByRecursion (λ y. slice_cmp nat_cmp x y ≡ Less) ys
 all_below x [] e = tt
-all_below x (y ∷ ys) e = let p = and_parts _ _ e in (less _ p.0, all_below x ys p.1)
+all_below x (y ∷ ys) e = let p = and_parts _ _ e in (less_is _ p.0, all_below x ys p.1)
 
 sorted : (xs : List (List ℕ)) → ascend xs ≡ true → IsStrictlySortedBy (slice_cmp nat_cmp) xs
 unfolding IsStrictlySortedBy

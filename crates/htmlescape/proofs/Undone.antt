@@ -5,8 +5,8 @@ use Rattle.std.specs.List.{flat_map, list_all}
 use Rattle.std.specs.Fmt.{digit_glyph}
 use Rattle.std.specs.Char.{is_digit, digit_value}
 use Rattle.std.specs.Str.Parse.{digits_value}
-use Rattle.std.proofs.lemmas.Bool.{and_parts, cases_lt}
-use Rattle.std.proofs.lemmas.Bool.Decides.{nat_tests, Decides-eqb}
+use Rattle.std.proofs.lemmas.Bool.{and_parts, cases_lt, eqb-true}
+use Rattle.std.proofs.lemmas.Bool.Decides.{nat_tests}
 use Rattle.std.proofs.lemmas.List.Folds.{list_all-append}
 use Rattle.htmlescape.specs.declared.alphabet.Alphabet.{Alphabet}
 use Rattle.htmlescape.specs.declared.alphabet.Alphabet.TheVariants.{Minimal, Attribute}
@@ -23,9 +23,6 @@ pick P false x y p q = q refl
 pick_text : (P : List ℕ → Type 0) (b : Bool) (x y : List ℕ) → (b ≡ true → P x) → (b ≡ false → P y) → P (cond b x y)
 pick_text P true x y p q = p refl
 pick_text P false x y p q = q refl
-
-is_char : (c n : ℕ) → (c == n) ≡ true → c ≡ n
-is_char c n e = (Decides-eqb c n).0 e
 
 -- Every character passes.
 passes_all : (p : ℕ → Bool) (a : Alphabet) → ((c : ℕ) → list_all p (escaped a c) ≡ true) → (text : List ℕ) → list_all p (encoded a text) ≡ true
@@ -120,7 +117,7 @@ abbrev Undoes : ℕ → List ℕ → Type 0
 Undoes c text = (item : Item) × (spelled item ≡ text) × (meaning item ≡ Some c)
 
 found : (name : List ℕ) (c n : ℕ) → named name ≡ Some n → (c == n) ≡ true → Undoes c (38 ∷ (name ++ 59 ∷ []))
-found name c n e h = (Name name, refl, e ∙ ap (λ (m : ℕ). Some m) (sym (is_char c n h)))
+found name c n e h = (Name name, refl, e ∙ ap (λ (m : ℕ). Some m) (sym (eqb-true c n h)))
 
 quot_is : named (codes "quot") ≡ Some 34
 unfolding named entities latin symbols special
@@ -166,7 +163,7 @@ hex_is c h s =
     )
 
 apostrophe_is : (c : ℕ) → (c == 39) ≡ true → Undoes c (codes "&#x27;")
-apostrophe_is c e = (Hexadecimal (50 ∷ 55 ∷ []), refl, ap (λ (m : ℕ). Some m) (sym (is_char c 39 e)))
+apostrophe_is c e = (Hexadecimal (50 ∷ 55 ∷ []), refl, ap (λ (m : ℕ). Some m) (sym (eqb-true c 39 e)))
 
 other_is : (a : Alphabet) (c : ℕ) → scalar c ≡ true → (c == 38) ≡ false → Undoes c (other a c)
 other_is Minimal c s e = plain_is c e

@@ -1,6 +1,7 @@
 use Rattle.std.proofs.Common.{sym, subst, length, ap, ◌∙◌, ◌<◌, ◌≤◌}
 use Rattle.std.specs.Str.{all_ascii_digits}
-use Rattle.dav_fetch.proofs.Digits.{digits_text, not_refused}
+use Rattle.dav_io.proofs.Digits.{digits_text}
+use Rattle.dav_fetch.proofs.Digits.{not_refused}
 use Rattle.dav_fetch.proofs.judging.parsed.Goals as goal
 
 pub returns-in-Err-parse : goal.returns-in-Err-parse

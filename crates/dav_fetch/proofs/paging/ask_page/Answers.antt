@@ -1,6 +1,6 @@
 use Rattle.std.proofs.Common.{◌≡◌, ◌∙◌, ◌<◌, ◌≤◌, ◌++◌, ℕ, List, length, take, Ok, [], inr, refl, sym, ap, subst, rules, arith}
 use Rattle.std.proofs.lemmas.List.{take_all}
-use Rattle.dav_page.proofs.Found.{some_is}
+use Rattle.dav_io.proofs.Cases.{if_some}
 use Rattle.dav_fetch.specs.Asking.{dir_path}
 use Rattle.dav_fetch.specs.Reading.{IsOver, ReadOn}
 use Rattle.dav_fetch.specs.Walk.{IsFoundIn}
@@ -20,7 +20,7 @@ returns-in-Ok-Some-clause-ok g c =
     let same : c.read_up_to.new.into.items ≡ r.0 = page_is r.0 c.read_up_to.new.into.items _ r.1.ends.2 (r.2 ∙ ap (λ z. z ++ take 16777217 r.0) c.new-page.ensures.items) in (
       visit_of _ _ c.args.dir.now c.empty-fields.result c.in-Ok-get.got c.in-Ok-get.ensures.gets r.0,
       visited _ _ _ _ _ _ c.in-Ok-get.ensures.gets r.0 (page_askable c.args.dir.now.names c.args.dir.now c.empty-fields.result c.requires.dir c.requires.is c.empty-fields.ensures) (subst (ReadOn (g.P.Peer.state c.get.new.self) r.0) (sym r.1.ends.0) r.1.read),
-      record { path = c.requires.dir; asked = c.empty-fields.ensures; status = search rules; fits = few r.0 r.1.ends.2; found = subst (λ p. IsFoundIn c.args.dir.now.names p c.in-Ok-Some.found.items) (c.deref.ensures.value ∙ same) (some_is _ _ _ c.in-Ok-Some.field-0-is c.in-Ok-Some.ensures.some) },
+      record { path = c.requires.dir; asked = c.empty-fields.ensures; status = search rules; fits = few r.0 r.1.ends.2; found = subst (λ p. IsFoundIn c.args.dir.now.names p c.in-Ok-Some.found.items) (c.deref.ensures.value ∙ same) (if_some _ _ _ c.in-Ok-Some.field-0-is c.in-Ok-Some.ensures.some) },
       subst IsOver (sym r.1.ends.0) r.1.ends.1,
     )
 

@@ -1,7 +1,7 @@
 use Rattle.std.proofs.Common.{◌≡◌, ◌∙◌, sym, ap, subst, rules}
 use Rattle.std.specs.List.{AllZip}
 use Rattle.std.proofs.lemmas.Str.{IsUtf8-from_is_utf8}
-use Rattle.dav_page.proofs.Found.{some_is}
+use Rattle.dav_io.proofs.Cases.{if_some}
 use Rattle.dav_page.proofs.PageOnce.{page_once}
 use Rattle.dav_page.specs.Pages.{Page, IsPage}
 use Rattle.dav_fetch.specs.Walk.{IsFound}
@@ -16,7 +16,7 @@ returns-in_default-2-clause-none c e found is =
 
 pub returns-clause-none : goal.returns-clause-none
 returns-clause-none c e found is =
-    let (p, page, same) = some_is _ _ _ c.in-Some.is c.in_ok-rows.ensures.some in
+    let (p, page, same) = if_some _ _ _ c.in-Some.is c.in_ok-rows.ensures.some in
     let once = page_once c.in-Ok.text.now p is.page page (subst (λ t. IsPage t is.page) (sym c.in-Ok.ensures.cases.0) is.is) in
     let rows : c.as_slice.result.now ≡ c.in-Some.rows = search rules in
     c.all_found.ensures.none e found (subst (λ r. AllZip (IsFound c.args.dir.now.names) r found) (sym (rows ∙ same ∙ ap (λ (x : Page). x.rows) once)) is.rows)

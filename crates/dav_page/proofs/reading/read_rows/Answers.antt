@@ -1,7 +1,7 @@
 use Rattle.std.proofs.Common.{Ok, ap, rules}
+use Rattle.dav_io.proofs.Cases.{if_some}
 use Rattle.dav_page.specs.Cuts.{row_texts}
 use Rattle.dav_page.specs.Pages.{IsRow}
-use Rattle.dav_page.proofs.Found.{some_is}
 use Rattle.dav_page.proofs.Reader.{at_end, not_end, rows_found, rows_step, rows_stop, rows_wrong}
 use Rattle.dav_page.proofs.reading.read_rows.Goals as goal
 
@@ -21,7 +21,7 @@ rows-preserved c = (
   rw c.in_ok-push.ensures.items
       (rows_step c.args.whole.now c.rows.left.now c.in-Some.behind.now c.rows.rows.items (row_texts c.in-Some.cut) c.in-Some-2.row c.rows.invariant.0
       c.in-Some.ensures.some (not_end c.rows.left.now c.is_end.result c.is_end.ensures c.rows-test.true)
-      (some_is (IsRow (row_texts c.in-Some.cut)) _ _ c.in-Some-2.is c.in_ok-row.ensures.some)),
+      (if_some (IsRow (row_texts c.in-Some.cut)) _ _ c.in-Some-2.is c.in_ok-row.ensures.some)),
   search rules,
 )
 

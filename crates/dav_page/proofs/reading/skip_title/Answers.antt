@@ -1,7 +1,7 @@
 use Rattle.std.proofs.Common.{Ok, ◌++◌, ap}
+use Rattle.dav_io.proofs.Cases.{if_some}
 use Rattle.dav_page.specs.Cuts.{Spells}
 use Rattle.dav_page.specs.Pages.{before_heading}
-use Rattle.dav_page.proofs.Found.{some_is}
 use Rattle.dav_page.proofs.PageOnce.{title_between}
 use Rattle.dav_page.proofs.Reader.{title_found, title_is, title_wrong}
 use Rattle.dav_page.proofs.reading.skip_title.Goals as goal
@@ -23,4 +23,4 @@ returns-in_default-2-clause-none c = λ e rest h.
 pub returns-clause-some : goal.returns-clause-some
 returns-clause-some c =
     title_found c.args.page.now c.in-Some.title.now c.in-Some.rest.now c.in-Some-expect.behind.now c.in-Some-2._title c.in-Some.ensures.some
-    c.in-Some-expect.ensures.some (some_is (Spells c.in-Some.title.now) _ _ c.in-Some-2.is c.in_ok-_title.ensures.some)
+    c.in-Some-expect.ensures.some (if_some (Spells c.in-Some.title.now) _ _ c.in-Some-2.is c.in_ok-_title.ensures.some)
