@@ -1,5 +1,5 @@
 -- Worked plans of COPY and MOVE.
-use Rattle.std.specs.Prelude.{◌≡◌, ℕ, List, [], ◌∷◌, codes, pos, Bool, true, false, None, Some, Ok, Err, refl}
+use Rattle.std.specs.Prelude.{◌≡◌, ℕ, List, [], ◌∷◌, ◌++◌, codes, pos, Bool, true, false, None, Some, Ok, Err, refl}
 use Rattle.dav_core.specs.declared.dav_error.DavError.TheVariants.{Path}
 use Rattle.dav_core.specs.declared.parse_error.ParseError.TheVariants.{PrefixMismatch}
 use Rattle.dav_core.specs.declared.method.DavMethod.TheVariants.{Copy}
@@ -11,7 +11,7 @@ use Rattle.dav_core.specs.Edits.{makes, moves, takes}
 use Rattle.dav_core.specs.Path.{Names}
 use Rattle.dav_core.specs.World.{World, put}
 use Rattle.dav_model.specs.declared.asked.Asked.{Asked}
-use Rattle.dav_model.specs.CarryPlans.{carry_plan}
+use Rattle.dav_model.specs.CarryPlans.{carry_plan, moves_in}
 use Rattle.dav_model.specs.Plans.{Plan, does, halts, line}
 use Rattle.dav_model.specs.Rules.{plain_rules}
 use Rattle.dav_model.specs.Unset.{nothing_set}
@@ -90,3 +90,43 @@ moves_new = refl
 elsewhere : (carry_plan (plain_rules nothing_set) w (record { method = Copy; path = at (codes "s" ∷ []) false; fields = []; body = [] }) (Err (Path PrefixMismatch))).acts
     ≡ halts (line 404) ∷ []
 elsewhere = refl
+
+-- ---- over one file that is served alone
+
+-- by the place of the file
+abbrev over_one : Names → Asked → Plan
+over_one file asked =
+    carry_plan (record (plain_rules nothing_set) { alone = Some file }) w (record { method = Copy; path = at (codes "x" ∷ []) false; fields = []; body = [] }) (Ok asked)
+
+-- The file stands, and no directory above what is asked for.
+one_file : (over_one (codes "f" ∷ []) (asks true (codes "n" ∷ []) true false)).acts ≡ halts (line 409) ∷ []
+one_file = refl
+
+-- A directory without members came in its place. It goes, and what is to be moved went with it.
+moves_one : (over_one (codes "s" ∷ codes "b" ∷ []) (asks true (codes "n" ∷ []) true false)).acts
+    ≡ does (takes (codes "s" ∷ codes "b" ∷ [])) ∷ halts (line 404) ∷ []
+moves_one = refl
+
+copies_one : over_one (codes "s" ∷ codes "b" ∷ []) (asks false (codes "n" ∷ []) true false)
+    ≡ record {
+      acts = does (takes (codes "s" ∷ codes "b" ∷ [])) ∷ does (makes (codes "s" ∷ codes "b" ∷ []) Dir []) ∷ [];
+      done = 204;
+    }
+copies_one = refl
+
+-- ---- a directory is moved to where a file stands that no look shows
+
+abbrev hidden : List ℕ
+hidden = codes ".localized"
+
+abbrev with_hidden : List Row
+with_hidden = tree ++ row (hidden ∷ []) File 8 ∷ []
+
+dir_onto : moves_in with_hidden (codes "d" ∷ []) (hidden ∷ []) ≡ does (takes (hidden ∷ [])) ∷ does (moves (codes "d" ∷ []) (hidden ∷ [])) ∷ []
+dir_onto = refl
+
+file_onto : moves_in with_hidden (codes "f" ∷ []) (hidden ∷ []) ≡ does (moves (codes "f" ∷ []) (hidden ∷ [])) ∷ []
+file_onto = refl
+
+dir_into : moves_in with_hidden (codes "d" ∷ []) (codes "s" ∷ codes "n" ∷ []) ≡ does (moves (codes "d" ∷ []) (codes "s" ∷ codes "n" ∷ [])) ∷ []
+dir_into = refl
