@@ -139,10 +139,9 @@ MakesAs Copy rules ask = CarriesIn rules false ask
 MakesAs Move rules ask = CarriesIn rules true ask
 MakesAs other rules ask = MakesIn rules ask
 
--- The rules under which it is said what a method makes: of COPY, MOVE and DELETE but over one file that is served alone,
--- and of the others under all rules.
+-- The rules under which it is said what a method makes: of COPY and MOVE but over one file that is served alone, and of
+-- the others under all rules.
 abbrev pub IsSaidUnder : DavMethod → Rules → Type 0
-IsSaidUnder Delete rules = rules.alone ≡ None
 IsSaidUnder Copy rules = rules.alone ≡ None
 IsSaidUnder Move rules = rules.alone ≡ None
 IsSaidUnder other rules = Unit {0}
