@@ -1,5 +1,5 @@
--- Worked plans of DELETE under the rules for macOS.
-use Rattle.std.specs.Prelude.{◌≡◌, ℕ, List, [], ◌∷◌, codes, pos, Bool, true, false, None, refl}
+-- Worked plans of DELETE under the rules for macOS, and over one file that is served alone.
+use Rattle.std.specs.Prelude.{◌≡◌, ℕ, List, [], ◌∷◌, codes, pos, Bool, true, false, None, Some, refl}
 use Rattle.dav_core.specs.declared.method.DavMethod.TheVariants.{Delete}
 use Rattle.dav_core.specs.declared.tree.Kind.{Kind}
 use Rattle.dav_core.specs.declared.tree.Kind.TheVariants.{Dir, File}
@@ -52,3 +52,34 @@ without_rules = refl
 -- As asked, neither is found.
 hides_it : (planned true (codes "d" ∷ hidden ∷ [])).acts ≡ halts (line 404) ∷ []
 hides_it = refl
+
+-- ---- over one file that is served alone
+
+abbrev planned_alone : Bool → Names → Names → Bool → Plan
+planned_alone macos file names slash = plan (record (plain_rules nothing_set) { macos = macos; alone = Some file }) w
+    (record { method = Delete; path = record { prefix = []; names = names; slash = slash }; fields = []; body = [] })
+
+-- The file goes, at whatever path it is asked for.
+takes_one : (planned_alone false (codes "d" ∷ codes "z" ∷ []) (codes "x" ∷ []) true).acts ≡ does (takes (codes "d" ∷ codes "z" ∷ [])) ∷ []
+takes_one = refl
+
+-- It is gone.
+finds_none : (planned_alone false (codes "d" ∷ codes "f" ∷ []) (codes "x" ∷ []) false).acts ≡ halts (line 404) ∷ []
+finds_none = refl
+
+-- A directory came in its place: without members it goes, with members nothing goes.
+takes_empty : (planned_alone false (codes "e" ∷ hidden ∷ []) (codes "x" ∷ codes "y" ∷ []) false).acts ≡ does (takes (codes "e" ∷ hidden ∷ [])) ∷ []
+takes_empty = refl
+
+keeps_full : (planned_alone false (codes "d" ∷ []) (codes "x" ∷ []) false).acts ≡ halts (line 403) ∷ []
+keeps_full = refl
+
+-- The root is asked for, or a file by a name that clients of macOS may not use; or the file itself has such a name.
+keeps_root : (planned_alone false (codes "d" ∷ codes "z" ∷ []) [] true).acts ≡ halts (line 403) ∷ []
+keeps_root = refl
+
+keeps_named : (planned_alone true (codes "d" ∷ codes "z" ∷ []) (codes "x" ∷ hidden ∷ []) false).acts ≡ halts (line 403) ∷ []
+keeps_named = refl
+
+hides_one : (planned_alone true (codes "d" ∷ hidden ∷ []) (codes "x" ∷ []) false).acts ≡ halts (line 404) ∷ []
+hides_one = refl

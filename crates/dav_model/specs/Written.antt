@@ -146,10 +146,8 @@ MakesAs Copy rules ask = CarriesIn rules false ask
 MakesAs Move rules ask = CarriesIn rules true ask
 MakesAs other rules ask = MakesIn rules ask
 
--- The rules under which it is said what a method makes: of DELETE but over one file that is served alone, and of the
--- others under all rules.
+-- The rules under which it is said what a method makes: all.
 abbrev pub IsSaidUnder : DavMethod → Rules → Type 0
-IsSaidUnder Delete rules = rules.alone ≡ None
 IsSaidUnder other rules = Unit {0}
 
 -- Only a request that writes changes what stands. What it makes is said of each world of a valid run, with what the
