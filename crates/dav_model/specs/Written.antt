@@ -1,5 +1,5 @@
 -- What a request that writes makes of a world, by its plan, and what it is answered.
-use Rattle.std.specs.Prelude.{◌≡◌, ◌==◌, ◌⊎◌, ℕ, Bool, true, false, List, [], ◌∷◌, codes, cond, None, Result, Ok, Err}
+use Rattle.std.specs.Prelude.{◌≡◌, ◌==◌, ◌⊎◌, ℕ, Bool, true, false, List, [], ◌∷◌, codes, cond, Result, Ok, Err}
 use Rattle.dav_io.specs.Counts.{Rose}
 use Rattle.dav_io.specs.Told.{Both}
 use Rattle.dav_io.specs.declared.failure.NoMemory.{NoMemory}
@@ -146,15 +146,10 @@ MakesAs Copy rules ask = CarriesIn rules false ask
 MakesAs Move rules ask = CarriesIn rules true ask
 MakesAs other rules ask = MakesIn rules ask
 
--- The rules under which it is said what a method makes: all.
-abbrev pub IsSaidUnder : DavMethod → Rules → Type 0
-IsSaidUnder other rules = Unit {0}
-
 -- Only a request that writes changes what stands. What it makes is said of each world of a valid run, with what the
 -- memory knew before it.
 abbrev pub Makes : Target → Rules → Knowledge → Fields → List ℕ → Result Reply NoMemory → Point → Point → Type 0
-Makes (Writes method path) rules k fields body result s t = IsSaidUnder method rules
-    → Both s.told t.told (λ v w. IsRegular rules k v
+Makes (Writes method path) rules k fields body result s t = Both s.told t.told (λ v w. IsRegular rules k v
     → MakesAs method rules (ask_of method path fields body) result (Rose s.faults t.faults) v w)
 Makes (At method path) rules k fields body result s t = Leaves s t
 Makes Methods rules k fields body result s t = Leaves s t
