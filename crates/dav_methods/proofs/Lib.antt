@@ -30,10 +30,13 @@ mod WorkCovers
 mod ActsJoined
 pub mod ListingsLead
 mod RemovalRun
-pub mod DeleteRight
 mod CallDone
-mod Beside
+mod OneRemoved
+pub mod DeleteRight
+pub mod Beside
 mod FreePlaces
+pub mod TimedRows
+pub mod CarryLooks
 pub mod CarryRight
 pub mod MoveDone
 mod CopyOrder
@@ -45,6 +48,10 @@ mod CopyAsked
 mod CopyRun
 mod CopyHidden
 pub mod CopyActs
+mod OneGone
+mod CarryOne
+mod CopyOne
+pub mod CarriedRight
 pub mod RemovalsListed
 mod Addresses
 mod Overlaps
