@@ -156,7 +156,7 @@ module _ {S C : Type 0} (view : View S C LocalFsFile) (lists : Listings S C Loca
         → IsSaidUnder method rules → RightBy method
     right own follows Put run under = put_follows view lists writes c rules k s follows (ask_of Put path said.fields said.body) refl r t run
     right own follows MkCol run under = mkcol_follows view lists writes c rules k s follows (ask_of MkCol path said.fields said.body) refl r t run
-    right own follows Delete run under = deletes_right view lists writes c rules path said.fields said.body s k follows under r t run
+    right own follows Delete run under = deletes_right view lists writes c rules path said.fields said.body s k follows r t run
     right own follows Copy run under = carried_right view lists writes c false rules (λ asked x same moving. copies_right view lists writes c asked x) k s follows
         under (ask_of Copy path said.fields said.body) r t (subst (λ z. CopiesTo view lists c z path said.fields s r t) own run)
     right own follows Move run under = carried_right view lists writes c true rules (λ asked x same moving. moves_right view lists writes c asked x moving) k s follows

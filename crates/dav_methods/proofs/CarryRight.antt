@@ -332,7 +332,7 @@ module _ {S C F L E : Type 0} (view : View S C F) (lists : Listings S C L E) (wr
       by true false e f =
           let shut : stays x dir ≡ true = ap (λ z. z && not dir) e ∙ ap not f in
           both_map (view.state n).told (view.state m).told _ (Emptying x dir gone m) (λ u w kept. (λ g. kept, λ g. not_both (stays x dir) shut g))
-          (own.stays_told view lists writes c x.rules asked.to x.ask.fields x.ask.body x.s x.knows x.given x.alone (Whole asked.to dir ∷ []) n m gone (ap (λ d. Whole asked.to d ∷ []) f) e reached removes)
+          (own.stays_told view lists writes c x.rules asked.to x.ask.fields x.ask.body x.s x.knows x.given (Whole asked.to dir ∷ []) n m gone (ap (λ d. Whole asked.to d ∷ []) f) e reached removes)
 
   abbrev AfterGone : Carry → Line → World → World → Type 0
   AfterGone x (Ok y) v w = IsWorld w → Cleared x.rules x.ask.path asked.to v w
@@ -387,7 +387,7 @@ module _ {S C F L E : Type 0} (view : View S C F) (lists : Listings S C L E) (wr
           p.regular p.to_clear p.to_below same is (ap (λ z. is_forbidden x.rules asked.to && not z) kind ∙ e)
           (subst (λ d. Removal x (Whole asked.to d ∷ []) gone m u w) (sym kind) (goes.1 e)) in
           let planned : clearing x.rules v asked.to ≡ acts x.rules y (walked v.tree (resolved x.rules v.tree asked.to.names)) =
-          judged false e ∙ (removal_planned x.rules v asked.to y at old ∙ ap (λ z. acts x.rules y (walked v.tree z)) at) in
+          judged false e ∙ (removal_planned x.rules v asked.to y x.alone at old ∙ ap (λ z. acts x.rules y (walked v.tree z)) at) in
           (subst (λ a. Came x gone a m v w) (sym planned) came, finish gone y at old came left)
 
   -- ---- after all looks

@@ -30,8 +30,9 @@ mod WorkCovers
 mod ActsJoined
 pub mod ListingsLead
 mod RemovalRun
-pub mod DeleteRight
 mod CallDone
+mod OneRemoved
+pub mod DeleteRight
 mod Beside
 mod FreePlaces
 pub mod CarryRight

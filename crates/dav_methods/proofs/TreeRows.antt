@@ -202,7 +202,7 @@ pub record DirAt (rows : List Row) (path : Names) : Type 0 where
   pub at : row.path ≡ path
   pub dir : is_dir row.kind ≡ true
 
-dir_at : (rows : List Row) (path : Names) → has_dir rows path ≡ true → DirAt rows path
+pub dir_at : (rows : List Row) (path : Names) → has_dir rows path ≡ true → DirAt rows path
 dir_at rows path e = let (d, at, kind) = dir_row (row_at rows path) e in let t = row_at_in rows path d at in record { row = d; in_tree = t.0; at = t.1; dir = kind }
 
 below_root : (b x y : Bool) → b ≡ false → cond b x y ≡ true → y ≡ true
