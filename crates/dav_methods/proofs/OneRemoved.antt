@@ -152,6 +152,14 @@ begins_in : (path : WebPath) (rows : List Row) (r : Row) (works : List Work) →
 begins_in path [] r works i = absurd i
 begins_in path (x ∷ rows) r works i = tt
 
+-- nothing is to go any more
+pub none_more : {S C F L E : Type 0} (view : View S C F) (lists : Listings S C L E) (c : C) (works : List Work) (a b : S) (line : Line) → works ≡ [] → Removes view lists c works a line b
+    → (b ≡ a) × ((line ≡ Ok tt) ⊎ (line ≡ Err dav.NoMemory))
+none_more view lists c works a b line e (no_work x) = (refl, inl refl)
+none_more view lists c works a b line e (cut_short others x) = (refl, inr refl)
+none_more view lists c works a b line e (goes work others rest x m y l one more) = cc
+none_more view lists c works a b line e (stops work others rest x y d one) = cc
+
 module _ {S C F L E : Type 0} (view : View S C F) (lists : Listings S C L E) (writes : Writes F) (c : C) (rules : Rules) (fields : Fields) (start : S)
     (k : Knowledge) (follows : Follows view lists writes c rules k start) (file : Names) (alone : rules.alone ≡ Some file) where
   abbrev Here : S → Type 0
@@ -207,12 +215,6 @@ module _ {S C F L E : Type 0} (view : View S C F) (lists : Listings S C L E) (wr
 
   -- ---- one call, and nothing more
 
-  none_more : (works : List Work) (a b : S) (line : Line) → works ≡ [] → Removes view lists c works a line b → (b ≡ a) × ((line ≡ Ok tt) ⊎ (line ≡ Err dav.NoMemory))
-  none_more works a b line e (no_work x) = (refl, inl refl)
-  none_more works a b line e (cut_short others x) = (refl, inr refl)
-  none_more works a b line e (goes work others rest x m y l one more) = cc
-  none_more works a b line e (stops work others rest x y d one) = cc
-
   -- a call that does what is allowed in such a world
   abbrev Does : (World → Type 0) → (World → Allowed) → S → Result Unit FsError → S → World → World → Type 0
   Does P allowed m gone n v w = P v → Calls view lists writes c (allowed v) m gone n v w
@@ -224,7 +226,7 @@ module _ {S C F L E : Type 0} (view : View S C F) (lists : Listings S C L E) (wr
   last_done : (P : World → Type 0) (allowed : World → Allowed) (rest : List Work) (m n t : S) (gone : Result Unit FsError) (l : Line) → Here m → Ok tt ≡ line_of gone → rest ≡ []
       → Removes view lists c rest n l t → ToldIn m n (Does P allowed m gone n) → ToldIn m t (CameTo P allowed l t)
   last_done P allowed rest m n t gone l reached ok none more told =
-      let (same, ended) = none_more rest n t l none more in
+      let (same, ended) = none_more view lists c rest n t l none more in
       both_map (view.state m).told (view.state t).told (Does P allowed m gone n) (CameTo P allowed l t)
       (λ v w does p. by v w ended (allowed_comes view lists writes c fields start (allowed v) m n gone v w (follows.counts m reached) (does p)))
       (subst (λ (z : S). Both (view.state m).told (view.state z).told (Does P allowed m gone n)) (sym same) told)
