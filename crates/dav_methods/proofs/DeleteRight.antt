@@ -47,7 +47,7 @@ use Rattle.dav_methods.specs.Removing as own
 use Rattle.dav_methods.specs.Table.{Next, Unless}
 use Rattle.dav_methods.proofs.ActsJoined.{Comes, Halted, act_by, acts_by, comes_after, done_acts, halted_acts, halted_comes, short_comes, spoiled_comes}
 use Rattle.dav_methods.proofs.FoundStill.{found_length}
-use Rattle.dav_methods.proofs.OneRemoved.{Taken, one_acts, one_none, one_removed}
+use Rattle.dav_methods.proofs.OneRemoved.{Taken, none_more, one_acts, one_none, one_removed}
 use Rattle.dav_methods.proofs.RemovalRun.{Case, Ended, Goes, acts, began, deep_in, keeps_file_row, keeps_row, removed, removed_whole, stops_in}
 use Rattle.dav_methods.proofs.RemovalWork.{StandsAs}
 use Rattle.dav_methods.proofs.TreeRows.{at_row, in_filter, not_both, only_row, parts_of, row_at_in}
@@ -356,12 +356,6 @@ module _ {S C F L E : Type 0} (view : View S C F) (lists : Listings S C L E) (wr
 
   -- ---- a file that stays by its name
 
-  none_more : (works : List Work) (a b : S) (line : Line) → works ≡ [] → Removes view lists c works a line b → (b ≡ a) × ((line ≡ Ok tt) ⊎ (line ≡ Err dav.NoMemory))
-  none_more works a b line e (no_work x) = (refl, inl refl)
-  none_more works a b line e (cut_short others x) = (refl, inr refl)
-  none_more works a b line e (goes work others rest x m y l one more) = cc
-  none_more works a b line e (stops work others rest x y d one) = cc
-
   -- what the removal of such a file comes to: it is refused
   abbrev pub Stays : Line → World → World → Type 0
   Stays all u w = SameBesidesOpens u w × ((all ≡ Err dav.NoMemory) ⊎ (all ≡ Err (of_fs fs.Forbidden)))
@@ -384,7 +378,7 @@ module _ {S C F L E : Type 0} (view : View S C F) (lists : Listings S C L E) (wr
         where
           on : RemovesOne view lists c (Whole path false) others x (Ok tt) n rest → ToldIn x y (Stays l)
           on (gone, call, ok, e) =
-              let (same, ended) = none_more rest n y l (e ∙ none) more in
+              let (same, ended) = none_more view lists c rest n y l (e ∙ none) more in
               both_map (view.state x).told (view.state y).told (Removal x gone n) (Stays l)
               (λ v w calls. absurd (let refused = (calls.refused (shut_or (has_slash rules.alone path) shut)).0 in let f : Ok tt ≡ line_of (Err fs.Forbidden) = ok ∙ ap line_of refused in cc))
               (subst (λ (z : S). Both (view.state x).told (view.state z).told (Removal x gone n)) (sym same) (follows.removes_file x n path gone reached call))
