@@ -147,7 +147,7 @@ moves_none reply left (inl (inr (failed, rose, part))) = absurd rose
 moves_none reply left (inr (over, is, same)) = cc
 
 copies_silently : (reply : Reply) (left : World) → carried (codes "s" ∷ codes "b" ∷ []) (asks false (codes "n" ∷ []) true false) reply left → reply ≡ silent
-copies_silently reply left (inl (inl (m, edited, ended))) = ended.2
+copies_silently reply left (inl (inl (m, edited, ended))) = ended.2.0
 copies_silently reply left (inl (inr (failed, rose, part))) = absurd rose
 copies_silently reply left (inr (over, is, same)) = cc
 
