@@ -24,7 +24,7 @@ use Rattle.dav_model.specs.Rules.{Rules}
 use Rattle.dav_methods.specs.Follows.{Calls, IfBothFound, MovesBy, Told, UnlessShut}
 use Rattle.dav_methods.specs.Pouring.{Writes}
 use Rattle.dav_methods.proofs.Beside.{unlinked_from}
-use Rattle.dav_methods.proofs.TimedRows.{back_taken}
+use Rattle.dav_methods.proofs.RemovalWork.{back_taken}
 use Rattle.dav_cache.specs.Memory.{MemoryState}
 use Rattle.dav_local.specs.declared.entry.LocalFsDirEntry.{LocalFsDirEntry}
 use Rattle.dav_local.specs.declared.file.LocalFsFile.{LocalFsFile}

@@ -21,7 +21,7 @@ pub mod PutFollows
 pub mod OpenedFile
 pub mod WalkOrder
 pub mod TreeRows
-mod RemovalWork
+pub mod RemovalWork
 mod ApartKept
 mod FoundStill
 mod PlaceCleared
@@ -35,10 +35,10 @@ mod OneRemoved
 pub mod DeleteRight
 pub mod Beside
 mod FreePlaces
-pub mod TimedRows
-pub mod CarryLooks
-pub mod CarryRight
-pub mod MoveDone
+mod TimedRows
+mod CarryLooks
+mod CarryRight
+mod MoveDone
 mod CopyOrder
 mod CopyPlaces
 mod CopyCovers
@@ -47,7 +47,7 @@ mod CopyReady
 mod CopyAsked
 mod CopyRun
 mod CopyHidden
-pub mod CopyActs
+mod CopyActs
 mod OneGone
 mod CarryOne
 mod CopyOne

@@ -44,8 +44,8 @@ use Rattle.dav_methods.proofs.DeleteRight.{Found, found_at, look_there, seen_sto
 use Rattle.dav_methods.proofs.EditsJoined.{taken_after}
 use Rattle.dav_methods.proofs.FreePlaces.{last_parted, moving_free, none_at, none_of_free, row_place}
 use Rattle.dav_methods.proofs.PlaceCleared.{Gone, Lacks, apart_places, dir_now, free_now, lacks_beside, lacks_without, link_now, place_length, place_now, source_found}
-use Rattle.dav_methods.proofs.RemovalWork.{some_names}
-use Rattle.dav_methods.proofs.TimedRows.{parts_taken, taken_free}
+use Rattle.dav_methods.proofs.RemovalWork.{some_names, taken_free}
+use Rattle.dav_methods.proofs.TimedRows.{parts_taken}
 use Rattle.dav_methods.proofs.TreeRows.{DirAt, Parts, above, at_row, false_or, front_itself, look_row, not_both, not_true, parent_length, parts_of, row_at_in, same_yes}
 use Rattle.dav_methods.proofs.WalkOrder.{In}
 

@@ -19,8 +19,7 @@ use Rattle.dav_methods.proofs.ApartKept.{takes_apart}
 use Rattle.dav_methods.proofs.Beside.{front_up, not_in_parent, parts_without, unlinked_from}
 use Rattle.dav_methods.proofs.CopyPlaces.{is_like, only_like}
 use Rattle.dav_methods.proofs.FreePlaces.{Free, last_parted, making_free, none_at, none_of_free}
-use Rattle.dav_methods.proofs.RemovalWork.{not_false}
-use Rattle.dav_methods.proofs.TimedRows.{back_taken, taken_free, up_taken}
+use Rattle.dav_methods.proofs.RemovalWork.{back_taken, not_false, taken_free, up_taken}
 use Rattle.dav_methods.proofs.TreeRows.{DirAt, Parts, above, at_row, below_dir, false_or, filter_in, front_itself, front_of, in_filter, longer, look_row, not_both, not_true, parent_length, parts_of}
 use Rattle.dav_methods.proofs.WalkOrder.{In}
 

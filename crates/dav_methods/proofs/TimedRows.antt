@@ -1,17 +1,16 @@
 -- Rows of which some have other times are a tree where they were one. So they are where what stood at a path went.
-use Rattle.std.proofs.Common.{◌≡◌, ◌<◌, ◌==◌, List, [], ◌∷◌, length, map, Bool, true, false, not, cond, Option, None, Some, refl, sym, ap, subst, ◌∙◌}
+use Rattle.std.proofs.Common.{◌≡◌, ◌<◌, ◌==◌, List, [], ◌∷◌, length, map, Bool, true, false, cond, Option, None, Some, refl, sym, ap, subst, ◌∙◌}
 use Rattle.std.specs.Option.{option_map}
 use Rattle.dav_core.specs.declared.tree.Row.{Row}
 use Rattle.dav_core.specs.Changes.{timed_row, without}
 use Rattle.dav_core.specs.Edits.{Edited, takes}
-use Rattle.dav_core.specs.Path.{Names, is_front, parent_of, same_names}
+use Rattle.dav_core.specs.Path.{Names, parent_of, same_names}
 use Rattle.dav_core.specs.Tree.{has_dir, is_dir, is_dir_row, is_placed, row_at}
 use Rattle.dav_core.specs.World.{World}
 use Rattle.dav_methods.proofs.Beside.{parts_without}
-use Rattle.dav_methods.proofs.FreePlaces.{Free}
-use Rattle.dav_methods.proofs.RemovalWork.{in_map, map_in, not_false, timed_kind, timed_path}
-use Rattle.dav_methods.proofs.TreeRows.{Parts, all_at, all_in, filter_in, in_filter, not_true}
-use Rattle.dav_methods.proofs.WalkOrder.{In, Once, paths}
+use Rattle.dav_methods.proofs.RemovalWork.{in_map, timed_kind, timed_path}
+use Rattle.dav_methods.proofs.TreeRows.{Parts, all_at, all_in}
+use Rattle.dav_methods.proofs.WalkOrder.{Once, paths}
 
 module _ (h : Row → Row) (path : (r : Row) → (h r).path ≡ r.path) (kind : (r : Row) → (h r).kind ≡ r.kind) where
   at_map : (rows : List Row) (p : Names) → row_at (map h rows) p ≡ option_map h (row_at rows p)
@@ -54,28 +53,3 @@ parts_taken p v u some parts (t, new, is) =
     subst Parts (sym is.tree)
     (parts_map (timed_row (parent_of p) t) (λ r. timed_path (same_names (parent_of p) r.path) (parent_of p) t r refl) (λ r. timed_kind (same_names (parent_of p) r.path) (parent_of p) t r refl)
     (without p v.tree) (parts_without p v.tree some parts))
-
-pub taken_free : (p : Names) (v u : World) → Edited (takes p) v u → Free p u.tree
-taken_free p v u (t, new, is) r i =
-    let (x, j, same) = in_map (timed_row (parent_of p) t) (without p v.tree) r (subst (In r) is.tree i) in
-    let (k, kept) = in_filter (λ row. not (is_front p row.path)) v.tree x j in
-    subst (λ q. is_front p q ≡ false) (sym (ap (λ (y : Row). y.path) same ∙ timed_path (same_names (parent_of p) x.path) (parent_of p) t x refl)) (not_true (is_front p x.path) kept)
-
--- what is left stood, and what stood beside is left
-pub back_taken : (p : Names) (v u : World) → Edited (takes p) v u → (r : Row) → In r u.tree → (o : Row) × In o v.tree × (o.path ≡ r.path) × (o.kind ≡ r.kind)
-back_taken p v u (t, new, is) r i =
-    let (x, j, same) = in_map (timed_row (parent_of p) t) (without p v.tree) r (subst (In r) is.tree i) in (
-      x,
-      (in_filter (λ row. not (is_front p row.path)) v.tree x j).0,
-      sym (ap (λ (y : Row). y.path) same ∙ timed_path (same_names (parent_of p) x.path) (parent_of p) t x refl),
-      sym (ap (λ (y : Row). y.kind) same ∙ timed_kind (same_names (parent_of p) x.path) (parent_of p) t x refl),
-    )
-
-pub up_taken : (p : Names) (v u : World) → Edited (takes p) v u → (r : Row) → In r v.tree → is_front p r.path ≡ false → (s : Row) × In s u.tree × (s.path ≡ r.path) × (s.kind ≡ r.kind)
-up_taken p v u (t, new, is) r i other = (
-  timed_row (parent_of p) t r,
-  subst (In (timed_row (parent_of p) t r)) (sym is.tree)
-      (map_in (timed_row (parent_of p) t) (without p v.tree) r (filter_in (λ row. not (is_front p row.path)) v.tree r (not_false (is_front p r.path) other) i)),
-  timed_path (same_names (parent_of p) r.path) (parent_of p) t r refl,
-  timed_kind (same_names (parent_of p) r.path) (parent_of p) t r refl,
-)
