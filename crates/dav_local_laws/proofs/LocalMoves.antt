@@ -8,7 +8,7 @@ use Rattle.dav_core.specs.declared.error.FsError.{FsError}
 use Rattle.dav_core.specs.declared.handle.DiskError.{DiskError}
 use Rattle.dav_core.specs.declared.handle.DiskError.TheVariants.{NotFound, Exists, NotDir, IsDir, NotEmpty, Failed, NoMemory}
 use Rattle.dav_core.specs.declared.tree.Row.{Row}
-use Rattle.dav_core.specs.Allowed.{found_then, moving, taking_file, taking_file_row}
+use Rattle.dav_core.specs.Allowed.{Allowed, found_then, moving, taking_file, taking_file_row}
 use Rattle.dav_core.specs.DavPath.{WebPath}
 use Rattle.dav_core.specs.Disk.{DiskState}
 use Rattle.dav_core.specs.Edits.{Edit, EditedBy, takes}
@@ -110,12 +110,12 @@ module _ {S C : Type 0} (view : View S C LocalFsFile) (lists : Listings S C Loca
     moved_again : (removal again : Result Unit DiskError) (k : DiskState) → (view.state m).faults ≤ k.faults → Renames k from into again (view.state n) → r ≡ done_by again → (u x w : World)
         → (is_linked u.tree into ≡ false → DoesIn false (taking_file u.tree into) removal u x)
         → Renamed again x w → Again u w
-    moved_again (Ok y) again k le renames is u x w takes moves clear free refused =
-        let (edit, allowed, edited) = takes free in
+    moved_again (Ok y) again k le renames is u x w gone moves clear free refused =
+        let (edit, allowed, edited) = gone free in
         let still : (q : Names) → is_linked u.tree q ≡ false → is_linked x.tree q ≡ false = λ q e. unlinked_still u x into q edit allowed edited e in
         inr (x, (edit, allowed, edited), rw is (calls_from view lists writes c true (moving x.tree from into) again m n k x w (moves (still from clear) (still into free)) le renames.asks.counted))
-    moved_again (Err e) again k le renames is u x w takes moves clear free refused =
-        let (called, left) = takes free in
+    moved_again (Err e) again k le renames is u x w gone moves clear free refused =
+        let (called, left) = gone free in
         let same = kept_false (taking_file u.tree into) u x left in
         let does = subst (λ a. DoesIn true a again x w) (ap (λ t. moving t from into) same.tree ∙ refused)
         (moves (ap (λ t. is_linked t from) same.tree ∙ clear) (ap (λ t. is_linked t into) same.tree ∙ free)) in
