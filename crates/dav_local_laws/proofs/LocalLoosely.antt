@@ -1,5 +1,5 @@
 -- In every run each call of a local store that changes what stands is at a place where a loose walk of its path may end.
-use Rattle.std.proofs.Common.{◌≡◌, ◌≤◌, ◌||◌, inr, true, false, List, Result, Ok, Err, refl, sym, ap, subst, ◌∙◌, arith}
+use Rattle.std.proofs.Common.{◌≡◌, ◌≤◌, ◌||◌, inl, inr, true, false, List, Result, Ok, Err, refl, sym, ap, subst, ◌∙◌, arith}
 use Rattle.dav_io.specs.declared.clock.Moment.{Moment}
 use Rattle.dav_io.specs.Told.{Both}
 use Rattle.dav_io.proofs.ToldLemmas.{both_same, both_then}
