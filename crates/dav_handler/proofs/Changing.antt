@@ -1,5 +1,5 @@
 -- What a method that writes is answered, and makes of the told world: from what its table gave to the clause of its step.
-use Rattle.std.proofs.Common.{◌≡◌, inl, inr, ℕ, List, [], ◌∷◌, Bool, true, false, None, Result, Ok, Err, refl, sym, ap, subst, ◌∙◌, true≢false}
+use Rattle.std.proofs.Common.{◌≡◌, ◌⊎◌, inl, inr, ℕ, List, [], ◌∷◌, Bool, true, false, None, Result, Ok, Err, refl, sym, ap, subst, ◌∙◌, true≢false}
 use Rattle.std.specs.Prelude.{IfOk}
 use Rattle.dav_io.specs.Counts.{Rose}
 use Rattle.dav_io.specs.Told.{Both}
@@ -12,6 +12,7 @@ use Rattle.dav_core.specs.DavPath.{WebPath}
 use Rattle.dav_core.specs.Disk.{DiskState}
 use Rattle.dav_core.specs.Statuses.{closes, lacks_memory, status_of}
 use Rattle.dav_core.specs.World.{World}
+use Rattle.dav_model.specs.declared.asked.Asked.{Asked}
 use Rattle.dav_model.specs.declared.outcome.Outcome.{Outcome}
 use Rattle.dav_model.specs.declared.target.Target.TheVariants.{Writes}
 use Rattle.dav_model.specs.CarryPlans.{carry_plan}
@@ -21,7 +22,8 @@ use Rattle.dav_model.specs.Plans.{Act, Ask, Plan, does, halts, plan}
 use Rattle.dav_model.specs.Rules.{Knowledge, Rules}
 use Rattle.dav_model.specs.Valid.{IsRegular}
 use Rattle.dav_model.specs.Bodies.{read_size_of}
-use Rattle.dav_model.specs.Written.{ByActs, EndsAs, IsSaidUnder, IsWriteReply, Makes, MakesAs, PartOf, ask_of}
+use Rattle.dav_model.specs.Written.{ByActs, EndsAs, IsHeldOff, IsWriteReply, Makes, MakesAs, PartOf, ask_of}
+use Rattle.dav_model.proofs.JoiningLemmas.{part_none}
 use Rattle.dav_store.specs.Frames.{KeepsOpen}
 use Rattle.dav_methods.specs.Answers.{IsAnswer, RefusesUsually}
 use Rattle.dav_store.specs.View.{View, Listings}
@@ -33,12 +35,10 @@ use Rattle.dav_methods.specs.Changing.{Changes}
 use Rattle.dav_methods.specs.Follows.{Follows, answer_or}
 use Rattle.dav_methods.specs.Pouring.{Writes as FileWrites}
 use Rattle.dav_methods.proofs.AnswersListed.{mkcalendar_listed, mkcol_listed, put_listed}
-use Rattle.dav_methods.proofs.CarryRight.{carried_right}
+use Rattle.dav_methods.proofs.CarriedRight.{copy_follows, move_follows}
 use Rattle.dav_methods.proofs.CopiesListed.{carry_listed}
-use Rattle.dav_methods.proofs.CopyActs.{copies_right}
 use Rattle.dav_methods.proofs.DeleteRight.{deletes_right}
 use Rattle.dav_methods.proofs.MakingFollows.{mkcalendar_follows, mkcol_follows}
-use Rattle.dav_methods.proofs.MoveDone.{moves_right}
 use Rattle.dav_methods.proofs.PutFollows.{put_follows}
 use Rattle.dav_methods.proofs.RemovalsListed.{delete_listed}
 use Rattle.dav_methods.specs.Lines.{Given}
@@ -56,17 +56,23 @@ ends_part : (fields : Fields) (plan : Plan) (reply : Reply) (rose : Type 0) (v w
 ends_part fields plan reply rose v w (inl by) = acts_part fields plan.acts plan.done reply v w by
 ends_part fields plan reply rose v w (inr (is, r, part)) = part
 
+-- So is what was made of what was asked for, where it was held off as well.
+carried_part : (rules : Rules) (ask : Ask) (asked : Result Asked DavError) (reply : Reply) (rose : Type 0) (v w : World)
+    → EndsAs ask.fields (carry_plan rules v ask asked) (Ok reply) rose v w ⊎ IsHeldOff rules ask asked (Ok reply) v w → PartOf (carry_plan rules v ask asked).acts v w
+carried_part rules ask asked reply rose v w (inl ends) = ends_part ask.fields (carry_plan rules v ask asked) reply rose v w ends
+carried_part rules ask asked reply rose v w (inr (over, is, same)) = part_none (carry_plan rules v ask asked).acts v w same
+
 -- What a method that writes did between two states of the disk, and what it made of the told world.
 pub record Did (rules : Rules) (k : Knowledge) (ask : Ask) (s : DiskState) (r : Given) (t : DiskState) : Type 0 where
   pub keeps : KeepsOpen s t
   pub listed : IsAnswer ask.method rules.settings.prefix ask.fields (Rose s.faults t.faults) r
-  pub right : IsSaidUnder ask.method rules → Both s.told t.told (λ v w. IsRegular rules k v → (result : Result Reply NoMemory) → answer_or ask.fields r result
+  pub right : Both s.told t.told (λ v w. IsRegular rules k v → (result : Result Reply NoMemory) → answer_or ask.fields r result
       → MakesAs ask.method rules ask result (Rose s.faults t.faults) v w)
 
 -- Where it is known what was made for an answer, it is known where memory was refused for that.
 lost_as : (method : DavMethod) (rules : Rules) (ask : Ask) (reply : Reply) (e : NoMemory) (rose : Type 0) (v w : World) → MakesAs method rules ask (Ok reply) rose v w → MakesAs method rules ask (Err e) rose v w
-lost_as Copy rules ask reply e rose v w (asked, asks, ends) = inr (asked, asks, λ clear. ends_part ask.fields (carry_plan rules v ask asked) reply rose v w (ends clear))
-lost_as Move rules ask reply e rose v w (asked, asks, ends) = inr (asked, asks, λ clear. ends_part ask.fields (carry_plan rules v ask asked) reply rose v w (ends clear))
+lost_as Copy rules ask reply e rose v w (asked, asks, ends) = inr (asked, asks, λ clear. inl (carried_part rules ask asked reply rose v w (ends clear)))
+lost_as Move rules ask reply e rose v w (asked, asks, ends) = inr (asked, asks, λ clear. inl (carried_part rules ask asked reply rose v w (ends clear)))
 lost_as other rules ask reply e rose v w makes = λ clear. ends_part ask.fields (plan rules v ask) reply rose v w (makes clear)
 
 done_listed : (method : DavMethod) (prefix : List ℕ) (fields : Fields) (rose : Type 0) (outcome : Outcome) → IsAnswer method prefix fields rose (Ok outcome)
@@ -92,14 +98,14 @@ module _ (a b : By) (method : DavMethod) (path : WebPath) (said : Said) (s t : D
 
   -- what its plan says of this answer, or of want of memory
   made_as : (r : Given) (result : Result Reply NoMemory) → Did a.rules a.knows asks s r t → answer_or said.fields r result → Makes (Writes method path) a.rules a.knows said.fields said.body result s t
-  made_as r result did is = λ under. both_map s.told t.told _
-      (λ v w. IsRegular a.rules a.knows v → MakesAs method a.rules asks result (Rose s.faults t.faults) v w) (λ v w right regular. right regular result is) (did.right under)
+  made_as r result did is = both_map s.told t.told _
+      (λ v w. IsRegular a.rules a.knows v → MakesAs method a.rules asks result (Rose s.faults t.faults) v w) (λ v w right regular. right regular result is) did.right
 
   -- it was done or refused, and memory was refused for the answer
   made_lost : (r : Given) (reply : Reply) (e : NoMemory) → Did a.rules a.knows asks s r t → answer_or said.fields r (Ok reply) → Makes (Writes method path) a.rules a.knows said.fields said.body (Err e) s t
-  made_lost r reply e did is = λ under. both_map s.told t.told _
+  made_lost r reply e did is = both_map s.told t.told _
       (λ v w. IsRegular a.rules a.knows v → MakesAs method a.rules asks (Err e) (Rose s.faults t.faults) v w)
-      (λ v w right regular. lost_as method a.rules asks reply e (Rose s.faults t.faults) v w (right regular (Ok reply) is)) (did.right under)
+      (λ v w right regular. lost_as method a.rules asks reply e (Rose s.faults t.faults) v w (right regular (Ok reply) is)) did.right
 
   -- It was done.
   pub write_done : (outcome : Outcome) (found : Found) → Did a.rules a.knows asks s (Ok outcome) t → found.outcome ≡ outcome → found.body ≡ None → Answers before said (Writes method path) found after
@@ -153,15 +159,15 @@ module _ {S C : Type 0} (view : View S C LocalFsFile) (lists : Listings S C Loca
     RightBy method = Both (view.state s).told (view.state t).told (λ v w. IsRegular rules k v → MadeBy method v w)
 
     right : prefix ≡ rules.settings.prefix → Follows view lists writes c rules k s → (method : DavMethod) → Changes view lists writes c method prefix path said.fields said.body s r t
-        → IsSaidUnder method rules → RightBy method
-    right own follows Put run under = put_follows view lists writes c rules k s follows (ask_of Put path said.fields said.body) refl r t run
-    right own follows MkCol run under = mkcol_follows view lists writes c rules k s follows (ask_of MkCol path said.fields said.body) refl r t run
-    right own follows Delete run under = deletes_right view lists writes c rules path said.fields said.body s k follows under r t run
-    right own follows Copy run under = carried_right view lists writes c false rules (λ asked x same moving. copies_right view lists writes c asked x) k s follows
-        under (ask_of Copy path said.fields said.body) r t (subst (λ z. CopiesTo view lists c z path said.fields s r t) own run)
-    right own follows Move run under = carried_right view lists writes c true rules (λ asked x same moving. moves_right view lists writes c asked x moving) k s follows
-        under (ask_of Move path said.fields said.body) r t (subst (λ z. MovesTo view lists c z path said.fields s r t) own run)
-    right own follows other run under = mkcalendar_follows view lists writes c rules k s follows (ask_of other path said.fields said.body) (λ v. refl) r t run
+        → RightBy method
+    right own follows Put run = put_follows view lists writes c rules k s follows (ask_of Put path said.fields said.body) refl r t run
+    right own follows MkCol run = mkcol_follows view lists writes c rules k s follows (ask_of MkCol path said.fields said.body) refl r t run
+    right own follows Delete run = deletes_right view lists writes c rules path said.fields said.body s k follows r t run
+    right own follows Copy run =
+        copy_follows view lists writes c rules k s follows (ask_of Copy path said.fields said.body) r t (subst (λ z. CopiesTo view lists c z path said.fields s r t) own run)
+    right own follows Move run =
+        move_follows view lists writes c rules k s follows (ask_of Move path said.fields said.body) r t (subst (λ z. MovesTo view lists c z path said.fields s r t) own run)
+    right own follows other run = mkcalendar_follows view lists writes c rules k s follows (ask_of other path said.fields said.body) (λ v. refl) r t run
 
   -- What a method that writes did over the store, which follows its rules.
   pub did_change : (rules : Rules) (k : Knowledge) → prefix ≡ rules.settings.prefix → Follows view lists writes c rules k s → (method : DavMethod)
@@ -169,5 +175,5 @@ module _ {S C : Type 0} (view : View S C LocalFsFile) (lists : Listings S C Loca
   did_change rules k own follows method run keeps = record {
     keeps = keeps;
     listed = subst (λ z. IsAnswer method z said.fields (Rose (view.state s).faults (view.state t).faults) r) own (listed method run);
-    right = λ under. right rules k own follows method run under;
+    right = right rules k own follows method run;
   }

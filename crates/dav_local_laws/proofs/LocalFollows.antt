@@ -17,12 +17,12 @@ use Rattle.dav_core.specs.declared.tree.Kind.TheVariants.{Dir}
 use Rattle.dav_core.specs.declared.tree.Row.{Row}
 use Rattle.dav_core.specs.DavPath.{WebPath}
 use Rattle.dav_core.specs.Disk.{DiskState}
-use Rattle.dav_core.specs.Allowed.{copying, moving, taking_dir, taking_file}
+use Rattle.dav_core.specs.Allowed.{copying, taking_dir, taking_file}
 use Rattle.dav_core.specs.Info.{Info}
 use Rattle.dav_core.specs.Listing.{EndedIn, ListedIn, ListsOn, NextIn, listable, name_of, stands_in}
 use Rattle.dav_core.specs.Members.{member_of, members}
 use Rattle.dav_core.specs.Path.{Names}
-use Rattle.dav_core.specs.Tree.{has_dir, is_dir, is_linked, look, row_at}
+use Rattle.dav_core.specs.Tree.{has_dir, is_dir, is_linked, look}
 use Rattle.dav_core.specs.World.{SameBesidesOpens, World, put}
 use Rattle.dav_core.specs.Writing.{appends}
 use Rattle.dav_store.specs.declared.entry.ReadDirMeta.TheVariants.{DataSymlink}
@@ -37,7 +37,7 @@ use Rattle.dav_model.specs.Valid.{TellsApart}
 use Rattle.dav_model.specs.Walks.{dir_first, in_order}
 use Rattle.dav_model.proofs.LooseWalks.{found_exactly}
 use Rattle.dav_methods.specs.declared.child.Child.{Child}
-use Rattle.dav_methods.specs.Follows.{Calls, FailsToList, Follows, IfBothFound, IfPlaced, IfFound, ListsBy, LooksBy, OpensBy, Reached, Told, UnlessShut, child_of, children_in}
+use Rattle.dav_methods.specs.Follows.{Calls, FailsToList, Follows, IfBothFound, IfFound, ListsBy, LooksBy, MovesBy, OpensBy, Reached, Told, UnlessShut, child_of, children_in}
 use Rattle.dav_methods.specs.Pouring.{Writes, WritesFile}
 use Rattle.dav_methods.specs.Reading.{AllSaid, HasMembers, HasNoMembers, MembersUnread, ReadRefused, child_named, child_said, children_said}
 use Rattle.dav_cache.specs.Memory.{LearnsNothing, MemoryState}
@@ -352,8 +352,7 @@ module _ {S C : Type 0} (view : View S C LocalFsFile) (lists : Listings S C Loca
         (IfFound view lists writes c x v path (Calls view lists writes c (taking_file v.tree (resolved x v.tree path.names)) m r n v w))))
         (same m reached) (take_file_told view lists writes c ways memory moment local settings m n path r h);
     renames = λ m n from to r reached h. subst (λ (x : Rules). Told view lists writes c m n (λ v w. UnlessShut view lists writes c (is_forbidden x from || is_forbidden x to) r v w
-        (IfBothFound view lists writes c x v from to (IfPlaced view lists writes c v (resolved x v.tree from.names) (resolved x v.tree to.names)
-        (Calls view lists writes c (moving v.tree (resolved x v.tree from.names) (resolved x v.tree to.names)) m r n v w)))))
+        (IfBothFound view lists writes c x v from to (MovesBy view lists writes c (resolved x v.tree from.names) (resolved x v.tree to.names) m r n v w))))
         (same m reached) (move_told view lists writes c ways memory moment local settings m n from to r h);
     copies = λ m n from to r reached h. subst (λ (x : Rules). Told view lists writes c m n (λ v w. UnlessShut view lists writes c (is_forbidden x from || is_forbidden x to) r v w
         (IfBothFound view lists writes c x v from to (Calls view lists writes c (copying v (resolved x v.tree from.names) (resolved x v.tree to.names)) m r n v w))))

@@ -1,5 +1,5 @@
 -- In every run each call of a local store that changes what stands is at a place where a loose walk of its path may end.
-use Rattle.std.proofs.Common.{◌≡◌, ◌≤◌, ◌||◌, inr, true, false, List, Result, Ok, Err, refl, sym, ap, subst, ◌∙◌, arith}
+use Rattle.std.proofs.Common.{◌≡◌, ◌≤◌, ◌||◌, inl, inr, true, false, List, Result, Ok, Err, refl, sym, ap, subst, ◌∙◌, arith}
 use Rattle.dav_io.specs.declared.clock.Moment.{Moment}
 use Rattle.dav_io.specs.Told.{Both}
 use Rattle.dav_io.proofs.ToldLemmas.{both_same, both_then}
@@ -10,7 +10,7 @@ use Rattle.dav_core.specs.Allowed.{Allowed, copying, making_dir, moving, taking_
 use Rattle.dav_core.specs.DavPath.{WebPath}
 use Rattle.dav_core.specs.Disk.{DiskState, IsCounted, OpenedOver, Opens, kind_opened}
 use Rattle.dav_core.specs.Path.{Names}
-use Rattle.dav_core.specs.Tree.{is_linked, row_at}
+use Rattle.dav_core.specs.Tree.{is_linked}
 use Rattle.dav_core.specs.World.{SameBesidesOpens, World}
 use Rattle.dav_core.specs.Writing.{Copies, Does, DoesIn, MayRefuseMake, MayRefuseTakeDir, MayRefuseTakeFile}
 use Rattle.dav_core.proofs.UnchangedLemmas.{same_besides, same_besides_then}
@@ -21,7 +21,7 @@ use Rattle.dav_model.specs.Finding.{has_slash, is_forbidden, resolved}
 use Rattle.dav_model.specs.Plans.{put_options}
 use Rattle.dav_model.specs.Rules.{Rules, nothing_known}
 use Rattle.dav_model.proofs.LooseWalks.{exactly_may}
-use Rattle.dav_methods.specs.Follows.{Calls, IfPlaced, OpensBy, Reached, Told, UnlessShut}
+use Rattle.dav_methods.specs.Follows.{Calls, MovesBy, OpensBy, Reached, Told, UnlessShut}
 use Rattle.dav_methods.specs.Pouring.{Writes}
 use Rattle.dav_cache.specs.Memory.{MemoryState}
 use Rattle.dav_local.specs.declared.entry.LocalFsDirEntry.{LocalFsDirEntry}
@@ -32,12 +32,12 @@ use Rattle.dav_local.specs.Calls.{AfterMove, Asks, Finds, MovesAt, Place}
 use Rattle.dav_local.specs.Files.{done_by, filed}
 use Rattle.dav_local.specs.Resolving.{Leads}
 use Rattle.dav_local.specs.Ways.{rules_of, rules_with}
-use Rattle.dav_local_laws.proofs.CallsBefore.{AllowsNumbered, calls_before, copying_numbered, copying_same, making_numbered, moving_numbered, taking_dir_numbered, taking_file_numbered}
+use Rattle.dav_local_laws.proofs.CallsBefore.{AllowsNumbered, calls_before, copying_numbered, copying_same, making_numbered, taking_dir_numbered, taking_file_numbered}
 use Rattle.dav_local_laws.proofs.CallsDone.{calls_from, opened_as}
 use Rattle.dav_local_laws.proofs.LocalCalls.{LedToBoth, calls_spoiled, found_both, led_to, unless_told}
 use Rattle.dav_local_laws.proofs.LocalLeads.{calls_remain}
 use Rattle.dav_local_laws.proofs.LocalLooks.{spoiled_as}
-use Rattle.dav_local_laws.proofs.LocalMoves.{moved_by}
+use Rattle.dav_local_laws.proofs.LocalMoves.{moved_by, moves_before}
 use Rattle.dav_local_laws.specs.LocalStore.{IsLocalStore, place}
 use Rattle.dav_local_laws.specs.Loosely.{AtSome, FollowsLoosely, finding_at}
 
@@ -151,19 +151,17 @@ module _ {S C : Type 0} (view : View S C LocalFsFile) (lists : Listings S C Loca
       (λ one other q led le asks. copied_at m n from to r one other q led le asks))
 
   abbrev Moved : S → Result Unit FsError → S → World → World → Names → Names → Type 0
-  Moved m r n w v one other = IfPlaced view lists writes c v one other (Calls view lists writes c (moving v.tree one other) m r n v w)
+  Moved m r n w v one other = MovesBy view lists writes c one other m r n v w
 
   moved_at : (m n : S) (from to : WebPath) (r : Result Unit FsError) (one other : Names) (q : Place) → Both (view.state m).told q.disk.told (LedToBoth view lists writes c ways memory moment local settings m from to one other)
       → (view.state m).faults ≤ q.disk.faults → MovesAt one other q r (at n) → Told view lists writes c m n (λ v w. Between (Moved m r n w) m from to v)
   moved_at m n from to r one other q led le (answer, k, renames, t, after, ends) =
       let same : view.state n ≡ t = ap (λ (x : Place). x.disk) ends in
       both_then (view.state m).told q.disk.told (view.state n).told (LedToBoth view lists writes c ways memory moment local settings m from to one other)
-      (λ u w. is_linked u.tree one ≡ false → is_linked u.tree other ≡ false → IfPlaced view lists writes c u one other (Calls view lists writes c (moving u.tree one other) m r n u w))
+      (λ u w. is_linked u.tree one ≡ false → is_linked u.tree other ≡ false → MovesBy view lists writes c one other m r n u w)
       (λ v w. Between (Moved m r n w) m from to v)
       (λ v u w p moved. between_led (Moved m r n w) m from to one other v u p
-      (λ clear open_to nothing. subst (λ (tree : List Row). Calls view lists writes c (moving tree one other) m r n v w) p.same.tree
-      (calls_before view lists writes c (moving u.tree one other) m n r v u w (moving_numbered u.tree one other) p.same
-      (moved clear open_to (λ e. ap (λ (tree : List Row). row_at tree other) p.same.tree ∙ nothing (sym (ap (λ (tree : List Row). moving tree one other) p.same.tree) ∙ e))))))
+      (λ clear open_to. moves_before view lists writes c ways memory moment local settings one other m n r v u w p.same (moved clear open_to)))
       led
       (moved_by view lists writes c ways memory moment local settings m n q.disk le r one other answer k renames (subst (AfterMove answer one other k r) (sym same) after))
 
@@ -174,7 +172,7 @@ module _ {S C : Type 0} (view : View S C LocalFsFile) (lists : Listings S C Loca
       (local.renames m n c from to r h).0
       (found_both view lists writes c ways memory moment local settings m n from to r MovesAt (λ v w. Between (Moved m r n w) m from to v)
       (λ e k q v w le spoiled is ends same. between_any (Moved m r n w) m from to v
-      (λ one other nothing. calls_spoiled view lists writes c ways memory moment local settings m n (moving v.tree one other) e r k q v w le spoiled is ends same))
+      (λ one other. inl (calls_spoiled view lists writes c ways memory moment local settings m n (moving v.tree one other) e r k q v w le spoiled is ends same)))
       (λ one other q led le moves. moved_at m n from to r one other q led le moves))
 
   -- ---- opening

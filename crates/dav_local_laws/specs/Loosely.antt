@@ -3,7 +3,7 @@
 -- there nothing is said.
 use Rattle.std.specs.Prelude.{◌≡◌, ◌||◌, false, Some, Result}
 use Rattle.dav_core.specs.declared.error.FsError.{FsError}
-use Rattle.dav_core.specs.Allowed.{copying, making_dir, moving, taking_dir, taking_file}
+use Rattle.dav_core.specs.Allowed.{copying, making_dir, taking_dir, taking_file}
 use Rattle.dav_core.specs.DavPath.{WebPath}
 use Rattle.dav_core.specs.Path.{Names}
 use Rattle.dav_core.specs.Tree.{is_linked}
@@ -12,7 +12,7 @@ use Rattle.dav_store.specs.View.{Listings, View}
 use Rattle.dav_model.specs.Finding.{EndsLoosely, has_slash, is_forbidden}
 use Rattle.dav_model.specs.Plans.{put_options}
 use Rattle.dav_model.specs.Rules.{Rules}
-use Rattle.dav_methods.specs.Follows.{Calls, IfPlaced, OpensBy, Reached, Told, UnlessShut}
+use Rattle.dav_methods.specs.Follows.{Calls, MovesBy, OpensBy, Reached, Told, UnlessShut}
 use Rattle.dav_methods.specs.Pouring.{Writes}
 
 -- A place where a loose walk of the path ends, and this of it, if no link stands on the way there.
@@ -42,13 +42,12 @@ module _ {S C F L E : Type 0} (view : View S C F) (lists : Listings S C L E) (wr
         → Told view lists writes c m n (λ v w. UnlessShut view lists writes c
         (is_forbidden rules path || has_slash rules.alone path) r v w
         (AtSome rules v path (λ there. Calls view lists writes c (taking_file v.tree there) m r n v w)))
-    -- (where a directory wouldn't take the place of a file: a store may make two edits of such a move)
+    -- (where a directory takes the place of a file the file may go first)
     pub renames : (m n : S) (from to : WebPath) (r : Result Unit FsError) → Reached view lists writes c s m
         → view.renames m c from to r n
         → Told view lists writes c m n (λ v w. UnlessShut view lists writes c
         (is_forbidden rules from || is_forbidden rules to) r v w
-        (AtSome rules v from (λ one. AtSome rules v to (λ other. IfPlaced view lists writes c v one other
-        (Calls view lists writes c (moving v.tree one other) m r n v w)))))
+        (AtSome rules v from (λ one. AtSome rules v to (λ other. MovesBy view lists writes c one other m r n v w))))
     pub copies : (m n : S) (from to : WebPath) (r : Result Unit FsError) → Reached view lists writes c s m
         → view.copies m c from to r n
         → Told view lists writes c m n (λ v w. UnlessShut view lists writes c

@@ -15,8 +15,8 @@ use Rattle.dav_model.specs.Overlap.{overlap}
 use Rattle.dav_methods.proofs.ActsJoined.{AllDone, act_by, acts_by}
 use Rattle.dav_methods.proofs.EditsJoined.{above_all}
 use Rattle.dav_methods.proofs.OpenedFile.{world_numbers}
-use Rattle.dav_methods.proofs.RemovalWork.{in_map, map_in, none_any, not_false, timed_kind, timed_path}
-use Rattle.dav_methods.proofs.TreeRows.{DirAt, Parts, all_at, all_in, any_none, both, false_or, filter_in, filter_once, front_length, front_of, front_then, fronts_meet, in_filter, not_both, not_true, parent_length, same_yes}
+use Rattle.dav_methods.proofs.RemovalWork.{back_taken, in_map, map_in, none_any, timed_kind, timed_path, up_taken}
+use Rattle.dav_methods.proofs.TreeRows.{DirAt, Parts, all_at, all_in, any_none, both, false_or, filter_once, front_length, front_of, front_then, fronts_meet, in_filter, not_both, not_true, parent_length, same_yes}
 use Rattle.dav_methods.proofs.WalkOrder.{In, in_either, in_left}
 
 -- ---- paths beside one another
@@ -161,22 +161,8 @@ pub beside_taken : (from to p : Names) (v u : World) → Apart from to → is_fr
 beside_taken from to p v u apart under (t, new, e) = record {
   rows = same;
   files = λ r i. (e.files r.number (held_below from v u r same i)).1;
-  up = λ r i other. (
-    timed_row (parent_of p) t r,
-    subst (In (timed_row (parent_of p) t r)) (sym e.tree)
-        (map_in (timed_row (parent_of p) t) (without p v.tree) r
-        (filter_in (λ row. not (is_front p row.path)) v.tree r
-        (not_false (is_front p r.path) (false_or (is_front p r.path) (λ f. not_both (is_front to r.path) (front_then to p r.path under f) other))) i)),
-    timed_path (same_names (parent_of p) r.path) (parent_of p) t r refl,
-    timed_kind (same_names (parent_of p) r.path) (parent_of p) t r refl,
-  );
-  back = λ r i other.
-      (let (x, j, is) = in_map (timed_row (parent_of p) t) (without p v.tree) r (subst (In r) e.tree i) in (
-        x,
-        (in_filter (λ row. not (is_front p row.path)) v.tree x j).0,
-        sym (ap (λ (y : Row). y.path) is ∙ timed_path (same_names (parent_of p) x.path) (parent_of p) t x refl),
-        sym (ap (λ (y : Row). y.kind) is ∙ timed_kind (same_names (parent_of p) x.path) (parent_of p) t x refl),
-      ));
+  up = λ r i other. up_taken p v u (t, new, e) r i (false_or (is_front p r.path) (λ f. not_both (is_front to r.path) (front_then to p r.path under f) other));
+  back = λ r i other. back_taken p v u (t, new, e) r i;
 }
   where
     same : rows_below from u.tree ≡ rows_below from v.tree

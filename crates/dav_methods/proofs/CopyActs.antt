@@ -19,7 +19,7 @@ use Rattle.dav_core.specs.World.{Holds, IsWorld, SameBesidesOpens, World, bytes_
 use Rattle.dav_core.proofs.UnchangedLemmas.{same_besides}
 use Rattle.dav_store.specs.View.{Listings, View}
 use Rattle.dav_model.specs.declared.asked.Asked.{Asked}
-use Rattle.dav_model.specs.CarryPlans.{act_of, bytes_in, carrying, cleared, copied_rows, copy_act, copy_acts, denies_copy, fill_acts, hides, path_below}
+use Rattle.dav_model.specs.CarryPlans.{act_of, bytes_in, carrying, cleared, copied_rows, copy_act, copy_acts, denies_copy, fill_acts, hides, made_by, path_below}
 use Rattle.dav_model.specs.Finding.{is_forbidden, is_localized, is_virtual, resolved}
 use Rattle.dav_model.specs.Head.{Stood}
 use Rattle.dav_model.specs.Plans.{Act, does, halts, is_deep_dir, is_dir_found, is_found, line, stands, unless, when}
@@ -35,7 +35,7 @@ use Rattle.dav_methods.specs.Pouring.{Writes}
 use Rattle.dav_methods.specs.Removing.{is_deep, line_of}
 use Rattle.dav_methods.proofs.ActsJoined.{Comes, FillsNone, comes_after, halted_comes, short_comes}
 use Rattle.dav_methods.proofs.Beside.{Beside, beside_same, front_up, numbered_in, rows_below, some_from, some_to}
-use Rattle.dav_methods.proofs.CarryRight.{Carry, Cleared, Ends, GoesRight, Misses, Prepares, Vacant}
+use Rattle.dav_methods.proofs.CarryRight.{Carry, Cleared, Ends, GoesRight, Prepares, Vacant}
 use Rattle.dav_methods.proofs.CopyCovers.{dest, dest_below, dest_from, walk_of, whole_of}
 use Rattle.dav_methods.proofs.CopyHidden.{Fills, Over, Stands, copy_over, filled, make_over, over_comes}
 use Rattle.dav_methods.proofs.CopyOrder.{dir_order}
@@ -142,20 +142,23 @@ and_no false = refl
 abbrev made_acts : Rules → World → WebPath → WebPath → Bool → List Act
 made_acts rules v path to bare = map (copy_act rules v path to (resolved rules v.tree path.names) (resolved rules (cleared rules v to) to.names)) (copied_rows bare (resolved rules v.tree path.names) v.tree)
 
-judged_plan : (rules : Rules) (v : World) (path to : WebPath) (bare shut : Bool) → (is_forbidden rules path && not (is_dir_found (stands rules v path))) ≡ shut
-    → copy_acts rules v path to bare ≡ unless (when shut 403) (cond (hides rules v to) (fill_acts rules v path to (row_at v.tree (resolved rules v.tree path.names))) (made_acts rules v path to bare))
+pub judged_plan : (rules : Rules) (v : World) (path to : WebPath) (bare shut : Bool) → (is_forbidden rules path && not (is_dir_found (stands rules v path))) ≡ shut
+    → copy_acts rules v path to bare
+    ≡ unless (when shut 403) (cond (hides rules v to) (fill_acts rules v path to (row_at v.tree (resolved rules v.tree path.names))) (made_by rules.alone rules v path to bare))
 judged_plan rules v path to bare shut e =
-    ap (λ z. unless (when z 403) (cond (hides rules v to) (fill_acts rules v path to (row_at v.tree (resolved rules v.tree path.names))) (made_acts rules v path to bare))) e
+    ap (λ z. unless (when z 403) (cond (hides rules v to) (fill_acts rules v path to (row_at v.tree (resolved rules v.tree path.names))) (made_by rules.alone rules v path to bare))) e
 
-open_plan : (rules : Rules) (v : World) (path to : WebPath) (bare : Bool) → (is_forbidden rules path && not (is_dir_found (stands rules v path))) ≡ false
+open_plan : (rules : Rules) → rules.alone ≡ None → (v : World) (path to : WebPath) (bare : Bool) → (is_forbidden rules path && not (is_dir_found (stands rules v path))) ≡ false
     → copy_acts rules v path to bare ≡ cond (hides rules v to) (fill_acts rules v path to (row_at v.tree (resolved rules v.tree path.names))) (made_acts rules v path to bare)
-open_plan rules v path to bare e = judged_plan rules v path to bare false e
+open_plan rules alone v path to bare e =
+    judged_plan rules v path to bare false e
+    ∙ ap (λ o. cond (hides rules v to) (fill_acts rules v path to (row_at v.tree (resolved rules v.tree path.names))) (made_by o rules v path to bare)) alone
 
 unless_stop : (b : Bool) (acts : List Act) → unless (when b 403) acts ≡ cond b (halts (line 403) ∷ []) acts
 unless_stop true acts = refl
 unless_stop false acts = refl
 
-module _ (rules : Rules) (path to : WebPath) (b : Base rules path to) (v : World) (files : (r : Row) → In r b.v.tree → is_front b.from r.path ≡ true → b.v.files r.number ≡ v.files r.number) where
+module _ (rules : Rules) (alone : rules.alone ≡ None) (path to : WebPath) (b : Base rules path to) (v : World) (files : (r : Row) → In r b.v.tree → is_front b.from r.path ≡ true → b.v.files r.number ≡ v.files r.number) where
   same_bytes : (dir : Bool) (r : Row) → is_dir r.kind ≡ dir → In r b.v.tree → is_front b.from r.path ≡ true → bytes_in v r ≡ bytes_in b.v r
   same_bytes true r e i front = ap (λ d. cond d [] (bytes_of v r.number)) e ∙ ap (λ d. cond d [] (bytes_of b.v r.number)) (sym e)
   same_bytes false r e i front = ap (λ d. cond d [] (bytes_of v r.number)) e ∙ (ap bytes_or_none (sym (files r i front)) ∙ ap (λ d. cond d [] (bytes_of b.v r.number)) (sym e))
@@ -175,7 +178,7 @@ module _ (rules : Rules) (path to : WebPath) (b : Base rules path to) (v : World
   copy_plan : (bare : Bool) → rows_below b.from b.v.tree ≡ rows_below b.from v.tree → resolved rules v.tree path.names ≡ b.from → resolved rules (cleared rules v to) to.names ≡ b.to
       → (is_forbidden rules path && not (is_dir_found (stands rules v path))) ≡ false → hides rules v to ≡ false → copy_acts rules v path to bare ≡ acts_at rules path to b (whole_of bare b.v.tree b.from)
   copy_plan bare rows at new open_at shown =
-      open_plan rules v path to bare open_at
+      open_plan rules alone v path to bare open_at
       ∙ (ap (λ z. cond z (fill_acts rules v path to (row_at v.tree (resolved rules v.tree path.names))) (made_acts rules v path to bare)) shown
       ∙ (ap (λ z. map (copy_act rules v path to z (resolved rules (cleared rules v to) to.names)) (copied_rows bare z v.tree)) at
       ∙ (ap (λ z. map (copy_act rules v path to b.from z) (copied_rows bare b.from v.tree)) new
@@ -289,7 +292,7 @@ module _ {S C F L E : Type 0} (view : View S C F) (lists : Listings S C L E) (wr
   begun_right x found all t v w b p open_at kind rows files at new shown work_goes =
       let judged : is_dir_found (stands x.rules v x.ask.path) ≡ is_dir_there found = ap is_dir_found p.stood ∙ p.kind in
       let is : carrying false x.rules v x.ask.path asked ≡ acts_at x.rules x.ask.path asked.to b (whole_of asked.alone b.v.tree b.from) =
-      copy_plan x.rules x.ask.path asked.to b v (λ r i front. files r (subst (In r) rows (filter_in (λ row. is_front b.from row.path) b.v.tree r front i))) asked.alone rows at new
+      copy_plan x.rules x.alone x.ask.path asked.to b v (λ r i front. files r (subst (In r) rows (filter_in (λ row. is_front b.from row.path) b.v.tree r front i))) asked.alone rows at new
       (ap (λ d. is_forbidden x.rules x.ask.path && not d) judged ∙ open_at) shown in (
         subst FillsNone (sym is) (copies_none x.rules x.ask.path asked.to b (whole_of asked.alone b.v.tree b.from)),
         subst (λ a. Comes view x.ask.fields x.s all a t b.v w) (sym is) (work_goes b (whole_of asked.alone b.v.tree b.from) (now_first x found b kind)),
@@ -419,7 +422,7 @@ module _ {S C F L E : Type 0} (view : View S C F) (lists : Listings S C L E) (wr
         let hidden : hides x.rules v asked.to ≡ true =
         ap (λ (y : Result Stood FsError). not (is_found y) && is_some (row_at v.tree top)) vacant.missing ∙ ap is_some is_there in
         let row : row_at v.tree from_at ≡ Some source.row = ap (row_at v.tree) (sym source.at) ∙ at_row v.tree source.row parts.once source.in_tree in
-        open_plan x.rules v x.ask.path asked.to asked.alone (ap (λ d. is_forbidden x.rules x.ask.path && not d) judged ∙ open_at)
+        open_plan x.rules x.alone v x.ask.path asked.to asked.alone (ap (λ d. is_forbidden x.rules x.ask.path && not d) judged ∙ open_at)
         ∙ (ap (λ z. cond z (fill_acts x.rules v x.ask.path asked.to (row_at v.tree from_at)) (made_acts x.rules v x.ask.path asked.to asked.alone)) hidden
         ∙ (ap (fill_acts x.rules v x.ask.path asked.to) row
         ∙ unless_stop stop_row (act_of (cond (is_dir source.row.kind) (making_dir v.tree top) (copying v from_at top)))))
@@ -475,11 +478,11 @@ module _ {S C F L E : Type 0} (view : View S C F) (lists : Listings S C L E) (wr
   -- ---- the last act
 
   -- what acts come to that fill no file
-  whole_ends : (x : Carry view lists writes c asked) (all : Line) (t : S) (v u w : World) → (Cleared x.rules x.ask.path asked.to v u → Whole x all t v u w) → (Misses view lists writes c asked x v u → Whole x all t v u w)
+  whole_ends : (x : Carry view lists writes c asked) (all : Line) (t : S) (v u w : World) → (Cleared x.rules x.ask.path asked.to v u → Whole x all t v u w) → (Vacant x.rules asked.to v u → Whole x all t v u w)
       → Ends view lists writes c asked x all (carrying false x.rules v x.ask.path asked) t v u w
   whole_ends x all t v u w gone misses = record {
     after_gone = gone;
-    after_none = λ m. (let (none, came) = misses m in comes_after view x.ask.fields x.s all (carrying false x.rules v x.ask.path asked) t v u w none m.0.same came);
+    after_none = λ m. (let (none, came) = misses m in inl (comes_after view x.ask.fields x.s all (carrying false x.rules v x.ask.path asked) t v u w none m.same came));
   }
 
   open_ends : (x : Carry view lists writes c asked) (found : Result Info FsError) (all : Line) (t : S) (v u w : World) → Prepares view lists writes c asked x found v
@@ -487,7 +490,7 @@ module _ {S C F L E : Type 0} (view : View S C F) (lists : Listings S C L E) (wr
       → Ends view lists writes c asked x all (carrying false x.rules v x.ask.path asked) t v u w
   open_ends x found all t v u w p open_at work_goes filling = record {
     after_gone = λ gone. cleared_right x found all t v u w p open_at gone work_goes;
-    after_none = λ m. by m.0 (row_at v.tree (resolved x.rules v.tree asked.to.names)) refl;
+    after_none = λ m. inl (by m (row_at v.tree (resolved x.rules v.tree asked.to.names)) refl);
   }
     where
       by : Vacant x.rules asked.to v u → (o : Option Row) → row_at v.tree (resolved x.rules v.tree asked.to.names) ≡ o → Comes view x.ask.fields x.s all (carrying false x.rules v x.ask.path asked) t v w

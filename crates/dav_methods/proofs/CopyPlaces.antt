@@ -50,7 +50,7 @@ pub like_alike : (folds : Bool) (at : Names) (name : Name) (r : Row) → is_alik
 like_alike folds at name r = ap (λ z. same_names (at ++ name ∷ []) r.path || (folds && (same_names (parent_of r.path) z && folds_like r.path (at ++ name ∷ [])))) (sym (parent_pushed at name))
 
 -- Of rows of which no two fold alike one has such a path.
-only_like : (folds : Bool) (rows : List Row) → (folds ≡ true → no_twins rows ≡ true) → (r s : Row) → In r rows → In s rows → 0 < length s.path → is_like folds s.path r.path ≡ true → r.path ≡ s.path
+pub only_like : (folds : Bool) (rows : List Row) → (folds ≡ true → no_twins rows ≡ true) → (r s : Row) → In r rows → In s rows → 0 < length s.path → is_like folds s.path r.path ≡ true → r.path ≡ s.path
 only_like folds rows apart r s i j some like =
     let (last, is) = last_parted s.path some in
     let at = parent_of s.path in
@@ -230,7 +230,7 @@ module _ (rules : Rules) (alone : rules.alone ≡ None) where
       by true e n = n
       by false e n = cc
 
-  made_apart : (path : Names) (kind : Kind) (bytes : List _) (u w : World) → TellsApart rules u → ((r : Row) → In r u.tree → is_like rules.folds path r.path ≡ false) → Edited (makes path kind bytes) u w
+  pub made_apart : (path : Names) (kind : Kind) (bytes : List _) (u w : World) → TellsApart rules u → ((r : Row) → In r u.tree → is_like rules.folds path r.path ≡ false) → Edited (makes path kind bytes) u w
       → TellsApart rules w
   made_apart path kind bytes u w apart none (number, s, t, next, new, dir, e) folds =
       let row : Row = record { path = path; kind = kind; number = number; time = s } in

@@ -95,7 +95,7 @@ dir_kept path q kind bytes u w (number, s, t, next, new, dir, e) d =
     }
 
 -- a directory that was made stands
-dir_made : (path : Names) (bytes : List ℕ) (u w : World) → Edited (makes path Dir bytes) u w → DirAt w.tree path
+pub dir_made : (path : Names) (bytes : List ℕ) (u w : World) → Edited (makes path Dir bytes) u w → DirAt w.tree path
 dir_made path bytes u w (number, s, t, next, new, dir, e) =
     let row = made_row path Dir number s in record {
       row = timed_row (parent_of path) t row;

@@ -20,7 +20,7 @@ use Rattle.dav_core.specs.Edits.{takes}
 use Rattle.dav_core.specs.Info.{Info}
 use Rattle.dav_core.specs.Path.{Names, is_front}
 use Rattle.dav_core.specs.Statuses.{closes, fs_status, of_fs, status_of}
-use Rattle.dav_core.specs.Tree.{below, below_kind, is_dir, is_file, is_link, is_linked, is_tree, look, look_from, row_at, standing}
+use Rattle.dav_core.specs.Tree.{below, below_kind, has_dir, is_dir, is_dir_row, is_file, is_link, is_linked, is_tree, look, look_from, row_at, standing}
 use Rattle.dav_core.specs.World.{IsWorld, SameBesidesOpens, World}
 use Rattle.dav_core.proofs.UnchangedLemmas.{same_besides, same_besides_then}
 use Rattle.dav_store.specs.Files.{Spoiled}
@@ -29,9 +29,9 @@ use Rattle.dav_model.specs.Conditions.{Fields, condition, condition_of, strong}
 use Rattle.dav_model.specs.Due.{failure}
 use Rattle.dav_model.specs.Finding.{empty_file, has_slash, is_forbidden, is_localized, is_virtual, or_walk, resolved, resolved_from, stood_at}
 use Rattle.dav_model.specs.Head.{Stood, refusal, stood_in}
-use Rattle.dav_model.specs.Plans.{Act, Ask, Halt, delete_plan, does, failing, first, halts, has_link_below, is_dir_found, is_too_deep, line, plan, refused, removal, removals, removing, stands, stays_localized, unless, unmet, when}
+use Rattle.dav_model.specs.Plans.{Act, Ask, Halt, delete_plan, does, failing, first, halts, has_link_below, is_dir_found, is_too_deep, line, plan, refused, removal, removals, removing, removing_by, stands, stays_localized, unless, unmet, when}
 use Rattle.dav_model.specs.Rules.{Knowledge, Rules}
-use Rattle.dav_model.specs.Valid.{IsRegular, TellsApart}
+use Rattle.dav_model.specs.Valid.{IsRegular, TellsApart, no_twins}
 use Rattle.dav_model.specs.Walks.{members_first, walk}
 use Rattle.dav_model.specs.Written.{ByActs, EndsAs, PartOf}
 use Rattle.dav_model.proofs.JoiningLemmas.{part_none}
@@ -45,8 +45,9 @@ use Rattle.dav_methods.specs.Pouring.{Writes}
 use Rattle.dav_methods.specs.Removing.{Deletes, LooksAtLink, Removes, RemovesAll, RemovesOne, goes, line_of, short as cut_short, stops, done as no_work}
 use Rattle.dav_methods.specs.Removing as own
 use Rattle.dav_methods.specs.Table.{Next, Unless}
-use Rattle.dav_methods.proofs.ActsJoined.{Comes, Halted, act_by, acts_by, done_acts, halted_acts, halted_comes, short_comes, spoiled_comes}
+use Rattle.dav_methods.proofs.ActsJoined.{Comes, Halted, act_by, acts_by, comes_after, done_acts, halted_acts, halted_comes, short_comes, spoiled_comes}
 use Rattle.dav_methods.proofs.FoundStill.{found_length}
+use Rattle.dav_methods.proofs.OneRemoved.{Taken, none_more, one_acts, one_none, one_removed}
 use Rattle.dav_methods.proofs.RemovalRun.{Case, Ended, Goes, acts, began, deep_in, keeps_file_row, keeps_row, removed, removed_whole, stops_in}
 use Rattle.dav_methods.proofs.RemovalWork.{StandsAs}
 use Rattle.dav_methods.proofs.TreeRows.{at_row, in_filter, not_both, only_row, parts_of, row_at_in}
@@ -114,6 +115,12 @@ found_at w path there (Ok row) at is = by (path.slash && is_file row.kind) refl 
           kind = kind;
           slash = λ dir clear. no_slash path.slash (is_file row.kind) e (file_or row.kind (sym kind ∙ dir) (unlinked_row w.tree path.names row at clear));
         }
+
+-- a directory stands there, or none
+pub dir_found : (w : World) (at : Names) (there : Stood) (r : Result Row DiskError) → look w.tree at ≡ r → stood_at false w r ≡ Ok there → has_dir w.tree at ≡ is_dir there.kind
+dir_found w at there (Err e) seen is = cc
+dir_found w at there (Ok row) seen is =
+    let same : stood_in w row ≡ there = cc in ap is_dir_row (look_there w.tree [] at row seen) ∙ ap (λ (s : Stood). is_dir s.kind) same
 
 -- ---- lines
 
@@ -213,9 +220,11 @@ plan_lines : (rules : Rules) (w : World) (path : WebPath) (fields : Fields) (bod
 plan_lines rules w path fields body some = rw (not_root path.names some) refl
 
 -- The acts of the plan are those of the removal, by what ends it.
-pub planned : (rules : Rules) (w : World) (path : WebPath) (x : Case) → x.top ≡ resolved rules w.tree path.names → x.old ≡ w.tree → removing rules w path ≡ acts rules x (walked w.tree x.top)
-planned rules w path x top old =
-    ap (λ z. removals rules (walk members_first z w.tree)) (sym top)
+pub planned : (rules : Rules) (w : World) (path : WebPath) (x : Case) → rules.alone ≡ None → x.top ≡ resolved rules w.tree path.names → x.old ≡ w.tree
+    → removing rules w path ≡ acts rules x (walked w.tree x.top)
+planned rules w path x alone top old =
+    ap (λ o. removing_by o rules w path) alone
+    ∙ ap (λ z. removals rules (walk members_first z w.tree)) (sym top)
     ∙ removals_are rules (stops_in rules x) (going x.top w.tree) (going x.top w.tree)
     (λ r i. ap (λ b. b || deep_in x r.path) (ap (keeps_row rules) (row_there r (from_order members_first r (filter (λ row. is_front x.top row.path) w.tree) i)))
     ∙ ap (λ (rows : List Row). stays_localized rules r || is_too_deep (going x.top rows) r.path) old)
@@ -246,14 +255,20 @@ hidden_by true x there e = cc
 hidden_by false x there e = (refl, e)
 
 -- a look that found something in the tree, and no file that stands for none
-pub seen_stood : (rules : Rules) (w : World) (path : WebPath) (there : Stood) → rules.alone ≡ None → is_virtual rules path ≡ false → stands rules w path ≡ Ok there
-    → ((rules.macos && is_localized (resolved rules w.tree path.names)) ≡ false) × (stood_at path.slash w (look w.tree (resolved rules w.tree path.names)) ≡ Ok there)
-seen_stood rules w path there alone plain is =
+pub seen_row : (rules : Rules) (w : World) (path : WebPath) (there : Stood) → is_virtual rules path ≡ false → stands rules w path ≡ Ok there
+    → ((rules.macos && is_localized (resolved rules w.tree path.names)) ≡ false) × (stood_at (has_slash rules.alone path) w (look w.tree (resolved rules w.tree path.names)) ≡ Ok there)
+seen_row rules w path there plain is =
     let at : Names = resolved rules w.tree path.names in
     let shown : cond ((rules.macos && is_localized at) || false) (Err fs.NotFound) (stood_at (has_slash rules.alone path) w (look w.tree at)) ≡ Ok there =
     sym (ap (λ b. cond b (Ok empty_file) (cond ((rules.macos && is_localized at) || false) (Err fs.NotFound) (stood_at (has_slash rules.alone path) w (look w.tree at)))) plain) ∙ is in
     let (unhidden, stood) = hidden_by ((rules.macos && is_localized at) || false) (stood_at (has_slash rules.alone path) w (look w.tree at)) there shown in
-    (sym (or_no (rules.macos && is_localized at)) ∙ unhidden, sym (ap (λ (o : Option Names). stood_at (has_slash o path) w (look w.tree at)) alone) ∙ stood)
+    (sym (or_no (rules.macos && is_localized at)) ∙ unhidden, stood)
+
+pub seen_stood : (rules : Rules) (w : World) (path : WebPath) (there : Stood) → rules.alone ≡ None → is_virtual rules path ≡ false → stands rules w path ≡ Ok there
+    → ((rules.macos && is_localized (resolved rules w.tree path.names)) ≡ false) × (stood_at path.slash w (look w.tree (resolved rules w.tree path.names)) ≡ Ok there)
+seen_stood rules w path there alone plain is =
+    let seen = seen_row rules w path there plain is in
+    (seen.0, sym (ap (λ (o : Option Names). stood_at (has_slash o path) w (look w.tree (resolved rules w.tree path.names))) alone) ∙ seen.1)
 
 -- the empty file is no directory, and its name is one that stays
 pub virtual_file : (rules : Rules) (w : World) (path : WebPath) (there : Stood) → is_virtual rules path ≡ true → stands rules w path ≡ Ok there → is_dir there.kind ≡ false
@@ -264,7 +279,7 @@ virtual_file rules w path there virtual is =
     let same : empty_file ≡ there = cc in ap (λ (x : Stood). is_dir x.kind) (sym same)
 
 module _ {S C F L E : Type 0} (view : View S C F) (lists : Listings S C L E) (writes : Writes F) (c : C) (rules : Rules) (path : WebPath) (fields : Fields) (body : List ℕ) (start : S)
-    (k : Knowledge) (follows : Follows view lists writes c rules k start) (alone : rules.alone ≡ None) where
+    (k : Knowledge) (follows : Follows view lists writes c rules k start) where
   abbrev ask : Ask
   ask = ask_for path fields body
 
@@ -341,12 +356,6 @@ module _ {S C F L E : Type 0} (view : View S C F) (lists : Listings S C L E) (wr
 
   -- ---- a file that stays by its name
 
-  none_more : (works : List Work) (a b : S) (line : Line) → works ≡ [] → Removes view lists c works a line b → (b ≡ a) × ((line ≡ Ok tt) ⊎ (line ≡ Err dav.NoMemory))
-  none_more works a b line e (no_work x) = (refl, inl refl)
-  none_more works a b line e (cut_short others x) = (refl, inr refl)
-  none_more works a b line e (goes work others rest x m y l one more) = cc
-  none_more works a b line e (stops work others rest x y d one) = cc
-
   -- what the removal of such a file comes to: it is refused
   abbrev pub Stays : Line → World → World → Type 0
   Stays all u w = SameBesidesOpens u w × ((all ≡ Err dav.NoMemory) ⊎ (all ≡ Err (of_fs fs.Forbidden)))
@@ -369,7 +378,7 @@ module _ {S C F L E : Type 0} (view : View S C F) (lists : Listings S C L E) (wr
         where
           on : RemovesOne view lists c (Whole path false) others x (Ok tt) n rest → ToldIn x y (Stays l)
           on (gone, call, ok, e) =
-              let (same, ended) = none_more rest n y l (e ∙ none) more in
+              let (same, ended) = none_more view lists c rest n y l (e ∙ none) more in
               both_map (view.state x).told (view.state y).told (Removal x gone n) (Stays l)
               (λ v w calls. absurd (let refused = (calls.refused (shut_or (has_slash rules.alone path) shut)).0 in let f : Ok tt ≡ line_of (Err fs.Forbidden) = ok ∙ ap line_of refused in cc))
               (subst (λ (z : S). Both (view.state x).told (view.state z).told (Removal x gone n)) (sym same) (follows.removes_file x n path gone reached call))
@@ -401,14 +410,24 @@ module _ {S C F L E : Type 0} (view : View S C F) (lists : Listings S C L E) (wr
       by (inr e) =
           subst (λ z. Came z (halts (line 403) ∷ []) t v w) (sym e) (halted_comes view fields start (of_fs fs.Forbidden) (line 403) [] t v w refl refl both_kept)
 
+  -- the empty file is none of what goes
+  no_virtual : (v : World) (there : Stood) (b : Bool) → stands rules v path ≡ Ok there → (is_forbidden rules path && not (is_dir there.kind)) ≡ false → is_virtual rules path ≡ b
+      → is_virtual rules path ≡ false
+  no_virtual v there false was open_at e = e
+  no_virtual v there true was open_at e =
+      let file = virtual_file rules v path there e was in
+      let shut : (is_forbidden rules path && not (is_dir there.kind)) ≡ true =
+      ap (λ b. (b || (rules.macos && is_localized path.names)) && not (is_dir there.kind)) e ∙ ap not file in
+      not_both (is_forbidden rules path && not (is_dir there.kind)) shut open_at
+
   -- What stands there goes, where no file of its name stays.
-  pub goes_whole : (all : Line) (t : S) (there : Stood) (v u w : World) → IsWorld v → 0 < length path.names → TellsApart rules v → is_linked v.tree (top_in v) ≡ false
+  pub goes_whole : (alone : rules.alone ≡ None) (all : Line) (t : S) (there : Stood) (v u w : World) → IsWorld v → 0 < length path.names → TellsApart rules v → is_linked v.tree (top_in v) ≡ false
       → has_link_below v.tree (top_in v) ≡ false → SameBesidesOpens v u → stands rules v path ≡ Ok there
       → (is_forbidden rules path && not (is_dir there.kind)) ≡ false → Goes view lists writes c rules fields start k follows alone (Whole path (is_dir there.kind) ∷ []) all t u w
       → (x : Case) × (x.top ≡ top_in v) × (x.old ≡ v.tree) × Came all (acts rules x (walked v.tree (top_in v))) t v w × Ended view lists writes c rules fields start k follows alone all x w
-  goes_whole all t there v u w world some apart clear below same was open_at work_goes =
+  goes_whole alone all t there v u w world some apart clear below same was open_at work_goes =
       let top : Names = top_in v in
-      let plain = no_virtual (is_virtual rules path) refl in
+      let plain = no_virtual v there (is_virtual rules path) was open_at refl in
       let seen = seen_stood rules v path there alone plain was in
       let stood = found_at v (record path { names = top }) there (look v.tree top) refl seen.1 in
       let long : length path.names ≡ length top = sym (ap length (ap (λ o. or_walk o (resolved_from rules.folds v.tree [] path.names)) alone) ∙ found_length rules.folds v.tree path.names) in
@@ -418,14 +437,6 @@ module _ {S C F L E : Type 0} (view : View S C F) (lists : Listings S C L E) (wr
       (λ file. (no_name (is_dir there.kind) refl file stood, keeps_file_row rules v.tree (parts_of v.tree world.tree) top file ∙ seen.0)) same work_goes in
       (began path top v world some_top long clear below, refl, refl, both.0, both.1)
     where
-      no_virtual : (b : Bool) → is_virtual rules path ≡ b → is_virtual rules path ≡ false
-      no_virtual false e = e
-      no_virtual true e =
-          let file = virtual_file rules v path there e was in
-          let shut : (is_forbidden rules path && not (is_dir there.kind)) ≡ true =
-          ap (λ b. (b || (rules.macos && is_localized path.names)) && not (is_dir there.kind)) e ∙ ap not file in
-          not_both (is_forbidden rules path && not (is_dir there.kind)) shut open_at
-
       no_name : (d : Bool) → is_dir there.kind ≡ d → StandsAs v.tree (top_in v) false → (f : Found v (record path { names = top_in v }) there) → is_forbidden rules path ≡ false
       no_name false e file f = and_open (is_forbidden rules path) (ap (λ b. is_forbidden rules path && not b) (sym e) ∙ open_at)
         where
@@ -436,17 +447,60 @@ module _ {S C F L E : Type 0} (view : View S C F) (lists : Listings S C L E) (wr
           let one : file.row ≡ f.row = only_row v.tree file.row f.row (parts_of v.tree world.tree) file.in_tree f.in_tree (file.at ∙ sym f.at) in
           not_both (is_dir file.row.kind) (ap (λ (r : Row). is_dir r.kind) one ∙ (sym f.kind ∙ e)) file.kind
 
+  -- ---- what the removal makes of the world before the look
+
+  -- What its acts come to, where no link is met and no file of its name stays.
+  abbrev pub Clears : Bool → Line → S → World → World → Type 0
+  Clears dir all t u w = (v : World) (there : Stood) → IsWorld v → 0 < length path.names → TellsApart rules v → (is_linked v.tree (top_in v) ≡ false) × (has_link_below v.tree (top_in v) ≡ false)
+      → SameBesidesOpens v u → stands rules v path ≡ Ok there → is_dir there.kind ≡ dir → (is_forbidden rules path && not (is_dir there.kind)) ≡ false
+      → Came all (removing rules v path) t v w
+
+  -- rows at the path and below it
+  all_clears : (alone : rules.alone ≡ None) (dir : Bool) (all : Line) (t : S) (u w : World) → Goes view lists writes c rules fields start k follows alone (Whole path dir ∷ []) all t u w
+      → Clears dir all t u w
+  all_clears alone dir all t u w work_goes v there world some apart clear same was is open_at =
+      let (x, top, old, came, ended) = goes_whole alone all t there v u w world some apart clear.0 clear.1 same was open_at
+      (subst (λ d. Goes view lists writes c rules fields start k follows alone (Whole path d ∷ []) all t u w) (sym is) work_goes) in
+      subst (λ z. Came all z t v w) (sym (planned rules v path x alone top old ∙ ap (λ z. acts rules x (walked v.tree z)) top)) came
+
+  -- the one file that each path names
+  one_clears : (file : Names) (alone : rules.alone ≡ Some file) (dir : Bool) (all : Line) (t : S) (u w : World) → IsWorld u × Taken view lists writes c rules fields start k follows file alone path dir all t u w
+      → Clears dir all t u w
+  one_clears file alone dir all t u w (now, taken) v there world some apart clear same was is open_at =
+      let at : top_in v ≡ file = ap (λ o. or_walk o (resolved_from rules.folds v.tree [] path.names)) alone in
+      let seen = seen_row rules v path there (no_virtual v there (is_virtual rules path) was open_at refl) was in
+      let looked : stood_at false v (look v.tree file) ≡ Ok there =
+      ap (λ (o : Option Names). stood_at (has_slash o path) v (look v.tree file)) (sym alone) ∙ (ap (λ z. stood_at (has_slash rules.alone path) v (look v.tree z)) (sym at) ∙ seen.1) in
+      let stood = dir_found v file there (look v.tree file) refl looked in
+      subst (λ z. Came all z t v w) (sym (ap (λ o. removing_by o rules v path) alone))
+      (comes_after view fields start all (one_acts v.tree file path) t v u w (one_none v.tree file path) same
+      (subst (λ (rows : List Row). Came all (one_acts rows file path) t u w) same.tree
+      (taken (record {
+        world = now;
+        apart = λ folds. ap no_twins same.tree ∙ apart folds;
+        free = ap (λ (rows : List Row). is_linked rows file) same.tree ∙ (ap (is_linked v.tree) (sym at) ∙ clear.0);
+        below = ap (λ (rows : List Row). has_link_below rows file) same.tree ∙ (ap (has_link_below v.tree) (sym at) ∙ clear.1);
+      }) (ap (λ (rows : List Row). has_dir rows file) same.tree ∙ (stood ∙ is)))))
+
+  -- What stands there goes as the plan says, under all rules.
+  pub clears : (o : Option Names) → rules.alone ≡ o → (dir : Bool) (m t : S) (all : Line) → Reached view lists writes c start m → (is_forbidden rules path && not dir) ≡ false
+      → Removes view lists c (Whole path dir ∷ []) m all t → ToldIn m t (Clears dir all t)
+  clears None alone dir m t all reached open_at removes =
+      both_map (view.state m).told (view.state t).told (Goes view lists writes c rules fields start k follows alone (Whole path dir ∷ []) all t) (Clears dir all t)
+      (λ u w work_goes. all_clears alone dir all t u w work_goes) (removed view lists writes c rules fields start k follows alone (Whole path dir ∷ []) m t all removes reached)
+  clears (Some file) alone dir m t all reached open_at removes =
+      both_map (view.state m).told (view.state t).told _ (Clears dir all t) (λ u w taken. one_clears file alone dir all t u w taken)
+      (both_from (view.state m).told (view.state t).told (Taken view lists writes c rules fields start k follows file alone path dir all t) IsWorld
+      (one_removed view lists writes c rules fields start k follows file alone path dir m t all open_at reached removes) (λ u told. follows.trees m u reached told))
+
   -- No line fits: what stands there goes.
-  removes_right : (all : Line) (m t : S) (found : Result Info FsError) (v u w : World) → IsWorld v → 0 < length path.names → IsRegular rules k v → is_linked v.tree (top_in v) ≡ false
-      → has_link_below v.tree (top_in v) ≡ false → SameBesidesOpens v u → (pass : Passed (is_forbidden rules path) fields (stands rules v path) found)
-      → (is_forbidden rules path && not (is_dir pass.there.kind)) ≡ false → Goes view lists writes c rules fields start k follows alone (Whole path (is_dir_there found) ∷ []) all t u w
-      → Right (the.unless all the.silent) t v w
-  removes_right all m t found v u w world some regular clear below same pass open_at work_goes =
-      let (x, top, old, came, ended) = goes_whole all t pass.there v u w world some regular.apart clear below same pass.was open_at
-      (subst (λ d. Goes view lists writes c rules fields start k follows alone (Whole path d ∷ []) all t u w) pass.dir work_goes) in
-      right_of all t v w (acts rules x (walked v.tree (top_in v)))
-      (plan_lines rules v path fields body some ∙ (ap (λ o. unless o (removing rules v path)) (pass.last ∙ ap (λ b. when b 403) open_at)
-      ∙ (planned rules v path x top old ∙ ap (λ z. acts rules x (walked v.tree z)) top))) came
+  removes_right : (all : Line) (t : S) (found : Result Info FsError) (v u w : World) → IsWorld v → 0 < length path.names → IsRegular rules k v
+      → (is_linked v.tree (top_in v) ≡ false) × (has_link_below v.tree (top_in v) ≡ false) → SameBesidesOpens v u → (pass : Passed (is_forbidden rules path) fields (stands rules v path) found)
+      → (is_forbidden rules path && not (is_dir pass.there.kind)) ≡ false → Clears (is_dir_there found) all t u w → Right (the.unless all the.silent) t v w
+  removes_right all t found v u w world some regular clear same pass open_at cleared =
+      right_of all t v w (removing rules v path)
+      (plan_lines rules v path fields body some ∙ ap (λ o. unless o (removing rules v path)) (pass.last ∙ ap (λ b. when b 403) open_at))
+      (cleared v pass.there world some regular.apart clear same pass.was (sym pass.dir) open_at)
 
   -- whether the last line fits
   removes_later : (m t : S) (found : Result Info FsError) (r : Given) → 0 < length path.names → Reached view lists writes c start m → may_delete fields found ≡ Ok tt
@@ -472,14 +526,14 @@ module _ {S C F L E : Type 0} (view : View S C F) (lists : Listings S C L E) (wr
           on (inr (inl (g, rose))) = subst (λ z. Right z t v w) is (spoiled v w (inl g))
           on (inr (inr g)) = subst (λ z. Right z t v w) is (spoiled v w (inr g))
 
-      goes_all : (u w : World) → Goes view lists writes c rules fields start k follows alone (Whole path (is_dir_there found) ∷ []) all t u w → (is_forbidden rules path && not (is_dir_there found)) ≡ false → Later m found r t u w
-      goes_all u w work_goes open_at v world looks = subst (λ z. Right z t v w) (sym is) (where_clear (the.unless all the.silent) t v w (λ regular clear. on regular clear (looks.1 regular clear.0)))
+      goes_all : (u w : World) → Clears (is_dir_there found) all t u w → (is_forbidden rules path && not (is_dir_there found)) ≡ false → Later m found r t u w
+      goes_all u w cleared open_at v world looks = subst (λ z. Right z t v w) (sym is) (where_clear (the.unless all the.silent) t v w (λ regular clear. on regular clear (looks.1 regular clear.0)))
         where
           on : IsRegular rules k v → (is_linked v.tree (top_in v) ≡ false) × (has_link_below v.tree (top_in v) ≡ false) → Finds (stands rules v path) found ⊎ Spoiled (view.state start) found (view.state m)
               → Right (the.unless all the.silent) t v w
           on regular clear (inl finds) =
               let pass = passed (is_forbidden rules path) fields (stands rules v path) found finds e in
-              removes_right all m t found v u w world some regular clear.0 clear.1 looks.0 pass (ap (λ d. is_forbidden rules path && not d) (sym pass.dir) ∙ open_at) work_goes
+              removes_right all t found v u w world some regular clear looks.0 pass (ap (λ d. is_forbidden rules path && not d) (sym pass.dir) ∙ open_at) cleared
           on regular clear (inr (inl (g, rose))) = subst (λ z. Right z t v w) is (spoiled v w (inl g))
           on regular clear (inr (inr g)) = subst (λ z. Right z t v w) is (spoiled v w (inr g))
 
@@ -489,9 +543,9 @@ module _ {S C F L E : Type 0} (view : View S C F) (lists : Listings S C L E) (wr
           both_map (view.state m).told (view.state t).told (Stays all) (Later m found r t) (λ u w kept. stays u w kept shut)
           (stays_told (Whole path (is_dir_there found) ∷ []) m t all (ap (λ d. Whole path d ∷ []) parts.1) parts.0 reached removes)
       by_name false open_at =
-          both_map (view.state m).told (view.state t).told (Goes view lists writes c rules fields start k follows alone (Whole path (is_dir_there found) ∷ []) all t) (Later m found r t)
-          (λ u w work_goes. goes_all u w work_goes open_at)
-          (removed view lists writes c rules fields start k follows alone (Whole path (is_dir_there found) ∷ []) m t all removes reached)
+          both_map (view.state m).told (view.state t).told (Clears (is_dir_there found) all t) (Later m found r t)
+          (λ u w cleared. goes_all u w cleared open_at)
+          (clears rules.alone refl (is_dir_there found) m t all reached open_at removes)
 
   after_line : (o : Line) (m t : S) (found : Result Info FsError) (r : Given) → 0 < length path.names → Reached view lists writes c start m → may_delete fields found ≡ o
       → Unless o (RemovesAll view lists c path (is_dir_there found)) m r t → ToldIn m t (Later m found r t)

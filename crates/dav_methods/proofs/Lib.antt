@@ -21,7 +21,7 @@ pub mod PutFollows
 pub mod OpenedFile
 pub mod WalkOrder
 pub mod TreeRows
-mod RemovalWork
+pub mod RemovalWork
 mod ApartKept
 mod FoundStill
 mod PlaceCleared
@@ -30,12 +30,15 @@ mod WorkCovers
 mod ActsJoined
 pub mod ListingsLead
 mod RemovalRun
-pub mod DeleteRight
 mod CallDone
-mod Beside
+mod OneRemoved
+pub mod DeleteRight
+pub mod Beside
 mod FreePlaces
-pub mod CarryRight
-pub mod MoveDone
+mod TimedRows
+mod CarryLooks
+mod CarryRight
+mod MoveDone
 mod CopyOrder
 mod CopyPlaces
 mod CopyCovers
@@ -44,7 +47,11 @@ mod CopyReady
 mod CopyAsked
 mod CopyRun
 mod CopyHidden
-pub mod CopyActs
+mod CopyActs
+mod OneGone
+mod CarryOne
+mod CopyOne
+pub mod CarriedRight
 pub mod RemovalsListed
 mod Addresses
 mod Overlaps

@@ -29,11 +29,11 @@ overlap-cons : (folds : Bool) (x y : List ℕ) (names others : Names) → overla
 overlap-cons true x y names others = meets-cons (fold_name x) (fold_name y) (fold_path names) (fold_path others)
 overlap-cons false x y names others = meets-cons x y names others
 
-none_ahead : (folds : Bool) (others : Names) → overlap folds [] others ≡ true
+pub none_ahead : (folds : Bool) (others : Names) → overlap folds [] others ≡ true
 none_ahead true others = refl
 none_ahead false others = refl
 
-none_behind : (folds : Bool) (x : List ℕ) (names : Names) → overlap folds (x ∷ names) [] ≡ true
+pub none_behind : (folds : Bool) (x : List ℕ) (names : Names) → overlap folds (x ∷ names) [] ≡ true
 none_behind true x names = refl
 none_behind false x names = refl
 

@@ -7,9 +7,10 @@ use Rattle.dav_core.specs.declared.tree.Row.{Row}
 use Rattle.dav_core.specs.declared.time.FileTime.{FileTime}
 use Rattle.dav_core.specs.Allowed.{found_then, is_root, taking_dir, taking_dir_row, taking_file, taking_file_row}
 use Rattle.dav_core.specs.Changes.{is_leaf, timed_row, without}
-use Rattle.dav_core.specs.Edits.{takes}
+use Rattle.dav_core.specs.Edits.{Edited, takes}
 use Rattle.dav_core.specs.Path.{Names, is_front, parent_of, same_names}
 use Rattle.dav_core.specs.Tree.{is_dir, is_link, is_linked, is_tree, look}
+use Rattle.dav_core.specs.World.{World}
 use Rattle.dav_model.specs.Plans.{has_link_below}
 use Rattle.dav_model.specs.Walks.{members_first}
 use Rattle.dav_methods.proofs.TreeRows.{Parts, above, all_at, all_in, any_none, both, false_or, filter_in, front_itself, front_length, front_rest, front_then, fronts_meet, in_filter, look_row, not_both, not_true, only_row, parts_of, same_of, same_yes}
@@ -96,6 +97,22 @@ row_taken p t now x i other =
     path_in x.path (timed_row (parent_of p) t x) (map (timed_row (parent_of p) t) (without p now))
     (map_in (timed_row (parent_of p) t) (without p now) x (filter_in (λ row. not (is_front p row.path)) now x (not_false (is_front p x.path) other) i))
     (timed_path (same_names (parent_of p) x.path) (parent_of p) t x refl)
+
+-- what is left stood, and what stood beside is left
+pub back_taken : (p : Names) (v u : World) → Edited (takes p) v u → (r : Row) → In r u.tree → (o : Row) × In o v.tree × (o.path ≡ r.path) × (o.kind ≡ r.kind)
+back_taken p v u (t, new, is) r i = let (x, j, other, at, kind) = taken_row p t v.tree r (subst (In r) is.tree i) in (x, j, sym at, sym kind)
+
+pub up_taken : (p : Names) (v u : World) → Edited (takes p) v u → (r : Row) → In r v.tree → is_front p r.path ≡ false → (s : Row) × In s u.tree × (s.path ≡ r.path) × (s.kind ≡ r.kind)
+up_taken p v u (t, new, is) r i other = (
+  timed_row (parent_of p) t r,
+  subst (In (timed_row (parent_of p) t r)) (sym is.tree)
+      (map_in (timed_row (parent_of p) t) (without p v.tree) r (filter_in (λ row. not (is_front p row.path)) v.tree r (not_false (is_front p r.path) other) i)),
+  timed_path (same_names (parent_of p) r.path) (parent_of p) t r refl,
+  timed_kind (same_names (parent_of p) r.path) (parent_of p) t r refl,
+)
+
+pub taken_free : (p : Names) (v u : World) → Edited (takes p) v u → (r : Row) → In r u.tree → is_front p r.path ≡ false
+taken_free p v u (t, new, is) r i = let (x, j, other, at, kind) = taken_row p t v.tree r (subst (In r) is.tree i) in subst (λ q. is_front p q ≡ false) (sym at) other
 
 -- The first of the paths that are left was taken.
 pub left_taken : (top : Names) (old now : List Row) (p : Names) (t : FileTime) (left : List Names) → Left top old now (p ∷ left)

@@ -202,7 +202,7 @@ pub record DirAt (rows : List Row) (path : Names) : Type 0 where
   pub at : row.path ≡ path
   pub dir : is_dir row.kind ≡ true
 
-dir_at : (rows : List Row) (path : Names) → has_dir rows path ≡ true → DirAt rows path
+pub dir_at : (rows : List Row) (path : Names) → has_dir rows path ≡ true → DirAt rows path
 dir_at rows path e = let (d, at, kind) = dir_row (row_at rows path) e in let t = row_at_in rows path d at in record { row = d; in_tree = t.0; at = t.1; dir = kind }
 
 below_root : (b x y : Bool) → b ≡ false → cond b x y ≡ true → y ≡ true
@@ -246,7 +246,7 @@ dir_kind Dir e = refl
 dir_kind File e = cc
 dir_kind Link e = cc
 
-below_dir : (o : Option Row) (d : Row) (found : Result Row DiskError) → o ≡ Some d → is_dir d.kind ≡ true → below o found ≡ found
+pub below_dir : (o : Option Row) (d : Row) (found : Result Row DiskError) → o ≡ Some d → is_dir d.kind ≡ true → below o found ≡ found
 below_dir o d found e dir = ap (λ x. below x found) e ∙ ap (λ k. below_kind k found) (dir_kind d.kind dir)
 
 pub longer : (at names : Names) (name : List ℕ) → at ≡ at ++ name ∷ names → ⊥

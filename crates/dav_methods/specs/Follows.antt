@@ -1,6 +1,6 @@
 -- A store that stands over a told disk by rules: what each of its calls does to the told world. Where a link stands on
 -- the way to a path nothing is said.
-use Rattle.std.specs.Prelude.{◌≤◌, ◌≡◌, ◌⊎◌, ◌+◌, ◌||◌, ℕ, List, [], map, take, length, Bool, true, false, Option, None, Some, Result, Ok, Err}
+use Rattle.std.specs.Prelude.{◌≤◌, ◌≡◌, ◌⊎◌, ◌+◌, ◌||◌, ℕ, List, [], map, take, length, Bool, true, false, Option, Some, Result, Ok, Err}
 use Rattle.std.specs.List.{filter}
 use Rattle.dav_io.specs.Counts.{Rose}
 use Rattle.dav_io.specs.Told.{Both}
@@ -169,9 +169,12 @@ module _ {S C F L E : Type 0} (view : View S C F) (lists : Listings S C L E) (wr
   IfBothFound rules v from to P = TellsApart rules v → is_linked v.tree (resolved rules v.tree from.names) ≡ false
       → is_linked v.tree (resolved rules v.tree to.names) ≡ false → P
 
-  -- A move isn't refused since a directory would take the place of a file.
-  abbrev pub IfPlaced : World → Names → Names → Type 0 → Type 0
-  IfPlaced v from to P = (moving v.tree from to ≡ Err NotDir → row_at v.tree to ≡ None) → P
+  -- A move does what is allowed. Where it is refused since a directory would take the place of a file, a store may take
+  -- the file away, and then do what is allowed.
+  abbrev pub MovesBy : Names → Names → S → Result Unit FsError → S → World → World → Type 0
+  MovesBy from to m r n v w = Calls (moving v.tree from to) m r n v w
+      ⊎ ((moving v.tree from to ≡ Err NotDir) × (x : World) × Calls (taking_file v.tree to) m (Ok tt) n v x
+      × Calls (moving x.tree from to) m r n x w)
 
   -- From here on each call does to the told world what the rules say, where the memory knew so much. What it knows is
   -- asked for by looks alone, which come before what a request changes.
@@ -197,12 +200,10 @@ module _ {S C F L E : Type 0} (view : View S C F) (lists : Listings S C L E) (wr
         → view.removes_file m c path r n
         → Told m n (λ v w. UnlessShut (is_forbidden rules path || has_slash rules.alone path) r v w
         (IfFound rules v path (Calls (taking_file v.tree (resolved rules v.tree path.names)) m r n v w)))
-    -- (but where the disk puts no directory in the place of a file that stands: a store may make two edits of such a move)
     pub renames : (m n : S) (from to : WebPath) (r : Result Unit FsError) → Reached s m → view.renames m c from to r n
         → Told m n (λ v w. UnlessShut (is_forbidden rules from || is_forbidden rules to) r v w
         (IfBothFound rules v from to
-        (IfPlaced v (resolved rules v.tree from.names) (resolved rules v.tree to.names)
-        (Calls (moving v.tree (resolved rules v.tree from.names) (resolved rules v.tree to.names)) m r n v w))))
+        (MovesBy (resolved rules v.tree from.names) (resolved rules v.tree to.names) m r n v w)))
     pub copies : (m n : S) (from to : WebPath) (r : Result Unit FsError) → Reached s m → view.copies m c from to r n
         → Told m n (λ v w. UnlessShut (is_forbidden rules from || is_forbidden rules to) r v w
         (IfBothFound rules v from to
@@ -240,10 +241,10 @@ module _ {S C F L E : Type 0} (view : View S C F) (lists : Listings S C L E) (wr
       → CarriesIn rules moves ask result (Rose (view.state s).faults (view.state t).faults) v w
 
   -- A COPY or a MOVE is answered by the plan of what its fields ask for, and makes of a world of a valid run what the
-  -- plan says, over a store that follows rules such as these.
-  abbrev pub CarriesByPlan : Bool → (Rules → Type 0) → Type 0
-  CarriesByPlan moves Such = (rules : Rules) (k : Knowledge) (s : S) → Follows rules k s → Such rules
-      → (path : WebPath) (fields : Fields) (body : List ℕ) (r : Given) (t : S)
+  -- plan says.
+  abbrev pub CarriesByPlan : Bool → Type 0
+  CarriesByPlan moves = (rules : Rules) (k : Knowledge) (s : S) → Follows rules k s → (path : WebPath)
+      (fields : Fields) (body : List ℕ) (r : Given) (t : S)
       → Next (CopyMoves view lists c moves rules.settings.prefix path fields) s r t
       → Told s t (λ v w. IsRegular rules k v → CarriedIn rules moves
       (record { method = method_of moves; path = path; fields = fields; body = body }) s r t v w)

@@ -1,5 +1,5 @@
 //! Laws over the table of DELETE, each the contract of a function that does nothing.
-ghost use Rattle.std.specs.Prelude.{◌≡◌, ℕ, List, None};
+ghost use Rattle.std.specs.Prelude.{ℕ, List};
 ghost use Rattle.dav_core.specs.declared.method.DavMethod.TheVariants.{Delete};
 ghost use Rattle.dav_core.specs.DavPath.{WebPath};
 ghost use Rattle.dav_model.specs.Conditions.{Fields};
@@ -21,12 +21,11 @@ pub fn removals_are_listed<S: GuardedFileSystem<C>, C>()
         → Answers Delete prefix fields S.view s r t }
 {}
 
-/// Over a store that follows its rules, of which none is that each path names one file, a DELETE makes of a world of a
-/// valid run what its plan says, and is answered so: the members of a directory go before it in the order of their
-/// names; after a refusal what went before stays removed.
+/// Over a store that follows its rules a DELETE makes of a world of a valid run what its plan says, and is answered so:
+/// the members of a directory go before it in the order of their names; after a refusal what went before stays removed.
+/// Where each path names one file what stands in its place goes in one change, or nothing does.
 pub fn removals_follow_their_plan<S: GuardedFileSystem<C>, C>()
     ensures { (c : C) (rules : Rules) (k : Knowledge) (s : S) → Follows S.view S.listings S.File.view.writes c rules k s
-        → rules.alone ≡ None
         → (path : WebPath) (fields : Fields) (body : List ℕ) (r : Given) (t : S)
         → Deletes S.view S.listings c path fields s r t
         → Told S.view S.listings S.File.view.writes c s t (λ v w. IsRegular rules k v

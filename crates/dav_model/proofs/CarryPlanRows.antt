@@ -1,5 +1,5 @@
 -- Worked plans of COPY and MOVE.
-use Rattle.std.specs.Prelude.{◌≡◌, ℕ, List, [], ◌∷◌, codes, pos, Bool, true, false, None, Some, Ok, Err, refl}
+use Rattle.std.proofs.Common.{◌≡◌, ◌⊎◌, ℕ, List, [], ◌∷◌, ◌++◌, codes, pos, Bool, true, false, None, Some, Ok, Err, refl, inl, inr}
 use Rattle.dav_core.specs.declared.dav_error.DavError.TheVariants.{Path}
 use Rattle.dav_core.specs.declared.parse_error.ParseError.TheVariants.{PrefixMismatch}
 use Rattle.dav_core.specs.declared.method.DavMethod.TheVariants.{Copy}
@@ -9,12 +9,14 @@ use Rattle.dav_core.specs.declared.tree.Row.{Row}
 use Rattle.dav_core.specs.DavPath.{WebPath}
 use Rattle.dav_core.specs.Edits.{makes, moves, takes}
 use Rattle.dav_core.specs.Path.{Names}
-use Rattle.dav_core.specs.World.{World, put}
+use Rattle.dav_core.specs.World.{SameBesidesOpens, World, put}
 use Rattle.dav_model.specs.declared.asked.Asked.{Asked}
-use Rattle.dav_model.specs.CarryPlans.{carry_plan}
-use Rattle.dav_model.specs.Plans.{Plan, does, halts, line}
+use Rattle.dav_model.specs.CarryPlans.{carry_plan, moves_in}
+use Rattle.dav_model.specs.Head.{Reply, refusal}
+use Rattle.dav_model.specs.Plans.{Ask, Plan, does, halts, line}
 use Rattle.dav_model.specs.Rules.{plain_rules}
 use Rattle.dav_model.specs.Unset.{nothing_set}
+use Rattle.dav_model.specs.Written.{EndsAs, IsHeldOff, silent}
 
 abbrev row : Names → Kind → ℕ → Row
 row path kind number = record { path = path; kind = kind; number = number; time = record { secs = pos 0; nanos = 0 } }
@@ -90,3 +92,78 @@ moves_new = refl
 elsewhere : (carry_plan (plain_rules nothing_set) w (record { method = Copy; path = at (codes "s" ∷ []) false; fields = []; body = [] }) (Err (Path PrefixMismatch))).acts
     ≡ halts (line 404) ∷ []
 elsewhere = refl
+
+-- ---- over one file that is served alone
+
+abbrev by_path : Names → Ask
+by_path from = record { method = Copy; path = at from false; fields = []; body = [] }
+
+-- by the place of the file
+abbrev over_one : Names → Asked → Plan
+over_one file asked = carry_plan (record (plain_rules nothing_set) { alone = Some file }) w (by_path (codes "x" ∷ [])) (Ok asked)
+
+-- The file stands, and no directory above what is asked for.
+one_file : (over_one (codes "f" ∷ []) (asks true (codes "n" ∷ []) true false)).acts ≡ halts (line 409) ∷ []
+one_file = refl
+
+-- A directory without members came in its place. It goes, and what is to be moved went with it.
+moves_one : (over_one (codes "s" ∷ codes "b" ∷ []) (asks true (codes "n" ∷ []) true false)).acts
+    ≡ does (takes (codes "s" ∷ codes "b" ∷ [])) ∷ halts (line 404) ∷ []
+moves_one = refl
+
+copies_one : over_one (codes "s" ∷ codes "b" ∷ []) (asks false (codes "n" ∷ []) true false)
+    ≡ record {
+      acts = does (takes (codes "s" ∷ codes "b" ∷ [])) ∷ does (makes (codes "s" ∷ codes "b" ∷ []) Dir []) ∷ [];
+      done = 204;
+    }
+copies_one = refl
+
+-- What a MOVE or a COPY may be answered there, where no fault was met, and what it may leave.
+abbrev carried : Names → Asked → Reply → World → Type 0
+carried file asked reply left =
+    EndsAs [] (over_one file asked) (Ok reply) ⊥ w left ⊎ IsHeldOff (record (plain_rules nothing_set) { alone = Some file }) (by_path (codes "x" ∷ [])) (Ok asked) (Ok reply) w left
+
+-- While the file stands all are refused, and it stays.
+stays_one : (reply : Reply) (left : World) → carried (codes "f" ∷ []) (asks true (codes "n" ∷ []) true false) reply left → (reply ≡ refusal [] 409 false) × SameBesidesOpens w left
+stays_one reply left (inl (inl kept)) = kept
+stays_one reply left (inl (inr (failed, rose, part))) = absurd rose
+stays_one reply left (inr (over, is, same)) = cc
+
+keeps_one : (reply : Reply) (left : World) → carried (codes "f" ∷ []) (asks false (codes "n" ∷ []) true false) reply left → (reply ≡ refusal [] 409 false) × SameBesidesOpens w left
+keeps_one reply left (inl (inl kept)) = kept
+keeps_one reply left (inl (inr (failed, rose, part))) = absurd rose
+keeps_one reply left (inr (over, is, same)) = cc
+
+-- A directory with members stays.
+keeps_full : (reply : Reply) (left : World) → carried (codes "d" ∷ []) (asks true (codes "n" ∷ []) true false) reply left → (reply ≡ refusal [] 403 false) × SameBesidesOpens w left
+keeps_full reply left (inl (inl kept)) = kept
+keeps_full reply left (inl (inr (failed, rose, part))) = absurd rose
+keeps_full reply left (inr (over, is, same)) = cc
+
+-- Of one without members a MOVE isn't answered as done, and a COPY isn't answered 201.
+moves_none : (reply : Reply) (left : World) → carried (codes "s" ∷ codes "b" ∷ []) (asks true (codes "n" ∷ []) true false) reply left → reply ≡ refusal [] 404 false
+moves_none reply left (inl (inl (m, edited, ended))) = ended.0
+moves_none reply left (inl (inr (failed, rose, part))) = absurd rose
+moves_none reply left (inr (over, is, same)) = cc
+
+copies_silently : (reply : Reply) (left : World) → carried (codes "s" ∷ codes "b" ∷ []) (asks false (codes "n" ∷ []) true false) reply left → reply ≡ silent
+copies_silently reply left (inl (inl (m, edited, ended))) = ended.2.0
+copies_silently reply left (inl (inr (failed, rose, part))) = absurd rose
+copies_silently reply left (inr (over, is, same)) = cc
+
+-- ---- a directory is moved to where a file stands that no look shows
+
+abbrev hidden : List ℕ
+hidden = codes ".localized"
+
+abbrev with_hidden : List Row
+with_hidden = tree ++ row (hidden ∷ []) File 8 ∷ []
+
+dir_onto : moves_in with_hidden (codes "d" ∷ []) (hidden ∷ []) ≡ does (takes (hidden ∷ [])) ∷ does (moves (codes "d" ∷ []) (hidden ∷ [])) ∷ []
+dir_onto = refl
+
+file_onto : moves_in with_hidden (codes "f" ∷ []) (hidden ∷ []) ≡ does (moves (codes "f" ∷ []) (hidden ∷ [])) ∷ []
+file_onto = refl
+
+dir_into : moves_in with_hidden (codes "d" ∷ []) (codes "s" ∷ codes "n" ∷ []) ≡ does (moves (codes "d" ∷ []) (codes "s" ∷ codes "n" ∷ [])) ∷ []
+dir_into = refl

@@ -132,8 +132,8 @@ replies_by_tree (Refused status close) rules k s t fields body reply apart sound
 replies_by_tree Methods rules k s t fields body reply apart sound makes is = is
 replies_by_tree (Writes method path) rules k s t fields body reply apart sound makes is = (
   is,
-  λ said. both_known s.told t.told _ _
-      (λ v w told made. made (record { apart = apart v told; sound = sound v told })) (makes said),
+  both_known s.told t.told _ _
+      (λ v w told made. made (record { apart = apart v told; sound = sound v told })) makes,
 )
 replies_by_tree (At method path) rules k s t fields body reply apart sound makes reads = λ w told clear.
     in_valid_run rules k s t (query rules.settings fields method path) reply w told (apart w told) (sound w told) clear reads

@@ -335,7 +335,7 @@ kept_as other rules ask e rose v w same = λ clear. part_none (plan rules v ask)
 
 -- Where nothing changed, nothing of a plan was made.
 pub makes_kept : (target : Target) (rules : Rules) (k : Knowledge) (fields : Fields) (body : List ℕ) (e : NoMemory) (s t : Point) → Leaves s t → Makes target rules k fields body (Err e) s t
-makes_kept (Writes method path) rules k fields body e s t leaves = λ said.
+makes_kept (Writes method path) rules k fields body e s t leaves =
     both_map s.told t.told SameBesidesOpens (λ v w. IsRegular rules k v → MakesAs method rules (ask_of method path fields body) (Err e) (Rose s.faults t.faults) v w)
     (λ v w same regular. kept_as method rules (ask_of method path fields body) e (Rose s.faults t.faults) v w same) leaves
 makes_kept (At method path) rules k fields body e s t leaves = leaves

@@ -1,15 +1,16 @@
 -- The tables of COPY and MOVE over a world (RFC 4918, sections 9.8 and 9.9): the line that refuses a request, or the
 -- changes that it makes, in their order. What stands at the destination goes first.
-use Rattle.std.specs.Prelude.{◌&&◌, ◌||◌, ◌++◌, ℕ, List, [], ◌∷◌, map, drop, Bool, true, false, cond, not, length, is_some, Option, None, Some, Result, Ok, Err}
+use Rattle.std.specs.Prelude.{◌&&◌, ◌||◌, ◌++◌, ℕ, nat_lt, List, [], ◌∷◌, map, drop, Bool, true, false, cond, not, length, is_some, Option, None, Some, Result, Ok, Err}
 use Rattle.std.specs.List.{filter}
 use Rattle.dav_core.specs.declared.dav_error.DavError.{DavError}
 use Rattle.dav_core.specs.declared.method.DavMethod.{DavMethod}
 use Rattle.dav_core.specs.declared.method.DavMethod.TheVariants.{Copy, Move}
+use Rattle.dav_core.specs.declared.tree.Kind.TheVariants.{Dir}
 use Rattle.dav_core.specs.declared.tree.Row.{Row}
 use Rattle.dav_core.specs.Allowed.{Allowed, copying, making_dir, moving}
 use Rattle.dav_core.specs.Changes.{without}
 use Rattle.dav_core.specs.DavPath.{WebPath}
-use Rattle.dav_core.specs.Edits.{makes}
+use Rattle.dav_core.specs.Edits.{makes, takes}
 use Rattle.dav_core.specs.Errors.{fs_error_of}
 use Rattle.dav_core.specs.Path.{Names, same_names}
 use Rattle.dav_core.specs.Statuses.{closes, fs_status, status_of}
@@ -56,11 +57,25 @@ act_of (Ok (Some e)) = does e ∷ []
 act_of (Ok None) = []
 act_of (Err e) = halts (line (fs_status (fs_error_of e))) ∷ []
 
--- Where the destination is found is judged in the tree without what stood there: so the name asked for is made.
+-- a directory at one place, and at another what is none
+abbrev pub is_dir_over : Option Row → Option Row → Bool
+is_dir_over None there = false
+is_dir_over (Some row) None = false
+is_dir_over (Some row) (Some there) = is_dir row.kind && not (is_dir there.kind)
+
+-- A directory takes the place of a file by two changes: the file goes first.
+abbrev pub moves_by : Bool → List Row → Names → Names → List Act
+moves_by true tree from to = does (takes to) ∷ act_of (moving (without to tree) from to)
+moves_by false tree from to = act_of (moving tree from to)
+
+abbrev pub moves_in : List Row → Names → Names → List Act
+moves_in tree from to = moves_by (is_dir_over (row_at tree from) (row_at tree to)) tree from to
+
+-- Where the destination is found is judged in the tree without what stood there: so the name asked for is made. (Of one
+-- file that is served alone the source went with what stood at the destination: nothing is found.)
 abbrev pub move_acts : Rules → World → WebPath → WebPath → List Act
 move_acts rules w path to = unless (when (is_forbidden rules path || is_forbidden rules to) 403)
-    (act_of (moving (cleared rules w to) (resolved rules w.tree path.names)
-    (resolved rules (cleared rules w to) to.names)))
+    (moves_in (cleared rules w to) (resolved rules w.tree path.names) (resolved rules (cleared rules w to) to.names))
 
 -- ---- COPY
 
@@ -107,13 +122,24 @@ fill_acts rules w path to (Some row) = unless (when (is_deep_dir row || denies_c
     (act_of (cond (is_dir row.kind) (making_dir w.tree (resolved rules w.tree to.names))
     (copying w (resolved rules w.tree path.names) (resolved rules w.tree to.names))))
 
+-- What stood in the place of the one file that each path names was a directory without members, and went: it is made
+-- again. (One with members didn't go.)
+abbrev pub made_again : Rules → WebPath → WebPath → Names → List Act
+made_again rules path to file = unless (when (nat_lt 65536 (length path.names) || is_forbidden rules to) 403)
+    (does (makes file Dir []) ∷ [])
+
+abbrev pub made_by : Option Names → Rules → World → WebPath → WebPath → Bool → List Act
+made_by None rules w path to alone =
+    map (copy_act rules w path to (resolved rules w.tree path.names) (resolved rules (cleared rules w to) to.names))
+    (copied_rows alone (resolved rules w.tree path.names) w.tree)
+made_by (Some file) rules w path to alone = made_again rules path to file
+
 -- (What a look finds may be a file that the tree hasn't.)
 abbrev pub copy_acts : Rules → World → WebPath → WebPath → Bool → List Act
 copy_acts rules w path to alone = unless (when
     (is_forbidden rules path && not (is_dir_found (stands rules w path))) 403)
     (cond (hides rules w to) (fill_acts rules w path to (row_at w.tree (resolved rules w.tree path.names)))
-    (map (copy_act rules w path to (resolved rules w.tree path.names) (resolved rules (cleared rules w to) to.names))
-    (copied_rows alone (resolved rules w.tree path.names) w.tree)))
+    (made_by rules.alone rules w path to alone))
 
 -- ---- both
 
@@ -133,6 +159,21 @@ carry_plan rules w ask (Ok asked) = record {
   done = status_over (stands rules w asked.to);
 }
 
+-- ---- what a fault may give beside
+
+-- whether a change is made at first
+abbrev pub begins : List Act → Bool
+begins (does e ∷ acts) = true
+begins acts = false
+
+-- A directory is moved to where a file stands that no look shows, since its name is hidden from clients of macOS: the
+-- file is to go first.
+abbrev pub moves_over_hidden : Rules → World → Ask → Result Asked DavError → Bool
+moves_over_hidden rules w ask (Err e) = false
+moves_over_hidden rules w ask (Ok asked) = asked.moving && (begins (carry_plan rules w ask (Ok asked)).acts
+    && (not (is_found (stands rules w asked.to)) && is_dir_over (row_at w.tree (resolved rules w.tree ask.path.names))
+    (row_at w.tree (resolved rules w.tree asked.to.names))))
+
 -- ---- of what nothing is said
 
 -- A link stands on the way to a path, at it or below it.
@@ -144,21 +185,3 @@ abbrev pub carries_link : Rules → List Row → WebPath → Result Asked DavErr
 carries_link rules tree path (Err e) = false
 carries_link rules tree path (Ok asked) = has_link_about tree (resolved rules tree path.names)
     || has_link_about tree (resolved rules tree asked.to.names)
-
--- a directory at one place, and at another what is none
-abbrev pub is_dir_over : Option Row → Option Row → Bool
-is_dir_over None there = false
-is_dir_over (Some row) None = false
-is_dir_over (Some row) (Some there) = is_dir row.kind && not (is_dir there.kind)
-
--- A directory is moved to where a file stands that no look shows, since its name is hidden from clients of macOS. A store
--- may do so by two changes, of which nothing is said.
-abbrev pub moves_over_hidden : Rules → World → WebPath → Asked → Bool
-moves_over_hidden rules w path asked = asked.moving && (not (is_found (stands rules w asked.to))
-    && is_dir_over (row_at w.tree (resolved rules w.tree path.names))
-    (row_at w.tree (resolved rules w.tree asked.to.names)))
-
--- A request of which nothing is said.
-abbrev pub is_unsaid : Rules → World → WebPath → Result Asked DavError → Bool
-is_unsaid rules w path (Err e) = false
-is_unsaid rules w path (Ok asked) = carries_link rules w.tree path (Ok asked) || moves_over_hidden rules w path asked

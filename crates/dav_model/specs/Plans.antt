@@ -9,13 +9,14 @@ use Rattle.dav_core.specs.declared.handle.OpenOptions.{OpenOptions}
 use Rattle.dav_core.specs.declared.method.DavMethod.{DavMethod}
 use Rattle.dav_core.specs.declared.method.DavMethod.TheVariants.{Delete, MkCol, Put}
 use Rattle.dav_core.specs.declared.tree.Row.{Row}
-use Rattle.dav_core.specs.Allowed.{Allowed, is_root, making_dir, opening}
+use Rattle.dav_core.specs.Allowed.{Allowed, is_root, making_dir, opening, taking_dir, taking_file}
+use Rattle.dav_core.specs.Changes.{is_leaf}
 use Rattle.dav_core.specs.DavPath.{WebPath}
 use Rattle.dav_core.specs.Edits.{Edit, makes, fills, takes}
 use Rattle.dav_core.specs.Errors.{fs_error_of}
 use Rattle.dav_core.specs.Path.{Names, is_front, parent_of}
 use Rattle.dav_core.specs.Statuses.{fs_status}
-use Rattle.dav_core.specs.Tree.{is_dir, is_link, is_linked}
+use Rattle.dav_core.specs.Tree.{has_dir, is_dir, is_link, is_linked}
 use Rattle.dav_core.specs.World.{World}
 use Rattle.dav_model.specs.Conditions.{Fields, condition, strong}
 use Rattle.dav_model.specs.Finding.{exactly, is_forbidden, is_localized, looked_at, resolved}
@@ -211,9 +212,26 @@ removal rules rows row = cond (stays_localized rules row || is_too_deep rows row
 abbrev pub removals : Rules → List Row → List Act
 removals rules rows = map (removal rules rows) rows
 
--- What stands at a path goes: members before their directory, in the order of their names.
+-- What stands in the place of one file that is served alone goes in one change.
+abbrev pub taking : List Row → Names → Allowed
+taking tree file = cond (has_dir tree file) (taking_dir tree file) (taking_file tree file)
+
+-- A directory there that has members stays: each path below it names itself, so no call removes a member. So does one
+-- that is asked for by a path of too many names.
+abbrev pub stays_full : List Row → Names → WebPath → Bool
+stays_full tree file path = has_dir tree file && (nat_lt 65536 (length path.names) || not (is_leaf file tree))
+
+abbrev pub may_take : List Row → Names → WebPath → Option Halt
+may_take tree file path = first (when (stays_full tree file path) 403 ∷ not_allowed (taking tree file) ∷ [])
+
+-- What stands at a path goes: members before their directory, in the order of their names; or what stands in the place of
+-- the one file that each path names.
+abbrev pub removing_by : Option Names → Rules → World → WebPath → List Act
+removing_by None rules w path = removals rules (walk members_first (resolved rules w.tree path.names) w.tree)
+removing_by (Some file) rules w path = unless (may_take w.tree file path) (edits_of (taking w.tree file))
+
 abbrev pub removing : Rules → World → WebPath → List Act
-removing rules w path = removals rules (walk members_first (resolved rules w.tree path.names) w.tree)
+removing rules w path = removing_by rules.alone rules w path
 
 -- What was found is a file whose name clients of macOS may not use.
 abbrev pub keeps_file : Rules → WebPath → Result Stood FsError → Bool

@@ -33,7 +33,7 @@ use Rattle.dav_model.specs.Shown.{Shown, CouldShow}
 use Rattle.dav_model.specs.Trail.{Point, Move, Goes, Leaves, target_of, last_of, steps_of, answers_of, points_of}
 use Rattle.dav_model.specs.Valid.{Occurs, Valid}
 use Rattle.dav_model.specs.Plans.{Ask}
-use Rattle.dav_model.specs.Written.{IsSaidUnder, IsWriteReply, Makes, MakesAs, ask_of}
+use Rattle.dav_model.specs.Written.{IsWriteReply, Makes, MakesAs, ask_of}
 
 -- A player as its answers show it.
 pub record Playing : Type 0 where
@@ -248,8 +248,8 @@ IsOfTree rules s t q reply = (w : World) → s.told ≡ Some w → MeetsNoLink r
 
 -- The reply to a request that writes, and what it makes of the tree, are what its plan says.
 abbrev pub MakesOfTree : Rules → Point → Point → Ask → Reply → Type 0
-MakesOfTree rules s t ask reply = IsSaidUnder ask.method rules
-    → Both s.told t.told (MakesAs ask.method rules ask (Ok reply) (Rose s.faults t.faults))
+MakesOfTree rules s t ask reply = Both s.told t.told (MakesAs ask.method rules ask (Ok reply)
+    (Rose s.faults t.faults))
 
 abbrev pub RepliesByTree : Target → Rules → Point → Point → Fields → List ℕ → Reply → Type 0
 RepliesByTree (Refused status close) rules s t fields body reply = reply ≡ refusal fields status close

@@ -1,5 +1,5 @@
 -- What a request that writes makes of a world, by its plan, and what it is answered.
-use Rattle.std.specs.Prelude.{◌≡◌, ◌==◌, ◌⊎◌, ℕ, Bool, true, false, List, [], ◌∷◌, codes, cond, None, Result, Ok, Err}
+use Rattle.std.specs.Prelude.{◌≡◌, ◌==◌, ◌⊎◌, ℕ, Bool, true, false, List, [], ◌∷◌, codes, cond, Result, Ok, Err}
 use Rattle.dav_io.specs.Counts.{Rose}
 use Rattle.dav_io.specs.Told.{Both}
 use Rattle.dav_io.specs.declared.failure.NoMemory.{NoMemory}
@@ -12,7 +12,7 @@ use Rattle.dav_core.specs.World.{World, SameBesidesOpens}
 use Rattle.dav_model.specs.declared.asked.Asked.{Asked}
 use Rattle.dav_model.specs.declared.target.Target.{Target}
 use Rattle.dav_model.specs.declared.target.Target.TheVariants.{At, Methods, Refused, Writes}
-use Rattle.dav_model.specs.CarryPlans.{carry_plan, is_unsaid}
+use Rattle.dav_model.specs.CarryPlans.{carries_link, carry_plan, moves_over_hidden}
 use Rattle.dav_model.specs.Causes.{IsDueTo}
 use Rattle.dav_model.specs.Conditions.{Fields}
 use Rattle.dav_model.specs.Destination.{Asks}
@@ -120,13 +120,20 @@ abbrev pub MakesIn : Rules → Ask → Result Reply NoMemory → Type 0 → Worl
 MakesIn rules ask result rose v w = meets_link ask.method v.tree (resolved rules v.tree ask.path.names) ≡ false
     → EndsAs ask.fields (plan rules v ask) result rose v w
 
+-- A directory doesn't come to where a hidden file stands: a fault was met before the file went, or memory was refused
+-- then. It is answered 403, and nothing changed.
+abbrev pub IsHeldOff : Rules → Ask → Result Asked DavError → Result Reply NoMemory → World → World → Type 0
+IsHeldOff rules ask asked result v w = (moves_over_hidden rules v ask asked ≡ true)
+    × (result ≡ Ok (refusal ask.fields 403 false))
+    × SameBesidesOpens v w
+
 -- The fields of a COPY or a MOVE ask for something, and what it makes of a told world is what it asked for, where it
--- meets no link, and moves no directory to where a hidden file stands.
+-- meets no link.
 abbrev pub CarriesBy : Rules → Bool → Ask → Result Reply NoMemory → Type 0 → World → World → Type 0
 CarriesBy rules moving ask result rose v w = (asked : Result Asked DavError)
     × Asks moving rules.settings.prefix ask.fields asked
-    × (is_unsaid rules v ask.path asked ≡ false
-    → EndsAs ask.fields (carry_plan rules v ask asked) result rose v w)
+    × (carries_link rules v.tree ask.path asked ≡ false
+    → EndsAs ask.fields (carry_plan rules v ask asked) result rose v w ⊎ IsHeldOff rules ask asked result v w)
 
 -- (Memory may be refused before its fields were read.)
 abbrev pub CarriesIn : Rules → Bool → Ask → Result Reply NoMemory → Type 0 → World → World → Type 0
@@ -139,19 +146,10 @@ MakesAs Copy rules ask = CarriesIn rules false ask
 MakesAs Move rules ask = CarriesIn rules true ask
 MakesAs other rules ask = MakesIn rules ask
 
--- The rules under which it is said what a method makes: of COPY, MOVE and DELETE but over one file that is served alone,
--- and of the others under all rules.
-abbrev pub IsSaidUnder : DavMethod → Rules → Type 0
-IsSaidUnder Delete rules = rules.alone ≡ None
-IsSaidUnder Copy rules = rules.alone ≡ None
-IsSaidUnder Move rules = rules.alone ≡ None
-IsSaidUnder other rules = Unit {0}
-
 -- Only a request that writes changes what stands. What it makes is said of each world of a valid run, with what the
 -- memory knew before it.
 abbrev pub Makes : Target → Rules → Knowledge → Fields → List ℕ → Result Reply NoMemory → Point → Point → Type 0
-Makes (Writes method path) rules k fields body result s t = IsSaidUnder method rules
-    → Both s.told t.told (λ v w. IsRegular rules k v
+Makes (Writes method path) rules k fields body result s t = Both s.told t.told (λ v w. IsRegular rules k v
     → MakesAs method rules (ask_of method path fields body) result (Rose s.faults t.faults) v w)
 Makes (At method path) rules k fields body result s t = Leaves s t
 Makes Methods rules k fields body result s t = Leaves s t

@@ -3,6 +3,6 @@ use Rattle.dav_methods.proofs.removal_laws.removals_follow_their_plan.Goals as g
 
 pub returns : goal.returns
 returns g c =
-    λ credentials rules k s follows alone path fields body r t deletes.
+    λ credentials rules k s follows path fields body r t deletes.
     deletes_right g.S.GuardedFileSystem.view g.S.GuardedFileSystem.listings g.S.File.DavFile.view.writes
-    credentials rules path fields body s k follows alone r t deletes
+    credentials rules path fields body s k follows r t deletes
