@@ -189,7 +189,7 @@ impl Disk for MemDisk {
     ghost use Rattle.dav_disk.specs.Listings.{AreSorted};
     ghost use Rattle.dav_disk.specs.Failing.{mem_state, mem_world, mem_known, Follows, FollowsOr, UnlessFault, fails_at, is_empty, lens_left, listings_of};
     ghost use Rattle.dav_io.specs.Counts.{one_more};
-    ghost use Rattle.dav_disk.specs.Files.{SaysNoMore};
+    ghost use Rattle.dav_disk.specs.Files.{HasNoLength, SaysNoMore};
     ghost use Rattle.dav_disk.specs.Making.{MakesAt, OpensAs, WritesAt, is_spent, writing};
     ghost use Rattle.dav_disk.specs.Calls.{with_closed};
     ghost use Rattle.dav_core.specs.Changes.{turned};
@@ -200,6 +200,7 @@ impl Disk for MemDisk {
     fn meta(&mut self, path: &FsPath) -> Result<Meta, DiskError>
         ensures done { Metas (mem_state self.old) path.now result (mem_state self.new) }
         ensures more { IfOk result SaysNoMore }
+        ensures dirs { IfOk result HasNoLength }
         ensures loan { ⟦<MemDisk as Disk>⟧.loan self.new ≡ ⟦<MemDisk as Disk>⟧.loan self.old }
         ensures schedule { Follows self.old result self.new }
         ensures lens { lens_left self.new ≡ lens_left self.old }
@@ -214,6 +215,7 @@ impl Disk for MemDisk {
     fn link_meta(&mut self, path: &FsPath) -> Result<Meta, DiskError>
         ensures done { LinkMetas (mem_state self.old) path.now result (mem_state self.new) }
         ensures more { IfOk result SaysNoMore }
+        ensures dirs { IfOk result HasNoLength }
         ensures loan { ⟦<MemDisk as Disk>⟧.loan self.new ≡ ⟦<MemDisk as Disk>⟧.loan self.old }
         ensures schedule { Follows self.old result self.new }
         ensures lens { lens_left self.new ≡ lens_left self.old }

@@ -127,7 +127,7 @@ impl Disk for SureDisk {
     ghost use Rattle.dav_core.specs.Disk.{Metas, LinkMetas, FileMetas, Opens, Seeks, Reads, Closes, Turns};
     ghost use Rattle.dav_core.specs.Listing.{Lists, ListsOn, EndsListing};
     ghost use Rattle.dav_io.specs.Counts.{one_more};
-    ghost use Rattle.dav_disk.specs.Files.{SaysNoMore};
+    ghost use Rattle.dav_disk.specs.Files.{HasNoLength, SaysNoMore};
     ghost use Rattle.dav_core.specs.Allowed.{making_dir, taking_dir, taking_file, moving, copying, opening};
     ghost use Rattle.dav_core.specs.Writing.{CreatesDir, RemovesDir, RemovesFile, Renames, Copies, Writes};
     ghost use Rattle.dav_core.specs.Changes.{turned};
@@ -145,6 +145,7 @@ impl Disk for SureDisk {
         ensures listings { listings_of self.new ≡ listings_of self.old }
         ensures quiet { (sure_state self.new).faults ≡ (sure_state self.old).faults }
         ensures more { IfOk result SaysNoMore }
+        ensures dirs { IfOk result HasNoLength }
     {
         self.asked = self.asked.saturating_add(1);
         self.memory.meta(path)
@@ -156,6 +157,7 @@ impl Disk for SureDisk {
         ensures listings { listings_of self.new ≡ listings_of self.old }
         ensures quiet { (sure_state self.new).faults ≡ (sure_state self.old).faults }
         ensures more { IfOk result SaysNoMore }
+        ensures dirs { IfOk result HasNoLength }
     {
         self.asked = self.asked.saturating_add(1);
         self.memory.meta(path)
