@@ -1,5 +1,5 @@
 -- No change gives a directory bytes, and what was stored stays stored.
-use Rattle.std.proofs.Common.{◌≡◌, ◌≢◌, ◌≤◌, ◌==◌, ◌+◌, ◌&&◌, ◌||◌, ◌⊎◌, ◌∷◌, ◌++◌, [], ℕ, List, Bool, true, false, cond, not, length, map, max, nat_lt, Option, None, Some, Result, Ok, Err, OnOk, OnErr, inl, inr, refl, sym, ap, ◌∙◌, arith, subst}
+use Rattle.std.proofs.Common.{◌≡◌, ◌≢◌, ◌≤◌, ◌==◌, ◌+◌, ◌&&◌, ◌||◌, ◌⊎◌, ◌∷◌, ◌++◌, [], ℕ, List, Bool, true, false, cond, not, length, map, nat_lt, Option, None, Some, Result, Ok, Err, OnOk, OnErr, inl, inr, refl, sym, ap, ◌∙◌, arith, subst}
 use Rattle.std.specs.List.{list_any}
 use Rattle.std.proofs.lemmas.Bool.{and_parts}
 use Rattle.std.specs.Option.{is_none, is_some, option_map}
@@ -23,7 +23,7 @@ use Rattle.dav_core.specs.Writing.{can_write}
 use Rattle.dav_core.specs.declared.handle.OpenOptions.{OpenOptions}
 use Rattle.dav_core.proofs.TablesLemmas.{updates_put}
 use Rattle.dav_core.proofs.UnchangedLemmas.{put_same, put_other, equal_keys}
-use Rattle.dav_core.specs.Changes.{tick, timed_row, touched_at, touched, then_touched, added_at, added, stored_in, made_or, dir_added, file_added, cut_at_time, cut_kind, cut_found, without, removed_found, moved_row, renames_to, parents_touched, renamed_found, changed, all_changed, turned, turned_by, is_free_in, resized}
+use Rattle.dav_core.specs.Changes.{tick, timed_row, touched_at, touched, then_touched, added_at, added, stored_in, made_or, cut_at_time, cut_kind, cut_found, without, removed_found, moved_row, renames_to, parents_touched, renamed_found, changed, all_changed, turned, turned_by, is_free_in, resized}
 use Rattle.dav_disk.specs.declared.tables.Opened.{Opened}
 use Rattle.dav_disk.specs.declared.tables.StoredFile.{StoredFile}
 use Rattle.dav_disk.specs.Files.{IsBare, AreBare, AreKept, NamesNoDir, AreStored, IsStored, live_of, stored_at, stored_of}
