@@ -252,7 +252,7 @@ filled_bytes number bytes v w (inr (differs, t, later, becomes)) held =
 pub later_than : (a b c : ℤ) (k m n : ℕ) → (int_lt b a || (int_eq a b && nat_lt m k)) ≡ true → c ≤ℤ b → (c ≡ b → n ≤ m) → (int_lt c a || (int_eq a c && nat_lt n k)) ≡ true
 later_than a b c k m n e le f = grind (arith, ints, nat_tests)
 
-pub not_after_then : (a b c : FileTime) → NotAfter a b → NotAfter b c → NotAfter a c
+not_after_then : (a b c : FileTime) → NotAfter a b → NotAfter b c → NotAfter a c
 not_after_then a b c (p, f) (q, g) = (
   omega (arith, ints),
   λ e.
