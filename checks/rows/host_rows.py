@@ -105,9 +105,10 @@ def call(below, words):
     if kind == "turn":
         return "turned"
     if kind == "write":
-        below.machine.alone.add(below.root + path)
+        if below.root + path not in below.machine.disk.tree and "p" not in third:
+            below.machine.alone.add(below.root + path)
         return below.on(lambda disk, at: write(disk, at, third, number(word(words, 3)) or 0, word(words, 4)), path)
-    calls = {"make": Disk.create_dir, "clear": Disk.remove_dir, "remove": Disk.remove_file, "rename": Disk.rename,
+    calls = {"make": Disk.create_dir, "share": Disk.create_dir, "clear": Disk.remove_dir, "remove": Disk.remove_file, "rename": Disk.rename,
              "copy": Disk.copy}
     if kind == "make":
         below.machine.alone.add(below.root + path)

@@ -102,10 +102,10 @@ pub stored_dir : (rows : List Row) (files : ℕ → Option Stored) (row : Row) �
 stored_dir rows files row dir stored =
     All-from_recursion (IsStored files) (rows ++ row ∷ []) (recursion_more (IsStored files) rows row (recursion_from_All (IsStored files) rows stored) (λ file. cc))
 
-not_equal : (n m : ℕ) → not (n == m) ≡ true → m ≢ n
+pub not_equal : (n m : ℕ) → not (n == m) ≡ true → m ≢ n
 not_equal n m e = grind (arith, nat_tests)
 
-other_numbers : (a b : Bool) → not (a || b) ≡ true → (not a ≡ true) × (not b ≡ true)
+pub other_numbers : (a b : Bool) → not (a || b) ≡ true → (not a ≡ true) × (not b ≡ true)
 other_numbers true b e = cc
 other_numbers false b e = (refl, e)
 

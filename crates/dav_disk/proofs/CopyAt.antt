@@ -11,8 +11,12 @@ use Rattle.dav_core.specs.Allowed.{Allowed, place, copying, copying_to, copying_
 use Rattle.dav_disk.specs.declared.judge.Copying.{Copying}
 use Rattle.dav_disk.specs.declared.judge.Copying.TheVariants.{Stays, Makes, Fills}
 use Rattle.dav_disk.specs.Making.{copied_edit, copies, copies_from, copies_to, copies_over}
+use Rattle.dav_disk.specs.Files.{NamesNoDir}
+use Rattle.dav_disk.proofs.DirsStay.{row_no_dir}
 use Rattle.dav_disk.proofs.OpenAt.{placed_given}
+use Rattle.dav_disk.proofs.OpenDone.{place_row}
 use Rattle.dav_disk.proofs.Standing.{free_place}
+use Rattle.dav_disk.proofs.Trees.{find_in}
 
 -- what is allowed of a copy
 abbrev pub copied : World → Names → Result Copying DiskError → Allowed
@@ -64,24 +68,34 @@ makes_by (Ok row) to (Ok there) n e = ap Ok (over_makes row to there n (kind_the
 pub copy_free : (w : World) (from to : Names) (n : ℕ) → is_tree w.tree ≡ true → copies w.tree from to ≡ Ok (Makes n) → is_free_in w.tree to ≡ true
 copy_free w from to n whole e = free_place w.tree to whole (makes_by (look w.tree from) to (place w.tree to) n e)
 
-over_fills : (row : Row) (to : Names) (there : Option Row) (n m : ℕ) → copies_over row to there ≡ Ok (Fills n m) → (other : Row) × (there ≡ Some other) × (other.number ≡ m)
+over_fills : (row : Row) (to : Names) (there : Option Row) (n m : ℕ) → copies_over row to there ≡ Ok (Fills n m) → (other : Row) × (there ≡ Some other) × (other.number ≡ m) × (is_dir other.kind ≡ false)
 over_fills row to None n m e = cc
-over_fills row to (Some there) n m e = (there, refl, numbers (is_dir there.kind) (same_names row.path to) e)
+over_fills row to (Some there) n m e = (there, refl, numbers (is_dir there.kind) (same_names row.path to) e, no_dir (is_dir there.kind) (same_names row.path to) e)
   where
     numbers : (a b : Bool) → cond a (Err IsDir) (cond b (Ok Stays) (Ok (Fills row.number there.number))) ≡ Ok (Fills n m) → there.number ≡ m
     numbers true b e = cc
     numbers false true e = cc
     numbers false false e = cc
 
-fills_by : (found : Result Row DiskError) (to : Names) (there : Result (Option Row) DiskError) (n m : ℕ) → copies_from found to there ≡ Ok (Fills n m) → (other : Row) × (there ≡ Ok (Some other)) × (other.number ≡ m)
+    no_dir : (a b : Bool) → cond a (Err IsDir) (cond b (Ok Stays) (Ok (Fills row.number there.number))) ≡ Ok (Fills n m) → a ≡ false
+    no_dir true b e = cc
+    no_dir false b e = refl
+
+fills_by : (found : Result Row DiskError) (to : Names) (there : Result (Option Row) DiskError) (n m : ℕ) → copies_from found to there ≡ Ok (Fills n m) → (other : Row) × (there ≡ Ok (Some other)) × (other.number ≡ m) × (is_dir other.kind ≡ false)
 fills_by (Err x) to there n m e = cc
 fills_by (Ok row) to (Err x) n m e = cc
 fills_by (Ok row) to (Ok there) n m e =
-    let (other, same, number) = over_fills row to there n m (kind_then (is_dir row.kind) (copies_over row to there) (Fills n m) e) in
-    (other, ap Ok same, number)
+    let (other, same, number, file) = over_fills row to there n m (kind_then (is_dir row.kind) (copies_over row to there) (Fills n m) e) in
+    (other, ap Ok same, number, file)
 
 -- bytes are put into a file that stands there
 pub copy_given : (w : World) (from to : Names) (n m : ℕ) → AreGiven w.tree w.files w.opens w.greatest w.latest → copies w.tree from to ≡ Ok (Fills n m) → m ≤ w.greatest
 copy_given w from to n m given e =
-    let (other, at, number) = fills_by (look w.tree from) to (place w.tree to) n m e in
+    let (other, at, number, file) = fills_by (look w.tree from) to (place w.tree to) n m e in
     rw (← number) (placed_given w to other given at)
+
+-- and it is no directory
+pub copy_no_dir : (w : World) (from to : Names) (n m : ℕ) → is_tree w.tree ≡ true → copies w.tree from to ≡ Ok (Fills n m) → NamesNoDir w.tree m
+copy_no_dir w from to n m whole e =
+    let (other, at, number, file) = fills_by (look w.tree from) to (place w.tree to) n m e in
+    rw (← number) (row_no_dir w.tree other whole (find_in w.tree to other (place_row w.tree to (Some other) at)).0 file)

@@ -15,6 +15,7 @@ pub mod Times
 pub mod Renames
 pub mod Turned
 pub mod GivenStay
+pub mod DirsStay
 pub mod PlainRows
 pub mod Edited
 pub mod Makes

@@ -15,7 +15,7 @@ use Rattle.dav_disk.specs.Making.{MakesAt, edited_by, is_spent}
 use Rattle.dav_disk.proofs.Done.{Counted, not_scheduled}
 use Rattle.dav_disk.specs.declared.mem_disk.MemDisk.{MemDisk}
 use Rattle.dav_disk.specs.declared.sure_disk.SureDisk.{SureDisk}
-use Rattle.dav_disk.specs.Failing.{FollowsOr, fails_at, mem_world}
+use Rattle.dav_disk.specs.Failing.{FollowsOr, UnlessFault, fails_at, mem_world}
 use Rattle.dav_disk.specs.Sure.{FailsOnly}
 use Rattle.dav_disk.proofs.Edited.{edited_by_is, edited_opens}
 
@@ -195,3 +195,28 @@ makes_leaves allowed k n (Err IsDir) (same, why) = ap (λ (n : Known). n.world) 
 makes_leaves allowed k n (Err NotEmpty) (same, why) = ap (λ (n : Known). n.world) same
 makes_leaves allowed k n (Err Failed) (same, why) = ap (λ (n : Known). n.world) same
 makes_leaves allowed k n (Err NoMemory) (same, why) = ap (λ (n : Known). n.world) same
+
+-- a call that says this of what it does, and changes nothing where it is refused with a fault
+pub unless_fault : {T : Type 0} (result : Result T DiskError) (k n : Known) (said : Type 0) → said → (IsErrOf result Failed → n ≡ k) → UnlessFault result k n said
+unless_fault (Ok x) k n said it same = it
+unless_fault (Err Failed) k n said it same = same refl
+unless_fault (Err NotFound) k n said it same = it
+unless_fault (Err Exists) k n said it same = it
+unless_fault (Err NotDir) k n said it same = it
+unless_fault (Err IsDir) k n said it same = it
+unless_fault (Err NotEmpty) k n said it same = it
+unless_fault (Err NoMemory) k n said it same = it
+
+makes_same : (allowed : Allowed) (k n : Known) (result : Result Unit DiskError) → MakesAt allowed k result n → IsErrOf result Failed → n ≡ k
+makes_same allowed k n (Ok x) m f = cc
+makes_same allowed k n (Err Failed) m f = m.0
+makes_same allowed k n (Err NotFound) m f = cc
+makes_same allowed k n (Err Exists) m f = cc
+makes_same allowed k n (Err NotDir) m f = cc
+makes_same allowed k n (Err IsDir) m f = cc
+makes_same allowed k n (Err NotEmpty) m f = cc
+makes_same allowed k n (Err NoMemory) m f = cc
+
+-- what a call on paths makes
+pub makes_unless : (allowed : Allowed) (k n : Known) (result : Result Unit DiskError) → MakesAt allowed k result n → UnlessFault result k n (MakesAt allowed k result n)
+makes_unless allowed k n result m = unless_fault result k n (MakesAt allowed k result n) m (makes_same allowed k n result m)

@@ -1,6 +1,6 @@
 -- What an opening answers, step by step.
 use Rattle.std.proofs.Common.{◌≡◌, ◌≤◌, ◌==◌, ◌+◌, [], ℕ, List, Bool, true, false, cond, not, Option, None, Some, Result, Ok, Err, inl, inr, refl, sym, ap, ◌∙◌}
-use Rattle.std.specs.Option.{option_map, is_none}
+use Rattle.std.specs.Option.{option_map, is_none, is_some}
 use Rattle.std.specs.Str.{bytes_eq}
 use mathlib.Core.Path.{fun_ext}
 use Rattle.dav_core.specs.declared.tree.Row.{Row}
@@ -20,6 +20,8 @@ use Rattle.dav_core.specs.Allowed.{place, opening}
 use Rattle.dav_core.proofs.UnchangedLemmas.{equal_keys}
 use Rattle.dav_disk.specs.Calls.{Known, with_closed}
 use Rattle.dav_disk.specs.Making.{MakesAt, OpensAs, OpensBy, opened_known, edited, edited_by, filled_at, is_spent}
+use Rattle.dav_disk.specs.Files.{AreStored, NamesNoDir}
+use Rattle.dav_disk.proofs.DirsStay.{is_kept}
 use Rattle.dav_disk.proofs.Edited.{edited_opens}
 use Rattle.dav_disk.proofs.GivenStay.{bounded_of}
 use Rattle.dav_disk.proofs.Judges.{Judged}
@@ -29,6 +31,17 @@ use Rattle.dav_disk.proofs.Trees.{find_in}
 -- what stands at a place has a number that was given
 pub placed_given : (w : World) (path : Names) (row : Row) → AreGiven w.tree w.files w.opens w.greatest w.latest → place w.tree path ≡ Ok (Some row) → row.number ≤ w.greatest
 placed_given w path row given at = ((bounded_of w given).rows row (find_in w.tree path row (place_row w.tree path (Some row) at)).0).within
+
+-- a file that stands at a place is stored
+pub placed_kept : (w : World) (path : Names) (row : Row) → AreStored w.tree w.files → place w.tree path ≡ Ok (Some row) → row.kind ≡ File → is_some (w.files row.number) ≡ true
+placed_kept w path row stored at file = is_kept w.tree w.files row stored (find_in w.tree path row (place_row w.tree path (Some row) at)).0 file
+
+-- An opening that makes nothing leaves what has which number.
+pub opened_no_dir : (k n : Known) (number : ℕ) (kind : Kind) (how : OpenOptions) (h : Handle) → OpensBy None number kind how k (Ok h) n → NamesNoDir k.world.tree number → NamesNoDir n.world.tree number
+opened_no_dir k n number kind how h (m, none, free, is) apart =
+    let world : k.world ≡ m = cc in
+    let tree : n.world.tree ≡ k.world.tree = ap (λ (n : Known). n.world.tree) is ∙ ap (λ (w : World). w.tree) (sym world) in
+    rw tree apart
 
 -- ---- the answers of `open`
 

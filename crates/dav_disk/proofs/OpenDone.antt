@@ -26,7 +26,8 @@ use Rattle.dav_disk.specs.Calls.{Known, state_of, lengths}
 use Rattle.dav_disk.specs.Making.{OpensAs, IsOpened, edited, edited_by, filled_at, is_spent}
 use Rattle.dav_disk.proofs.Edited.{edited_by_is, edited_opens}
 use Rattle.dav_disk.proofs.Judges.{opening_err}
-use Rattle.dav_disk.proofs.Makes.{Noted, is_counted}
+use Rattle.dav_disk.specs.Failing.{UnlessFault}
+use Rattle.dav_disk.proofs.Makes.{Noted, is_counted, unless_fault}
 use Rattle.dav_disk.proofs.Then.{edited_then, put_besides}
 use Rattle.dav_disk.proofs.Trees.{In, not_both, same_refl, find_in}
 
@@ -407,3 +408,11 @@ fails_open k n path how (Err NotEmpty) o spent = absurd (not_so (opening k.world
 pub open_leaves : (k n : Known) (path : Names) (how : OpenOptions) (result : Result Handle DiskError) → OpensAs k path how result n → OnErr result (n.world ≡ k.world)
 open_leaves k n path how (Ok h) o = tt
 open_leaves k n path how (Err e) o = ap (λ (n : Known). n.world) (refused_so path how k n e o).0
+
+open_same : (k n : Known) (path : Names) (how : OpenOptions) (result : Result Handle DiskError) → OpensAs k path how result n → IsErrOf result Failed → n ≡ k
+open_same k n path how (Ok h) o f = cc
+open_same k n path how (Err e) o f = (refused_so path how k n e o).0
+
+-- what an opening makes
+pub open_unless : (k n : Known) (path : Names) (how : OpenOptions) (result : Result Handle DiskError) → OpensAs k path how result n → UnlessFault result k n (OpensAs k path how result n)
+open_unless k n path how result o = unless_fault result k n (OpensAs k path how result n) o (open_same k n path how result o)

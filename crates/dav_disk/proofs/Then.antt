@@ -15,7 +15,8 @@ use Rattle.dav_core.proofs.UnchangedLemmas.{same_besides, same_besides_then}
 use Rattle.dav_disk.specs.Calls.{Known, state_of, lengths, with_place}
 use Rattle.dav_disk.specs.Making.{MakesAt, WritesAt, writing, writing_at, is_spent, edited, edited_by}
 use Rattle.dav_disk.proofs.Edited.{edited_is, edited_opens}
-use Rattle.dav_disk.proofs.Makes.{Noted, is_counted}
+use Rattle.dav_disk.specs.Failing.{UnlessFault}
+use Rattle.dav_disk.proofs.Makes.{Noted, is_counted, unless_fault}
 
 abbrev Given : World → Type 0
 Given w = AreGiven w.tree w.files w.opens w.greatest w.latest
@@ -260,3 +261,17 @@ write_leaves k n h from (Err NotFound) w = absurd w
 write_leaves k n h from (Err Exists) w = absurd w
 write_leaves k n h from (Err NotDir) w = absurd w
 write_leaves k n h from (Err NotEmpty) w = absurd w
+
+write_same : (k n : Known) (h : ℕ) (from : List ℕ) (result : Result ℕ DiskError) → WritesAt k h from result n → IsErrOf result Failed → n ≡ k
+write_same k n h from (Ok count) w f = cc
+write_same k n h from (Err Failed) w f = w.0
+write_same k n h from (Err NoMemory) w f = cc
+write_same k n h from (Err IsDir) w f = cc
+write_same k n h from (Err NotFound) w f = absurd w
+write_same k n h from (Err Exists) w f = absurd w
+write_same k n h from (Err NotDir) w f = absurd w
+write_same k n h from (Err NotEmpty) w f = absurd w
+
+-- what a write makes
+pub write_unless : (k n : Known) (h : ℕ) (from : List ℕ) (result : Result ℕ DiskError) → WritesAt k h from result n → UnlessFault result k n (WritesAt k h from result n)
+write_unless k n h from result w = unless_fault result k n (WritesAt k h from result n) w (write_same k n h from result w)

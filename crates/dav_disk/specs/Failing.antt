@@ -1,12 +1,12 @@
 -- What a disk in memory tells, and when it fails.
-use Rattle.std.specs.Prelude.{◌≡◌, ◌==◌, ◌↔◌, ◌⊎◌, ℕ, List, Bool, true, length, Contains, Result, OnErr}
+use Rattle.std.specs.Prelude.{◌≡◌, ◌==◌, ◌↔◌, ◌⊎◌, ℕ, List, Bool, true, length, Contains, Result, Err, OnErr}
 use Rattle.std.specs.Result.{IsErrOf}
 use Rattle.dav_io.specs.Counts.{one_more}
 use Rattle.dav_core.specs.declared.handle.DiskError.{DiskError}
 use Rattle.dav_core.specs.declared.handle.DiskError.TheVariants.{Failed}
 use Rattle.dav_core.specs.Disk.{DiskState}
 use Rattle.dav_core.specs.World.{World}
-use Rattle.dav_disk.specs.Calls.{state_of}
+use Rattle.dav_disk.specs.Calls.{Known, state_of}
 use Rattle.dav_disk.specs.Memory.{known_of}
 use Rattle.dav_disk.specs.declared.mem_disk.MemDisk.{MemDisk}
 
@@ -17,8 +17,12 @@ is_empty lens = length lens == 0
 abbrev pub mem_state : MemDisk → DiskState
 mem_state d = state_of (known_of d.memory) d.faults.met d.faults.asked (is_empty d.lens.items)
 
+-- its world, and what is known of its live handles
+abbrev pub mem_known : MemDisk → Known
+mem_known d = known_of d.memory
+
 abbrev pub mem_world : MemDisk → World
-mem_world d = (known_of d.memory).world
+mem_world d = (mem_known d).world
 
 -- the numbers, from 1, of the calls that fail
 abbrev pub fails_at : MemDisk → List ℕ
@@ -49,3 +53,8 @@ pub record FollowsOr
   pub quiet : (IsErrOf result Failed → ⊥) → new.faults.met ≡ old.faults.met
   pub stays : fails_at new ≡ fails_at old
   pub leaves : OnErr result (mem_world new ≡ mem_world old)
+
+-- A call that is refused with a fault changes nothing. Of every other call this is said.
+abbrev pub UnlessFault : {T : Type 0} → Result T DiskError → Known → Known → Type 0 → Type 0
+UnlessFault (Err Failed) k n said = n ≡ k
+UnlessFault result k n said = said

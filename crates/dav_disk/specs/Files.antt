@@ -1,10 +1,10 @@
 -- The tables that a disk in memory keeps, as the world has them.
-use Rattle.std.specs.Prelude.{◌≡◌, ℕ, List, Option, None, Some, false, All}
-use Rattle.std.specs.Option.{option_map}
+use Rattle.std.specs.Prelude.{◌≡◌, ◌≢◌, ℕ, List, Option, None, Some, true, false, All}
+use Rattle.std.specs.Option.{option_map, is_some}
 use Rattle.std.specs.BTreeMap.{BTreeMap}
 use Rattle.dav_core.specs.declared.handle.Meta.{Meta}
 use Rattle.dav_core.specs.declared.tree.Row.{Row}
-use Rattle.dav_core.specs.declared.tree.Kind.TheVariants.{File}
+use Rattle.dav_core.specs.declared.tree.Kind.TheVariants.{Dir, File}
 use Rattle.dav_core.specs.World.{Stored, OpenFile, at_key}
 use Rattle.dav_core.specs.Disk.{Live}
 use Rattle.dav_disk.specs.declared.tables.StoredFile.{StoredFile}
@@ -38,6 +38,26 @@ IsStored files row = row.kind ≡ File → option_map (λ s. s.time) (files row.
 -- Each file of the tree is stored with its row's time.
 abbrev pub AreStored : List Row → (ℕ → Option Stored) → Type 0
 AreStored tree files = All (IsStored files) tree
+
+-- a directory's number stores nothing
+abbrev pub IsBare : (ℕ → Option Stored) → Row → Type 0
+IsBare files row = row.kind ≡ Dir → files row.number ≡ None
+
+-- No number of a directory of the tree stores anything.
+abbrev pub AreBare : List Row → (ℕ → Option Stored) → Type 0
+AreBare tree files = All (IsBare files) tree
+
+-- What is open as a file is stored, also where it was removed.
+abbrev pub AreKept : (ℕ → Option Opened) → (ℕ → Option Stored) → Type 0
+AreKept opens files = (h : ℕ) (o : Opened) → opens h ≡ Some o → o.kind ≡ File → is_some (files o.number) ≡ true
+
+-- No directory of the tree has this number.
+abbrev pub NamesNoDir : List Row → ℕ → Type 0
+NamesNoDir tree number = All (λ row. row.kind ≡ Dir → row.number ≢ number) tree
+
+-- a directory has no length
+abbrev pub HasNoLength : Meta → Type 0
+HasNoLength meta = meta.kind ≡ Dir → meta.len ≡ 0
 
 -- what is said of a row beside its kind, its number, its length and the time of its last change: nothing
 pub record SaysNoMore (meta : Meta) : Type 0 where

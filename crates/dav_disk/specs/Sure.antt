@@ -6,15 +6,19 @@ use Rattle.dav_core.specs.declared.handle.DiskError.{DiskError}
 use Rattle.dav_core.specs.declared.handle.DiskError.TheVariants.{Failed}
 use Rattle.dav_core.specs.Disk.{DiskState}
 use Rattle.dav_core.specs.World.{World}
-use Rattle.dav_disk.specs.Calls.{state_of}
+use Rattle.dav_disk.specs.Calls.{Known, state_of}
 use Rattle.dav_disk.specs.Memory.{known_of}
 use Rattle.dav_disk.specs.declared.sure_disk.SureDisk.{SureDisk}
 
 abbrev pub sure_state : SureDisk → DiskState
 sure_state d = state_of (known_of d.memory) d.met d.asked true
 
+-- its world, and what is known of its live handles
+abbrev pub sure_known : SureDisk → Known
+sure_known d = known_of d.memory
+
 abbrev pub sure_world : SureDisk → World
-sure_world d = (known_of d.memory).world
+sure_world d = (sure_known d).world
 
 -- how often a listing was asked for
 abbrev pub listings_of : SureDisk → ℕ

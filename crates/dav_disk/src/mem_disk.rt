@@ -9,7 +9,8 @@ use dav_io::{Faults, NoMemory, Text};
 use std::alloc::Global;
 
 /// A disk in memory that tells its world. It fails at the calls of the numbers given, and its next reads give no more
-/// bytes than the lengths given. A call that fails leaves the world whole.
+/// bytes than the lengths given. A call that fails leaves the world whole. What is made has the number after the
+/// greatest so far, and each change a time of its own, 1,000 nanoseconds after the latest so far.
 #[derive(Drop)]
 pub struct MemDisk {
     memory: Memory,
@@ -44,8 +45,8 @@ fn drop_first(lens: &mut Vec<usize>)
 impl MemDisk {
     ghost use Rattle.dav_disk.specs.Rows.{first_world, can_add as the_can_add, with_dir, with_file, with_batch};
     ghost use Rattle.dav_disk.specs.Calls.{state_of};
-    ghost use Rattle.dav_disk.specs.Failing.{mem_state, mem_world, FollowsOr, is_empty, fails_at, lens_left, listings_of};
-    ghost use Rattle.dav_disk.specs.Making.{Performs, allows, is_spent};
+    ghost use Rattle.dav_disk.specs.Failing.{mem_state, mem_world, mem_known, FollowsOr, UnlessFault, is_empty, fails_at, lens_left, listings_of};
+    ghost use Rattle.dav_disk.specs.Making.{Performs, MakesAt, allows, is_spent};
 
     /// A root directory alone, of number 1 and time 0. The latest time used is 1 second past 1970, and no call fails.
     pub fn new(alloc: Global) -> Result<Self, NoMemory>
@@ -166,6 +167,8 @@ impl MemDisk {
         ensures done { Performs call.entry (mem_state self.old) result (mem_state self.new) }
         ensures schedule { FollowsOr (is_spent (allows call.entry (mem_world self.old)) (mem_world self.old)) self.old result
             self.new }
+        ensures made { UnlessFault result (mem_known self.old) (mem_known self.new)
+            (MakesAt (allows call.entry (mem_world self.old)) (mem_known self.old) result (mem_known self.new)) }
         ensures lens { lens_left self.new ≡ lens_left self.old }
         ensures listings { listings_of self.new ≡ listings_of self.old }
     {
@@ -184,11 +187,12 @@ impl Disk for MemDisk {
     ghost use Rattle.dav_core.specs.Allowed.{making_dir, taking_dir, taking_file, moving, copying, opening};
     ghost use Rattle.dav_core.specs.Writing.{CreatesDir, RemovesDir, RemovesFile, Renames, Copies, Writes};
     ghost use Rattle.dav_disk.specs.Listings.{AreSorted};
-    ghost use Rattle.dav_disk.specs.Failing.{mem_state, mem_world, Follows, FollowsOr, fails_at, is_empty, lens_left, listings_of};
+    ghost use Rattle.dav_disk.specs.Failing.{mem_state, mem_world, mem_known, Follows, FollowsOr, UnlessFault, fails_at, is_empty, lens_left, listings_of};
     ghost use Rattle.dav_io.specs.Counts.{one_more};
-    ghost use Rattle.dav_disk.specs.Files.{SaysNoMore};
-    ghost use Rattle.dav_disk.specs.Making.{is_spent, writing};
-    ghost use Rattle.dav_disk.specs.Memory.{known_of};
+    ghost use Rattle.dav_disk.specs.Files.{HasNoLength, SaysNoMore};
+    ghost use Rattle.dav_disk.specs.Making.{MakesAt, OpensAs, WritesAt, is_spent, writing};
+    ghost use Rattle.dav_disk.specs.Calls.{with_closed};
+    ghost use Rattle.dav_core.specs.Changes.{turned};
     ghost use Rattle.dav_disk.specs.Worlds.{told_world, told_live};
 
     ghost state = { mem_state };
@@ -196,6 +200,7 @@ impl Disk for MemDisk {
     fn meta(&mut self, path: &FsPath) -> Result<Meta, DiskError>
         ensures done { Metas (mem_state self.old) path.now result (mem_state self.new) }
         ensures more { IfOk result SaysNoMore }
+        ensures dirs { IfOk result HasNoLength }
         ensures loan { ⟦<MemDisk as Disk>⟧.loan self.new ≡ ⟦<MemDisk as Disk>⟧.loan self.old }
         ensures schedule { Follows self.old result self.new }
         ensures lens { lens_left self.new ≡ lens_left self.old }
@@ -210,6 +215,7 @@ impl Disk for MemDisk {
     fn link_meta(&mut self, path: &FsPath) -> Result<Meta, DiskError>
         ensures done { LinkMetas (mem_state self.old) path.now result (mem_state self.new) }
         ensures more { IfOk result SaysNoMore }
+        ensures dirs { IfOk result HasNoLength }
         ensures loan { ⟦<MemDisk as Disk>⟧.loan self.new ≡ ⟦<MemDisk as Disk>⟧.loan self.old }
         ensures schedule { Follows self.old result self.new }
         ensures lens { lens_left self.new ≡ lens_left self.old }
@@ -226,6 +232,8 @@ impl Disk for MemDisk {
         ensures loan { ⟦<MemDisk as Disk>⟧.loan self.new ≡ ⟦<MemDisk as Disk>⟧.loan self.old }
         ensures schedule { FollowsOr (is_spent (opening (mem_world self.old).tree path.now how) (mem_world self.old))
             self.old result self.new }
+        ensures made { UnlessFault result (mem_known self.old) (mem_known self.new)
+            (OpensAs (mem_known self.old) path.now how result (mem_known self.new)) }
         ensures lens { lens_left self.new ≡ lens_left self.old }
         ensures listings { listings_of self.new ≡ listings_of self.old }
     {
@@ -295,9 +303,10 @@ impl Disk for MemDisk {
         requires some { 0 < length from.now }
         ensures done { Writes (mem_state self.old) file.0 from.now result (mem_state self.new) }
         ensures loan { ⟦<MemDisk as Disk>⟧.loan self.new ≡ ⟦<MemDisk as Disk>⟧.loan self.old }
-        ensures schedule { FollowsOr (is_spent (writing (known_of self.old.memory) file.0 from.now)
-            (mem_world self.old))
+        ensures schedule { FollowsOr (is_spent (writing (mem_known self.old) file.0 from.now) (mem_world self.old))
             self.old result self.new }
+        ensures made { UnlessFault result (mem_known self.old) (mem_known self.new)
+            (WritesAt (mem_known self.old) file.0 from.now result (mem_known self.new)) }
         ensures lens { lens_left self.new ≡ lens_left self.old }
         ensures listings { listings_of self.new ≡ listings_of self.old }
     {
@@ -312,6 +321,7 @@ impl Disk for MemDisk {
     fn close(&mut self, file: Handle)
         requires { IsSome ((mem_state self.old).live file.0) }
         ensures done { Closes (mem_state self.old) file.0 (mem_state self.new) }
+        ensures made { mem_known self.new ≡ with_closed (mem_known self.old) file.0 }
         ensures loan { ⟦<MemDisk as Disk>⟧.loan self.new ≡ ⟦<MemDisk as Disk>⟧.loan self.old }
         ensures fails { fails_at self.new ≡ fails_at self.old }
         ensures lens { lens_left self.new ≡ lens_left self.old }
@@ -368,6 +378,8 @@ impl Disk for MemDisk {
         ensures loan { ⟦<MemDisk as Disk>⟧.loan self.new ≡ ⟦<MemDisk as Disk>⟧.loan self.old }
         ensures schedule { FollowsOr (is_spent (making_dir (mem_world self.old).tree path.now) (mem_world self.old))
             self.old result self.new }
+        ensures made { UnlessFault result (mem_known self.old) (mem_known self.new)
+            (MakesAt (making_dir (mem_world self.old).tree path.now) (mem_known self.old) result (mem_known self.new)) }
         ensures lens { lens_left self.new ≡ lens_left self.old }
         ensures listings { listings_of self.new ≡ listings_of self.old }
     {
@@ -379,6 +391,8 @@ impl Disk for MemDisk {
         ensures loan { ⟦<MemDisk as Disk>⟧.loan self.new ≡ ⟦<MemDisk as Disk>⟧.loan self.old }
         ensures schedule { FollowsOr (is_spent (taking_dir (mem_world self.old).tree path.now) (mem_world self.old))
             self.old result self.new }
+        ensures made { UnlessFault result (mem_known self.old) (mem_known self.new)
+            (MakesAt (taking_dir (mem_world self.old).tree path.now) (mem_known self.old) result (mem_known self.new)) }
         ensures lens { lens_left self.new ≡ lens_left self.old }
         ensures listings { listings_of self.new ≡ listings_of self.old }
     {
@@ -390,6 +404,8 @@ impl Disk for MemDisk {
         ensures loan { ⟦<MemDisk as Disk>⟧.loan self.new ≡ ⟦<MemDisk as Disk>⟧.loan self.old }
         ensures schedule { FollowsOr (is_spent (taking_file (mem_world self.old).tree path.now) (mem_world self.old))
             self.old result self.new }
+        ensures made { UnlessFault result (mem_known self.old) (mem_known self.new)
+            (MakesAt (taking_file (mem_world self.old).tree path.now) (mem_known self.old) result (mem_known self.new)) }
         ensures lens { lens_left self.new ≡ lens_left self.old }
         ensures listings { listings_of self.new ≡ listings_of self.old }
     {
@@ -401,6 +417,8 @@ impl Disk for MemDisk {
         ensures loan { ⟦<MemDisk as Disk>⟧.loan self.new ≡ ⟦<MemDisk as Disk>⟧.loan self.old }
         ensures schedule { FollowsOr (is_spent (moving (mem_world self.old).tree from.now to.now) (mem_world self.old))
             self.old result self.new }
+        ensures made { UnlessFault result (mem_known self.old) (mem_known self.new)
+            (MakesAt (moving (mem_world self.old).tree from.now to.now) (mem_known self.old) result (mem_known self.new)) }
         ensures lens { lens_left self.new ≡ lens_left self.old }
         ensures listings { listings_of self.new ≡ listings_of self.old }
     {
@@ -412,6 +430,8 @@ impl Disk for MemDisk {
         ensures loan { ⟦<MemDisk as Disk>⟧.loan self.new ≡ ⟦<MemDisk as Disk>⟧.loan self.old }
         ensures schedule { FollowsOr (is_spent (copying (mem_world self.old) from.now to.now) (mem_world self.old))
             self.old result self.new }
+        ensures made { UnlessFault result (mem_known self.old) (mem_known self.new)
+            (MakesAt (copying (mem_world self.old) from.now to.now) (mem_known self.old) result (mem_known self.new)) }
         ensures lens { lens_left self.new ≡ lens_left self.old }
         ensures listings { listings_of self.new ≡ listings_of self.old }
     {
@@ -420,6 +440,8 @@ impl Disk for MemDisk {
 
     fn turn(&mut self) -> Result<(), NoMemory>
         ensures done { Turns (mem_state self.old) result (mem_state self.new) }
+        ensures made { OnOk result (mem_known self.new ≡ record (mem_known self.old)
+            { world = turned (mem_world self.old) }) }
         ensures loan { ⟦<MemDisk as Disk>⟧.loan self.new ≡ ⟦<MemDisk as Disk>⟧.loan self.old }
         ensures fails { fails_at self.new ≡ fails_at self.old }
         ensures lens { lens_left self.new ≡ lens_left self.old }

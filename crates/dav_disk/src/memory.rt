@@ -1,7 +1,8 @@
 ghost use Rattle.std.specs.Prelude.{◌≡◌, ◌<◌, ◌≤◌, ◌⊎◌, ◌+◌, ℕ, [], length, not, is_none, None, Some, Ok, Err, Option, IfOk, OnOk, OnErr, IsSome, IfSome, true, option_map, is_some};
 ghost use Rattle.dav_core.specs.Tree.{is_tree, is_file};
-ghost use Rattle.dav_core.specs.World.{AreGiven, ArePlain, time_of};
-ghost use Rattle.dav_disk.specs.Files.{AreStored, SaysNoMore, open_at, open_of, stored_at};
+ghost use Rattle.dav_core.specs.declared.tree.Kind.TheVariants.{File as AFile};
+ghost use Rattle.dav_core.specs.World.{AreGiven, ArePlain, at_key, time_of};
+ghost use Rattle.dav_disk.specs.Files.{AreBare, AreKept, AreStored, HasNoLength, NamesNoDir, SaysNoMore, open_at, open_of, stored_at};
 ghost use Rattle.dav_disk.specs.Rows.{root_row as the_root};
 
 use crate::drawn::Drawn;
@@ -42,6 +43,8 @@ pub struct Memory {
     ghost plain: { ArePlain rows },
     ghost stored: { AreStored rows (stored_at files) },
     ghost given: { AreGiven rows (stored_at files) (open_at opens) greatest latest },
+    ghost bare: { AreBare rows (stored_at files) },
+    ghost kept: { AreKept (at_key opens) (stored_at files) },
 }
 
 // The row of a root.
@@ -92,6 +95,7 @@ impl Memory {
     pub fn meta(&self, path: &FsPath) -> Result<Meta, DiskError>
         ensures found { FindsMeta (known_of self.now).world path.now result }
         ensures more { IfOk result SaysNoMore }
+        ensures dirs { IfOk result HasNoLength }
     {
         let row = match look(&self.rows, path.as_slice()) {
             Ok(row) => row,
@@ -487,7 +491,8 @@ impl Memory {
 
     // Gives a file the bytes of another.
     fn copy_over(&mut self, number: u64, there: u64) -> Result<(), DiskError>
-        requires { there ≤ self.old.greatest }
+        requires given { there ≤ self.old.greatest }
+        requires file { NamesNoDir self.old.rows there }
         ensures { MakesAt (Ok (Some (fills there (bytes_of (known_of self.old).world number)))) (known_of self.old)
             result (known_of self.new) }
     {
@@ -534,6 +539,7 @@ impl Memory {
     // Stores the bytes of a file with a tick, which its row gets too.
     fn store(&mut self, number: u64, bytes: Vec<u8>, time: FileTime) -> Result<(), DiskError>
         requires given { number ≤ self.old.greatest }
+        requires file { NamesNoDir self.old.rows number }
         requires ticked { the_tick self.old.latest ≡ Some time }
         ensures ok { OnOk result (known_of self.new ≡ record (known_of self.old)
             { world = filled_now number bytes.items time (known_of self.old).world }) }
@@ -551,6 +557,7 @@ impl Memory {
     // Writes bytes into the file of a number, from a place on, and answers the place behind them.
     fn write_into(&mut self, number: u64, place: u64, from: &[u8]) -> Result<u64, DiskError>
         requires given { number ≤ self.old.greatest }
+        requires file { NamesNoDir self.old.rows number }
         requires some { 0 < length from.now }
         ensures made { MakesAt
             (Ok (Some (fills number (written place from.now (bytes_of (known_of self.old).world number)))))
@@ -614,7 +621,8 @@ impl Memory {
         kind: Kind,
         how: OpenOptions,
     ) -> Result<Handle, DiskError>
-        requires { number ≤ self.old.greatest }
+        requires given { number ≤ self.old.greatest }
+        requires kept { kind ≡ AFile → is_some (stored_at self.old.files number) ≡ true }
         ensures { OpensBy None number kind how (known_of self.old) result (known_of self.new) }
     {
         let Some(handle) = free_key(&self.opens) else {
@@ -634,7 +642,8 @@ impl Memory {
 
     // Takes all bytes from a file.
     fn empty(&mut self, number: u64) -> Result<(), DiskError>
-        requires { number ≤ self.old.greatest }
+        requires given { number ≤ self.old.greatest }
+        requires file { NamesNoDir self.old.rows number }
         ensures { MakesAt (Ok (Some (fills number []))) (known_of self.old) result (known_of self.new) }
     {
         if bytes_at(&self.files, number).is_empty() {
@@ -661,7 +670,8 @@ impl Memory {
         kind: Kind,
         how: OpenOptions,
     ) -> Result<Handle, DiskError>
-        requires { number ≤ self.old.greatest }
+        requires given { number ≤ self.old.greatest }
+        requires kept { is_some (stored_at self.old.files number) ≡ true }
         ensures { OpensBy (Some (fills number [])) number kind how (known_of self.old) result (known_of self.new) }
     {
         if !self.can_empty(number) {

@@ -1,4 +1,4 @@
-ghost use Rattle.std.specs.Prelude.{◌≡◌, ◌<◌, length, None, Some, IfOk, IsSome, OnOk, OnErr, true};
+ghost use Rattle.std.specs.Prelude.{◌≡◌, ◌<◌, length, None, Some, IfOk, IfSome, IsSome, OnOk, OnErr, true};
 ghost use Rattle.dav_disk.specs.Memory.{known_of as known_to, HasRoom};
 
 use crate::faults::{is_fault, noted};
@@ -9,7 +9,8 @@ use dav_io::{NoMemory, Text};
 use std::alloc::Global;
 
 /// A disk in memory that tells its world. Its reads are whole. It fails only in a call that needs a next number or a
-/// next tick where none is left.
+/// next tick where none is left. A call that is refused leaves the world as it was. What is made has the number after
+/// the greatest so far, and each change a time of its own, 1,000 nanoseconds after the latest so far.
 #[derive(Drop)]
 pub struct SureDisk {
     memory: Memory,
@@ -22,8 +23,8 @@ pub struct SureDisk {
 impl SureDisk {
     ghost use Rattle.dav_disk.specs.Rows.{first_world, can_add as the_can_add, with_dir, with_file, with_batch};
     ghost use Rattle.dav_disk.specs.Calls.{state_of};
-    ghost use Rattle.dav_disk.specs.Sure.{sure_state, sure_world, listings_of, FailsOnly};
-    ghost use Rattle.dav_disk.specs.Making.{Performs, allows, is_spent};
+    ghost use Rattle.dav_disk.specs.Sure.{sure_state, sure_world, sure_known, listings_of, FailsOnly};
+    ghost use Rattle.dav_disk.specs.Making.{Performs, MakesAt, allows, is_spent};
 
     /// A root directory alone, of number 1 and time 0. The latest time used is 1 second past 1970.
     pub fn new(alloc: Global) -> Result<Self, NoMemory>
@@ -112,6 +113,7 @@ impl SureDisk {
         ensures done { Performs call.entry (sure_state self.old) result (sure_state self.new) }
         ensures fails { FailsOnly (is_spent (allows call.entry (sure_world self.old)) (sure_world self.old)) self.old result
             self.new }
+        ensures made { MakesAt (allows call.entry (sure_world self.old)) (sure_known self.old) result (sure_known self.new) }
         ensures listings { listings_of self.new ≡ listings_of self.old }
     {
         self.asked = self.asked.saturating_add(1);
@@ -125,12 +127,14 @@ impl Disk for SureDisk {
     ghost use Rattle.dav_core.specs.Disk.{Metas, LinkMetas, FileMetas, Opens, Seeks, Reads, Closes, Turns};
     ghost use Rattle.dav_core.specs.Listing.{Lists, ListsOn, EndsListing};
     ghost use Rattle.dav_io.specs.Counts.{one_more};
-    ghost use Rattle.dav_disk.specs.Files.{SaysNoMore};
+    ghost use Rattle.dav_disk.specs.Files.{HasNoLength, SaysNoMore};
     ghost use Rattle.dav_core.specs.Allowed.{making_dir, taking_dir, taking_file, moving, copying, opening};
     ghost use Rattle.dav_core.specs.Writing.{CreatesDir, RemovesDir, RemovesFile, Renames, Copies, Writes};
-    ghost use Rattle.dav_disk.specs.Making.{is_spent, writing};
-    ghost use Rattle.dav_disk.specs.Memory.{known_of};
-    ghost use Rattle.dav_disk.specs.Sure.{sure_state, sure_world, listings_of, FailsOnly};
+    ghost use Rattle.dav_core.specs.Changes.{turned};
+    ghost use Rattle.dav_disk.specs.Calls.{with_closed};
+    ghost use Rattle.dav_disk.specs.Listings.{AreSorted};
+    ghost use Rattle.dav_disk.specs.Making.{MakesAt, OpensAs, WritesAt, is_spent, writing};
+    ghost use Rattle.dav_disk.specs.Sure.{sure_state, sure_world, sure_known, listings_of, FailsOnly};
     ghost use Rattle.dav_disk.specs.Worlds.{told_world, told_live};
 
     ghost state = { sure_state };
@@ -141,6 +145,7 @@ impl Disk for SureDisk {
         ensures listings { listings_of self.new ≡ listings_of self.old }
         ensures quiet { (sure_state self.new).faults ≡ (sure_state self.old).faults }
         ensures more { IfOk result SaysNoMore }
+        ensures dirs { IfOk result HasNoLength }
     {
         self.asked = self.asked.saturating_add(1);
         self.memory.meta(path)
@@ -152,6 +157,7 @@ impl Disk for SureDisk {
         ensures listings { listings_of self.new ≡ listings_of self.old }
         ensures quiet { (sure_state self.new).faults ≡ (sure_state self.old).faults }
         ensures more { IfOk result SaysNoMore }
+        ensures dirs { IfOk result HasNoLength }
     {
         self.asked = self.asked.saturating_add(1);
         self.memory.meta(path)
@@ -163,6 +169,7 @@ impl Disk for SureDisk {
         ensures listings { listings_of self.new ≡ listings_of self.old }
         ensures fails { FailsOnly (is_spent (opening (sure_world self.old).tree path.now how) (sure_world self.old))
             self.old result self.new }
+        ensures made { OpensAs (sure_known self.old) path.now how result (sure_known self.new) }
     {
         self.asked = self.asked.saturating_add(1);
         let answer = self.memory.open(path, how);
@@ -212,8 +219,9 @@ impl Disk for SureDisk {
         ensures done { Writes (sure_state self.old) file.0 from.now result (sure_state self.new) }
         ensures loan { ⟦<SureDisk as Disk>⟧.loan self.new ≡ ⟦<SureDisk as Disk>⟧.loan self.old }
         ensures listings { listings_of self.new ≡ listings_of self.old }
-        ensures fails { FailsOnly (is_spent (writing (known_of self.old.memory) file.0 from.now) (sure_world self.old))
+        ensures fails { FailsOnly (is_spent (writing (sure_known self.old) file.0 from.now) (sure_world self.old))
             self.old result self.new }
+        ensures made { WritesAt (sure_known self.old) file.0 from.now result (sure_known self.new) }
     {
         self.asked = self.asked.saturating_add(1);
         let answer = self.memory.write(file, from);
@@ -224,6 +232,7 @@ impl Disk for SureDisk {
     fn close(&mut self, file: Handle)
         requires { IsSome ((sure_state self.old).live file.0) }
         ensures done { Closes (sure_state self.old) file.0 (sure_state self.new) }
+        ensures made { sure_known self.new ≡ with_closed (sure_known self.old) file.0 }
         ensures loan { ⟦<SureDisk as Disk>⟧.loan self.new ≡ ⟦<SureDisk as Disk>⟧.loan self.old }
         ensures listings { listings_of self.new ≡ listings_of self.old }
         ensures quiet { (sure_state self.new).faults ≡ (sure_state self.old).faults }
@@ -233,6 +242,7 @@ impl Disk for SureDisk {
 
     fn list(&mut self, path: &FsPath) -> Result<Lister, DiskError>
         ensures done { Lists (sure_state self.old) path.now result (sure_state self.new) }
+        ensures order { IfOk result (λ l. IfSome ((sure_world self.new).listings l.0) AreSorted) }
         ensures loan { ⟦<SureDisk as Disk>⟧.loan self.new ≡ ⟦<SureDisk as Disk>⟧.loan self.old }
         ensures listings { listings_of self.new ≡ one_more (listings_of self.old) }
         ensures quiet { (sure_state self.new).faults ≡ (sure_state self.old).faults }
@@ -272,6 +282,7 @@ impl Disk for SureDisk {
         ensures listings { listings_of self.new ≡ listings_of self.old }
         ensures fails { FailsOnly (is_spent (making_dir (sure_world self.old).tree path.now) (sure_world self.old))
             self.old result self.new }
+        ensures made { MakesAt (making_dir (sure_world self.old).tree path.now) (sure_known self.old) result (sure_known self.new) }
     {
         self.perform(PathCall::CreateDir(path))
     }
@@ -282,6 +293,7 @@ impl Disk for SureDisk {
         ensures listings { listings_of self.new ≡ listings_of self.old }
         ensures fails { FailsOnly (is_spent (taking_dir (sure_world self.old).tree path.now) (sure_world self.old))
             self.old result self.new }
+        ensures made { MakesAt (taking_dir (sure_world self.old).tree path.now) (sure_known self.old) result (sure_known self.new) }
     {
         self.perform(PathCall::RemoveDir(path))
     }
@@ -292,6 +304,7 @@ impl Disk for SureDisk {
         ensures listings { listings_of self.new ≡ listings_of self.old }
         ensures fails { FailsOnly (is_spent (taking_file (sure_world self.old).tree path.now) (sure_world self.old))
             self.old result self.new }
+        ensures made { MakesAt (taking_file (sure_world self.old).tree path.now) (sure_known self.old) result (sure_known self.new) }
     {
         self.perform(PathCall::RemoveFile(path))
     }
@@ -302,6 +315,7 @@ impl Disk for SureDisk {
         ensures listings { listings_of self.new ≡ listings_of self.old }
         ensures fails { FailsOnly (is_spent (moving (sure_world self.old).tree from.now to.now) (sure_world self.old))
             self.old result self.new }
+        ensures made { MakesAt (moving (sure_world self.old).tree from.now to.now) (sure_known self.old) result (sure_known self.new) }
     {
         self.perform(PathCall::Rename(from, to))
     }
@@ -312,12 +326,15 @@ impl Disk for SureDisk {
         ensures listings { listings_of self.new ≡ listings_of self.old }
         ensures fails { FailsOnly (is_spent (copying (sure_world self.old) from.now to.now) (sure_world self.old))
             self.old result self.new }
+        ensures made { MakesAt (copying (sure_world self.old) from.now to.now) (sure_known self.old) result (sure_known self.new) }
     {
         self.perform(PathCall::Copy(from, to))
     }
 
     fn turn(&mut self) -> Result<(), NoMemory>
         ensures done { Turns (sure_state self.old) result (sure_state self.new) }
+        ensures made { OnOk result (sure_known self.new ≡ record (sure_known self.old)
+            { world = turned (sure_world self.old) }) }
         ensures loan { ⟦<SureDisk as Disk>⟧.loan self.new ≡ ⟦<SureDisk as Disk>⟧.loan self.old }
         ensures listings { listings_of self.new ≡ listings_of self.old }
         ensures quiet { (sure_state self.new).faults ≡ (sure_state self.old).faults }

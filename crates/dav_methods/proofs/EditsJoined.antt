@@ -97,7 +97,7 @@ held_made row bytes p n u other (inr (inr o)) = inr o
 made_held : (row : Row) (bytes : List ℕ) (p : FileTime) (n : ℕ) (u : World) → (n == row.number) ≡ true → Holds (with_new row bytes p u) n
 made_held row bytes p n u same = inl (new_numbered row bytes p n u ∙ or_right (is_numbered u.tree n) (n == row.number) same)
 
-held_filled : (number n : ℕ) (bytes : List ℕ) (t : FileTime) (u : World) → Holds u n ⊎ Holds (filled number bytes t u) n → Holds u n
+pub held_filled : (number n : ℕ) (bytes : List ℕ) (t : FileTime) (u : World) → Holds u n ⊎ Holds (filled number bytes t u) n → Holds u n
 held_filled number n bytes t u (inl h) = h
 held_filled number n bytes t u (inr (inl s)) = inl (sym (numbered_map (timed_number number t) n u.tree (renewed_keeps number t)) ∙ s)
 held_filled number n bytes t u (inr (inr o)) = inr o
@@ -178,7 +178,7 @@ moved_after from to v u w same (t, p, new, more, e) = (
   },
 )
 
-put_like : {A : Type 0} (b : Bool) (k n : ℕ) (x : A) (f g : ℕ → A) → (n == k) ≡ b → (b ≡ false → f n ≡ g n) → put k x f n ≡ put k x g n
+pub put_like : {A : Type 0} (b : Bool) (k n : ℕ) (x : A) (f g : ℕ → A) → (n == k) ≡ b → (b ≡ false → f n ≡ g n) → put k x f n ≡ put k x g n
 put_like true k n x f g e h = rw e refl
 put_like false k n x f g e h = rw e (h refl)
 
@@ -249,7 +249,7 @@ filled_bytes number bytes v w (inr (differs, t, later, becomes)) held =
 -- ---- a file that is made and then filled
 
 -- a time that is later than one is later than each that isn't after it
-later_than : (a b c : ℤ) (k m n : ℕ) → (int_lt b a || (int_eq a b && nat_lt m k)) ≡ true → c ≤ℤ b → (c ≡ b → n ≤ m) → (int_lt c a || (int_eq a c && nat_lt n k)) ≡ true
+pub later_than : (a b c : ℤ) (k m n : ℕ) → (int_lt b a || (int_eq a b && nat_lt m k)) ≡ true → c ≤ℤ b → (c ≡ b → n ≤ m) → (int_lt c a || (int_eq a c && nat_lt n k)) ≡ true
 later_than a b c k m n e le f = grind (arith, ints, nat_tests)
 
 not_after_then : (a b c : FileTime) → NotAfter a b → NotAfter b c → NotAfter a c

@@ -18,6 +18,8 @@ mod LinesMatch
 mod AboveFree
 pub mod MakingFollows
 pub mod PutFollows
+pub mod FilledTwice
+pub mod ReaderPut
 pub mod OpenedFile
 pub mod WalkOrder
 pub mod TreeRows

@@ -51,7 +51,7 @@ ends_unless (Ok x) outcome s r t ends = ends
 ends_unless (Err d) outcome s r t ends = ends
 
 -- A PUT whose path has a final slash is refused.
-unslashed : {S : Type 0} (b : Bool) (run : Run S) (outcome : Outcome) (s m : S) → Unless (fails_when b 405) run s (Ok outcome) m → b ≡ false
+pub unslashed : {S : Type 0} (b : Bool) (run : Run S) (outcome : Outcome) (s m : S) → Unless (fails_when b 405) run s (Ok outcome) m → b ≡ false
 unslashed true run outcome s m (e, f) = cc
 unslashed false run outcome s m goes = refl
 
@@ -78,11 +78,11 @@ module _ {S C F L E : Type 0} (view : View S C F) (lists : Listings S C L E) (wr
       ∷ unmet Put x.ask.fields (stands x.rules v x.ask.path) ∷ [])
 
   -- what is known after the checks, by what they gave
-  record Known (x : Case view lists writes c planned linked) (outcome : Outcome) (v : World) : Type 0 where
-    acts : Acts view lists writes c planned linked x (put_lines x) (put_edits x) v
-    done : done_reply (plan_of view lists writes c planned linked x v).done ≡ reply_as outcome
+  pub record Known (x : Case view lists writes c planned linked) (outcome : Outcome) (v : World) : Type 0 where
+    pub acts : Acts view lists writes c planned linked x (put_lines x) (put_edits x) v
+    pub done : done_reply (plan_of view lists writes c planned linked x v).done ≡ reply_as outcome
 
-  abbrev Checked : Case view lists writes c planned linked → Given → S → Type 0
+  abbrev pub Checked : Case view lists writes c planned linked → Given → S → Type 0
   Checked x (Err d) m = Right view lists writes c planned linked x (Err d) m
   Checked x (Ok outcome) m = Reached view lists writes c x.s m × At view lists writes c planned linked x m (Known x outcome)
 
@@ -112,7 +112,7 @@ module _ {S C F L E : Type 0} (view : View S C F) (lists : Listings S C L E) (wr
       below_stage view lists writes c x (Checked x) (λ d t right. right) (λ v. put_line x v ∷ put_lines x v) (put_edits x) (MayReplace view c x.ask.path x.ask.fields) x.s may m here at
       (λ n reached at goes. replaced x is n may m reached at goes) goes
 
-  checked : (x : Case view lists writes c planned linked) → x.ask.method ≡ Put → (may : Given) (m : S) → MayPut view c x.ask.path x.ask.fields x.s may m → Checked x may m
+  pub checked : (x : Case view lists writes c planned linked) → x.ask.method ≡ Put → (may : Given) (m : S) → MayPut view c x.ask.path x.ask.fields x.s may m → Checked x may m
   checked x is may m run =
       let rules : Rules = x.rules in
       line_stage view lists writes c planned linked x (Checked x) (λ d t right. right) (fails_when x.ask.path.slash 405) (λ v. when x.ask.path.slash 405)
@@ -133,7 +133,7 @@ module _ {S C F L E : Type 0} (view : View S C F) (lists : Listings S C L E) (wr
       → (plan_of view lists writes c planned linked x v).acts ≡ unless (first (when shut 403 ∷ not_allowed (putting x.rules v x.ask.path) ∷ [])) (put_edits x v)
   allowed_line x v outcome known shut e = known.acts ∙ ap (λ b. unless (first (when b 403 ∷ not_allowed (putting x.rules v x.ask.path) ∷ [])) (put_edits x v)) e
 
-  passed : (x : Case view lists writes c planned linked) (v : World) (outcome : Outcome) (edit : Option Edit) → Known x outcome v → is_forbidden x.rules x.ask.path ≡ false → putting x.rules v x.ask.path ≡ Ok edit
+  pub passed : (x : Case view lists writes c planned linked) (v : World) (outcome : Outcome) (edit : Option Edit) → Known x outcome v → is_forbidden x.rules x.ask.path ≡ false → putting x.rules v x.ask.path ≡ Ok edit
       → (plan_of view lists writes c planned linked x v).acts ≡ put_edits x v
   passed x v outcome edit known open_at allows = allowed_line x v outcome known false open_at ∙ ap (λ a. unless (first (not_allowed a ∷ [])) (put_edits x v)) allows
 
@@ -190,13 +190,13 @@ module _ {S C F L E : Type 0} (view : View S C F) (lists : Listings S C L E) (wr
       by_shut false shut = by shut (opens.called (shut_by x flat false shut) (regular_same x.rules x.knows v u same.tree clear.regular).apart (free_after x v u same clear))
 
   -- A file is open that the body goes into as the plan says.
-  record Opened (x : Case view lists writes c planned linked) (outcome : Outcome) (n : S) (f : F) (v a : World) : Type 0 where
-    known : Known x outcome v
-    open_at : is_forbidden x.rules x.ask.path ≡ false
-    row : Row
-    into : Into x.ask.fields (putting x.rules v x.ask.path) x.ask.body v a row
-    place : a.opens (view.file.handle f) ≡ Some (at_start row.number)
-    kind : kind_at (view.state n) (view.file.handle f) ≡ Some row.kind
+  pub record Opened (x : Case view lists writes c planned linked) (outcome : Outcome) (n : S) (f : F) (v a : World) : Type 0 where
+    pub known : Known x outcome v
+    pub open_at : is_forbidden x.rules x.ask.path ≡ false
+    pub row : Row
+    pub into : Into x.ask.fields (putting x.rules v x.ask.path) x.ask.body v a row
+    pub place : a.opens (view.file.handle f) ≡ Some (at_start row.number)
+    pub kind : kind_at (view.state n) (view.file.handle f) ≡ Some row.kind
 
   opened_as : (x : Case view lists writes c planned linked) (outcome : Outcome) (m n : S) (f : F) (v u a : World) → Clear view lists writes c planned linked x v → SameBesidesOpens v u → Known x outcome v
       → x.ask.path.slash ≡ false → Opening x m (Ok f) n u a → Opened x outcome n f v a
@@ -255,13 +255,21 @@ module _ {S C F L E : Type 0} (view : View S C F) (lists : Listings S C L E) (wr
       (subst (λ acts. PartOf acts v w) (sym acts)
       (filled.into.part count w (fill_of filled.row.number (take count x.ask.body) filled.a b w filled.into.empty edited same)))
 
-  still_spoiled : (ended : Result Unit FsError) (s n k t : S) → (view.state s).faults ≤ (view.state n).faults → (view.state t).faults ≡ (view.state k).faults
+  pub still_spoiled : (ended : Result Unit FsError) (s n k t : S) → (view.state s).faults ≤ (view.state n).faults → (view.state t).faults ≡ (view.state k).faults
       → OnErr ended (Spoiled (view.state n) ended (view.state k)) → OnErr ended (Spoiled (view.state s) ended (view.state t))
   still_spoiled (Ok y) s n k t le same spoiled = tt
   still_spoiled (Err e) s n k t le same (inl (f, rose)) = inl (f, rw same (rose_before (view.state s).faults (view.state n).faults (view.state k).faults le rose))
   still_spoiled (Err e) s n k t le same (inr f) = inr f
 
-  opened_stage : (x : Case view lists writes c planned linked) (outcome : Outcome) (opened : Result F FsError) (m n : S) (r : Given) (t : S) → x.ask.path.slash ≡ false → Reached view lists writes c x.s m
+  -- what is known of the world in which the file was opened
+  pub opened_world : (x : Case view lists writes c planned linked) (outcome : Outcome) (m n : S) (f : F) → x.ask.path.slash ≡ false → Reached view lists writes c x.s m
+      → At view lists writes c planned linked x m (Known x outcome) → view.opens m c x.ask.path put_options (Ok f) n
+      → Told view lists writes c x.s n (λ v a. Clear view lists writes c planned linked x v → Opened x outcome n f v a)
+  opened_world x outcome m n f slash reached at call =
+      both_then (view.state x.s).told (view.state m).told (view.state n).told _ _ (λ v a. Clear view lists writes c planned linked x v → Opened x outcome n f v a)
+      (λ v u a p q clear. opened_as x outcome m n f v u a clear p.0 (p.1 clear) slash q) at (x.follows.opens m n x.ask.path (Ok f) reached call)
+
+  pub opened_stage : (x : Case view lists writes c planned linked) (outcome : Outcome) (opened : Result F FsError) (m n : S) (r : Given) (t : S) → x.ask.path.slash ≡ false → Reached view lists writes c x.s m
       → At view lists writes c planned linked x m (Known x outcome) → view.opens m c x.ask.path put_options opened n → OpensOne view.file put_options (view.state m) opened (view.state n)
       → AfterOpeningWhole view writes c opened outcome x.ask.body n r t → Right view lists writes c planned linked x r t
   opened_stage x outcome (Err e) m n r t slash reached at call one ends =
@@ -269,8 +277,7 @@ module _ {S C F L E : Type 0} (view : View S C F) (lists : Listings S C L E) (wr
       (λ v u a p q clear. unopened x outcome m n e v u a (x.follows.counts m reached) clear p.0 (p.1 clear) slash q) at (x.follows.opens m n x.ask.path (Err e) reached call))
   opened_stage x outcome (Ok f) m n r t slash reached at call one into =
       let next = opened_from m n x.ask.path put_options (Ok f) reached call in
-      let first_world = both_then (view.state x.s).told (view.state m).told (view.state n).told _ _ (λ v a. Clear view lists writes c planned linked x v → Opened x outcome n f v a)
-      (λ v u a p q clear. opened_as x outcome m n f v u a clear p.0 (p.1 clear) slash q) at (x.follows.opens m n x.ask.path (Ok f) reached call) in
+      let first_world = opened_world x outcome m n f slash reached at call in
       let second_world = both_then (view.state x.s).told (view.state n).told (view.state into.full).told _ _ (λ v b. Clear view lists writes c planned linked x v → Filled x outcome n f into.ended v b)
       (λ v a b p q clear. filled_as x outcome n f into.ended v a b (p clear) q) first_world
       (x.follows.writes_file n into.full f into.file x.ask.body into.ended next into.written (never_appends ((view.state n).live (view.file.handle f)) one.options)) in

@@ -9,6 +9,7 @@ pub mod Weights
 pub mod Walking
 pub mod Answers
 pub mod Follows
+pub mod Readers
 pub mod Changing
 pub mod Copying
 pub mod Carrying

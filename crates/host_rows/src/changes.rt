@@ -16,15 +16,17 @@ fn options(letters: &str) -> OpenOptions {
     }
 }
 
-// Opens a file for its owner alone, writes once at a place and closes it: how many bytes went.
+// Opens a file, for its owner alone unless it is to be public, writes once at a place and closes it: how many bytes
+// went.
 fn put<D: Disk>(
     disk: &mut D,
     path: &FsPath,
     how: OpenOptions,
+    public: bool,
     place: u64,
     text: &str,
 ) -> Result<usize, DiskError> {
-    let file = disk.open(path, how, false)?;
+    let file = disk.open(path, how, public)?;
     let sought = disk.seek(file, place);
     let wrote = if text.is_empty() {
         Ok(0)
@@ -39,10 +41,11 @@ fn put<D: Disk>(
 /// Writes to the file at a path, by the words of a part.
 pub fn write<D: Disk>(disk: &mut D, path: &FsPath, part: &str, line: &mut String) -> Result<()> {
     let mut words = part.split(' ').skip(2);
-    let how = options(words.next().unwrap_or(""));
+    let letters = words.next().unwrap_or("");
+    let (how, public) = (options(letters), letters.contains('p'));
     let place = words.next().unwrap_or("").parse::<u64>().unwrap_or(0);
     let text = words.next().unwrap_or("");
-    match put(disk, path, how, place, text) {
+    match put(disk, path, how, public, place, text) {
         Ok(count) => Ok(write!(line, "wrote {count}")?),
         Err(error) => Ok(write!(line, "{error}")?),
     }
@@ -63,6 +66,7 @@ pub fn change<D: Disk>(alloc: Global, disk: &mut D, part: &str, line: &mut Strin
     let other = path_of(alloc, words.next().unwrap_or(""))?;
     match kind {
         "make" => show(line, disk.create_dir(&path, false)),
+        "share" => show(line, disk.create_dir(&path, true)),
         "clear" => show(line, disk.remove_dir(&path)),
         "remove" => show(line, disk.remove_file(&path)),
         "rename" => show(line, disk.rename(&path, &other)),

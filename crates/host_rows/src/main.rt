@@ -16,9 +16,9 @@
 //! following a link at its end; `read PATH PLACE`, which opens a file and reads at most four bytes; `list PATH`, which
 //! tells the first two names of a folder; `turn`; and those that change what stands: `write PATH HOW PLACE TEXT`, which
 //! opens a file as letters say and writes a text (`r` and `w` read and write, `a` append, `t` truncate, `c` create, `n`
-//! create_new, `-` none), `make PATH` and `clear PATH` of folders, `remove PATH` of a file, `rename PATH PATH`, `copy
-//! PATH PATH`. What each answers stands before a `|`, and behind them how many calls met a fault. A name `COUNT*NAME`
-//! is so many copies of a name.
+//! create_new, `p` public, `-` none), `make PATH`, `share PATH`, which makes a public one, and `clear PATH` of folders,
+//! `remove PATH` of a file, `rename PATH PATH`, `copy PATH PATH`. What each answers stands before a `|`, and behind them
+//! how many calls met a fault. A name `COUNT*NAME` is so many copies of a name.
 #![tactic(auto)]
 
 mod calls;

@@ -4,7 +4,7 @@ use Rattle.dav_disk.specs.Calls.{Known}
 use Rattle.dav_disk.specs.Making.{allows, is_spent}
 use Rattle.dav_disk.specs.Memory.{known_of}
 use Rattle.dav_disk.proofs.Judges.{performed, failed_by}
-use Rattle.dav_disk.proofs.Makes.{makes_leaves, fails_noted, fails_spent, follows_or, noted_by, spent_fails}
+use Rattle.dav_disk.proofs.Makes.{makes_leaves, makes_unless, fails_noted, fails_spent, follows_or, noted_by, spent_fails}
 use Rattle.dav_disk.proofs.mem_disk.MemDisk.perform.Goals as goal
 
 pub returns-then-next-clause-done : goal.returns-then-next-clause-done
@@ -28,3 +28,8 @@ returns-clause-schedule c =
     let allowed : Allowed = allows c.args.call k.world in
     follows_or (is_spent allowed k.world) c.args.self.now _ c.perform-answer.result c.next.new.self.met c.next.result c.is_fault.result (c.next.ensures.same c.if-next.false) c.if-next.false c.next.ensures.fails c.is_fault.ensures
     (fails_spent allowed k n c.perform-answer.result c.perform-answer.ensures) (spent_fails allowed k n c.perform-answer.result c.perform-answer.ensures) c.noted-self.ensures.once c.noted-self.ensures.same (search rules) (makes_leaves allowed k n c.perform-answer.result c.perform-answer.ensures)
+
+pub returns-clause-made : goal.returns-clause-made
+returns-clause-made c =
+    let k : Known = known_of c.args.self.now.memory in
+    makes_unless (allows c.args.call k.world) k (known_of c.perform-answer.new.self) c.perform-answer.result c.perform-answer.ensures

@@ -4,7 +4,7 @@ use Rattle.dav_disk.specs.Calls.{Known}
 use Rattle.dav_disk.specs.Making.{is_spent, writing}
 use Rattle.dav_disk.specs.Memory.{known_of}
 use Rattle.dav_disk.proofs.Makes.{fails_noted, follows_or, noted_by}
-use Rattle.dav_disk.proofs.Then.{write_leaves, writes_done, write_fails_done, write_fails, fails_write}
+use Rattle.dav_disk.proofs.Then.{write_leaves, writes_done, write_fails_done, write_fails, write_unless, fails_write}
 use Rattle.dav_disk.proofs.mem_disk.MemDiskDisk.write.Goals as goal
 
 pub returns-then-next-clause-done : goal.returns-then-next-clause-done
@@ -29,3 +29,6 @@ returns-clause-schedule c =
     let allowed : Allowed = writing k c.args.file.0 c.args.from.now in
     follows_or (is_spent allowed k.world) c.args.self.now _ c.write-answer.result c.next.new.self.met c.next.result c.is_fault.result (c.next.ensures.same c.if-next.false) c.if-next.false c.next.ensures.fails c.is_fault.ensures
     (write_fails k n c.args.file.0 c.args.from.now c.write-answer.result c.write-answer.ensures) (fails_write k n c.args.file.0 c.args.from.now c.write-answer.result c.write-answer.ensures) c.noted-self.ensures.once c.noted-self.ensures.same (search rules) (write_leaves k n c.args.file.0 c.args.from.now c.write-answer.result c.write-answer.ensures)
+
+pub returns-clause-made : goal.returns-clause-made
+returns-clause-made c = write_unless (known_of c.args.self.now.memory) (known_of c.write-answer.new.self) c.args.file.0 c.args.from.now c.write-answer.result c.write-answer.ensures

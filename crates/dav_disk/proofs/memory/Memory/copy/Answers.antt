@@ -4,7 +4,7 @@ use Rattle.dav_core.specs.Allowed.{Allowed, copying}
 use Rattle.dav_disk.specs.Making.{MakesAt, copies}
 use Rattle.dav_disk.specs.declared.judge.Copying.TheVariants.{Makes, Fills}
 use Rattle.dav_disk.specs.Memory.{known_of}
-use Rattle.dav_disk.proofs.CopyAt.{copy_is, copy_free, copy_given}
+use Rattle.dav_disk.proofs.CopyAt.{copy_is, copy_free, copy_given, copy_no_dir}
 use Rattle.dav_disk.proofs.Judges.{copying_judged, refused_at}
 use Rattle.dav_disk.proofs.memory.Memory.copy.Goals as goal
 
@@ -29,8 +29,15 @@ returns-in-Ok-Makes c =
     let by : copies w.tree c.args.from.now c.args.to.now ≡ Ok (Makes c.in-Ok-Makes.number) = rw (← c.as_slice.ensures.value, ← c.as_slice-2.ensures.value) found in
     subst (λ (a : Allowed). MakesAt a (known_of c.args.self.now) c.copy_new.result (known_of c.copy_new.new.self)) (sym (copy_is w c.args.from.now c.args.to.now (Ok (Makes c.in-Ok-Makes.number)) by)) c.copy_new.ensures
 
-pub copy_over-requires : goal.copy_over-requires
-copy_over-requires c =
+pub copy_over-requires-clause-file : goal.copy_over-requires-clause-file
+copy_over-requires-clause-file c =
+    let w : World = (known_of c.args.self.now).world in
+    let found = rw c.in-Ok-Fills.field-0-is at c.in-Ok-Fills.ensures in
+    let by : copies w.tree c.args.from.now c.args.to.now ≡ Ok (Fills c.in-Ok-Fills.number c.in-Ok-Fills.there) = rw (← c.as_slice.ensures.value, ← c.as_slice-2.ensures.value) found in
+    copy_no_dir w c.args.from.now c.args.to.now c.in-Ok-Fills.number c.in-Ok-Fills.there c.args.self.now.tree by
+
+pub copy_over-requires-clause-given : goal.copy_over-requires-clause-given
+copy_over-requires-clause-given c =
     let w : World = (known_of c.args.self.now).world in
     let found = rw c.in-Ok-Fills.field-0-is at c.in-Ok-Fills.ensures in
     let by : copies w.tree c.args.from.now c.args.to.now ≡ Ok (Fills c.in-Ok-Fills.number c.in-Ok-Fills.there) = rw (← c.as_slice.ensures.value, ← c.as_slice-2.ensures.value) found in

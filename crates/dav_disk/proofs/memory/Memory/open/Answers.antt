@@ -5,7 +5,8 @@ use Rattle.dav_core.specs.Edits.{makes, fills}
 use Rattle.dav_core.specs.declared.tree.Kind.TheVariants.{File}
 use Rattle.dav_disk.specs.Making.{opened_edit}
 use Rattle.dav_disk.specs.Memory.{known_of}
-use Rattle.dav_disk.proofs.OpenAt.{placed_given, opened_as, made_as, refused_as}
+use Rattle.dav_disk.proofs.DirsStay.{emptied_file}
+use Rattle.dav_disk.proofs.OpenAt.{placed_given, placed_kept, opened_as, made_as, refused_as}
 use Rattle.dav_disk.proofs.Judges.{opening_judged}
 use Rattle.dav_disk.proofs.memory.Memory.open.Goals as goal
 
@@ -24,15 +25,29 @@ returns-in-Err c =
     let by : opening w.tree c.args.path.now c.args.how ≡ Err c.in-Err.e = rw (← c.as_slice.ensures.value) c.in-Err.ensures.judged in
     refused_as (known_of c.args.self.now) c.args.path.now c.args.how c.in-Err.e (opening_judged w.tree c.args.path.now c.args.how c.in-Err.e by) by
 
-pub open_emptied-requires : goal.open_emptied-requires
-open_emptied-requires c =
+pub open_emptied-requires-clause-kept : goal.open_emptied-requires-clause-kept
+open_emptied-requires-clause-kept c =
+    let w : World = (known_of c.args.self.now).world in
+    let there = rw c.in-Ok-Some.field-0-is at c.in-Ok-Some.ensures.place in
+    let at : place w.tree c.args.path.now ≡ Ok (Some c.in-Ok-Some.row.now) = rw (← c.as_slice.ensures.value) there in
+    placed_kept w c.args.path.now c.in-Ok-Some.row.now c.args.self.now.stored at (emptied_file c.in-Ok-Some.row.now.kind c.args.how (sym c.empties.ensures ∙ c.if-empties.true))
+
+pub open_emptied-requires-clause-given : goal.open_emptied-requires-clause-given
+open_emptied-requires-clause-given c =
     let w : World = (known_of c.args.self.now).world in
     let there = rw c.in-Ok-Some.field-0-is at c.in-Ok-Some.ensures.place in
     let at : place w.tree c.args.path.now ≡ Ok (Some c.in-Ok-Some.row.now) = rw (← c.as_slice.ensures.value) there in
     placed_given w c.args.path.now c.in-Ok-Some.row.now c.args.self.now.given at
 
-pub open_number-requires : goal.open_number-requires
-open_number-requires c =
+pub open_number-requires-clause-kept : goal.open_number-requires-clause-kept
+open_number-requires-clause-kept c =
+    let w : World = (known_of c.args.self.now).world in
+    let there = rw c.in-Ok-Some.field-0-is at c.in-Ok-Some.ensures.place in
+    let at : place w.tree c.args.path.now ≡ Ok (Some c.in-Ok-Some.row.now) = rw (← c.as_slice.ensures.value) there in
+    λ file. placed_kept w c.args.path.now c.in-Ok-Some.row.now c.args.self.now.stored at file
+
+pub open_number-requires-clause-given : goal.open_number-requires-clause-given
+open_number-requires-clause-given c =
     let w : World = (known_of c.args.self.now).world in
     let there = rw c.in-Ok-Some.field-0-is at c.in-Ok-Some.ensures.place in
     let at : place w.tree c.args.path.now ≡ Ok (Some c.in-Ok-Some.row.now) = rw (← c.as_slice.ensures.value) there in

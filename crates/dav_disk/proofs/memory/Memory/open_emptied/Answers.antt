@@ -2,11 +2,20 @@ use Rattle.std.proofs.Common.{[], Err, Some, subst, sym}
 use Rattle.dav_core.specs.Edits.{fills}
 use Rattle.dav_core.specs.World.{at_key}
 use Rattle.dav_disk.specs.Calls.{Known}
-use Rattle.dav_disk.specs.Files.{live_of, open_of}
+use Rattle.dav_disk.specs.Files.{live_of, open_of, stored_at}
 use Rattle.dav_disk.specs.Making.{OpensBy}
 use Rattle.dav_disk.specs.Memory.{known_of}
-use Rattle.dav_disk.proofs.OpenAt.{can_so, emptied_ok, emptied_err, nothing_open}
+use Rattle.dav_disk.proofs.DirsStay.{stored_no_dir}
+use Rattle.dav_disk.proofs.OpenAt.{can_so, emptied_ok, emptied_err, nothing_open, opened_no_dir}
 use Rattle.dav_disk.proofs.memory.Memory.open_emptied.Goals as goal
+
+pub open_number-requires-clause-kept : goal.open_number-requires-clause-kept
+open_number-requires-clause-kept c = λ file. c.requires.kept
+
+pub empty-requires-clause-file : goal.empty-requires-clause-file
+empty-requires-clause-file c =
+    opened_no_dir (known_of c.args.self.now) (known_of c.open_number.new.self) c.args.number c.args.kind c.args.how c.in-Ok.handle c.in-Ok.ensures
+    (stored_no_dir c.args.self.now.rows (stored_at c.args.self.now.files) c.args.number c.args.self.now.bare c.requires.kept)
 
 pub returns-in-Ok-empty : goal.returns-in-Ok-empty
 returns-in-Ok-empty c =

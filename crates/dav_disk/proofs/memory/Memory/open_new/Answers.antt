@@ -14,6 +14,7 @@ use Rattle.dav_disk.proofs.Standing.{on_fine, free_place, file_is_left, file_mad
 use Rattle.dav_disk.proofs.OpenDone.{made_greatest}
 use Rattle.dav_disk.proofs.Opened.{opened_put}
 use Rattle.dav_disk.proofs.Turned.{good_of, kept_of}
+use Rattle.dav_disk.proofs.DirsStay.{changed_bared, kept_put, new_row}
 use Rattle.dav_disk.proofs.GivenStay.{changed_given, open_given}
 use Rattle.dav_disk.proofs.memory.Memory.open_new.Goals as goal
 
@@ -43,7 +44,13 @@ invariant_of-self-3 c =
     let fits : old.greatest + 1 ≤ v.greatest = omega arith in
     let updates = on_fine c.insert.result _ c.is_err-2.result c.is_err-2.ensures.value c.if-is_err-2.false c.insert.ensures.updates in
     let kept = kept_of v (file_added old c.args.path.now []) made (file_added_good old c.args.path.now [] (good_of old c.args.self.now.tree c.args.self.now.stored c.args.self.now.given)) in
+    let bared = changed_bared v old (at_key c.args.self.now.opens) (AddFile c.args.path.now []) made (good_of old c.args.self.now.tree c.args.self.now.stored c.args.self.now.given) c.args.self.now.given
+    (record { bare = c.args.self.now.bare; kept = c.args.self.now.kept }) in
+    let row = new_row old v c.args.path.now edit in
     record {
+      bare = bared.bare;
+      kept = kept_put v.files (at_key c.args.self.now.opens) (at_key c.insert.new.self) c.in-Some.handle _ (updates_put c.in-Some.handle c.args.self.now.opens c.insert.new.self _ updates) bared.kept
+          (λ o f. let same : record { number = old.greatest + 1; place = 0; kind = File; how = c.args.how } ≡ o = cc in rw (← same) (λ file. row));
       tree = kept.tree;
       plain = c.add_file.new.self.plain;
       stored = kept.stored;
