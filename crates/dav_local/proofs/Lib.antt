@@ -12,9 +12,12 @@ pub mod Coming
 pub mod Dating
 pub mod Recalling
 pub mod Found
+pub mod Counted
+pub mod NearFound
 pub mod Resolved
 pub mod Opened
 pub mod Seen
+pub mod NearSeen
 pub mod Keeping
 pub mod Filling
 pub mod Framing

@@ -14,6 +14,7 @@ pub mod Listing
 pub mod Made
 pub mod Gathering
 pub mod Calls
-pub mod Saving
+pub mod Near
 pub mod Seeing
+pub mod Saving
 pub mod Shown

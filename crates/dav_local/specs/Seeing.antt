@@ -14,9 +14,9 @@ use Rattle.dav_local.specs.declared.file.LocalFsFile.{LocalFsFile}
 use Rattle.dav_local.specs.Calls.{AfterFound, Asks, LooksAt}
 use Rattle.dav_local.specs.Files.{filed, looked_as}
 use Rattle.dav_local.specs.Places.{Place}
-use Rattle.dav_local.specs.Saving.{is_judged}
 use Rattle.dav_local.specs.Standing.{seen_at}
 use Rattle.dav_local.specs.Walking.{Walks}
+use Rattle.dav_local.specs.Ways.{is_judged}
 
 -- A path is found by folding, and a call follows at the place found.
 abbrev pub FindsAlike : {T : Type 0} → Place → Names → (Names → Place → Result T FsError → Place → Type 0)

@@ -9,8 +9,9 @@ ghost use Rattle.dav_store.specs.Standing.{info_in};
 ghost use Rattle.dav_local.specs.Calls.{LooksAt};
 ghost use Rattle.dav_local.specs.Files.{local_info};
 ghost use Rattle.dav_local.specs.LocalFiles.{local_file};
+ghost use Rattle.dav_local.specs.Near.{KeepsAsked, KeepsSeen, MissesUnasked, OpensThereByTwo, SeeksNear, SeesThere};
 ghost use Rattle.dav_local.specs.Places.{Stays, place_of};
-ghost use Rattle.dav_local.specs.Saving.{OpensOnce, SavesAt, SavesOpening, SeesOnce};
+ghost use Rattle.dav_local.specs.Saving.{OpensAsAsked, OpensOnce, SavesAt, SavesOpening, SeesAsAsked, SeesOnce};
 ghost use Rattle.dav_local.specs.Seeing.{AnswersSeen, FindsAlike, OpensAt, OpensThere};
 ghost use Rattle.dav_local.specs.Walking.{RecallsBy};
 
@@ -34,6 +35,11 @@ impl<D: Disk, R: Remember> LocalFs<D, R> {
             (info_in local_info result) (place_of D.state R.state self.new) }
         ensures saved { SavesAt (place_of D.state R.state self.old) path.now (info_in local_info result)
             (place_of D.state R.state self.new) }
+        ensures here { SeesAsAsked (place_of D.state R.state self.old) path.now (info_in local_info result)
+            (place_of D.state R.state self.new) }
+        ensures above { SeeksNear 4 (place_of D.state R.state self.old) path.now (LooksAt true slash)
+            (info_in local_info result) (place_of D.state R.state self.new) }
+        ensures kept { KeepsSeen (place_of D.state R.state self.old) path.now (place_of D.state R.state self.new) }
         ensures keeps { Keeps (D.state self.old.disk) (D.state self.new.disk) }
         ensures stays { Stays self.old self.new }
         ensures loan { D.loan self.new.disk ≡ D.loan self.old.disk }
@@ -51,6 +57,8 @@ impl<D: Disk, R: Remember> LocalFs<D, R> {
             (place_of D.state R.state self.new) }
         ensures once { SeesOnce (place_of D.state R.state self.old) path.now result
             (place_of D.state R.state self.new) }
+        ensures unasked { MissesUnasked (place_of D.state R.state self.old) path.now result (place_of D.state R.state self.new) }
+        ensures kept { KeepsAsked (place_of D.state R.state self.old) path.now (place_of D.state R.state self.new) }
         ensures keeps { Keeps (D.state self.old.disk) (D.state self.new.disk) }
         ensures stays { Stays self.old self.new }
         ensures loan { D.loan self.new.disk ≡ D.loan self.old.disk }
@@ -64,6 +72,9 @@ impl<D: Disk, R: Remember> LocalFs<D, R> {
     // Looks at a path that the memory hasn't: as it is asked, or where it is found.
     fn look_on_disk(&mut self, path: &FsPath, slash: bool) -> Result<LocalFsMetaData, FsError>
         ensures done { FindsAlike (place_of D.state R.state self.old) path.now (LooksAt true slash)
+            (info_in local_info result) (place_of D.state R.state self.new) }
+        ensures here { SeesThere (place_of D.state R.state self.old) path.now (place_of D.state R.state self.new) }
+        ensures above { SeeksNear 4 (place_of D.state R.state self.old) path.now (LooksAt true slash)
             (info_in local_info result) (place_of D.state R.state self.new) }
         ensures keeps { Keeps (D.state self.old.disk) (D.state self.new.disk) }
         ensures stays { Stays self.old self.new }
@@ -79,6 +90,8 @@ impl<D: Disk, R: Remember> LocalFs<D, R> {
     // Looks at a path that doesn't stand as it is asked.
     fn look_elsewhere(&mut self, path: &FsPath, slash: bool) -> Result<LocalFsMetaData, FsError>
         ensures done { FindsAlike (place_of D.state R.state self.old) path.now (LooksAt true slash)
+            (info_in local_info result) (place_of D.state R.state self.new) }
+        ensures above { SeeksNear 3 (place_of D.state R.state self.old) path.now (LooksAt true slash)
             (info_in local_info result) (place_of D.state R.state self.new) }
         ensures keeps { Keeps (D.state self.old.disk) (D.state self.new.disk) }
         ensures stays { Stays self.old self.new }
@@ -115,6 +128,9 @@ impl<D: Disk, R: Remember> LocalFs<D, R> {
             (place_of D.state R.state self.new) }
         ensures saved { SavesOpening (place_of D.state R.state self.old) path.now result
             (place_of D.state R.state self.new) }
+        ensures here { OpensAsAsked (place_of D.state R.state self.old) path.now result (place_of D.state R.state self.new) }
+        ensures above { SeeksNear 4 (place_of D.state R.state self.old) path.now (OpensAt reading) result
+            (place_of D.state R.state self.new) }
         ensures one { OpensOne local_file reading (D.state self.old.disk) result
             (D.state self.new.disk) }
         ensures stays { Stays self.old self.new }
@@ -133,6 +149,7 @@ impl<D: Disk, R: Remember> LocalFs<D, R> {
             (place_of D.state R.state self.new) }
         ensures once { OpensOnce (place_of D.state R.state self.old) path.now result
             (place_of D.state R.state self.new) }
+        ensures unasked { MissesUnasked (place_of D.state R.state self.old) path.now result (place_of D.state R.state self.new) }
         ensures one { OpensThere (D.state self.old.disk) result (D.state self.new.disk) }
         ensures stays { Stays self.old self.new }
         ensures loan { D.loan self.new.disk ≡ D.loan self.old.disk }
@@ -146,6 +163,9 @@ impl<D: Disk, R: Remember> LocalFs<D, R> {
     // Opens for reading what stands at a path that the memory hasn't.
     fn open_on_disk(&mut self, path: &FsPath) -> Result<LocalFsFile, FsError>
         ensures done { FindsAlike (place_of D.state R.state self.old) path.now (OpensAt reading) result
+            (place_of D.state R.state self.new) }
+        ensures here { OpensThereByTwo (place_of D.state R.state self.old) path.now (place_of D.state R.state self.new) }
+        ensures above { SeeksNear 4 (place_of D.state R.state self.old) path.now (OpensAt reading) result
             (place_of D.state R.state self.new) }
         ensures one { OpensOne local_file reading (D.state self.old.disk) result
             (D.state self.new.disk) }

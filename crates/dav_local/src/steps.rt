@@ -2,9 +2,10 @@
 // path and the disk what stands there as it is asked; then likewise for the directory above it, of which the members
 // are listed; and without that directory it is walked from the root. What is found elsewhere than it is asked is
 // remembered.
-ghost use Rattle.std.specs.Prelude.{◌≡◌, IfOk, OnOk, Result, true};
+ghost use Rattle.std.specs.Prelude.{◌≡◌, IfOk, None, OnOk, Result, true};
 ghost use Rattle.dav_core.specs.declared.error.FsError.{FsError};
 ghost use Rattle.dav_core.specs.Path.{Names, is_plain};
+ghost use Rattle.dav_local.specs.Near.{FindsAtOnce, FindsDir, FindsDirHere, FindsHere, MissesUnasked, SearchesFew, SoughtIn};
 ghost use Rattle.dav_local.specs.Places.{Stays, place_of};
 ghost use Rattle.dav_local.specs.Remembering.{HasFirst, HasNext, KeepsAbove, KeepsWork, RemembersRows, SavesCalls, SavesWork};
 ghost use Rattle.dav_local.specs.Resolving.{Resolves, StandsFor, found_at};
@@ -29,6 +30,8 @@ impl<D: Disk, R: Remember> LocalFs<D, R> {
         ensures rows { RemembersRows (place_of D.state R.state self.old) (place_of D.state R.state self.new) }
         ensures above { KeepsAbove (place_of D.state R.state self.old) path.now (found_at path.now result)
             (place_of D.state R.state self.new) }
+        ensures near { self.old.ways.alone ≡ None → self.old.ways.folds ≡ true
+            → FindsAtOnce (place_of D.state R.state self.old) path.now (place_of D.state R.state self.new) }
         ensures stays { Stays self.old self.new }
         ensures loan { D.loan self.new.disk ≡ D.loan self.old.disk }
     {
@@ -49,6 +52,7 @@ impl<D: Disk, R: Remember> LocalFs<D, R> {
             → SavesCalls (place_of D.state R.state self.old) path.now r (place_of D.state R.state self.new) }
         ensures above { BringsUnheld (place_of D.state R.state self.old) path.now (found_at path.now result)
             (place_of D.state R.state self.new) }
+        ensures near { FindsAtOnce (place_of D.state R.state self.old) path.now (place_of D.state R.state self.new) }
         ensures stays { Stays self.old self.new }
         ensures loan { D.loan self.new.disk ≡ D.loan self.old.disk }
     {
@@ -65,6 +69,9 @@ impl<D: Disk, R: Remember> LocalFs<D, R> {
             (place_of D.state R.state self.new) }
         ensures above { BringsAbove (place_of D.state R.state self.old) path.now (found_at path.now result)
             (place_of D.state R.state self.new) }
+        ensures near { SoughtIn 4 (place_of D.state R.state self.old) path.now (found_at path.now result)
+            (place_of D.state R.state self.new) }
+        ensures here { FindsHere (place_of D.state R.state self.old) path.now result (place_of D.state R.state self.new) }
         ensures stays { Stays self.old self.new }
         ensures loan { D.loan self.new.disk ≡ D.loan self.old.disk }
     {
@@ -81,6 +88,7 @@ impl<D: Disk, R: Remember> LocalFs<D, R> {
         ensures done { Walks (place_of D.state R.state self.old) path.now result (place_of D.state R.state self.new) }
         ensures above { BringsAbove (place_of D.state R.state self.old) path.now result
             (place_of D.state R.state self.new) }
+        ensures near { SoughtIn 3 (place_of D.state R.state self.old) path.now result (place_of D.state R.state self.new) }
         ensures stays { Stays self.old self.new }
         ensures loan { D.loan self.new.disk ≡ D.loan self.old.disk }
     {
@@ -101,6 +109,7 @@ impl<D: Disk, R: Remember> LocalFs<D, R> {
     // Finds the directory above a path: the root, or where the memory has it, or as it stands.
     fn find_parent(&mut self, dir: FsPath) -> Result<Option<FsPath>, FsError>
         ensures done { FindsParent (place_of D.state R.state self.old) dir result (place_of D.state R.state self.new) }
+        ensures near { FindsDir (place_of D.state R.state self.old) dir result (place_of D.state R.state self.new) }
         ensures stays { Stays self.old self.new }
         ensures loan { D.loan self.new.disk ≡ D.loan self.old.disk }
     {
@@ -117,6 +126,7 @@ impl<D: Disk, R: Remember> LocalFs<D, R> {
     // The directory above a path as it stands. It is remembered.
     fn parent_on_disk(&mut self, dir: FsPath) -> Result<Option<FsPath>, FsError>
         ensures done { FindsParent (place_of D.state R.state self.old) dir result (place_of D.state R.state self.new) }
+        ensures near { FindsDirHere (place_of D.state R.state self.old) dir result (place_of D.state R.state self.new) }
         ensures stays { Stays self.old self.new }
         ensures loan { D.loan self.new.disk ≡ D.loan self.old.disk }
     {
@@ -137,6 +147,7 @@ impl<D: Disk, R: Remember> LocalFs<D, R> {
             (place_of D.state R.state self.new) }
         ensures above { HasFirst dir.now dir.now (R.state self.old.memory)
             → IfOk result (λ at. HasNext dir.now at (R.state self.new.memory)) }
+        ensures few { SearchesFew (D.state self.old.disk) dir.now (D.state self.new.disk) }
         ensures stays { Stays self.old self.new }
         ensures loan { D.loan self.new.disk ≡ D.loan self.old.disk }
     {
@@ -200,6 +211,7 @@ impl<D: Disk, R: Remember> LocalFs<D, R> {
     fn recall(&mut self, path: &FsPath) -> Result<Option<FsPath>, FsError>
         ensures done { Recalls (place_of D.state R.state self.old) path.now result
             (place_of D.state R.state self.new) }
+        ensures unasked { MissesUnasked (place_of D.state R.state self.old) path.now result (place_of D.state R.state self.new) }
         ensures stays { Stays self.old self.new }
         ensures loan { D.loan self.new.disk ≡ D.loan self.old.disk }
     {
@@ -214,6 +226,7 @@ impl<D: Disk, R: Remember> LocalFs<D, R> {
     fn remember(&mut self, at: &FsPath) -> Result<(), FsError>
         ensures done { Remembers (place_of D.state R.state self.old) at.now result
             (place_of D.state R.state self.new) }
+        ensures disk { D.state self.new.disk ≡ D.state self.old.disk }
         ensures stays { Stays self.old self.new }
         ensures loan { D.loan self.new.disk ≡ D.loan self.old.disk }
     {

@@ -5,7 +5,7 @@ ghost use Rattle.dav_local.specs.Gathering.{GivesNext, dir_to_come};
 ghost use Rattle.dav_local.specs.Entries.{Says};
 ghost use Rattle.dav_local.specs.LocalFiles.{local_file};
 ghost use Rattle.dav_local.specs.Places.{Stays, place_of};
-ghost use Rattle.dav_local.specs.Saving.{SavesLook, SavesOpen};
+ghost use Rattle.dav_local.specs.Saving.{SavesDir, SavesLook, SavesOpen};
 
 use crate::acts::{copy_at, make_at, move_at, open_at, take_dir_at, take_file_at};
 use crate::gathering::{begin_dir, next_in};
@@ -70,7 +70,8 @@ impl<D: Disk, R: Remember> DavFileSystem for LocalFs<D, R> {
       lister = λ d. Some d.reading.lister.0;
       to_come = dir_to_come;
       lists = λ s _ path wanted result t. Finds (place_of D.state R.state s) path.names (BeginsAt wanted) result
-          (place_of D.state R.state t) × Stays s t;
+          (place_of D.state R.state t) × Stays s t × SavesDir (place_of D.state R.state s) path result
+          (place_of D.state R.state t);
       lists_on = λ s d result t e. GivesNext s.moment (place_of D.state R.state s) d result
           (place_of D.state R.state t) e × Stays s t;
       ends_list = λ s d t. EndsListing (D.state s.disk) d.reading.lister.0 (D.state t.disk)

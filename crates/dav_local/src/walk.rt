@@ -4,6 +4,7 @@ ghost use Rattle.std.specs.Prelude.{◌≡◌, ◌++◌, Err, IfOk, IsSome, OnEr
 ghost use Rattle.std.specs.Option.{unwrap_or};
 ghost use Rattle.dav_core.specs.Path.{all_plain, is_plain, parent_of};
 ghost use Rattle.dav_model.specs.Folds as folds;
+ghost use Rattle.dav_local.specs.Near.{ReadsFew, SearchesFew};
 ghost use Rattle.dav_local.specs.Walking.{Searches, SearchesIn, Steps};
 
 use crate::lists::{begin_list, end_list, look, next_name};
@@ -29,6 +30,7 @@ fn search<D: Disk>(
 ) -> Result<Option<Text>, FsError>
     requires { IsSome ((D.state disk.old).listers lister.0) }
     ensures done { Searches (D.state disk.old) lister.0 folding.now result (D.state disk.new) }
+    ensures few { ReadsFew (D.state disk.old) lister.0 (D.state disk.new) }
     ensures loan { D.loan disk.new ≡ D.loan disk.old }
 {
     loop {
@@ -49,6 +51,7 @@ fn search<D: Disk>(
 // The name with this folding in the directory at a path. None where it has none, and where no directory stands there.
 fn search_in<D: Disk>(disk: &mut D, at: &FsPath, folding: &Text) -> Result<Option<Text>, FsError>
     ensures done { SearchesIn (D.state disk.old) at.now folding.now result (D.state disk.new) }
+    ensures few { SearchesFew (D.state disk.old) at.now (D.state disk.new) }
     ensures loan { D.loan disk.new ≡ D.loan disk.old }
 {
     let lister = match begin_list(disk, at) {
@@ -65,6 +68,7 @@ fn search_in<D: Disk>(disk: &mut D, at: &FsPath, folding: &Text) -> Result<Optio
 // The path of the name in a directory that folds like this one.
 pub fn alike<D: Disk>(disk: &mut D, at: &FsPath, name: &Text) -> Result<Option<FsPath>, FsError>
     ensures done { Steps (D.state disk.old) at.now name.now result (D.state disk.new) }
+    ensures few { SearchesFew (D.state disk.old) at.now (D.state disk.new) }
     ensures loan { D.loan disk.new ≡ D.loan disk.old }
 {
     let Ok(folding) = folded(at.allocator(), name) else {

@@ -4,8 +4,7 @@ ghost use Rattle.dav_core.specs.Listing.{or_empty};
 ghost use Rattle.dav_core.specs.Path.{same_names};
 ghost use Rattle.dav_model.specs.Folds.{is_dot};
 ghost use Rattle.dav_model.specs.Finding as finding;
-ghost use Rattle.dav_local.specs.Saving.{is_judged as the_is_judged};
-ghost use Rattle.dav_local.specs.Ways.{is_known as the_is_known, rules_of};
+ghost use Rattle.dav_local.specs.Ways.{is_judged as the_is_judged, is_known as the_is_known, rules_of};
 
 use dav_core::{DavPath, FsPath};
 

@@ -17,7 +17,7 @@ use Rattle.dav_local.specs.declared.file.LocalFsFile.{LocalFsFile}
 use Rattle.dav_local.specs.Calls.{AsksToCopy, AsksToMake, AsksToMove, AsksToTakeDir, AsksToTakeFile, BeginsAt, Finds, IsOpening, Looks, Place}
 use Rattle.dav_local.specs.Entries.{Says}
 use Rattle.dav_local.specs.Files.{seen_by}
-use Rattle.dav_local.specs.Saving.{SavesLook, SavesOpen}
+use Rattle.dav_local.specs.Saving.{SavesDir, SavesLook, SavesOpen}
 use Rattle.dav_local.specs.declared.gathering.LocalFsReadDir.{LocalFsReadDir}
 use Rattle.dav_local.specs.Gathering.{GivesNext}
 use Rattle.dav_local.specs.declared.ways.Ways.{Ways}
@@ -66,6 +66,8 @@ module _ {S C : Type 0} (view : View S C LocalFsFile) (lists : Listings S C Loca
         → AsksToCopy (place s) from to r (place t) × (ways t ≡ ways s) × (moment t ≡ moment s)
     pub begins : (s t : S) (c : C) (path : WebPath) (how : ReadDirMeta) (r : Result LocalFsReadDir FsError)
         → lists.lists s c path how r t → Finds (place s) path.names (BeginsAt how) r (place t) × (ways t ≡ ways s) × (moment t ≡ moment s)
+    pub begins_once : (s t : S) (c : C) (path : WebPath) (how : ReadDirMeta) (r : Result LocalFsReadDir FsError)
+        → lists.lists s c path how r t → SavesDir (place s) path r (place t)
     pub goes_on : (s t : S) (l k : LocalFsReadDir) (r : Result (Option LocalFsDirEntry) FsError)
         → lists.lists_on s l r t k → (now : Moment) × GivesNext now (place s) l r (place t) k × (now ≡ moment s)
         × (moment t ≡ moment s)

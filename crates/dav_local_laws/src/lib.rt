@@ -10,7 +10,7 @@ ghost use Rattle.dav_core.specs.DavPath.{last_name};
 ghost use Rattle.dav_core.specs.Info.{Info};
 ghost use Rattle.dav_core.specs.Listing.{or_empty};
 ghost use Rattle.dav_cache.specs.Builder.{BuilderState, may_settle};
-ghost use Rattle.dav_local.specs.Calls.{is_shut, place_of};
+ghost use Rattle.dav_local.specs.Calls.{LooksAt, is_shut, place_of};
 ghost use Rattle.dav_local.specs.declared.gathering.LocalFsReadDir.{LocalFsReadDir};
 ghost use Rattle.dav_model.specs.Folds.{dir_time, is_dot};
 ghost use Rattle.dav_store.specs.Members.{Answered, Walked};
@@ -28,7 +28,9 @@ ghost use Rattle.dav_get.specs.Right.{IsOfNumber, or_zero, reply_at};
 ghost use Rattle.dav_get.specs.Table.{Given};
 ghost use Rattle.dav_local.specs.Made.{MadeAt};
 ghost use Rattle.dav_local.specs.Remembering.{IsRemembered};
-ghost use Rattle.dav_local.specs.Saving.{AsksOneCall, is_judged};
+ghost use Rattle.dav_local.specs.Near.{IsAsAsked, SeeksNear};
+ghost use Rattle.dav_local.specs.Saving.{AsksOneCall, OpensByTwo, is_judged};
+ghost use Rattle.dav_local.specs.Seeing.{OpensAt};
 ghost use Rattle.dav_local.specs.Shown.{knowledge_of};
 ghost use Rattle.dav_local.specs.Standing.{HasNoLinks};
 ghost use Rattle.dav_local.specs.Ways.{rules_of, rules_with};
@@ -165,6 +167,49 @@ pub fn remembered_paths_cost_one_opening<D: Disk, R: Remember>(_fs: &LocalFs<D, 
         → RefusedNothing (D.state _fs.now.disk).faults (D.state t.disk).faults
         → IsRemembered (place_of D.state R.state _fs.now) _path.now.names at
         → AsksOneCall (place_of D.state R.state _fs.now) result (place_of D.state R.state t) }
+{
+    calls_are_local(_fs)
+}
+
+/// Where names fold and the disk refuses nothing, a look at a path that the memory hasn't and that stands as it is asked
+/// costs one call of the disk, unless the rules for macOS judge it; and an opening for reading two, or two at most where
+/// nothing was opened.
+pub fn paths_as_asked_cost_few<D: Disk, R: Remember>(_fs: &LocalFs<D, R>, _path: &DavPath)
+    ensures looks { (result : Result Info FsError) (t : LocalFs D R)
+        → ⟦<LocalFs<D, R> as DavFileSystem>⟧.view.looks _fs.now tt _path.now result t
+        → _fs.now.ways.folds ≡ true → _fs.now.ways.alone ≡ None
+        → is_virtual (rules_of _fs.now.ways) _path.now ≡ false
+        → RefusedNothing (D.state _fs.now.disk).faults (D.state t.disk).faults
+        → IsAsAsked (place_of D.state R.state _fs.now) _path.now.names → is_judged _fs.now.ways _path.now.names ≡ false
+        → AsksOneCall (place_of D.state R.state _fs.now) result (place_of D.state R.state t) }
+    ensures opens { (result : Result LocalFsFile FsError) (t : LocalFs D R)
+        → ⟦<LocalFs<D, R> as DavFileSystem>⟧.view.opens _fs.now tt _path.now reading result t
+        → _fs.now.ways.folds ≡ true → _fs.now.ways.alone ≡ None → is_shut _fs.now.ways _path.now ≡ false
+        → RefusedNothing (D.state _fs.now.disk).faults (D.state t.disk).faults
+        → IsAsAsked (place_of D.state R.state _fs.now) _path.now.names
+        → OpensByTwo (D.state _fs.now.disk) result (D.state t.disk) }
+{
+    calls_are_local(_fs)
+}
+
+/// Where names fold and the disk refuses nothing, a path that the memory hasn't, and that doesn't stand as it is asked, is
+/// sought in the directory above it: where the memory has that, or else where it stands as it is asked. It costs four
+/// calls of the disk and one for each name in the directory at most, and a look or an opening follows at the place found.
+pub fn members_are_sought_where_their_directory_is<D: Disk, R: Remember>(
+    _fs: &LocalFs<D, R>,
+    _path: &DavPath,
+)
+    ensures looks { (result : Result Info FsError) (t : LocalFs D R)
+        → ⟦<LocalFs<D, R> as DavFileSystem>⟧.view.looks _fs.now tt _path.now result t
+        → _fs.now.ways.folds ≡ true → _fs.now.ways.alone ≡ None
+        → is_virtual (rules_of _fs.now.ways) _path.now ≡ false
+        → SeeksNear 4 (place_of D.state R.state _fs.now) _path.now.names (LooksAt true _path.now.slash) result
+        (place_of D.state R.state t) }
+    ensures opens { (result : Result LocalFsFile FsError) (t : LocalFs D R)
+        → ⟦<LocalFs<D, R> as DavFileSystem>⟧.view.opens _fs.now tt _path.now reading result t
+        → _fs.now.ways.folds ≡ true → _fs.now.ways.alone ≡ None → is_shut _fs.now.ways _path.now ≡ false
+        → SeeksNear 4 (place_of D.state R.state _fs.now) _path.now.names (OpensAt reading) result
+        (place_of D.state R.state t) }
 {
     calls_are_local(_fs)
 }

@@ -20,6 +20,7 @@ returns g c = record {
   renames = λ s t c from to r h. (h.0, h.1.0, h.1.2);
   copies = λ s t c from to r h. (h.0, h.1.0, h.1.2);
   begins = λ s t c path how r h. (h.0, h.1.0, h.1.2);
+  begins_once = λ s t c path how r h. h.2;
   goes_on = λ s t l k r h. (s.moment, h.0, refl, h.1.2);
   ends = λ s t l h. (h.0, ap (place_of g.D.Disk.state g.R.Remember.state) h.1);
   called = λ e. refl;

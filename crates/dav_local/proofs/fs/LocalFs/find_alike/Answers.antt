@@ -1,6 +1,7 @@
 use Rattle.dav_local.specs.Places.{place_of}
 use Rattle.dav_local.specs.Resolving.{found_at}
 use Rattle.dav_local.proofs.Found.{unheld_recalled, unheld_unknown, saves_recalled, saves_starved, saves_unknown, walks_recalled, walks_unknown}
+use Rattle.dav_local.proofs.NearFound.{once_recalled, once_starved, once_unknown}
 use Rattle.dav_local.proofs.fs.LocalFs.find_alike.Goals as goal
 
 pub returns-in-Ok-Some-clause-done : goal.returns-in-Ok-Some-clause-done
@@ -23,3 +24,12 @@ returns-in-Ok-Some-clause-above g c = unheld_recalled (place_of g.D.Disk.state g
 
 pub returns-in-Ok-None-clause-above : goal.returns-in-Ok-None-clause-above
 returns-in-Ok-None-clause-above g c = unheld_unknown (place_of g.D.Disk.state g.R.Remember.state c.args.self.now) (place_of g.D.Disk.state g.R.Remember.state c.recall.new.self) (place_of g.D.Disk.state g.R.Remember.state c.find_on_disk.new.self) c.args.path.now c.in-Ok-None.field-0 (found_at c.args.path.now c.find_on_disk.result) c.in-Ok-None.ensures.done c.find_on_disk.ensures.above
+
+pub returns-in-Ok-Some-clause-near : goal.returns-in-Ok-Some-clause-near
+returns-in-Ok-Some-clause-near g c = once_recalled (place_of g.D.Disk.state g.R.Remember.state c.args.self.now) (place_of g.D.Disk.state g.R.Remember.state c.recall.new.self) c.args.path.now c.in-Ok-Some.at c.in-Ok-Some.field-0 c.in-Ok-Some.ensures.done c.in-Ok-Some.ensures.unasked c.in-Ok-Some.field-0-is
+
+pub returns-in-Ok-None-clause-near : goal.returns-in-Ok-None-clause-near
+returns-in-Ok-None-clause-near g c = once_unknown (place_of g.D.Disk.state g.R.Remember.state c.args.self.now) (place_of g.D.Disk.state g.R.Remember.state c.recall.new.self) (place_of g.D.Disk.state g.R.Remember.state c.find_on_disk.new.self) c.args.path.now c.in-Ok-None.field-0 c.find_on_disk.result c.in-Ok-None.ensures.done c.in-Ok-None.ensures.unasked c.in-Ok-None.field-0-is c.find_on_disk.ensures.done.keeps.keeps.counts c.find_on_disk.ensures.here
+
+pub returns-in-Err-clause-near : goal.returns-in-Err-clause-near
+returns-in-Err-clause-near g c = once_starved (place_of g.D.Disk.state g.R.Remember.state c.args.self.now) (place_of g.D.Disk.state g.R.Remember.state c.recall.new.self) c.args.path.now c.in-Err.error c.in-Err.ensures.done

@@ -1,6 +1,8 @@
-use Rattle.std.proofs.Common.{◌++◌, ap, sym, ◌∙◌}
+use Rattle.std.proofs.Common.{◌++◌, ap, sym, ◌∙◌, subst, Ok}
 use Rattle.dav_local.specs.Places.{place_of}
 use Rattle.dav_local.proofs.Found.{lost_above, member_above, member_walks, walks_lost}
+use Rattle.dav_local.specs.Near.{FindsDir}
+use Rattle.dav_local.proofs.NearFound.{sought_lost, sought_taken}
 use Rattle.dav_local.proofs.fs.LocalFs.find_elsewhere.Goals as goal
 
 pub returns-in-Ok-Some-clause-done : goal.returns-in-Ok-Some-clause-done
@@ -18,3 +20,11 @@ returns-in-Ok-Some-clause-above g c =
 
 pub returns-in-Ok-None-clause-above : goal.returns-in-Ok-None-clause-above
 returns-in-Ok-None-clause-above g c = lost_above _ _ (place_of g.D.Disk.state g.R.Remember.state c.walk.new.self) _ _ c.in-Ok-None.field-0 _ c.in-Ok-None.ensures.done c.walk.ensures.above
+
+pub returns-in-Ok-Some-clause-near : goal.returns-in-Ok-Some-clause-near
+returns-in-Ok-Some-clause-near g c = sought_taken (place_of g.D.Disk.state g.R.Remember.state c.args.self.now) (place_of g.D.Disk.state g.R.Remember.state c.find_parent.new.self) (place_of g.D.Disk.state g.R.Remember.state c.take_member.new.self) c.args.path.now c.in-Some.above.now c.in-Ok-Some.found c.in-Some.name.now c.in-Ok-Some.field-0 _ (sym c.as_slice.ensures.value ∙ c.in-Some.ensures.cases.0)
+    (subst (λ d. FindsDir (place_of g.D.Disk.state g.R.Remember.state c.args.self.now) d (Ok c.in-Ok-Some.field-0) (place_of g.D.Disk.state g.R.Remember.state c.find_parent.new.self)) (c.in-Ok.ensures.ok ∙ ap (λ z. z ++ c.in-Some.above.now) (c.new-root.ensures ∙ c.new.ensures.items)) c.in-Ok-Some.ensures.near) c.in-Ok-Some.field-0-is c.in-Ok-Some.ensures.done.keeps c.take_member.ensures.done c.take_member.ensures.few
+
+pub returns-in-Ok-None-clause-near : goal.returns-in-Ok-None-clause-near
+returns-in-Ok-None-clause-near g c = sought_lost (place_of g.D.Disk.state g.R.Remember.state c.args.self.now) (place_of g.D.Disk.state g.R.Remember.state c.find_parent.new.self) (place_of g.D.Disk.state g.R.Remember.state c.walk.new.self) c.args.path.now c.in-Some.above.now c.in-Some.name.now c.in-Ok-None.field-0 _ (sym c.as_slice.ensures.value ∙ c.in-Some.ensures.cases.0)
+    (subst (λ d. FindsDir (place_of g.D.Disk.state g.R.Remember.state c.args.self.now) d (Ok c.in-Ok-None.field-0) (place_of g.D.Disk.state g.R.Remember.state c.find_parent.new.self)) (c.in-Ok.ensures.ok ∙ ap (λ z. z ++ c.in-Some.above.now) (c.new-root.ensures ∙ c.new.ensures.items)) c.in-Ok-None.ensures.near) c.in-Ok-None.field-0-is c.in-Ok-None.ensures.done.keeps.keeps.counts c.walk.ensures.done.keeps.keeps.counts

@@ -1,12 +1,10 @@
-use Rattle.std.proofs.Common.{◌≡◌, false, subst}
+use Rattle.std.proofs.Common.{◌≡◌, false, true}
 use Rattle.dav_model.specs.Finding.{is_virtual}
 use Rattle.dav_local.specs.Ways.{is_known, rules_of}
 use Rattle.dav_core.proofs.UnchangedLemmas.{keeps_then}
-use Rattle.dav_store.specs.Standing.{info_in}
 use Rattle.dav_local.specs.Calls.{place_of}
-use Rattle.dav_local.specs.Files.{local_info}
-use Rattle.dav_local.specs.Saving.{SavesAt}
 use Rattle.dav_local.proofs.Seen.{look_asked}
+use Rattle.dav_local.proofs.NearSeen.{saves_look, saves_virtual}
 use Rattle.dav_local.proofs.fs.LocalFs.look.Goals as goal
 
 pub returns-then-not-is_known-clause-done : goal.returns-then-not-is_known-clause-done
@@ -20,7 +18,11 @@ pub returns-clause-keeps : goal.returns-clause-keeps
 returns-clause-keeps g c = keeps_then _ _ _ c.in_ok-found.ensures.done.keeps c.look_at.ensures.keeps
 
 pub returns-then-not-is_known-clause-saved : goal.returns-then-not-is_known-clause-saved
-returns-then-not-is_known-clause-saved g c = λ follows real.
-    subst
-    (λ n. SavesAt (place_of g.D.Disk.state g.R.Remember.state c.args.self.now) n (info_in local_info c.look_alike.result) (place_of g.D.Disk.state g.R.Remember.state c.look_alike.new.self))
-    c.names.ensures.value c.look_alike.ensures.saved
+returns-then-not-is_known-clause-saved g c = λ follows.
+    saves_look (place_of g.D.Disk.state g.R.Remember.state c.args.self.now) (place_of g.D.Disk.state g.R.Remember.state c.look_alike.new.self) c.args.path.now c.names.result.now c.has_slash-slash.result _
+    c.names.ensures.value c.has_slash-slash.ensures c.look_alike.ensures.saved c.look_alike.ensures.here c.look_alike.ensures.above c.look_alike.ensures.kept
+
+pub returns-then-is_virtual-clause-saved : goal.returns-then-is_virtual-clause-saved
+returns-then-is_virtual-clause-saved g c = λ follows.
+    let virtual : is_virtual (rules_of c.args.self.now.ways) c.args.path.now ≡ true = cc (c.if-is_virtual.ensures, c.is_virtual.ensures) in
+    saves_virtual _ _ _ _ virtual

@@ -1,7 +1,9 @@
-use Rattle.std.proofs.Common.{true}
+use Rattle.std.proofs.Common.{true, Ok, Err, refl}
 use Rattle.dav_core.proofs.UnchangedLemmas.{keeps_then}
 use Rattle.dav_local.specs.Calls.{LooksAt}
 use Rattle.dav_local.proofs.Seen.{finds_refused, finds_there}
+use Rattle.dav_local.specs.Places.{place_of}
+use Rattle.dav_local.proofs.NearSeen.{seeks_refused, seeks_there}
 use Rattle.dav_local.proofs.fs.LocalFs.look_elsewhere.Goals as goal
 
 pub returns-in-Ok-clause-done : goal.returns-in-Ok-clause-done
@@ -12,3 +14,9 @@ returns-in-Ok-clause-keeps g c = keeps_then _ _ _ c.in-Ok.ensures.done.keeps.kee
 
 pub returns-in-Err-clause-done : goal.returns-in-Err-clause-done
 returns-in-Err-clause-done g c = finds_refused _ _ _ (LooksAt true c.args.slash) _ c.in-Err.ensures.done
+
+pub returns-in-Ok-clause-above : goal.returns-in-Ok-clause-above
+returns-in-Ok-clause-above g c = seeks_there (LooksAt true c.args.slash) 3 (place_of g.D.Disk.state g.R.Remember.state c.args.self.now) (place_of g.D.Disk.state g.R.Remember.state c.find_elsewhere.new.self) (place_of g.D.Disk.state g.R.Remember.state c.look_at.new.self) c.args.path.now c.in-Ok.at (Ok c.in-Ok.at) _ refl c.in-Ok.ensures.near c.in-Ok.ensures.done.keeps.keeps.counts c.look_at.ensures.keeps.counts c.look_at.ensures.done
+
+pub returns-in-Err-clause-above : goal.returns-in-Err-clause-above
+returns-in-Err-clause-above g c = seeks_refused (LooksAt true c.args.slash) 3 (place_of g.D.Disk.state g.R.Remember.state c.args.self.now) (place_of g.D.Disk.state g.R.Remember.state c.find_elsewhere.new.self) c.args.path.now (Err c.in-Err.error) c.in-Err.error refl c.in-Err.ensures.near

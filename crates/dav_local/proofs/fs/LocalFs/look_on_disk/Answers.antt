@@ -1,7 +1,10 @@
-use Rattle.std.proofs.Common.{true}
+use Rattle.std.proofs.Common.{true, arith}
 use Rattle.dav_core.proofs.UnchangedLemmas.{keeps_then}
 use Rattle.dav_local.specs.Calls.{LooksAt}
 use Rattle.dav_local.proofs.Seen.{finds_absent, look_failed, look_here}
+use Rattle.dav_local.specs.Places.{place_of}
+use Rattle.dav_local.proofs.NearSeen.{seeks_later, seeks_seen, seeks_starved, sees_seen, sees_unseen}
+use Rattle.dav_local.proofs.Counted.{few_called}
 use Rattle.dav_local.proofs.fs.LocalFs.look_on_disk.Goals as goal
 
 pub returns-in-Ok-clause-done : goal.returns-in-Ok-clause-done
@@ -18,3 +21,21 @@ returns-in-Err-clause-done g c = finds_absent _ _ _ _ (LooksAt true c.args.slash
 
 pub returns-in-Err-clause-keeps : goal.returns-in-Err-clause-keeps
 returns-in-Err-clause-keeps g c = keeps_then _ _ _ c.look.ensures.keeps c.look_elsewhere.ensures.keeps
+
+pub returns-in-Ok-clause-here : goal.returns-in-Ok-clause-here
+returns-in-Ok-clause-here g c = sees_seen (place_of g.D.Disk.state g.R.Remember.state c.args.self.now) (place_of g.D.Disk.state g.R.Remember.state c.look_seen.new.self) (g.D.Disk.state c.look.new.disk) c.args.path.now c.in-Ok.meta c.args.slash _ c.in-Ok.ensures.done c.look_seen.ensures.done
+
+pub returns-in-Err-Failed-clause-here : goal.returns-in-Err-Failed-clause-here
+returns-in-Err-Failed-clause-here g c = sees_unseen (place_of g.D.Disk.state g.R.Remember.state c.args.self.now) (place_of g.D.Disk.state g.R.Remember.state (record c.args.self.now { disk = c.look.new.disk })) (g.D.Disk.state c.look.new.disk) c.args.path.now c.in-Err-Failed.field-0 c.in-Err-Failed.ensures.done (omega arith)
+
+pub returns-in-Err-clause-here : goal.returns-in-Err-clause-here
+returns-in-Err-clause-here g c = sees_unseen (place_of g.D.Disk.state g.R.Remember.state c.args.self.now) (place_of g.D.Disk.state g.R.Remember.state c.look_elsewhere.new.self) (g.D.Disk.state c.look.new.disk) c.args.path.now c.in-Err.field-0 c.in-Err.ensures.done c.look_elsewhere.ensures.keeps.counts
+
+pub returns-in-Ok-clause-above : goal.returns-in-Ok-clause-above
+returns-in-Ok-clause-above g c = seeks_seen (LooksAt true c.args.slash) 4 (place_of g.D.Disk.state g.R.Remember.state c.args.self.now) (place_of g.D.Disk.state g.R.Remember.state c.look_seen.new.self) (g.D.Disk.state c.look.new.disk) c.args.path.now c.in-Ok.meta _ c.in-Ok.ensures.done
+
+pub returns-in-Err-Failed-clause-above : goal.returns-in-Err-Failed-clause-above
+returns-in-Err-Failed-clause-above g c = seeks_starved (LooksAt true c.args.slash) 4 (place_of g.D.Disk.state g.R.Remember.state c.args.self.now) (place_of g.D.Disk.state g.R.Remember.state (record c.args.self.now { disk = c.look.new.disk })) c.args.path.now _ (omega arith) (few_called 1 (g.D.Disk.state c.args.self.now.disk) (g.D.Disk.state c.look.new.disk) (omega arith) c.in-Err-Failed.ensures.done.asks.asked)
+
+pub returns-in-Err-clause-above : goal.returns-in-Err-clause-above
+returns-in-Err-clause-above g c = seeks_later (LooksAt true c.args.slash) (place_of g.D.Disk.state g.R.Remember.state c.args.self.now) (place_of g.D.Disk.state g.R.Remember.state c.look_elsewhere.new.self) (g.D.Disk.state c.look.new.disk) c.args.path.now c.in-Err.field-0 _ c.in-Err.ensures.done c.look_elsewhere.ensures.keeps.counts c.look_elsewhere.ensures.above

@@ -1,8 +1,10 @@
+use Rattle.std.proofs.Common.{arith, Ok}
 use Rattle.dav_core.specs.Writing.{reading}
 use Rattle.dav_cache.specs.Calls.{Opening}
 use Rattle.dav_local.specs.Seeing.{OpensAt}
 use Rattle.dav_local.specs.Calls.{place_of}
 use Rattle.dav_local.proofs.Seen.{finds_unknown, open_recalled, open_saved, open_unknown, missed_counts, opened_counts, opened_recalled, opened_unknown}
+use Rattle.dav_local.proofs.NearSeen.{opening_starved, seeks_recalled, seeks_starved, seeks_unknown, two_recalled, two_unknown}
 use Rattle.dav_local.proofs.fs.LocalFs.open_alike.Goals as goal
 
 pub returns-in-Ok-Some-clause-done : goal.returns-in-Ok-Some-clause-done
@@ -24,3 +26,18 @@ pub returns-in-Ok-None-clause-saved : goal.returns-in-Ok-None-clause-saved
 returns-in-Ok-None-clause-saved g c =
     open_unknown _ (place_of g.D.Disk.state g.R.Remember.state c.recall_open.new.self) (place_of g.D.Disk.state g.R.Remember.state c.open_on_disk.new.self) _ c.in-Ok-None.field-0 _ c.in-Ok-None.ensures.once
     c.in-Ok-None.field-0-is (missed_counts _ _ c.in-Ok-None.field-0 c.in-Ok-None.ensures.one c.in-Ok-None.field-0-is) (opened_counts _ _ _ c.open_on_disk.ensures.one)
+
+pub returns-in-Ok-Some-clause-here : goal.returns-in-Ok-Some-clause-here
+returns-in-Ok-Some-clause-here g c = two_recalled (place_of g.D.Disk.state g.R.Remember.state c.args.self.now) (place_of g.D.Disk.state g.R.Remember.state c.recall_open.new.self) (place_of g.D.Disk.state g.R.Remember.state c.recall_open.new.self) c.args.path.now c.in-Ok-Some.field-0 (c.in-Ok-Some.field-0-0-0, c.in-Ok-Some.handle) (Ok (record { handle = c.in-Ok-Some.handle })) c.in-Ok-Some.ensures.unasked c.in-Ok-Some.field-0-is
+
+pub returns-in-Ok-None-clause-here : goal.returns-in-Ok-None-clause-here
+returns-in-Ok-None-clause-here g c = two_unknown (place_of g.D.Disk.state g.R.Remember.state c.args.self.now) (place_of g.D.Disk.state g.R.Remember.state c.recall_open.new.self) (place_of g.D.Disk.state g.R.Remember.state c.open_on_disk.new.self) c.args.path.now c.in-Ok-None.field-0 _ c.in-Ok-None.ensures.unasked c.open_on_disk.ensures.here
+
+pub returns-in-Ok-Some-clause-above : goal.returns-in-Ok-Some-clause-above
+returns-in-Ok-Some-clause-above g c = seeks_recalled (OpensAt reading) 4 (place_of g.D.Disk.state g.R.Remember.state c.args.self.now) (place_of g.D.Disk.state g.R.Remember.state c.recall_open.new.self) (place_of g.D.Disk.state g.R.Remember.state c.recall_open.new.self) c.args.path.now c.in-Ok-Some.field-0 (c.in-Ok-Some.field-0-0-0, c.in-Ok-Some.handle) _ c.in-Ok-Some.ensures.unasked c.in-Ok-Some.field-0-is
+
+pub returns-in-Ok-None-clause-above : goal.returns-in-Ok-None-clause-above
+returns-in-Ok-None-clause-above g c = seeks_unknown (OpensAt reading) (place_of g.D.Disk.state g.R.Remember.state c.args.self.now) (place_of g.D.Disk.state g.R.Remember.state c.recall_open.new.self) (place_of g.D.Disk.state g.R.Remember.state c.open_on_disk.new.self) c.args.path.now c.in-Ok-None.field-0 _ c.in-Ok-None.ensures.unasked c.open_on_disk.ensures.above
+
+pub returns-clause-above : goal.returns-clause-above
+returns-clause-above g c = seeks_starved (OpensAt reading) 4 (place_of g.D.Disk.state g.R.Remember.state c.args.self.now) (place_of g.D.Disk.state g.R.Remember.state c.recall_open.new.self) c.args.path.now c.in-Err.error (omega arith) (opening_starved (place_of g.D.Disk.state g.R.Remember.state c.args.self.now) (place_of g.D.Disk.state g.R.Remember.state c.recall_open.new.self) c.args.path.now c.in-Err.error c.in-Err.ensures.once)
