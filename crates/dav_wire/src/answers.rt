@@ -1,9 +1,10 @@
 //! The bytes of answers.
 ghost use Rattle.std.specs.Prelude.{◌≡◌, ◌+◌, ◌%◌, ◌++◌, ◌≤◌, length, IfOk, IfSome, OnOk};
-ghost use Rattle.dav_wire.specs.Answers.{phrase, three_digits, status_line, field_line, field_lines, has_close_field, is_close_field, place as the_place, with_framing, written_fields, head_text, bad_request_text as refusal, refusal_text as the_refusal_text};
+ghost use Rattle.dav_wire.specs.Answers.{phrase, three_digits, status_line, field_lines, has_close_field, is_close_field, place as the_place, with_framing, written_fields, head_text, bad_request_text as refusal, refusal_text as the_refusal_text};
 ghost use Rattle.dav_wire.specs.Framing.{framing as the_framing, has_length as length_given, is_bodiless as bodiless};
 
 use crate::chunks::Framing;
+use crate::laying::{lay_fields, lines_len};
 use crate::next::Flaw;
 use dav_io::{Field, NoMemory, Octets};
 use std::alloc::Global;
@@ -143,22 +144,13 @@ fn place(fields: &[Field], name: &[u8]) -> usize
     count
 }
 
+// Writes fields: the memory for their lines is taken at once, and they are laid into it.
 fn write_fields(text: &mut Vec<u8>, fields: &[Field]) -> Result<(), NoMemory>
     ensures { OnOk result (text.new.items ≡ text.old.items ++ field_lines fields.now) }
 {
-    for field in fields {
-        write_field(text, field)?;
-    }
-    Ok(())
-}
-
-fn write_field(text: &mut Vec<u8>, field: &Field) -> Result<(), NoMemory>
-    ensures { OnOk result (text.new.items ≡ text.old.items ++ field_line field.now) }
-{
-    text.extend_from_slice(field.name.as_slice())?;
-    text.extend_from_slice(b": ")?;
-    text.extend_from_slice(field.value.as_slice())?;
-    text.extend_from_slice(b"\r\n")?;
+    let start = text.len();
+    text.resize(start.saturating_add(lines_len(fields)), 0)?;
+    let _end = lay_fields(text.as_mut_slice(), start, fields);
     Ok(())
 }
 

@@ -11,6 +11,7 @@ mod fields;
 mod head;
 mod input;
 pub mod laws;
+mod laying;
 mod next;
 mod output;
 mod reading;
