@@ -16,7 +16,7 @@ ghost use Rattle.dav_model.specs.Bodies.{read_size_of};
 ghost use Rattle.dav_store.specs.Leads.{LeadsOn};
 ghost use Rattle.dav_store.specs.Standing.{Seen, Standing};
 ghost use Rattle.dav_store.specs.View.{Closes};
-ghost use Rattle.dav_get.specs.Calls.{AsksByOne, fields_given, status_given};
+ghost use Rattle.dav_get.specs.Calls.{AsksFor, fields_given, status_given};
 ghost use Rattle.dav_get.specs.Heard.{Heard};
 ghost use Rattle.dav_get.specs.Lives.{HasOpened, HeldOrClosed, HasMost, OpenOnlyHeld};
 ghost use Rattle.dav_get.specs.OpenFiles.{IsAt};
@@ -450,9 +450,9 @@ fn is_well_known(asked: &Asked<'_>) -> bool
 /// of the body, and that a HEAD and 304 have none. `sound` says that no part of the body is empty, and that 204 has
 /// none. `heard` says, of any store, that the answer is right for what its look and its opening or listing answered;
 /// `right`, that it is right for what the store shows at the path, and at the one that is opened or listed for what
-/// stands there, unless a fault was met. Either way memory may be refused. `asks` says, of a store that looks and opens
-/// by one call each, as it is now, how many calls of the disk it takes, where no page is given. `opened` says where the
-/// body's file was opened, and that it is what that file became by calls of its own.
+/// stands there, unless a fault was met. Either way memory may be refused. `asks` says, of a store that looks at the
+/// path by one call and opens a file by so many, as it is now, how many calls of the disk it takes, where no page is
+/// given. `opened` says where the body's file was opened, and that it is what that file became by calls of its own.
 pub fn handle_get<S: GuardedFileSystem<C>, C>(
     alloc: Global,
     settings: &Settings,
@@ -474,8 +474,10 @@ pub fn handle_get<S: GuardedFileSystem<C>, C>(
         (query settings.now fields.now method path.now) looked opened listed
         → (result ≡ Err DavError.NoMemory) ⊎ IsRightFor S.view
         (query settings.now fields.now method path.now) looked opened listed fs.old result fs.new }
-    ensures asks { (holds : S → Bool) → AsksByOne S.view S.listings holds → holds fs.old ≡ true
-        → (result ≡ Err DavError.NoMemory) ⊎ AsksUnlessKnown (the_is_well_known settings.now method path.now)
+    ensures asks { (calls : ℕ) → 0 < calls
+        → (the_is_well_known settings.now method path.now ≡ false → AsksFor S.view S.listings
+        (query settings.now fields.now method path.now) calls (S.view.state fs.new).faults fs.old)
+        → (result ≡ Err DavError.NoMemory) ⊎ AsksUnlessKnown calls (the_is_well_known settings.now method path.now)
         (is_set settings.now.redirect) (status_given result) (fields_given fields.now result)
         (S.view.state fs.old).asked (S.view.state fs.new).asked }
     ensures leads { LeadsOn S.view S.listings credentials.now fs.old fs.new }

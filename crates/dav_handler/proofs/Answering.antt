@@ -1,5 +1,5 @@
 -- What a request finds, from what the calls below it answered.
-use Rattle.std.proofs.Common.{◌≡◌, ◌⊎◌, inl, inr, ℕ, Bool, true, false, List, [], Option, None, Some, Result, Ok, Err, refl, sym, ap, subst, ◌∙◌}
+use Rattle.std.proofs.Common.{◌≡◌, ◌<◌, ◌⊎◌, inl, inr, ℕ, Bool, true, false, List, Option, None, Some, Result, Ok, Err, refl, sym, ap, subst, ◌∙◌, arith}
 use Rattle.std.specs.Prelude.{IfOk, is_some}
 use Rattle.std.specs.List.{list_any}
 use Rattle.std.specs.Option.{option_map}
@@ -8,7 +8,6 @@ use Rattle.dav_io.specs.declared.fields.Field.{Field}
 use Rattle.dav_core.specs.declared.dav_error.DavError.{DavError}
 use Rattle.dav_core.specs.declared.dav_error.DavError.TheVariants.{NoMemory as OutOfMemory}
 use Rattle.dav_core.specs.declared.method.DavMethod.{DavMethod}
-use Rattle.dav_core.specs.declared.method.DavMethodSet.{DavMethodSet}
 use Rattle.dav_core.specs.DavPath.{WebPath}
 use Rattle.dav_core.specs.Disk.{DiskState, Live, TellsLive}
 use Rattle.dav_core.specs.Statuses.{closes, lacks_memory, status_of}
@@ -17,15 +16,14 @@ use Rattle.dav_core.specs.World.{World}
 use Rattle.dav_cache.specs.Memory.{LearnsNothing, MemoryState}
 use Rattle.dav_model.specs.declared.outcome.Outcome.{Outcome}
 use Rattle.dav_model.specs.declared.settings.Settings.{Settings}
-use Rattle.dav_model.specs.declared.target.Target.TheVariants.{At, Methods, Refused}
-use Rattle.dav_model.specs.Allowing.{allowing}
-use Rattle.dav_model.specs.Calls.{AsksUnlessKnown}
+use Rattle.dav_model.specs.declared.target.Target.TheVariants.{At, Refused}
+use Rattle.dav_model.specs.Calls.{AsksToFind, calls_to_open}
 use Rattle.dav_model.specs.Conditions.{Fields}
 use Rattle.dav_model.specs.Due.{query}
-use Rattle.dav_model.specs.Head.{Reply, is_set, is_well_known, refusal}
+use Rattle.dav_model.specs.Head.{Reply, refusal}
 use Rattle.dav_model.specs.Play.{Reads}
 use Rattle.dav_local_laws.proofs.LocalLearns.{nothing_learned}
-use Rattle.dav_model.specs.Rules.{Learns, Rules}
+use Rattle.dav_model.specs.Rules.{Learns}
 use Rattle.dav_model.specs.Bodies.{read_size_of}
 use Rattle.dav_model.specs.Trail.{Leaves}
 use Rattle.dav_model.proofs.JoiningLemmas.{learns_same, leaves_same}
@@ -40,7 +38,6 @@ use Rattle.dav_local.specs.Files.{seen_by}
 use Rattle.dav_local.specs.Shown.{knowledge_of}
 use Rattle.dav_local.specs.Ways.{rules_with}
 use Rattle.dav_local.specs.Standing.{seen_in, seen_with}
-use Rattle.dav_local_laws.specs.Simple.{is_simple}
 use Rattle.dav_get.specs.declared.open_at.OpenAt.{OpenAt}
 use Rattle.dav_get.specs.declared.part.BodyPart.{BodyPart}
 use Rattle.dav_get.specs.Bodies.{IsHeld, left_of, is_slice, parts_of}
@@ -159,19 +156,19 @@ pub unless_memory : {X : Type 0} (e : DavError) → (e ≡ OutOfMemory → ⊥) 
 unless_memory e had (inr x) = x
 unless_memory e had (inl none) = absurd (had (let same : e ≡ OutOfMemory = cc in same))
 
--- Names that don't fold, and no rules for macOS.
-pub simple_ways : (ways : Ways) → ways.folds ≡ false → ways.macos ≡ false → is_simple ways ≡ true
-simple_ways ways folds macos = rw (folds, macos) refl
-
 -- A file that was opened to be read leaves the tree and the bytes.
 opens_world : (s t : DiskState) (file : Option (OpenAt LocalFsFile)) → OpensOnly handle_of s file t → Leaves s t
 opens_world s t None keeps = keeps.world
 opens_world s t (Some h) opens = opens.0.world
 
--- how often a store asks whose names don't fold and in which the rules for macOS don't hold
-abbrev AsksSimply : Rules → DavMethod → WebPath → ℕ → List Field → DiskState → DiskState → Type 0
-AsksSimply rules method path status fields s t = rules.folds ≡ false → rules.macos ≡ false
-    → AsksUnlessKnown (is_well_known rules.settings method path) (is_set rules.settings.redirect) status fields s.asked t.asked
+-- an opening is a call
+pub some_to_open : (held : Bool) → 0 < calls_to_open held
+some_to_open true = omega arith
+some_to_open false = omega arith
+
+-- how often a GET or HEAD asks
+abbrev AsksSo : By → Said → DavMethod → WebPath → ℕ → List Field → DiskState → DiskState → Type 0
+AsksSo by said method path status fields s t = AsksToFind by.rules by.knows (query by.rules.settings said.fields method path) status fields s t
 
 -- What calls that write nothing led to, of which the store's law says what they teach.
 module _ {S C L E : Type 0} (view : View S C LocalFsFile) (lists : Listings S C L E) (c : C) (a b : By) (s m : S) (leads : LeadsOn view lists c s m)
@@ -184,7 +181,7 @@ module _ {S C L E : Type 0} (view : View S C LocalFsFile) (lists : Listings S C 
   pub given_answers : TellsLive (view.state m) → (r : Outcome × Body) (t : DiskState) (found : Found)
       → ((reply : Reply) → ((number : Option ℕ) → IsOfNumber view number m (Ok r) → reply_at {F = LocalFsFile} said.fields (or_zero number) (Ok r) ≡ reply)
       → Reads a.rules a.knows (view.state s) (view.state m) (query a.rules.settings said.fields method path) reply)
-      → AsksSimply a.rules method path r.0.status r.0.fields (view.state s) (view.state m)
+      → AsksSo a said method path r.0.status r.0.fields (view.state s) (view.state m)
       → IsHeld local_file (view.state m) r.1 → OpensOnly handle_of (view.state s) r.1.file (view.state m) → HasMost (read_size_of a.rules.settings.read_buf_size) (Ok r)
       → found.outcome ≡ r.0 → Gives (view.state m) r.1 found.body t → Answers before said (At method path) found (record { by = b; disk = t })
   given_answers tells r t found reads asks held opens size outcome gives =
@@ -195,15 +192,14 @@ module _ {S C L E : Type 0} (view : View S C LocalFsFile) (lists : Listings S C 
         makes = opens_world (view.state s) (view.state m) r.1.file opens;
         holds = holds_given view seen s m (read_size_of a.rules.settings.read_buf_size) r found.body gives_here held opens size tells;
         right = reads (reply_of (view.state m) found) (same_given view seen s m said.fields r found outcome gives_here held);
-        asks = λ folds macos. subst (λ (o : Outcome). AsksUnlessKnown (is_well_known a.rules.settings method path) (is_set a.rules.settings.redirect) o.status o.fields (view.state s).asked (view.state m).asked)
-            (sym outcome) (asks folds macos);
+        asks = subst (λ (o : Outcome). AsksSo a said method path o.status o.fields (view.state s) (view.state m)) (sym outcome) asks;
       })
 
   -- An answer that is a refusal.
   pub refused_answers : (e : DavError) (result : Result Found NoMemory) → Keeps (view.state s) (view.state m)
       → ((reply : Reply) → (e ≡ OutOfMemory → ⊥) → ((number : Option ℕ) → IsOfNumber view number m (Err e) → reply_at {F = LocalFsFile} said.fields (or_zero number) (Err e) ≡ reply)
       → Reads a.rules a.knows (view.state s) (view.state m) (query a.rules.settings said.fields method path) reply)
-      → ((e ≡ OutOfMemory → ⊥) → AsksSimply a.rules method path (status_of e) (refusal said.fields (status_of e) (closes e)).fields (view.state s) (view.state m))
+      → ((e ≡ OutOfMemory → ⊥) → AsksSo a said method path (status_of e) (refusal said.fields (status_of e) (closes e)).fields (view.state s) (view.state m))
       → IfOk result (IsRefusedBy said.fields e) → Finds before said (At method path) result (record { by = b; disk = view.state m })
   refused_answers e (Err x) keeps reads asks is = record { stays = teaches leads; keeps = open_kept (view.state s) (view.state m) keeps; makes = λ x. keeps.world; asks = tt }
   refused_answers e (Ok found) keeps reads asks is =
@@ -214,8 +210,6 @@ module _ {S C L E : Type 0} (view : View S C LocalFsFile) (lists : Listings S C 
         holds = subst (λ b. HoldsOnly (read_size_of a.rules.settings.read_buf_size) (view.state s) b (view.state m)) (sym is.refused.body) (open_kept (view.state s) (view.state m) keeps);
         makes = keeps.world;
         right = reads (reply_of (view.state m) found) had (λ number file. same);
-        asks = λ folds macos. subst (λ n. AsksUnlessKnown (is_well_known a.rules.settings method path) (is_set a.rules.settings.redirect) n found.outcome.fields (view.state s).asked (view.state m).asked)
-            (sym is.refused.status)
-            (subst (λ fs. AsksUnlessKnown (is_well_known a.rules.settings method path) (is_set a.rules.settings.redirect) (status_of e) fs (view.state s).asked (view.state m).asked)
-            (sym is.refused.fields) (asks had folds macos));
+        asks = subst (λ n. AsksSo a said method path n found.outcome.fields (view.state s) (view.state m)) (sym is.refused.status)
+            (subst (λ fs. AsksSo a said method path (status_of e) fs (view.state s) (view.state m)) (sym is.refused.fields) (asks had));
       }

@@ -16,7 +16,7 @@ use Rattle.dav_core.proofs.HeldStays.{held_besides}
 use Rattle.dav_core.proofs.UnchangedLemmas.{keeps_same, same_besides}
 use Rattle.dav_model.specs.declared.step.Step.TheVariants.{Request, Poll, Abandon, Purge, Turn}
 use Rattle.dav_model.specs.declared.answer.Answer.TheVariants.{Reply as Replied, End, Done}
-use Rattle.dav_model.specs.Conditions.{Asked, fields_of}
+use Rattle.dav_model.specs.Conditions.{Asked, Fields, fields_of}
 use Rattle.dav_model.specs.Bodies.{Polls, read_size_of}
 use Rattle.dav_io.specs.declared.fields.Field.{Field}
 use Rattle.dav_model.specs.Calls.{AsksAtGate, AsksToPoll, AsksToReply}
@@ -233,12 +233,12 @@ closed_asks m t None e = ap (λ (x : DiskState). x.asked) e
 closed_asks m t (Some h) closes = closes.asked
 
 -- the body of an answer was closed again
-undone_asks : (by : By) (target : Target) (status : ℕ) (fields : List Field) (s m t : DiskState) (c : Body) → AsksToReply target (by.rules) status fields s.asked m.asked
+undone_asks : (by : By) (target : Target) (status : ℕ) (fields : List Field) (asked : Fields) (s m t : DiskState) (c : Body) → AsksToReply target by.rules by.knows asked status fields s m
     → Closes handle_of m c.file t → AsksAtGate target s.asked t.asked
-undone_asks by (At method path) status fields s m t c asks closes = tt
-undone_asks by (Writes method path) status fields s m t c asks closes = tt
-undone_asks by Methods status fields s m t c asks closes = closed_asks m t c.file closes ∙ asks
-undone_asks by (Refused gate close) status fields s m t c asks closes = closed_asks m t c.file closes ∙ asks
+undone_asks by (At method path) status fields asked s m t c asks closes = tt
+undone_asks by (Writes method path) status fields asked s m t c asks closes = tt
+undone_asks by Methods status fields asked s m t c asks closes = closed_asks m t c.file closes ∙ asks
+undone_asks by (Refused gate close) status fields asked s m t c asks closes = closed_asks m t c.file closes ∙ asks
 
 -- There was no room for the body of an answer, and its file was closed again.
 pub undone_steps : (o p : Over) (t : DiskState) (request : Asked) (now : Moment) (found : Found) (replies : ℕ) (at new : ℕ → Option Body) (b c : Body) (e : NoMemory)
@@ -252,7 +252,7 @@ undone_steps o p t request now found replies at new b c e playing answers is sam
       stays = record { rules = answers.stays.rules; learns = answers.stays.learns };
       keeps = open_kept o.disk t keeps;
       makes = λ x. makes_kept (target_of o.by.rules request) o.by.rules o.by.knows (fields_of request) (body_of request) x o.disk t keeps.world;
-      asks = undone_asks o.by (target_of o.by.rules request) found.outcome.status found.outcome.fields o.disk p.disk t c answers.asks closes;
+      asks = undone_asks o.by (target_of o.by.rules request) found.outcome.status found.outcome.fields (fields_of request) o.disk p.disk t c answers.asks closes;
     }) playing)
 
 -- What a memory knows that learned nothing was known before.

@@ -50,7 +50,8 @@ pub record Answers (o : Over) (said : Said) (target : Target) (found : Found) (p
   -- what it makes of the told world
   pub makes : Makes target o.by.rules o.by.knows said.fields said.body (Ok (reply_of p.disk found)) o.disk p.disk
   pub right : Replies target o.by.rules o.by.knows o.disk p.disk said.fields (reply_of p.disk found)
-  pub asks : AsksToReply target o.by.rules found.outcome.status found.outcome.fields o.disk.asked p.disk.asked
+  pub asks : AsksToReply target o.by.rules o.by.knows said.fields found.outcome.status found.outcome.fields o.disk
+      p.disk
 
 -- Memory was refused.
 pub record Starves (o : Over) (said : Said) (target : Target) (p : Over) : Type 0 where

@@ -21,7 +21,7 @@ use dav_get::{GetBody, handle_get};
 use dav_io::{NoMemory, Octets};
 use dav_local::{LocalFs, LocalFsFile};
 use dav_local_laws::{
-    calls_teach_nothing, entries_have_the_moment, local_stores_ask_once, local_stores_follow_rules,
+    calls_teach_nothing, entries_have_the_moment, local_stores_ask_few, local_stores_follow_rules,
     local_stores_refuse_few, reads_are_right, reads_learn_what_stands,
 };
 use dav_methods::{copy, delete, mkcalendar, mkcol, move_to, options, put_whole, writes_lead_on};
@@ -120,7 +120,7 @@ fn find_at<D: Disk, R: Remember>(
 {
     reads_are_right(store);
     reads_learn_what_stands(store);
-    local_stores_ask_once(store);
+    local_stores_ask_few(store);
     entries_have_the_moment(store);
     match handle_get(alloc, settings, store, &(), method, path, fields) {
         Ok(given) => {

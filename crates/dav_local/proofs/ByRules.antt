@@ -39,7 +39,7 @@ use Rattle.dav_cache.specs.Memory as cache
 use Rattle.dav_cache.specs.Memory.{Denied, LearnsNothing, MemoryState, Negates}
 use Rattle.dav_model.specs.Finding.{Denies, EndsLoosely, has_slash, is_localized, is_named, is_virtual, listed_in, members_or}
 use Rattle.dav_model.specs.Folds.{Name, dir_time, dir_time_of, is_dot}
-use Rattle.dav_model.specs.Rules.{MayDeny}
+use Rattle.dav_model.specs.Rules.{MayDeny, nothing_known}
 use Rattle.dav_model.proofs.LooseWalks.{exactly_may}
 use Rattle.dav_model.proofs.PlainWalks.{linked_below}
 use Rattle.dav_local.specs.declared.file.LocalFsFile.{LocalFsFile}
@@ -204,7 +204,7 @@ spoiled_later s m t r le (inr none) = inr none
 
 -- where nothing of the place is asked
 somewhere : (ways : Ways) (tree : List Row) (names : Names) → EndsLoosely ways.alone ways.folds tree names (resolved_by ways tree names)
-somewhere ways tree names = (exactly_may (rules_of ways) (record { names = λ dir time. None; is_open = λ dir time. false }) tree).looks names
+somewhere ways tree names = (exactly_may (rules_of ways) nothing_known tree).looks names
 
 looked_absent : (ways : Ways) (w : World) (end : Names) (denies : Bool) (path : WebPath) → is_virtual (rules_of ways) path ≡ false → ((ways.macos && is_localized end) || denies) ≡ true
     → looked_by ways w end denies path ≡ Err fs.NotFound

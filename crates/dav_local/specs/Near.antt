@@ -1,6 +1,6 @@
 -- Paths that are found by few calls of the disk, where names fold: what the memory has, what stands as it is asked, and
 -- what is sought in the directory above it, where that is found so.
-use Rattle.std.specs.Prelude.{◌≡◌, ◌≢◌, ◌⊎◌, ◌≤◌, ◌+◌, ◌++◌, ℕ, [], ◌∷◌, length, false, Option, None, Some, Result, Ok, Err, IfOk}
+use Rattle.std.specs.Prelude.{◌≡◌, ◌≢◌, ◌⊎◌, ◌+◌, ◌++◌, ℕ, [], ◌∷◌, length, false, Option, None, Some, Result, Ok, Err, IfOk}
 use Rattle.std.specs.Map.{lookup}
 use Rattle.std.specs.Option.{is_some}
 use Rattle.dav_io.specs.Counts.{RefusedNothing}
@@ -18,7 +18,7 @@ use Rattle.dav_store.specs.Files.{AsksOnce}
 use Rattle.dav_cache.specs.Entries.{PathCache}
 use Rattle.dav_cache.specs.Memory.{MemoryState}
 use Rattle.dav_cache.specs.Trees.{same_path}
-use Rattle.dav_model.specs.Calls.{more_by}
+use Rattle.dav_model.specs.Calls.{AsksAtMost, more_by}
 use Rattle.dav_model.specs.Folds.{Name, fold_path}
 use Rattle.dav_local.specs.Calls.{AfterFound}
 use Rattle.dav_local.specs.Places.{Place}
@@ -32,7 +32,7 @@ Calls n s t = t.asked ≡ more_by n s.asked
 
 -- at most so many
 abbrev pub CallsAtMost : ℕ → DiskState → DiskState → Type 0
-CallsAtMost n s t = (t.asked ≡ s.asked) ⊎ ((calls : ℕ) × (calls ≤ n) × Calls calls s t)
+CallsAtMost n s t = AsksAtMost n s.asked t.asked
 
 -- ---- what is found by one call
 

@@ -1,5 +1,6 @@
 -- What a local store shows of a world, by where a path is found in its tree and whether the memory calls it absent.
-use Rattle.std.specs.Prelude.{◌≡◌, ◌⊎◌, ◌&&◌, ◌||◌, ℕ, List, [], length, Option, Some, Bool, true, false, cond, None, Result, Ok, Err}
+use Rattle.std.specs.Prelude.{◌≡◌, ◌⊎◌, ◌&&◌, ◌||◌, ℕ, List, [], length, Option, Some, option_map, Bool, true, false, cond, None, Result, Ok, Err}
+use Rattle.std.specs.Map.{lookup}
 use Rattle.dav_core.specs.declared.error.FsError.{FsError}
 use Rattle.dav_core.specs.declared.error.FsError.TheVariants as fs
 use Rattle.dav_core.specs.declared.error.FsError.TheVariants.{Forbidden, NotFound}
@@ -17,8 +18,12 @@ use Rattle.dav_store.specs.Members.{Answered, BeginsThere}
 use Rattle.dav_store.specs.Shows.{LooksThere, OpensThere}
 use Rattle.dav_store.specs.Standing.{Standing}
 use Rattle.dav_store.specs.Void.{empty_info}
+use Rattle.dav_cache.specs.declared.cache.PathEntry.{PathEntry}
+use Rattle.dav_cache.specs.Entries.{PathCache}
 use Rattle.dav_cache.specs.Memory.{MemoryState}
+use Rattle.dav_cache.specs.Trees.{same_path}
 use Rattle.dav_model.specs.Finding.{Denies, EndsLoosely, Finding, has_slash, is_clear, is_localized, is_virtual, listed_in, looked_at, opened_at, resolved}
+use Rattle.dav_model.specs.Folds.{fold_path}
 use Rattle.dav_model.specs.Head.{Stood}
 use Rattle.dav_model.specs.Rules.{Knowledge, Rules}
 use Rattle.dav_model.specs.Shown.{Shown}
@@ -30,9 +35,17 @@ use Rattle.dav_local.specs.Gathering.{LocalFsReadDir}
 use Rattle.dav_local.specs.Standing.{found}
 use Rattle.dav_local.specs.Ways.{Ways, rules_of}
 
+-- the place that the cache has for a path
+abbrev pub place_in : PathCache → Names → Option Names
+place_in cache names = option_map (λ (e : PathEntry). e.path) (lookup (same_path (fold_path names)) cache.entries)
+
 -- what the memory knows, as the rules see it
 abbrev pub knowledge_of : MemoryState → Knowledge
-knowledge_of memory = record { names = memory.knows; is_open = memory.is_open }
+knowledge_of memory = record {
+  names = memory.knows;
+  is_open = memory.is_open;
+  places = option_map (λ c. place_in c) memory.paths;
+}
 
 -- the empty file that clients of macOS look for
 abbrev pub empty_standing : Standing

@@ -1,13 +1,11 @@
 -- How a local store finds what paths name, and the rules of a run over it.
-use Rattle.std.specs.Prelude.{◌&&◌, ◌||◌, Bool, not, List}
+use Rattle.std.specs.Prelude.{◌||◌, Bool, not, List}
 use Rattle.std.specs.Option.{is_some}
 use Rattle.dav_core.specs.declared.tree.Row.{Row}
-use Rattle.dav_core.specs.DavPath.{last_name}
-use Rattle.dav_core.specs.Listing.{or_empty}
 use Rattle.dav_core.specs.Path.{Names}
 use Rattle.dav_model.specs.declared.settings.Settings.{Settings}
-use Rattle.dav_model.specs.Finding.{is_localized, resolved}
-use Rattle.dav_model.specs.Folds.{is_dot}
+use Rattle.dav_model.specs.Calls as calls
+use Rattle.dav_model.specs.Finding.{resolved}
 use Rattle.dav_model.specs.Rules.{Rules}
 use Rattle.dav_model.specs.Unset.{nothing_set}
 pub use Rattle.dav_local.specs.declared.ways.Ways.{Ways}
@@ -26,7 +24,7 @@ resolved_by ways tree names = resolved (rules_of ways) tree names
 
 -- whether a place is judged by the rules for macOS before the disk is asked
 abbrev pub is_judged : Ways → Names → Bool
-is_judged ways at = ways.macos && (is_dot (or_empty (last_name at)) || is_localized at)
+is_judged ways at = calls.is_judged (rules_of ways) at
 
 -- whether a path is found without the disk
 abbrev pub is_known : Ways → Bool

@@ -1,5 +1,5 @@
 -- Local stores that find paths in simple ways.
-use Rattle.std.specs.Prelude.{◌&&◌, Bool, false, not, None, Result, Err, if◌then◌else◌}
+use Rattle.std.specs.Prelude.{false, None, Result, Err, if◌then◌else◌}
 use Rattle.dav_core.specs.declared.error.FsError.{FsError}
 use Rattle.dav_core.specs.declared.error.FsError.TheVariants.{Forbidden}
 use Rattle.dav_core.specs.DavPath.{WebPath}
@@ -12,10 +12,6 @@ use Rattle.dav_local.specs.Standing.{found}
 -- The disk's root is served, and each path is meant as it is written.
 abbrev pub plain_ways : Ways
 plain_ways = record { alone = None; folds = false; macos = false }
-
--- Names don't fold, and the rules for macOS don't hold.
-abbrev pub is_simple : Ways → Bool
-is_simple ways = not ways.folds && not ways.macos
 
 -- what is opened for reading at a path that is meant as it is written: nothing where a slash ends it
 abbrev pub opened : World → WebPath → Result Standing FsError

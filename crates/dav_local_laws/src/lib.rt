@@ -2,7 +2,7 @@
 //! calls do nothing.
 #![tactic(auto)]
 
-ghost use Rattle.std.specs.Prelude.{◌≡◌, ℕ, List, false, true, None, Ok, Option, Result, Some};
+ghost use Rattle.std.specs.Prelude.{◌≡◌, ℕ, Bool, List, false, true, None, Ok, Option, Result, Some};
 ghost use Rattle.dav_io.specs.Counts.{RefusedNothing};
 ghost use Rattle.dav_core.specs.declared.error.FsError.{FsError};
 ghost use Rattle.dav_core.specs.declared.time.FileTime.{FileTime as Time};
@@ -21,7 +21,7 @@ ghost use Rattle.dav_core.specs.Path.{Names};
 ghost use Rattle.dav_core.specs.Tree.{is_linked};
 ghost use Rattle.dav_core.specs.Writing.{reading};
 ghost use Rattle.dav_core.specs.World.{World};
-ghost use Rattle.dav_get.specs.Calls.{AsksByOne};
+ghost use Rattle.dav_get.specs.Calls.{AsksFor};
 ghost use Rattle.dav_get.specs.Heard.{Heard};
 ghost use Rattle.dav_get.specs.Lives.{OpenOnlyHeld};
 ghost use Rattle.dav_get.specs.Right.{IsOfNumber, or_zero, reply_at};
@@ -38,6 +38,7 @@ ghost use Rattle.dav_local.specs.declared.file.LocalFsFile.{LocalFsFile};
 ghost use Rattle.dav_local.specs.declared.fs.LocalFs.{LocalFs};
 ghost use Rattle.dav_methods.specs.Answers.{RefusesUsually};
 ghost use Rattle.dav_methods.specs.Follows.{Follows, Reached};
+ghost use Rattle.dav_model.specs.Calls.{AreNear, calls_to_open, is_meant, is_touched};
 ghost use Rattle.dav_model.specs.Due.{Query};
 ghost use Rattle.dav_model.specs.Finding.{is_virtual, listed_in};
 ghost use Rattle.dav_model.specs.Head.{Reply};
@@ -48,7 +49,7 @@ ghost use Rattle.dav_store.specs.Members.{ShowsMembers};
 ghost use Rattle.dav_store.specs.Reached.{ShowsOn};
 ghost use Rattle.dav_local_laws.specs.LocalStore.{IsLocalStore};
 ghost use Rattle.dav_local_laws.specs.Loosely.{FollowsLoosely};
-ghost use Rattle.dav_local_laws.specs.Simple.{is_simple, opened, plain_ways};
+ghost use Rattle.dav_local_laws.specs.Simple.{opened, plain_ways};
 
 use dav_cache::Remember;
 use dav_core::{DavPath, Disk};
@@ -108,11 +109,21 @@ pub fn reads_are_right<D: Disk, R: Remember>(_fs: &LocalFs<D, R>)
     calls_are_local(_fs)
 }
 
-/// Where names don't fold and the rules for macOS don't hold, the local store asks its disk once to look, and at most
-/// once to open.
-pub fn local_stores_ask_once<D: Disk, R: Remember>(_fs: &LocalFs<D, R>)
-    ensures { AsksByOne ⟦<LocalFs<D, R> as DavFileSystem>⟧.view ⟦<LocalFs<D, R> as DavFileSystem>⟧.listings
-        (λ s. is_simple s.ways) }
+/// How often the local store asks its disk for a GET or HEAD. Where names don't fold, or one file is served alone, it
+/// asks once to look at a path that the rules for macOS don't touch, and once to open (`meant`). Where they fold, and the
+/// disk refuses nothing, it asks once to look at a path that its memory has, or that it hasn't and that stands as it is
+/// asked; and to open such a path once or twice (`near`). Where a listing is refused it asks three times at most.
+pub fn local_stores_ask_few<D: Disk, R: Remember>(_fs: &LocalFs<D, R>)
+    ensures meant { (q : Query) (most : ℕ) → is_meant (rules_with q.settings _fs.now.ways) ≡ true
+        → is_touched (rules_with q.settings _fs.now.ways) q.path ≡ false
+        → AsksFor ⟦<LocalFs<D, R> as DavFileSystem>⟧.view ⟦<LocalFs<D, R> as DavFileSystem>⟧.listings q 1 most
+        _fs.now }
+    ensures near { (q : Query) (most : ℕ) (w : World) (held : Bool)
+        → is_meant (rules_with q.settings _fs.now.ways) ≡ false
+        → RefusedNothing (D.state _fs.now.disk).faults most → (D.state _fs.now.disk).told ≡ Some w
+        → AreNear held (rules_with q.settings _fs.now.ways) (knowledge_of (R.state _fs.now.memory)) w q
+        → AsksFor ⟦<LocalFs<D, R> as DavFileSystem>⟧.view ⟦<LocalFs<D, R> as DavFileSystem>⟧.listings q
+        (calls_to_open held) most _fs.now }
 {
     calls_are_local(_fs)
 }

@@ -1,17 +1,27 @@
 -- How often a step asks the disk. A count of calls stops at the greatest u64.
-use Rattle.std.specs.Prelude.{◌≡◌, ◌≢◌, ◌<◌, ◌≤◌, ◌+◌, ◌⊎◌, ℕ, min, List, [], ◌∷◌, Bool, true, false, codes, cond, Option, None, Some}
-use Rattle.std.specs.Option.{option_map}
+use Rattle.std.specs.Prelude.{◌≡◌, ◌≢◌, ◌<◌, ◌≤◌, ◌+◌, ◌⊎◌, ◌&&◌, ◌||◌, ℕ, min, List, [], ◌∷◌, Bool, true, false, not, codes, cond, Option, None, Some, Ok}
+use Rattle.std.specs.Option.{is_some, option_map}
 use Rattle.std.specs.Str.{bytes_eq}
-use Rattle.dav_io.specs.Counts.{greatest, one_more}
+use Rattle.dav_io.specs.Counts.{RefusedNothing, greatest, one_more}
 use Rattle.dav_io.specs.declared.fields.Field.{Field}
+use Rattle.dav_core.specs.declared.tree.Row.{Row}
+use Rattle.dav_core.specs.DavPath.{WebPath, last_name}
+use Rattle.dav_core.specs.Listing.{or_empty}
+use Rattle.dav_core.specs.Path.{Names}
+use Rattle.dav_core.specs.Tree.{is_linked, look}
 use Rattle.dav_core.specs.World.{World}
 use Rattle.dav_model.specs.declared.answer.Answer.{Answer}
 use Rattle.dav_model.specs.declared.answer.Answer.TheVariants.{Piece}
 use Rattle.dav_model.specs.declared.target.Target.{Target}
 use Rattle.dav_model.specs.declared.target.Target.TheVariants.{At, Methods, Refused, Writes}
 use Rattle.dav_model.specs.Bodies.{Part, text, slice}
+use Rattle.dav_model.specs.Conditions.{Fields}
+use Rattle.dav_model.specs.Due.{OfItsPaths, Query, query}
+use Rattle.dav_model.specs.Finding.{is_localized, is_virtual, or_walk}
+use Rattle.dav_model.specs.Folds.{is_dot}
 use Rattle.dav_model.specs.Head.{is_set, is_well_known}
-use Rattle.dav_model.specs.Rules.{Rules}
+use Rattle.dav_model.specs.Rules.{Knowledge, Rules}
+use Rattle.dav_model.specs.Trail.{Point}
 
 -- ---- polls
 
@@ -57,18 +67,22 @@ AsksToPoll told held (slice number start count ∷ parts) answer before after = 
 abbrev pub more_by : ℕ → ℕ → ℕ
 more_by calls before = min (before + calls) greatest
 
--- The calls of a GET or HEAD that gives no page of a directory, by the status of its answer: a look, and then at most
--- an opening, the metadata of what was opened, its address where clients may be sent there, and a move to the first
--- part.
-pub record AsksToGet (redirects : Bool) (status before after : ℕ) : Type 0 where
+-- at most so many more calls
+abbrev pub AsksAtMost : ℕ → ℕ → ℕ → Type 0
+AsksAtMost most before after = (after ≡ before) ⊎ ((calls : ℕ) × (calls ≤ most) × (after ≡ more_by calls before))
+
+-- The calls of a GET or HEAD that gives no page of a directory, by the status of its answer, where a look at a path is
+-- one call, and an opening so many: a look, and then at most an opening, the metadata of what was opened, its address
+-- where clients may be sent there, and a move to the first part.
+pub record AsksToGet (opening : ℕ) (redirects : Bool) (status before after : ℕ) : Type 0 where
   pub calls : ℕ
   pub are : after ≡ more_by calls before
   pub some : 0 < calls
-  pub most : calls ≤ cond redirects 5 4
+  pub most : calls ≤ opening + cond redirects 4 3
   -- a whole file is sent, which isn't moved
-  pub whole : redirects ≡ false → status ≡ 200 → calls ≡ 3
+  pub whole : redirects ≡ false → status ≡ 200 → calls ≡ opening + 2
   -- one part or several
-  pub partial : redirects ≡ false → status ≡ 206 → calls ≡ 4
+  pub partial : redirects ≡ false → status ≡ 206 → calls ≡ opening + 3
   -- the client is sent to the path of a directory with a final slash
   pub directed : redirects ≡ false → status ≡ 302 → calls ≡ 1
 
@@ -78,25 +92,90 @@ is_of_page [] = false
 is_of_page (field ∷ fields) = bytes_eq field.name (codes "content-type")
 
 -- The page of a directory asks as often as its members call for, of which nothing more is said.
-abbrev pub AsksUnlessPage : Bool → Bool → ℕ → ℕ → ℕ → Type 0
-AsksUnlessPage true redirects status before after = before ≤ after
-AsksUnlessPage false redirects status before after = AsksToGet redirects status before after
+abbrev pub AsksUnlessPage : ℕ → Bool → Bool → ℕ → ℕ → ℕ → Type 0
+AsksUnlessPage opening true redirects status before after = before ≤ after
+AsksUnlessPage opening false redirects status before after = AsksToGet opening redirects status before after
 
 -- The page of a well-known server is given without a call.
-abbrev pub AsksUnlessKnown : Bool → Bool → ℕ → List Field → ℕ → ℕ → Type 0
-AsksUnlessKnown true redirects status fields before after = after ≡ before
-AsksUnlessKnown false redirects status fields before after = AsksUnlessPage
+abbrev pub AsksUnlessKnown : ℕ → Bool → Bool → ℕ → List Field → ℕ → ℕ → Type 0
+AsksUnlessKnown opening true redirects status fields before after = after ≡ before
+AsksUnlessKnown opening false redirects status fields before after = AsksUnlessPage opening
     (is_of_page fields) redirects status before after
 
--- A request that a gate refuses, and OPTIONS, ask nothing. How often a request that writes asks isn't said. Of a store
--- that finds names that fold alike, or has the rules of macOS, nothing is said.
-abbrev pub AsksToReply : Target → Rules → ℕ → List Field → ℕ → ℕ → Type 0
-AsksToReply (Refused gate close) rules status fields before after = after ≡ before
-AsksToReply Methods rules status fields before after = after ≡ before
-AsksToReply (Writes method path) rules status fields before after = before ≤ after
-AsksToReply (At method path) rules status fields before after = rules.folds ≡ false → rules.macos ≡ false
-    → AsksUnlessKnown (is_well_known rules.settings method path)
-    (is_set rules.settings.redirect) status fields before after
+-- ---- where a path is found, and by how many calls
+
+-- Whether the disk isn't asked where a path is found: one file is served alone, or names don't fold.
+abbrev pub is_meant : Rules → Bool
+is_meant rules = is_some rules.alone || not rules.folds
+
+-- Whether the rules for macOS judge a place: its last name is `.localized`, or begins with `._`, so that the memory may
+-- ask of its directory.
+abbrev pub is_judged : Rules → Names → Bool
+is_judged rules at = rules.macos && (is_dot (or_empty (last_name at)) || is_localized at)
+
+-- Whether these rules touch a path that is meant as it is written: it is one of the two files, or its place is judged.
+abbrev pub is_touched : Rules → WebPath → Bool
+is_touched rules path = is_virtual rules path || is_judged rules (or_walk rules.alone path.names)
+
+-- The memory has the path at this place, and a row stands there, with no link on the way.
+pub record IsHeld (k : Knowledge) (w : World) (names at : Names) : Type 0 where
+  pub places : Names → Option Names
+  pub tells : k.places ≡ Some places
+  pub has : places names ≡ Some at
+  pub row : Row
+  pub stands : look w.tree at ≡ Ok row
+  pub clear : is_linked w.tree at ≡ false
+
+-- The memory hasn't the path, and a row stands at it as it is asked, with no link on the way.
+pub record IsHere (k : Knowledge) (w : World) (names : Names) : Type 0 where
+  pub places : Names → Option Names
+  pub tells : k.places ≡ Some places
+  pub hasnt : places names ≡ None
+  pub row : Row
+  pub stands : look w.tree names ≡ Ok row
+  pub clear : is_linked w.tree names ≡ false
+
+-- By whether the memory has the path: it has it, or it stands as it is asked.
+abbrev pub IsNear : Bool → Knowledge → World → Names → Names → Type 0
+IsNear true k w names at = IsHeld k w names at
+IsNear false k w names at = IsHere k w names × (at ≡ names)
+
+-- A look at such a path is one call, that which finds it, unless these rules judge its place.
+pub record IsSeenAtOnce (held : Bool) (rules : Rules) (k : Knowledge) (w : World) (path : WebPath) : Type 0 where
+  pub at : Names
+  pub near : IsNear held k w path.names at
+  pub fair : is_judged rules at ≡ false
+  pub plain : is_virtual rules path ≡ false
+
+-- An opening of such a path is one call where the memory has it, and else the path is looked at before.
+abbrev pub calls_to_open : Bool → ℕ
+calls_to_open held = cond held 1 2
+
+-- The path that is asked for, and that of the index file where one may stand for it, are near.
+pub record AreNear (held : Bool) (rules : Rules) (k : Knowledge) (w : World) (q : Query) : Type 0 where
+  pub seen : IsSeenAtOnce held rules k w q.path
+  pub opened : OfItsPaths q (λ path. (at : Names) × IsNear held k w path.names at)
+
+-- How often a GET or HEAD asks between two points. Of a path that these rules touch nothing is said, nor of one where
+-- names fold that the memory hasn't and that doesn't stand as it is asked.
+pub record AsksToFind (rules : Rules) (k : Knowledge) (q : Query) (status : ℕ) (fields : List Field) (s t : Point)
+    : Type 0 where
+  pub meant : is_meant rules ≡ true → is_touched rules q.path ≡ false
+      → AsksUnlessKnown 1 (is_well_known q.settings q.method q.path) (is_set q.settings.redirect) status fields s.asked
+      t.asked
+  -- where names fold and no fault was met
+  pub near : is_meant rules ≡ false → RefusedNothing s.faults t.faults → (w : World) (held : Bool) → s.told ≡ Some w
+      → AreNear held rules k w q
+      → AsksUnlessKnown (calls_to_open held) (is_well_known q.settings q.method q.path) (is_set q.settings.redirect)
+      status fields s.asked t.asked
+
+-- A request that a gate refuses, and OPTIONS, ask nothing. How often a request that writes asks isn't said.
+abbrev pub AsksToReply : Target → Rules → Knowledge → Fields → ℕ → List Field → Point → Point → Type 0
+AsksToReply (Refused gate close) rules k asked status fields s t = t.asked ≡ s.asked
+AsksToReply Methods rules k asked status fields s t = t.asked ≡ s.asked
+AsksToReply (Writes method path) rules k asked status fields s t = s.asked ≤ t.asked
+AsksToReply (At method path) rules k asked status fields s t = AsksToFind rules k (query rules.settings asked method
+    path) status fields s t
 
 -- ---- want of memory
 

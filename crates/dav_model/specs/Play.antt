@@ -126,7 +126,7 @@ pub record Answered (p : Playing) (s t : Point) (request : Asked) (answer : Answ
   pub live : Takes gets.file s.live t.live
   pub right : Replies (target_of p.rules request) p.rules p.knows s t (fields_of request) reply
   -- how many calls of the disk it asks
-  pub asks : AsksToReply (target_of p.rules request) p.rules reply.status reply.fields s.asked t.asked
+  pub asks : AsksToReply (target_of p.rules request) p.rules p.knows (fields_of request) reply.status reply.fields s t
 
 pub record Polled (p : Playing) (s t : Point) (body : ℕ) (answer : Answer) (q : Playing) : Type 0 where
   pub goes : Goes s t

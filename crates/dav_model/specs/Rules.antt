@@ -22,13 +22,14 @@ abbrev pub plain_rules : Settings → Rules
 plain_rules settings = record { settings = settings; folds = false; macos = false; alone = None }
 
 -- What a memory knows: which names that begin with `._` a directory path has at a time. Where it is open, it may call
--- any such name absent.
+-- any such name absent. And where it has paths, where it tells that: of each path the place that it has, or none.
 pub record Knowledge : Type 0 where
   pub names : Names → FileTime → Option (Name → Bool)
   pub is_open : Names → FileTime → Bool
+  pub places : Option (Names → Option Names)
 
 abbrev pub nothing_known : Knowledge
-nothing_known = record { names = λ dir time. None; is_open = λ dir time. false }
+nothing_known = record { names = λ dir time. None; is_open = λ dir time. false; places = Some (λ names. None) }
 
 -- the same names that begin with `._`
 abbrev pub SameDots : (Name → Bool) → (Name → Bool) → Type 0

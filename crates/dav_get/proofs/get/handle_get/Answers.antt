@@ -27,8 +27,8 @@ returns-clause-right g c = λ looked opened listed shows.
     ]
 
 pub returns-clause-asks : goal.returns-clause-asks
-returns-clause-asks g c = λ holds few here.
-    gets_asks g.S.GuardedFileSystem.view g.S.GuardedFileSystem.listings (query c.args.settings.now c.args.fields.now c.args.method c.args.path.now) holds few c.args.credentials.now c.args.fs.now c.get_once.result c.get_once.new.fs here c.get_once.ensures.life c.get_once.ensures.table
+returns-clause-asks g c = λ calls some few.
+    gets_asks g.S.GuardedFileSystem.view g.S.GuardedFileSystem.listings (query c.args.settings.now c.args.fields.now c.args.method c.args.path.now) calls some c.args.credentials.now c.args.fs.now c.get_once.result c.get_once.new.fs few c.get_once.ensures.life c.get_once.ensures.table
 
 pub returns-clause-opened : goal.returns-clause-opened
 returns-clause-opened g c =

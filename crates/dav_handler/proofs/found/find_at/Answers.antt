@@ -1,8 +1,8 @@
-use Rattle.std.proofs.Common.{Ok, Err, refl}
+use Rattle.std.proofs.Common.{Ok, Err, true, refl}
 use Rattle.dav_model.specs.Due.{query}
-use Rattle.dav_local_laws.specs.Simple.{is_simple}
+use Rattle.dav_model.specs.Calls.{calls_to_open}
 use Rattle.dav_handler.specs.By.{by_store}
-use Rattle.dav_handler.proofs.Answering.{given_answers, given_heard, refused_answers, simple_ways, stays_read, unless_memory}
+use Rattle.dav_handler.proofs.Answering.{given_answers, given_heard, refused_answers, some_to_open, stays_read, unless_memory}
 use Rattle.dav_handler.proofs.found.find_at.Goals as goal
 
 pub give-requires : goal.give-requires
@@ -16,7 +16,11 @@ returns-in-Ok-clause-done g c body = rw c.give.ensures.rest (
     refl c.args.method c.args.path.now (record { fields = c.args.fields.now; body = body })
     (g.met.D.Disk.tells_live c.handle_get.new.fs.disk) c.in-Ok.given (g.D.Disk.state c.give.new.store.disk) c.give.result
     (λ reply same. c.reads_are_right.ensures (query c.args.settings.now c.args.fields.now c.args.method c.args.path.now) c.handle_get.new.fs (Ok c.in-Ok.given) reply c.in-Ok.ensures.life (given_heard c.in-Ok.given c.in-Ok.ensures.heard) same)
-    (λ folds macos. given_heard c.in-Ok.given (c.in-Ok.ensures.asks (λ s. is_simple s.ways) c.local_stores_ask_once.ensures (simple_ways c.args.store.now.ways folds macos)))
+    (record {
+      meant = λ meant untouched. given_heard c.in-Ok.given (c.in-Ok.ensures.asks 1 (some_to_open true) (λ known. c.local_stores_ask_few.ensures.meant (query c.args.settings.now c.args.fields.now c.args.method c.args.path.now) _ meant untouched));
+      near = λ meant nothing w held told near.
+          given_heard c.in-Ok.given (c.in-Ok.ensures.asks (calls_to_open held) (some_to_open held) (λ known. c.local_stores_ask_few.ensures.near (query c.args.settings.now c.args.fields.now c.args.method c.args.path.now) _ w held meant nothing told near));
+    })
     c.in-Ok.ensures.life.0 c.in-Ok.ensures.life.1 c.in-Ok.ensures.most c.give.ensures.outcome c.give.ensures.gives)
 
 pub returns-in-Err-clause-done : goal.returns-in-Err-clause-done
@@ -27,7 +31,11 @@ returns-in-Err-clause-done g c body =
     refl c.args.method c.args.path.now (record { fields = c.args.fields.now; body = body })
     c.in-Err.error c.refuse.result c.in-Err.ensures.life
     (λ reply had same. c.reads_are_right.ensures (query c.args.settings.now c.args.fields.now c.args.method c.args.path.now) c.handle_get.new.fs (Err c.in-Err.error) reply c.in-Err.ensures.life (unless_memory c.in-Err.error had c.in-Err.ensures.heard) same)
-    (λ had folds macos. unless_memory c.in-Err.error had (c.in-Err.ensures.asks (λ s. is_simple s.ways) c.local_stores_ask_once.ensures (simple_ways c.args.store.now.ways folds macos)))
+    (λ had. record {
+      meant = λ meant untouched. unless_memory c.in-Err.error had (c.in-Err.ensures.asks 1 (some_to_open true) (λ known. c.local_stores_ask_few.ensures.meant (query c.args.settings.now c.args.fields.now c.args.method c.args.path.now) _ meant untouched));
+      near = λ meant nothing w held told near.
+          unless_memory c.in-Err.error had (c.in-Err.ensures.asks (calls_to_open held) (some_to_open held) (λ known. c.local_stores_ask_few.ensures.near (query c.args.settings.now c.args.fields.now c.args.method c.args.path.now) _ w held meant nothing told near));
+    })
     c.refuse.ensures
 
 pub returns-in-Ok-clause-made : goal.returns-in-Ok-clause-made
