@@ -1,6 +1,6 @@
 -- What a local store's memory learns of a listing is what the told world has.
-use Rattle.std.proofs.Common.{◌≡◌, ◌||◌, ◌⊎◌, inl, inr, ℕ, Bool, true, false, List, [], ◌∷◌, ◌++◌, map, Option, None, Some, IfSome, Result, Ok, Err, refl, sym, ap, subst, ◌∙◌, append-nil, if◌then◌else◌}
-use Rattle.std.specs.List.{filter, list_any}
+use Rattle.std.proofs.Common.{◌≡◌, ◌||◌, ◌⊎◌, inl, inr, Bool, true, false, List, [], ◌∷◌, ◌++◌, map, Option, None, Some, Result, Ok, Err, refl, sym, ap, subst, ◌∙◌, append-nil, if◌then◌else◌}
+use Rattle.std.specs.List.{list_any}
 use Rattle.std.specs.List.Sorted.{IsPermutation}
 use Rattle.std.proofs.lemmas.List.Sorted.{list_any-IsPermutation}
 use Rattle.std.proofs.lemmas.Slice.Eq.{bytes_eq-Decides}
@@ -9,17 +9,15 @@ use Rattle.dav_io.specs.declared.failure.NoMemory.{NoMemory as Starved}
 use Rattle.dav_io.proofs.ToldLemmas.{told_after}
 use Rattle.dav_core.specs.declared.error.FsError.{FsError}
 use Rattle.dav_core.specs.declared.handle.DiskError.{DiskError}
-use Rattle.dav_core.specs.declared.handle.Lister.{Lister}
 use Rattle.dav_core.specs.declared.handle.Meta.{Meta}
 use Rattle.dav_core.specs.declared.time.FileTime.{FileTime}
 use Rattle.dav_core.specs.declared.tree.Kind.{Kind}
-use Rattle.dav_core.specs.declared.tree.Row.{Row}
 use Rattle.dav_core.specs.DavPath.{WebPath}
 use Rattle.dav_core.specs.Disk.{DiskState, Metas}
 use Rattle.dav_core.specs.Info.{Info}
-use Rattle.dav_core.specs.Listing.{name_of, names_in, stands_in}
+use Rattle.dav_core.specs.Listing.{names_in}
 use Rattle.dav_core.specs.Path.{Names}
-use Rattle.dav_core.specs.Tree.{is_dir, is_linked, look}
+use Rattle.dav_core.specs.Tree.{is_dir, is_linked}
 use Rattle.dav_core.specs.Unchanged.{Keeps, SameBesidesOpens}
 use Rattle.dav_core.specs.World.{World}
 use Rattle.dav_store.specs.declared.entry.ReadDirMeta.TheVariants.{Data}
@@ -27,8 +25,8 @@ use Rattle.dav_store.specs.Leads.{ListedOn, ListedThrough, begun as just_begun, 
 use Rattle.dav_store.specs.View.{Listings, View}
 use Rattle.dav_methods.specs.Pouring.{Writes}
 use Rattle.dav_model.specs.Folds.{Name, dir_time, dir_time_of, has_name, is_dot}
-use Rattle.dav_model.specs.Rules.{HasNames, Knowledge, Learns, SameDots, ShowsNames, WasKnown}
-use Rattle.dav_cache.specs.Builder.{BuilderState, Finishes, Settles, may_settle, started, time_found, with_name}
+use Rattle.dav_model.specs.Rules.{Knowledge, Learns, SameDots, ShowsNames, WasKnown}
+use Rattle.dav_cache.specs.Builder.{BuilderState, Finishes, Settles, may_settle, time_found, with_name}
 use Rattle.dav_cache.specs.Core.{is_time, one_time}
 use Rattle.dav_cache.specs.declared.du_cache.Sealed.{Sealed}
 use Rattle.dav_cache.specs.Entries.{dir_key, kept}
@@ -39,15 +37,15 @@ use Rattle.dav_cache.proofs.Order.{any-push}
 use Rattle.dav_local.specs.declared.entry.LocalFsDirEntry.{LocalFsDirEntry}
 use Rattle.dav_local.specs.declared.file.LocalFsFile.{LocalFsFile}
 use Rattle.dav_local.specs.declared.ways.Ways.{Ways}
-use Rattle.dav_local.specs.Calls.{AfterFound, BeginsAt, Finds}
+use Rattle.dav_local.specs.Calls.{BeginsAt, Finds}
 use Rattle.dav_local.specs.declared.gathering.LocalFsReadDir.{LocalFsReadDir}
-use Rattle.dav_local.specs.Gathering.{AfterNext, BeginsDir, EndsGathering, GivesNext, dir_with, gathers, site_of}
-use Rattle.dav_local.specs.Listing.{Gives, ListingState, NextEntry, Refills, dir_of}
+use Rattle.dav_local.specs.Gathering.{AfterNext, BeginsDir, gathers, site_of}
+use Rattle.dav_local.specs.Listing.{Gives, ListingState, NextEntry}
 use Rattle.dav_local.specs.Places.{Place}
 use Rattle.dav_local.specs.Shown.{knowledge_of}
 use Rattle.dav_local.proofs.Fronts.{Begun, Front, GivenOne, front_refills, given_from, refills_over}
 use Rattle.dav_local.proofs.Gathered.{next_entry}
-use Rattle.dav_local.proofs.Walked.{Began, began, says_read}
+use Rattle.dav_local.proofs.Walked.{began, says_read}
 use Rattle.dav_local_laws.specs.LocalStore.{IsLocalStore, place}
 use Rattle.dav_local_laws.proofs.DirNames.{named_rows}
 use Rattle.dav_local_laws.proofs.LocalListings.{lists_local, next_local}

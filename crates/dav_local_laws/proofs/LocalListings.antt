@@ -1,5 +1,5 @@
 -- The listings of a local store, over its disk.
-use Rattle.std.proofs.Common.{◌≡◌, ◌≤◌, ℕ, Option, Result, ◌∙◌, ap}
+use Rattle.std.proofs.Common.{◌≡◌, Option, Result}
 use Rattle.dav_io.specs.declared.clock.Moment.{Moment}
 use Rattle.dav_core.specs.declared.error.FsError.{FsError}
 use Rattle.dav_store.specs.View.{Listings, View}

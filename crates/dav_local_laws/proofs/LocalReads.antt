@@ -67,7 +67,7 @@ use Rattle.dav_local.specs.Ways.{rules_of, rules_with}
 use Rattle.dav_local.proofs.Allowed.{listed_here, looked_here, looked_same, may_find, may_show, opened_here, opened_same}
 use Rattle.dav_local.proofs.ByRules.{begun_by, lists_by_rules, looks_by_rules, opens_by_rules, tells_keeps}
 use Rattle.dav_local.proofs.Showing.{each_numbered, same_found}
-use Rattle.dav_local.proofs.Walked.{ListsLocal, walk_ends, walk_told}
+use Rattle.dav_local.proofs.Walked.{walk_ends, walk_told}
 use Rattle.dav_local_laws.specs.LocalStore.{IsLocalStore, place}
 use Rattle.dav_local_laws.proofs.LocalListings.{lists_local}
 use Rattle.dav_local.proofs.Keeping.{metas_keep}

@@ -1,8 +1,7 @@
 -- What a local store saves by its memory of absent names, and what it keeps there.
-use Rattle.std.proofs.Common.{◌≡◌, ◌&&◌, ◌||◌, ◌==◌, ◌≤◌, inl, inr, ℕ, Bool, true, false, not, codes, List, [], ◌∷◌, ◌++◌, Option, None, Some, Result, Ok, Err, IfOk, OnErr, refl, sym, ap, subst, ◌∙◌, if◌then◌else◌, cond, arith}
+use Rattle.std.proofs.Common.{◌≡◌, ◌&&◌, ◌||◌, ◌==◌, ◌≤◌, inl, inr, ℕ, Bool, true, false, not, codes, List, [], ◌∷◌, ◌++◌, Option, None, Some, Result, Ok, Err, refl, sym, ap, subst, ◌∙◌, if◌then◌else◌, cond, arith}
 use Rattle.std.specs.Map.{lookup}
-use Rattle.std.specs.Option.{option_map_or}
-use Rattle.std.proofs.lemmas.Bool.{and_parts}
+use Rattle.std.specs.Option.{is_some, option_map_or}
 use Rattle.std.proofs.lemmas.Bool.Decides.{nat_tests}
 use Rattle.dav_io.specs.Counts.{RefusedNothing}
 use Rattle.dav_io.specs.declared.clock.Moment.{Moment}
@@ -11,7 +10,6 @@ use Rattle.dav_io.proofs.ToldLemmas.{told_after}
 use Rattle.dav_core.specs.declared.error.FsError.{FsError}
 use Rattle.dav_core.specs.declared.error.FsError.TheVariants as fs
 use Rattle.dav_core.specs.declared.handle.DiskError.{DiskError}
-use Rattle.dav_core.specs.declared.handle.DiskError.TheVariants.{Failed}
 use Rattle.dav_core.specs.declared.handle.Meta.{Meta}
 use Rattle.dav_core.specs.declared.time.FileTime.{FileTime}
 use Rattle.dav_core.specs.declared.tree.Row.{Row}
@@ -38,7 +36,6 @@ use Rattle.dav_cache.specs.Core.{is_time, one_time}
 use Rattle.dav_cache.specs.declared.key.DuEntry.{DuEntry}
 use Rattle.dav_cache.specs.Entries.{DotCache, concludes, dir_key, same_key, stands}
 use Rattle.dav_cache.specs.Memory.{MemoryState, Negates}
-use Rattle.dav_cache.specs.Trees.{same_time}
 use Rattle.dav_cache.proofs.Keys.{time_decides}
 use Rattle.dav_local.specs.declared.entry.LocalFsDirEntry.{LocalFsDirEntry}
 use Rattle.dav_local.specs.declared.file.LocalFsFile.{LocalFsFile}
@@ -53,9 +50,16 @@ use Rattle.dav_local.proofs.Keeping.{asked_keeps}
 use Rattle.dav_local.proofs.Recalling.{no_refusal, no_rise}
 use Rattle.dav_local_laws.specs.LocalStore.{IsLocalStore, place}
 use Rattle.dav_local_laws.specs.Sealed.{DeniedAtOnce, IsKnownAbsent, IsWhole, SealedWith, gathered}
-use Rattle.dav_local_laws.proofs.LocalAsks.{known_of}
 use Rattle.dav_local_laws.proofs.LocalFollows.{next_entry_besides}
 use Rattle.dav_local_laws.proofs.LocalUsual.{next_entry_counts}
+
+-- Where names don't fold, the disk isn't asked where a path is found.
+known_of : (ways : Ways) → ways.folds ≡ false → is_known ways ≡ true
+known_of ways e = ap (λ b. is_some ways.alone || not b) e ∙ either (is_some ways.alone)
+  where
+    either : (b : Bool) → (b || true) ≡ true
+    either true = refl
+    either false = refl
 
 -- ---- names that begin with `._`
 

@@ -1,5 +1,5 @@
 -- What a local store saves by its memory of absent names, and what it keeps there, where the rules for macOS hold.
-use Rattle.std.specs.Prelude.{◌≡◌, ◌⊎◌, List, [], ◌∷◌, Option, Some, false, Result, Ok, Err}
+use Rattle.std.specs.Prelude.{◌≡◌, ◌⊎◌, List, [], ◌∷◌, Some, false, Result, Err}
 use Rattle.dav_core.specs.declared.error.FsError.{FsError}
 use Rattle.dav_core.specs.declared.error.FsError.TheVariants.{NoMemory, NotFound}
 use Rattle.dav_core.specs.Info.{Info}

@@ -1,4 +1,4 @@
-use Rattle.std.proofs.Common.{◌≡◌, ◌||◌, Option, None, true, false, not, ap, ◌∙◌}
+use Rattle.std.proofs.Common.{◌≡◌, ◌||◌, false, not, ap, ◌∙◌}
 use Rattle.std.specs.Option.{is_some}
 use Rattle.dav_local.specs.Ways.{is_known}
 use Rattle.dav_local_laws.proofs.remembered_paths_cost_one_look.Goals as goal

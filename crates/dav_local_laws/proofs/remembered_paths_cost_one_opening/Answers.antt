@@ -1,4 +1,4 @@
-use Rattle.std.proofs.Common.{◌≡◌, ◌||◌, Option, None, true, false, not, ap, refl, ◌∙◌}
+use Rattle.std.proofs.Common.{◌≡◌, ◌||◌, false, not, ap, refl, ◌∙◌}
 use Rattle.std.specs.Option.{is_some}
 use Rattle.dav_core.specs.Writing.{reading}
 use Rattle.dav_local.specs.Ways.{is_known}
