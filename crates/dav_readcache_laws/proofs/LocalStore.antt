@@ -14,6 +14,7 @@ use Rattle.dav_local.specs.Calls.{BeginsAt, Finds}
 use Rattle.dav_local.specs.Entries.{Says}
 use Rattle.dav_local.specs.Gathering.{GivesNext, dir_to_come}
 use Rattle.dav_local.specs.Places.{Stays, place_of}
+use Rattle.dav_local.specs.Saving.{SavesDir}
 use Rattle.dav_local.specs.Writing.{WritesAll}
 use Rattle.dav_local_laws.specs.LocalStore.{IsLocalStore}
 use Rattle.dav_readcache.proofs.LocalView.{local_view}
@@ -23,7 +24,8 @@ module _ {D R : Type 0} (state : D → DiskState) (loan : D → Option GName) (m
   local_lists = record {
     lister = λ d. Some d.reading.lister.0;
     to_come = dir_to_come;
-    lists = λ s _ path wanted result t. Finds (place_of state memory s) path.names (BeginsAt wanted) result (place_of state memory t) × Stays s t;
+    lists = λ s _ path wanted result t. Finds (place_of state memory s) path.names (BeginsAt wanted) result (place_of state memory t) × Stays s t
+        × SavesDir (place_of state memory s) path result (place_of state memory t);
     lists_on = λ s d result t e. GivesNext s.moment (place_of state memory s) d result (place_of state memory t) e × Stays s t;
     ends_list = λ s d t. EndsListing (state s.disk) d.reading.lister.0 (state t.disk) × (t ≡ record s { disk = t.disk });
     called = λ e. e.name;
@@ -49,6 +51,7 @@ module _ {D R : Type 0} (state : D → DiskState) (loan : D → Option GName) (m
     renames = λ s t c from to r h. (h.0, h.1.0, h.1.2);
     copies = λ s t c from to r h. (h.0, h.1.0, h.1.2);
     begins = λ s t c path how r h. (h.0, h.1.0, h.1.2);
+    begins_once = λ s t c path how r h. h.2;
     goes_on = λ s t l k r h. (s.moment, h.0, refl, h.1.2);
     ends = λ s t l h. (h.0, ap (place_of state memory) h.1);
     called = λ e. refl;

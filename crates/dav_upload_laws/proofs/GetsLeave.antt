@@ -342,7 +342,7 @@ module _ {S C : Type 0} (view : View S C LocalFsFile) (lists : Listings S C Loca
   polls_leave m n v w was now is None (Some g) read touched = absurd touched
   polls_leave m n v w was now is (Some h) None live (keeps, gone) =
       read_leaves m n v w was now is (view.file.handle h.file) keeps read_file live refl (λ l o is_live opens. (let none : ◌≡◌ {A = Option Live} None (Some l) = sym gone ∙ is_live in cc))
-  polls_leave m n v w was now is (Some h) (Some g) live (keeps, same, still, stands) =
+  polls_leave m n v w was now is (Some h) (Some g) live (keeps, same, still, stands, becomes) =
       read_leaves m n v w was now is (view.file.handle h.file) keeps read_file live refl
       (λ l o is_live opens. polled_number m n v w h.file g.file was now (still ∙ live) same stands o opens)
 
@@ -350,4 +350,4 @@ module _ {S C : Type 0} (view : View S C LocalFsFile) (lists : Listings S C Loca
   handed_on m n None None read same = tt
   handed_on m n None (Some g) read touched = absurd touched
   handed_on m n (Some h) None live touched = tt
-  handed_on m n (Some h) (Some g) live (keeps, same, still, stands) = ap n.live same ∙ (still ∙ live)
+  handed_on m n (Some h) (Some g) live (keeps, same, still, stands, becomes) = ap n.live same ∙ (still ∙ live)

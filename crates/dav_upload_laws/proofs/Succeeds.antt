@@ -41,7 +41,7 @@ use Rattle.dav_model.specs.Rules.{Rules}
 use Rattle.dav_model.specs.Valid.{IsRegular, TellsApart}
 use Rattle.dav_model.proofs.LooseWalks.{parent_pushed}
 use Rattle.dav_model.proofs.PlainWalks.{plain_resolved}
-use Rattle.dav_methods.specs.Follows.{Calls, CallsFor, Finds, Follows, LooksBy, Reached}
+use Rattle.dav_methods.specs.Follows.{Calls, CallsFor, Finds, Follows, LooksBy, MovesBy, Reached}
 use Rattle.dav_methods.specs.Follows.Reached.{copies as copies_to, ends_file as ends_to, here, listed as listed_to, looks as looks_to, looks_at_link as links_to, makes_dir as makes_to, opens as opens_to, removes_dir as dir_to, removes_file as removes_to, renames as renames_to, unlisted as unlisted_to, writes_file as writes_to}
 use Rattle.dav_methods.specs.Lines.{Given, Line, above, done_over, fails_when, first_of, may_put, no_parent, unless, unmet, with_status}
 use Rattle.dav_methods.specs.Pouring.{Writes, WritesFile}
@@ -492,6 +492,12 @@ module _ {S C : Type 0} (view : View S C LocalFsFile) (lists : Listings S C Loca
   calls_only m k y z allowed edit e is (inl (calls, same)) = absurd (subst (λ a. CallsFor a e) is calls)
   calls_only m k y z allowed edit e is (inr (spoiled, left)) = spoiled
 
+  -- A move that is allowed is one change.
+  one_change : (m k : S) (v w : World) (from to : Names) (edit : Option Edit) (answer : Result Unit FsError) → moving v.tree from to ≡ Ok edit → MovesBy view lists writes c from to m answer k v w
+      → Calls view lists writes c (moving v.tree from to) m answer k v w
+  one_change m k v w from to edit answer is (inl calls) = calls
+  one_change m k v w from to edit answer is (inr (refused, x, taken, moved)) = absurd (let f : Ok edit ≡ Err disk.NotDir = sym is ∙ refused in cc)
+
   passes_same : (x : Rules) (v u : World) (path : WebPath) (fields : Fields) → SameBesidesOpens v u → PassesTable x v path fields → PassesTable x u path fields
   passes_same x v u path fields same passes =
       ap (λ a. first (when path.slash 405 ∷ when (not (is_dir_found a)) 409 ∷ refused_there (stands x u path) ∷ when (is_dir_found (stands x u path)) 405 ∷ the_unmet Put fields (stands x u path) ∷ [])) (stands_same x v u (the_above path) same)
@@ -571,8 +577,8 @@ module _ {S C : Type 0} (view : View S C LocalFsFile) (lists : Listings S C Loca
           let allowed : moving x.world.tree (resolved (rules s) x.world.tree u.hidden.names) (resolved (rules s) x.world.tree u.target.names) ≡ Ok (Some (moves stands_so.row.path u.target.names)) =
           ap (λ a. moving x.world.tree a (resolved (rules s) x.world.tree u.target.names)) (written_resolved settings (ways s) plain x.world.tree u.hidden.names)
           ∙ (ap (moving x.world.tree u.hidden.names) (written_resolved settings (ways s) plain x.world.tree u.target.names) ∙ may) in
-          let calls = unless_so.called shut (apart m x) (found_at m x u.hidden.names clear.to_hidden) (found_at m x u.target.names clear.to_target) (λ f. (let g : Ok _ ≡ Err disk.NotDir = sym allowed ∙ f in cc)) in
-          let memory : e ≡ fs.NoMemory = only_memory {T = Unit} (view.state m) (view.state k) e quiet (calls_only m k x.world w _ _ e allowed calls) in
+          let calls = unless_so.called shut (apart m x) (found_at m x u.hidden.names clear.to_hidden) (found_at m x u.target.names clear.to_target) in
+          let memory : e ≡ fs.NoMemory = only_memory {T = Unit} (view.state m) (view.state k) e quiet (calls_only m k x.world w _ _ e allowed (one_change m k x.world w _ _ _ (Err e) allowed calls)) in
           ended (refused_by e) is (ap refused_by memory)
 
       after_counts : (k : S) (answer : Result Unit FsError) (outcome : Outcome) → AfterMove view c answer outcome u.hidden k r t → (view.state k).faults ≤ (view.state t).faults
