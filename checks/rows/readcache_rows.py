@@ -138,13 +138,8 @@ def wanted(row):
     if row.startswith("#"):
         return row
     parts = [part.strip().split(" ") for part in row.split("|")]
-    # (The stores make all for their owner alone.)
-    if parts[0][0] == "alone":
-        return "alone"
     steps = [words for words in parts[1:] if words[0] not in SETS]
     plain = Store(disk_of(parts[1:]))
-    if parts[0][0] == "host":
-        return Player(plain).play(steps)
     if parts[0][0] == "plain":
         return f"{Player(plain).play(steps)}asked {plain.disk.asked}"
     size, room, most = (digits(text) for text in parts[0][1:4])

@@ -11,8 +11,7 @@
 //! Parts that set what stands there are those of `dav_scenes`: `dir`, `file`, `fail`, `short` and `batch`. Each other
 //! part is a step (`steps.rt`), whose answer stands before a `|`. Behind the last step what is open is closed. The last
 //! words are the sum of the bytes that are held and the number of entries, and how many calls the disk was asked; of
-//! `both`, whether each step was answered alike by both stores. A row `alone PATH` tells whether what stands at a path
-//! of the machine is for its owner alone. A row that begins with `#` is written as it stands.
+//! `both`, whether each step was answered alike by both stores. A row that begins with `#` is written as it stands.
 #![tactic(auto)]
 
 mod calls;
@@ -28,8 +27,7 @@ use dav_rows::{Line, word};
 use dav_scenes::set_disk;
 use dav_store::DavFileSystem;
 use std::alloc::Global;
-use std::os::unix::fs::MetadataExt;
-use std::{fs, io};
+use std::io;
 use steps::{play, play_held, tell_kept};
 use stores::{held_over, plain_over};
 use words::{StepWords, said};
@@ -127,13 +125,6 @@ fn answer_host(rt: &HostRuntime, line: &mut Line, row: &str) -> Option<()> {
     Some(())
 }
 
-// Tells whether what stands at a path of the machine is for its owner alone.
-fn tell_alone(rt: &HostRuntime, line: &mut Line, path: &str) -> Option<()> {
-    let is_alone = fs::metadata(rt, path).ok()?.mode() & 0o077 == 0;
-    line.add(if is_alone { "alone" } else { "open" });
-    Some(())
-}
-
 fn main(rt: HostRuntime) -> io::Result<()> {
     for row in rt.lines(rt.alloc()) {
         let row = row?;
@@ -141,7 +132,6 @@ fn main(rt: HostRuntime) -> io::Result<()> {
         let done = match word(row.as_str(), 0) {
             "both" => answer_both(rt.alloc(), &mut line, row.as_str()),
             "host" => answer_host(&rt, &mut line, row.as_str()),
-            "alone" => tell_alone(&rt, &mut line, word(row.as_str(), 1)),
             "held" | "plain" => answer(rt.alloc(), &mut line, row.as_str()),
             _ => Some(line.add(row.as_str())),
         };
