@@ -57,31 +57,11 @@ fn got(alloc: Global, handler: &mut Handler, target: &str) -> Result<String> {
     Ok(format!(in alloc; "{text:?}, {asked} calls of the disk, {held} bytes held")?)
 }
 
-// Puts these bytes in the place of a file's.
-fn put(alloc: Global, handler: &mut Handler, target: &str, bytes: &[u8]) -> Result<()> {
-    let request = request_of(alloc, "PUT", target, bytes)?;
-    let Ok(response) = answered(handler, request) else {
-        bail!("out of memory");
-    };
-    let (_, body) = response.into_parts();
-    let Some(cache) = handler.store() else {
-        bail!("the handler has no store");
-    };
-    match gathered(alloc, cache.disk(), body) {
-        Ok(_) => Ok(()),
-        Err(_) => bail!("no whole body"),
-    }
-}
-
-/// What a file is answered with over this disk, three times, and twice behind a PUT of as many other bytes.
+/// What a file is answered with over this disk, three times.
 pub fn answers(alloc: Global, disk: MemDisk, target: &str) -> Result<Vec<String>> {
     let mut handler = handler_over(alloc, disk)?;
     let mut answers = Vec::new(alloc);
     for _ in 0..3 {
-        answers.push(got(alloc, &mut handler, target)?)?;
-    }
-    put(alloc, &mut handler, target, b"Dear writer")?;
-    for _ in 0..2 {
         answers.push(got(alloc, &mut handler, target)?)?;
     }
     Ok(answers)
