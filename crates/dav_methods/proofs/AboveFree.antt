@@ -1,7 +1,7 @@
 -- No link stands on the way to the directory above what the rules find, where none stands on the way to that.
-use Rattle.std.proofs.Common.{◌≡◌, ◌⊎◌, inl, inr, ◌||◌, ◌&&◌, ◌-◌, Bool, true, false, List, [], ◌∷◌, ◌++◌, length, drop, Option, None, Some, refl, sym, ap, subst, ◌∙◌, append_assoc}
+use Rattle.std.proofs.Common.{◌≡◌, ◌⊎◌, inl, inr, ◌&&◌, ◌-◌, Bool, true, false, List, [], ◌∷◌, ◌++◌, length, drop, Option, None, Some, refl, sym, ap, subst, ◌∙◌, append_assoc}
 use Rattle.std.specs.List.{find}
-use Rattle.std.proofs.lemmas.Bool.{and_parts}
+use Rattle.std.proofs.lemmas.Bool.{and_parts, or_cases}
 use Rattle.std.proofs.lemmas.List.{take-append-drop}
 use Rattle.dav_core.proofs.Plain.{names_same}
 use Rattle.dav_core.specs.declared.tree.Row.{Row}
@@ -13,10 +13,6 @@ use Rattle.dav_model.specs.Rules.{Rules}
 use Rattle.dav_model.proofs.LooseWalks.{find_row, parent_pushed}
 use Rattle.dav_model.proofs.PlainWalks.{linked_below}
 
-or_parts : (a b : Bool) → (a || b) ≡ true → (a ≡ true) ⊎ (b ≡ true)
-or_parts true b e = inl refl
-or_parts false b e = inr e
-
 -- What is found in a directory stands below it.
 member_below : (folds : Bool) (tree : List Row) (at : Names) (name : Name) (next : Names) (exact alike : Option Row) → row_at tree (at ++ name ∷ []) ≡ exact → find (is_alike folds at name) tree ≡ alike
     → member_or exact alike ≡ Some next → (x : Names) × (next ≡ at ++ x)
@@ -27,7 +23,7 @@ member_below folds tree at name next (Some row) alike e f is =
 member_below folds tree at name next None (Some row) e f is =
     let p = find_row (is_alike folds at name) tree row f in
     let here : row.path ≡ next = cc in
-    elim (or_parts (same_names (at ++ name ∷ []) row.path) (folds && (same_names (parent_of row.path) at && folds_like row.path (at ++ name ∷ []))) p.0) [
+    elim (or_cases (same_names (at ++ name ∷ []) row.path) (folds && (same_names (parent_of row.path) at && folds_like row.path (at ++ name ∷ []))) p.0) [
       | inl same ↦ (name ∷ [], sym here ∙ sym (names_same (at ++ name ∷ []) row.path same))
       | inr all ↦ (let q = and_parts (same_names (parent_of row.path) at) (folds_like row.path (at ++ name ∷ [])) (and_parts folds (same_names (parent_of row.path) at && folds_like row.path (at ++ name ∷ [])) all).1 in
           (drop (length row.path - 1) row.path, sym here ∙ (sym (take-append-drop (length row.path - 1) row.path) ∙ ap (λ z. z ++ drop (length row.path - 1) row.path) (names_same (parent_of row.path) at q.0))))

@@ -1,7 +1,7 @@
 -- A removal leaves no names that fold alike where there were none.
 use Rattle.std.proofs.Common.{◌≡◌, ◌&&◌, Bool, true, false, not, cond, List, [], ◌∷◌, map, refl, ap, ◌∙◌}
 use Rattle.std.specs.List.{filter, list_all}
-use Rattle.std.proofs.lemmas.Bool.{and_parts}
+use Rattle.std.proofs.lemmas.Bool.{and_from, and_parts}
 use Rattle.dav_core.specs.declared.tree.Row.{Row}
 use Rattle.dav_core.specs.Changes.{timed_row, without}
 use Rattle.dav_core.specs.Edits.{Edited, takes}
@@ -11,15 +11,10 @@ use Rattle.dav_model.specs.Folds.{folds_like}
 use Rattle.dav_model.specs.Valid.{Twinless, are_twins, no_twins}
 use Rattle.dav_methods.proofs.RemovalWork.{timed_path}
 
-both : (a b : Bool) → a ≡ true → b ≡ true → (a && b) ≡ true
-both true true p q = refl
-both true false p q = cc
-both false b p q = cc
-
 -- ---- fewer rows
 
 all_fewer_by : (b : Bool) (g : Row → Bool) (r : Row) (rows : List Row) → g r ≡ true → list_all g rows ≡ true → list_all g (cond b (r ∷ rows) rows) ≡ true
-all_fewer_by true g r rows e h = both (g r) (list_all g rows) e h
+all_fewer_by true g r rows e h = and_from (g r) (list_all g rows) e h
 all_fewer_by false g r rows e h = h
 
 all_fewer : (f g : Row → Bool) (rows : List Row) → list_all g rows ≡ true → list_all g (filter f rows) ≡ true
@@ -27,7 +22,7 @@ all_fewer f g [] e = refl
 all_fewer f g (r ∷ rows) e = let p = and_parts (g r) (list_all g rows) e in all_fewer_by (f r) g r (filter f rows) p.0 (all_fewer f g rows p.1)
 
 apart_fewer_by : (b : Bool) (r : Row) (rows : List Row) → list_all (λ other. not (are_twins r other)) rows ≡ true → no_twins rows ≡ true → no_twins (cond b (r ∷ rows) rows) ≡ true
-apart_fewer_by true r rows e h = both (list_all (λ other. not (are_twins r other)) rows) (no_twins rows) e h
+apart_fewer_by true r rows e h = and_from (list_all (λ other. not (are_twins r other)) rows) (no_twins rows) e h
 apart_fewer_by false r rows e h = h
 
 pub apart_fewer : (f : Row → Bool) (rows : List Row) → no_twins rows ≡ true → no_twins (filter f rows) ≡ true

@@ -1,5 +1,6 @@
 -- Below where a path was found, each path that is asked for is found below that: while rows stand there, and where some went.
 use Rattle.std.proofs.Common.{◌≡◌, ◌++◌, inl, inr, Bool, true, false, not, cond, List, [], ◌∷◌, map, None, Some, refl, sym, ap, subst, ◌∙◌, append_assoc, append-nil}
+use Rattle.std.proofs.lemmas.Bool.{false_from_ne_true, not_from_false}
 use Rattle.dav_core.specs.declared.time.FileTime.{FileTime}
 use Rattle.dav_core.specs.declared.tree.Row.{Row}
 use Rattle.dav_core.specs.Changes.{timed_row, without}
@@ -7,23 +8,25 @@ use Rattle.dav_core.specs.Edits.{Edited, takes}
 use Rattle.dav_core.specs.Path.{Names, is_front, parent_of, same_names}
 use Rattle.dav_core.specs.Tree.{row_at}
 use Rattle.dav_core.specs.World.{World}
+use Rattle.dav_core.proofs.Paths.{names_equal, names_same}
+use Rattle.dav_core.proofs.Elements.{In}
 use Rattle.dav_model.specs.Finding.{or_walk, resolved, resolved_from}
 use Rattle.dav_model.specs.Rules.{Rules}
 use Rattle.dav_model.specs.Valid.{TellsApart}
 use Rattle.dav_methods.proofs.ApartKept.{takes_apart}
 use Rattle.dav_methods.proofs.FoundStill.{child_found, found_still, found_timed}
-use Rattle.dav_methods.proofs.RemovalWork.{not_false, timed_path}
-use Rattle.dav_methods.proofs.TreeRows.{Parts, above, at_row, false_or, front_of, front_then, not_both, same_of, same_yes}
-use Rattle.dav_methods.proofs.WalkOrder.{In, paths}
+use Rattle.dav_methods.proofs.RemovalWork.{timed_path}
+use Rattle.dav_methods.proofs.TreeRows.{Parts, above, at_row, front_of, front_then, not_both}
+use Rattle.dav_methods.proofs.WalkOrder.{paths}
 
 -- a row stands at each path on the way to one that stands
 pub row_on_way : (tree : List Row) (parts : Parts tree) (path : Names) (r : Row) → In r tree → is_front path r.path ≡ true → (d : Row) × (row_at tree path ≡ Some d)
 row_on_way tree parts path r i front = by (same_names path r.path) refl
   where
     by : (b : Bool) → same_names path r.path ≡ b → (d : Row) × (row_at tree path ≡ Some d)
-    by true same = (r, ap (row_at tree) (same_yes path r.path same) ∙ at_row tree r parts.once i)
+    by true same = (r, ap (row_at tree) (names_same path r.path same) ∙ at_row tree r parts.once i)
     by false other =
-        let d = above tree r path parts i front (λ e. not_both (same_names path r.path) (same_of path r.path e) other) in
+        let d = above tree r path parts i front (λ e. not_both (same_names path r.path) (names_equal path r.path e) other) in
         (d.row, ap (row_at tree) (sym d.at) ∙ at_row tree d.row parts.once d.in_tree)
 
 walk_below : (folds : Bool) (tree : List Row) (parts : Parts tree) (asked top rest : Names) → resolved_from folds tree [] asked ≡ top → (r : Row) → In r tree → r.path ≡ top ++ rest
@@ -83,7 +86,7 @@ module _ (rules : Rules) (alone : rules.alone ≡ None) where
       walks u.tree asked ∙ (ap (λ (rows : List Row). resolved_from rules.folds rows [] asked) is.tree
       ∙ (found_timed (timed_row (parent_of p) t) (λ r. timed_path (same_names (parent_of p) r.path) (parent_of p) t r refl) rules.folds (without p v.tree) [] asked
       ∙ (sym (found_still (λ row. not (is_front p row.path)) rules.folds v.tree asked apart
-      (λ r of front. not_false (is_front p r.path) (false_or (is_front p r.path) (λ e. not_both (is_front p top) (front_then p r.path top e (subst (λ z. is_front r.path z ≡ true) before front)) other))))
+      (λ r of front. not_from_false (is_front p r.path) (false_from_ne_true (is_front p r.path) (λ e. not_both (is_front p top) (front_then p r.path top e (subst (λ z. is_front r.path z ≡ true) before front)) other))))
       ∙ before)))
 
   pub taken_apart : (p : Names) (v u : World) → TellsApart rules v → Edited (takes p) v u → TellsApart rules u

@@ -1,7 +1,7 @@
 -- Where something changes at one path and below it alone, all that lies beside it stays, but for the time of the directory above.
 use Rattle.std.proofs.Common.{◌≡◌, ◌≤◌, ◌<◌, ◌⊎◌, ◌&&◌, ◌||◌, ◌==◌, ◌-◌, ◌++◌, ℕ, List, [], ◌∷◌, length, drop, map, Bool, true, false, not, cond, Some, refl, sym, ap, subst, ◌∙◌, arith, inl, inr, take-append-drop}
 use Rattle.std.specs.List.{filter}
-use Rattle.std.proofs.lemmas.Bool.{and_parts, cases_lt}
+use Rattle.std.proofs.lemmas.Bool.{and_from, and_parts, cases_lt, false_from_ne_true, not-true}
 use Rattle.dav_core.specs.declared.tree.Row.{Row}
 use Rattle.dav_core.specs.declared.tree.Kind.{Kind}
 use Rattle.dav_core.specs.declared.time.FileTime.{FileTime}
@@ -11,13 +11,16 @@ use Rattle.dav_core.specs.Path.{Names, is_front, parent_of, same_names}
 use Rattle.dav_core.specs.Tree.{is_dir, is_dir_row, is_link, is_linked, is_placed, row_at}
 use Rattle.dav_core.specs.World.{Holds, IsWorld, SameBesidesOpens, World, is_numbered}
 use Rattle.dav_core.proofs.UnchangedLemmas.{put_other}
+use Rattle.dav_core.proofs.Paths.{names_same, parent_length}
+use Rattle.dav_core.proofs.Elements.{In, all_at, all_in, in_either, in_filter, in_map, map_in}
+use Rattle.dav_core.proofs.Rows.{numbered_in}
 use Rattle.dav_model.specs.Overlap.{overlap}
 use Rattle.dav_methods.proofs.ActsJoined.{AllDone, act_by, acts_by}
 use Rattle.dav_methods.proofs.EditsJoined.{above_all}
 use Rattle.dav_methods.proofs.OpenedFile.{world_numbers}
-use Rattle.dav_methods.proofs.RemovalWork.{back_taken, in_map, map_in, none_any, timed_kind, timed_path, up_taken}
-use Rattle.dav_methods.proofs.TreeRows.{DirAt, Parts, all_at, all_in, any_none, both, false_or, filter_once, front_length, front_of, front_then, fronts_meet, in_filter, not_both, not_true, parent_length, same_yes}
-use Rattle.dav_methods.proofs.WalkOrder.{In, in_either, in_left}
+use Rattle.dav_methods.proofs.RemovalWork.{back_taken, none_any, timed_kind, timed_path, up_taken}
+use Rattle.dav_methods.proofs.TreeRows.{DirAt, Parts, any_none, filter_once, front_length, front_of, front_then, fronts_meet, not_both}
+use Rattle.dav_methods.proofs.WalkOrder.{in_left}
 
 -- ---- paths beside one another
 
@@ -58,7 +61,7 @@ front_up p = front_of (parent_of p) p (drop (length p - 1) p) (sym (take-append-
 
 -- Nor does the path lie at or above its parent.
 pub not_in_parent : (to : Names) → 0 < length to → is_front to (parent_of to) ≡ false
-not_in_parent to some = false_or (is_front to (parent_of to)) (λ e. never (front_length to (parent_of to) e))
+not_in_parent to some = false_from_ne_true (is_front to (parent_of to)) (λ e. never (front_length to (parent_of to) e))
   where
     never : length to ≤ length (parent_of to) → ⊥
     never le = omega (arith, le, some, parent_length to)
@@ -66,12 +69,12 @@ not_in_parent to some = false_or (is_front to (parent_of to)) (λ e. never (fron
 -- What lies below the first has not the path of a directory above what lies below the second.
 not_up : (from to p n : Names) → Apart from to → is_front to p ≡ true → is_front from n ≡ true → same_names (parent_of p) n ≡ false
 not_up from to p n apart under below =
-    false_or (same_names (parent_of p) n)
+    false_from_ne_true (same_names (parent_of p) n)
     (λ e. apart_below from to p apart
-    (front_then from (parent_of p) p (subst (λ z. is_front from z ≡ true) (sym (same_yes (parent_of p) n e)) below) (front_up p)) under)
+    (front_then from (parent_of p) p (subst (λ z. is_front from z ≡ true) (sym (names_same (parent_of p) n e)) below) (front_up p)) under)
 
 not_below : (from to p n : Names) → Apart from to → is_front to p ≡ true → is_front from n ≡ true → is_front p n ≡ false
-not_below from to p n apart under below = false_or (is_front p n) (λ e. apart_below from to n apart below (front_then to p n under e))
+not_below from to p n apart under below = false_from_ne_true (is_front p n) (λ e. apart_below from to n apart below (front_then to p n under e))
 
 -- ---- the rows below a path
 
@@ -104,20 +107,11 @@ more_below from row (r ∷ rows) e = ap (λ z. cond (is_front from r.path) (r �
 
 -- ---- numbers
 
-or_true : (a b : Bool) → b ≡ true → (a || b) ≡ true
-or_true true b e = refl
-or_true false b e = e
-
 numbered_first : (n m : ℕ) (rest : Bool) → n ≡ m → (n == m || rest) ≡ true
 numbered_first n m rest e = rw e (ap (λ b. b || rest) (itself m))
   where
     itself : (m : ℕ) → (m == m) ≡ true
     itself m = grind arith
-
-pub numbered_in : (rows : List Row) (r : Row) → In r rows → is_numbered rows r.number ≡ true
-numbered_in [] r i = absurd i
-numbered_in (x ∷ rows) r (inl e) = numbered_first r.number x.number (is_numbered rows r.number) (ap (λ (y : Row). y.number) e)
-numbered_in (x ∷ rows) r (inr i) = or_true (r.number == x.number) (is_numbered rows r.number) (numbered_in rows r i)
 
 -- ---- what stays
 
@@ -161,7 +155,7 @@ pub beside_taken : (from to p : Names) (v u : World) → Apart from to → is_fr
 beside_taken from to p v u apart under (t, new, e) = record {
   rows = same;
   files = λ r i. (e.files r.number (held_below from v u r same i)).1;
-  up = λ r i other. up_taken p v u (t, new, e) r i (false_or (is_front p r.path) (λ f. not_both (is_front to r.path) (front_then to p r.path under f) other));
+  up = λ r i other. up_taken p v u (t, new, e) r i (false_from_ne_true (is_front p r.path) (λ f. not_both (is_front to r.path) (front_then to p r.path under f) other));
   back = λ r i other. back_taken p v u (t, new, e) r i;
 }
   where
@@ -196,7 +190,7 @@ beside_made from to p kind bytes v u apart under world (number, s, t, next, new,
     same =
         ap (rows_below from) e.tree
         ∙ (timed_below from (parent_of p) t (v.tree ++ row ∷ []) (λ n below. not_up from to p n apart under below)
-        ∙ more_below from row v.tree (false_or (is_front from p) (λ f. apart_below from to p apart f under)))
+        ∙ more_below from row v.tree (false_from_ne_true (is_front from p) (λ f. apart_below from to p apart f under)))
 
     other : (r : Row) → In r v.tree → r.number ≡ number → ⊥
     other r i is =
@@ -230,12 +224,12 @@ dir_stays from to v u beside some d =
 pub unlinked_from : (old now : List Row) (q : Names) → ((r : Row) → In r now → is_link r.kind ≡ true → (o : Row) × In o old × (o.path ≡ r.path) × (o.kind ≡ r.kind))
     → is_linked old q ≡ false → is_linked now q ≡ false
 unlinked_from old now q from clear =
-    any_none (λ row. is_link row.kind && is_front row.path q) now (λ r i. false_or (is_link r.kind && is_front r.path q) (λ e. never r i (and_parts (is_link r.kind) (is_front r.path q) e)))
+    any_none (λ row. is_link row.kind && is_front row.path q) now (λ r i. false_from_ne_true (is_link r.kind && is_front r.path q) (λ e. never r i (and_parts (is_link r.kind) (is_front r.path q) e)))
   where
     never : (r : Row) → In r now → (is_link r.kind ≡ true) × (is_front r.path q ≡ true) → ⊥
     never r i (link, up) =
         let (o, j, at, kind) = from r i link in
-        not_both (is_link o.kind && is_front o.path q) (both (is_link o.kind) (is_front o.path q) (ap is_link kind ∙ link) (subst (λ x. is_front x q ≡ true) (sym at) up))
+        not_both (is_link o.kind && is_front o.path q) (and_from (is_link o.kind) (is_front o.path q) (ap is_link kind ∙ link) (subst (λ x. is_front x q ≡ true) (sym at) up))
         (none_any (λ row. is_link row.kind && is_front row.path q) old o clear j)
 
 -- ---- a tree without what lies at a path
@@ -246,13 +240,13 @@ found_without p q (r ∷ rows) other = by (is_front p r.path) refl (found_withou
   where
     by : (b : Bool) → is_front p r.path ≡ b → row_at (without p rows) q ≡ row_at rows q → row_at (without p (r ∷ rows)) q ≡ row_at (r ∷ rows) q
     by true e rest =
-        let apart : same_names q r.path ≡ false = false_or (same_names q r.path) (λ f. not_both (is_front p r.path) e (subst (λ z. is_front p z ≡ false) (same_yes q r.path f) other)) in
+        let apart : same_names q r.path ≡ false = false_from_ne_true (same_names q r.path) (λ f. not_both (is_front p r.path) e (subst (λ z. is_front p z ≡ false) (names_same q r.path f) other)) in
         rw (e, apart) rest
     by false e rest = rw e (ap (λ o. cond (same_names q r.path) (Some r) o) rest)
 
 pub parts_without : (p : Names) (rows : List Row) → 0 < length p → Parts rows → Parts (without p rows)
 parts_without p rows some parts = record {
-  root = ap is_dir_row (found_without p [] rows (false_or (is_front p []) (λ e. root_long (front_length p [] e)))) ∙ parts.root;
+  root = ap is_dir_row (found_without p [] rows (false_from_ne_true (is_front p []) (λ e. root_long (front_length p [] e)))) ∙ parts.root;
   placed = all_in (is_placed (without p rows)) (without p rows) (λ r i. placed_still r (in_filter (λ row. not (is_front p row.path)) rows r i));
   once = filter_once (λ row. not (is_front p row.path)) rows parts.once;
 }
@@ -262,5 +256,5 @@ parts_without p rows some parts = record {
 
     placed_still : (r : Row) → In r rows × (not (is_front p r.path) ≡ true) → is_placed (without p rows) r ≡ true
     placed_still r (i, kept) =
-        let apart : is_front p (parent_of r.path) ≡ false = false_or (is_front p (parent_of r.path)) (λ e. not_both (is_front p r.path) (front_then p (parent_of r.path) r.path e (front_up r.path)) (not_true (is_front p r.path) kept)) in
+        let apart : is_front p (parent_of r.path) ≡ false = false_from_ne_true (is_front p (parent_of r.path)) (λ e. not_both (is_front p r.path) (front_then p (parent_of r.path) r.path e (front_up r.path)) (not-true (is_front p r.path) kept)) in
         ap (λ o. cond (length r.path == 0) (is_dir r.kind) (is_dir_row o)) (found_without p (parent_of r.path) rows apart) ∙ all_at (is_placed rows) rows r parts.placed i

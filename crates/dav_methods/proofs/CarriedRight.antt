@@ -42,4 +42,4 @@ module _ {S C F L E : Type 0} (view : View S C F) (lists : Listings S C L E) (wr
       → Told view lists writes c s t (λ v w. IsRegular rules k v → CarriedIn view lists writes c rules true ask s r t v w)
   move_follows rules k s follows ask r t run =
       carried_right view lists writes c true rules
-      (λ asked x same own. after asked x true own (λ y. moves_right view lists writes c asked y own) (λ file alone. one_moves view lists writes c asked x file alone)) k s follows ask r t run
+      (λ asked x same own. after asked x true own (λ y. moves_right view lists writes c asked y) (λ file alone. one_moves view lists writes c asked x file alone)) k s follows ask r t run

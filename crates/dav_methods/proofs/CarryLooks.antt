@@ -1,24 +1,25 @@
 -- COPY and MOVE over a store that follows rules: each look and each line of the table is the plan's, up to where what stands at the
 -- destination goes; and what the acts behind them come to is what is answered.
 use Rattle.std.proofs.Common.{◌≡◌, ◌⊎◌, ◌&&◌, ◌++◌, ℕ, List, [], ◌∷◌, Bool, true, false, not, Option, None, Some, Result, Ok, Err, refl, sym, ap, subst, ◌∙◌, inl, inr}
+use Rattle.std.proofs.lemmas.Bool.{or_parts as clear_of}
 use Rattle.dav_io.specs.Counts.{Rose}
 use Rattle.dav_io.specs.Told.{Both}
 use Rattle.dav_io.specs.declared.failure.NoMemory.{NoMemory as Wanting}
-use Rattle.dav_io.proofs.ToldLemmas.{both_map, both_same}
+use Rattle.dav_io.proofs.ToldLemmas.{both_same, both_known}
 use Rattle.dav_core.specs.declared.dav_error.DavError.{DavError}
 use Rattle.dav_core.specs.declared.dav_error.DavError.TheVariants as dav
 use Rattle.dav_core.specs.declared.error.FsError.{FsError}
 use Rattle.dav_core.specs.declared.error.FsError.TheVariants as fs
 use Rattle.dav_core.specs.DavPath.{WebPath}
 use Rattle.dav_core.specs.Info.{Info}
-use Rattle.dav_core.specs.Statuses.{closes, of_fs, status_of}
+use Rattle.dav_core.specs.Statuses.{closes, status_of}
 use Rattle.dav_core.specs.Tree.{is_dir, is_linked}
-use Rattle.dav_core.specs.World.{IsWorld, SameBesidesOpens, World}
+use Rattle.dav_core.specs.World.{IsWorld, World}
 use Rattle.dav_core.proofs.UnchangedLemmas.{same_besides}
 use Rattle.dav_store.specs.View.{Listings, View}
 use Rattle.dav_model.specs.declared.asked.Asked.{Asked}
 use Rattle.dav_model.specs.declared.outcome.Outcome.{Outcome}
-use Rattle.dav_model.specs.CarryPlans.{carries_link, carry_plan, carrying, clearing, has_link_about, method_of, moves_over_hidden}
+use Rattle.dav_model.specs.CarryPlans.{carries_link, carry_plan, carrying, clearing, has_link_about, method_of}
 use Rattle.dav_model.specs.Conditions.{Fields}
 use Rattle.dav_model.specs.Destination.{Asks, asked_by}
 use Rattle.dav_model.specs.Due.{failure}
@@ -28,7 +29,7 @@ use Rattle.dav_model.specs.Overlap.{overlap}
 use Rattle.dav_model.specs.Plans.{Act, Ask, Halt, Plan, above, first, has_link_below, has_parent, is_dir_found, is_found, refused, refused_there, stands, status_over, unless, unmet, when}
 use Rattle.dav_model.specs.Rules.{Knowledge, Rules}
 use Rattle.dav_model.specs.Valid.{IsRegular}
-use Rattle.dav_model.specs.Written.{ByActs, CarriesIn, EndsAs, IsHeldOff, PartOf, done_reply}
+use Rattle.dav_model.specs.Written.{ByActs, CarriesIn, EndsAs, PartOf, done_reply}
 use Rattle.dav_methods.specs.Carrying.{Arrives, Carries, CopyMoves, Leaves, TakesPlace, may_leave, may_take_place, transfer}
 use Rattle.dav_methods.specs.Follows.{CarriedIn, Finds, Follows, Reached, Told, answer_or, here, looks, looks_at_link}
 use Rattle.dav_methods.specs.Lines.{Given, Line, fails_when, is_there, made, no_parent, refused_but_missing, silent}
@@ -38,9 +39,8 @@ use Rattle.dav_methods.specs.Removing.{LooksAtLink}
 use Rattle.dav_methods.specs.Table.{Looks, Next, Unless}
 use Rattle.dav_methods.proofs.AboveFree.{above_free}
 use Rattle.dav_methods.proofs.ActsJoined.{Comes, Halted, done_acts, halted_acts}
-use Rattle.dav_methods.proofs.DeleteRight.{clear_of}
 use Rattle.dav_methods.proofs.LinesMatch.{first_two, match_two, missing_match, parent_match, refused_match, there_found, unmet_match, when_match}
-use Rattle.dav_methods.proofs.Stages.{Acts, At, Case, Clear, Embeds, EndsFor, at_first, at_map, both_known, ends_done, passed_stage, seen_stage, stands_plainly}
+use Rattle.dav_methods.proofs.Stages.{Acts, At, Case, Clear, Embeds, EndsFor, at_first, at_map, ends_done, passed_stage, seen_stage, stands_plainly}
 
 -- ---- lines
 
@@ -122,11 +122,9 @@ module _ {S C F L E : Type 0} (view : View S C F) (lists : Listings S C L E) (wr
   abbrev pub Sees : Request → World → Type 0
   Sees x v = Clear view lists writes c (carry_by asked) (links_by asked) (case_of x) v
 
-  -- It ended as its plan says, or a directory was held off by a hidden file.
+  -- It ended as its plan says.
   abbrev pub EndsSo : Request → Given → S → World → World → Type 0
-  EndsSo x r t v w = (result : Result Reply Wanting) → answer_or x.ask.fields r result
-      → EndsAs x.ask.fields (carry_by asked x.rules x.ask v) result (Rose (view.state x.s).faults (view.state t).faults) v w
-      ⊎ IsHeldOff x.rules x.ask (Ok asked) result v w
+  EndsSo x r t v w = EndsFor view lists writes c (carry_by asked) (links_by asked) (case_of x) r t v w
 
   abbrev pub Done : Request → Given → S → Type 0
   Done x r t = Both (view.state x.s).told (view.state t).told (λ v w. Sees x v → EndsSo x r t v w)
@@ -149,24 +147,18 @@ module _ {S C F L E : Type 0} (view : View S C F) (lists : Listings S C L E) (wr
 
   -- ---- endings
 
-  abbrev EndsHere : Request → Given → S → World → World → Type 0
-  EndsHere x r t v w = EndsFor view lists writes c (carry_by asked) (links_by asked) (case_of x) r t v w
-
-  ends_so : (x : Request) (r : Given) (t : S) (v w : World) → EndsHere x r t v w → EndsSo x r t v w
-  ends_so x r t v w ends result answers = inl (ends result answers)
-
   embeds : (x : Request) → Embeds view lists writes c (carry_by asked) (links_by asked) (case_of x) (Done x)
-  embeds x d t right = both_map (view.state x.s).told (view.state t).told _ _ (λ v w ends clear. ends_so x (Err d) t v w (ends clear)) right
+  embeds x d t right = right
 
   -- What acts come to is what is answered.
-  comes_as : (x : Request) (line : Line) (outcome : Outcome) (acts : List Act) (t : S) (v w : World) → (carry_by asked x.rules x.ask v).acts ≡ acts
+  pub comes_ends : (x : Request) (line : Line) (outcome : Outcome) (acts : List Act) (t : S) (v w : World) → (carry_by asked x.rules x.ask v).acts ≡ acts
       → done_reply (carry_by asked x.rules x.ask v).done ≡ record { status = outcome.status; fields = outcome.fields; parts = [] }
-      → Came x line acts t v w → EndsHere x (the.unless line outcome) t v w
-  comes_as x (Ok y) outcome acts t v w is done h result said =
+      → Came x line acts t v w → EndsSo x (the.unless line outcome) t v w
+  comes_ends x (Ok y) outcome acts t v w is done h result said =
       ends_done view lists writes c (carry_by asked) (links_by asked) (case_of x) outcome t v w done
       (λ reply answered. subst (λ a. ByActs x.ask.fields a (carry_by asked x.rules x.ask v).done reply v w) (sym is)
       (subst (λ z. ByActs x.ask.fields acts (carry_by asked x.rules x.ask v).done z v w) (sym answered) (done_acts x.ask.fields acts (carry_by asked x.rules x.ask v).done v w h))) result said
-  comes_as x (Err d) outcome acts t v w is done h (Ok reply) said = by (h.said said.0)
+  comes_ends x (Err d) outcome acts t v w is done h (Ok reply) said = by (h.said said.0)
     where
       by : Halted x.ask.fields (refusal x.ask.fields (status_of d) (closes d)) acts v w
           ⊎ ((refusal x.ask.fields (status_of d) (closes d) ≡ failure) × Rose (view.state x.s).faults (view.state t).faults × PartOf acts v w)
@@ -176,21 +168,7 @@ module _ {S C F L E : Type 0} (view : View S C F) (lists : Listings S C L E) (wr
           (subst (λ z. ByActs x.ask.fields acts (carry_by asked x.rules x.ask v).done z v w) (sym said.1)
           (halted_acts x.ask.fields (refusal x.ask.fields (status_of d) (closes d)) acts (carry_by asked x.rules x.ask v).done v w halted)))
       by (inr (failed, rose, part)) = inr (said.1 ∙ failed, rose, subst (λ a. PartOf a v w) (sym is) part)
-  comes_as x (Err d) outcome acts t v w is done h (Err e) lacks = subst (λ a. PartOf a v w) (sym is) (h.short lacks)
-
-  pub comes_ends : (x : Request) (line : Line) (outcome : Outcome) (acts : List Act) (t : S) (v w : World) → (carry_by asked x.rules x.ask v).acts ≡ acts
-      → done_reply (carry_by asked x.rules x.ask v).done ≡ record { status = outcome.status; fields = outcome.fields; parts = [] }
-      → Came x line acts t v w → EndsSo x (the.unless line outcome) t v w
-  comes_ends x line outcome acts t v w is done came = ends_so x (the.unless line outcome) t v w (comes_as x line outcome acts t v w is done came)
-
-  -- A directory was held off.
-  pub held_ends : (x : Request) (outcome : Outcome) (line : Line) (t : S) (v w : World) → moves_over_hidden x.rules v x.ask (Ok asked) ≡ true → line ≡ Err (of_fs fs.Forbidden) → SameBesidesOpens v w
-      → EndsSo x (the.unless line outcome) t v w
-  held_ends x outcome line t v w over is same = subst (λ z. EndsSo x (the.unless z outcome) t v w) (sym is) ends
-    where
-      ends : EndsSo x (Err (of_fs fs.Forbidden)) t v w
-      ends (Ok reply) (lacks, said) = inr (over, ap Ok said, same)
-      ends (Err e) lacks = cc
+  comes_ends x (Err d) outcome acts t v w is done h (Err e) lacks = subst (λ a. PartOf a v w) (sym is) (h.short lacks)
 
   pub over_done : (x : Request) (v : World) (stood : Stood) → Stands x v asked.to ≡ Ok stood
       → done_reply (carry_by asked x.rules x.ask v).done ≡ record { status = silent.status; fields = silent.fields; parts = [] }
@@ -320,7 +298,7 @@ module _ {S C F L E : Type 0} (view : View S C F) (lists : Listings S C L E) (wr
   -- The request was answered by its plan, over a store of which nothing was changed.
   unchanged_right : (moving : Bool) (rules : Rules) (s : S) (ask : Ask) (v : World) (e : DavError) → Asks moving rules.settings.prefix ask.fields (Err e)
       → CarriedIn view lists writes c rules moving ask s (Err e) s v v
-  unchanged_right moving rules s ask v e asks (Ok reply) (lacks, is) = (Err e, asks, λ clear. inl (inl (is, same_besides v)))
+  unchanged_right moving rules s ask v e asks (Ok reply) (lacks, is) = (Err e, asks, λ clear. inl (is, same_besides v))
   unchanged_right moving rules s ask v e asks (Err x) lacks = inl (same_besides v)
 
   short_right : (moving : Bool) (rules : Rules) (s : S) (ask : Ask) (v : World) → CarriedIn view lists writes c rules moving ask s (Err dav.NoMemory) s v v

@@ -305,8 +305,8 @@ module _ {S C F L E : Type 0} (view : View S C F) (lists : Listings S C L E) (wr
       nothing = nothing_moved u.tree file file gone.vacant
 
       so : MovesBy view lists writes c file file m moved t u w → Comes view x.ask.fields x.s (line_of moved) (act_of (Err NotFound)) t u w
-      so (inl one) = subst (λ a. Comes view x.ask.fields x.s (line_of moved) (act_of a) t u w) nothing (allowed_comes view lists writes c x.ask.fields x.s (moving u.tree file file) m t moved u w (x.given.counts m reached) one)
-      so (inr (refused, y, went, after)) = let never : ◌≡◌ {A = Allowed} (Err NotFound) (Err NotDir) = sym nothing ∙ refused in cc
+      so (inl (one, held)) = subst (λ a. Comes view x.ask.fields x.s (line_of moved) (act_of a) t u w) nothing (allowed_comes view lists writes c x.ask.fields x.s (moving u.tree file file) m t moved u w (x.given.counts m reached) one)
+      so (inr (meets, y, gone_on, after)) = let never : ◌≡◌ {A = Allowed} (Err NotFound) (Err NotDir) = sym nothing ∙ meets.0 in cc
 
       by : (b : Bool) → (is_forbidden x.rules x.ask.path || is_forbidden x.rules asked.to) ≡ b → Does true (line_of moved) t v u w
       by true shut =

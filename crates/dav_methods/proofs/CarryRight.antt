@@ -1,6 +1,7 @@
 -- COPY and MOVE over a store that follows rules, and that of more than one file: what stands at the destination goes, and the last act
 -- comes to what the plan says.
 use Rattle.std.proofs.Common.{◌≡◌, ◌<◌, ◌⊎◌, ◌&&◌, ◌++◌, List, [], ◌∷◌, Bool, true, false, not, cond, Option, None, Result, Ok, Err, refl, sym, ap, subst, ◌∙◌, inl, inr}
+use Rattle.std.proofs.lemmas.Bool.{false_from_ne_true as false_or}
 use Rattle.dav_io.proofs.ToldLemmas.{both_map, both_then}
 use Rattle.dav_core.specs.declared.dav_error.DavError.TheVariants as dav
 use Rattle.dav_core.specs.declared.error.FsError.{FsError}
@@ -9,13 +10,13 @@ use Rattle.dav_core.specs.DavPath.{WebPath}
 use Rattle.dav_core.specs.Info.{Info}
 use Rattle.dav_core.specs.Path.{Names, is_front, parent_of}
 use Rattle.dav_core.specs.Statuses.{of_fs}
-use Rattle.dav_core.specs.Tree.{is_dir, is_linked, look, row_at}
+use Rattle.dav_core.specs.Tree.{is_dir, is_linked, look}
 use Rattle.dav_core.specs.World.{IsWorld, SameBesidesOpens, World}
 use Rattle.dav_core.proofs.UnchangedLemmas.{same_besides_then}
 use Rattle.dav_store.specs.View.{Listings, View}
 use Rattle.dav_model.specs.declared.asked.Asked.{Asked}
 use Rattle.dav_model.specs.declared.outcome.Outcome.{Outcome}
-use Rattle.dav_model.specs.CarryPlans.{begins, carrying, clearing, is_dir_over}
+use Rattle.dav_model.specs.CarryPlans.{carrying, clearing}
 use Rattle.dav_model.specs.Finding.{is_forbidden, resolved}
 use Rattle.dav_model.specs.Head.{Stood}
 use Rattle.dav_model.specs.Overlap.{overlap}
@@ -34,7 +35,7 @@ use Rattle.dav_methods.specs.Removing.{Removes}
 use Rattle.dav_methods.specs.Table.{Unless}
 use Rattle.dav_methods.proofs.ActsJoined.{AllDone, Comes, FillsNone, comes_more, comes_then, halted_comes, short_comes}
 use Rattle.dav_methods.proofs.Beside.{Apart, Beside, beside_removed, some_to}
-use Rattle.dav_methods.proofs.CarryLooks.{Request, RightAfter, carry_by, comes_ends, dir_ok, found_ok, from_links, held_ends, new_done, none_two, none_when, not_not, over_done, seen_missing, seen_there, to_links}
+use Rattle.dav_methods.proofs.CarryLooks.{Request, RightAfter, carry_by, comes_ends, dir_ok, found_ok, from_links, new_done, none_two, none_when, not_not, over_done, seen_missing, seen_there, to_links}
 use Rattle.dav_methods.proofs.CarryLooks as looks
 use Rattle.dav_methods.proofs.DeleteRight.{found_at, planned as removal_planned}
 use Rattle.dav_methods.proofs.DeleteRight as own
@@ -43,7 +44,7 @@ use Rattle.dav_methods.proofs.LinesMatch.{dir_found}
 use Rattle.dav_methods.proofs.PlaceCleared.{apart_places, place_length, removed_apart}
 use Rattle.dav_methods.proofs.RemovalRun.{Ended, acts, both_with, gone_reached, removed, stops_in}
 use Rattle.dav_methods.proofs.RemovalRun as run
-use Rattle.dav_methods.proofs.TreeRows.{DirAt, false_or, not_both}
+use Rattle.dav_methods.proofs.TreeRows.{DirAt, not_both}
 use Rattle.dav_methods.proofs.WalkOrder.{paths_in}
 use Rattle.dav_methods.proofs.WorkCovers.{in_walked, walked}
 
@@ -139,23 +140,10 @@ module _ {S C F L E : Type 0} (view : View S C F) (lists : Listings S C L E) (wr
   abbrev pub Prepares : Carry → Result Info FsError → World → Type 0
   Prepares x found v = Seen x.rules x.ask.path asked.to (is_dir_there found) v
 
-  -- A directory is to come to where a file stands that wasn't found.
-  abbrev pub over_hidden : Carry → World → Bool
-  over_hidden x v = not (is_found (stands x.rules v asked.to))
-      && is_dir_over (row_at v.tree (resolved x.rules v.tree x.ask.path.names)) (row_at v.tree (resolved x.rules v.tree asked.to.names))
-
-  -- It is held off.
-  pub record HeldOff (x : Carry) (line : Line) (all : List Act) (v w : World) : Type 0 where
-    pub moved : asked.moving ≡ true
-    pub changes : begins all ≡ true
-    pub over : over_hidden x v ≡ true
-    pub refused : line ≡ Err (of_fs fs.Forbidden)
-    pub same : SameBesidesOpens v w
-
   -- What acts come to where what was found at the destination went, and where nothing was found.
   pub record Ends (x : Carry) (line : Line) (all : List Act) (t : S) (v u w : World) : Type 0 where
     pub after_gone : Cleared x.rules x.ask.path asked.to v u → FillsNone all × Comes view x.ask.fields x.s line all t u w
-    pub after_none : Vacant x.rules asked.to v u → Comes view x.ask.fields x.s line all t v w ⊎ HeldOff x line all v w
+    pub after_none : Vacant x.rules asked.to v u → Comes view x.ask.fields x.s line all t v w
 
   -- What the last act comes to, by whether it is a MOVE.
   abbrev pub GoesRight : Carry → Bool → Type 0
@@ -330,17 +318,8 @@ module _ {S C F L E : Type 0} (view : View S C F) (lists : Listings S C L E) (wr
       let prepared = prepare x found v clear known.1.0.0 in
       let vacant : Vacant x.rules asked.to v u = record { world = p.1; same = p.0.0; missing = missing } in
       subst (λ z. EndsSo x z t v w) (sym is)
-      (vacant_ends x line t v w (known.0 ∙ ap (λ a. a ++ last_acts x v) (clearing_is x.rules v asked.to (Err fs.NotFound) missing)) (new_done view lists writes c asked (request x) v missing)
+      (comes_ends view lists writes c asked (request x) line made (last_acts x v) t v w
+      (known.0 ∙ ap (λ a. a ++ last_acts x v) (clearing_is x.rules v asked.to (Err fs.NotFound) missing)) (new_done view lists writes c asked (request x) v missing)
       ((last v prepared).after_none vacant))))
       (both_with (view.state x.s).told (view.state n).told _ IsWorld at (λ u e. x.given.trees n u reached e))
       told
-    where
-      vacant_ends : (x : Carry) (line : Line) (t : S) (v w : World) → (carry_by asked x.rules x.ask v).acts ≡ last_acts x v
-          → done_reply (carry_by asked x.rules x.ask v).done ≡ record { status = made.status; fields = made.fields; parts = [] }
-          → Came x line (last_acts x v) t v w ⊎ HeldOff x line (last_acts x v) v w → EndsSo x (the.unless line made) t v w
-      vacant_ends x line t v w acts done (inl came) = comes_ends view lists writes c asked (request x) line made (last_acts x v) t v w acts done came
-      vacant_ends x line t v w acts done (inr held) =
-          held_ends view lists writes c asked (request x) made line t v w
-          (ap (λ b. b && (begins (carry_by asked x.rules x.ask v).acts && over_hidden x v)) held.moved
-          ∙ (ap (λ a. begins a && over_hidden x v) acts ∙ (ap (λ b. b && over_hidden x v) held.changes ∙ held.over)))
-          held.refused held.same

@@ -1,5 +1,6 @@
 -- The last act of a COPY: what stands at the source is made again where nothing stands, row by row.
 use Rattle.std.proofs.Common.{◌≡◌, ◌<◌, ◌⊎◌, ◌&&◌, ◌||◌, ℕ, nat_lt, is_some, arith, Option, Some, List, [], ◌∷◌, length, map, Bool, true, false, not, cond, None, Result, Ok, Err, refl, sym, ap, subst, ◌∙◌, inl, inr, append-nil}
+use Rattle.std.proofs.lemmas.Bool.{false_from_ne_true as false_or}
 use Rattle.std.specs.List.{filter}
 use Rattle.dav_io.proofs.ToldLemmas.{both_map, both_same}
 use Rattle.dav_core.specs.declared.dav_error.DavError.TheVariants as dav
@@ -17,6 +18,9 @@ use Rattle.dav_core.specs.Statuses.{of_fs}
 use Rattle.dav_core.specs.Tree.{is_dir, is_linked, row_at}
 use Rattle.dav_core.specs.World.{Holds, IsWorld, SameBesidesOpens, World, bytes_of, bytes_or_none, is_numbered}
 use Rattle.dav_core.proofs.UnchangedLemmas.{same_besides}
+use Rattle.dav_core.proofs.Paths.{front_itself, names_equal as same_of, names_same as same_yes, parent_length}
+use Rattle.dav_core.proofs.Elements.{In, filter_in, in_filter}
+use Rattle.dav_core.proofs.Rows.{numbered_in, row_at_in}
 use Rattle.dav_store.specs.View.{Listings, View}
 use Rattle.dav_model.specs.declared.asked.Asked.{Asked}
 use Rattle.dav_model.specs.CarryPlans.{act_of, bytes_in, carrying, cleared, copied_rows, copy_act, copy_acts, denies_copy, fill_acts, hides, made_by, path_below}
@@ -34,7 +38,7 @@ use Rattle.dav_methods.specs.Lines.{Line, is_dir_there}
 use Rattle.dav_methods.specs.Pouring.{Writes}
 use Rattle.dav_methods.specs.Removing.{is_deep, line_of}
 use Rattle.dav_methods.proofs.ActsJoined.{Comes, FillsNone, comes_after, halted_comes, short_comes}
-use Rattle.dav_methods.proofs.Beside.{Beside, beside_same, front_up, numbered_in, rows_below, some_from, some_to}
+use Rattle.dav_methods.proofs.Beside.{Beside, beside_same, front_up, rows_below, some_from, some_to}
 use Rattle.dav_methods.proofs.CarryRight.{Carry, Cleared, Ends, GoesRight, Prepares, Vacant}
 use Rattle.dav_methods.proofs.CopyCovers.{dest, dest_below, dest_from, walk_of, whole_of}
 use Rattle.dav_methods.proofs.CopyHidden.{Fills, Over, Stands, copy_over, filled, make_over, over_comes}
@@ -48,8 +52,8 @@ use Rattle.dav_methods.proofs.DeleteRight.{Found, virtual_file}
 use Rattle.dav_methods.proofs.FreePlaces.{Free, row_place}
 use Rattle.dav_methods.proofs.MoveDone.{into_now, source_of}
 use Rattle.dav_methods.proofs.PlaceCleared.{Lacks, apart_places, lacks_beside, lacks_without, place_length}
-use Rattle.dav_methods.proofs.TreeRows.{DirAt, Parts, above, at_row, parent_length, row_at_in, false_or, filter_in, filter_once, front_itself, front_parent, front_then, in_filter, not_both, parts_of, same_of, same_yes}
-use Rattle.dav_methods.proofs.WalkOrder.{Ascends, In, Once, from_order, in_paths, path_in, paths}
+use Rattle.dav_methods.proofs.TreeRows.{DirAt, Parts, above, at_row, filter_once, front_parent, front_then, not_both, parts_of}
+use Rattle.dav_methods.proofs.WalkOrder.{Ascends, Once, from_order, in_paths, path_in, paths}
 use Rattle.dav_methods.proofs.WorkCovers.{in_walked_by, walked_by_ascends, walked_in_by}
 
 -- ---- the rows that are copied
@@ -482,7 +486,7 @@ module _ {S C F L E : Type 0} (view : View S C F) (lists : Listings S C L E) (wr
       → Ends view lists writes c asked x all (carrying false x.rules v x.ask.path asked) t v u w
   whole_ends x all t v u w gone misses = record {
     after_gone = gone;
-    after_none = λ m. (let (none, came) = misses m in inl (comes_after view x.ask.fields x.s all (carrying false x.rules v x.ask.path asked) t v u w none m.same came));
+    after_none = λ m. (let (none, came) = misses m in comes_after view x.ask.fields x.s all (carrying false x.rules v x.ask.path asked) t v u w none m.same came);
   }
 
   open_ends : (x : Carry view lists writes c asked) (found : Result Info FsError) (all : Line) (t : S) (v u w : World) → Prepares view lists writes c asked x found v
@@ -490,7 +494,7 @@ module _ {S C F L E : Type 0} (view : View S C F) (lists : Listings S C L E) (wr
       → Ends view lists writes c asked x all (carrying false x.rules v x.ask.path asked) t v u w
   open_ends x found all t v u w p open_at work_goes filling = record {
     after_gone = λ gone. cleared_right x found all t v u w p open_at gone work_goes;
-    after_none = λ m. inl (by m (row_at v.tree (resolved x.rules v.tree asked.to.names)) refl);
+    after_none = λ m. by m (row_at v.tree (resolved x.rules v.tree asked.to.names)) refl;
   }
     where
       by : Vacant x.rules asked.to v u → (o : Option Row) → row_at v.tree (resolved x.rules v.tree asked.to.names) ≡ o → Comes view x.ask.fields x.s all (carrying false x.rules v x.ask.path asked) t v w

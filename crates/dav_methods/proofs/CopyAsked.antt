@@ -1,15 +1,15 @@
 -- The acts of a copy, row by row, and its work as it is asked for beside the same work at its places.
-use Rattle.std.proofs.Common.{◌≡◌, ◌<◌, ◌&&◌, ◌||◌, ◌+◌, ◌++◌, ℕ, List, [], ◌∷◌, length, drop, map, Bool, true, false, not, cond, Option, None, Some, refl, sym, ap, subst, ◌∙◌, inr, append_assoc}
+use Rattle.std.proofs.Common.{◌≡◌, ◌<◌, ◌&&◌, ◌||◌, ◌++◌, ℕ, List, [], ◌∷◌, length, drop, map, Bool, true, false, not, cond, Option, None, Some, refl, sym, ap, subst, ◌∙◌, inr, append_assoc}
 use Rattle.std.proofs.Math.Seq.{drop-append_seam}
 use Rattle.dav_core.specs.declared.tree.Kind.{Kind}
-use Rattle.dav_core.specs.declared.tree.Kind.TheVariants.{Dir, File, Link}
 use Rattle.dav_core.specs.declared.tree.Row.{Row}
 use Rattle.dav_core.specs.DavPath.{WebPath}
 use Rattle.dav_core.specs.Edits.{makes}
 use Rattle.dav_core.specs.Listing.{name_of}
 use Rattle.dav_core.specs.Path.{Names, is_front, parent_of}
-use Rattle.dav_core.specs.Tree.{is_dir, is_link, row_at}
+use Rattle.dav_core.specs.Tree.{is_dir, row_at}
 use Rattle.dav_core.specs.World.{World, bytes_of}
+use Rattle.dav_core.proofs.Elements.{In}
 use Rattle.dav_model.specs.CarryPlans.{bytes_in, copy_act, path_below, slash_below}
 use Rattle.dav_model.specs.Plans.{Act, does, halts, line}
 use Rattle.dav_model.specs.Rules.{Rules}
@@ -24,7 +24,7 @@ use Rattle.dav_methods.proofs.CopyCovers.{CoversAll, dir_walk, file_walk, walk_o
 use Rattle.dav_methods.proofs.CopyWork.{Coming, shorter}
 use Rattle.dav_methods.proofs.RemovalWork.{StandsAs}
 use Rattle.dav_methods.proofs.TreeRows.{Parts, above, not_both, only_row}
-use Rattle.dav_methods.proofs.WalkOrder.{In, in_paths}
+use Rattle.dav_methods.proofs.WalkOrder.{in_paths}
 use Rattle.dav_methods.proofs.WorkCovers.{members}
 
 -- ---- acts
@@ -84,11 +84,6 @@ first_none rules source into b (Some row) acts none = row_none _ _ _ _ acts none
 pub copies_none : (rules : Rules) (source into : WebPath) (b : Base rules source into) (left : List Names) → FillsNone (acts_at rules source into b left)
 copies_none rules source into b [] = tt
 copies_none rules source into b (p ∷ left) = first_none rules source into b (row_at b.v.tree p) (acts_at rules source into b left) (copies_none rules source into b left)
-
-pub file_kind : (kind : Kind) → is_dir kind ≡ false → is_link kind ≡ false → kind ≡ File
-file_kind Dir e f = cc
-file_kind File e f = refl
-file_kind Link e f = cc
 
 pub file_bytes : (w : World) (row : Row) → is_dir row.kind ≡ false → bytes_in w row ≡ bytes_of w row.number
 file_bytes w row e = ap (λ b. cond b [] (bytes_of w row.number)) e

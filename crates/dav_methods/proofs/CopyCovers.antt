@@ -1,24 +1,25 @@
 -- The work of a copy covers the paths that are still to be made, in their order: a directory's members come behind it in the order of
 -- their names.
-use Rattle.std.proofs.Common.{◌≡◌, ◌<◌, ◌⊎◌, ◌==◌, ◌+◌, ◌-◌, ◌++◌, ℕ, List, [], ◌∷◌, length, take, drop, map, Bool, true, false, cond, refl, sym, ap, subst, ◌∙◌, arith, inl, inr, append_assoc, append-nil, length-append}
+use Rattle.std.proofs.Common.{◌≡◌, ◌<◌, ◌⊎◌, ◌==◌, ◌+◌, ◌++◌, ℕ, List, [], ◌∷◌, length, drop, map, Bool, true, false, cond, refl, sym, ap, subst, ◌∙◌, arith, inl, inr, append_assoc, append-nil}
 use Rattle.std.specs.List.{filter}
-use Rattle.std.proofs.Math.Seq.{drop-append_seam, take-append_seam}
-use Rattle.std.proofs.lemmas.Bool.{and_parts}
+use Rattle.std.proofs.Math.Seq.{drop-append_seam}
+use Rattle.std.proofs.lemmas.Bool.{and_parts, false_from_ne_true}
 use Rattle.dav_core.specs.declared.tree.Row.{Row}
 use Rattle.dav_core.specs.DavPath.{WebPath}
 use Rattle.dav_core.specs.Listing.{name_of, stands_in}
 use Rattle.dav_core.specs.Path.{Names, is_front, parent_of, same_names}
 use Rattle.dav_core.specs.Tree.{is_dir}
+use Rattle.dav_core.proofs.Paths.{front_itself, front_join, front_rest, names_equal, names_same, parent_and_last, parent_pushed}
+use Rattle.dav_core.proofs.Elements.{In, in_either}
 use Rattle.dav_model.specs.Walks.{dir_first, members_first}
 use Rattle.dav_methods.specs.declared.transfer.Transfer.{Transfer}
 use Rattle.dav_methods.specs.Copying.{transfers_in}
 use Rattle.dav_methods.specs.Follows.{child_of}
 use Rattle.dav_methods.proofs.Beside.{rows_below}
 use Rattle.dav_methods.proofs.CopyOrder.{before_below, dir_apart_first, dir_order}
-use Rattle.dav_methods.proofs.FreePlaces.{last_parted}
 use Rattle.dav_methods.proofs.RemovalWork.{StandsAs, all_itself}
-use Rattle.dav_methods.proofs.TreeRows.{Parts, above, false_or, front_itself, front_join, front_length, front_of, front_rest, front_then, not_both, only_row, same_of, same_yes}
-use Rattle.dav_methods.proofs.WalkOrder.{Ascends, In, Once, ascends_join, both_orders, in_either, in_left, in_paths, in_right, one_list, path_in, paths, paths_in}
+use Rattle.dav_methods.proofs.TreeRows.{Parts, above, front_length, front_of, front_then, not_both, only_row}
+use Rattle.dav_methods.proofs.WalkOrder.{Ascends, Once, ascends_join, both_orders, in_left, in_paths, in_right, one_list, path_in, paths, paths_in}
 use Rattle.dav_methods.proofs.WorkCovers.{AreMembers, all_come, all_members, in_all, in_walked, in_walked_by, member_path, members, members_ascend, walked, walked_by, walked_by_ascends, walked_in_by}
 
 -- ---- where a path is copied to
@@ -43,16 +44,11 @@ dest_child from to q name front =
     ∙ (ap (dest from to) (append_assoc from d (name ∷ []))
     ∙ (dest_parts from to (d ++ name ∷ []) ∙ sym (append_assoc to d (name ∷ []))))
 
-parent_last : (z : Names) (name : List ℕ) → parent_of (z ++ name ∷ []) ≡ z
-parent_last z name =
-    let long : length (z ++ name ∷ []) - 1 ≡ length z = omega (arith, length-append z (name ∷ [])) in
-    ap (λ n. take n (z ++ name ∷ [])) long ∙ take-append_seam z (name ∷ [])
-
 pub dest_parent : (from to p : Names) → is_front from (parent_of p) ≡ true → 0 < length p → parent_of (dest from to p) ≡ dest from to (parent_of p)
 dest_parent from to p front some =
-    let (name, is) = last_parted p some in
+    let (name, is) = parent_and_last p some in
     ap (λ z. parent_of (dest from to z)) is
-    ∙ (ap parent_of (dest_child from to (parent_of p) name front) ∙ parent_last (dest from to (parent_of p)) name)
+    ∙ (ap parent_of (dest_child from to (parent_of p) name front) ∙ parent_pushed (dest from to (parent_of p)) name)
 
 -- what lies below where one is copied to is copied from below it
 pub dest_front : (from to p q : Names) → is_front from p ≡ true → is_front from q ≡ true → is_front (dest from to q) (dest from to p) ≡ true → is_front q p ≡ true
@@ -79,7 +75,7 @@ members_below from at (r ∷ rows) front = by (is_front from r.path) refl (membe
         → filter (stands_in at) (rows_below from (r ∷ rows)) ≡ filter (stands_in at) (r ∷ rows)
     by true e rest = rw e (ap (λ z. cond (stands_in at r) (r ∷ z) z) rest)
     by false e rest =
-        let other : stands_in at r ≡ false = false_or (stands_in at r) (λ f. not_both (is_front from r.path) (inside f) e) in
+        let other : stands_in at r ≡ false = false_from_ne_true (stands_in at r) (λ f. not_both (is_front from r.path) (inside f) e) in
         rw e (rest ∙ sym (ap (λ b. cond b (r ∷ filter (stands_in at) rows) (filter (stands_in at) rows)) other))
 
 -- ---- the walk of a directory
@@ -162,10 +158,10 @@ file_walk now at parts s =
     (walked_in_by dir_first now at at (path_in at s.row now s.in_tree s.at) (front_itself at))
   where
     only : (q : Names) → In q (paths now) × (is_front at q ≡ true) → (b : Bool) → same_names at q ≡ b → q ≡ at
-    only q (j, front) true same = sym (same_yes at q same)
+    only q (j, front) true same = sym (names_same at q same)
     only q (j, front) false other =
         let (r, k, here) = in_paths q now j in
-        let d = above now r at parts k (subst (λ z. is_front at z ≡ true) (sym here) front) (λ e. not_both (same_names at q) (same_of at q (e ∙ here)) other) in
+        let d = above now r at parts k (subst (λ z. is_front at z ≡ true) (sym here) front) (λ e. not_both (same_names at q) (names_equal at q (e ∙ here)) other) in
         let one : d.row ≡ s.row = only_row now d.row s.row parts d.in_tree s.in_tree (d.at ∙ sym s.at) in
         not_both (is_dir d.row.kind) d.dir (ap (λ (y : Row). is_dir y.kind) one ∙ s.kind)
 

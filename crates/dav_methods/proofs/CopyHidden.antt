@@ -2,7 +2,7 @@
 use Rattle.std.proofs.Common.{◌≡◌, ◌⊎◌, ◌&&◌, ◌||◌, ℕ, List, [], ◌∷◌, take, Bool, true, false, not, cond, Option, None, Some, Result, Ok, Err, refl, sym, ap, subst, ◌∙◌, inl, inr}
 use Rattle.dav_io.specs.Counts.{Rose}
 use Rattle.dav_io.specs.Told.{Both}
-use Rattle.dav_io.proofs.ToldLemmas.{both_map, both_same}
+use Rattle.dav_io.proofs.ToldLemmas.{both_and, both_map, both_same}
 use Rattle.dav_core.specs.declared.dav_error.DavError.{DavError}
 use Rattle.dav_core.specs.declared.dav_error.DavError.TheVariants as dav
 use Rattle.dav_core.specs.declared.error.FsError.{FsError}
@@ -16,6 +16,7 @@ use Rattle.dav_core.specs.Statuses.{closes, of_fs, status_of}
 use Rattle.dav_core.specs.Tree.{is_dir, is_linked}
 use Rattle.dav_core.specs.World.{Holds, SameBesidesOpens, World, bytes_of}
 use Rattle.dav_core.proofs.UnchangedLemmas.{same_besides, same_besides_then}
+use Rattle.dav_core.proofs.Elements.{In}
 use Rattle.dav_store.specs.View.{Listings, View}
 use Rattle.dav_model.specs.CarryPlans.{act_of}
 use Rattle.dav_model.specs.Conditions.{Fields}
@@ -36,7 +37,6 @@ use Rattle.dav_methods.proofs.ActsJoined.{AllDone, Comes, Halted, comes_after, h
 use Rattle.dav_methods.proofs.CallDone.{allowed_comes}
 use Rattle.dav_methods.proofs.EditsJoined.{filled_after}
 use Rattle.dav_methods.proofs.TreeRows.{Parts, look_row}
-use Rattle.dav_methods.proofs.WalkOrder.{In}
 
 -- what is told of a later store, where more is known of an earlier one
 both_first : {A : Type 0} (old mid new : Option A) (P Q : A → A → Type 0) → Both old new Q → Both old mid P → Both old new (λ a b. Q a b × (i : A) × P a i)
@@ -45,12 +45,6 @@ both_first None mid (Some b) P Q q p = absurd q
 both_first (Some a) mid None P Q q p = absurd q
 both_first (Some a) None (Some b) P Q q p = absurd p
 both_first (Some a) (Some i) (Some b) P Q q p = (q, i, p)
-
-both_and : {A : Type 0} (old new : Option A) (P Q : A → A → Type 0) → Both old new P → Both old new Q → Both old new (λ a b. P a b × Q a b)
-both_and None None P Q p q = tt
-both_and None (Some b) P Q p q = absurd p
-both_and (Some a) None P Q p q = absurd p
-both_and (Some a) (Some b) P Q p q = (p, q)
 
 -- ---- a file that is filled, behind what changes nothing
 

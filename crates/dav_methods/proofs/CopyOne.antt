@@ -20,6 +20,8 @@ use Rattle.dav_core.specs.Statuses.{of_fs}
 use Rattle.dav_core.specs.Tree.{has_dir, is_dir, is_dir_row, is_link, is_linked, row_at}
 use Rattle.dav_core.specs.World.{IsWorld, SameBesidesOpens, World}
 use Rattle.dav_core.proofs.UnchangedLemmas.{same_besides, same_besides_then}
+use Rattle.dav_core.proofs.Paths.{names_equal}
+use Rattle.dav_core.proofs.Elements.{In, all_in}
 use Rattle.dav_store.specs.View.{Listings, View}
 use Rattle.dav_model.specs.declared.asked.Asked.{Asked}
 use Rattle.dav_model.specs.CarryPlans.{carrying, fill_acts, hides, made_again, made_by}
@@ -48,8 +50,7 @@ use Rattle.dav_methods.proofs.CopyWork.{dir_made, older}
 use Rattle.dav_methods.proofs.ListingsLead.{listed_on, unread_on}
 use Rattle.dav_methods.proofs.OneGone.{Gone, dir_makes}
 use Rattle.dav_methods.proofs.OneRemoved.{has_none}
-use Rattle.dav_methods.proofs.TreeRows.{all_in, at_row, parts_of, same_of}
-use Rattle.dav_methods.proofs.WalkOrder.{In}
+use Rattle.dav_methods.proofs.TreeRows.{at_row, parts_of}
 
 -- ---- the directory that was made
 
@@ -72,7 +73,7 @@ made_there rules file u w world gone edited =
   where
     alone_there : (r : Row) → ((x : Row) × In x u.tree × (x.path ≡ r.path) × (x.kind ≡ r.kind)) ⊎ ((file ≡ r.path) × (Dir ≡ r.kind)) → (not (is_front file r.path) || same_names file r.path) ≡ true
     alone_there r (inl (x, i, at, own)) = ap (λ b. not b || same_names file r.path) (ap (is_front file) (sym at) ∙ gone.vacant.free x i)
-    alone_there r (inr (at, own)) = or_true (not (is_front file r.path)) (same_of file r.path at)
+    alone_there r (inr (at, own)) = or_true (not (is_front file r.path)) (names_equal file r.path at)
       where
         or_true : (a : Bool) {b : Bool} → b ≡ true → (a || b) ≡ true
         or_true true e = refl

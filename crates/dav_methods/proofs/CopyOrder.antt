@@ -2,8 +2,8 @@
 use Rattle.std.proofs.Common.{◌≡◌, ◌⊎◌, ◌++◌, ℕ, List, [], ◌∷◌, length, drop, true, refl, sym, subst, ◌∙◌, arith, inl, inr, append-nil}
 use Rattle.std.specs.Str.{bytes_eq}
 use Rattle.dav_core.specs.Path.{Names, is_front}
+use Rattle.dav_core.proofs.Paths.{front_rest}
 use Rattle.dav_model.specs.Walks.{dir_first, name_before}
-use Rattle.dav_methods.proofs.TreeRows.{front_rest}
 use Rattle.dav_methods.proofs.WalkOrder.{Compared, IsOrder, bytes_same, earlier, equal, later, name_then, names_compared, not_before, path_by, same_bytes}
 
 dirs_heads : (a b : List ℕ) (x y : Names) → Compared name_before a b → Compared dir_first x y → Compared dir_first (a ∷ x) (b ∷ y)

@@ -1,9 +1,9 @@
 -- While a tree is copied, the source is found where it was, and each path below the destination where it is asked: nothing stands there
 -- whose name folds like it.
-use Rattle.std.proofs.Common.{◌≡◌, ◌<◌, ◌⊎◌, ◌&&◌, ◌||◌, ◌+◌, ◌-◌, ◌++◌, List, [], ◌∷◌, length, drop, Bool, true, false, not, None, refl, sym, ap, subst, ◌∙◌, arith, inl, inr, append_assoc, append-nil, length-append}
+use Rattle.std.proofs.Common.{◌≡◌, ◌<◌, ◌⊎◌, ◌&&◌, ◌||◌, ◌+◌, ◌++◌, List, [], ◌∷◌, length, drop, Bool, true, false, not, None, refl, sym, ap, subst, ◌∙◌, arith, inl, inr, append_assoc, append-nil, length-append}
 use Rattle.std.specs.List.{list_any, list_all}
 use Rattle.std.proofs.Math.Seq.{drop-append_seam}
-use Rattle.std.proofs.lemmas.Bool.{and_parts}
+use Rattle.std.proofs.lemmas.Bool.{and_from, and_parts, false_from_ne_true, or_cases, or_parts}
 use Rattle.std.proofs.lemmas.List.{length-map}
 use Rattle.dav_core.specs.declared.tree.Kind.{Kind}
 use Rattle.dav_core.specs.declared.tree.Row.{Row}
@@ -13,6 +13,9 @@ use Rattle.dav_core.specs.Edits.{Edited, makes}
 use Rattle.dav_core.specs.Path.{Names, is_front, parent_of, same_names}
 use Rattle.dav_core.specs.Tree.{is_linked}
 use Rattle.dav_core.specs.World.{IsWorld, World}
+use Rattle.dav_core.proofs.Paths.{front_rest, names_equal, names_same, parent_and_last}
+use Rattle.dav_core.proofs.Elements.{In, all_at, all_in, in_either}
+use Rattle.dav_core.proofs.Rows.{row_at_in}
 use Rattle.dav_model.specs.Finding.{IsLoose, is_alike, resolved, resolved_from}
 use Rattle.dav_model.specs.Folds.{Name, fold_name, fold_path, folds_like}
 use Rattle.dav_model.specs.Plans.{has_link_below}
@@ -26,19 +29,11 @@ use Rattle.dav_methods.proofs.Beside.{Apart, front_up}
 use Rattle.dav_methods.proofs.CopyCovers.{dest, dest_below, dest_from, dest_parent}
 use Rattle.dav_methods.proofs.CopyWork.{older}
 use Rattle.dav_methods.proofs.FoundStill.{alike_folds, fold_append, found_timed}
-use Rattle.dav_methods.proofs.FreePlaces.{Free, last_parted}
+use Rattle.dav_methods.proofs.FreePlaces.{Free}
 use Rattle.dav_methods.proofs.PlaceCleared.{alike_exact, in_of, loose_then, of_in}
 use Rattle.dav_methods.proofs.RemovalWork.{none_any, timed_path}
-use Rattle.dav_methods.proofs.TreeRows.{DirAt, Parts, all_at, all_in, any_none, both, false_or, front_equal, front_length, front_of, front_parent, front_rest, front_then, not_both, parts_of, row_at_in, same_of, same_yes}
-use Rattle.dav_methods.proofs.WalkOrder.{In, in_either, in_left, in_paths, in_right, paths}
-
-or_parts : (a b : Bool) → (a || b) ≡ true → (a ≡ true) ⊎ (b ≡ true)
-or_parts true b e = inl refl
-or_parts false b e = inr e
-
-none_parts : (a b : Bool) → (a || b) ≡ false → (a ≡ false) × (b ≡ false)
-none_parts true b e = cc
-none_parts false b e = (refl, e)
+use Rattle.dav_methods.proofs.TreeRows.{DirAt, Parts, any_none, front_equal, front_length, front_of, front_parent, front_then, not_both, parts_of}
+use Rattle.dav_methods.proofs.WalkOrder.{in_left, in_paths, in_right, paths}
 
 -- ---- paths that fold alike
 
@@ -52,7 +47,7 @@ like_alike folds at name r = ap (λ z. same_names (at ++ name ∷ []) r.path || 
 -- Of rows of which no two fold alike one has such a path.
 pub only_like : (folds : Bool) (rows : List Row) → (folds ≡ true → no_twins rows ≡ true) → (r s : Row) → In r rows → In s rows → 0 < length s.path → is_like folds s.path r.path ≡ true → r.path ≡ s.path
 only_like folds rows apart r s i j some like =
-    let (last, is) = last_parted s.path some in
+    let (last, is) = parent_and_last s.path some in
     let at = parent_of s.path in
     let alike : is_alike folds at last r ≡ true = like_alike folds at last r ∙ (ap (λ z. is_like folds z r.path) (sym is) ∙ like) in
     loose_is_walk folds rows at (last ∷ []) r.path apart (inl (r, of_in rows r i, alike, refl))
@@ -64,7 +59,7 @@ apart_more : (row : Row) (rows : List Row) → no_twins rows ≡ true → ((r : 
 apart_more row [] apart none = refl
 apart_more row (r ∷ rows) apart none =
     let p = and_parts (list_all (λ other. not (are_twins r other)) rows) (no_twins rows) apart in
-    both (list_all (λ other. not (are_twins r other)) (rows ++ row ∷ [])) (no_twins (rows ++ row ∷ []))
+    and_from (list_all (λ other. not (are_twins r other)) (rows ++ row ∷ [])) (no_twins (rows ++ row ∷ []))
     (all_in (λ other. not (are_twins r other)) (rows ++ row ∷ []) (λ s i. by s p.0 (in_either s rows (row ∷ []) i)))
     (apart_more row rows p.1 (λ s i. none s (inr i)))
   where
@@ -135,8 +130,8 @@ folds_length p q e = sym (length-map p fold_name) ∙ (ap length e ∙ length-ma
 apart_dests : (folds : Bool) (from to : Names) (rows : List Row) → (folds ≡ true → no_twins rows ≡ true) → 0 < length from → (p q : Names) → In p (paths rows) → In q (paths rows)
     → is_front from p ≡ true → is_front from q ≡ true → (p ≡ q → ⊥) → is_like folds (dest from to q) (dest from to p) ≡ false
 apart_dests folds from to rows apart some p q i j below_p below_q other =
-    false_or (is_like folds (dest from to q) (dest from to p))
-    (λ e. by (or_parts (same_names (dest from to q) (dest from to p)) (folds && (same_names (parent_of (dest from to p)) (parent_of (dest from to q)) && folds_like (dest from to p) (dest from to q))) e))
+    false_from_ne_true (is_like folds (dest from to q) (dest from to p))
+    (λ e. by (or_cases (same_names (dest from to q) (dest from to p)) (folds && (same_names (parent_of (dest from to p)) (parent_of (dest from to q)) && folds_like (dest from to p) (dest from to q))) e))
   where
     long_q : 0 < length q
     long_q = omega (arith, some, front_length from q below_q)
@@ -153,7 +148,7 @@ apart_dests folds from to rows apart some p q i j below_p below_q other =
         let (r, k, here) = in_paths p rows i in
         let (s, l, there) = in_paths q rows j in
         let like : is_like folds q p ≡ true =
-        same_or (same_names q p) folds (same_names (parent_of p) (parent_of q)) (folds_like p q) e (same_of (parent_of p) (parent_of q) up) (same_of (fold_path p) (fold_path q) f) in
+        same_or (same_names q p) folds (same_names (parent_of p) (parent_of q)) (folds_like p q) e (names_equal (parent_of p) (parent_of q) up) (names_equal (fold_path p) (fold_path q) f) in
         let likely : is_like folds s.path r.path ≡ true = ap (λ z. is_like folds z r.path) there ∙ (ap (is_like folds q) here ∙ like) in
         other (sym here ∙ (only_like folds rows apart r s k l (subst (λ z. 0 < length z) (sym there) long_q) likely ∙ there))
 
@@ -168,26 +163,26 @@ apart_dests folds from to rows apart some p q i j below_p below_q other =
 
         at_top : (a : Bool) → same_names from p ≡ a → (b : Bool) → same_names from q ≡ b → ⊥
         at_top true g b h =
-            let here : from ≡ p = same_yes from p g in
+            let here : from ≡ p = names_same from p g in
             let there : from ≡ q = front_equal from q below_q (omega (arith, long, ap length here)) in
             other (sym here ∙ there)
         at_top false g true h =
-            let there : from ≡ q = same_yes from q h in
+            let there : from ≡ q = names_same from q h in
             let here : from ≡ p = front_equal from p below_p (omega (arith, long, ap length there)) in
             other (sym here ∙ there)
         at_top false g false h =
-            let up_p : is_front from (parent_of p) ≡ true = front_parent from p below_p (λ k. not_both (same_names from p) (same_of from p k) g) in
-            let up_q : is_front from (parent_of q) ≡ true = front_parent from q below_q (λ k. not_both (same_names from q) (same_of from q k) h) in
+            let up_p : is_front from (parent_of p) ≡ true = front_parent from p below_p (λ k. not_both (same_names from p) (names_equal from p k) g) in
+            let up_q : is_front from (parent_of q) ≡ true = front_parent from q below_q (λ k. not_both (same_names from q) (names_equal from q k) h) in
             never e
             (dest_same from to (parent_of p) (parent_of q) up_p up_q
-            (sym (dest_parent from to p up_p long_p) ∙ (same_yes (parent_of (dest from to p)) (parent_of (dest from to q)) up ∙ dest_parent from to q up_q long_q))) alike
+            (sym (dest_parent from to p up_p long_p) ∙ (names_same (parent_of (dest from to p)) (parent_of (dest from to q)) up ∙ dest_parent from to q up_q long_q))) alike
 
     by : (same_names (dest from to q) (dest from to p) ≡ true) ⊎ ((folds && (same_names (parent_of (dest from to p)) (parent_of (dest from to q)) && folds_like (dest from to p) (dest from to q))) ≡ true) → ⊥
-    by (inl same) = other (sym (dest_same from to q p below_q below_p (same_yes (dest from to q) (dest from to p) same)))
+    by (inl same) = other (sym (dest_same from to q p below_q below_p (names_same (dest from to q) (dest from to p) same)))
     by (inr all) =
         let (e, rest) = and_parts folds (same_names (parent_of (dest from to p)) (parent_of (dest from to q)) && folds_like (dest from to p) (dest from to q)) all in
         let (up, f) = and_parts (same_names (parent_of (dest from to p)) (parent_of (dest from to q))) (folds_like (dest from to p) (dest from to q)) rest in
-        fold_parts up (same_yes (fold_path (dest from to p)) (fold_path (dest from to q)) f) e
+        fold_parts up (names_same (fold_path (dest from to p)) (fold_path (dest from to q)) f) e
 
 -- ---- what a copy began with
 
@@ -224,7 +219,7 @@ module _ (rules : Rules) (alone : rules.alone ≡ None) where
   -- Where a row is made that folds like none, no two fold alike.
   twinless_more : (row : Row) (rows : List Row) → (rules.folds ≡ true → no_twins rows ≡ true) → ((r : Row) → In r rows → is_like rules.folds row.path r.path ≡ false)
       → rules.folds ≡ true → no_twins (rows ++ row ∷ []) ≡ true
-  twinless_more row rows apart none folds = apart_more row rows (apart folds) (λ r i. by rules.folds folds (none_parts (same_names row.path r.path) (rules.folds && are_twins r row) (none r i)).1)
+  twinless_more row rows apart none folds = apart_more row rows (apart folds) (λ r i. by rules.folds folds (or_parts (same_names row.path r.path) (rules.folds && are_twins r row) (none r i)).1)
     where
       by : (f : Bool) → f ≡ true → {b : Bool} → (f && b) ≡ false → b ≡ false
       by true e n = n
@@ -323,18 +318,18 @@ module _ (rules : Rules) (alone : rules.alone ≡ None) where
         never : (q : Names) (r : Row) → In r b.v.tree → is_front b.to (parent_of (dest b.from b.to q)) ≡ true
             → (same_names (dest b.from b.to q) r.path ≡ true) ⊎ ((rules.folds && (same_names (parent_of r.path) (parent_of (dest b.from b.to q)) && folds_like r.path (dest b.from b.to q))) ≡ true) → ⊥
         never q r i below (inl same) =
-            not_both (is_front b.to r.path) (subst (λ z. is_front b.to z ≡ true) (same_yes (dest b.from b.to q) r.path same) (dest_below b.from b.to q)) (b.free r i)
+            not_both (is_front b.to r.path) (subst (λ z. is_front b.to z ≡ true) (names_same (dest b.from b.to q) r.path same) (dest_below b.from b.to q)) (b.free r i)
         never q r i below (inr all) =
             let (e, rest) = and_parts rules.folds (same_names (parent_of r.path) (parent_of (dest b.from b.to q)) && folds_like r.path (dest b.from b.to q)) all in
             let (up, f) = and_parts (same_names (parent_of r.path) (parent_of (dest b.from b.to q))) (folds_like r.path (dest b.from b.to q)) rest in
-            above_free (parent_of r.path) (subst (λ z. is_front b.to z ≡ true) (sym (same_yes (parent_of r.path) (parent_of (dest b.from b.to q)) up)) below) r i (front_up r.path)
+            above_free (parent_of r.path) (subst (λ z. is_front b.to z ≡ true) (sym (names_same (parent_of r.path) (parent_of (dest b.from b.to q)) up)) below) r i (front_up r.path)
 
         by : (q : Names) → is_front b.from q ≡ true → (r : Row) → In r b.v.tree → (a : Bool) → same_names b.from q ≡ a → is_like rules.folds (dest b.from b.to q) r.path ≡ false
         by q front r i true same =
-            ap (λ z. is_like rules.folds z r.path) (ap (dest b.from b.to) (sym (same_yes b.from q same)) ∙ dest_from b.from b.to) ∙ b.lone r i
+            ap (λ z. is_like rules.folds z r.path) (ap (dest b.from b.to) (sym (names_same b.from q same)) ∙ dest_from b.from b.to) ∙ b.lone r i
         by q front r i false other =
-            let up : is_front b.from (parent_of q) ≡ true = front_parent b.from q front (λ e. not_both (same_names b.from q) (same_of b.from q e) other) in
+            let up : is_front b.from (parent_of q) ≡ true = front_parent b.from q front (λ e. not_both (same_names b.from q) (names_equal b.from q e) other) in
             let below : is_front b.to (parent_of (dest b.from b.to q)) ≡ true =
             subst (λ z. is_front b.to z ≡ true) (sym (dest_parent b.from b.to q up (omega (arith, some, front_length b.from q front)))) (dest_below b.from b.to (parent_of q)) in
-            false_or (is_like rules.folds (dest b.from b.to q) r.path)
-            (λ e. never q r i below (or_parts (same_names (dest b.from b.to q) r.path) (rules.folds && (same_names (parent_of r.path) (parent_of (dest b.from b.to q)) && folds_like r.path (dest b.from b.to q))) e))
+            false_from_ne_true (is_like rules.folds (dest b.from b.to q) r.path)
+            (λ e. never q r i below (or_cases (same_names (dest b.from b.to q) r.path) (rules.folds && (same_names (parent_of r.path) (parent_of (dest b.from b.to q)) && folds_like r.path (dest b.from b.to q))) e))

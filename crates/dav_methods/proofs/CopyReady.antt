@@ -1,10 +1,13 @@
 -- What is known of the world in which a COPY begins, behind its looks: where what was found at the destination went, or nothing stood.
 use Rattle.std.proofs.Common.{◌≡◌, ◌&&◌, List, Bool, true, false, not, Option, None, Some, refl, sym, ap, subst, ◌∙◌}
+use Rattle.std.proofs.lemmas.Bool.{false_from_ne_true}
 use Rattle.dav_core.specs.declared.tree.Row.{Row}
 use Rattle.dav_core.specs.DavPath.{WebPath}
 use Rattle.dav_core.specs.Path.{Names, is_front, parent_of}
 use Rattle.dav_core.specs.Tree.{is_dir, is_link, is_linked, row_at}
 use Rattle.dav_core.specs.World.{IsWorld, World}
+use Rattle.dav_core.proofs.Paths.{front_itself, parent_and_last}
+use Rattle.dav_core.proofs.Elements.{In, all_in, filter_in, in_filter}
 use Rattle.dav_model.specs.Finding.{is_alike, is_virtual, resolved}
 use Rattle.dav_model.specs.Plans.{has_link_below}
 use Rattle.dav_model.specs.Rules.{Rules}
@@ -15,16 +18,15 @@ use Rattle.dav_methods.proofs.Beneath.{row_on_way}
 use Rattle.dav_methods.proofs.Beside.{Apart, Beside, unlinked_from}
 use Rattle.dav_methods.proofs.CarryRight.{Seen}
 use Rattle.dav_methods.proofs.CopyPlaces.{Base, like_alike}
-use Rattle.dav_methods.proofs.FreePlaces.{Free, last_parted}
+use Rattle.dav_methods.proofs.FreePlaces.{Free}
 use Rattle.dav_methods.proofs.MoveDone.{clear_now, gone_in, into, into_now, some, source_now, source_of}
 use Rattle.dav_methods.proofs.PlaceCleared.{apart_places, dir_now, free_now, lacks_beside, none_alike, place_length}
 use Rattle.dav_methods.proofs.RemovalWork.{no_link_below, none_any}
-use Rattle.dav_methods.proofs.TreeRows.{DirAt, Parts, all_in, false_or, filter_in, front_itself, in_filter, parts_of}
-use Rattle.dav_methods.proofs.WalkOrder.{In}
+use Rattle.dav_methods.proofs.TreeRows.{DirAt, Parts, parts_of}
 
 -- Where no row stands nothing does.
 pub free_where : (tree : List Row) (to : Names) → Parts tree → row_at tree to ≡ None → Free to tree
-free_where tree to parts none r i = false_or (is_front to r.path) (λ e. (let (s, there) = row_on_way tree parts to r i e in let never : ◌≡◌ {A = Option Row} None (Some s) = sym none ∙ there in cc))
+free_where tree to parts none r i = false_from_ne_true (is_front to r.path) (λ e. (let (s, there) = row_on_way tree parts to r i e in let never : ◌≡◌ {A = Option Row} None (Some s) = sym none ∙ there in cc))
 
 -- ---- the world in which it begins
 
@@ -41,7 +43,7 @@ module _ (rules : Rules) (alone : rules.alone ≡ None) (from to : WebPath) (dir
   no_link = ap not (all_in (λ (row : Row). not (is_link row.kind && is_front at row.path)) u.tree (λ r i. ap not (by r i (is_front at r.path) refl)))
     where
       by : (r : Row) → In r u.tree → (b : Bool) → is_front at r.path ≡ b → (is_link r.kind && is_front at r.path) ≡ false
-      by r i true front = ap (λ z. z && is_front at r.path) (false_or (is_link r.kind) (λ e. no_link_below v.tree at r p.from_below (still r i front) e front))
+      by r i true front = ap (λ z. z && is_front at r.path) (false_from_ne_true (is_link r.kind) (λ e. no_link_below v.tree at r p.from_below (still r i front) e front))
       by r i false other = ap (λ z. is_link r.kind && z) other ∙ and_no (is_link r.kind)
         where
           and_no : (b : Bool) → (b && false) ≡ false
@@ -64,7 +66,7 @@ module _ (rules : Rules) (alone : rules.alone ≡ None) (from to : WebPath) (dir
       let goal = into rules alone from to dir v p plain in
       let source_here = source_now rules alone from to dir v p plain u.tree lacks in
       let goal_here = into_now rules alone from to dir v p plain u.tree lacks in
-      let parent = parent_pushed (resolved rules v.tree (parent_of to.names)) (last_parted to.names (some rules alone from to dir v p plain)).0 in
+      let parent = parent_pushed (resolved rules v.tree (parent_of to.names)) (parent_and_last to.names (some rules alone from to dir v p plain)).0 in
       let front : is_front at f.row.path ≡ true = subst (λ z. is_front at z ≡ true) (sym f.at) (front_itself at) in
       let base : Base rules from to = record {
         v = u;

@@ -2,7 +2,7 @@
 -- in their order.
 use Rattle.std.proofs.Common.{◌≡◌, ◌≤◌, ◌<◌, ◌⊎◌, ◌&&◌, ◌||◌, ◌==◌, ◌+◌, ◌++◌, ℕ, nat_lt, List, [], ◌∷◌, length, map, Bool, true, false, not, Option, None, Some, Result, Ok, Err, refl, sym, ap, subst, ◌∙◌, arith, inl, inr, length-append}
 use Rattle.std.specs.List.{filter, list_all}
-use Rattle.std.proofs.lemmas.Bool.{and_parts, cases_lt}
+use Rattle.std.proofs.lemmas.Bool.{and_from, and_parts, cases_lt, false_from_ne_true}
 use Rattle.dav_io.proofs.ToldLemmas.{both_map, both_same, both_then}
 use Rattle.dav_core.specs.declared.dav_error.DavError.{DavError}
 use Rattle.dav_core.specs.declared.dav_error.DavError.TheVariants as dav
@@ -20,6 +20,9 @@ use Rattle.dav_core.specs.Statuses.{of_fs}
 use Rattle.dav_core.specs.Tree.{has_dir, is_dir, is_dir_row, is_link, is_linked, row_at}
 use Rattle.dav_core.specs.World.{IsWorld, SameBesidesOpens, World, bytes_of, bytes_or_none}
 use Rattle.dav_core.proofs.UnchangedLemmas.{same_besides}
+use Rattle.dav_core.proofs.Paths.{front_itself}
+use Rattle.dav_core.proofs.Elements.{In, all_in, filter_in, in_filter}
+use Rattle.dav_core.proofs.Rows.{dir_kind, other_kind}
 use Rattle.dav_store.specs.View.{Listings, View}
 use Rattle.dav_model.specs.CarryPlans.{bytes_in, path_below}
 use Rattle.dav_model.specs.Conditions.{Fields}
@@ -48,10 +51,9 @@ use Rattle.dav_methods.proofs.FreePlaces.{copying_free, making_free}
 use Rattle.dav_methods.proofs.ListingsLead.{listed_on}
 use Rattle.dav_methods.proofs.RemovalRun.{all_left, both_with}
 use Rattle.dav_methods.proofs.RemovalWork.{StandsAs, no_link_below, none_any, unlinked}
-use Rattle.dav_methods.proofs.TreeRows.{DirAt, all_in, any_none, at_row, both, dir_kind, false_or, filter_in, front_itself, front_length, front_parent, front_then, fronts_meet, in_filter, not_both, parts_of}
-use Rattle.dav_methods.proofs.WalkOrder.{In}
+use Rattle.dav_methods.proofs.TreeRows.{DirAt, any_none, at_row, front_length, front_parent, front_then, fronts_meet, not_both, parts_of}
 use Rattle.dav_methods.proofs.WorkCovers.{all_members, listed_members, members, walked}
-use Rattle.dav_methods.proofs.CopyAsked.{Judged, Shadow, Shadows, act_for, acts_at, any_shut, asks_at, below_is, children_shadow, copies_none, dir_bytes, dir_deep, dir_go, file_bytes, file_go, file_kind, file_rest, file_shut, first_alone, first_any, first_dir, first_file}
+use Rattle.dav_methods.proofs.CopyAsked.{Judged, Shadow, Shadows, act_for, acts_at, any_shut, asks_at, below_is, children_shadow, copies_none, dir_bytes, dir_deep, dir_go, file_bytes, file_go, file_rest, file_shut, first_alone, first_any, first_dir, first_file}
 
 module _ {S C F L E : Type 0} (view : View S C F) (lists : Listings S C L E) (writes : Writes F) (c : C) (rules : Rules) (fields : Fields) (start : S)
     (knows : Knowledge) (follows : Follows view lists writes c rules knows start) (alone : rules.alone ≡ None) (source into : WebPath) (bare : Bool) where
@@ -206,7 +208,7 @@ module _ {S C F L E : Type 0} (view : View S C F) (lists : Listings S C L E) (wr
         judged
         ∙ (file_go _ _ _ _ _ _ (row_dir ∙ file) (either_is false open_at)
         ∙ (ap (λ (z : Names). does (makes (dest b.from b.to z) h.stands.row.kind (bytes_in b.v h.stands.row))) h.stands.at
-        ∙ (ap (λ kind. does (makes goal kind (bytes_in b.v h.stands.row))) (file_kind h.stands.row.kind (row_dir ∙ file) link)
+        ∙ (ap (λ kind. does (makes goal kind (bytes_in b.v h.stands.row))) (other_kind h.stands.row.kind (row_dir ∙ file) link)
         ∙ ap (λ bytes. does (makes goal File bytes)) (file_bytes b.v h.stands.row (row_dir ∙ file)))))
 
     shut_file_act : x.dir ≡ false → (is_forbidden rules x.from || is_forbidden rules x.to) ≡ true → act b at ≡ halts (line 403)
@@ -244,7 +246,7 @@ module _ {S C F L E : Type 0} (view : View S C F) (lists : Listings S C L E) (wr
   clear_dest : (b : Began) (u : World) (left : List Names) (q : Names) → Coming b.from b.to b.v u left → is_front b.to q ≡ true → is_linked u.tree q ≡ false
   clear_dest b u left q now front =
       any_none (λ row. is_link row.kind && is_front row.path q) u.tree
-      (λ r i. false_or (is_link r.kind && is_front r.path q) (λ e. never r i (and_parts (is_link r.kind) (is_front r.path q) e) (is_front b.to r.path) refl))
+      (λ r i. false_from_ne_true (is_link r.kind && is_front r.path q) (λ e. never r i (and_parts (is_link r.kind) (is_front r.path q) e) (is_front b.to r.path) refl))
     where
       on_way : (r : Row) → is_front r.path q ≡ true → is_front b.to r.path ≡ false → is_front r.path (parent_of b.to) ≡ true
       on_way r on other = by (cases_lt (length r.path) (length b.to))
@@ -260,7 +262,7 @@ module _ {S C F L E : Type 0} (view : View S C F) (lists : Listings S C L E) (wr
       never r i (link, on) false other =
           let (o, j, here, kind) = now.beside.back r i other in
           not_both (is_link o.kind && is_front o.path (parent_of b.to))
-          (both (is_link o.kind) (is_front o.path (parent_of b.to)) (ap is_link kind ∙ link) (subst (λ z. is_front z (parent_of b.to) ≡ true) (sym here) (on_way r on other)))
+          (and_from (is_link o.kind) (is_front o.path (parent_of b.to)) (ap is_link kind ∙ link) (subst (λ z. is_front z (parent_of b.to) ≡ true) (sym here) (on_way r on other)))
           (none_any (λ row. is_link row.kind && is_front row.path (parent_of b.to)) b.v.tree o b.up_clear j)
 
   -- ---- one path was made
@@ -448,7 +450,7 @@ module _ {S C F L E : Type 0} (view : View S C F) (lists : Listings S C L E) (wr
       let (more, cut, rest) = first_file bare b.v h.y h.others left parts stood h.covers in
       let here = subst (Coming b.from b.to b.v u) cut h.coming in
       let below = below_source b x works u left h in
-      let link : is_link h.stands.row.kind ≡ false = false_or (is_link h.stands.row.kind) (λ e. no_link_below b.v.tree b.from h.stands.row b.from_below h.stands.in_tree e below) in
+      let link : is_link h.stands.row.kind ≡ false = false_from_ne_true (is_link h.stands.row.kind) (λ e. no_link_below b.v.tree b.from h.stands.row b.from_below h.stands.in_tree e below) in
       let bytes : bytes_of u h.stands.row.number ≡ bytes_of b.v h.stands.row.number =
       ap bytes_or_none (h.coming.beside.files h.stands.row (filter_in (λ row. is_front b.from row.path) b.v.tree h.stands.row below h.stands.in_tree)) in
       let found = source_at b x works u left h u left h.coming h.kept in

@@ -1,5 +1,6 @@
 -- What stands while a tree is copied: the source as it was, what was made so far, and nothing where more is to come.
 use Rattle.std.proofs.Common.{◌≡◌, ◌<◌, ◌⊎◌, ◌++◌, ℕ, List, [], ◌∷◌, length, Bool, true, false, refl, sym, ap, subst, ◌∙◌, arith, inl, inr}
+use Rattle.std.proofs.lemmas.Bool.{false_from_ne_true}
 use Rattle.dav_core.specs.declared.tree.Kind.{Kind}
 use Rattle.dav_core.specs.declared.tree.Kind.TheVariants.{Dir}
 use Rattle.dav_core.specs.declared.tree.Row.{Row}
@@ -9,13 +10,15 @@ use Rattle.dav_core.specs.Edits.{Edited, makes}
 use Rattle.dav_core.specs.Path.{Names, is_front, parent_of, same_names}
 use Rattle.dav_core.specs.Tree.{is_dir, is_link, is_linked}
 use Rattle.dav_core.specs.World.{IsWorld, SameBesidesOpens, World}
+use Rattle.dav_core.proofs.Paths.{front_itself, parent_length}
+use Rattle.dav_core.proofs.Elements.{In, filter_in, in_either, in_filter, in_map, map_in}
 use Rattle.dav_model.specs.Walks.{dir_first}
 use Rattle.dav_methods.proofs.Beside.{Apart, Beside, beside_made, beside_same, beside_then, front_up, unlinked_from}
 use Rattle.dav_methods.proofs.CopyCovers.{dest, dest_below, dest_front, dest_parent}
 use Rattle.dav_methods.proofs.CopyOrder.{not_above}
-use Rattle.dav_methods.proofs.RemovalWork.{in_map, map_in, timed_kind, timed_path}
-use Rattle.dav_methods.proofs.TreeRows.{DirAt, false_or, filter_in, front_itself, front_length, front_of, in_filter, not_both, parent_length}
-use Rattle.dav_methods.proofs.WalkOrder.{Ascends, In, in_either, in_left, in_right, paths}
+use Rattle.dav_methods.proofs.RemovalWork.{timed_kind, timed_path}
+use Rattle.dav_methods.proofs.TreeRows.{DirAt, front_length, front_of, not_both}
+use Rattle.dav_methods.proofs.WalkOrder.{Ascends, in_left, in_right, paths}
 
 -- Of a copy from one path to another these source paths are still to come, in their order.
 pub record Coming (from to : Names) (v u : World) (left : List Names) : Type 0 where
@@ -129,7 +132,7 @@ coming_made from to v u w p kind bytes left apart c solid holds edited world = r
     still_free r q j (inl (x, i, at, own)) = subst (λ z. is_front (dest from to q) z ≡ false) at (c.free x i q (inr j))
     still_free r q j (inr (at, own)) =
         subst (λ z. is_front (dest from to q) z ≡ false) at
-        (false_or (is_front (dest from to q) (dest from to p))
+        (false_from_ne_true (is_front (dest from to q) (dest from to p))
         (λ e. not_above p q (c.ascends.0 q j) (dest_front from to p q (c.come p (inl refl)).1 (c.come q (inr j)).1 e)))
 
     still_up : (q : Names) → In q left → DirAt u.tree (parent_of (dest from to q)) ⊎ ((parent_of q ≡ p) ⊎ In (parent_of q) left) → HoldsRest p kind left → DirAt w.tree (parent_of (dest from to q)) ⊎ In (parent_of q) left

@@ -1,7 +1,7 @@
 -- DELETE over a store that follows rules is answered by its plan, and makes of the told world what the plan says.
-use Rattle.std.proofs.Common.{◌≡◌, ◌<◌, ◌⊎◌, ◌&&◌, ◌||◌, ◌++◌, ℕ, List, [], ◌∷◌, length, map, Bool, true, false, cond, not, Option, None, Some, Result, Ok, Err, refl, sym, ap, subst, ◌∙◌, arith, inl, inr, append_assoc, append-nil}
+use Rattle.std.proofs.Common.{◌≡◌, ◌<◌, ◌⊎◌, ◌&&◌, ◌||◌, ℕ, List, [], ◌∷◌, length, map, Bool, true, false, cond, not, Option, None, Some, Result, Ok, Err, refl, sym, ap, subst, ◌∙◌, arith, inl, inr}
 use Rattle.std.specs.List.{filter}
-use Rattle.std.proofs.lemmas.Bool.Decides.{nat_tests}
+use Rattle.std.proofs.lemmas.Bool.{or_parts}
 use Rattle.dav_io.specs.Counts.{Rose}
 use Rattle.dav_io.specs.Told.{Both}
 use Rattle.dav_io.proofs.ToldLemmas.{both_map, both_same, both_then}
@@ -20,9 +20,13 @@ use Rattle.dav_core.specs.Edits.{takes}
 use Rattle.dav_core.specs.Info.{Info}
 use Rattle.dav_core.specs.Path.{Names, is_front}
 use Rattle.dav_core.specs.Statuses.{closes, fs_status, of_fs, status_of}
-use Rattle.dav_core.specs.Tree.{below, below_kind, has_dir, is_dir, is_dir_row, is_file, is_link, is_linked, is_tree, look, look_from, row_at, standing}
+use Rattle.dav_core.specs.Tree.{below, below_kind, has_dir, is_dir, is_dir_row, is_file, is_link, is_linked, is_tree, look, row_at}
 use Rattle.dav_core.specs.World.{IsWorld, SameBesidesOpens, World}
 use Rattle.dav_core.proofs.UnchangedLemmas.{same_besides, same_besides_then}
+use Rattle.dav_core.proofs.Elements.{In, in_filter}
+use Rattle.dav_core.proofs.Rows.{row_at_in}
+use Rattle.dav_core.proofs.LookLemmas.{look_there}
+use Rattle.dav_core.proofs.Paths.{not_root}
 use Rattle.dav_store.specs.Files.{Spoiled}
 use Rattle.dav_store.specs.View.{Listings, View}
 use Rattle.dav_model.specs.Conditions.{Fields, condition, condition_of, strong}
@@ -50,15 +54,12 @@ use Rattle.dav_methods.proofs.FoundStill.{found_length}
 use Rattle.dav_methods.proofs.OneRemoved.{Taken, none_more, one_acts, one_none, one_removed}
 use Rattle.dav_methods.proofs.RemovalRun.{Case, Ended, Goes, acts, began, deep_in, keeps_file_row, keeps_row, removed, removed_whole, stops_in}
 use Rattle.dav_methods.proofs.RemovalWork.{StandsAs}
-use Rattle.dav_methods.proofs.TreeRows.{at_row, in_filter, not_both, only_row, parts_of, row_at_in}
-use Rattle.dav_methods.proofs.WalkOrder.{In, from_order, paths}
+use Rattle.dav_methods.proofs.Stages.{fs_line}
+use Rattle.dav_methods.proofs.TreeRows.{at_row, not_both, only_row, parts_of}
+use Rattle.dav_methods.proofs.WalkOrder.{from_order, paths}
 use Rattle.dav_methods.proofs.WorkCovers.{going, walked}
 
 -- ---- what a path is found as
-
-standing_row : (o : Option Row) (row : Row) → standing o ≡ Ok row → o ≡ Some row
-standing_row None row e = cc
-standing_row (Some r) row e = cc
 
 below_row : (o : Option Row) (found : Result Row DiskError) (row : Row) → below o found ≡ Ok row → found ≡ Ok row
 below_row None found row e = cc
@@ -68,12 +69,6 @@ below_row (Some r) found row e = by_kind r.kind e
     by_kind Dir e = e
     by_kind File e = cc
     by_kind Link e = cc
-
-pub look_there : (tree : List Row) (at names : Names) (row : Row) → look_from tree at names ≡ Ok row → row_at tree (at ++ names) ≡ Some row
-look_there tree at [] row e = subst (λ z. row_at tree z ≡ Some row) (sym (append-nil at)) (standing_row (row_at tree at) row e)
-look_there tree at (name ∷ names) row e =
-    subst (λ z. row_at tree z ≡ Some row) (append_assoc at (name ∷ []) names)
-    (look_there tree (at ++ name ∷ []) names row (below_row (row_at tree at) (look_from tree (at ++ name ∷ []) names) row e))
 
 -- what is found where rules change no path
 pub stands_plainly : (rules : Rules) (w : World) (path : WebPath) → rules.folds ≡ false → rules.macos ≡ false → rules.alone ≡ None
@@ -134,19 +129,6 @@ record IsLine (o : Option Halt) (d : DavError) : Type 0 where
   status : status_of d ≡ halt.status
   close : closes d ≡ halt.close
 
-fs_said : (e : FsError) → (status_of (of_fs e) ≡ fs_status e) × (closes (of_fs e) ≡ false)
-fs_said fs.NotFound = (refl, refl)
-fs_said fs.Forbidden = (refl, refl)
-fs_said fs.Exists = (refl, refl)
-fs_said fs.GeneralFailure = (refl, refl)
-fs_said fs.NotImplemented = (refl, refl)
-fs_said fs.InsufficientStorage = (refl, refl)
-fs_said fs.LoopDetected = (refl, refl)
-fs_said fs.PathTooLong = (refl, refl)
-fs_said fs.TooLarge = (refl, refl)
-fs_said fs.IsRemote = (refl, refl)
-fs_said fs.NoMemory = (refl, refl)
-
 -- what is found, and what is said of it
 unmet_line : (b : Bool) (o : Option ℕ) (d : DavError) → the.first_of (the.with_status o ∷ []) ≡ Err d → IsLine (first (failing o ∷ when b 403 ∷ [])) d
 unmet_line b None d e = cc
@@ -169,7 +151,7 @@ line_of_error shut fields (Ok there) (Err f) d finds e = absurd finds
 line_of_error shut fields (Err g) (Ok info) d finds e = absurd finds
 line_of_error shut fields (Err g) (Err f) d finds e =
     let same : d ≡ of_fs g = (let k : d ≡ of_fs f = cc in k ∙ ap of_fs finds) in
-    record { halt = line (fs_status g); is = refl; status = ap status_of same ∙ (fs_said g).0; close = ap closes same ∙ (fs_said g).1 }
+    record { halt = line (fs_status g); is = refl; status = ap status_of same ∙ (fs_line g).0; close = ap closes same ∙ (fs_line g).1 }
 
 -- No line fits but perhaps the last.
 record Passed (shut : Bool) (fields : Fields) (found : Result Stood FsError) (said : Result Info FsError) : Type 0 where
@@ -203,10 +185,6 @@ some_path : (names : Names) → own.is_root names ≡ false → 0 < length names
 some_path [] e = cc
 some_path (name ∷ names) e = omega arith
 
-not_root : (names : Names) → 0 < length names → is_root names ≡ false
-not_root [] lt = absurd (omega (arith, lt))
-not_root (name ∷ names) lt = grind (arith, nat_tests)
-
 -- the acts of a removal, path by path
 removals_are : (rules : Rules) (ends_at : Names → Bool) (rows all : List Row) → ((r : Row) → In r rows → ends_at r.path ≡ (stays_localized rules r || is_too_deep all r.path))
     → map (removal rules all) rows ≡ acts_by ends_at (paths rows)
@@ -239,10 +217,6 @@ both_from None None P Q both h = tt
 both_from None (Some b) P Q both h = absurd both
 both_from (Some a) None P Q both h = absurd both
 both_from (Some a) (Some b) P Q both h = (h a refl, both)
-
-pub clear_of : (a b : Bool) → (a || b) ≡ false → (a ≡ false) × (b ≡ false)
-clear_of true b e = cc
-clear_of false b e = (refl, e)
 
 -- ---- what was found stands in the tree
 
@@ -326,7 +300,7 @@ module _ {S C F L E : Type 0} (view : View S C F) (lists : Listings S C L E) (wr
   -- Where a link is met nothing is said.
   where_clear : (r : Given) (t : S) (v w : World) → (IsRegular rules k v → (is_linked v.tree (top_in v) ≡ false) × (has_link_below v.tree (top_in v) ≡ false) → Right r t v w) → Right r t v w
   where_clear r t v w h regular result is clear =
-      h regular (clear_of (is_linked v.tree (top_in v)) (has_link_below v.tree (top_in v)) clear) regular result is clear
+      h regular (or_parts (is_linked v.tree (top_in v)) (has_link_below v.tree (top_in v)) clear) regular result is clear
 
   -- ---- after the look
 

@@ -4,41 +4,23 @@ use Rattle.std.specs.Ordering.{int_eq}
 use Rattle.std.specs.List.{AllByRecursion}
 use Rattle.std.proofs.lemmas.Bool.Decides.{nat_tests}
 use Rattle.std.proofs.lemmas.Int.{ints}
+use Rattle.std.proofs.lemmas.Bool.{or_parts, or_right}
 use Rattle.dav_core.specs.declared.time.FileTime.{FileTime}
 use Rattle.dav_core.specs.declared.tree.Kind.{Kind}
 use Rattle.dav_core.specs.declared.tree.Kind.TheVariants.{File}
 use Rattle.dav_core.specs.declared.tree.Row.{Row}
 use Rattle.dav_core.specs.Changes.{moved_row, timed_row, without}
-use Rattle.dav_core.specs.Edits.{Becomes, Edit, Edited, IsNew, IsNext, fills, filled, made, makes, moved, moves, stored_as, taken, takes, timed_number, touched_to}
+use Rattle.dav_core.specs.Edits.{Becomes, Edited, IsNew, IsNext, fills, filled, made, makes, moved, moves, stored_as, taken, takes, timed_number, touched_to}
 use Rattle.dav_core.specs.Path.{Names, is_front, parent_of, same_names}
 use Rattle.dav_core.specs.Tree.{row_at}
-use Rattle.dav_core.specs.World.{Holds, NotAfter, SameBesidesOpens, Stored, World, bytes_of, bytes_or_none, is_numbered, put}
+use Rattle.dav_core.specs.World.{Holds, SameBesidesOpens, Stored, World, bytes_of, bytes_or_none, is_numbered, put}
 use Rattle.dav_core.proofs.UnchangedLemmas.{equal_keys, other_keys, put_other, put_same, same_besides_then}
+use Rattle.dav_core.proofs.EditsLemmas.{edit_then}
+use Rattle.dav_core.proofs.ChangedRows.{moved_number, timed_kind, timed_number as timed_keeps, timed_path}
+use Rattle.dav_core.proofs.TimesLemmas.{not_after_then}
+use Rattle.dav_core.proofs.Rows.{first_none, next_some}
 
 -- ---- what changes nothing, after an edit
-
-becomes_then : (v x m w : World) → Becomes v x m → SameBesidesOpens m w → Becomes v x w
-becomes_then v x m w b s = record {
-  tree = s.tree ∙ b.tree;
-  files = λ number held.
-      (let (there, same) = s.files number held in
-      let (before, made) = b.files number there in
-      (before, same ∙ made));
-  script = s.script ∙ b.script;
-  greatest = (let g = s.greatest in let h = b.greatest in omega arith);
-  latest = rw s.latest b.latest;
-}
-
-new_then : (v : World) (t : FileTime) (m w : World) → IsNew v t m → SameBesidesOpens m w → IsNew v t w
-new_then v t m w n s = record { later = n.later; used = rw s.latest n.used; nanos = n.nanos }
-
-pub edit_then : (edit : Edit) (v m w : World) → Edited edit v m → SameBesidesOpens m w → Edited edit v w
-edit_then (makes path kind bytes) v m w (number, t, u, next, new, touched, b) s =
-    (number, t, u, record { above = next.above; used = (let g = s.greatest in let h = next.used in omega arith) }, new_then v t m w new s, new_then v u m w touched s, becomes_then v _ m w b s)
-edit_then (fills number bytes) v m w (inl e) s = inl (e.0, same_besides_then v m w e.1 s)
-edit_then (fills number bytes) v m w (inr e) s = inr (e.0, e.1, new_then v e.1 m w e.2 s, becomes_then v _ m w e.3 s)
-edit_then (takes path) v m w (t, new, b) s = (t, new_then v t m w new s, becomes_then v _ m w b s)
-edit_then (moves from to) v m w (t, u, new, more, b) s = (t, u, new_then v t m w new s, new_then v u m w more s, becomes_then v _ m w b s)
 
 -- ---- who has a number
 
@@ -58,13 +40,6 @@ numbered_append n (r ∷ rows) row = ap (λ b. n == r.number || b) (numbered_app
     either true b c = refl
     either false b c = refl
 
-timed_keeps : (path : Names) (t : FileTime) (row : Row) → (timed_row path t row).number ≡ row.number
-timed_keeps path t row = by (same_names path row.path) refl
-  where
-    by : (b : Bool) → same_names path row.path ≡ b → (timed_row path t row).number ≡ row.number
-    by true e = rw e refl
-    by false e = rw e refl
-
 renewed_keeps : (number : ℕ) (t : FileTime) (row : Row) → (timed_number number t row).number ≡ row.number
 renewed_keeps number t row = by (row.number == number) refl
   where
@@ -83,10 +58,6 @@ new_numbered row bytes p n u =
 or_false : (b c : Bool) → c ≡ false → (b || c) ≡ true → b ≡ true
 or_false true c e f = refl
 or_false false c e f = let g : true ≡ false = sym f ∙ e in cc
-
-or_right : (b c : Bool) → c ≡ true → (b || c) ≡ true
-or_right true c e = refl
-or_right false c e = e
 
 -- what is held after it was held before, or is the new row's
 held_made : (row : Row) (bytes : List ℕ) (p : FileTime) (n : ℕ) (u : World) → (n == row.number) ≡ false → Holds u n ⊎ Holds (with_new row bytes p u) n → Holds u n
@@ -119,13 +90,6 @@ taken_held path dir n t u (inl h) = h
 taken_held path dir n t u (inr (inl s)) = inl (numbered_without path n u.tree (sym (numbered_map (timed_row dir t) n (without path u.tree) (timed_keeps dir t)) ∙ s))
 taken_held path dir n t u (inr (inr o)) = inr o
 
-moved_keeps : (from to : Names) (row : Row) → (moved_row from to row).number ≡ row.number
-moved_keeps from to row = by (is_front from row.path) refl
-  where
-    by : (b : Bool) → is_front from row.path ≡ b → (moved_row from to row).number ≡ row.number
-    by true e = rw e refl
-    by false e = rw e refl
-
 -- what is held after a move was held before
 moved_held : (from to old new : Names) (n : ℕ) (t p : FileTime) (u : World) → Holds u n ⊎ Holds (touched_to new p (touched_to old t (moved from to u))) n → Holds u n
 moved_held from to old new n t p u (inl h) = h
@@ -133,7 +97,7 @@ moved_held from to old new n t p u (inr (inl s)) =
     let left = map (moved_row from to) (without to u.tree) in
     let same : is_numbered (map (timed_row new p) (map (timed_row old t) left)) n ≡ is_numbered (without to u.tree) n =
     numbered_map (timed_row new p) n (map (timed_row old t) left) (timed_keeps new p)
-    ∙ (numbered_map (timed_row old t) n left (timed_keeps old t) ∙ numbered_map (moved_row from to) n (without to u.tree) (moved_keeps from to)) in
+    ∙ (numbered_map (timed_row old t) n left (timed_keeps old t) ∙ numbered_map (moved_row from to) n (without to u.tree) (moved_number from to)) in
     inl (numbered_without to n u.tree (sym same ∙ s))
 moved_held from to old new n t p u (inr (inr o)) = inr o
 
@@ -252,17 +216,6 @@ filled_bytes number bytes v w (inr (differs, t, later, becomes)) held =
 pub later_than : (a b c : ℤ) (k m n : ℕ) → (int_lt b a || (int_eq a b && nat_lt m k)) ≡ true → c ≤ℤ b → (c ≡ b → n ≤ m) → (int_lt c a || (int_eq a c && nat_lt n k)) ≡ true
 later_than a b c k m n e le f = grind (arith, ints, nat_tests)
 
-not_after_then : (a b c : FileTime) → NotAfter a b → NotAfter b c → NotAfter a c
-not_after_then a b c (p, f) (q, g) = (
-  omega (arith, ints),
-  λ e.
-      (let ab : a.secs ≡ b.secs = omega (arith, ints) in
-      let bc : b.secs ≡ c.secs = omega (arith, ints) in
-      let x : a.nanos ≤ b.nanos = f ab in
-      let y : b.nanos ≤ c.nanos = g bc in
-      omega arith),
-)
-
 abbrev file_row : Names → ℕ → FileTime → Row
 file_row path number t = record { path = path; kind = File; number = number; time = t }
 
@@ -280,10 +233,6 @@ other_row false number t p dir row e f = rw (e, f) refl
 own_row : (number : ℕ) (s t p : FileTime) (dir path : Names) → same_names dir path ≡ false
     → timed_number number t (timed_row dir p (file_row path number s)) ≡ timed_row dir p (file_row path number t)
 own_row number s t p dir path e = rw (e, itself number) refl
-
-or_parts : (a b : Bool) → (a || b) ≡ false → (a ≡ false) × (b ≡ false)
-or_parts true b e = cc
-or_parts false b e = (refl, e)
 
 rows_filled : (number : ℕ) (s t p : FileTime) (dir path : Names) (rows : List Row) → same_names dir path ≡ false → is_numbered rows number ≡ false
     → map (timed_number number t) (map (timed_row dir p) (rows ++ file_row path number s ∷ [])) ≡ map (timed_row dir p) (rows ++ file_row path number t ∷ [])
@@ -326,40 +275,17 @@ made_and_filled path number bytes s t p u v w apart free next dir made new q = (
   },
 )
 
--- the number of what stands at a path where a file was made
-path_kept : (dir : Names) (p : FileTime) (row : Row) → (timed_row dir p row).path ≡ row.path
-path_kept dir p row = by (same_names dir row.path) refl
-  where
-    by : (b : Bool) → same_names dir row.path ≡ b → (timed_row dir p row).path ≡ row.path
-    by true e = rw e refl
-    by false e = rw e refl
-
 found_is : (b : Bool) (row found : Row) → cond b (Some row) None ≡ Some found → found ≡ row
 found_is true row found e = cc
 found_is false row found e = cc
-
-none_found : (b : Bool) (row : Row) (rest : Option Row) → cond b (Some row) rest ≡ None → (b ≡ false) × (rest ≡ None)
-none_found true row rest e = cc
-none_found false row rest e = (refl, e)
-
-past_row : (b : Bool) (row found : Row) (rest : Option Row) → b ≡ false → cond b (Some row) rest ≡ Some found → rest ≡ Some found
-past_row true row found rest e f = cc
-past_row false row found rest e f = f
 
 pub made_found : (path dir : Names) (number : ℕ) (s p : FileTime) (found : Row) (rows : List Row) → row_at rows path ≡ None
     → row_at (map (timed_row dir p) (rows ++ file_row path number s ∷ [])) path ≡ Some found → found ≡ timed_row dir p (file_row path number s)
 made_found path dir number s p found [] none e = found_is _ (timed_row dir p (file_row path number s)) found e
 made_found path dir number s p found (row ∷ rows) none e =
-    let first = none_found (same_names path row.path) row (row_at rows path) none in
+    let first = first_none (same_names path row.path) row (row_at rows path) none in
     made_found path dir number s p found rows first.1
-    (past_row _ (timed_row dir p row) found _ (ap (same_names path) (path_kept dir p row) ∙ first.0) e)
-
-kind_kept : (dir : Names) (p : FileTime) (row : Row) → (timed_row dir p row).kind ≡ row.kind
-kind_kept dir p row = by (same_names dir row.path) refl
-  where
-    by : (b : Bool) → same_names dir row.path ≡ b → (timed_row dir p row).kind ≡ row.kind
-    by true e = rw e refl
-    by false e = rw e refl
+    (next_some _ (timed_row dir p row) found _ (ap (same_names path) (timed_path dir p row) ∙ first.0) e)
 
 -- a row is a regular file of this number
 pub record IsFile (row : Row) (number : ℕ) : Type 0 where
@@ -371,7 +297,7 @@ pub made_file : (path dir : Names) (number : ℕ) (s p : FileTime) (found : Row)
 made_file path dir number s p found rows none e =
     let is = made_found path dir number s p found rows none e in record {
       numbered = ap (λ (r : Row). r.number) is ∙ timed_keeps dir p (file_row path number s);
-      kind = ap (λ (r : Row). r.kind) is ∙ kind_kept dir p (file_row path number s);
+      kind = ap (λ (r : Row). r.kind) is ∙ timed_kind dir p (file_row path number s);
     }
 
 renewed_parts : (number : ℕ) (t : FileTime) (row : Row) → ((timed_number number t row).path ≡ row.path) × ((timed_number number t row).kind ≡ row.kind)

@@ -6,7 +6,8 @@ use Rattle.dav_core.specs.Edits.{Edited, fills, timed_number}
 use Rattle.dav_core.specs.World.{Holds, World, bytes_of}
 use Rattle.dav_core.proofs.TimesLemmas.{not_after_then}
 use Rattle.dav_core.proofs.UnchangedLemmas.{other_keys, put_other}
-use Rattle.dav_methods.proofs.EditsJoined.{edit_then, filled_after, filled_bytes, held_filled, later_than, put_like}
+use Rattle.dav_core.proofs.EditsLemmas.{edit_then}
+use Rattle.dav_methods.proofs.EditsJoined.{filled_after, filled_bytes, held_filled, later_than, put_like}
 
 row_twice : (number : ℕ) (t u : FileTime) (row : Row) → timed_number number u (timed_number number t row) ≡ timed_number number u row
 row_twice number t u row = by (row.number == number) refl

@@ -3,7 +3,7 @@ use Rattle.std.proofs.Common.{◌≡◌, ◌⊎◌, inl, inr, ◌||◌, ◌&&◌
 use Rattle.std.proofs.lemmas.List.{length-map}
 use Rattle.std.specs.List.{filter, find, list_any}
 use Rattle.std.proofs.Math.Seq.{take-append_seam}
-use Rattle.std.proofs.lemmas.Bool.{and_parts}
+use Rattle.std.proofs.lemmas.Bool.{and_parts, or_cases}
 use Rattle.std.proofs.lemmas.List.{take-append-drop}
 use Rattle.dav_core.proofs.Plain.{names_same}
 use Rattle.dav_core.specs.declared.tree.Row.{Row}
@@ -35,13 +35,9 @@ child_found folds tree at (name ∷ init) last row e = child_on folds tree at na
 
 -- ---- fewer rows
 
-or_parts : (a b : Bool) → (a || b) ≡ true → (a ≡ true) ⊎ (b ≡ true)
-or_parts true b e = inl refl
-or_parts false b e = inr e
-
 below_at : (folds : Bool) (at : Names) (name : Name) (row : Row) → is_alike folds at name row ≡ true → (x : Names) × (row.path ≡ at ++ x)
 below_at folds at name row e =
-    elim (or_parts (same_names (at ++ name ∷ []) row.path) (folds && (same_names (parent_of row.path) at && folds_like row.path (at ++ name ∷ []))) e) [
+    elim (or_cases (same_names (at ++ name ∷ []) row.path) (folds && (same_names (parent_of row.path) at && folds_like row.path (at ++ name ∷ []))) e) [
       | inl same ↦ (name ∷ [], sym (names_same (at ++ name ∷ []) row.path same))
       | inr all ↦ (let q = and_parts (same_names (parent_of row.path) at) (folds_like row.path (at ++ name ∷ [])) (and_parts folds (same_names (parent_of row.path) at && folds_like row.path (at ++ name ∷ [])) all).1 in
           (drop (length row.path - 1) row.path, sym (take-append-drop (length row.path - 1) row.path) ∙ ap (λ z. z ++ drop (length row.path - 1) row.path) (names_same (parent_of row.path) at q.0)))
@@ -136,7 +132,7 @@ fold_append (name ∷ a) b = ap (λ z. fold_name name ∷ z) (fold_append a b)
 
 pub alike_folds : (folds : Bool) (at : Names) (name : Name) (row : Row) → is_alike folds at name row ≡ true → fold_path row.path ≡ fold_path (at ++ name ∷ [])
 alike_folds folds at name row e =
-    elim (or_parts (same_names (at ++ name ∷ []) row.path) (folds && (same_names (parent_of row.path) at && folds_like row.path (at ++ name ∷ []))) e) [
+    elim (or_cases (same_names (at ++ name ∷ []) row.path) (folds && (same_names (parent_of row.path) at && folds_like row.path (at ++ name ∷ []))) e) [
       | inl same ↦ ap fold_path (sym (names_same (at ++ name ∷ []) row.path same))
       | inr all ↦ (let q = and_parts (same_names (parent_of row.path) at) (folds_like row.path (at ++ name ∷ [])) (and_parts folds (same_names (parent_of row.path) at && folds_like row.path (at ++ name ∷ [])) all).1 in
           names_same (fold_path row.path) (fold_path (at ++ name ∷ [])) q.1)

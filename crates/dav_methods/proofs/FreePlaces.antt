@@ -1,5 +1,6 @@
 -- Where nothing stands at a path, and a directory above it, something may be made or moved there.
-use Rattle.std.proofs.Common.{◌≡◌, ◌<◌, ◌-◌, ◌++◌, List, [], ◌∷◌, ℕ, length, drop, true, false, Option, None, Some, Result, Ok, refl, sym, ap, subst, ◌∙◌, arith, append_assoc, append-nil, length-append, take-append-drop}
+use Rattle.std.proofs.Common.{◌≡◌, ◌<◌, ◌++◌, List, [], ◌∷◌, ℕ, length, true, false, Option, None, Some, Result, Ok, refl, sym, ap, subst, ◌∙◌, append_assoc, append-nil}
+use Rattle.std.proofs.lemmas.Bool.{false_from_ne_true}
 use Rattle.dav_core.specs.declared.handle.DiskError.{DiskError}
 use Rattle.dav_core.specs.declared.tree.Kind.TheVariants.{Dir, File}
 use Rattle.dav_core.specs.declared.tree.Row.{Row}
@@ -8,11 +9,11 @@ use Rattle.dav_core.specs.Edits.{makes, moves}
 use Rattle.dav_core.specs.Path.{Names, is_front, parent_of, same_names}
 use Rattle.dav_core.specs.Tree.{is_dir, row_at}
 use Rattle.dav_core.specs.World.{World, bytes_of}
+use Rattle.dav_core.proofs.Paths.{front_itself, names_same, not_root, parent_and_last}
+use Rattle.dav_core.proofs.Rows.{dir_kind, row_at_in}
+use Rattle.dav_core.proofs.Elements.{In}
 use Rattle.dav_methods.proofs.Beside.{Apart}
-use Rattle.dav_methods.proofs.RemovalWork.{some_names}
-use Rattle.dav_methods.proofs.TreeRows.{DirAt, Parts, above, at_row, dir_kind, false_or, front_itself, front_of, look_row, longer, not_both, parent_length, row_at_in, same_yes}
-use Rattle.dav_methods.proofs.WalkOrder.{In}
-use Rattle.dav_methods.proofs.WorkCovers.{one_name}
+use Rattle.dav_methods.proofs.TreeRows.{DirAt, Parts, above, at_row, front_of, look_row, longer, not_both}
 
 -- nothing stands at a path or below it
 abbrev pub Free : Names → List Row → Type 0
@@ -33,14 +34,6 @@ places rows d at (name ∷ names) last parts i dir e =
     ∙ (places rows d (at ++ name ∷ []) names last parts i dir (e ∙ sym (append_assoc at (name ∷ []) names))
     ∙ ap (λ p. Ok (row_at rows p)) (append_assoc at (name ∷ []) (names ++ last ∷ [])))
 
--- a path is its parent's with a name behind it
-pub last_parted : (p : Names) → 0 < length p → (last : List ℕ) × (p ≡ parent_of p ++ last ∷ [])
-last_parted p some =
-    let rest : p ≡ parent_of p ++ drop (length p - 1) p = sym (take-append-drop (length p - 1) p) in
-    let long : length (drop (length p - 1) p) ≡ 1 = omega (arith, some, ap length rest, length-append (parent_of p) (drop (length p - 1) p), parent_length p) in
-    let (last, is) = one_name (drop (length p - 1) p) long in
-    (last, rest ∙ ap (λ z. parent_of p ++ z) is)
-
 pub none_at : (rows : List Row) (p : Names) → ((r : Row) → In r rows → r.path ≡ p → ⊥) → row_at rows p ≡ None
 none_at rows p none = by (row_at rows p) refl
   where
@@ -51,7 +44,7 @@ none_at rows p none = by (row_at rows p) refl
 -- below a directory what is found is the row
 pub row_place : (rows : List Row) (to : Names) → Parts rows → 0 < length to → DirAt rows (parent_of to) → place rows to ≡ Ok (row_at rows to)
 row_place rows to parts some d =
-    let (last, is) = last_parted to some in
+    let (last, is) = parent_and_last to some in
     ap (place_from rows []) is ∙ (places rows d.row [] (parent_of to) last parts d.in_tree d.dir d.at ∙ ap (λ p. Ok (row_at rows p)) (sym is))
 
 pub free_place : (rows : List Row) (to : Names) → Parts rows → 0 < length to → DirAt rows (parent_of to) → ((r : Row) → In r rows → r.path ≡ to → ⊥) → place rows to ≡ Ok None
@@ -68,10 +61,10 @@ moving_free rows o to parts i some long apart d free =
     ∙ (ap (moving_to rows o to) (free_place rows to parts long d (none_of_free to rows free)) ∙ judged)
   where
     other : same_names o.path to ≡ false
-    other = false_or (same_names o.path to) (λ e. not_both (is_front o.path to) (subst (λ p. is_front o.path p ≡ true) (same_yes o.path to e) (front_itself o.path)) apart.one)
+    other = false_from_ne_true (same_names o.path to) (λ e. not_both (is_front o.path to) (subst (λ p. is_front o.path p ≡ true) (names_same o.path to e) (front_itself o.path)) apart.one)
 
     judged : moving_to rows o to (Ok None) ≡ Ok (Some (moves o.path to))
-    judged = rw (some_names o.path some, some_names to long, other, apart.one) refl
+    judged = rw (not_root o.path some, not_root to long, other, apart.one) refl
 
 -- A directory may be made there.
 pub making_free : (rows : List Row) (to : Names) → Parts rows → 0 < length to → DirAt rows (parent_of to) → ((r : Row) → In r rows → r.path ≡ to → ⊥)

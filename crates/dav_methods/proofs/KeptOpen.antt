@@ -2,7 +2,7 @@
 use Rattle.std.proofs.Common.{◌≡◌, ◌≢◌, ◌==◌, ℕ, Bool, true, false, Option, None, ap, sym, ◌∙◌, refl, arith}
 use Rattle.dav_io.proofs.ToldLemmas.{both_same, both_then}
 use Rattle.dav_core.specs.Disk.{DiskState, Live}
-use Rattle.dav_core.specs.Unchanged.{Keeps, KeepsBut, SameListing, SameOpen}
+use Rattle.dav_core.specs.Unchanged.{KeepsBut, SameListing, SameOpen}
 use Rattle.dav_core.proofs.UnchangedLemmas.{differ, equal_keys, other_keys, same_listing_then, same_open_then}
 use Rattle.dav_store.specs.Frames.{KeepsOpen, KeepsOpenBut}
 pub use Rattle.dav_store.proofs.Staying.{open_after, open_kept, open_same, open_then}

@@ -2,6 +2,7 @@ mod OwnTags
 mod Unconditional
 mod Joined
 pub mod KeptOpen
+pub mod TablesKept
 mod TableLines
 mod PiecesWritten
 mod FilePut
@@ -11,6 +12,8 @@ mod Walking
 mod WalkRemoves
 mod WalkCopies
 mod LineRows
+pub mod LinesListed
+mod ReadingListed
 pub mod AnswersListed
 pub mod EditsJoined
 pub mod Stages
@@ -54,7 +57,6 @@ mod OneGone
 mod CarryOne
 mod CopyOne
 pub mod CarriedRight
-pub mod RemovalsListed
 mod Addresses
 mod Overlaps
 mod Leaving

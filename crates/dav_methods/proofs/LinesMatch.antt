@@ -67,16 +67,7 @@ dir_found (Err e) (Err f) finds = refl
 
 missing_error : (e : FsError) → Matches (refused_but_missing (Err e)) (refused_there (Err e))
 missing_error fs.NotFound = tt
-missing_error fs.Forbidden = (refl, refl)
-missing_error fs.Exists = (refl, refl)
-missing_error fs.GeneralFailure = (refl, refl)
-missing_error fs.NotImplemented = (refl, refl)
-missing_error fs.InsufficientStorage = (refl, refl)
-missing_error fs.LoopDetected = (refl, refl)
-missing_error fs.PathTooLong = (refl, refl)
-missing_error fs.TooLarge = (refl, refl)
-missing_error fs.IsRemote = (refl, refl)
-missing_error fs.NoMemory = (refl, refl)
+missing_error other = (refl, refl)
 
 pub missing_match : (x : Result Stood FsError) (found : Result Info FsError) → Finds x found → Matches (refused_but_missing found) (refused_there x)
 missing_match (Ok there) (Ok info) finds = tt

@@ -22,6 +22,7 @@ use Rattle.dav_model.specs.Plans.{Act, Ask, Halt, above, closing_when, does, edi
 use Rattle.dav_model.specs.Rules.{Knowledge, Rules}
 use Rattle.dav_model.specs.Written.{PartOf}
 use Rattle.dav_model.specs.Valid.{IsRegular}
+use Rattle.dav_model.proofs.JoiningLemmas.{part_none}
 use Rattle.dav_core.specs.declared.error.FsError.TheVariants as fs
 use Rattle.dav_methods.specs.Follows.{Calls, Follows, IfFound, Reached, RightIn, Told, UnlessShut, here}
 use Rattle.dav_methods.specs.Lines.{Given, found_or_failed, made, may_make, no_parent}
@@ -30,7 +31,7 @@ use Rattle.dav_methods.specs.Table.{Below, EndsMade, MkCalendars, MkCols, Run, a
 use Rattle.dav_methods.proofs.EditsJoined.{made_after}
 use Rattle.dav_methods.proofs.AboveFree.{above_free}
 use Rattle.dav_methods.proofs.LinesMatch.{calendar_match, first_three, make_match, parent_match}
-use Rattle.dav_methods.proofs.Stages.{Acts, At, Case, Clear, Embeds, EndsFor, Right, at_first, at_map, ends_done, ends_halted, ends_spoiled, fs_line, linked, look_stage, nothing_done, plan_of, planned, regular_same, right_in, spoiled_from, stands_plainly, unlinked}
+use Rattle.dav_methods.proofs.Stages.{Acts, At, Case, Clear, Embeds, EndsFor, Right, at_first, at_map, ends_done, ends_halted, ends_spoiled, fs_line, linked, look_stage, plan_of, planned, regular_same, right_in, spoiled_from, stands_plainly, unlinked}
 
 -- what is allowed is the making of a directory
 made_only : (at : Names) (found : Result (Option Row) DiskError) → (making_at found at ≡ Ok (Some (makes at Dir []))) ⊎ ((d : DiskError) × (making_at found at ≡ Err d))
@@ -93,7 +94,7 @@ module _ {S C F L E : Type 0} (view : View S C F) (lists : Listings S C L E) (wr
       (same_besides_then v u w same kept))
   refused_right x k n t (Err e) v u w acts same le (inr (spoiled, left)) =
       ends_spoiled view lists writes c planned linked {T = Unit} x e t v w (spoiled_from view lists writes c planned linked {T = Unit} x.s n t (Err e) le spoiled)
-      (nothing_done (plan_of view lists writes c planned linked x v).acts v w (same_besides_then v u w same left))
+      (part_none (plan_of view lists writes c planned linked x v).acts v w (same_besides_then v u w same left))
 
   call_right : (x : Case view lists writes c planned linked) (at : Names) (allowed : Allowed) (n t : S) (answer : Result Unit FsError) (v u w : World)
       → (allowed ≡ Ok (Some (makes at Dir []))) ⊎ ((d : DiskError) × (allowed ≡ Err d)) → (plan_of view lists writes c planned linked x v).acts ≡ unless (first (not_allowed allowed ∷ [])) (edits_of allowed)

@@ -1,6 +1,6 @@
 -- The last act of a MOVE: what stands at the source is moved to the destination, where nothing stands that was found.
-use Rattle.std.proofs.Common.{◌≡◌, ◌≤◌, ◌<◌, ◌⊎◌, ◌&&◌, ◌||◌, ◌++◌, arith, inl, inr, List, [], ◌∷◌, length, Bool, true, false, not, cond, Option, None, Some, Result, Ok, Err, refl, sym, ap, subst, ◌∙◌}
-use Rattle.std.proofs.lemmas.Bool.{and_parts}
+use Rattle.std.proofs.Common.{◌≡◌, ◌≤◌, ◌<◌, ◌&&◌, ◌||◌, ◌++◌, arith, inl, inr, List, [], ◌∷◌, length, Bool, true, false, not, cond, Option, None, Some, Result, Ok, Err, refl, sym, ap, subst, ◌∙◌}
+use Rattle.std.proofs.lemmas.Bool.{and_parts, false_from_ne_true as false_or, not-true as not_true}
 use Rattle.dav_io.proofs.ToldLemmas.{both_map}
 use Rattle.dav_core.specs.declared.error.FsError.{FsError}
 use Rattle.dav_core.specs.declared.error.FsError.TheVariants as fs
@@ -17,18 +17,21 @@ use Rattle.dav_core.specs.Statuses.{of_fs}
 use Rattle.dav_core.specs.Tree.{is_dir, is_linked, look, row_at}
 use Rattle.dav_core.specs.World.{SameBesidesOpens, World}
 use Rattle.dav_core.specs.Writing.{LeftBy}
-use Rattle.dav_core.proofs.UnchangedLemmas.{same_besides_then}
+use Rattle.dav_core.proofs.Paths.{front_itself, names_same as same_yes, not_root as some_names, parent_and_last as last_parted, parent_length}
+use Rattle.dav_core.proofs.Rows.{row_at_in}
+use Rattle.dav_core.proofs.Elements.{In}
+use Rattle.dav_core.proofs.LookLemmas.{look_there}
 use Rattle.dav_store.specs.View.{Listings, View}
 use Rattle.dav_model.specs.declared.asked.Asked.{Asked}
 use Rattle.dav_model.specs.declared.outcome.Outcome.{Outcome}
-use Rattle.dav_model.specs.CarryPlans.{act_of, begins, cleared, is_dir_over, move_acts, moves_by, moves_in}
+use Rattle.dav_model.specs.CarryPlans.{act_of, cleared, is_dir_over, move_acts, moves_by, moves_in}
 use Rattle.dav_model.specs.Finding.{is_forbidden, is_localized, is_virtual, resolved}
 use Rattle.dav_model.specs.Plans.{Act, does, halts, is_found, line, stands, unless, when}
 use Rattle.dav_model.specs.Head.{Stood}
 use Rattle.dav_model.specs.Rules.{Rules}
 use Rattle.dav_model.specs.Valid.{no_twins}
 use Rattle.dav_model.proofs.LooseWalks.{parent_pushed}
-use Rattle.dav_methods.specs.Follows.{Calls, CallsFor, IfBothFound, MovesBy, UnlessShut}
+use Rattle.dav_methods.specs.Follows.{Calls, IfBothFound, MeetsFile, MovesBy, UnlessShut}
 use Rattle.dav_methods.specs.Lines.{is_dir_there}
 use Rattle.dav_methods.specs.Lines as the
 use Rattle.dav_methods.specs.Pouring.{Writes}
@@ -39,15 +42,14 @@ use Rattle.dav_methods.proofs.ApartKept.{takes_apart}
 use Rattle.dav_methods.proofs.AboveFree.{above_free}
 use Rattle.dav_methods.proofs.CallDone.{allowed_comes, call_comes, call_done}
 use Rattle.dav_methods.proofs.Beside.{Apart, beside_taken, front_up, not_in_parent, some_from, some_to, unlinked_from}
-use Rattle.dav_methods.proofs.CarryRight.{Carry, Cleared, Ends, GoesRight, HeldOff, Prepares, Seen, Vacant}
-use Rattle.dav_methods.proofs.DeleteRight.{Found, found_at, look_there, seen_stood}
+use Rattle.dav_methods.proofs.CarryRight.{Carry, Cleared, Ends, GoesRight, Prepares, Seen, Vacant}
+use Rattle.dav_methods.proofs.DeleteRight.{Found, found_at, seen_stood}
 use Rattle.dav_methods.proofs.EditsJoined.{taken_after}
-use Rattle.dav_methods.proofs.FreePlaces.{last_parted, moving_free, none_at, none_of_free, row_place}
+use Rattle.dav_methods.proofs.FreePlaces.{moving_free, none_at, none_of_free, row_place}
 use Rattle.dav_methods.proofs.PlaceCleared.{Gone, Lacks, apart_places, dir_now, free_now, lacks_beside, lacks_without, link_now, place_length, place_now, source_found}
-use Rattle.dav_methods.proofs.RemovalWork.{some_names, taken_free}
+use Rattle.dav_methods.proofs.RemovalWork.{taken_free}
 use Rattle.dav_methods.proofs.TimedRows.{parts_taken}
-use Rattle.dav_methods.proofs.TreeRows.{DirAt, Parts, above, at_row, false_or, front_itself, look_row, not_both, not_true, parent_length, parts_of, row_at_in, same_yes}
-use Rattle.dav_methods.proofs.WalkOrder.{In}
+use Rattle.dav_methods.proofs.TreeRows.{DirAt, Parts, above, at_row, look_row, not_both, parts_of}
 
 -- the answer of a call, as a line
 pub answered_line : (outcome : Outcome) (moved : Result Unit FsError) → answered outcome moved ≡ the.unless (line_of moved) outcome
@@ -299,7 +301,7 @@ module _ {S C F L E : Type 0} (view : View S C F) (lists : Listings S C L E) (wr
 
   -- ---- nothing was found at the destination: the tree is as it was
 
-  module _ (x : Carry view lists writes c asked) (found : Result Info FsError) (v u : World) (moving_it : asked.moving ≡ true) (p : Prepares view lists writes c asked x found v)
+  module _ (x : Carry view lists writes c asked) (found : Result Info FsError) (v u : World) (p : Prepares view lists writes c asked x found v)
       (vacant : Vacant x.rules asked.to v u) (open_at : Shut x ≡ false) where
     abbrev from_at : Names
     from_at = resolved x.rules v.tree x.ask.path.names
@@ -331,16 +333,16 @@ module _ {S C F L E : Type 0} (view : View S C F) (lists : Listings S C L E) (wr
 
     -- no directory is to take the place of a file
     not_over : over ≡ false → (moved : Result Unit FsError) (m t : S) (w : World) → (view.state x.s).faults ≤ (view.state m).faults → MovesFrom moved m t from_at top u w → Came x moved (acts_of x v) t v w
-    not_over other moved m t w le (inl calls) =
+    not_over other moved m t w le (inl (calls, held)) =
         subst (λ a. Came x moved a t v w) (sym (plan_is false other))
         (comes_after view x.ask.fields x.s (line_of moved) (act_of (moving v.tree from_at top)) t v u w (moves_none v.tree from_at top) vacant.same
         (allowed_comes view lists writes c x.ask.fields x.s (moving v.tree from_at top) m t moved u w le
         (subst (λ (tree : List Row). Calls view lists writes c (moving tree from_at top) m moved t u w) vacant.same.tree calls)))
-    not_over other moved m t w le (inr (refused, y, gone, after)) =
+    not_over other moved m t w le (inr ((refused, row, looked, dir, edit, taken), y, gone, after)) =
         let room : moving v.tree from_at top ≡ Err NotDir → row_at v.tree top ≡ None =
         subst (λ q. is_dir_over (row_at v.tree q) (row_at v.tree top) ≡ false → moving v.tree q top ≡ Err NotDir → row_at v.tree top ≡ None) source.at
         (placed v.tree source.row top parts source.in_tree (some_to from_at top beside)) other in
-        absurd (taken_stands v.tree top gone.0 (subst (λ (tree : List Row). taking_file tree top ≡ Ok gone.0) vacant.same.tree gone.1)
+        absurd (taken_stands v.tree top edit (subst (λ (tree : List Row). taking_file tree top ≡ Ok edit) vacant.same.tree taken)
         (room (subst (λ (tree : List Row). moving tree from_at top ≡ Err NotDir) vacant.same.tree refused)))
 
     -- one is
@@ -389,27 +391,30 @@ module _ {S C F L E : Type 0} (view : View S C F) (lists : Listings S C L E) (wr
           (call_comes view lists writes c x.ask.fields x.s (moving y.tree from_at top) (moves from_at top) m t moved y w
           (over_moved x.rules x.alone x.ask.path asked.to (is_dir_there found) v p plain there is_there y.tree lacks) le after)
 
-      -- it is held off
-      held : (f : FsError) (w : World) → CallsFor (moving u.tree from_at top) f → SameBesidesOpens u w → HeldOff view lists writes c asked x (Err (of_fs f)) (acts_of x v) v w
-      held f w called kept = record {
-        moved = moving_it;
-        changes = ap begins acts;
-        over = ap (λ (y : Result Stood FsError). not (is_found y) && over) vacant.missing ∙ e;
-        refused = ap (λ g. Err (of_fs g)) (subst (λ a. CallsFor a f) refused_now called);
-        same = same_besides_then v u w vacant.same kept;
-      }
+      -- the directory meets a file
+      meets : MeetsFile u.tree from_at top
+      meets =
+          let (i, at) = row_at_in v.tree from_at some_parts.0 some_parts.2 in (
+            refused_now,
+            some_parts.0,
+            ap (λ (tree : List Row). look tree from_at) vacant.same.tree ∙ subst (λ q. look v.tree q ≡ Ok some_parts.0) at (look_row v.tree some_parts.0 parts i),
+            some_parts.4,
+            Some (takes top),
+            taken_now,
+          )
 
-      when_over : (moved : Result Unit FsError) (m t : S) (w : World) → (view.state x.s).faults ≤ (view.state m).faults → MovesFrom moved m t from_at top u w
-          → Came x moved (acts_of x v) t v w ⊎ HeldOff view lists writes c asked x (line_of moved) (acts_of x v) v w
-      when_over (Ok y) m t w le (inl (edit, is, edited)) = let never : Err NotDir ≡ Ok edit = sym refused_now ∙ is in cc
-      when_over (Err f) m t w le (inl (inl (called, kept))) = inr (held f w called kept)
-      when_over (Err f) m t w le (inl (inr (spoiled, left))) =
-          inl (came (Err f) t w (spoiled_comes view x.ask.fields x.s f (of_fs f) (does (takes top) ∷ does (moves from_at top) ∷ []) m t u w refl le spoiled (inl (subst (λ a. LeftBy true a u w) refused_now left))))
-      when_over moved m t w le (inr (refused, y, gone, after)) =
-          inl (came moved t w (gone_on moved m t y w le (call_done view lists writes c x.ask.fields x.s (taking_file u.tree top) (takes top) m t tt u y taken_now gone) after))
+      when_over : (moved : Result Unit FsError) (m t : S) (w : World) → (view.state x.s).faults ≤ (view.state m).faults → MovesFrom moved m t from_at top u w → Came x moved (acts_of x v) t v w
+      when_over (Ok y) m t w le (inl ((edit, is, edited), held)) = let never : Err NotDir ≡ Ok edit = sym refused_now ∙ is in cc
+      when_over (Err f) m t w le (inl (calls, held)) =
+          came (Err f) t w (spoiled_comes view x.ask.fields x.s f (of_fs f) (does (takes top) ∷ does (moves from_at top) ∷ []) m t u w refl le (held meets) (inl (kept calls)))
+        where
+          kept : Calls view lists writes c (moving u.tree from_at top) m (Err f) t u w → SameBesidesOpens u w
+          kept (inl (called, same)) = same
+          kept (inr (spoiled, left)) = subst (λ a. LeftBy true a u w) refused_now left
+      when_over moved m t w le (inr (met, y, gone, after)) =
+          came moved t w (gone_on moved m t y w le (call_done view lists writes c x.ask.fields x.s (taking_file u.tree top) (takes top) m t tt u y taken_now gone) after)
 
-    vacant_ends : (moved : Result Unit FsError) (m t : S) (w : World) → (view.state x.s).faults ≤ (view.state m).faults → Call x moved m t u w
-        → Came x moved (acts_of x v) t v w ⊎ HeldOff view lists writes c asked x (line_of moved) (acts_of x v) v w
+    vacant_ends : (moved : Result Unit FsError) (m t : S) (w : World) → (view.state x.s).faults ≤ (view.state m).faults → Call x moved m t u w → Came x moved (acts_of x v) t v w
     vacant_ends moved m t w le call = by over refl
       where
         same : u.tree ≡ v.tree
@@ -423,8 +428,8 @@ module _ {S C F L E : Type 0} (view : View S C F) (lists : Listings S C L E) (wr
             (ap (λ (tree : List Row). is_linked tree (resolved x.rules tree x.ask.path.names)) same ∙ p.from_clear)
             (ap (λ (tree : List Row). is_linked tree (resolved x.rules tree asked.to.names)) same ∙ p.to_clear)))
 
-        by : (b : Bool) → over ≡ b → Came x moved (acts_of x v) t v w ⊎ HeldOff view lists writes c asked x (line_of moved) (acts_of x v) v w
-        by false e = inl (not_over e moved m t w le calls)
+        by : (b : Bool) → over ≡ b → Came x moved (acts_of x v) t v w
+        by false e = not_over e moved m t w le calls
         by true e = when_over e moved m t w le calls
 
   -- What was found there went.
@@ -449,14 +454,14 @@ module _ {S C F L E : Type 0} (view : View S C F) (lists : Listings S C L E) (wr
     where
       once : row_at u.tree (resolved x.rules u.tree asked.to.names) ≡ None → MovesFrom moved m t (resolved x.rules u.tree x.ask.path.names) (resolved x.rules u.tree asked.to.names) u w
           → Calls view lists writes c (moving u.tree (resolved x.rules u.tree x.ask.path.names) (resolved x.rules u.tree asked.to.names)) m moved t u w
-      once nothing (inl calls) = calls
-      once nothing (inr (refused, y, gone, after)) = absurd (taken_stands u.tree (resolved x.rules u.tree asked.to.names) gone.0 gone.1 nothing)
+      once nothing (inl (calls, held)) = calls
+      once nothing (inr (met, y, gone, after)) = absurd (taken_stands u.tree (resolved x.rules u.tree asked.to.names) gone.0 gone.1 nothing)
 
   -- in both cases
-  move_ends : (x : Carry view lists writes c asked) (found : Result Info FsError) (moved : Result Unit FsError) (m t : S) (v u w : World) → asked.moving ≡ true → Prepares view lists writes c asked x found v
+  move_ends : (x : Carry view lists writes c asked) (found : Result Info FsError) (moved : Result Unit FsError) (m t : S) (v u w : World) → Prepares view lists writes c asked x found v
       → (view.state x.s).faults ≤ (view.state m).faults → UnlessShut view lists writes c (Shut x) moved u w (Call x moved m t u w)
       → Ends view lists writes c asked x (line_of moved) (acts_of x v) t v u w
-  move_ends x found moved m t v u w moving_it p le calls = by (Shut x) refl
+  move_ends x found moved m t v u w p le calls = by (Shut x) refl
     where
       by : (b : Bool) → Shut x ≡ b → Ends view lists writes c asked x (line_of moved) (acts_of x v) t v u w
       by true shut =
@@ -464,18 +469,18 @@ module _ {S C F L E : Type 0} (view : View S C F) (lists : Listings S C L E) (wr
           let (none, came) = shut_ends x moved t v u w shut is same in
           record {
             after_gone = λ gone. (none, came);
-            after_none = λ vacant. inl (comes_after view x.ask.fields x.s (line_of moved) (acts_of x v) t v u w none vacant.same came);
+            after_none = λ vacant. comes_after view x.ask.fields x.s (line_of moved) (acts_of x v) t v u w none vacant.same came;
           }
       by false open_at = record {
         after_gone = λ gone. cleared_ends x found moved m t v u w p gone open_at le (calls.called open_at);
-        after_none = λ vacant. vacant_ends x found v u moving_it p vacant open_at moved m t w le (calls.called open_at);
+        after_none = λ vacant. vacant_ends x found v u p vacant open_at moved m t w le (calls.called open_at);
       }
 
   -- The last act of a MOVE comes to what its plan says.
-  pub moves_right : (x : Carry view lists writes c asked) → asked.moving ≡ true → GoesRight view lists writes c asked x true
-  moves_right x moving_it found outcome m t r reached (moved, call, is) = (
+  pub moves_right : (x : Carry view lists writes c asked) → GoesRight view lists writes c asked x true
+  moves_right x found outcome m t r reached (moved, call, is) = (
     line_of moved,
     is ∙ answered_line outcome moved,
-    both_map (view.state m).told (view.state t).told _ _ (λ u w calls v p. move_ends x found moved m t v u w moving_it p (x.given.counts m reached) calls)
+    both_map (view.state m).told (view.state t).told _ _ (λ u w calls v p. move_ends x found moved m t v u w p (x.given.counts m reached) calls)
         (x.given.renames m t x.ask.path asked.to moved reached call),
   )

@@ -1,6 +1,7 @@
 -- Over one file that is served alone, where a directory came in the file's place: each path is found as that, and where it went nothing
 -- stands, so that a directory may be made there again and nothing can be moved from there.
 use Rattle.std.proofs.Common.{◌≡◌, ◌<◌, ◌++◌, List, [], ◌∷◌, length, Bool, true, false, not, cond, None, Some, Ok, Err, refl, sym, ap, subst, ◌∙◌, arith, append_assoc, append-nil}
+use Rattle.std.proofs.lemmas.Bool.{false_from_ne_true, not-true, not_from_false}
 use Rattle.dav_core.specs.declared.handle.DiskError.TheVariants.{NotDir, NotEmpty, NotFound}
 use Rattle.dav_core.specs.declared.tree.Kind.TheVariants.{Dir}
 use Rattle.dav_core.specs.declared.tree.Row.{Row}
@@ -11,17 +12,18 @@ use Rattle.dav_core.specs.Edits.{Edited, makes, takes}
 use Rattle.dav_core.specs.Path.{Names, is_front, parent_of}
 use Rattle.dav_core.specs.Tree.{has_dir, is_dir, is_dir_row, is_linked, look, look_from, row_at, standing}
 use Rattle.dav_core.specs.World.{IsWorld, SameBesidesOpens, World}
-use Rattle.dav_model.specs.Plans.{edits_of, first, not_allowed, stands, stays_full, taking, unless, when}
+use Rattle.dav_core.proofs.Paths.{front_itself, parent_and_last, parent_length}
+use Rattle.dav_core.proofs.Elements.{In, filter_in, in_filter}
+use Rattle.dav_model.specs.Plans.{edits_of, first, not_allowed, stays_full, taking, unless, when}
 use Rattle.dav_model.specs.Rules.{Rules}
 use Rattle.dav_model.specs.Valid.{TellsApart, no_twins}
 use Rattle.dav_methods.proofs.ActsJoined.{AllDone}
 use Rattle.dav_methods.proofs.ApartKept.{takes_apart}
 use Rattle.dav_methods.proofs.Beside.{front_up, not_in_parent, parts_without, unlinked_from}
 use Rattle.dav_methods.proofs.CopyPlaces.{is_like, only_like}
-use Rattle.dav_methods.proofs.FreePlaces.{Free, last_parted, making_free, none_at, none_of_free}
-use Rattle.dav_methods.proofs.RemovalWork.{back_taken, not_false, taken_free, up_taken}
-use Rattle.dav_methods.proofs.TreeRows.{DirAt, Parts, above, at_row, below_dir, false_or, filter_in, front_itself, front_of, in_filter, longer, look_row, not_both, not_true, parent_length, parts_of}
-use Rattle.dav_methods.proofs.WalkOrder.{In}
+use Rattle.dav_methods.proofs.FreePlaces.{Free, making_free, none_at, none_of_free}
+use Rattle.dav_methods.proofs.RemovalWork.{back_taken, taken_free, up_taken}
+use Rattle.dav_methods.proofs.TreeRows.{DirAt, Parts, above, at_row, below_dir, front_of, longer, look_row, not_both, parts_of}
 
 -- ---- where nothing stands nothing is found
 
@@ -50,7 +52,7 @@ nothing_moved rows file to v = ap (found_then (λ row. moving_to rows row to (pl
   where
     nowhere : look rows file ≡ Err NotFound
     nowhere =
-        let (last, is) = last_parted file v.some in
+        let (last, is) = parent_and_last file v.some in
         ap (look rows) is
         ∙ not_looked rows v.up.row [] (parent_of file) last v.parts v.up.in_tree v.up.dir v.up.at (ap (row_at rows) (sym is) ∙ none_at rows file (none_of_free file rows v.free))
 
@@ -79,11 +81,11 @@ vacant_without v file world some d =
       parts = parts_without file v.tree some parts;
       up = record {
         row = up.row;
-        in_tree = filter_in (λ row. not (is_front file row.path)) v.tree up.row (not_false (is_front file up.row.path) (subst (λ z. is_front file z ≡ false) (sym up.at) (not_in_parent file some))) up.in_tree;
+        in_tree = filter_in (λ row. not (is_front file row.path)) v.tree up.row (not_from_false (is_front file up.row.path) (subst (λ z. is_front file z ≡ false) (sym up.at) (not_in_parent file some))) up.in_tree;
         at = up.at;
         dir = up.dir;
       };
-      free = λ r i. not_true (is_front file r.path) (in_filter (λ row. not (is_front file row.path)) v.tree r i).1;
+      free = λ r i. not-true (is_front file r.path) (in_filter (λ row. not (is_front file row.path)) v.tree r i).1;
     }
 
 -- Nothing stands in its place now, nor a name that folds like its own, and no link is met.
@@ -116,7 +118,7 @@ gone_by rules file v m u world now apart some d clear edited same =
     lone : (r : Row) → In r u.tree → is_like rules.folds file r.path ≡ false
     lone r i =
         let (o, j, at, kind) = back r i in
-        false_or (is_like rules.folds file r.path)
+        false_from_ne_true (is_like rules.folds file r.path)
         (λ e. not_both (is_front file r.path)
         (subst (λ z. is_front file z ≡ true)
         (sym d.at ∙ (sym (only_like rules.folds v.tree apart o d.row j d.in_tree (subst (λ z. 0 < length z) (sym d.at) some)

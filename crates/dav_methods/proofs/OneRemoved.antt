@@ -21,6 +21,8 @@ use Rattle.dav_core.specs.Statuses.{of_fs}
 use Rattle.dav_core.specs.Tree.{has_dir, is_dir, is_linked, look}
 use Rattle.dav_core.specs.World.{IsWorld, SameBesidesOpens, World}
 use Rattle.dav_core.proofs.UnchangedLemmas.{same_besides}
+use Rattle.dav_core.proofs.Paths.{names_equal, names_same}
+use Rattle.dav_core.proofs.Elements.{In, all_at, all_in}
 use Rattle.dav_store.specs.View.{Listings, View}
 use Rattle.dav_model.specs.CarryPlans.{act_of}
 use Rattle.dav_model.specs.Conditions.{Fields}
@@ -43,8 +45,8 @@ use Rattle.dav_methods.proofs.CallDone.{allowed_comes}
 use Rattle.dav_methods.proofs.ListingsLead.{listed_on}
 use Rattle.dav_methods.proofs.RemovalRun.{all_left, both_with}
 use Rattle.dav_methods.proofs.RemovalWork.{unlinked}
-use Rattle.dav_methods.proofs.TreeRows.{Parts, all_at, all_in, dir_at, look_row, not_both, parts_of, same_of, same_yes}
-use Rattle.dav_methods.proofs.WalkOrder.{In, paths_in}
+use Rattle.dav_methods.proofs.TreeRows.{Parts, dir_at, look_row, not_both, parts_of}
+use Rattle.dav_methods.proofs.WalkOrder.{paths_in}
 use Rattle.dav_methods.proofs.WorkCovers.{all_come, in_all, is_member, listed_members, members, walked}
 
 -- ---- the plan
@@ -119,7 +121,7 @@ has_member tree at parts full =
     by r other (in_all at tree (members at tree) r.path (all_come at tree r.path parts (paths_in r tree i) front))
   where
     by : (r : Row) → same_names at r.path ≡ false → (r.path ≡ at) ⊎ ((s : Row) × In s (members at tree) × In r.path (walked tree s.path)) → (s : Row) × In s (members at tree)
-    by r other (inl e) = not_both (same_names at r.path) (same_of at r.path (sym e)) other
+    by r other (inl e) = not_both (same_names at r.path) (names_equal at r.path (sym e)) other
     by r other (inr (s, j, k)) = (s, j)
 
 none_in : (rows : List Row) → ((r : Row) → In r rows → ⊥) → rows ≡ []
@@ -138,7 +140,7 @@ has_none tree at leaf = none_in (filter (stands_in at) tree) never
     never r i =
         let m = is_member at tree r i in
         let q : (not (is_front at r.path) || same_names at r.path) ≡ true = all_at (λ row. not (is_front at row.path) || same_names at row.path) tree r leaf m.in_tree in
-        let here : at ≡ r.path = same_yes at r.path (same (is_front at r.path) (same_names at r.path) m.front q) in
+        let here : at ≡ r.path = names_same at r.path (same (is_front at r.path) (same_names at r.path) m.front q) in
         let short : length at ≡ length r.path = ap length here in
         absurd (omega (arith, m.long, short))
 

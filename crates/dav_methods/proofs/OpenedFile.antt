@@ -1,5 +1,5 @@
 -- The file that a PUT opened, in a told world: its being filled ends as the plan says.
-use Rattle.std.proofs.Common.{◌≡◌, ◌≤◌, ◌<◌, ◌-◌, ◌+◌, ◌&&◌, ◌++◌, inl, inr, ℕ, Bool, true, false, length, take, List, [], ◌∷◌, Option, None, Some, Result, Ok, Err, refl, sym, ap, subst, ◌∙◌, arith, append-nil, append_assoc}
+use Rattle.std.proofs.Common.{◌≡◌, ◌≤◌, ◌<◌, ◌-◌, ◌+◌, ◌&&◌, ◌++◌, inl, inr, ℕ, Bool, true, false, length, take, List, [], ◌∷◌, Option, None, Some, Result, Ok, Err, refl, sym, ap, subst, ◌∙◌, arith, append-nil}
 use Rattle.std.proofs.Math.Seq.{drop-nil}
 use Rattle.std.proofs.lemmas.List.Elements.{recursion_from_All}
 use Rattle.std.proofs.lemmas.List.{length-take-le}
@@ -11,22 +11,23 @@ use Rattle.dav_core.specs.declared.time.FileTime.{FileTime}
 use Rattle.dav_core.specs.declared.tree.Kind.TheVariants.{Dir, File, Link}
 use Rattle.dav_core.specs.declared.tree.Kind.{Kind}
 use Rattle.dav_core.specs.declared.tree.Row.{Row}
-use Rattle.dav_core.specs.Allowed.{Allowed, opening, opening_at, opening_row, place, place_from, through, through_kind}
+use Rattle.dav_core.specs.Allowed.{Allowed, opening, opening_at, opening_row, place, through, through_kind}
 use Rattle.dav_core.specs.Disk.{Live}
 use Rattle.dav_core.specs.Edits.{Edit, Edited, EditedBy, fills, makes}
 use Rattle.dav_core.specs.Path.{Names, parent_of, same_names}
 use Rattle.dav_core.specs.Tree.{has_dir, is_dir_row, is_link, is_linked, is_tree, look, row_at}
 use Rattle.dav_core.specs.World.{Holds, IsGiven, IsWorld, SameBesidesOpens, World, bytes_of, is_numbered}
 use Rattle.dav_core.specs.Writing.{appends, can_write, written}
-use Rattle.dav_core.proofs.PlaceLemmas.{look_place, stands_at}
+use Rattle.dav_core.proofs.PlaceLemmas.{look_place, place_there, stands_at}
 use Rattle.dav_core.proofs.Plain.{names_same}
 use Rattle.dav_core.proofs.UnchangedLemmas.{same_besides}
+use Rattle.dav_core.proofs.EditsLemmas.{edit_then}
 use Rattle.dav_model.specs.Conditions.{Fields}
 use Rattle.dav_model.specs.Head.{Reply}
 use Rattle.dav_model.specs.Plans.{put_acts, put_options}
 use Rattle.dav_model.specs.Written.{ByActs, PartOf, done_reply}
 use Rattle.dav_model.proofs.PlainWalks.{unlinked_row}
-use Rattle.dav_methods.proofs.EditsJoined.{edit_then, filled_after, filled_bytes, filled_file, made_after, made_bytes, made_file, made_filled}
+use Rattle.dav_methods.proofs.EditsJoined.{filled_after, filled_bytes, filled_file, made_after, made_bytes, made_file, made_filled}
 use Rattle.dav_methods.proofs.Stages.{found_numbered}
 
 -- ---- what stands at a path that may be put to
@@ -42,11 +43,6 @@ through_place (Some row) found o e = kind_place row.kind found o e
 
 some_place : (a o : Option Row) → ◌≡◌ {A = Result (Option Row) DiskError} (Ok a) (Ok o) → a ≡ o
 some_place a o e = cc
-
-pub place_row : (tree : List Row) (at names : Names) (o : Option Row) → place_from tree at names ≡ Ok o → row_at tree (at ++ names) ≡ o
-place_row tree at [] o e = ap (row_at tree) (append-nil at) ∙ some_place (row_at tree at) o e
-place_row tree at (name ∷ names) o e =
-    ap (row_at tree) (sym (append_assoc at (name ∷ []) names)) ∙ place_row tree (at ++ name ∷ []) names o (through_place (row_at tree at) (place_from tree (at ++ name ∷ []) names) o e)
 
 and_first : (a b : Bool) → (a && b) ≡ true → a ≡ true
 and_first true b e = refl
@@ -146,7 +142,7 @@ into_row File fields body at v u a there row edit same free stood kind allows ed
     let did : Edited (fills there.number []) u a = subst (λ o. EditedBy o u a) (sym is) edited in
     let seen : look v.tree at ≡ Ok there = look_place v.tree at ∙ ap stands_at stood in
     let holds : Holds u there.number = inl (ap (λ (tree : List Row). is_numbered tree there.number) same.tree ∙ found_numbered v.tree at there seen) in
-    into_old fields body at v a there row (place_row v.tree [] at (Some there) stood) kind (filled_after there.number [] v u a holds same did) found held
+    into_old fields body at v a there row (place_there v.tree [] at (Some there) stood) kind (filled_after there.number [] v u a holds same did) found held
 into_row Link fields body at v u a there row edit same free stood kind allows edited found held =
     let seen : look v.tree at ≡ Ok there = look_place v.tree at ∙ ap stands_at stood in
     let f : true ≡ false = sym (ap is_link kind) ∙ unlinked_row v.tree at there seen free in cc
@@ -158,7 +154,7 @@ into_place (Err d) fields body at v u a row edit is same free stood allows edite
 into_place (Ok None) fields body at v u a row edit is same free stood allows edited found held =
     let made : Some (makes at File []) ≡ edit = cc in
     let did : Edited (makes at File []) u a = subst (λ o. EditedBy o u a) (sym made) edited in
-    into_new fields body at v a row is (place_row v.tree [] at None stood) (made_after at File [] v u a same did) found held
+    into_new fields body at v a row is (place_there v.tree [] at None stood) (made_after at File [] v u a same did) found held
 into_place (Ok (Some there)) fields body at v u a row edit is same free stood allows edited found held =
     let by = row_allowed there.kind there refl in
     subst (λ o. Into fields o body v a row) (sym by)

@@ -1,14 +1,18 @@
 -- Where what stood at a path is gone, a path that led there is found as it was asked, below the directory above it, and nothing stands
 -- there; a path that led elsewhere is found where it was.
-use Rattle.std.proofs.Common.{◌≡◌, ◌≤◌, ◌⊎◌, ◌&&◌, ◌||◌, ◌+◌, ◌++◌, ◌<◌, inl, inr, Bool, true, false, not, None, List, [], ◌∷◌, drop, length, refl, sym, ap, subst, ◌∙◌, append_assoc, length-append, arith}
+use Rattle.std.proofs.Common.{◌≡◌, ◌≤◌, ◌&&◌, ◌||◌, ◌+◌, ◌++◌, ◌<◌, inl, inr, Bool, true, false, not, None, List, [], ◌∷◌, drop, length, refl, sym, ap, subst, ◌∙◌, append_assoc, length-append, arith}
+use Rattle.std.proofs.lemmas.Bool.{false_from_ne_true, not-true, not_from_false}
 use Rattle.std.specs.List.{list_any}
 use Rattle.dav_core.specs.declared.tree.Row.{Row}
 use Rattle.dav_core.specs.Changes.{without}
 use Rattle.dav_core.specs.Path.{Names, is_front, parent_of, same_names}
 use Rattle.dav_core.specs.Tree.{is_dir, is_link, is_linked}
 use Rattle.dav_core.specs.World.{World}
+use Rattle.dav_core.proofs.Paths.{front_itself, front_rest, names_equal}
+use Rattle.dav_core.proofs.Elements.{In, filter_in, in_filter}
+use Rattle.dav_core.proofs.Rows.{row_at_in}
 use Rattle.dav_model.specs.Finding.{IsLoose, IsOf, is_alike, resolved, resolved_from}
-use Rattle.dav_model.specs.Folds.{Name, fold_name, fold_path, folds_like}
+use Rattle.dav_model.specs.Folds.{Name, fold_path, folds_like}
 use Rattle.dav_model.specs.Overlap.{overlap, told_apart}
 use Rattle.dav_model.specs.Rules.{Rules}
 use Rattle.dav_model.specs.Valid.{TellsApart, no_twins}
@@ -17,12 +21,11 @@ use Rattle.dav_model.proofs.PlainWalks.{plain_resolved}
 use Rattle.dav_methods.proofs.ActsJoined.{AllDone, act_by, acts_by}
 use Rattle.dav_methods.proofs.ApartKept.{apart_fewer}
 use Rattle.dav_methods.proofs.Beneath.{row_on_way, taken_apart, walks}
-use Rattle.dav_methods.proofs.Beside.{Apart, Beside, parts_without, unlinked_from}
+use Rattle.dav_methods.proofs.Beside.{Apart, Beside, parts_without}
 use Rattle.dav_methods.proofs.FoundStill.{fold_append, found_folds, found_length, loose_below}
 use Rattle.dav_methods.proofs.FreePlaces.{Free}
-use Rattle.dav_methods.proofs.RemovalWork.{none_any, not_false}
-use Rattle.dav_methods.proofs.TreeRows.{DirAt, Parts, any_none, false_or, filter_in, front_itself, front_length, front_of, front_parent, front_rest, front_then, in_filter, not_both, not_true, row_at_in, same_of, same_yes}
-use Rattle.dav_methods.proofs.WalkOrder.{In}
+use Rattle.dav_methods.proofs.RemovalWork.{none_any}
+use Rattle.dav_methods.proofs.TreeRows.{DirAt, Parts, any_none, front_length, front_of, front_parent, front_then, not_both}
 
 -- ---- loose walks over rows that stand at the same paths
 
@@ -41,7 +44,7 @@ alike_same folds at name r s e = ap (λ (p : Names). same_names (at ++ name ∷ 
 
 pub alike_exact : (folds : Bool) (at : Names) (name : Name) (r : Row) → r.path ≡ at ++ name ∷ [] → is_alike folds at name r ≡ true
 alike_exact folds at name r e =
-    ap (λ b. b || (folds && (same_names (parent_of r.path) at && folds_like r.path (at ++ name ∷ [])))) (same_of (at ++ name ∷ []) r.path (sym e))
+    ap (λ b. b || (folds && (same_names (parent_of r.path) at && folds_like r.path (at ++ name ∷ [])))) (names_equal (at ++ name ∷ []) r.path (sym e))
 
 loose_now : (folds : Bool) (old now : List Row) (at names end : Names) → ((r : Row) → In r old → is_front r.path end ≡ true → (s : Row) × In s now × (s.path ≡ r.path))
     → ((r : Row) → In r now → (o : Row) × In o old × (o.path ≡ r.path)) → IsLoose folds old at names end → IsLoose folds now at names end
@@ -83,7 +86,7 @@ module _ (rules : Rules) (alone : rules.alone ≡ None) where
   apart_places tree from to e = by (is_front (told_apart rules.folds from) (told_apart rules.folds to)) (is_front (told_apart rules.folds to) (told_apart rules.folds from)) refl refl e
     where
       never : (a b : Names) → is_front (told_apart rules.folds a) (told_apart rules.folds b) ≡ false → is_front (resolved rules tree a) (resolved rules tree b) ≡ false
-      never a b f = false_or (is_front (resolved rules tree a) (resolved rules tree b))
+      never a b f = false_from_ne_true (is_front (resolved rules tree a) (resolved rules tree b))
           (λ g. not_both (is_front (told_apart rules.folds a) (told_apart rules.folds b))
           (subst (λ z. is_front z (told_apart rules.folds b) ≡ true) (told_place tree a)
           (subst (λ z. is_front (told_apart rules.folds (resolved rules tree a)) z ≡ true) (told_place tree b) (told_front rules.folds (resolved rules tree a) (resolved rules tree b) g))) f)
@@ -110,8 +113,8 @@ module _ (rules : Rules) (alone : rules.alone ≡ None) where
   lacks_without top v some parts apart = record {
     parts = parts_without top v.tree some parts;
     apart = λ folds. apart_fewer (λ (row : Row). not (is_front top row.path)) v.tree (apart folds);
-    up = λ r i other. (r, filter_in (λ row. not (is_front top row.path)) v.tree r (not_false (is_front top r.path) other) i, refl, refl);
-    back = λ r i. (let (j, kept) = in_filter (λ row. not (is_front top row.path)) v.tree r i in (not_true (is_front top r.path) kept, r, j, refl, refl));
+    up = λ r i other. (r, filter_in (λ row. not (is_front top row.path)) v.tree r (not_from_false (is_front top r.path) other) i, refl, refl);
+    back = λ r i. (let (j, kept) = in_filter (λ row. not (is_front top row.path)) v.tree r i in (not-true (is_front top r.path) kept, r, j, refl, refl));
   }
 
   pub lacks_beside : (from top : Names) (v u : World) → Beside from top v u → Parts u.tree → TellsApart rules u → Free top u.tree → Lacks top v.tree u.tree
@@ -135,7 +138,7 @@ module _ (rules : Rules) (alone : rules.alone ≡ None) where
       walks rules alone now names
       ∙ (sym (loose_is_walk rules.folds now [] names at l.apart
       (loose_now rules.folds old now [] names at
-      (λ r i front. (let (s, j, same, kind) = l.up r i (false_or (is_front top r.path)
+      (λ r i front. (let (s, j, same, kind) = l.up r i (false_from_ne_true (is_front top r.path)
       (λ e. not_both (is_front top (resolved rules old names)) (front_then top r.path (resolved rules old names) e (subst (λ z. is_front r.path z ≡ true) (sym here) front)) other)) in (s, j, same)))
       (λ r i. (let (out, o, j, same, kind) = l.back r i in (o, j, same))) (walk_is_loose rules.folds old [] names)))
       ∙ sym here)
@@ -162,7 +165,7 @@ module _ (rules : Rules) (alone : rules.alone ≡ None) where
     new_place = above_at ++ g.last ∷ []
 
     not_above : is_front top above_at ≡ false
-    not_above = false_or (is_front top above_at) (λ e. (let le : length top ≤ length above_at = front_length top above_at e in
+    not_above = false_from_ne_true (is_front top above_at) (λ e. (let le : length top ≤ length above_at = front_length top above_at e in
         let long : length top ≡ length g.up + 1 = place_length old names ∙ (ap length g.is ∙ length-append g.up (g.last ∷ [])) in
         let short : length above_at ≡ length g.up = place_length old g.up in
         omega (arith, le, long, short)))
@@ -174,7 +177,7 @@ module _ (rules : Rules) (alone : rules.alone ≡ None) where
 
     -- no name there is like it
     pub none_alike : list_any (is_alike rules.folds above_at g.last) now ≡ false
-    none_alike = any_none (is_alike rules.folds above_at g.last) now (λ r i. false_or (is_alike rules.folds above_at g.last r) (λ e. never r i e))
+    none_alike = any_none (is_alike rules.folds above_at g.last) now (λ r i. false_from_ne_true (is_alike rules.folds above_at g.last r) (λ e. never r i e))
       where
         up_walk : IsLoose rules.folds old [] g.up above_at
         up_walk = subst (IsLoose rules.folds old [] g.up) (sym (walks rules alone old g.up)) (walk_is_loose rules.folds old [] g.up)
@@ -198,7 +201,7 @@ module _ (rules : Rules) (alone : rules.alone ≡ None) where
         (loose_then rules.folds now g.lacks.parts [] g.up above_at (g.last ∷ []) new_place dir_now.row dir_now.in_tree dir_now.at up_now (inr (none_alike, refl)))))
 
     pub free_now : Free new_place now
-    free_now r i = false_or (is_front new_place r.path) (λ e. (let (s, there) = row_on_way now g.lacks.parts new_place r i e in
+    free_now r i = false_from_ne_true (is_front new_place r.path) (λ e. (let (s, there) = row_on_way now g.lacks.parts new_place r i e in
         let (j, same) = row_at_in now new_place s there in
         not_both (is_alike rules.folds above_at g.last s) (alike_exact rules.folds above_at g.last s same) (none_any (is_alike rules.folds above_at g.last) now s none_alike j)))
 

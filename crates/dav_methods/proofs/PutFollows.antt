@@ -29,6 +29,7 @@ use Rattle.dav_model.specs.Plans.{Act, Ask, Halt, first, has_parent, is_dir_foun
 use Rattle.dav_model.specs.Rules.{Knowledge, Rules}
 use Rattle.dav_model.specs.Valid.{IsRegular}
 use Rattle.dav_model.specs.Written.{ByActs, PartOf, done_reply}
+use Rattle.dav_model.proofs.JoiningLemmas.{part_none}
 use Rattle.dav_methods.specs.Follows.{CallsFor, Finds, Follows, IfFound, OpensBy, Reached, RightIn, Told, UnlessShut, WritesBy, here, opens as opened_from}
 use Rattle.dav_methods.specs.Lines.{Given, Line, done_over, fails_when, may_put, unless as answer_unless}
 use Rattle.dav_methods.specs.Pouring.{Writes}
@@ -38,7 +39,7 @@ use Rattle.dav_methods.specs.Table.{Below, Ends, Next, Run, Unless}
 use Rattle.dav_methods.proofs.LinesMatch.{first_three, put_match, when_match}
 use Rattle.dav_methods.proofs.MakingFollows.{below_stage, free_here}
 use Rattle.dav_methods.proofs.OpenedFile.{Into, fill_of, live_can, never_appends, put_into}
-use Rattle.dav_methods.proofs.Stages.{Acts, At, Case, Clear, EndsFor, Right, at_first, at_map, ends_done, ends_halted, ends_spoiled, fs_line, line_stage, linked, look_stage, nothing_done, plan_of, planned, regular_same, right_in, short_stage, spoiled_from}
+use Rattle.dav_methods.proofs.Stages.{Acts, At, Case, Clear, EndsFor, Right, at_first, at_map, ends_done, ends_halted, ends_spoiled, fs_line, line_stage, linked, look_stage, plan_of, planned, regular_same, right_in, short_stage, spoiled_from}
 
 -- ---- the checks
 
@@ -178,7 +179,7 @@ module _ {S C F L E : Type 0} (view : View S C F) (lists : Listings S C L E) (wr
           (same_besides_then v u a same kept)
       by open_at (kept, inr spoiled) =
           ends_spoiled view lists writes c planned linked {T = F} x e n v a (spoiled_from view lists writes c planned linked {T = F} x.s m n (Err e) le spoiled)
-          (nothing_done (plan_of view lists writes c planned linked x v).acts v a (same_besides_then v u a same kept))
+          (part_none (plan_of view lists writes c planned linked x v).acts v a (same_besides_then v u a same kept))
 
       by_shut : (shut : Bool) → is_forbidden x.rules x.ask.path ≡ shut → EndsFor view lists writes c planned linked x (Err (of_fs e)) n v a
       by_shut true shut =

@@ -9,7 +9,7 @@ use Rattle.dav_io.specs.Counts.{Rose}
 use Rattle.dav_io.specs.declared.failure.Failed.{Failed}
 use Rattle.dav_io.specs.Told.{Both}
 use Rattle.dav_io.proofs.AppendingLemmas.{rose_before}
-use Rattle.dav_io.proofs.ToldLemmas.{both_map, both_same, both_then}
+use Rattle.dav_io.proofs.ToldLemmas.{both_known, both_map, both_same, both_then}
 use Rattle.dav_core.specs.declared.dav_error.DavError.TheVariants.{Body}
 use Rattle.dav_core.specs.declared.error.FsError.{FsError}
 use Rattle.dav_core.specs.declared.method.DavMethod.TheVariants.{Put}
@@ -19,6 +19,7 @@ use Rattle.dav_core.specs.Statuses.{of_fs}
 use Rattle.dav_core.specs.World.{Holds, OpenFile, SameBesidesOpens, World, bytes_of}
 use Rattle.dav_core.specs.Writing.{appends, can_write, written}
 use Rattle.dav_core.proofs.UnchangedLemmas.{same_besides}
+use Rattle.dav_core.proofs.EditsLemmas.{edit_then}
 use Rattle.dav_store.specs.Bodies.{BodyState, GivesPiece}
 use Rattle.dav_store.specs.Frames.{OpensOne}
 use Rattle.dav_store.specs.Files.{Spoiled}
@@ -34,12 +35,12 @@ use Rattle.dav_methods.specs.Pouring.{FileStays, Poured, Stops, Writes, WritesFi
 use Rattle.dav_methods.specs.Putting.{AfterChecks, AfterOpening, MayPut, MayReplace, Puts}
 use Rattle.dav_methods.specs.Readers.{ReadIn, TellsBody}
 use Rattle.dav_methods.specs.Table.{Below, Next}
-use Rattle.dav_methods.proofs.EditsJoined.{edit_then, filled_bytes}
+use Rattle.dav_methods.proofs.EditsJoined.{filled_bytes}
 use Rattle.dav_methods.proofs.FilledTwice.{filled_twice}
 use Rattle.dav_methods.proofs.OpenedFile.{live_can, never_appends}
 use Rattle.dav_methods.proofs.PiecesWritten.{stays_poured}
 use Rattle.dav_methods.proofs.PutFollows.{Checked, Known, Opened, checked, opened_stage, opened_world, passed, still_spoiled, unslashed}
-use Rattle.dav_methods.proofs.Stages.{At, Case, Clear, EndsFor, Right, both_known, ends_done, ends_spoiled, linked, plan_of, planned, right_in}
+use Rattle.dav_methods.proofs.Stages.{At, Case, Clear, EndsFor, Right, ends_done, ends_spoiled, linked, plan_of, planned, right_in}
 
 -- ---- bytes
 

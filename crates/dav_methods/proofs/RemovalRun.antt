@@ -1,7 +1,7 @@
 -- Over a store that follows rules, what work does to the told world is what the removals that it covers do, in their order.
-use Rattle.std.proofs.Common.{◌≡◌, ◌<◌, ◌⊎◌, ◌&&◌, ◌||◌, ◌==◌, ◌+◌, ◌++◌, ℕ, suc, ◌-◌, nat_lt, slice_get, List, [], ◌∷◌, length, map, codes, Bool, true, false, not, Option, None, Some, Result, Ok, Err, refl, sym, ap, subst, ◌∙◌, inl, inr, append_assoc, append-nil, length-append, arith}
+use Rattle.std.proofs.Common.{◌≡◌, ◌<◌, ◌⊎◌, ◌&&◌, ◌||◌, ◌==◌, ◌+◌, ◌++◌, ℕ, nat_lt, List, [], ◌∷◌, length, map, codes, Bool, true, false, not, Option, None, Some, Result, Ok, Err, refl, sym, ap, subst, ◌∙◌, inl, inr, append_assoc, append-nil, length-append, arith}
 use Rattle.std.specs.List.{filter, list_all}
-use Rattle.std.proofs.lemmas.Bool.{and_parts}
+use Rattle.std.proofs.lemmas.Bool.{and_parts, and_right, false_from_ne_true, or_from}
 use Rattle.dav_io.specs.Told.{Both}
 use Rattle.dav_io.proofs.ToldLemmas.{both_map, both_same, both_then}
 use Rattle.dav_core.specs.declared.dav_error.DavError.{DavError}
@@ -19,6 +19,8 @@ use Rattle.dav_core.specs.Tree.{has_dir, is_dir, is_dir_row, is_linked, is_tree,
 use Rattle.dav_core.specs.World.{IsWorld, SameBesidesOpens, World}
 use Rattle.dav_core.specs.Writing.{LeftBy}
 use Rattle.dav_core.proofs.UnchangedLemmas.{same_besides}
+use Rattle.dav_core.proofs.Paths.{front_itself, last_pushed, names_equal, names_same, no_path_ends}
+use Rattle.dav_core.proofs.Elements.{In, all_in, in_filter}
 use Rattle.dav_store.specs.View.{Listings, View}
 use Rattle.dav_model.specs.Conditions.{Fields}
 use Rattle.dav_model.specs.Finding.{has_slash, is_clear, is_forbidden, is_localized, is_named, is_virtual, resolved}
@@ -40,8 +42,8 @@ use Rattle.dav_methods.proofs.AboveFree.{parted}
 use Rattle.dav_methods.proofs.Beneath.{found_below, taken_apart, taken_found}
 use Rattle.dav_methods.proofs.ListingsLead.{listed_on}
 use Rattle.dav_methods.proofs.RemovalWork.{Left, StandsAs, dir_allowed, file_allowed, left_same, left_taken, one_file, stands_now, unlinked}
-use Rattle.dav_methods.proofs.TreeRows.{Parts, above, all_in, at_row, false_or, front_itself, front_of, front_then, in_filter, not_both, parts_of, same_of, same_yes}
-use Rattle.dav_methods.proofs.WalkOrder.{In, in_left, in_paths, path_in, paths, paths_in}
+use Rattle.dav_methods.proofs.TreeRows.{Parts, above, at_row, front_of, front_then, not_both, parts_of}
+use Rattle.dav_methods.proofs.WalkOrder.{in_left, in_paths, path_in, paths, paths_in}
 use Rattle.dav_methods.proofs.WorkCovers.{AllFit, Covers, emptied_shallow, file_shallow, going, in_walked, opened_covers, opened_fit, walked, walked_ascends, walked_in, whole_deep}
 
 -- a fact of what is told before or after a call
@@ -103,10 +105,6 @@ Shadows x [] (other ∷ others) = ⊥
 Shadows x (work ∷ works) [] = ⊥
 Shadows x (work ∷ works) (other ∷ others) = Shadow x work other × Shadows x works others
 
-rest_some : (rest : Names) (name : List ℕ) → rest ++ name ∷ [] ≡ [] → ⊥
-rest_some [] name e = cc
-rest_some (other ∷ rest) name e = cc
-
 child_beneath : (x : Case) (path place : WebPath) (name : List ℕ) (dir : Bool) → Beneath x path place → Beneath x (child_named path name dir).path (child_named place name dir).path
 child_beneath x path place name dir b = record {
   rest = b.rest ++ name ∷ [];
@@ -114,7 +112,7 @@ child_beneath x path place name dir b = record {
   is =
       ap (λ (z : WebPath). (child_named z name dir).path) b.is
       ∙ ap (λ (z : Names). (let q : WebPath = record path { names = z; slash = dir } in q)) (append_assoc x.top b.rest (name ∷ []));
-  first = λ e. absurd (rest_some b.rest name e);
+  first = λ e. absurd (no_path_ends b.rest name e);
 }
 
 child_shadow : (x : Case) (path place : WebPath) (name : List ℕ) (dir : Bool) → Beneath x path place → Shadow x (Whole (child_named path name dir).path dir) (Whole (child_named place name dir).path dir)
@@ -139,33 +137,19 @@ all_left top v world = record {
 
 -- ---- names that stay under the rules for macOS
 
-last_pushed : (names : Names) (name : List ℕ) → last_name (names ++ name ∷ []) ≡ Some name
-last_pushed [] name = refl
-last_pushed (a ∷ []) name = refl
-last_pushed (a ∷ b ∷ names) name =
-    let more : length (a ∷ b ∷ names ++ name ∷ []) - 1 ≡ suc (length (b ∷ names ++ name ∷ []) - 1) = omega arith in
-    ap (slice_get (a ∷ b ∷ names ++ name ∷ [])) more ∙ last_pushed (b ∷ names) name
-
 last_same : (a b rest : Names) (name : List ℕ) → is_localized (a ++ (rest ++ name ∷ [])) ≡ is_localized (b ++ (rest ++ name ∷ []))
 last_same a b rest name =
     ap (is_named (codes ".localized"))
     (ap last_name (sym (append_assoc a rest (name ∷ []))) ∙ (last_pushed (a ++ rest) name ∙ (sym (last_pushed (b ++ rest) name) ∙ ap last_name (append_assoc b rest (name ∷ [])))))
 
 long_other : (a : Names) (one : List ℕ) → 1 < length a → same_names a (one ∷ []) ≡ false
-long_other a one long = false_or (same_names a (one ∷ [])) (λ e. absurd (let n : length a ≡ 1 = ap length (same_yes a (one ∷ []) e) in omega (arith, n, long)))
-
-and_false : (a b : Bool) → b ≡ false → (a && b) ≡ false
-and_false true b e = e
-and_false false b e = refl
-
-neither_name : (a b : Bool) → a ≡ false → b ≡ false → (a || b) ≡ false
-neither_name a b e f = ap (λ x. x || b) e ∙ f
+long_other a one long = false_from_ne_true (same_names a (one ∷ [])) (λ e. absurd (let n : length a ≡ 1 = ap length (names_same a (one ∷ []) e) in omega (arith, n, long)))
 
 -- a path of several names is none of the two files of the root
 not_virtual : (rules : Rules) (path : WebPath) → 1 < length path.names → is_virtual rules path ≡ false
 not_virtual rules path long =
-    and_false rules.macos _ (and_false (not path.slash) _
-    (neither_name (same_names path.names (codes ".metadata_never_index" ∷ [])) (same_names path.names (codes ".ql_disablethumbnails" ∷ []))
+    and_right rules.macos _ (and_right (not path.slash) _
+    (or_from (same_names path.names (codes ".metadata_never_index" ∷ [])) (same_names path.names (codes ".ql_disablethumbnails" ∷ []))
     (long_other path.names (codes ".metadata_never_index") long) (long_other path.names (codes ".ql_disablethumbnails") long)))
 
 -- a row that stands there, by its kind
@@ -177,7 +161,7 @@ keeps_file_row rules old parts p s =
 dir_open : (rules : Rules) (old : List Row) (parts : Parts old) (p : Names) → StandsAs old p true → keeps_row rules (row_at old p) ≡ false
 dir_open rules old parts p s =
     ap (keeps_row rules) (ap (row_at old) (sym s.at) ∙ at_row old s.row parts.once s.in_tree)
-    ∙ (ap (λ d. rules.macos && (not d && is_localized s.row.path)) s.kind ∙ and_false rules.macos false refl)
+    ∙ (ap (λ d. rules.macos && (not d && is_localized s.row.path)) s.kind ∙ and_right rules.macos false refl)
 
 module _ {S C F L E : Type 0} (view : View S C F) (lists : Listings S C L E) (writes : Writes F) (c : C) (rules : Rules) (fields : Fields) (start : S)
     (k : Knowledge) (follows : Follows view lists writes c rules k start) (alone : rules.alone ≡ None) where
@@ -229,9 +213,9 @@ module _ {S C F L E : Type 0} (view : View S C F) (lists : Listings S C L E) (wr
       top_stands r j on = by (same_names x.top r.path) refl
         where
           by : (same : Bool) → same_names x.top r.path ≡ same → In x.top (paths v.tree)
-          by true same = subst (λ z. In z (paths v.tree)) (sym (same_yes x.top r.path same)) (paths_in r v.tree j)
+          by true same = subst (λ z. In z (paths v.tree)) (sym (names_same x.top r.path same)) (paths_in r v.tree j)
           by false other =
-              let d = above v.tree r x.top parts j (front_of x.top r.path b.rest on) (λ e. not_both (same_names x.top r.path) (same_of x.top r.path e) other) in
+              let d = above v.tree r x.top parts j (front_of x.top r.path b.rest on) (λ e. not_both (same_names x.top r.path) (names_equal x.top r.path e) other) in
               path_in x.top d.row v.tree d.in_tree d.at
 
   -- as deep as it is asked for

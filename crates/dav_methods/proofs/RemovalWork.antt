@@ -1,8 +1,7 @@
 -- The work of a removal covers the paths that are still to go, and a tree allows each removal when its turn comes.
 use Rattle.std.proofs.Common.{◌≡◌, ◌≤◌, ◌<◌, ◌⊎◌, ◌&&◌, ◌||◌, ◌++◌, List, [], ◌∷◌, length, drop, map, Bool, true, false, not, Some, Ok, refl, sym, ap, subst, ◌∙◌, arith, inl, inr, append-nil}
 use Rattle.std.specs.List.{list_all, list_any}
-use Rattle.std.proofs.lemmas.Bool.{and_parts, cases_lt}
-use Rattle.std.proofs.lemmas.Bool.Decides.{nat_tests}
+use Rattle.std.proofs.lemmas.Bool.{and_from, and_parts, cases_lt, false_from_ne_true, not-true, not_from_false}
 use Rattle.dav_core.specs.declared.tree.Row.{Row}
 use Rattle.dav_core.specs.declared.time.FileTime.{FileTime}
 use Rattle.dav_core.specs.Allowed.{found_then, is_root, taking_dir, taking_dir_row, taking_file, taking_file_row}
@@ -11,10 +10,12 @@ use Rattle.dav_core.specs.Edits.{Edited, takes}
 use Rattle.dav_core.specs.Path.{Names, is_front, parent_of, same_names}
 use Rattle.dav_core.specs.Tree.{is_dir, is_link, is_linked, is_tree, look}
 use Rattle.dav_core.specs.World.{World}
+use Rattle.dav_core.proofs.Paths.{front_itself, front_rest, names_equal, names_same, not_root}
+use Rattle.dav_core.proofs.Elements.{In, all_at, all_in, filter_in, in_filter, in_map, map_in}
 use Rattle.dav_model.specs.Plans.{has_link_below}
 use Rattle.dav_model.specs.Walks.{members_first}
-use Rattle.dav_methods.proofs.TreeRows.{Parts, above, all_at, all_in, any_none, both, false_or, filter_in, front_itself, front_length, front_rest, front_then, fronts_meet, in_filter, look_row, not_both, not_true, only_row, parts_of, same_of, same_yes}
-use Rattle.dav_methods.proofs.WalkOrder.{Ascends, In, IsOrder, ascends_left, below_first, in_left, in_paths, members_order, not_itself, path_in, path_then, paths, paths_in}
+use Rattle.dav_methods.proofs.TreeRows.{Parts, above, any_none, front_length, front_then, fronts_meet, look_row, not_both, only_row, parts_of}
+use Rattle.dav_methods.proofs.WalkOrder.{Ascends, IsOrder, ascends_left, below_first, in_left, in_paths, members_order, not_itself, path_in, path_then, paths, paths_in}
 
 -- ---- order and place
 
@@ -65,20 +66,6 @@ pub timed_kind : (b : Bool) (q : Names) (t : FileTime) (r : Row) → same_names 
 timed_kind true q t r e = rw e refl
 timed_kind false q t r e = rw e refl
 
-pub in_map : (f : Row → Row) (rows : List Row) (y : Row) → In y (map f rows) → (x : Row) × In x rows × (y ≡ f x)
-in_map f [] y i = absurd i
-in_map f (x ∷ rows) y (inl e) = (x, inl refl, e)
-in_map f (x ∷ rows) y (inr i) = let t = in_map f rows y i in (t.0, inr t.1, t.2)
-
-pub map_in : (f : Row → Row) (rows : List Row) (x : Row) → In x rows → In (f x) (map f rows)
-map_in f [] x i = absurd i
-map_in f (y ∷ rows) x (inl e) = inl (ap f e)
-map_in f (y ∷ rows) x (inr i) = inr (map_in f rows x i)
-
-pub not_false : (b : Bool) → b ≡ false → not b ≡ true
-not_false true e = cc
-not_false false e = refl
-
 -- a row that was left, and the row that it was
 taken_row : (p : Names) (t : FileTime) (now : List Row) (r : Row) → In r (map (timed_row (parent_of p) t) (without p now))
     → (x : Row) × In x now × (is_front p x.path ≡ false) × (r.path ≡ x.path) × (r.kind ≡ x.kind)
@@ -87,7 +74,7 @@ taken_row p t now r i =
     let (k, kept) = in_filter (λ row. not (is_front p row.path)) now x j in (
       x,
       k,
-      not_true (is_front p x.path) kept,
+      not-true (is_front p x.path) kept,
       ap (λ (y : Row). y.path) same ∙ timed_path (same_names (parent_of p) x.path) (parent_of p) t x refl,
       ap (λ (y : Row). y.kind) same ∙ timed_kind (same_names (parent_of p) x.path) (parent_of p) t x refl,
     )
@@ -95,7 +82,7 @@ taken_row p t now r i =
 row_taken : (p : Names) (t : FileTime) (now : List Row) (x : Row) → In x now → is_front p x.path ≡ false → In x.path (paths (map (timed_row (parent_of p) t) (without p now)))
 row_taken p t now x i other =
     path_in x.path (timed_row (parent_of p) t x) (map (timed_row (parent_of p) t) (without p now))
-    (map_in (timed_row (parent_of p) t) (without p now) x (filter_in (λ row. not (is_front p row.path)) now x (not_false (is_front p x.path) other) i))
+    (map_in (timed_row (parent_of p) t) (without p now) x (filter_in (λ row. not (is_front p row.path)) now x (not_from_false (is_front p x.path) other) i))
     (timed_path (same_names (parent_of p) x.path) (parent_of p) t x refl)
 
 -- what is left stood, and what stood beside is left
@@ -106,7 +93,7 @@ pub up_taken : (p : Names) (v u : World) → Edited (takes p) v u → (r : Row) 
 up_taken p v u (t, new, is) r i other = (
   timed_row (parent_of p) t r,
   subst (In (timed_row (parent_of p) t r)) (sym is.tree)
-      (map_in (timed_row (parent_of p) t) (without p v.tree) r (filter_in (λ row. not (is_front p row.path)) v.tree r (not_false (is_front p r.path) other) i)),
+      (map_in (timed_row (parent_of p) t) (without p v.tree) r (filter_in (λ row. not (is_front p row.path)) v.tree r (not_from_false (is_front p r.path) other) i)),
   timed_path (same_names (parent_of p) r.path) (parent_of p) t r refl,
   timed_kind (same_names (parent_of p) r.path) (parent_of p) t r refl,
 )
@@ -123,7 +110,7 @@ left_taken top old now p t left l tree = record {
   stands = λ q i.
       (let (x, j, at) = in_paths q now (l.stands q (inr i)) in
       subst (λ y. In y (paths (map (timed_row (parent_of p) t) (without p now)))) at
-      (row_taken p t now x j (false_or (is_front p x.path) (λ e. behind_not_below p q (l.ascends.0 q i) (subst (λ y. is_front p y ≡ true) at e)))));
+      (row_taken p t now x j (false_from_ne_true (is_front p x.path) (λ e. behind_not_below p q (l.ascends.0 q i) (subst (λ y. is_front p y ≡ true) at e)))));
   all = λ q i front. (let (r, j, at) = in_paths q (map (timed_row (parent_of p) t) (without p now)) i in gone q front r at (taken_row p t now r j));
   below = λ q i. l.below q (inr i);
   ascends = l.ascends.1;
@@ -145,16 +132,12 @@ left_leaf : (top : Names) (old now : List Row) (p : Names) (left : List Names) �
 left_leaf top old now p left l = all_in (λ row. not (is_front p row.path) || same_names p row.path) now (λ r i. by r i (is_front p r.path) refl)
   where
     here : (r : Row) → is_front p r.path ≡ true → In r.path (p ∷ left) → same_names p r.path ≡ true
-    here r e (inl same) = same_of p r.path (sym same)
+    here r e (inl same) = names_equal p r.path (sym same)
     here r e (inr i) = absurd (behind_not_below p r.path (l.ascends.0 r.path i) e)
 
     by : (r : Row) → In r now → (b : Bool) → is_front p r.path ≡ b → (not (is_front p r.path) || same_names p r.path) ≡ true
     by r i false e = rw e refl
     by r i true e = rw (e, here r e (l.all r.path (paths_in r now i) (front_then top p r.path (l.below p (inl refl)) e))) refl
-
-pub some_names : (path : Names) → 0 < length path → is_root path ≡ false
-some_names [] lt = absurd (omega (arith, lt))
-some_names (name ∷ path) lt = grind (arith, nat_tests)
 
 -- A directory that has lost its members may go.
 pub dir_allowed : (top : Names) (old now : List Row) (p : Names) (left : List Names) → 0 < length top → Parts old → Left top old now (p ∷ left) → StandsAs old p true
@@ -163,7 +146,7 @@ dir_allowed top old now p left some parts l s =
     let here = stands_now top old now (p ∷ left) p true parts l (inl refl) s in
     let long : 0 < length p = omega (arith, some, front_length top p (l.below p (inl refl))) in
     ap (found_then (taking_dir_row now)) (ap (look now) (sym here.at) ∙ look_row now here.row (parts_of now l.tree) here.in_tree)
-    ∙ judged here.row here.at here.kind (some_names p long)
+    ∙ judged here.row here.at here.kind (not_root p long)
   where
     judged : (r : Row) → r.path ≡ p → is_dir r.kind ≡ true → is_root p ≡ false → taking_dir_row now r ≡ Ok (Some (takes p))
     judged r at dir names =
@@ -201,7 +184,7 @@ pub no_link_below : (old : List Row) (top : Names) (o : Row) → has_link_below 
 no_link_below old top o none i link front =
     let all = negated (list_all (λ (row : Row). not (is_link row.kind && is_front top row.path)) old) none in
     let one = all_at (λ (row : Row). not (is_link row.kind && is_front top row.path)) old o all i in
-    not_both (is_link o.kind && is_front top o.path) (both (is_link o.kind) (is_front top o.path) link front) (not_true (is_link o.kind && is_front top o.path) one)
+    not_both (is_link o.kind && is_front top o.path) (and_from (is_link o.kind) (is_front top o.path) link front) (not-true (is_link o.kind && is_front top o.path) one)
   where
     negated : (b : Bool) → not b ≡ false → b ≡ true
     negated true e = refl
@@ -210,12 +193,12 @@ no_link_below old top o none i link front =
 -- Where no link was on the way to `top`, at it or below it, none is on the way to a path below it.
 pub unlinked : (top : Names) (old now : List Row) (left : List Names) (p : Names) → has_link_below old top ≡ false → is_linked old top ≡ false → Left top old now left → is_front top p ≡ true
     → is_linked now p ≡ false
-unlinked top old now left p none clear l front = any_none (λ row. is_link row.kind && is_front row.path p) now (λ r i. false_or (is_link r.kind && is_front r.path p) (λ e. never r i (and_parts (is_link r.kind) (is_front r.path p) e)))
+unlinked top old now left p none clear l front = any_none (λ row. is_link row.kind && is_front row.path p) now (λ r i. false_from_ne_true (is_link r.kind && is_front r.path p) (λ e. never r i (and_parts (is_link r.kind) (is_front r.path p) e)))
   where
     placed : (o : Row) → In o old → is_link o.kind ≡ true → is_front o.path p ≡ true → (length top < length o.path) ⊎ (length o.path ≤ length top) → ⊥
     placed o i link up (inl lt) = no_link_below old top o none i link (fronts_meet top o.path p front up (omega (arith, lt)))
     placed o i link up (inr le) =
-        not_both (is_link o.kind && is_front o.path top) (both (is_link o.kind) (is_front o.path top) link (fronts_meet o.path top p up front le))
+        not_both (is_link o.kind && is_front o.path top) (and_from (is_link o.kind) (is_front o.path top) link (fronts_meet o.path top p up front le))
         (none_any (λ row. is_link row.kind && is_front row.path top) old o clear i)
 
     never : (r : Row) → In r now → (is_link r.kind ≡ true) × (is_front r.path p ≡ true) → ⊥
@@ -239,11 +222,11 @@ pub one_file : (top : Names) (old now : List Row) (p : Names) (seg more : List N
 one_file top old now p seg more parts l s below i = all_itself members_first members_order p seg (ascends_left members_first seg more l.ascends) (λ q j. only q j (same_names p q) refl) i
   where
     only : (q : Names) → In q seg → (b : Bool) → same_names p q ≡ b → q ≡ p
-    only q j true same = sym (same_yes p q same)
+    only q j true same = sym (names_same p q same)
     only q j false other =
         let here = stands_now top old now (seg ++ more) p false parts l (in_left p seg more i) s in
         let (r, k, at) = in_paths q now (l.stands q (in_left q seg more j)) in
         let rows = parts_of now l.tree in
-        let d = above now r p rows k (subst (λ x. is_front p x ≡ true) (sym at) (below q j)) (λ e. not_both (same_names p q) (same_of p q (e ∙ at)) other) in
+        let d = above now r p rows k (subst (λ x. is_front p x ≡ true) (sym at) (below q j)) (λ e. not_both (same_names p q) (names_equal p q (e ∙ at)) other) in
         let one : d.row ≡ here.row = only_row now d.row here.row rows d.in_tree here.in_tree (d.at ∙ sym here.at) in
         not_both (is_dir d.row.kind) d.dir (ap (λ (x : Row). is_dir x.kind) one ∙ here.kind)

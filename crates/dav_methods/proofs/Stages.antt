@@ -1,12 +1,13 @@
 -- A request that writes, over a store that follows its rules, from call to call: what is known of the world before it, and how
 -- each line and each call of a table ends it as its plan says.
 use Rattle.std.proofs.Common.{◌≡◌, ◌≤◌, ◌==◌, ◌&&◌, ◌||◌, ◌⊎◌, inl, inr, ℕ, Bool, true, false, cond, length, List, [], ◌∷◌, Option, None, Some, Result, Ok, Err, refl, sym, ap, subst, ◌∙◌, arith}
+use Rattle.std.proofs.lemmas.Bool.{or_right}
 use Rattle.std.specs.List.{AllByRecursion}
 use Rattle.dav_io.specs.Counts.{Rose}
 use Rattle.dav_io.specs.Told.{Both}
 use Rattle.dav_io.specs.declared.failure.NoMemory.{NoMemory as Wanting}
 use Rattle.dav_io.proofs.AppendingLemmas.{rose_before}
-use Rattle.dav_io.proofs.ToldLemmas.{both_map, both_same, both_then}
+use Rattle.dav_io.proofs.ToldLemmas.{both_known, both_map, both_same, both_then}
 use Rattle.dav_core.specs.declared.dav_error.DavError.{DavError}
 use Rattle.dav_core.specs.declared.dav_error.DavError.TheVariants as dav
 use Rattle.dav_core.specs.declared.error.FsError.{FsError}
@@ -30,11 +31,12 @@ use Rattle.dav_model.specs.declared.outcome.Outcome.{Outcome}
 use Rattle.dav_model.specs.Conditions.{Fields}
 use Rattle.dav_model.specs.Finding.{empty_file, has_slash, is_localized, is_virtual, resolved, stood_at}
 use Rattle.dav_model.specs.Head.{Reply, Stood, refusal}
-use Rattle.dav_model.specs.Plans.{Act, Ask, Halt, Plan, does, first, halts, line, meets_link, plan, stands, unless}
+use Rattle.dav_model.specs.Plans.{Act, Ask, Halt, Plan, first, halts, line, meets_link, plan, stands, unless}
 use Rattle.dav_model.specs.Rules.{Knowledge, Rules, SameDots}
 use Rattle.dav_model.specs.Folds.{dir_time, has_name}
 use Rattle.dav_model.specs.Valid.{IsRegular, no_twins}
 use Rattle.dav_model.specs.Written.{ByActs, EndsAs, PartOf, done_reply}
+use Rattle.dav_model.proofs.JoiningLemmas.{part_none}
 use Rattle.dav_methods.specs.Follows.{Finds, Follows, LooksBy, Reached, RightIn, Told, answer_or, here, looks}
 use Rattle.dav_methods.specs.Lines.{Given, Line}
 use Rattle.dav_methods.specs.Pouring.{Writes}
@@ -48,15 +50,11 @@ numbered_here n m rest e = rw e (ap (λ b. b || rest) (itself m))
     itself : (m : ℕ) → (m == m) ≡ true
     itself m = grind arith
 
-numbered_later : (b rest : Bool) → rest ≡ true → (b || rest) ≡ true
-numbered_later true rest e = refl
-numbered_later false rest e = e
-
 each_numbered : (tree rows : List Row) → ((n : ℕ) → is_numbered rows n ≡ true → is_numbered tree n ≡ true) → AllByRecursion (λ (r : Row). is_numbered tree r.number ≡ true) rows
 each_numbered tree [] up = tt
 each_numbered tree (r ∷ rows) up = (
   up r.number (numbered_here r.number r.number (is_numbered rows r.number) refl),
-  each_numbered tree rows (λ n e. up n (numbered_later (n == r.number) (is_numbered rows n) e)),
+  each_numbered tree rows (λ n e. up n (or_right (n == r.number) (is_numbered rows n) e)),
 )
 
 -- What is found has a number of the tree.
@@ -163,23 +161,9 @@ Matches (Err d) (Some l) = (status_of d ≡ l.status) × (closes d ≡ l.close)
 
 pub fs_line : (e : FsError) → (status_of (of_fs e) ≡ fs_status e) × (closes (of_fs e) ≡ false)
 fs_line fs.NotFound = (refl, refl)
-fs_line fs.Forbidden = (refl, refl)
-fs_line fs.Exists = (refl, refl)
-fs_line fs.GeneralFailure = (refl, refl)
-fs_line fs.NotImplemented = (refl, refl)
-fs_line fs.InsufficientStorage = (refl, refl)
-fs_line fs.LoopDetected = (refl, refl)
-fs_line fs.PathTooLong = (refl, refl)
-fs_line fs.TooLarge = (refl, refl)
-fs_line fs.IsRemote = (refl, refl)
-fs_line fs.NoMemory = (refl, refl)
+fs_line other = (refl, refl)
 
 -- ---- how a request ends
-
-pub nothing_done : (acts : List Act) (v w : World) → SameBesidesOpens v w → PartOf acts v w
-nothing_done [] v w same = same
-nothing_done (halts l ∷ acts) v w same = same
-nothing_done (does e ∷ acts) v w same = inl same
 
 abbrev halted : Halt → Fields → Reply
 halted l fields = refusal fields l.status l.close
@@ -293,7 +277,7 @@ module _ {S C F L E : Type 0} (view : View S C F) (lists : Listings S C L E) (wr
   ends_as x o rest more d t v w Q acts (inl (matches, q)) same = halts_by x o rest more d t v w acts matches same
   ends_as x o rest more d t v w Q acts (inr (e, is, spoiled)) same =
       let here : d ≡ of_fs e = cc in
-      subst (λ z. EndsFor x (Err z) t v w) (sym here) (ends_spoiled {T = Unit} x e t v w spoiled (nothing_done (plan_of x v).acts v w same))
+      subst (λ z. EndsFor x (Err z) t v w) (sym here) (ends_spoiled {T = Unit} x e t v w spoiled (part_none (plan_of x v).acts v w same))
 
   passes_by : (o : Option Halt) (rest : List (Option Halt)) → Matches (Ok tt) o → (first (o ∷ rest) ≡ first rest) × (o ≡ None)
   passes_by None rest matches = (refl, refl)
@@ -327,7 +311,7 @@ module _ {S C F L E : Type 0} (view : View S C F) (lists : Listings S C L E) (wr
   pub short_stage : (x : Case) (G : Given → S → Type 0) → Embeds x G → (P : World → Type 0) (n : S) (r : Given) (t : S) → At x n P → Ends (Err dav.NoMemory) n r t → G r t
   short_stage x G embeds P n r t at (e, f) =
       rw (e, f) (embeds dav.NoMemory n (both_map (view.state x.s).told (view.state n).told _ _
-      (λ v u p clear. ends_short x n v u (nothing_done (plan_of x v).acts v u p.0)) at))
+      (λ v u p clear. ends_short x n v u (part_none (plan_of x v).acts v u p.0)) at))
 
   -- what is known after a look
   pub looked : (x : Case) (P : World → Type 0) (path : WebPath) (found : Result Info FsError) (m n : S) → Reached view lists writes c x.s m
@@ -390,13 +374,6 @@ module _ {S C F L E : Type 0} (view : View S C F) (lists : Listings S C L E) (wr
       (λ at. on found n (looks m n path found reached look) (at_map x n _ _ (λ v clear p. (p.0, p.1.0.1)) at)) next
 
 -- ---- all worlds
-
--- what is said of each told world, where more is known of the one before
-pub both_known : {A : Type 0} (old new : Option A) (P Q : A → A → Type 0) → ((a b : A) → old ≡ Some a → P a b → Q a b) → Both old new P → Both old new Q
-both_known None None P Q h p = tt
-both_known None (Some b) P Q h p = absurd p
-both_known (Some a) None P Q h p = absurd p
-both_known (Some a) (Some b) P Q h p = h a b refl p
 
 module _ {S C F L E : Type 0} (view : View S C F) (lists : Listings S C L E) (writes : Writes F) (c : C) where
   -- What ended as its plan says is right, by what holds of every told world.

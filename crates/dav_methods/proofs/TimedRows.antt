@@ -7,9 +7,10 @@ use Rattle.dav_core.specs.Edits.{Edited, takes}
 use Rattle.dav_core.specs.Path.{Names, parent_of, same_names}
 use Rattle.dav_core.specs.Tree.{has_dir, is_dir, is_dir_row, is_placed, row_at}
 use Rattle.dav_core.specs.World.{World}
+use Rattle.dav_core.proofs.Elements.{all_at, all_in, in_map}
 use Rattle.dav_methods.proofs.Beside.{parts_without}
-use Rattle.dav_methods.proofs.RemovalWork.{in_map, timed_kind, timed_path}
-use Rattle.dav_methods.proofs.TreeRows.{Parts, all_at, all_in}
+use Rattle.dav_methods.proofs.RemovalWork.{timed_kind, timed_path}
+use Rattle.dav_methods.proofs.TreeRows.{Parts}
 use Rattle.dav_methods.proofs.WalkOrder.{Once, paths}
 
 module _ (h : Row → Row) (path : (r : Row) → (h r).path ≡ r.path) (kind : (r : Row) → (h r).kind ≡ r.kind) where

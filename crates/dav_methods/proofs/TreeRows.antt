@@ -1,51 +1,27 @@
 -- The rows of a tree: above each stand directories, and a look finds it.
-use Rattle.std.proofs.Common.{◌≡◌, ◌≤◌, ◌<◌, ◌⊎◌, ◌&&◌, ◌==◌, ◌-◌, ◌++◌, ℕ, zero, suc, List, [], ◌∷◌, length, take, drop, Bool, true, false, not, cond, Option, None, Some, Result, Ok, refl, sym, ap, subst, ◌∙◌, arith, inl, inr, append_assoc, append-nil, length-append, length-take, take-append-drop}
+use Rattle.std.proofs.Common.{◌≡◌, ◌≤◌, ◌<◌, ◌⊎◌, ◌&&◌, ◌==◌, ◌-◌, ◌++◌, ℕ, zero, suc, List, [], ◌∷◌, length, take, drop, Bool, true, false, not, cond, Option, None, Some, Result, Ok, refl, sym, ap, subst, ◌∙◌, arith, inl, inr, append_assoc, append-nil, length-append}
+use Rattle.dav_io.proofs.Cases.{second_test}
 use Rattle.std.specs.List.{filter, list_all, list_any}
-use Rattle.std.proofs.lemmas.Bool.{and_parts, cases_lt}
+use Rattle.std.proofs.lemmas.Bool.{and_parts, cases_lt, not-true}
 use Rattle.std.proofs.lemmas.Bool.Decides.{nat_tests}
 use Rattle.std.proofs.lemmas.List.{take-take}
-use Rattle.std.proofs.Math.Seq.{take-append_seam}
-use Rattle.std.proofs.lemmas.Slice.Eq.{slice_eq-Decides, bytes_eq-Decides}
-use Rattle.std.specs.Bool.{Decides}
 use Rattle.dav_core.specs.declared.tree.Row.{Row}
-use Rattle.dav_core.specs.declared.tree.Kind.{Kind}
-use Rattle.dav_core.specs.declared.tree.Kind.TheVariants.{Dir, File, Link}
 use Rattle.dav_core.specs.declared.handle.DiskError.{DiskError}
 use Rattle.dav_core.specs.Path.{Names, is_front, parent_of, same_names}
 use Rattle.dav_core.specs.Tree.{below, below_kind, has_dir, is_apart, is_dir, is_dir_row, is_free, is_placed, is_tree, look, look_from, row_at, standing}
-use Rattle.dav_methods.proofs.WalkOrder.{In, Once, in_more, in_paths, paths, paths_in}
+use Rattle.dav_core.proofs.Paths.{front_join, front_rest, names_equal, names_same, parent_length}
+use Rattle.dav_core.proofs.Elements.{In, all_at, in_filter}
+use Rattle.dav_core.proofs.Rows.{dir_kind, row_at_in}
+use Rattle.dav_methods.proofs.WalkOrder.{Once, in_paths, paths, paths_in}
 
 -- ---- paths
-
-names_decide : (a b : Names) → Decides (same_names a b) (a ≡ b)
-names_decide a b = slice_eq-Decides bytes_eq-Decides a b (same_names a b) refl
-
-pub same_yes : (a b : Names) → same_names a b ≡ true → a ≡ b
-same_yes a b = (names_decide a b).0
-
-pub same_of : (a b : Names) → a ≡ b → same_names a b ≡ true
-same_of a b = (names_decide a b).1
 
 pub not_both : {P : Type 0} (b : Bool) → b ≡ true → b ≡ false → P
 not_both true e f = cc
 not_both false e f = cc
 
-pub false_or : (b : Bool) → (b ≡ true → ⊥) → b ≡ false
-false_or true h = absurd (h refl)
-false_or false h = refl
-
--- what lies below a path is the path with names behind it
-pub front_rest : (a b : Names) → is_front a b ≡ true → b ≡ a ++ drop (length a) b
-front_rest a b e = sym (take-append-drop (length a) b) ∙ ap (λ x. x ++ drop (length a) b) (sym (same_yes a (take (length a) b) e))
-
-pub front_join : (a b : Names) → is_front a (a ++ b) ≡ true
-front_join a b = same_of a (take (length a) (a ++ b)) (sym (take-append_seam a b))
-
 pub front_of : (a b c : Names) → b ≡ a ++ c → is_front a b ≡ true
 front_of a b c e = subst (λ x. is_front a x ≡ true) (sym e) (front_join a c)
-
-pub front_itself : (a : Names) → is_front a a ≡ true
-front_itself a = front_of a a [] (sym (append-nil a))
 
 pub front_then : (a b c : Names) → is_front a b ≡ true → is_front b c ≡ true → is_front a c ≡ true
 front_then a b c e f =
@@ -71,7 +47,7 @@ pub front_parent : (a b : Names) → is_front a b ≡ true → (a ≡ b → ⊥)
 front_parent a b e differ =
     let le = front_length a b e in
     let less : length a ≤ length b - 1 = by_less le in
-    same_of a (take (length a) (parent_of b)) (same_yes a (take (length a) b) e ∙ sym (take-take (length a) (length b - 1) b less))
+    names_equal a (take (length a) (parent_of b)) (names_same a (take (length a) b) e ∙ sym (take-take (length a) (length b - 1) b less))
   where
     by_case : (length a < length b) ⊎ (length b ≤ length a) → length a ≤ length b - 1
     by_case (inl lt) = omega (arith, lt)
@@ -83,58 +59,21 @@ front_parent a b e differ =
 -- two paths above one lie one above the other
 pub fronts_meet : (a b c : Names) → is_front a c ≡ true → is_front b c ≡ true → length a ≤ length b → is_front a b ≡ true
 fronts_meet a b c e f le =
-    let x = same_yes a (take (length a) c) e in
-    let y = same_yes b (take (length b) c) f in
-    same_of a (take (length a) b) (x ∙ (sym (take-take (length a) (length b) c le) ∙ ap (take (length a)) (sym y)))
+    let x = names_same a (take (length a) c) e in
+    let y = names_same b (take (length b) c) f in
+    names_equal a (take (length a) b) (x ∙ (sym (take-take (length a) (length b) c le) ∙ ap (take (length a)) (sym y)))
 
 -- ---- rows
-
-pub all_at : (q : Row → Bool) (rows : List Row) (r : Row) → list_all q rows ≡ true → In r rows → q r ≡ true
-all_at q [] r all i = absurd i
-all_at q (x ∷ rows) r all (inl e) = ap q e ∙ (and_parts (q x) (list_all q rows) all).0
-all_at q (x ∷ rows) r all (inr i) = all_at q rows r (and_parts (q x) (list_all q rows) all).1 i
-
-pub both : (a b : Bool) → a ≡ true → b ≡ true → (a && b) ≡ true
-both true true e f = refl
-both true false e f = cc
-both false b e f = cc
-
-pub all_in : (q : Row → Bool) (rows : List Row) → ((r : Row) → In r rows → q r ≡ true) → list_all q rows ≡ true
-all_in q [] h = refl
-all_in q (x ∷ rows) h = both (q x) (list_all q rows) (h x (inl refl)) (all_in q rows (λ r i. h r (inr i)))
 
 pub any_none : (q : Row → Bool) (rows : List Row) → ((r : Row) → In r rows → q r ≡ false) → list_any q rows ≡ false
 any_none q [] h = refl
 any_none q (r ∷ rows) h = rw (h r (inl refl), any_none q rows (λ s i. h s (inr i))) refl
 
-in_kept : (b : Bool) (x y : Row) (ys xs : List Row) (keep : Row → Bool) → b ≡ keep x → (In y ys → In y xs × (keep y ≡ true)) → In y (cond b (x ∷ ys) ys) → In y (x ∷ xs) × (keep y ≡ true)
-in_kept true x y ys xs keep b h (inl e) = (inl e, ap keep e ∙ sym b)
-in_kept true x y ys xs keep b h (inr i) = let t = h i in (inr t.0, t.1)
-in_kept false x y ys xs keep b h i = let t = h i in (inr t.0, t.1)
-
-pub in_filter : (keep : Row → Bool) (rows : List Row) (r : Row) → In r (filter keep rows) → In r rows × (keep r ≡ true)
-in_filter keep [] r i = absurd i
-in_filter keep (x ∷ rows) r i = in_kept (keep x) x r (filter keep rows) rows keep refl (in_filter keep rows r) i
-
-kept_in : (b : Bool) (x y : Row) (ys : List Row) (keep : Row → Bool) → b ≡ keep x → keep y ≡ true → (y ≡ x) ⊎ In y ys → In y (cond b (x ∷ ys) ys)
-kept_in true x y ys keep b k (inl e) = inl e
-kept_in true x y ys keep b k (inr i) = inr i
-kept_in false x y ys keep b k (inl e) = not_both (keep x) (ap keep (sym e) ∙ k) (sym b)
-kept_in false x y ys keep b k (inr i) = i
-
-pub filter_in : (keep : Row → Bool) (rows : List Row) (r : Row) → keep r ≡ true → In r rows → In r (filter keep rows)
-filter_in keep [] r k i = absurd i
-filter_in keep (x ∷ rows) r k i = kept_in (keep x) x r (filter keep rows) keep refl k (in_more r x rows (filter keep rows) (filter_in keep rows r k) i)
-
-pub not_true : (b : Bool) → not b ≡ true → b ≡ false
-not_true true e = cc
-not_true false e = refl
-
 -- no path stands twice
 free_once : (x r : Row) (rows : List Row) → is_free rows x ≡ true → In r rows → r.path ≡ x.path → ⊥
 free_once x r rows free i e =
     let t = all_at (λ other. not (same_names other.path x.path) && not (other.number == x.number)) rows r free i in
-    not_both (same_names r.path x.path) (same_of r.path x.path e) (not_true (same_names r.path x.path) (and_parts (not (same_names r.path x.path)) (not (r.number == x.number)) t).0)
+    not_both (same_names r.path x.path) (names_equal r.path x.path e) (not-true (same_names r.path x.path) (and_parts (not (same_names r.path x.path)) (not (r.number == x.number)) t).0)
 
 pub apart_once : (rows : List Row) → is_apart rows ≡ true → Once (paths rows)
 apart_once [] e = tt
@@ -153,24 +92,15 @@ pub filter_once : (keep : Row → Bool) (rows : List Row) → Once (paths rows) 
 filter_once keep [] once = tt
 filter_once keep (x ∷ rows) once = kept_once (keep x) x keep rows once.0 (filter_once keep rows once.1)
 
-found : (b : Bool) (x r : Row) (o : Option Row) (rows : List Row) (path : Names) → (b ≡ true → path ≡ x.path) → (o ≡ Some r → In r rows × (r.path ≡ path)) → cond b (Some x) o ≡ Some r
-    → In r (x ∷ rows) × (r.path ≡ path)
-found true x r o rows path h g e = let same : r ≡ x = cc in (inl same, ap (λ (r : Row). r.path) same ∙ sym (h refl))
-found false x r o rows path h g e = let t = g e in (inr t.0, t.1)
-
-pub row_at_in : (rows : List Row) (path : Names) (r : Row) → row_at rows path ≡ Some r → In r rows × (r.path ≡ path)
-row_at_in [] path r e = cc
-row_at_in (x ∷ rows) path r e = found (same_names path x.path) x r (row_at rows path) rows path (same_yes path x.path) (row_at_in rows path r) e
-
 finds : (b : Bool) (x r : Row) (o : Option Row) → (b ≡ true → r ≡ x) → (b ≡ false → o ≡ Some r) → cond b (Some x) o ≡ Some r
 finds true x r o h g = ap Some (sym (h refl))
 finds false x r o h g = g refl
 
 pub at_row : (rows : List Row) (r : Row) → Once (paths rows) → In r rows → row_at rows r.path ≡ Some r
 at_row [] r once i = absurd i
-at_row (x ∷ rows) r once (inl e) = finds (same_names r.path x.path) x r (row_at rows r.path) (λ f. e) (λ f. not_both (same_names r.path x.path) (same_of r.path x.path (ap (λ (y : Row). y.path) e)) f)
+at_row (x ∷ rows) r once (inl e) = finds (same_names r.path x.path) x r (row_at rows r.path) (λ f. e) (λ f. not_both (same_names r.path x.path) (names_equal r.path x.path (ap (λ (y : Row). y.path) e)) f)
 at_row (x ∷ rows) r once (inr i) = finds (same_names r.path x.path) x r (row_at rows r.path)
-    (λ f. absurd (once.0 (subst (λ p. In p (paths rows)) (same_yes r.path x.path f) (paths_in r rows i)))) (λ f. at_row rows r once.1 i)
+    (λ f. absurd (once.0 (subst (λ p. In p (paths rows)) (names_same r.path x.path f) (paths_in r rows i)))) (λ f. at_row rows r once.1 i)
 
 -- ---- trees
 
@@ -205,20 +135,13 @@ pub record DirAt (rows : List Row) (path : Names) : Type 0 where
 pub dir_at : (rows : List Row) (path : Names) → has_dir rows path ≡ true → DirAt rows path
 dir_at rows path e = let (d, at, kind) = dir_row (row_at rows path) e in let t = row_at_in rows path d at in record { row = d; in_tree = t.0; at = t.1; dir = kind }
 
-below_root : (b x y : Bool) → b ≡ false → cond b x y ≡ true → y ≡ true
-below_root true x y e f = cc
-below_root false x y e f = f
-
 has_names : (n : ℕ) (path : Names) → n < length path → (length path == 0) ≡ false
 has_names n [] lt = absurd (omega (arith, lt))
 has_names n (x ∷ path) lt = grind (arith, nat_tests)
 
 parent_dir : (rows : List Row) (r : Row) → Parts rows → In r rows → (length r.path == 0) ≡ false → DirAt rows (parent_of r.path)
 parent_dir rows r parts i some =
-    dir_at rows (parent_of r.path) (below_root (length r.path == 0) (is_dir r.kind) (has_dir rows (parent_of r.path)) some (all_at (is_placed rows) rows r parts.placed i))
-
-pub parent_length : (path : Names) → length (parent_of path) ≡ length path - 1
-parent_length path = simp length-take (omega arith)
+    dir_at rows (parent_of r.path) (second_test (length r.path == 0) (is_dir r.kind) (has_dir rows (parent_of r.path)) some (all_at (is_placed rows) rows r parts.placed i))
 
 above_by : (n : ℕ) (rows : List Row) (r : Row) (path : Names) → length r.path ≤ n → Parts rows → In r rows → is_front path r.path ≡ true → (path ≡ r.path → ⊥) → DirAt rows path
 above_by zero rows r path le parts i e differ = absurd (differ (front_equal path r.path e (omega (arith, le))))
@@ -228,9 +151,9 @@ above_by (suc n) rows r path le parts i e differ = by_case (front_parent path r.
     further : length path < length r.path → DirAt rows (parent_of r.path)
         → ((d : Row) → d.path ≡ parent_of r.path → In d rows × (is_front path d.path ≡ true) → (path ≡ d.path → ⊥) → DirAt rows path) → is_front path (parent_of r.path) ≡ true
         → (b : Bool) → same_names path (parent_of r.path) ≡ b → DirAt rows path
-    further lt d more up true same = subst (DirAt rows) (sym (same_yes path (parent_of r.path) same)) d
+    further lt d more up true same = subst (DirAt rows) (sym (names_same path (parent_of r.path) same)) d
     further lt d more up false same = more d.row d.at (d.in_tree, subst (λ x. is_front path x ≡ true) (sym d.at) up)
-        (λ f. not_both (same_names path (parent_of r.path)) (same_of path (parent_of r.path) (f ∙ d.at)) same)
+        (λ f. not_both (same_names path (parent_of r.path)) (names_equal path (parent_of r.path) (f ∙ d.at)) same)
 
     by_case : is_front path (parent_of r.path) ≡ true → (length path < length r.path) ⊎ (length r.path ≤ length path)
         → ((d : Row) → d.path ≡ parent_of r.path → In d rows × (is_front path d.path ≡ true) → (path ≡ d.path → ⊥) → DirAt rows path) → DirAt rows path
@@ -240,11 +163,6 @@ above_by (suc n) rows r path le parts i e differ = by_case (front_parent path r.
 -- Above each row stand directories.
 pub above : (rows : List Row) (r : Row) (path : Names) → Parts rows → In r rows → is_front path r.path ≡ true → (path ≡ r.path → ⊥) → DirAt rows path
 above rows r path parts i e differ = above_by (length r.path) rows r path (omega arith) parts i e differ
-
-pub dir_kind : (k : Kind) → is_dir k ≡ true → k ≡ Dir
-dir_kind Dir e = refl
-dir_kind File e = cc
-dir_kind Link e = cc
 
 pub below_dir : (o : Option Row) (d : Row) (found : Result Row DiskError) → o ≡ Some d → is_dir d.kind ≡ true → below o found ≡ found
 below_dir o d found e dir = ap (λ x. below x found) e ∙ ap (λ k. below_kind k found) (dir_kind d.kind dir)

@@ -2,15 +2,13 @@
 use Rattle.std.proofs.Common.{◌≡◌, ◌⊎◌, ◌&&◌, ◌||◌, ◌==◌, ◌++◌, ℕ, nat_lt, List, [], ◌∷◌, length, map, Bool, true, false, refl, sym, ap, subst, ◌∙◌, arith, inl, inr}
 use Rattle.std.specs.Str.{bytes_eq}
 use Rattle.std.proofs.lemmas.Bool.Decides.{nat_tests}
+use Rattle.std.proofs.lemmas.Bool.{eqb-true}
 use Rattle.dav_core.specs.declared.tree.Row.{Row}
 use Rattle.dav_core.specs.Path.{Names}
+use Rattle.dav_core.proofs.Elements.{In, in_either}
 use Rattle.dav_model.specs.Walks.{dir_first, in_order, members_first, name_before, put_by}
 
 -- ---- members of a list
-
-abbrev pub In : {A : Type 0} → A → List A → Type 0
-In x [] = ⊥
-In x (y ∷ ys) = (x ≡ y) ⊎ In x ys
 
 pub in_left : {A : Type 0} (x : A) (ys zs : List A) → In x ys → In x (ys ++ zs)
 in_left x [] zs i = absurd i
@@ -24,15 +22,6 @@ in_right x (y ∷ ys) zs i = inr (in_right x ys zs i)
 pub in_more : {A : Type 0} (x y : A) (ys zs : List A) → (In x ys → In x zs) → In x (y ∷ ys) → In x (y ∷ zs)
 in_more x y ys zs more (inl e) = inl e
 in_more x y ys zs more (inr i) = inr (more i)
-
-pub in_either : {A : Type 0} (x : A) (ys zs : List A) → In x (ys ++ zs) → In x ys ⊎ In x zs
-in_either x [] zs i = inr i
-in_either x (y ∷ ys) zs (inl e) = inl (inl e)
-in_either x (y ∷ ys) zs (inr i) = later (in_either x ys zs i)
-  where
-    later : In x ys ⊎ In x zs → In x (y ∷ ys) ⊎ In x zs
-    later (inl j) = inl (inr j)
-    later (inr j) = inr j
 
 -- the paths of rows
 abbrev pub paths : List Row → List Names
@@ -71,9 +60,6 @@ same_bytes (a ∷ x) = rw (is_itself a, same_bytes x) refl
 nat_total : (a b : ℕ) → nat_lt a b ≡ false → (a == b) ≡ false → nat_lt b a ≡ true
 nat_total a b e f = grind (arith, nat_tests)
 
-nat_equal : (a b : ℕ) → (a == b) ≡ true → a ≡ b
-nat_equal a b e = grind (arith, nat_tests)
-
 less_then : (a b c : ℕ) → nat_lt a b ≡ true → nat_lt b c ≡ true → nat_lt a c ≡ true
 less_then a b c e f = grind (arith, nat_tests)
 
@@ -87,8 +73,8 @@ names_heads : (a b : ℕ) (x y : List ℕ) (less same : Bool) → nat_lt a b ≡
 names_heads a b x y true same e f c = earlier (rw e refl)
 names_heads a b x y false false e f c = later (rw (nat_total a b e f) refl)
 names_heads a b x y false true e f (earlier c) = earlier (rw (e, f, c) refl)
-names_heads a b x y false true e f (equal c) = equal (let n = nat_equal a b f in cc)
-names_heads a b x y false true e f (later c) = later (rw (nat_equal a b f, not_below b, is_itself b, c) refl)
+names_heads a b x y false true e f (equal c) = equal (let n = eqb-true a b f in cc)
+names_heads a b x y false true e f (later c) = later (rw (eqb-true a b f, not_below b, is_itself b, c) refl)
 
 pub names_compared : (a b : List ℕ) → Compared name_before a b
 names_compared [] [] = equal refl
@@ -98,7 +84,7 @@ names_compared (a ∷ x) (b ∷ y) = names_heads a b x y (nat_lt a b) (a == b) r
 
 nat_heads : (a b : ℕ) (less same below : Bool) → nat_lt a b ≡ less → (a == b) ≡ same → (less || (same && below)) ≡ true → (nat_lt a b ≡ true) ⊎ ((a ≡ b) × (below ≡ true))
 nat_heads a b true same below e f h = inl e
-nat_heads a b false true below e f h = inr (nat_equal a b f, h)
+nat_heads a b false true below e f h = inr (eqb-true a b f, h)
 nat_heads a b false false below e f h = cc
 
 heads : (a b : ℕ) (x y : List ℕ) → name_before (a ∷ x) (b ∷ y) ≡ true → (nat_lt a b ≡ true) ⊎ ((a ≡ b) × (name_before x y ≡ true))
@@ -147,7 +133,7 @@ path_by a b false true below e f g h = inr (g refl, h)
 path_by a b false false below e f g h = cc
 
 byte_same : (a b : ℕ) (x y : List ℕ) (same : Bool) → (a == b) ≡ same → (bytes_eq x y ≡ true → x ≡ y) → (same && bytes_eq x y) ≡ true → a ∷ x ≡ b ∷ y
-byte_same a b x y true e more h = let n = nat_equal a b e in let m = more h in cc
+byte_same a b x y true e more h = let n = eqb-true a b e in let m = more h in cc
 byte_same a b x y false e more h = cc
 
 pub bytes_same : (a b : List ℕ) → bytes_eq a b ≡ true → a ≡ b

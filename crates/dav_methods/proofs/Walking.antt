@@ -1,6 +1,5 @@
 -- A walk's one path stands for the paths of the tables.
-use Rattle.std.proofs.Common.{◌≡◌, ◌<◌, ◌+◌, ◌++◌, ◌-◌, ℕ, List, [], ◌∷◌, map, length, take, get_or, Bool, true, false, Ok, Err, refl, sym, ap, subst, ◌∙◌, arith, length-append}
-use Rattle.std.proofs.Math.Seq.{take-append_seam}
+use Rattle.std.proofs.Common.{◌≡◌, ◌<◌, ◌+◌, ◌++◌, List, [], ◌∷◌, map, length, get_or, Bool, true, false, Ok, Err, refl, sym, ap, subst, ◌∙◌, arith}
 use Rattle.std.proofs.lemmas.List.{get_or-map, length-map}
 use Rattle.std.specs.Cmp.Lexicographic.{slice_cmp}
 use Rattle.std.specs.List.Sorted.{IsSortedByKey}
@@ -8,7 +7,8 @@ use Rattle.std.specs.Ordering.{is_lt, nat_cmp}
 use Rattle.dav_core.specs.declared.dav_error.DavError.{DavError}
 use Rattle.dav_core.specs.declared.dav_error.DavError.TheVariants.{Status}
 use Rattle.dav_core.specs.DavPath.{WebPath}
-use Rattle.dav_core.specs.Path.{Names, parent_of}
+use Rattle.dav_core.specs.Path.{Names}
+use Rattle.dav_core.proofs.Paths.{parent_pushed}
 use Rattle.dav_methods.specs.declared.child.Child.{Child}
 use Rattle.dav_methods.specs.declared.ends.Ends.{Ends}
 use Rattle.dav_methods.specs.declared.member.Member.{Member}
@@ -34,16 +34,11 @@ is_refused false e is = cc
 
 -- ---- down and up again
 
-last_taken : (names : Names) (name : List ℕ) → parent_of (names ++ name ∷ []) ≡ names
-last_taken names name =
-    let long : length (names ++ name ∷ []) - 1 ≡ length names = omega (arith, length-append names (name ∷ [])) in
-    ap (λ n. take n (names ++ name ∷ [])) long ∙ take-append_seam names (name ∷ [])
-
 abbrev pub slashed : WebPath → WebPath
 slashed path = record path { slash = true }
 
 pub up_again : (path : WebPath) (m : Member) → above (member_at path m).path ≡ slashed path
-up_again path m = ap (λ (names : Names). record path { names = names; slash = true }) (last_taken path.names m.name)
+up_again path m = ap (λ (names : Names). record path { names = names; slash = true }) (parent_pushed path.names m.name)
 
 has_slash : (path : WebPath) → path.slash ≡ true → slashed path ≡ path
 has_slash path e = ap (λ (b : Bool). record path { slash = b }) (sym e)

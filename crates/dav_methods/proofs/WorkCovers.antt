@@ -1,14 +1,16 @@
 -- The work of a removal covers the paths that are still to go, in their order: a directory's members take its place in the order of
 -- their names.
-use Rattle.std.proofs.Common.{◌≡◌, ◌≤◌, ◌<◌, ◌⊎◌, ◌&&◌, ◌||◌, ◌==◌, ◌+◌, ◌-◌, ◌++◌, ℕ, nat_lt, List, [], ◌∷◌, length, take, drop, map, Bool, true, false, Some, refl, sym, ap, subst, ◌∙◌, arith, inl, inr, append_assoc, append-nil, length-append, length-take, slice_get}
+use Rattle.std.proofs.Common.{◌≡◌, ◌≤◌, ◌<◌, ◌⊎◌, ◌&&◌, ◌==◌, ◌+◌, ◌-◌, ◌++◌, ℕ, nat_lt, List, [], ◌∷◌, length, take, drop, map, Bool, true, false, Some, refl, sym, ap, subst, ◌∙◌, arith, inl, inr, append_assoc, append-nil, length-append, length-take, slice_get}
 use Rattle.std.specs.List.{filter, list_any}
-use Rattle.std.proofs.lemmas.Bool.{and_parts, cases_lt}
+use Rattle.std.proofs.lemmas.Bool.{and_from, and_parts, cases_lt, eq-eqb, eqb-true, false_from_ne_true, or_right}
 use Rattle.std.proofs.lemmas.Bool.Decides.{nat_tests}
 use Rattle.dav_core.specs.declared.tree.Row.{Row}
 use Rattle.dav_core.specs.DavPath.{WebPath, last_name}
 use Rattle.dav_core.specs.Listing.{name_of, or_empty, stands_in}
 use Rattle.dav_core.specs.Path.{Names, is_front, same_names}
 use Rattle.dav_core.specs.Tree.{is_dir}
+use Rattle.dav_core.proofs.Paths.{front_itself, front_rest, names_equal, names_same}
+use Rattle.dav_core.proofs.Elements.{In, filter_in, in_either, in_filter}
 use Rattle.dav_model.specs.Plans.{is_deep_dir, is_too_deep}
 use Rattle.dav_model.specs.Walks.{dir_first, in_order, members_first, walk}
 use Rattle.dav_methods.specs.declared.work.Work.{Work}
@@ -16,8 +18,8 @@ use Rattle.dav_methods.specs.declared.work.Work.TheVariants.{Emptied, Whole}
 use Rattle.dav_methods.specs.Follows.{child_of, children_in}
 use Rattle.dav_methods.specs.Removing.{is_deep, works_in}
 use Rattle.dav_methods.proofs.RemovalWork.{Left, StandsAs, behind_not_below}
-use Rattle.dav_methods.proofs.TreeRows.{Parts, above, any_none, both, false_or, filter_in, filter_once, front_equal, front_itself, front_length, front_rest, front_then, fronts_meet, in_filter, not_both, only_row, parts_of, same_of, same_yes}
-use Rattle.dav_methods.proofs.WalkOrder.{Ascends, In, IsOrder, Once, apart_first, ascends_across, ascends_join, ascends_left, ascends_right, below_first, from_order, in_either, in_left, in_paths, in_right, into_order, members_order, one_list, order_ascends, order_either, path_in, paths, paths_in}
+use Rattle.dav_methods.proofs.TreeRows.{Parts, above, any_none, filter_once, front_equal, front_length, front_then, fronts_meet, not_both, only_row, parts_of}
+use Rattle.dav_methods.proofs.WalkOrder.{Ascends, IsOrder, Once, apart_first, ascends_across, ascends_join, ascends_left, ascends_right, below_first, from_order, in_left, in_paths, in_right, into_order, members_order, one_list, order_ascends, order_either, path_in, paths, paths_in}
 
 -- ---- what work covers
 
@@ -83,17 +85,11 @@ pub record IsMember (at : Names) (now : List Row) (r : Row) : Type 0 where
   pub long : length r.path ≡ length at + 1
   pub front : is_front at r.path ≡ true
 
-nat_same : (a b : ℕ) → (a == b) ≡ true → a ≡ b
-nat_same a b e = grind (arith, nat_tests)
-
-same_nat : (a b : ℕ) → a ≡ b → (a == b) ≡ true
-same_nat a b e = grind (arith, nat_tests)
-
 pub is_member : (at : Names) (now : List Row) (r : Row) → In r (filter (stands_in at) now) → IsMember at now r
 is_member at now r i =
     let (j, here) = in_filter (stands_in at) now r i in
     let (long, front) = and_parts (length r.path == length at + 1) (is_front at r.path) here in
-    record { in_tree = j; long = nat_same (length r.path) (length at + 1) long; front = front }
+    record { in_tree = j; long = eqb-true (length r.path) (length at + 1) long; front = front }
 
 abbrev pub AreMembers : Names → List Row → List Row → Type 0
 AreMembers at now rows = (r : Row) → In r rows → IsMember at now r
@@ -104,7 +100,7 @@ all_members at now r i = is_member at now r (from_order members_first r (filter 
 pub in_members : (at : Names) (now : List Row) (r : Row) → In r now → length r.path ≡ length at + 1 → is_front at r.path ≡ true → In r (members at now)
 in_members at now r i long front =
     into_order members_first r (filter (stands_in at) now) (filter_in (stands_in at) now r
-    (both (length r.path == length at + 1) (is_front at r.path) (same_nat (length r.path) (length at + 1) long) front) i)
+    (and_from (length r.path == length at + 1) (is_front at r.path) (eq-eqb (length r.path) (length at + 1) long) front) i)
 
 -- the same rows as the order puts them that lists directories first
 pub listed_members : (at : Names) (now : List Row) → in_order dir_first (filter (stands_in at) now) ≡ members at now
@@ -200,10 +196,10 @@ all_come at now q parts i front = by (cases_lt (length at) (length q))
         (walked_in now r.path q i (subst (λ x. is_front x q ≡ true) (sym at_up) front_up))
 
     by_same : (b : Bool) → same_names up q ≡ b → length up ≡ length at + 1 → is_front at up ≡ true → is_front up q ≡ true → In q (all_walked at now (members at now))
-    by_same true same long below front_up = let (r, j, here) = in_paths q now i in by_row r j (here ∙ sym (same_yes up q same)) long below front_up
+    by_same true same long below front_up = let (r, j, here) = in_paths q now i in by_row r j (here ∙ sym (names_same up q same)) long below front_up
     by_same false other long below front_up =
         let (r, j, here) = in_paths q now i in
-        let d = above now r up parts j (subst (λ x. is_front up x ≡ true) (sym here) front_up) (λ e. not_both (same_names up q) (same_of up q (e ∙ here)) other) in
+        let d = above now r up parts j (subst (λ x. is_front up x ≡ true) (sym here) front_up) (λ e. not_both (same_names up q) (names_equal up q (e ∙ here)) other) in
         by_row d.row d.in_tree d.at long below front_up
 
     by : (length at < length q) ⊎ (length q ≤ length at) → In q (all_walked at now (members at now))
@@ -211,7 +207,7 @@ all_come at now q parts i front = by (cases_lt (length at) (length q))
     by (inl lt) =
         let long : length up ≡ length at + 1 = simp length-take (omega (arith, lt)) in
         let whole : up ≡ take (length up) q = ap (λ n. take n q) (sym long) in
-        let front_up : is_front up q ≡ true = same_of up (take (length up) q) whole in
+        let front_up : is_front up q ≡ true = names_equal up (take (length up) q) whole in
         by_same (same_names up q) refl long (fronts_meet at up q front front_up (omega (arith, long))) front_up
 
 -- what was to go at and below a directory is what its members come to
@@ -254,7 +250,7 @@ rows_cover path now (r ∷ rows) more works are a covers =
       rest,
       joined,
       λ p i. subst (λ x. is_front x p ≡ true) own (in_walked now r.path p i).1,
-      λ p i. subst (λ x. is_front x p ≡ false) own (false_or (is_front r.path p) (behind_not_below r.path p (ascends_across members_first (walked now r.path) rest r.path p ascends here i))),
+      λ p i. subst (λ x. is_front x p ≡ false) own (false_from_ne_true (is_front r.path p) (behind_not_below r.path p (ascends_across members_first (walked now r.path) rest r.path p ascends here i))),
       subst (λ x. In x (walked now r.path)) own here,
       rows_cover path now rows more works (λ s i. are s (inr i)) (ascends_right members_first (walked now r.path) rest ascends) covers,
     )
@@ -300,14 +296,10 @@ opened_fit top old now left path works l shallow fit =
 
 -- ---- directories of too many names
 
-or_true : (a b : Bool) → b ≡ true → (a || b) ≡ true
-or_true true b e = refl
-or_true false b e = e
-
 any_some : (q : Row → Bool) (rows : List Row) (r : Row) → In r rows → q r ≡ true → list_any q rows ≡ true
 any_some q [] r i e = absurd i
 any_some q (x ∷ rows) r (inl same) e = let f : q x ≡ true = ap q (sym same) ∙ e in rw f refl
-any_some q (x ∷ rows) r (inr i) e = or_true (q x) (list_any q rows) (any_some q rows r i e)
+any_some q (x ∷ rows) r (inr i) e = or_right (q x) (list_any q rows) (any_some q rows r i e)
 
 -- these rows go
 abbrev pub going : Names → List Row → List Row
@@ -329,7 +321,7 @@ deep_above r p e =
 -- A directory that was walked into has no such directory above it, nor is it one.
 pub emptied_shallow : (top : Names) (old : List Row) (path : WebPath) → is_deep path ≡ false → is_too_deep (going top old) path.names ≡ false
 emptied_shallow top old path shallow =
-    any_none (λ row. is_deep_dir row && is_front row.path path.names) (going top old) (λ r i. false_or (is_deep_dir r && is_front r.path path.names) (λ e. never r (deep_above r path.names e)))
+    any_none (λ row. is_deep_dir row && is_front row.path path.names) (going top old) (λ r i. false_from_ne_true (is_deep_dir r && is_front r.path path.names) (λ e. never r (deep_above r path.names e)))
   where
     never : (r : Row) → (is_dir r.kind ≡ true) × (65537 ≤ length r.path) × (is_front r.path path.names ≡ true) → ⊥
     never r (dir, long, front) = omega (arith, long, front_length r.path path.names front, not_deep path shallow)
@@ -337,7 +329,7 @@ emptied_shallow top old path shallow =
 -- Nor has a file that stands where one was walked into, or is the first of all.
 pub file_shallow : (top : Names) (old : List Row) (p : Names) → Parts old → StandsAs old p false → is_front top p ≡ true → (p ≡ top) ⊎ (length p ≤ 65537) → is_too_deep (going top old) p ≡ false
 file_shallow top old p parts s under place =
-    any_none (λ row. is_deep_dir row && is_front row.path p) (going top old) (λ r i. false_or (is_deep_dir r && is_front r.path p) (λ e. never r (in_going top old r i) (deep_above r p e) place))
+    any_none (λ row. is_deep_dir row && is_front row.path p) (going top old) (λ r i. false_from_ne_true (is_deep_dir r && is_front r.path p) (λ e. never r (in_going top old r i) (deep_above r p e) place))
   where
     same_place : (r : Row) → In r old → is_dir r.kind ≡ true → r.path ≡ p → ⊥
     same_place r i dir at =
@@ -355,6 +347,6 @@ pub whole_deep : (top : Names) (old : List Row) (path : WebPath) (q : Names) →
 whole_deep top old path q s under deep below =
     any_some (λ row. is_deep_dir row && is_front row.path q) (going top old) s.row
     (into_order members_first s.row (filter (λ row. is_front top row.path) old) (filter_in (λ row. is_front top row.path) old s.row (subst (λ x. is_front top x ≡ true) (sym s.at) under) s.in_tree))
-    (both (is_deep_dir s.row) (is_front s.row.path q)
-    (both (is_dir s.row.kind) (nat_lt 65536 (length s.row.path)) s.kind (ap (λ x. nat_lt 65536 (length x)) s.at ∙ deep))
+    (and_from (is_deep_dir s.row) (is_front s.row.path q)
+    (and_from (is_dir s.row.kind) (nat_lt 65536 (length s.row.path)) s.kind (ap (λ x. nat_lt 65536 (length x)) s.at ∙ deep))
     (subst (λ x. is_front x q ≡ true) (sym s.at) below))

@@ -19,7 +19,7 @@ use Rattle.dav_core.specs.Info.{Info}
 use Rattle.dav_core.specs.Listing.{name_of, stands_in}
 use Rattle.dav_core.specs.Path.{Names}
 use Rattle.dav_core.specs.Statuses.{closes, lacks_memory, status_of}
-use Rattle.dav_core.specs.Tree.{has_dir, is_dir, is_linked, row_at}
+use Rattle.dav_core.specs.Tree.{has_dir, is_dir, is_linked, look, row_at}
 use Rattle.dav_core.specs.World.{World, OpenFile, IsWorld, SameBesidesOpens, bytes_of}
 use Rattle.dav_core.specs.Writing.{LeftBy, appends, written}
 use Rattle.dav_store.specs.declared.entry.ReadDirMeta.TheVariants.{DataSymlink}
@@ -74,6 +74,11 @@ Finds (Err e) (Err f) = f ≡ e
 abbrev pub CallsFor : Allowed → FsError → Type 0
 CallsFor (Ok edit) e = ⊥
 CallsFor (Err d) e = e ≡ fs_error_of d
+
+-- A directory is refused a place since a file stands there, which may be taken away.
+abbrev pub MeetsFile : List Row → Names → Names → Type 0
+MeetsFile tree from to = (moving tree from to ≡ Err NotDir) × (row : Row) × (look tree from ≡ Ok row)
+    × (is_dir row.kind ≡ true) × (edit : Option Edit) × (taking_file tree to ≡ Ok edit)
 
 -- the members of the directory at a place of a tree, that a path leads to, in the order of their names
 abbrev pub child_of : WebPath → Row → Child
@@ -169,11 +174,12 @@ module _ {S C F L E : Type 0} (view : View S C F) (lists : Listings S C L E) (wr
   IfBothFound rules v from to P = TellsApart rules v → is_linked v.tree (resolved rules v.tree from.names) ≡ false
       → is_linked v.tree (resolved rules v.tree to.names) ≡ false → P
 
-  -- A move does what is allowed. Where it is refused since a directory would take the place of a file, a store may take
-  -- the file away, and then do what is allowed.
+  -- A move does what is allowed. A directory isn't refused for the file that it meets: that is taken away, and then what
+  -- is allowed is done; or a fault or want of memory was met before.
   abbrev pub MovesBy : Names → Names → S → Result Unit FsError → S → World → World → Type 0
-  MovesBy from to m r n v w = Calls (moving v.tree from to) m r n v w
-      ⊎ ((moving v.tree from to ≡ Err NotDir) × (x : World) × Calls (taking_file v.tree to) m (Ok tt) n v x
+  MovesBy from to m r n v w = (Calls (moving v.tree from to) m r n v w
+      × (MeetsFile v.tree from to → Spoiled {T = Unit} (view.state m) r (view.state n)))
+      ⊎ (MeetsFile v.tree from to × (x : World) × Calls (taking_file v.tree to) m (Ok tt) n v x
       × Calls (moving x.tree from to) m r n x w)
 
   -- From here on each call does to the told world what the rules say, where the memory knew so much. What it knows is

@@ -1,5 +1,5 @@
 -- Worked plans of COPY and MOVE.
-use Rattle.std.proofs.Common.{◌≡◌, ◌⊎◌, ℕ, List, [], ◌∷◌, ◌++◌, codes, pos, Bool, true, false, None, Some, Ok, Err, refl, inl, inr}
+use Rattle.std.proofs.Common.{◌≡◌, ℕ, List, [], ◌∷◌, ◌++◌, codes, pos, Bool, true, false, None, Some, Ok, Err, refl, inl, inr}
 use Rattle.dav_core.specs.declared.dav_error.DavError.TheVariants.{Path}
 use Rattle.dav_core.specs.declared.parse_error.ParseError.TheVariants.{PrefixMismatch}
 use Rattle.dav_core.specs.declared.method.DavMethod.TheVariants.{Copy}
@@ -16,7 +16,7 @@ use Rattle.dav_model.specs.Head.{Reply, refusal}
 use Rattle.dav_model.specs.Plans.{Ask, Plan, does, halts, line}
 use Rattle.dav_model.specs.Rules.{plain_rules}
 use Rattle.dav_model.specs.Unset.{nothing_set}
-use Rattle.dav_model.specs.Written.{EndsAs, IsHeldOff, silent}
+use Rattle.dav_model.specs.Written.{EndsAs, silent}
 
 abbrev row : Names → Kind → ℕ → Row
 row path kind number = record { path = path; kind = kind; number = number; time = record { secs = pos 0; nanos = 0 } }
@@ -120,36 +120,30 @@ copies_one = refl
 
 -- What a MOVE or a COPY may be answered there, where no fault was met, and what it may leave.
 abbrev carried : Names → Asked → Reply → World → Type 0
-carried file asked reply left =
-    EndsAs [] (over_one file asked) (Ok reply) ⊥ w left ⊎ IsHeldOff (record (plain_rules nothing_set) { alone = Some file }) (by_path (codes "x" ∷ [])) (Ok asked) (Ok reply) w left
+carried file asked reply left = EndsAs [] (over_one file asked) (Ok reply) ⊥ w left
 
 -- While the file stands all are refused, and it stays.
 stays_one : (reply : Reply) (left : World) → carried (codes "f" ∷ []) (asks true (codes "n" ∷ []) true false) reply left → (reply ≡ refusal [] 409 false) × SameBesidesOpens w left
-stays_one reply left (inl (inl kept)) = kept
-stays_one reply left (inl (inr (failed, rose, part))) = absurd rose
-stays_one reply left (inr (over, is, same)) = cc
+stays_one reply left (inl kept) = kept
+stays_one reply left (inr (failed, rose, part)) = absurd rose
 
 keeps_one : (reply : Reply) (left : World) → carried (codes "f" ∷ []) (asks false (codes "n" ∷ []) true false) reply left → (reply ≡ refusal [] 409 false) × SameBesidesOpens w left
-keeps_one reply left (inl (inl kept)) = kept
-keeps_one reply left (inl (inr (failed, rose, part))) = absurd rose
-keeps_one reply left (inr (over, is, same)) = cc
+keeps_one reply left (inl kept) = kept
+keeps_one reply left (inr (failed, rose, part)) = absurd rose
 
 -- A directory with members stays.
 keeps_full : (reply : Reply) (left : World) → carried (codes "d" ∷ []) (asks true (codes "n" ∷ []) true false) reply left → (reply ≡ refusal [] 403 false) × SameBesidesOpens w left
-keeps_full reply left (inl (inl kept)) = kept
-keeps_full reply left (inl (inr (failed, rose, part))) = absurd rose
-keeps_full reply left (inr (over, is, same)) = cc
+keeps_full reply left (inl kept) = kept
+keeps_full reply left (inr (failed, rose, part)) = absurd rose
 
 -- Of one without members a MOVE isn't answered as done, and a COPY isn't answered 201.
 moves_none : (reply : Reply) (left : World) → carried (codes "s" ∷ codes "b" ∷ []) (asks true (codes "n" ∷ []) true false) reply left → reply ≡ refusal [] 404 false
-moves_none reply left (inl (inl (m, edited, ended))) = ended.0
-moves_none reply left (inl (inr (failed, rose, part))) = absurd rose
-moves_none reply left (inr (over, is, same)) = cc
+moves_none reply left (inl (m, edited, ended)) = ended.0
+moves_none reply left (inr (failed, rose, part)) = absurd rose
 
 copies_silently : (reply : Reply) (left : World) → carried (codes "s" ∷ codes "b" ∷ []) (asks false (codes "n" ∷ []) true false) reply left → reply ≡ silent
-copies_silently reply left (inl (inl (m, edited, ended))) = ended.2.0
-copies_silently reply left (inl (inr (failed, rose, part))) = absurd rose
-copies_silently reply left (inr (over, is, same)) = cc
+copies_silently reply left (inl (m, edited, ended)) = ended.2.0
+copies_silently reply left (inr (failed, rose, part)) = absurd rose
 
 -- ---- a directory is moved to where a file stands that no look shows
 

@@ -1,5 +1,6 @@
 -- How often a step asks the disk. A count of calls stops at the greatest u64.
-use Rattle.std.specs.Prelude.{◌≡◌, ◌≢◌, ◌<◌, ◌≤◌, ◌+◌, ◌⊎◌, ◌&&◌, ◌||◌, ℕ, min, List, [], ◌∷◌, Bool, true, false, not, codes, cond, Option, None, Some, Ok}
+use Rattle.std.specs.Prelude.{◌≡◌, ◌≢◌, ◌<◌, ◌≤◌, ◌+◌, ◌*◌, ◌⊎◌, ◌&&◌, ◌||◌, ℕ, min, nat_le, nat_lt, List, [], ◌∷◌, length, Bool, true, false, not, codes, cond, Option, None, Some, Ok}
+use Rattle.std.specs.List.{count_by, list_any}
 use Rattle.std.specs.Option.{is_some, option_map}
 use Rattle.std.specs.Str.{bytes_eq}
 use Rattle.dav_io.specs.Counts.{RefusedNothing, greatest, one_more}
@@ -7,8 +8,8 @@ use Rattle.dav_io.specs.declared.fields.Field.{Field}
 use Rattle.dav_core.specs.declared.tree.Row.{Row}
 use Rattle.dav_core.specs.DavPath.{WebPath, last_name}
 use Rattle.dav_core.specs.Listing.{or_empty}
-use Rattle.dav_core.specs.Path.{Names}
-use Rattle.dav_core.specs.Tree.{is_linked, look}
+use Rattle.dav_core.specs.Path.{Names, is_front, parent_of}
+use Rattle.dav_core.specs.Tree.{is_link, is_linked, look}
 use Rattle.dav_core.specs.World.{World}
 use Rattle.dav_model.specs.declared.answer.Answer.{Answer}
 use Rattle.dav_model.specs.declared.answer.Answer.TheVariants.{Piece}
@@ -18,7 +19,7 @@ use Rattle.dav_model.specs.Bodies.{Part, text, slice}
 use Rattle.dav_model.specs.Conditions.{Fields}
 use Rattle.dav_model.specs.Due.{OfItsPaths, Query, query}
 use Rattle.dav_model.specs.Finding.{is_localized, is_virtual, or_walk}
-use Rattle.dav_model.specs.Folds.{is_dot}
+use Rattle.dav_model.specs.Folds.{fold_path, is_dot}
 use Rattle.dav_model.specs.Head.{is_set, is_well_known}
 use Rattle.dav_model.specs.Rules.{Knowledge, Rules}
 use Rattle.dav_model.specs.Trail.{Point}
@@ -156,8 +157,49 @@ pub record AreNear (held : Bool) (rules : Rules) (k : Knowledge) (w : World) (q 
   pub seen : IsSeenAtOnce held rules k w q.path
   pub opened : OfItsPaths q (λ path. (at : Names) × IsNear held k w path.names at)
 
--- How often a GET or HEAD asks between two points. Of a path that these rules touch nothing is said, nor of one where
--- names fold that the memory hasn't and that doesn't stand as it is asked.
+-- ---- where names fold: the most calls by which a path is found
+
+-- The row stands in a directory on the way to the path, names folded, and no deeper than the path.
+abbrev pub is_on_way : Names → Row → Bool
+is_on_way names row = nat_lt 0 (length row.path) && (nat_le (length row.path) (length names)
+    && is_front (fold_path (parent_of row.path)) (fold_path names))
+
+-- A link stands on the way to the path, or at it, names folded.
+abbrev pub is_link_on_way : List Row → Names → Bool
+is_link_on_way tree names = list_any (λ row. is_link row.kind && is_front (fold_path row.path) (fold_path names)) tree
+
+-- A walk from the root looks at each name of the path. Where it doesn't stand as it is asked, the directory is listed:
+-- its beginning, a call for each name in it, and its end.
+abbrev pub calls_from_root : World → Names → ℕ
+calls_from_root w names = 3 * length names + count_by (is_on_way names) w.tree
+
+-- No link is met on the way to the path, and a walk to it from the root costs so many calls at most.
+pub record IsWalkedBy (most : ℕ) (w : World) (path : WebPath) : Type 0 where
+  pub clear : is_link_on_way w.tree path.names ≡ false
+  pub few : calls_from_root w path.names ≤ most
+
+-- A look at such a path, its opening, or a refused listing: six calls more. The memory is asked for it, it is looked at
+-- as it is asked, and the directory above it likewise; and two follow at the place found.
+abbrev pub calls_to_seek : ℕ → ℕ
+calls_to_seek most = most + 6
+
+-- A look, an opening or a refused listing, each by so many calls, and then the metadata of what was opened, its address
+-- where clients may be sent there, and a move to the first part.
+abbrev pub calls_to_send : ℕ → Bool → ℕ
+calls_to_send each redirects = 2 * each + cond redirects 3 2
+
+-- at most so many calls, unless the page of a directory is given
+abbrev pub AtMostUnlessPage : ℕ → Bool → ℕ → ℕ → Type 0
+AtMostUnlessPage most true before after = before ≤ after
+AtMostUnlessPage most false before after = AsksAtMost most before after
+
+-- The page of a well-known server is given without a call.
+abbrev pub AtMostUnlessKnown : ℕ → Bool → List Field → ℕ → ℕ → Type 0
+AtMostUnlessKnown most true fields before after = after ≡ before
+AtMostUnlessKnown most false fields before after = AtMostUnlessPage most (is_of_page fields) before after
+
+-- How often a GET or HEAD asks between two points. Where names don't fold, nothing is said of a path that these rules
+-- touch. Where they fold, a path has a bound where it has no number, unless a link is met.
 pub record AsksToFind (rules : Rules) (k : Knowledge) (q : Query) (status : ℕ) (fields : List Field) (s t : Point)
     : Type 0 where
   pub meant : is_meant rules ≡ true → is_touched rules q.path ≡ false
@@ -168,6 +210,10 @@ pub record AsksToFind (rules : Rules) (k : Knowledge) (q : Query) (status : ℕ)
       → AreNear held rules k w q
       → AsksUnlessKnown (calls_to_open held) (is_well_known q.settings q.method q.path) (is_set q.settings.redirect)
       status fields s.asked t.asked
+  -- where names fold, whatever the memory has and whatever was refused
+  pub sought : is_meant rules ≡ false → (w : World) (most : ℕ) → s.told ≡ Some w → OfItsPaths q (IsWalkedBy most w)
+      → AtMostUnlessKnown (calls_to_send (calls_to_seek most) (is_set q.settings.redirect))
+      (is_well_known q.settings q.method q.path) fields s.asked t.asked
 
 -- A request that a gate refuses, and OPTIONS, ask nothing. How often a request that writes asks isn't said.
 abbrev pub AsksToReply : Target → Rules → Knowledge → Fields → ℕ → List Field → Point → Point → Type 0

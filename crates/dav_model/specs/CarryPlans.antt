@@ -159,21 +159,6 @@ carry_plan rules w ask (Ok asked) = record {
   done = status_over (stands rules w asked.to);
 }
 
--- ---- what a fault may give beside
-
--- whether a change is made at first
-abbrev pub begins : List Act → Bool
-begins (does e ∷ acts) = true
-begins acts = false
-
--- A directory is moved to where a file stands that no look shows, since its name is hidden from clients of macOS: the
--- file is to go first.
-abbrev pub moves_over_hidden : Rules → World → Ask → Result Asked DavError → Bool
-moves_over_hidden rules w ask (Err e) = false
-moves_over_hidden rules w ask (Ok asked) = asked.moving && (begins (carry_plan rules w ask (Ok asked)).acts
-    && (not (is_found (stands rules w asked.to)) && is_dir_over (row_at w.tree (resolved rules w.tree ask.path.names))
-    (row_at w.tree (resolved rules w.tree asked.to.names))))
-
 -- ---- of what nothing is said
 
 -- A link stands on the way to a path, at it or below it.

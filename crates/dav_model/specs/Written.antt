@@ -12,7 +12,7 @@ use Rattle.dav_core.specs.World.{World, SameBesidesOpens}
 use Rattle.dav_model.specs.declared.asked.Asked.{Asked}
 use Rattle.dav_model.specs.declared.target.Target.{Target}
 use Rattle.dav_model.specs.declared.target.Target.TheVariants.{At, Methods, Refused, Writes}
-use Rattle.dav_model.specs.CarryPlans.{carries_link, carry_plan, moves_over_hidden}
+use Rattle.dav_model.specs.CarryPlans.{carries_link, carry_plan}
 use Rattle.dav_model.specs.Causes.{IsDueTo}
 use Rattle.dav_model.specs.Conditions.{Fields}
 use Rattle.dav_model.specs.Destination.{Asks}
@@ -120,20 +120,13 @@ abbrev pub MakesIn : Rules → Ask → Result Reply NoMemory → Type 0 → Worl
 MakesIn rules ask result rose v w = meets_link ask.method v.tree (resolved rules v.tree ask.path.names) ≡ false
     → EndsAs ask.fields (plan rules v ask) result rose v w
 
--- A directory doesn't come to where a hidden file stands: a fault was met before the file went, or memory was refused
--- then. It is answered 403, and nothing changed.
-abbrev pub IsHeldOff : Rules → Ask → Result Asked DavError → Result Reply NoMemory → World → World → Type 0
-IsHeldOff rules ask asked result v w = (moves_over_hidden rules v ask asked ≡ true)
-    × (result ≡ Ok (refusal ask.fields 403 false))
-    × SameBesidesOpens v w
-
 -- The fields of a COPY or a MOVE ask for something, and what it makes of a told world is what it asked for, where it
 -- meets no link.
 abbrev pub CarriesBy : Rules → Bool → Ask → Result Reply NoMemory → Type 0 → World → World → Type 0
 CarriesBy rules moving ask result rose v w = (asked : Result Asked DavError)
     × Asks moving rules.settings.prefix ask.fields asked
     × (carries_link rules v.tree ask.path asked ≡ false
-    → EndsAs ask.fields (carry_plan rules v ask asked) result rose v w ⊎ IsHeldOff rules ask asked result v w)
+    → EndsAs ask.fields (carry_plan rules v ask asked) result rose v w)
 
 -- (Memory may be refused before its fields were read.)
 abbrev pub CarriesIn : Rules → Bool → Ask → Result Reply NoMemory → Type 0 → World → World → Type 0

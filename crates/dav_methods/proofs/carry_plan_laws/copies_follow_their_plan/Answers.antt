@@ -1,4 +1,3 @@
-use Rattle.std.specs.Prelude.{false}
 use Rattle.dav_core.specs.declared.method.DavMethod.TheVariants.{Copy}
 use Rattle.dav_methods.proofs.CarriedRight.{copy_follows}
 use Rattle.dav_methods.proofs.carry_plan_laws.copies_follow_their_plan.Goals as goal

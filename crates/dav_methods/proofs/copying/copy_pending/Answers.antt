@@ -1,4 +1,4 @@
-use Rattle.std.proofs.Common.{Ok, Err, [], refl, ap, ◌∙◌, arith}
+use Rattle.std.proofs.Common.{Ok, Err, [], refl, ap, arith}
 use Rattle.dav_store.proofs.Staying.{stays_same, stays_then}
 use Rattle.dav_methods.specs.Walking.{transfers_at, works_at}
 use Rattle.dav_methods.specs.Weights.{weight}

@@ -1,4 +1,4 @@
-use Rattle.std.proofs.Common.{◌≡◌, []}
+use Rattle.std.proofs.Common.{[]}
 use Rattle.dav_store.specs.View.{StaysOpen}
 use Rattle.dav_methods.specs.Copying.{Copies}
 use Rattle.dav_methods.specs.Lines.{Line}
