@@ -32,15 +32,7 @@ use Rattle.dav_config.specs.Failing.{FailsBehind, FailsOn, HasCause}
 fails_as : (e : FsError) → fs_status e ≡ 500 → (e ≡ fs.NoMemory → ⊥) → e ≡ fs.GeneralFailure
 fails_as fs.GeneralFailure is had = refl
 fails_as fs.NoMemory is had = absurd (had refl)
-fails_as fs.NotFound is had = absurd (omega arith)
-fails_as fs.Forbidden is had = absurd (omega arith)
-fails_as fs.Exists is had = absurd (omega arith)
-fails_as fs.NotImplemented is had = absurd (omega arith)
-fails_as fs.InsufficientStorage is had = absurd (omega arith)
-fails_as fs.LoopDetected is had = absurd (omega arith)
-fails_as fs.PathTooLong is had = absurd (omega arith)
-fails_as fs.TooLarge is had = absurd (omega arith)
-fails_as fs.IsRemote is had = absurd (omega arith)
+fails_as other is had = absurd (omega arith)
 
 refused_is : (a b : ℕ) (x y : Bool) → refused a x ≡ refused b y → a ≡ b
 refused_is a b x y e = cc

@@ -15,7 +15,6 @@ use Rattle.dav_model.specs.Due.{Query, query}
 use Rattle.dav_store.specs.FileView.{FileView}
 use Rattle.dav_store.specs.declared.body_reader.BodyReader.{Ghosts as ReaderGhosts}
 use Rattle.dav_store.specs.Frames.{KeepsOpen}
-use Rattle.dav_store.specs.Standing.{Seen}
 use Rattle.dav_body.specs.declared.body.BodyType.{BodyType}
 use Rattle.dav_body.specs.declared.body.BodyType.TheVariants.{Bytes, AsyncStream as Stream, Empty}
 use Rattle.dav_body.specs.declared.fault.BodyFault.{BodyFault}

@@ -13,7 +13,7 @@ use Rattle.dav_body.specs.declared.fault.BodyFault.{BodyFault}
 use Rattle.dav_body.specs.declared.fault.BodyFault.TheVariants.{Broken, NoMemory}
 use Rattle.dav_get.specs.declared.body.GetBody.{GetBody}
 use Rattle.dav_config.specs.Given.{Ends, HandlesGiven, HandlesWith, IsCollected, StaysWith, body_of_bytes}
-use Rattle.dav_config.specs.Handling.{Asking, HandlesAll, Served, Stays}
+use Rattle.dav_config.specs.Handling.{Asking, HandlesAll, Served}
 use Rattle.dav_config.specs.Responses.{Responded, inner_of}
 use Rattle.dav_config.specs.Writing.{asks_to_write}
 use Rattle.dav_config.proofs.Staying.{kept_unless, stays_same}

@@ -1,5 +1,5 @@
 -- The body of an answer may be polled with what is inside the store.
-use Rattle.std.proofs.Common.{◌≡◌, ℕ, true, Option, None, Some, subst, sym, ◌∙◌}
+use Rattle.std.proofs.Common.{◌≡◌, true, Option, None, Some, subst, sym, ◌∙◌}
 use Rattle.std.specs.Prelude.{IfOk, IfSome}
 use Rattle.dav_core.specs.Disk.{DiskState, can_read}
 use Rattle.std.specs.Prelude.{Result, Ok, Err}
@@ -11,7 +11,6 @@ use Rattle.dav_body.specs.declared.body.BodyType.{BodyType}
 use Rattle.dav_body.specs.declared.body.BodyType.TheVariants.{Empty}
 use Rattle.dav_store.specs.FileView.{FileView, SameFiles}
 use Rattle.dav_store.specs.declared.body_reader.BodyReader.{Ghosts as ReaderGhosts}
-use Rattle.dav_store.specs.Standing.{Seen}
 use Rattle.dav_get.specs.declared.body.GetBody.{GetBody}
 use Rattle.dav_get.specs.Bodies.{IsHeld}
 use Rattle.dav_get.specs.Lives.{OpenOnlyHeld}

@@ -1,16 +1,12 @@
 -- What a request leaves of its store where memory was refused: nothing open, and nothing changed unless it writes.
-use Rattle.std.proofs.Common.{◌≡◌, Bool, true, false, Option, None, Some, Result, Ok, Err, refl, sym, true≢false}
-use Rattle.std.specs.Prelude.{OnErr}
+use Rattle.std.proofs.Common.{◌≡◌, Bool, true, false, Option, None, Some, refl, sym, true≢false}
 use Rattle.dav_core.specs.Disk.{DiskState}
 use Rattle.dav_core.specs.Unchanged.{Keeps}
 use Rattle.dav_core.proofs.UnchangedLemmas.{keeps_same}
 use Rattle.dav_store.specs.Frames.{KeepsOpen}
 use Rattle.dav_config.specs.Handling.{Asking, Served, Stays}
 use Rattle.dav_config.specs.Writing.{KeepsUnless, asks_to_write}
-
--- What changes nothing leaves nothing open.
-pub open_kept : (s t : DiskState) → Keeps s t → KeepsOpen s t
-open_kept s t k = record { counts = k.counts; asked = k.asked; whole = k.whole; listers = k.listers; listings = k.listings; live = k.live; opens = k.opens }
+use Rattle.dav_store.proofs.Staying.{open_kept}
 
 pub kept_unless : (writes : Bool) (s t : DiskState) → Keeps s t → KeepsUnless writes s t
 kept_unless true s t keeps = open_kept s t keeps

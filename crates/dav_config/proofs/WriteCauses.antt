@@ -3,6 +3,7 @@
 use Rattle.std.proofs.Common.{◌≡◌, ◌≤◌, ◌++◌, ◌⊎◌, ℕ, List, [], ◌∷◌, length, Bool, true, false, not, Option, None, Some, Result, Ok, Err, refl, sym, ap, subst, ◌∙◌, inl, inr, arith, true≢false}
 use Rattle.std.specs.Prelude.{if◌then◌else◌}
 use Rattle.dav_io.specs.Counts.{Rose}
+use Rattle.dav_io.proofs.Ends.{last_same}
 use Rattle.dav_core.specs.declared.dav_error.DavError.{DavError}
 use Rattle.dav_core.specs.declared.dav_error.DavError.TheVariants as dav
 use Rattle.dav_core.specs.declared.error.FsError.{FsError}
@@ -10,7 +11,7 @@ use Rattle.dav_core.specs.declared.error.FsError.TheVariants as fs
 use Rattle.dav_core.specs.declared.etag.ETag.{ETag}
 use Rattle.dav_core.specs.declared.etag_list.EtagList.{EtagList}
 use Rattle.dav_core.specs.declared.method.DavMethod.{DavMethod}
-use Rattle.dav_core.specs.declared.method.DavMethod.TheVariants.{Copy, Delete, Get, Head, Lock, MkAddressbook, MkCalendar, MkCol, Move, Options, Patch, PropFind, PropPatch, Put, Report, Unlock}
+use Rattle.dav_core.specs.declared.method.DavMethod.TheVariants.{Copy, Delete, MkAddressbook, MkCalendar, MkCol, Move, Put}
 use Rattle.dav_core.specs.declared.parse_error.ParseError.{ParseError}
 use Rattle.dav_core.specs.declared.parse_error.ParseError.TheVariants as parse
 use Rattle.dav_core.specs.declared.time.FileTime.{FileTime}
@@ -29,22 +30,19 @@ use Rattle.dav_store.specs.Members.{Answered, Walked, begun, goes as walks}
 use Rattle.dav_store.specs.View.{View, Listings}
 use Rattle.dav_get.proofs.HeardIsRight.{rose_through}
 use Rattle.dav_model.specs.declared.asked.Asked.{Asked}
-use Rattle.dav_methods.specs.declared.transfer.Transfer.{Transfer}
-use Rattle.dav_methods.specs.declared.work.Work.{Work}
-use Rattle.dav_methods.specs.declared.work.Work.TheVariants.{Emptied, Whole}
-use Rattle.dav_methods.specs.Carrying.{Arrives, Carries, CopyMoves, Goes, Leaves, TakesPlace, may_leave, may_take_place, transfer}
-use Rattle.dav_methods.specs.Copying.{AfterMaking, Copies, CopiesBy, CopiesDir, Enters, ReadsInto, done as all_copied, short as copied_short, goes as copies_on, stops as copies_stopped}
+use Rattle.dav_methods.specs.Carrying.{CopyMoves, may_leave, may_take_place}
 use Rattle.dav_model.specs.CarryPlans.{method_of}
 use Rattle.dav_model.specs.Destination.{Asks, IsDestination, IsPlace, asked_by, depth_of, overwrite_of, path_or_refusal}
 use Rattle.dav_methods.specs.Follows as on
-use Rattle.dav_methods.specs.Lines.{Given, Line, above, done_over, fails_when, first_of, found_or_failed, info_there, is_dir_there, is_there, made, may_delete, may_make, may_put, no_parent, refused_but_missing, silent, unless, unmet, with_status}
+use Rattle.dav_methods.specs.Lines.{Given, Line, fails_when, first_of, found_or_failed, info_there, is_dir_there, is_there, made, may_delete, may_make, may_put, no_parent, refused_but_missing, silent, unless, unmet, with_status}
 use Rattle.dav_model.specs.Overlap.{overlap}
 use Rattle.dav_methods.specs.Pouring.{Poured, Stops, Writes, WritesFile, begun as none_poured, goes as pours_on}
-use Rattle.dav_methods.specs.Putting.{AfterChecks, MayPut, MayReplace, Puts, put_options}
-use Rattle.dav_methods.specs.Reading.{HasMembers, HasNoMembers, MembersUnread, ReadRefused}
-use Rattle.dav_methods.specs.Removing.{Deletes, LooksAtLink, RefusesDir, RemovesAll, RemovesOne, Removes, is_deep, is_root, line_of, done, short, goes as removes_on, stops as stopped}
-use Rattle.dav_methods.specs.Table.{Below, Ends, EndsMade, Looks, MkCalendars, MkCols, Next, Run, Unless}
-use Rattle.dav_methods.proofs.ListingsLead.{listed_on}
+use Rattle.dav_methods.specs.Putting.{AfterChecks, MayPut, Puts, put_options}
+use Rattle.dav_methods.specs.Reading.{HasNoMembers, MembersUnread, ReadRefused}
+use Rattle.dav_methods.specs.Removing.{Deletes}
+use Rattle.dav_methods.specs.Table.{MkCalendars, MkCols, Next, Run}
+use Rattle.dav_methods.proofs.ListingsLead.{listed_on, unread_on}
+use Rattle.dav_methods.proofs.TablesKept.{CallsKeep, CarryJudges, Fits, Gives, Judges, Keeps, Left, carry_keeps, delete_keeps, may_put_keeps, mkcalendar_keeps, mkcol_keeps}
 use Rattle.dav_config.specs.Writing as one
 use Rattle.dav_config.specs.Writing.{ByMethod, Order, RefusedOnWay, RefusesOne}
 
@@ -137,44 +135,19 @@ mind_parent : IsMindful no_parent
 mind_parent (Ok info) e is fails = when_never (not (is_dir info.kind)) 409 e is (λ s. omega (arith, s)) fails
 mind_parent (Err fs.GeneralFailure) e is fails = refl
 mind_parent (Err fs.NoMemory) e is fails = never_wanting e (same_error dav.NoMemory e is) fails
-mind_parent (Err fs.NotFound) e is fails = never_status 409 e (ap status_of (same_error (dav.Status 409) e is)) (λ s. omega (arith, s)) fails
-mind_parent (Err fs.Forbidden) e is fails = never_status 409 e (ap status_of (same_error (dav.Status 409) e is)) (λ s. omega (arith, s)) fails
-mind_parent (Err fs.Exists) e is fails = never_status 409 e (ap status_of (same_error (dav.Status 409) e is)) (λ s. omega (arith, s)) fails
-mind_parent (Err fs.NotImplemented) e is fails = never_status 409 e (ap status_of (same_error (dav.Status 409) e is)) (λ s. omega (arith, s)) fails
-mind_parent (Err fs.InsufficientStorage) e is fails = never_status 409 e (ap status_of (same_error (dav.Status 409) e is)) (λ s. omega (arith, s)) fails
-mind_parent (Err fs.LoopDetected) e is fails = never_status 409 e (ap status_of (same_error (dav.Status 409) e is)) (λ s. omega (arith, s)) fails
-mind_parent (Err fs.PathTooLong) e is fails = never_status 409 e (ap status_of (same_error (dav.Status 409) e is)) (λ s. omega (arith, s)) fails
-mind_parent (Err fs.TooLarge) e is fails = never_status 409 e (ap status_of (same_error (dav.Status 409) e is)) (λ s. omega (arith, s)) fails
-mind_parent (Err fs.IsRemote) e is fails = never_status 409 e (ap status_of (same_error (dav.Status 409) e is)) (λ s. omega (arith, s)) fails
+mind_parent (Err x) e is fails = never_status 409 e (ap status_of (same_error (dav.Status 409) e is)) (λ s. omega (arith, s)) fails
 
 mind_found : IsMindful found_or_failed
 mind_found (Ok info) e is fails = never_status 405 e (ap status_of (same_error (dav.StatusClose 405) e is)) (λ s. omega (arith, s)) fails
 mind_found (Err fs.GeneralFailure) e is fails = refl
 mind_found (Err fs.NoMemory) e is fails = never_wanting e (same_error dav.NoMemory e is) fails
-mind_found (Err fs.NotFound) e is fails = cc
-mind_found (Err fs.Forbidden) e is fails = cc
-mind_found (Err fs.Exists) e is fails = cc
-mind_found (Err fs.NotImplemented) e is fails = cc
-mind_found (Err fs.InsufficientStorage) e is fails = cc
-mind_found (Err fs.LoopDetected) e is fails = cc
-mind_found (Err fs.PathTooLong) e is fails = cc
-mind_found (Err fs.TooLarge) e is fails = cc
-mind_found (Err fs.IsRemote) e is fails = cc
+mind_found (Err x) e is fails = cc
 
 -- a refused look, but where nothing stands; and then lines that give no 500
 mind_missing : (x : FsError) (lines : List Line) (e : DavError) → ((e : DavError) → first_of lines ≡ Err e → FailsWith e → ⊥)
     → first_of (refused_but_missing (Err x) ∷ lines) ≡ Err e → FailsWith e → ◌≡◌ {A = Result Info FsError} (Err x) (Err fs.GeneralFailure)
 mind_missing fs.NotFound lines e never is fails = absurd (never e is fails)
-mind_missing fs.GeneralFailure lines e never is fails = refl
-mind_missing fs.NoMemory lines e never is fails = look_failed fs.NoMemory e is fails
-mind_missing fs.Forbidden lines e never is fails = look_failed fs.Forbidden e is fails
-mind_missing fs.Exists lines e never is fails = look_failed fs.Exists e is fails
-mind_missing fs.NotImplemented lines e never is fails = look_failed fs.NotImplemented e is fails
-mind_missing fs.InsufficientStorage lines e never is fails = look_failed fs.InsufficientStorage e is fails
-mind_missing fs.LoopDetected lines e never is fails = look_failed fs.LoopDetected e is fails
-mind_missing fs.PathTooLong lines e never is fails = look_failed fs.PathTooLong e is fails
-mind_missing fs.TooLarge lines e never is fails = look_failed fs.TooLarge e is fails
-mind_missing fs.IsRemote lines e never is fails = look_failed fs.IsRemote e is fails
+mind_missing x lines e never is fails = look_failed x e is fails
 
 mind_make : (fields : Fields) → IsMindful (may_make fields)
 mind_make fields (Ok info) e is fails = never_status 405 e (ap status_of (same_error (dav.Status 405) e is)) (λ s. omega (arith, s)) fails
@@ -209,19 +182,6 @@ mind_arrive replaces (Err x) e is fails =
 met_never : {X : Type 0} (status : Option ℕ) (e : DavError) → NeverFails status → with_status status ≡ Err e → FailsWith e → X
 met_never None e never is fails = cc
 met_never (Some status) e never is fails = never_status status e (ap status_of (same_error (dav.Status status) e is)) never fails
-
-done_never : (found : Result Info FsError) → (done_over found).status ≡ 500 → ⊥
-done_never (Ok info) s = omega (arith, s)
-done_never (Err e) s = omega (arith, s)
-
--- the last of two lists that are one
-ends_same : {A : Type 0} (xs ys : List A) (a b : A) → xs ++ a ∷ [] ≡ ys ++ b ∷ [] → a ≡ b
-ends_same [] [] a b e = cc
-ends_same [] (y ∷ []) a b e = cc
-ends_same [] (y ∷ z ∷ ys) a b e = cc
-ends_same (x ∷ []) [] a b e = cc
-ends_same (x ∷ z ∷ xs) [] a b e = cc
-ends_same (x ∷ xs) (y ∷ ys) a b e = ends_same xs ys a b cc
 
 -- ---- what the fields of a COPY or a MOVE ask for
 
@@ -278,86 +238,133 @@ module _ {S C F L E : Type 0} (view : View S C F) (lists : Listings S C L E) (wr
   Came s (Ok outcome) t = (outcome.status ≡ 500 → ⊥) × Reach s t
   Came s (Err e) t = FailsWith e → Way s t
 
-  -- and its work came here
-  abbrev CameBy : S → Line → S → Type 0
-  CameBy s (Ok x) t = Reach s t
-  CameBy s (Err e) t = FailsWith e → Way s t
+  way : (s m n t : S) → Reach s m → Refuses m n → Reach n t → Way s t
+  way s m n t came fails ends = record { before = m; after = n; came = came; fails = fails; ends = ends }
 
-  way : (s m n t : S) → Reach s m → Refuses m n → t ≡ n → Way s t
-  way s m n t came fails same = record { before = m; after = n; came = came; fails = fails; ends = subst (Reach n) (sym same) on.here }
+  -- ---- the reading of a directory
 
-  came_wanting : (s t : S) (r : Given) → r ≡ Err dav.NoMemory → Came s r t
-  came_wanting s t r is = subst (λ x. Came s x t) (sym is) (λ fails. never_wanting dav.NoMemory refl fails)
+  -- the last that was asked was refused, and the listing was ended
+  said_way : (s b m o t : S) (path : WebPath) (l k : L) (all front : List Answered) (a : Answered) → a.meta ≡ Err fs.GeneralFailure → all ≡ front ++ a ∷ [] → Reach s b
+      → lists.lists b c path DataSymlink (Ok l) m → Walked view lists m l all o k → lists.ends_list o k t → Way s t
+  said_way s b m o t path l k all [] a is same came begins begun ended = cc
+  said_way s b m o t path l k all (x ∷ front) a is same came begins begun ended = cc
+  said_way s b m o t path l k all front a is same came begins (walks before n p q i j e r walked nexts said lends keeps) ended =
+      let last = last_same before front (record { name = lists.called e; meta = r }) a same in
+      let refused : r ≡ Err fs.GeneralFailure = ap (λ (x : Answered). x.meta) last ∙ is in
+      way s b t t came (one.says path DataSymlink l i k m n p o before e begins walked nexts (subst (λ x. lists.says e (view.state p) x (view.state o)) refused said) ended) on.here
 
-  next_came : (s m t : S) (r : Given) (run : Run S) → Next run m r t → (run m r t → Came s r t) → Came s r t
-  next_came s m t r run (inl wants) go = came_wanting s t r wants.1
-  next_came s m t r run (inr ran) go = go ran
+  read_way : (s b m o t : S) (path : WebPath) (l k : L) (e : FsError) → Reach s b → lists.lists b c path DataSymlink (Ok l) m → ReadRefused view lists m l e o k → lists.ends_list o k t
+      → e ≡ fs.GeneralFailure → Way s t
+  read_way s b m o t path l k e came begins (inl (wants, answers, walk)) ended is = cc
+  read_way s b m o t path l k e came begins (inr (inl (answers, place, left, walk, said, refused))) ended is =
+      way s b t t came (one.goes_on path DataSymlink l left k m place o answers begins walk (subst (λ x. lists.lists_on place left (Err x) o k) is refused) ended) on.here
+  read_way s b m o t path l k e came begins (inr (inr (answers, name, said, walk))) ended is =
+      said_way s b m o t path l k (answers ++ record { name = name; meta = Err e } ∷ []) answers (record { name = name; meta = Err e }) (ap (λ (x : FsError). Err x) is) refl came begins walk ended
 
-  unless_came : (s m t : S) (r : Given) (line : Line) (run : Run S) → ((e : DavError) → line ≡ Err e → FailsWith e → Way s m) → Unless line run m r t → (run m r t → Came s r t)
-      → Came s r t
-  unless_came s m t r (Ok x) run stop ran go = go ran
-  unless_came s m t r (Err e) run stop ends go =
-      subst (λ x. Came s x t) (sym ends.1) (λ fails. subst (Way s) (sym ends.0) (stop e refl fails))
+  unread_way : (s m t : S) (path : WebPath) (e : FsError) → Reach s m → HasNoMembers view lists m c path e t → e ≡ fs.GeneralFailure → Way s t
+  unread_way s m t path e came none is = by none.why
+    where
+      by : MembersUnread view lists m c path e t → Way s t
+      by (inl (wants, listed, was)) = cc
+      by (inr (inl refused)) = way s m t t came (one.begins path DataSymlink (subst (λ x. lists.lists m c path DataSymlink (Err x) t) is refused)) on.here
+      by (inr (inr (begin, after, listing, over, begins, refused, ended))) = read_way s m begin after t path listing over e came begins refused ended is
 
-  -- a look, and a line by what it found
-  look_came : (s m t : S) (r : Given) (path : WebPath) (line : Result Info FsError → Line) (run : Result Info FsError → Run S) → IsMindful line → Reach s m
-      → Looks view c path (λ found. Unless (line found) (run found)) m r t → ((found : Result Info FsError) (n : S) → Reach s n → run found n r t → Came s r t) → Came s r t
-  look_came s m t r path line run mind came (found, n, looked, next) go =
-      next_came s n t r (Unless (line found) (run found)) next
-      (λ ran. unless_came s n t r (line found) (run found)
-      (λ e is fails. way s m n n came (one.looks path (subst (λ x. view.looks m c path x n) (mind found e is fails) looked)) refl)
-      ran (λ more. go found n (on.looks m n path found came looked) more))
+  -- ---- what each call keeps, and what each line is minded of
 
-  link_came : (s m t : S) (r : Given) (path : WebPath) (line : Result Info FsError → Line) (run : Result Info FsError → Run S) → IsMindful line → Reach s m
-      → LooksAtLink view lists c path (λ found. Unless (line found) (run found)) m r t → ((found : Result Info FsError) (n : S) → Reach s n → run found n r t → Came s r t)
-      → Came s r t
-  link_came s m t r path line run mind came (found, n, looked, next) go =
-      next_came s n t r (Unless (line found) (run found)) next
-      (λ ran. unless_came s n t r (line found) (run found)
-      (λ e is fails. way s m n n came (one.looks_at_link path (subst (λ x. view.looks_at_link m c path x n) (mind found e is fails) looked)) refl)
-      ran (λ more. go found n (on.looks_at_link m n path found came looked) more))
+  module _ (s : S) where
+    abbrev Refused : FsError → S → Type 0
+    Refused e t = e ≡ fs.GeneralFailure → Way s t
 
-  -- ---- a directory is made
+    abbrev Bad : DavError → S → Type 0
+    Bad e t = FailsWith e → Way s t
 
-  ends_made : (s m t : S) (r : Given) (path : WebPath) → Reach s m → EndsMade view c path m r t → Came s r t
-  ends_made s m t r path came (Ok x, n, makes, ends) =
-      subst (λ g. Came s g t) (sym ends.1) ((λ e. omega (arith, e)), subst (Reach s) (sym ends.0) (on.makes_dir m n path (Ok x) came makes))
-  ends_made s m t r path came (Err e, n, makes, ends) =
-      subst (λ g. Came s g t) (sym ends.1) (λ fails. way s m n t came (one.makes_dir path
-      (subst (λ x. view.makes_dir m c path (Err x) n) (of_failure e (of_fs e) refl fails) makes)) ends.0)
+    abbrev Done : Outcome → Type 0
+    Done outcome = outcome.status ≡ 500 → ⊥
 
-  below_came : (s m t : S) (r : Given) (path : WebPath) (run : Run S) → Reach s m → Below view c path run m r t → ((n : S) → Reach s n → run n r t → Came s r t) → Came s r t
-  below_came s m t r path run came below go = look_came s m t r (above path) no_parent (λ up. run) mind_parent came below (λ up n on_to ran. go n on_to ran)
+    left : {T : Type 0} (m n t : S) (r : Result T FsError) → Reach s m → Reach s t → Reach n t → (r ≡ Err fs.GeneralFailure → Refuses m n) → Left view lists writes c (Reach s) Refused Bad Done r t
+    left m n t (Ok x) came on_to ends fails = on_to
+    left m n t (Err e) came on_to ends fails = (on_to, λ is. way s m n t came (fails (ap (λ (x : FsError). Err x) is)) ends)
 
-  mkcol_came : (s m t : S) (r : Given) (path : WebPath) (fields : Fields) → Reach s m → MkCols view c path fields m r t → Came s r t
-  mkcol_came s m t r path fields came ran =
-      look_came s m t r path (may_make fields) (λ found. Below view c path (EndsMade view c path)) (mind_make fields) came ran
-      (λ found n on_to below. below_came s n t r path (EndsMade view c path) on_to below (λ k further made. ends_made s k t r path further made))
+    calls_kept : CallsKeep view lists writes c (Reach s) Refused Bad Done
+    calls_kept = record {
+      looks = λ m t path r came call. left m t t r came (on.looks m t path r came call) on.here (λ is. one.looks path (subst (λ x. view.looks m c path x t) is call));
+      looks_at_link = λ m t path r came call. left m t t r came (on.looks_at_link m t path r came call) on.here (λ is. one.looks_at_link path (subst (λ x. view.looks_at_link m c path x t) is call));
+      makes_dir = λ m t path r came call. left m t t r came (on.makes_dir m t path r came call) on.here (λ is. one.makes_dir path (subst (λ x. view.makes_dir m c path x t) is call));
+      removes_dir = λ m t path r came call. left m t t r came (on.removes_dir m t path r came call) on.here (λ is. one.removes_dir path (subst (λ x. view.removes_dir m c path x t) is call));
+      removes_file = λ m t path r came call. left m t t r came (on.removes_file m t path r came call) on.here (λ is. one.removes_file path (subst (λ x. view.removes_file m c path x t) is call));
+      renames = λ m t from to r came call. left m t t r came (on.renames m t from to r came call) on.here (λ is. one.renames from to (subst (λ x. view.renames m c from to x t) is call));
+      copies = λ m t from to r came call. left m t t r came (on.copies m t from to r came call) on.here (λ is. one.copies from to (subst (λ x. view.copies m c from to x t) is call));
+      opens = λ m t path r came call. left m t t r came (on.opens m t path put_options r came call) on.here (λ is. one.opens path put_options (subst (λ x. view.opens m c path put_options x t) is call));
+      fills = λ m n t f g bytes r came written closes.
+          left m n t r came (on.ends_file n t g (on.writes_file m n f g bytes r came written) closes) (on.ends_file n t g on.here closes)
+          (λ is. one.writes_file f g bytes (subst (λ x. WritesFile view writes m f bytes x n g) is written));
+      listed = λ m t path members came has. listed_on view lists writes c s m t path has.listed came has.was;
+      unlisted = λ m t path e came none. (unread_on view lists writes c s m t path e came none.why, unread_way s m t path e came none);
+      refused = λ e t is fails. is (of_failure e (of_fs e) refl fails);
+      wanting = λ t fails. never_wanting dav.NoMemory refl fails;
+      deep = λ t fails. never_status 403 (dav.Status 403) refl (λ x. omega (arith, x)) fails;
+    }
 
-  mkcalendar_came : (s m t : S) (r : Given) (path : WebPath) → Reach s m → MkCalendars view c path m r t → Came s r t
-  mkcalendar_came s m t r path came ran =
-      look_came s m t r path found_or_failed (λ found. EndsMade view c path) mind_found came ran (λ found n on_to made. ends_made s n t r path on_to made)
+    line_fits : (line : Line) (t : S) → ((e : DavError) → line ≡ Err e → FailsWith e → Way s t) → Fits view lists writes c (Reach s) Refused Bad Done line t
+    line_fits (Ok x) t stop = tt
+    line_fits (Err e) t stop = stop e refl
 
-  -- ---- PUT
+    look_way : (found : Result Info FsError) (t : S) → Left view lists writes c (Reach s) Refused Bad Done found t → found ≡ Err fs.GeneralFailure → Way s t
+    look_way (Ok info) t came is = cc
+    look_way (Err e) t came is = came.1 (let same : e ≡ fs.GeneralFailure = cc in same)
 
-  as_unless : (m t : S) (r : Given) (line : Line) (outcome : Outcome) → Ends (unless line outcome) m r t → Unless line (Ends (Ok outcome)) m r t
-  as_unless m t r (Ok x) outcome ends = ends
-  as_unless m t r (Err e) outcome ends = ends
+    judges : (line : Result Info FsError → Line) → IsMindful line → Judges view lists writes c (Reach s) Refused Bad Done line
+    judges line mind found t came = line_fits (line found) t (λ e is fails. look_way found t came (mind found e is fails))
 
-  replace_came : (s m t : S) (r : Given) (path : WebPath) (fields : Fields) → Reach s m → MayReplace view c path fields m r t → Came s r t
-  replace_came s m t r path fields came (found, n, looked, next) =
-      next_came s n t r (Ends (unless (may_put fields found) (done_over found))) next
-      (λ ends. unless_came s n t r (may_put fields found) (Ends (Ok (done_over found)))
-      (λ e is fails. way s m n n came (one.looks path (subst (λ x. view.looks m c path x n) (mind_put fields found e is fails) looked)) refl)
-      (as_unless n t r (may_put fields found) (done_over found) ends)
-      (λ all. subst (λ g. Came s g t) (sym all.1) (done_never found, subst (Reach s) (sym all.0) (on.looks m n path found came looked))))
+    carry_judges : (moving : Bool) (prefix : List ℕ) (path : WebPath) (fields : Fields) → CarryJudges view lists writes c (Reach s) Refused Bad Done moving prefix path fields
+    carry_judges moving prefix path fields = record {
+      asked = λ e t asks fails. absurd (asked_never moving prefix fields (Err e) asks fails);
+      leaves = λ folds to. judges (may_leave folds path to) (mind_leave folds path to);
+      parent = judges no_parent mind_parent;
+      met = λ moves found t.
+          line_fits (unmet (method_of moves) fields found) t
+          (λ e is fails. met_never (condition_of (method_of moves) fields (info_there found)) e (found_never (method_of moves) fields (info_there found)) is fails);
+      arrives = λ asked asks. judges (may_take_place asked.replaces) (mind_arrive asked.replaces);
+    }
 
-  may_came : (s t : S) (r : Given) (path : WebPath) (fields : Fields) → MayPut view c path fields s r t → Came s r t
-  may_came s t r path fields may =
-      unless_came s s t r (fails_when path.slash 405) (Next (Below view c path (MayReplace view c path fields)))
-      (λ e is fails. when_never path.slash 405 e is (λ x. omega (arith, x)) fails) may
-      (λ next. next_came s s t r (Below view c path (MayReplace view c path fields)) next
-      (λ below. below_came s s t r path (MayReplace view c path fields) on.here below (λ n on_to ran. replace_came s n t r path fields on_to ran)))
+    new_never : Done made
+    new_never is = omega (arith, is)
+
+    old_never : Done silent
+    old_never is = omega (arith, is)
+
+    came_by : (run : Run S) → Keeps view lists writes c (Reach s) Refused Bad Done run → (t : S) (r : Given) → run s r t → Came s r t
+    came_by run keeps t r ran = by r (keeps s t r on.here ran)
+      where
+        by : (g : Given) → Reach s t × Gives view lists writes c (Reach s) Refused Bad Done g t → Came s g t
+        by (Ok outcome) kept = (kept.1, kept.0)
+        by (Err e) kept = kept.1
+
+    may_keeps : (path : WebPath) (fields : Fields) → Keeps view lists writes c (Reach s) Refused Bad Done (MayPut view c path fields)
+    may_keeps path fields =
+        may_put_keeps view lists writes c (Reach s) Refused Bad Done calls_kept path fields (λ t fails. never_status 405 (dav.Status 405) refl (λ x. omega (arith, x)) fails)
+        (judges no_parent mind_parent) (judges (may_put fields) (mind_put fields)) new_never old_never
+
+    mkcol_came : (t : S) (r : Given) (path : WebPath) (fields : Fields) → MkCols view c path fields s r t → Came s r t
+    mkcol_came t r path fields =
+        came_by (MkCols view c path fields)
+        (mkcol_keeps view lists writes c (Reach s) Refused Bad Done calls_kept path fields (judges (may_make fields) (mind_make fields)) (judges no_parent mind_parent) new_never) t r
+
+    mkcalendar_came : (t : S) (r : Given) (path : WebPath) → MkCalendars view c path s r t → Came s r t
+    mkcalendar_came t r path =
+        came_by (MkCalendars view c path) (mkcalendar_keeps view lists writes c (Reach s) Refused Bad Done calls_kept path (judges found_or_failed mind_found) new_never) t r
+
+    delete_came : (t : S) (r : Given) (path : WebPath) (fields : Fields) → Deletes view lists c path fields s r t → Came s r t
+    delete_came t r path fields =
+        came_by (Deletes view lists c path fields)
+        (delete_keeps view lists writes c (Reach s) Refused Bad Done calls_kept path fields (judges (may_delete fields) (mind_delete fields)) old_never) t r
+
+    carry_came : (t : S) (r : Given) (moving : Bool) (prefix : List ℕ) (path : WebPath) (fields : Fields) → Next (CopyMoves view lists c moving prefix path fields) s r t → Came s r t
+    carry_came t r moving prefix path fields =
+        came_by (Next (CopyMoves view lists c moving prefix path fields))
+        (carry_keeps view lists writes c (Reach s) Refused Bad Done calls_kept moving prefix path fields (carry_judges moving prefix path fields) new_never old_never) t r
+
+  -- ---- PUT, whose reader may fail
 
   -- what was poured leads on, and forgets no fault of the reader
   poured_came : (s m : S) (f : F) (b : BodyState) (bytes : List ℕ) (n : S) (g : F) (k : BodyState) → Reach s m → Poured view writes m f b bytes n g k → Reach s n
@@ -394,7 +401,7 @@ module _ {S C F L E : Type 0} (view : View S C F) (lists : Listings S C L E) (wr
   put_after s m t (Err e) r path b n came ((same, is), unread) fails = inl (subst (Way s) (sym same) (came (subst Fails is fails)))
   put_after s m t (Ok outcome) r path b n came (Err e, o, opened, left, after) fails =
       inl (way s m o t came.1 (one.opens path put_options (subst (λ x. view.opens m c path put_options (Err x) o)
-      (of_failure e (of_fs e) refl (subst Fails after.0.1 fails)) opened)) after.0.0)
+      (of_failure e (of_fs e) refl (subst Fails after.0.1 fails)) opened)) (subst (Reach o) (sym after.0.0) on.here))
   put_after s m t (Ok outcome) r path b n came (Ok f, o, opened, left, pours) fails =
       let begin = on.opens m o path put_options (Ok f) came.1 opened in
       let run = pours.pours in
@@ -408,160 +415,7 @@ module _ {S C F L E : Type 0} (view : View S C F) (lists : Listings S C L E) (wr
       later k counts (inr rose) = inr (rose_through _ _ _ _ counts rose (omega arith))
 
   put_cause : (s t : S) (r : Given) (path : WebPath) (fields : Fields) (b n : BodyState) → Puts view writes c path fields b s r t n → Fails r → PutCause s b t n
-  put_cause s t r path fields b n (may, m, checks, after) fails = put_after s m t may r path b n (may_came s m may path fields checks) after fails
-
-  -- ---- DELETE
-
-  -- the last that was asked was refused, and the listing was ended
-  said_way : (s b m o t : S) (path : WebPath) (l k : L) (all front : List Answered) (a : Answered) → a.meta ≡ Err fs.GeneralFailure → all ≡ front ++ a ∷ [] → Reach s b
-      → lists.lists b c path DataSymlink (Ok l) m → Walked view lists m l all o k → lists.ends_list o k t → Way s t
-  said_way s b m o t path l k all [] a is same came begins begun ended = cc
-  said_way s b m o t path l k all (x ∷ front) a is same came begins begun ended = cc
-  said_way s b m o t path l k all front a is same came begins (walks before n p q i j e r walked nexts said lends keeps) ended =
-      let last = ends_same before front (record { name = lists.called e; meta = r }) a same in
-      let refused : r ≡ Err fs.GeneralFailure = ap (λ (x : Answered). x.meta) last ∙ is in
-      way s b t t came (one.says path DataSymlink l i k m n p o before e begins walked nexts (subst (λ x. lists.says e (view.state p) x (view.state o)) refused said) ended) refl
-
-  members_came : (s m t : S) (path : WebPath) (members : _) → Reach s m → HasMembers view lists m c path members t → Reach s t
-  members_came s m t path members came has = listed_on view lists writes c s m t path has.listed came has.was
-
-  read_way : (s b m o t : S) (path : WebPath) (l k : L) (e : FsError) → Reach s b → lists.lists b c path DataSymlink (Ok l) m → ReadRefused view lists m l e o k → lists.ends_list o k t
-      → e ≡ fs.GeneralFailure → Way s t
-  read_way s b m o t path l k e came begins (inl (wants, answers, walk)) ended is = cc
-  read_way s b m o t path l k e came begins (inr (inl (answers, place, left, walk, said, refused))) ended is =
-      way s b t t came (one.goes_on path DataSymlink l left k m place o answers begins walk (subst (λ x. lists.lists_on place left (Err x) o k) is refused) ended) refl
-  read_way s b m o t path l k e came begins (inr (inr (answers, name, said, walk))) ended is =
-      said_way s b m o t path l k (answers ++ record { name = name; meta = Err e } ∷ []) answers (record { name = name; meta = Err e }) (ap (λ (x : FsError). Err x) is) refl came begins walk ended
-
-  unread_way : (s m t : S) (path : WebPath) (e : FsError) → Reach s m → HasNoMembers view lists m c path e t → e ≡ fs.GeneralFailure → Way s t
-  unread_way s m t path e came none is = by none.why
-    where
-      by : MembersUnread view lists m c path e t → Way s t
-      by (inl (wants, listed, was)) = cc
-      by (inr (inl refused)) = way s m t t came (one.begins path DataSymlink (subst (λ x. lists.lists m c path DataSymlink (Err x) t) is refused)) refl
-      by (inr (inr (begin, after, listing, over, begins, refused, ended))) = read_way s m begin after t path listing over e came begins refused ended is
-
-  one_done : (s m n : S) (work : Work) (works rest : List Work) → Reach s m → RemovesOne view lists c work works m (Ok tt) n rest → Reach s n
-  one_done s m n (Whole path false) works rest came (gone, removes, is, left) = on.removes_file m n path gone came removes
-  one_done s m n (Emptied path) works rest came (gone, removes, is, left) = on.removes_dir m n path gone came removes
-  one_done s m n (Whole path true) works rest came (deep, members, has, left) = members_came s m n path members came has
-
-  line_failed : (gone : Result Unit FsError) (e : DavError) → Err e ≡ line_of gone → FailsWith e → gone ≡ Err fs.GeneralFailure
-  line_failed (Ok x) e is fails = cc
-  line_failed (Err x) e is fails = ap (λ (y : FsError). Err y) (of_failure x e (same_error (of_fs x) e (sym is)) fails)
-
-  dir_way : (s m n : S) (path : WebPath) (e : DavError) → Reach s m → RefusesDir view lists c path m e n → FailsWith e → Way s n
-  dir_way s m n path e came (inl (deep, is, same)) fails = never_status 403 e (ap status_of is) (λ x. omega (arith, x)) fails
-  dir_way s m n path e came (inr (inl (deep, refusal, none, is))) fails = unread_way s m n path refusal came none (of_failure refusal e is fails)
-  dir_way s m n path e came (inr (inr (deep, members, has, is))) fails = never_wanting e is fails
-
-  one_way : (s m n : S) (work : Work) (works rest : List Work) (e : DavError) → Reach s m → RemovesOne view lists c work works m (Err e) n rest → FailsWith e → Way s n
-  one_way s m n (Whole path false) works rest e came (gone, removes, is, left) fails =
-      way s m n n came (one.removes_file path (subst (λ x. view.removes_file m c path x n) (line_failed gone e is fails) removes)) refl
-  one_way s m n (Emptied path) works rest e came (gone, removes, is, left) fails =
-      way s m n n came (one.removes_dir path (subst (λ x. view.removes_dir m c path x n) (line_failed gone e is fails) removes)) refl
-  one_way s m n (Whole path true) works rest e came refuses fails = dir_way s m n path e came refuses fails
-
-  removes_came : (s m t : S) (works : List Work) (all : Line) → Reach s m → Removes view lists c works m all t → CameBy s all t
-  removes_came s m t works all came (done u) = came
-  removes_came s m t works all came (short left u) = λ fails. never_wanting dav.NoMemory refl fails
-  removes_came s m t works all came (removes_on work more rest u n v line first later) =
-      removes_came s n t rest all (one_done s m n work more rest came first) later
-  removes_came s m t works all came (stopped work more rest u v e first) = λ fails. one_way s m t work more rest e came first fails
-
-  all_came : (s t : S) (all : Line) (r : Given) (outcome : Outcome) → (outcome.status ≡ 500 → ⊥) → CameBy s all t → r ≡ unless all outcome → Came s r t
-  all_came s t (Ok x) r outcome not_it came is = subst (λ g. Came s g t) (sym is) (not_it, came)
-  all_came s t (Err e) r outcome not_it came is = subst (λ g. Came s g t) (sym is) came
-
-  delete_came : (s t : S) (r : Given) (path : WebPath) (fields : Fields) → Deletes view lists c path fields s r t → Came s r t
-  delete_came s t r path fields deletes =
-      unless_came s s t r (fails_when (is_root path.names) 403) (LooksAtLink view lists c path (λ found. Unless (may_delete fields found) (RemovesAll view lists c path (is_dir_there found))))
-      (λ e is fails. when_never (is_root path.names) 403 e is (λ x. omega (arith, x)) fails) deletes
-      (λ looks. link_came s s t r path (may_delete fields) (λ found. RemovesAll view lists c path (is_dir_there found)) (mind_delete fields) on.here looks
-      (λ found n on_to (all, removes, is). all_came s t all r silent (λ e. omega (arith, e)) (removes_came s n t (Whole path (is_dir_there found) ∷ []) all on_to removes) is))
-
-  -- ---- COPY and MOVE
-
-  read_came : (s m n : S) (x : Transfer) (works rest : List Transfer) (r : Line) → Reach s m → ReadsInto view lists c x works m r n rest → CameBy s r n
-  read_came s m n x works rest (Ok y) came (members, has, left) = members_came s m n x.from members came has
-  read_came s m n x works rest (Err e) came (inl (refusal, none, is)) = λ fails. unread_way s m n x.from refusal came none (of_failure refusal e is fails)
-  read_came s m n x works rest (Err e) came (inr (members, has, is)) = λ fails. never_wanting e is fails
-
-  module _ (alone : Bool) where
-    entered_came : (skips : Bool) (s m n : S) (x : Transfer) (works rest : List Transfer) (r : Line) → Reach s m → Enters view lists c alone skips x works m r n rest → CameBy s r n
-    entered_came true s m n x works rest r came (same, is, left) = subst (λ l. CameBy s l n) (sym is) (subst (Reach s) (sym same) came)
-    entered_came false s m n x works rest r came reads = read_came s m n x works rest r came reads
-
-    -- what follows the making of a directory
-    made_came : (s m k n : S) (x : Transfer) (works rest : List Transfer) (r : Line) (made : Result Unit FsError) → Reach s m → view.makes_dir m c x.to made k
-        → AfterMaking view lists c alone made x works k r n rest → CameBy s r n
-    made_came s m k n x works rest r (Ok y) came call enters = entered_came alone s k n x works rest r (on.makes_dir m k x.to (Ok y) came call) enters
-    made_came s m k n x works rest r (Err e) came call (same, is) =
-        subst (λ l. CameBy s l n) (sym is) (λ fails. way s m k n came (one.makes_dir x.to
-        (subst (λ y. view.makes_dir m c x.to (Err y) k) (of_failure e (of_fs e) refl fails) call)) same)
-
-    dir_came : (deep : Bool) (s m n : S) (x : Transfer) (works rest : List Transfer) (r : Line) → Reach s m → CopiesDir view lists c alone deep x works m r n rest → CameBy s r n
-    dir_came true s m n x works rest r came (same, is) =
-        subst (λ l. CameBy s l n) (sym is) (λ fails. never_status 403 (dav.Status 403) refl (λ e. omega (arith, e)) fails)
-    dir_came false s m n x works rest r came (made, k, call, after) = made_came s m k n x works rest r made came call after
-
-    one_copied : (dir : Bool) (s m n : S) (x : Transfer) (works rest : List Transfer) (r : Line) → Reach s m → CopiesBy view lists c alone dir x works m r n rest → CameBy s r n
-    one_copied true s m n x works rest r came copies = dir_came (is_deep x.from) s m n x works rest r came copies
-    one_copied false s m n x works rest r came (Ok y, call, is, left) = subst (λ l. CameBy s l n) (sym is) (on.copies m n x.from x.to (Ok y) came call)
-    one_copied false s m n x works rest r came (Err e, call, is, left) =
-        subst (λ l. CameBy s l n) (sym is) (λ fails. way s m n n came (one.copies x.from x.to
-        (subst (λ y. view.copies m c x.from x.to (Err y) n) (of_failure e (of_fs e) refl fails) call)) refl)
-
-    copies_came : (s m t : S) (works : List Transfer) (all : Line) → Reach s m → Copies view lists c alone works m all t → CameBy s all t
-    copies_came s m t works all came (all_copied u) = came
-    copies_came s m t works all came (copied_short left u) = λ fails. never_wanting dav.NoMemory refl fails
-    copies_came s m t works all came (copies_on x more rest u n v line first later) =
-        copies_came s n t rest all (one_copied x.dir s m n x more rest (Ok tt) came first) later
-    copies_came s m t works all came (copies_stopped x more rest u v e first) = one_copied x.dir s m t x more rest (Err e) came first
-
-  goes_came : (s m t : S) (r : Given) (moving : Bool) (asked : Asked) (x : Transfer) (outcome : Outcome) → (outcome.status ≡ 500 → ⊥) → Reach s m
-      → Goes view lists c moving asked x outcome m r t → Came s r t
-  goes_came s m t r true asked x outcome not_it came (Ok y, call, answer) =
-      subst (λ g. Came s g t) (sym answer) (not_it, on.renames m t x.from x.to (Ok y) came call)
-  goes_came s m t r true asked x outcome not_it came (Err e, call, answer) =
-      subst (λ g. Came s g t) (sym answer) (λ fails. way s m t t came (one.renames x.from x.to
-      (subst (λ y. view.renames m c x.from x.to (Err y) t) (of_failure e (of_fs e) refl fails) call)) refl)
-  goes_came s m t r false asked x outcome not_it came (all, copies, answer) =
-      all_came s t all r outcome not_it (copies_came asked.alone s m t (x ∷ []) all came copies) answer
-
-  -- what follows a removal at the destination
-  replaced_came : (s m t : S) (r : Given) (asked : Asked) (x : Transfer) (gone : Line) → CameBy s gone m
-      → Unless gone (Goes view lists c asked.moving asked x silent) m r t → Came s r t
-  replaced_came s m t r asked x (Ok y) came goes = goes_came s m t r asked.moving asked x silent (λ e. omega (arith, e)) came goes
-  replaced_came s m t r asked x (Err e) came ends = subst (λ g. Came s g t) (sym ends.1) (λ fails. subst (Way s) (sym ends.0) (came fails))
-
-  taken_came : (s m t : S) (r : Given) (asked : Asked) (x : Transfer) (there : Result Info FsError) → Reach s m → TakesPlace view lists c asked x there m r t → Came s r t
-  taken_came s m t r asked x (Ok info) came (gone, n, removes, more) =
-      replaced_came s n t r asked x gone (removes_came s m n (Whole asked.to (is_dir info.kind) ∷ []) gone came removes) more
-  taken_came s m t r asked x (Err e) came goes = goes_came s m t r asked.moving asked x made (λ e. omega (arith, e)) came goes
-
-  left_came : (s m t : S) (r : Given) (path : WebPath) (fields : Fields) (asked : Asked) (found : Result Info FsError) → Reach s m
-      → Leaves view lists c path fields asked found m r t → Came s r t
-  left_came s m t r path fields asked found came leaves =
-      let arrives : Run S = LooksAtLink view lists c asked.to (Arrives view lists c asked (transfer path asked found)) in
-      below_came s m t r asked.to (Unless (unmet (method_of asked.moving) fields found) arrives) came leaves
-      (λ n on_to ran. unless_came s n t r (unmet (method_of asked.moving) fields found) arrives
-      (λ e is fails. met_never (condition_of (method_of asked.moving) fields (info_there found)) e
-      (found_never (method_of asked.moving) fields (info_there found)) is fails) ran
-      (λ looks. link_came s n t r asked.to (may_take_place asked.replaces) (TakesPlace view lists c asked (transfer path asked found)) (mind_arrive asked.replaces) on_to looks
-      (λ there k further takes. taken_came s k t r asked (transfer path asked found) there further takes)))
-
-  carried_came : (s t : S) (r : Given) (path : WebPath) (fields : Fields) (asked : Result Asked DavError) → NeverBy asked
-      → Carries view lists c path fields asked s r t → Came s r t
-  carried_came s t r path fields (Err e) never ends = subst (λ g. Came s g t) (sym ends.1) (λ fails. absurd (never fails))
-  carried_came s t r path fields (Ok asked) never looks =
-      look_came s s t r path (may_leave (view.folding s) path asked.to) (Leaves view lists c path fields asked) (mind_leave (view.folding s) path asked.to) on.here looks
-      (λ found n on_to leaves. left_came s n t r path fields asked found on_to leaves)
-
-  carry_came : (s t : S) (r : Given) (moving : Bool) (prefix : List ℕ) (path : WebPath) (fields : Fields) → Next (CopyMoves view lists c moving prefix path fields) s r t → Came s r t
-  carry_came s t r moving prefix path fields next =
-      next_came s s t r (CopyMoves view lists c moving prefix path fields) next
-      (λ ran. carried_came s t r path fields ran.0 (asked_never moving prefix fields ran.0 ran.1) ran.2)
+  put_cause s t r path fields b n (may, m, checks, after) fails = put_after s m t may r path b n (came_by s (MayPut view c path fields) (may_keeps s path fields) m may checks) after fails
 
   -- ---- each method
 
@@ -572,18 +426,10 @@ module _ {S C F L E : Type 0} (view : View S C F) (lists : Listings S C L E) (wr
   -- 500 is given only where a call was refused with a failure, or the reader failed.
   pub written_cause : (method : DavMethod) (o : Order) (b n : BodyState) (s t : S) (r : Given) → ByMethod view lists writes c method o b s r t n → Fails r → PutCause s b t n
   written_cause Put o b n s t r table fails = put_cause s t r o.path o.fields b n table fails
-  written_cause MkCol o b n s t r table fails = came_cause s t r b n (mkcol_came s s t r o.path o.fields on.here table.0) fails
-  written_cause MkCalendar o b n s t r table fails = came_cause s t r b n (mkcalendar_came s s t r o.path on.here table.0) fails
-  written_cause MkAddressbook o b n s t r table fails = came_cause s t r b n (mkcalendar_came s s t r o.path on.here table.0) fails
+  written_cause MkCol o b n s t r table fails = came_cause s t r b n (mkcol_came s t r o.path o.fields table.0) fails
+  written_cause MkCalendar o b n s t r table fails = came_cause s t r b n (mkcalendar_came s t r o.path table.0) fails
+  written_cause MkAddressbook o b n s t r table fails = came_cause s t r b n (mkcalendar_came s t r o.path table.0) fails
   written_cause Delete o b n s t r table fails = came_cause s t r b n (delete_came s t r o.path o.fields table.0) fails
-  written_cause Head o b n s t r table fails = absurd table
-  written_cause Get o b n s t r table fails = absurd table
-  written_cause Patch o b n s t r table fails = absurd table
-  written_cause Options o b n s t r table fails = absurd table
-  written_cause PropFind o b n s t r table fails = absurd table
-  written_cause PropPatch o b n s t r table fails = absurd table
   written_cause Copy o b n s t r table fails = came_cause s t r b n (carry_came s t r false o.prefix o.path o.fields table.0) fails
   written_cause Move o b n s t r table fails = came_cause s t r b n (carry_came s t r true o.prefix o.path o.fields table.0) fails
-  written_cause Lock o b n s t r table fails = absurd table
-  written_cause Unlock o b n s t r table fails = absurd table
-  written_cause Report o b n s t r table fails = absurd table
+  written_cause other o b n s t r table fails = absurd table

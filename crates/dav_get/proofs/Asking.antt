@@ -72,16 +72,7 @@ IsOther status = (status ≢ 200) × (status ≢ 206) × (status ≢ 302)
 
 no_success : (e : FsError) → IsOther (status_of (of_fs e))
 no_success fs.NotFound = (λ e. omega arith, λ e. omega arith, λ e. omega arith)
-no_success fs.Forbidden = (λ e. omega arith, λ e. omega arith, λ e. omega arith)
-no_success fs.Exists = (λ e. omega arith, λ e. omega arith, λ e. omega arith)
-no_success fs.GeneralFailure = (λ e. omega arith, λ e. omega arith, λ e. omega arith)
-no_success fs.NotImplemented = (λ e. omega arith, λ e. omega arith, λ e. omega arith)
-no_success fs.InsufficientStorage = (λ e. omega arith, λ e. omega arith, λ e. omega arith)
-no_success fs.LoopDetected = (λ e. omega arith, λ e. omega arith, λ e. omega arith)
-no_success fs.PathTooLong = (λ e. omega arith, λ e. omega arith, λ e. omega arith)
-no_success fs.TooLarge = (λ e. omega arith, λ e. omega arith, λ e. omega arith)
-no_success fs.IsRemote = (λ e. omega arith, λ e. omega arith, λ e. omega arith)
-no_success fs.NoMemory = (λ e. omega arith, λ e. omega arith, λ e. omega arith)
+no_success other = (λ e. omega arith, λ e. omega arith, λ e. omega arith)
 
 -- What is answered 206 has a first part.
 abbrev IsPlaced : Sent → Type 0
@@ -325,31 +316,13 @@ module _ {S C F : Type 0} (view : View S C F) (q : Query) where
 pub asked_once : {A : Type 0} (r : Result A FsError) (s t : DiskState) → AsksOnce s t → AsksToGive r s t
 asked_once (Ok x) s t one = one
 asked_once (Err fs.NoMemory) s t one = inr one
-asked_once (Err fs.NotImplemented) s t one = one
-asked_once (Err fs.GeneralFailure) s t one = one
-asked_once (Err fs.Exists) s t one = one
-asked_once (Err fs.NotFound) s t one = one
-asked_once (Err fs.Forbidden) s t one = one
-asked_once (Err fs.InsufficientStorage) s t one = one
-asked_once (Err fs.LoopDetected) s t one = one
-asked_once (Err fs.PathTooLong) s t one = one
-asked_once (Err fs.TooLarge) s t one = one
-asked_once (Err fs.IsRemote) s t one = one
+asked_once (Err other) s t one = one
 
 -- One call was asked, or memory was refused.
 given_once : {A : Type 0} (r : Result A FsError) (s t : DiskState) → AsksToGive r s t → (r ≡ Err fs.NoMemory) ⊎ AsksOnce s t
 given_once (Ok x) s t one = inr one
 given_once (Err fs.NoMemory) s t asked = inl refl
-given_once (Err fs.NotImplemented) s t one = inr one
-given_once (Err fs.GeneralFailure) s t one = inr one
-given_once (Err fs.Exists) s t one = inr one
-given_once (Err fs.NotFound) s t one = inr one
-given_once (Err fs.Forbidden) s t one = inr one
-given_once (Err fs.InsufficientStorage) s t one = inr one
-given_once (Err fs.LoopDetected) s t one = inr one
-given_once (Err fs.PathTooLong) s t one = inr one
-given_once (Err fs.TooLarge) s t one = inr one
-given_once (Err fs.IsRemote) s t one = inr one
+given_once (Err other) s t one = inr one
 
 module _ {S C F L E : Type 0} (view : View S C F) (lists : Listings S C L E) (q : Query) (calls most : ℕ) (some_o : 0 < calls) (a : S) (few : AsksFor view lists q calls most a) where
   -- the status of each refusal without a store's error
@@ -477,7 +450,7 @@ module _ {S C F L E : Type 0} (view : View S C F) (lists : Listings S C L E) (q 
   ]
 
 module _ {S C F L E : Type 0} (view : View S C F) (lists : Listings S C L E) (q : Query) (calls : ℕ) (some_o : 0 < calls) where
-  only_asked : (s t : S) (result : Given F) → OpenOnlyHeld view s result t → (view.state s).asked ≤ (view.state t).asked
+  pub only_asked : (s t : S) (result : Given F) → OpenOnlyHeld view s result t → (view.state s).asked ≤ (view.state t).asked
   only_asked s t (Err e) keeps = keeps.asked
   only_asked s t (Ok r) life = by r.1.file life.1
     where

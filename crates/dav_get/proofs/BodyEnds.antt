@@ -1,5 +1,5 @@
 -- A body at its end stays there.
-use Rattle.std.proofs.Common.{◌≡◌, ℕ, List, [], ◌∷◌, false, Option, None, Some, sym, ◌∙◌, ◌⊎◌, inl, inr}
+use Rattle.std.proofs.Common.{◌≡◌, List, [], ◌∷◌, false, Option, None, Some, sym, ◌∙◌, ◌⊎◌, inl, inr}
 use Rattle.std.specs.Prelude.{is_some}
 use Rattle.dav_core.specs.Disk.{DiskState}
 use Rattle.dav_model.specs.declared.answer.Answer.{Answer}

@@ -1,5 +1,5 @@
 -- What others do leaves a body as it was.
-use Rattle.std.proofs.Common.{◌≡◌, ℕ, List, Option, Some, ◌∙◌, ap}
+use Rattle.std.proofs.Common.{◌≡◌, List, Some, ◌∙◌, ap}
 use Rattle.dav_io.proofs.ToldLemmas.{told_before}
 use Rattle.dav_core.specs.Disk.{DiskState, can_read}
 use Rattle.dav_model.specs.Bodies.{Part}

@@ -65,7 +65,7 @@ module _ {S C F : Type 0} (view : View S C F) where
   gets_came q file s answer t (said, g, m, says, could, after) = came_then file g answer says.becomes (meta_came said q g m answer t after)
 
 -- where no file is opened
-paged_none : {F : Type 0} (b : Bool) (path : WebPath) (members : List Member) (body : GetBody F) → IsPageBody b path members body → body.file ≡ None
+pub paged_none : {F : Type 0} (b : Bool) (path : WebPath) (members : List Member) (body : GetBody F) → IsPageBody b path members body → body.file ≡ None
 paged_none true path members body (texts, index, left, none) = none
 paged_none false path members body empty = empty.1
 

@@ -1,5 +1,5 @@
 -- What a read of the front of a slice makes of an open file.
-use Rattle.std.proofs.Common.{◌≡◌, ◌≤◌, ◌<◌, ◌+◌, ◌++◌, ℕ, min, List, [], ◌∷◌, length, take, drop, replicate, true, Bool, Option, Some, Ok, ap, subst, ◌∙◌, arith}
+use Rattle.std.proofs.Common.{◌≡◌, ◌≤◌, ◌<◌, ◌+◌, ◌++◌, ℕ, min, List, [], ◌∷◌, length, take, drop, replicate, true, Bool, Some, Ok, ap, subst, ◌∙◌, arith}
 use Rattle.std.proofs.lemmas.Grind.{common_steps}
 use Rattle.std.proofs.lemmas.List.{take-append-le}
 use Rattle.dav_io.proofs.ToldLemmas.{both_map, told_after, told_before}

@@ -15,7 +15,7 @@ use Rattle.dav_core.specs.Statuses.{fs_status}
 use Rattle.dav_core.specs.Tree.{is_file}
 use Rattle.dav_store.specs.Files.{Spoiled}
 use Rattle.dav_store.specs.Frames.{OpensOne}
-use Rattle.dav_store.specs.Shows.{LooksThere, Shows, here}
+use Rattle.dav_store.specs.Shows.{LooksThere}
 use Rattle.dav_store.specs.Standing.{Standing}
 use Rattle.dav_store.specs.View.{View, Listings, Says as SaysOf}
 use Rattle.dav_model.specs.Due.{Course, Due, Query, IsHead, IsRight, IsSpoiled, course, directing, due_course, due_listed, due_looked, due_opened, failure, known, listing, opening, page, refused, refusing, to_slash, file as sends}

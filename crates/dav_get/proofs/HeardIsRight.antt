@@ -37,7 +37,8 @@ use Rattle.dav_get.specs.Table.{Given, IsListing, ReadsMembers, asked_at}
 use Rattle.dav_get.specs.Told.{IsRightFor, ShowsFor, found_as, number_by, number_for, number_in, number_looked, shown_as, stood_of}
 use Rattle.dav_get.proofs.PageMembers.{rows_alike, shows_later}
 use Rattle.dav_get.proofs.Pages.{index_renumbered, index_rows, no_file_kept}
-use Rattle.dav_get.proofs.TableIsHeard.{kind_file, no_file_due, placed_at}
+use Rattle.dav_get.proofs.TableIsHeard.{no_file_due, placed_at}
+use Rattle.dav_core.proofs.Rows.{file_kind}
 
 pub rose_through : (a b c d : ℕ) → a ≤ b → Rose b c → c ≤ d → Rose a d
 rose_through a b c d le rose more = grind arith
@@ -153,7 +154,7 @@ module _ {S C F : Type 0} (view : View S C F) (q : Query) where
           let same : stood ≡ other = λ i. record { kind = agrees.kind i; number = or_zero (told i); len = agrees.len i; modified = agrees.modified i; tag = agrees.tag i; address = address } in
           let numbered : or_zero number ≡ k = ap or_zero told ∙ sym key in
           let right1 = subst (λ x. IsPlacedOr q (due_opened q.path x) Risen (reply_at q.fields (or_zero number) result)) (is ∙ ap Ok same) right in
-          let right2 = subst (λ j. IsPlacedOr q (due_sent j q.path other) Risen (reply_at q.fields (or_zero number) result)) (kind_file there.kind regular) right1 in
+          let right2 = subst (λ j. IsPlacedOr q (due_sent j q.path other) Risen (reply_at q.fields (or_zero number) result)) (file_kind there.kind regular) right1 in
           let right3 = subst (λ n. IsPlacedOr q (sends q.path other) Risen (reply_at q.fields n result)) numbered right2 in
           let where' : address_of q.settings other ≡ address_of q.settings (stood_of there) = sym (ap (address_of q.settings) same) ∙ to in
           let at : IsHead q (sends q.path (stood_of there)) TheReply ⊎ (IsSpoiled q (sends q.path (stood_of there)) TheReply × Risen) =
@@ -162,7 +163,7 @@ module _ {S C F : Type 0} (view : View S C F) (q : Query) where
             | inr unplaced ↦ inr (inr (record { here = sym where' ∙ unplaced.0.here; partial = unplaced.0.partial; sent = unplaced.0.sent }), unplaced.1)
           ] in
           record {
-            right = subst (λ j. IsHead q (due_sent j q.path (stood_of there)) TheReply ⊎ (IsSpoiled q (due_sent j q.path (stood_of there)) TheReply × Risen)) (sym (kind_file there.kind regular)) at;
+            right = subst (λ j. IsHead q (due_sent j q.path (stood_of there)) TheReply ⊎ (IsSpoiled q (due_sent j q.path (stood_of there)) TheReply × Risen)) (sym (file_kind there.kind regular)) at;
             named = subst (λ n. IsOfNumber view n t result) (told ∙ ap Some (sym key)) named;
           }
 

@@ -13,6 +13,7 @@ pub mod BodyEnds
 pub mod Framing
 pub mod Sending
 pub mod Asking
+pub mod AskingMost
 pub mod TableIsHeard
 pub mod MetaAsked
 pub mod HeardIsRight

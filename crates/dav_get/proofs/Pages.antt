@@ -1,5 +1,5 @@
 -- The page of a directory, as an answer.
-use Rattle.std.proofs.Common.{◌≡◌, ℕ, Bool, true, false, List, [], ◌∷◌, length, map, Option, None, Some, Ok, Err, refl, sym, ap, subst, ◌∙◌, lt-ltb, true≢false}
+use Rattle.std.proofs.Common.{◌≡◌, ℕ, Bool, true, false, List, [], ◌∷◌, length, map, Option, Some, Ok, Err, refl, sym, ap, subst, ◌∙◌, lt-ltb, true≢false}
 use Rattle.std.specs.Prelude.{is_some}
 use Rattle.std.specs.List.{AllByRecursion, list_all, list_any}
 use Rattle.std.proofs.lemmas.Bool.{and_from}
@@ -27,9 +27,8 @@ use Rattle.dav_get.specs.Bodies.{IsHeld, has_room, is_part, is_slice, left_of, p
 use Rattle.dav_get.specs.Lives.{HasMost, OpenOnlyHeld, OpensOnly}
 use Rattle.dav_get.specs.Right.{IsOfNumber, reply_at}
 use Rattle.dav_get.specs.Table.{Answer, Given, GivesPage, IsPageBody}
-
-no_file : {A : Type 0} (o : Option A) (a : A) → o ≡ None → o ≡ Some a → ⊥
-no_file o a e f = let x : None ≡ Some a = sym e ∙ f in cc
+use Rattle.dav_io.proofs.Cases.{not_there}
+use Rattle.dav_get.proofs.FileOpened.{paged_none}
 
 -- ---- texts
 
@@ -90,15 +89,11 @@ page_given q members n (Ok r) (is, body) = record { status = ap (λ (o : Outcome
     by true (texts, index, left, none) = (texts, ap (parts_of n) left ∙ texts_parts n texts, index)
     by false (left, none) = ap (parts_of n) left
 
-page_file : {F : Type 0} (gives : Bool) (dir : WebPath) (members : List Member) (b : GetBody F) → IsPageBody gives dir members b → b.file ≡ None
-page_file true dir members b (texts, index, left, none) = none
-page_file false dir members b (left, none) = none
-
 -- It has no file.
 pub page_numbers : {S C F : Type 0} (view : View S C F) (number : Option ℕ) (q : Query) (members : List Member) (result : Given F) (t : S) → GivesPage q members result
     → IsOfNumber view number t result
 page_numbers view number q members (Err e) t row = absurd row
-page_numbers view number q members (Ok r) t (is, body) = λ h some. absurd (no_file r.1.file h (page_file (is_get q.method) q.path members r.1 body) some)
+page_numbers view number q members (Ok r) t (is, body) = λ h some. absurd (not_there r.1.file h (paged_none (is_get q.method) q.path members r.1 body) some)
 
 -- ---- bodies
 
@@ -120,14 +115,14 @@ page_held : {F : Type 0} (files : FileView F) (s : DiskState) (gives : Bool) (di
     → IsPageBody gives dir members b → IsHeld files s b
 page_held files s gives dir members b body =
     let whole = page_whole gives dir members b body in
-    let none = page_file gives dir members b body in
+    let none = paged_none gives dir members b body in
     record {
       parts = page_sound gives dir members b body;
       needs = λ e. absurd (true≢false (sym e ∙ whole));
       over = λ e. ap is_some none;
       some = λ e. absurd (true≢false (sym e ∙ whole));
       room = page_room gives dir members b body;
-      file = λ h is. absurd (no_file b.file h none is);
+      file = λ h is. absurd (not_there b.file h none is);
     }
 
 -- A page leaves nothing open.
@@ -136,7 +131,7 @@ pub page_life : {S C F : Type 0} (view : View S C F) (q : Query) (members : List
 page_life view q members s (Err e) t row keeps = keeps
 page_life view q members s (Ok r) t (is, body) keeps = (
   page_held view.file (view.state t) (is_get q.method) q.path members r.1 body,
-  subst (λ file. OpensOnly view.file.handle (view.state s) file (view.state t)) (sym (page_file (is_get q.method) q.path members r.1 body)) keeps,
+  subst (λ file. OpensOnly view.file.handle (view.state s) file (view.state t)) (sym (paged_none (is_get q.method) q.path members r.1 body)) keeps,
 )
 
 pub page_most : {F : Type 0} (q : Query) (members : List Member) (most : ℕ) (result : Given F) → GivesPage q members result → HasMost most result
@@ -148,4 +143,4 @@ pub no_file_kept : {S C F : Type 0} (view : View S C F) (s : S) (r : Answer F) (
     → r.1.file ≡ Some h → ⊥
 no_file_kept view s r t h life keeps is =
     let (but, free, live) = subst (λ file. OpensOnly view.file.handle (view.state s) file (view.state t)) is life.1 in
-    no_file ((view.state t).live (view.file.handle h.file)) read_file (keeps.live (view.file.handle h.file) ∙ free) live
+    not_there ((view.state t).live (view.file.handle h.file)) read_file (keeps.live (view.file.handle h.file) ∙ free) live

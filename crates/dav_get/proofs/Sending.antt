@@ -20,9 +20,7 @@ use Rattle.dav_get.specs.Bodies.{left_of, parts_of}
 use Rattle.dav_get.specs.Heard.{stood_heard}
 use Rattle.dav_get.specs.Right.{IsOfNumber, number_told, or_zero, reply_at}
 use Rattle.dav_get.specs.Table.{Answer, Holds, IfMoved, Sends, SendsFrom, first_place, sent_after, sent_for, type_of}
-
-rose_on : (a b c : ℕ) → Rose a b → b ≤ c → Rose a c
-rose_on a b c rose le = grind arith
+use Rattle.dav_io.proofs.Rising.{rose_after}
 
 pub some_start : (sent : Sent) (start : ℕ) → first_place sent ≡ Some start → sent_status sent ≡ 206
 some_start All start e = cc
@@ -106,7 +104,7 @@ module _ {S C F : Type 0} (view : View S C F) where
         let refused = seeks.done.refused live in
         let before = seeks.done.keeps.counts in
         let after = sends_counts Unsatisfied (record { file = g; place = start }) m answer t row in record {
-          right = inr (some_start (sent_for q info) start first, sends_right number Unsatisfied (record { file = g; place = start }) m answer t row, rose_on _ _ _ refused.1 after);
+          right = inr (some_start (sent_for q info) start first, sends_right number Unsatisfied (record { file = g; place = start }) m answer t row, rose_after _ _ _ refused.1 after);
           counts = omega arith;
           file = sends_number number Unsatisfied (record { file = g; place = start }) m answer t at row;
         }

@@ -29,9 +29,9 @@ use Rattle.dav_get.specs.Right.{IsOfNumber, number_told, or_zero, reply_at}
 use Rattle.dav_get.specs.Table.{AfterListing, AfterLook, AfterMeta, AfterOpen, AfterRedirect, ByCourse, ByFile, ByRedirect, ByWellKnown, CouldSay, Gets, Given, IsListing, Redirects, SendsAway, SendsFile, asked_at, refused_as}
 use Rattle.dav_get.proofs.Pages.{page_given, page_numbers}
 use Rattle.dav_get.proofs.Sending.{placed_right}
-
-pub rose_before : (a b c : ℕ) → a ≤ b → Rose b c → Rose a c
-rose_before a b c le rose = grind arith
+use Rattle.dav_io.proofs.Rising.{rose_before}
+use Rattle.dav_core.proofs.Rows.{file_kind}
+use Rattle.dav_io.proofs.Cases.{not_there}
 
 -- A refusal of the store that isn't want of memory is answered with its status.
 record IsRefusal (e : FsError) : Type 0 where
@@ -41,27 +41,13 @@ record IsRefusal (e : FsError) : Type 0 where
 
 refused_with : (e : FsError) → (of_fs e ≡ NoMemory) ⊎ IsRefusal e
 refused_with fs.NoMemory = inl refl
-refused_with fs.NotFound = inr (record { status = refl; stays = refl; had = λ is. cc })
-refused_with fs.Forbidden = inr (record { status = refl; stays = refl; had = λ is. cc })
-refused_with fs.Exists = inr (record { status = refl; stays = refl; had = λ is. cc })
-refused_with fs.GeneralFailure = inr (record { status = refl; stays = refl; had = λ is. cc })
-refused_with fs.NotImplemented = inr (record { status = refl; stays = refl; had = λ is. cc })
-refused_with fs.InsufficientStorage = inr (record { status = refl; stays = refl; had = λ is. cc })
-refused_with fs.LoopDetected = inr (record { status = refl; stays = refl; had = λ is. cc })
-refused_with fs.PathTooLong = inr (record { status = refl; stays = refl; had = λ is. cc })
-refused_with fs.TooLarge = inr (record { status = refl; stays = refl; had = λ is. cc })
-refused_with fs.IsRemote = inr (record { status = refl; stays = refl; had = λ is. cc })
+refused_with other = inr (record { status = refl; stays = refl; had = λ is. cc })
 
 refusal_had : {A : Type 0} (e : FsError) → (e ≡ fs.NoMemory → ⊥) → WasHad {A = A} (Err e)
 refusal_had e had is = had cc
 
 answer_had : {A : Type 0} (a : A) → WasHad {A = A} (Ok a)
 answer_had a is = cc
-
-pub kind_file : (k : Kind) → is_file k ≡ true → k ≡ File
-kind_file Dir is = cc
-kind_file File is = refl
-kind_file Link is = cc
 
 -- a regular file that was opened for reading may be read
 reads_of : (live : Option Live) (kind : Kind) → IsSome live → ((l : Live) → live ≡ Some l → l.how ≡ reading)
@@ -94,9 +80,6 @@ placed_at q path (to_slash at) rose reply is = is
 placed_at q path (page dir members) rose reply is = is
 placed_at q path (sends at stood) rose reply (inl head) = inl head
 placed_at q path (sends at stood) rose reply (inr (is, risen)) = inr (record { here = is.here; partial = is.partial; sent = is.sent }, risen)
-
-none_some : {A : Type 0} (o : Option A) (a : A) → o ≡ None → o ≡ Some a → ⊥
-none_some o a e f = let x : None ≡ Some a = sym e ∙ f in cc
 
 module _ {S C F : Type 0} (view : View S C F) (q : Query) where
   closed_counts : (s : S) (g : F) (t : S) → Closes view s g t → (view.state s).faults ≤ (view.state t).faults
@@ -162,7 +145,7 @@ module _ {S C F : Type 0} (view : View S C F) (q : Query) where
           opened = Ok stood;
           hears = hears sent.counts;
           had = answer_had stood;
-          right = subst (λ k. IsPlacedOr q (due_sent k q.path stood) (Rose (view.state s).faults (view.state t).faults) (reply_at {F = F} q.fields (or_zero number) (Ok answer))) (sym (kind_file info.kind regular)) at;
+          right = subst (λ k. IsPlacedOr q (due_sent k q.path stood) (Rose (view.state s).faults (view.state t).faults) (reply_at {F = F} q.fields (or_zero number) (Ok answer))) (sym (file_kind info.kind regular)) at;
           named = sent.file;
         })
 
@@ -183,8 +166,8 @@ module _ {S C F : Type 0} (view : View S C F) (q : Query) where
           opened = Ok stood;
           hears = hears (closed_counts s g t closed);
           had = answer_had stood;
-          right = inl (subst (λ k. IsHead q (due_sent k q.path stood) (reply_at {F = F} q.fields (or_zero number) (Ok answer))) (sym (kind_file info.kind regular)) at);
-          named = λ h some. absurd (none_some answer.1.file h none some);
+          right = inl (subst (λ k. IsHead q (due_sent k q.path stood) (reply_at {F = F} q.fields (or_zero number) (Ok answer))) (sym (file_kind info.kind regular)) at);
+          named = λ h some. absurd (not_there answer.1.file h none some);
         })
 
     -- a file that is asked for its address
@@ -346,7 +329,7 @@ module _ {S C F L E : Type 0} (view : View S C F) (lists : Listings S C L E) (q 
     course_heard directing info s m (Ok r) t is looks keeps (same, (outcome, (left, none))) =
         let reply : reply_at {F = F} q.fields 0 (Ok r) ≡ directed q.path =
         λ i. record { status = ap (λ (o : Outcome). o.status) outcome i; fields = ap (λ (o : Outcome). o.fields) outcome i; parts = ap (parts_of 0) left i } in
-        at_once directing info (Err fs.NotFound) s m (Ok r) t nothing_had is looks keeps (rw same (omega arith)) reply (λ h some. absurd (none_some r.1.file h none some))
+        at_once directing info (Err fs.NotFound) s m (Ok r) t nothing_had is looks keeps (rw same (omega arith)) reply (λ h some. absurd (not_there r.1.file h none some))
     course_heard listing info s m result t is looks keeps (answer, lists', kept, row) =
         listing_heard answer info s m result t is looks keeps lists' kept row
     course_heard (opening path) info s m result t is looks keeps (answer, k, opens, one, row) =
@@ -401,7 +384,7 @@ module _ {S C F L E : Type 0} (view : View S C F) (lists : Listings S C L E) (q 
         opened_had = refusal_had fs.NotFound (λ is. cc);
         listed_had = refusal_had fs.NotFound (λ is. cc);
         right = inl (subst (λ b. IsHead q (cond b known (due_looked shown q (shown.looked q.path))) reply) (sym known_page) head);
-        file = λ h some. absurd (none_some r.1.file h none some);
+        file = λ h some. absurd (not_there r.1.file h none some);
       })
 
   -- What the table answers is heard, and right for it.

@@ -1,5 +1,5 @@
 -- What a body is, once the piece that borrows from it is over.
-use Rattle.std.specs.Prelude.{ℕ, Option, ⊤}
+use Rattle.std.specs.Prelude.{⊤}
 use Rattle.std.specs.Borrow.{follows_so, MutBor, Fml, RattleType}
 use mathlib.Core.Option.{none}
 use Rattle.dav_core.specs.Disk.{DiskState}

@@ -41,6 +41,20 @@ pub record AsksFor {S C F L E : Type 0} (view : View S C F) (lists : Listings S 
       → (view.state t).faults ≤ most → AsksAtMost 3 (view.state m).asked (view.state t).asked
   pub files : view.file.asks_once
 
+-- How often a store asks its disk at most for a query from a state on: so often for the look, and for the opening or the
+-- refused listing behind it. Its files ask it once for each move.
+pub record AsksAtMostFor {S C F L E : Type 0} (view : View S C F) (lists : Listings S C L E) (q : Query) (each : ℕ)
+    (s : S) : Type 0 where
+  pub looks : (t : S) (c : C) (r : Result Info FsError) → view.looks s c q.path r t
+      → AsksAtMost each (view.state s).asked (view.state t).asked
+  pub opens : (m t : S) (c : C) (r : Result Info FsError) (kind : Kind) (path : WebPath) (o : Result F FsError)
+      → view.looks s c q.path r m → course q kind ≡ opening path → view.opens m c path reading o t
+      → Keeps (view.state s) (view.state m) → AsksAtMost each (view.state m).asked (view.state t).asked
+  pub refuses_list : (m t : S) (c : C) (r : Result Info FsError) (e : FsError) → view.looks s c q.path r m
+      → lists.lists m c q.path Data (Err e) t
+      → Keeps (view.state s) (view.state m) → AsksAtMost each (view.state m).asked (view.state t).asked
+  pub files : view.file.asks_once
+
 -- the status of an answer
 abbrev pub status_given : {F : Type 0} → Given F → ℕ
 status_given (Ok r) = r.0.status

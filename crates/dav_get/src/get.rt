@@ -9,14 +9,14 @@ ghost use Rattle.dav_core.specs.Writing.{reading};
 ghost use Rattle.dav_model.specs.declared.sent.Sent.TheVariants.{Unsatisfied};
 ghost use Rattle.dav_model.specs.declared.target.Target.TheVariants.{At};
 ghost use Rattle.dav_model.specs.Announced.{HasSoundBody, IsFramed};
-ghost use Rattle.dav_model.specs.Calls.{AsksUnlessKnown};
+ghost use Rattle.dav_model.specs.Calls.{AsksUnlessKnown, AtMostUnlessKnown, calls_to_send};
 ghost use Rattle.dav_model.specs.Due.{dir_course, index_course, query};
 ghost use Rattle.dav_model.specs.Head.{is_set, is_well_known as the_is_well_known};
 ghost use Rattle.dav_model.specs.Bodies.{read_size_of};
 ghost use Rattle.dav_store.specs.Leads.{LeadsOn};
 ghost use Rattle.dav_store.specs.Standing.{Seen, Standing};
 ghost use Rattle.dav_store.specs.View.{Closes};
-ghost use Rattle.dav_get.specs.Calls.{AsksFor, fields_given, status_given};
+ghost use Rattle.dav_get.specs.Calls.{AsksAtMostFor, AsksFor, fields_given, status_given};
 ghost use Rattle.dav_get.specs.Heard.{Heard};
 ghost use Rattle.dav_get.specs.Lives.{HasOpened, HeldOrClosed, HasMost, OpenOnlyHeld};
 ghost use Rattle.dav_get.specs.OpenFiles.{IsAt};
@@ -452,7 +452,7 @@ fn is_well_known(asked: &Asked<'_>) -> bool
 /// `right`, that it is right for what the store shows at the path, and at the one that is opened or listed for what
 /// stands there, unless a fault was met. Either way memory may be refused. `asks` says, of a store that looks at the
 /// path by one call and opens a file by so many, as it is now, how many calls of the disk it takes, where no page is
-/// given. `opened` says where the body's file was opened, and that it is what that file became by calls of its own.
+/// given; `bounded`, of one that looks and opens by so many at most, how many it takes at most. `opened` says where the body's file was opened, and that it is what that file became by calls of its own.
 pub fn handle_get<S: GuardedFileSystem<C>, C>(
     alloc: Global,
     settings: &Settings,
@@ -479,6 +479,11 @@ pub fn handle_get<S: GuardedFileSystem<C>, C>(
         (query settings.now fields.now method path.now) calls (S.view.state fs.new).faults fs.old)
         → (result ≡ Err DavError.NoMemory) ⊎ AsksUnlessKnown calls (the_is_well_known settings.now method path.now)
         (is_set settings.now.redirect) (status_given result) (fields_given fields.now result)
+        (S.view.state fs.old).asked (S.view.state fs.new).asked }
+    ensures bounded { (each : ℕ) → (the_is_well_known settings.now method path.now ≡ false
+        → AsksAtMostFor S.view S.listings (query settings.now fields.now method path.now) each fs.old)
+        → (result ≡ Err DavError.NoMemory) ⊎ AtMostUnlessKnown (calls_to_send each (is_set settings.now.redirect))
+        (the_is_well_known settings.now method path.now) (fields_given fields.now result)
         (S.view.state fs.old).asked (S.view.state fs.new).asked }
     ensures leads { LeadsOn S.view S.listings credentials.now fs.old fs.new }
     ensures life { OpenOnlyHeld S.view fs.old result fs.new }

@@ -21,7 +21,7 @@ fn are_digits(text: &[u8]) -> bool
 }
 
 // Whether a text is decimal digits alone, one or more.
-#[tactic(auto, using(crate::proofs::Numbers::all_are_digits))]
+#[tactic(auto, using(dav_io::proofs::Digits::all_are_digits))]
 fn is_number(text: &[u8]) -> bool
     ensures { result ≡ (not (length text.now == 0) && all_ascii_digits text.now) }
 {

@@ -1,5 +1,5 @@
 -- How many calls the steps of a search ask, one after the other.
-use Rattle.std.proofs.Common.{◌≡◌, ◌≤◌, ◌+◌, inl, inr, ℕ, [], ◌∷◌, length, Option, Some, Result, Ok, Err, sym, ap, ◌∙◌, arith}
+use Rattle.std.proofs.Common.{◌≡◌, ◌≤◌, ◌+◌, inl, inr, ℕ, ◌∷◌, length, Option, Some, Result, Ok, Err, sym, ap, ◌∙◌, arith}
 use Rattle.std.proofs.lemmas.List.Sorted.{length_permutation}
 use Rattle.dav_io.proofs.ToldLemmas.{told_after}
 use Rattle.dav_core.specs.declared.handle.DiskError.{DiskError}

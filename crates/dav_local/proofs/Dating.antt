@@ -1,11 +1,10 @@
 -- Which entries of a memory are new after its calls.
-use Rattle.std.proofs.Common.{ℕ, zero, suc, ◌-◌, ◌+◌, cond, not, take, ◌≡◌, ◌⊎◌, inl, inr, nat_lt, if◌then◌else◌, Bool, true, false, List, [], ◌∷◌, Option, None, Some, Result, Ok, Err, length, refl, sym, ap, subst, ◌∙◌}
+use Rattle.std.proofs.Common.{ℕ, zero, suc, ◌-◌, ◌+◌, cond, not, take, ◌≡◌, nat_lt, if◌then◌else◌, Bool, true, false, List, [], ◌∷◌, Option, None, Some, Result, Ok, Err, length, refl, sym, ap, subst, ◌∙◌}
 use Rattle.std.specs.Map.{lookup}
 use Rattle.dav_io.specs.Told.{Both}
 use Rattle.dav_io.specs.declared.clock.Moment.{Moment}
 use Rattle.dav_io.proofs.ToldLemmas.{both_same, both_then}
 use Rattle.dav_core.specs.declared.handle.DiskError.{DiskError}
-use Rattle.dav_core.specs.declared.handle.Meta.{Meta}
 use Rattle.dav_core.specs.declared.time.FileTime.{FileTime}
 use Rattle.dav_core.specs.Disk.{DiskState}
 use Rattle.dav_core.specs.Path.{Names}

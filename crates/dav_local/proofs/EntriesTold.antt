@@ -19,7 +19,7 @@ use Rattle.dav_core.specs.Disk.{Asks, DiskState, IsMetaOf, MayRefuseMeta, MetasB
 use Rattle.dav_core.specs.Errors.{fs_error_of}
 use Rattle.dav_core.specs.Info.{Info, info_of, known}
 use Rattle.dav_core.specs.Listing.{listable, name_of, stands_in}
-use Rattle.dav_core.specs.Members.{member_of, members}
+use Rattle.dav_core.specs.Members.{member_of}
 use Rattle.dav_core.specs.Path.{Names, parent_of}
 use Rattle.dav_core.specs.Tree.{below_kind, is_linked, is_tree, look}
 use Rattle.dav_core.specs.Unchanged.{SameBesidesOpens}

@@ -1,6 +1,6 @@
 -- Where a listing of a local store stands: the names that were given, those that were read, and those to come are the names
 -- of its directory.
-use Rattle.std.proofs.Common.{◌≡◌, ◌-◌, ◌||◌, ◌≤◌, ◌<◌, ◌⊎◌, inl, inr, ℕ, suc, Bool, true, false, List, [], ◌∷◌, ◌++◌, length, map, Option, None, Some, IfSome, Result, Ok, Err, refl, sym, ap, ◌∙◌, subst, append_assoc, arith}
+use Rattle.std.proofs.Common.{◌≡◌, ◌||◌, ◌≤◌, ◌<◌, ◌⊎◌, inl, inr, ℕ, suc, Bool, true, false, List, [], ◌∷◌, ◌++◌, length, map, Option, None, Some, IfSome, Result, Ok, Err, refl, sym, ap, ◌∙◌, subst, append_assoc, arith}
 use Rattle.std.specs.Option.{is_some}
 use Rattle.std.proofs.lemmas.List.{length-append, map-append}
 use Rattle.std.specs.List.{AllByRecursion}
@@ -20,7 +20,6 @@ use Rattle.dav_core.specs.World.{World, put}
 use Rattle.dav_core.proofs.UnchangedLemmas.{put_same, same_besides_then}
 use Rattle.dav_store.specs.declared.entry.ReadDirMeta.{ReadDirMeta}
 use Rattle.dav_store.specs.declared.entry.ReadDirMeta.TheVariants.{Data, DataSymlink}
-use Rattle.dav_store.specs.Members.{begun}
 use Rattle.dav_store.proofs.Reading.{rose_from}
 use Rattle.dav_local.specs.declared.entry.EntryMeta.{EntryMeta}
 use Rattle.dav_local.specs.declared.entry.EntryMeta.TheVariants.{Read, At}

@@ -13,9 +13,11 @@ pub mod Dating
 pub mod Recalling
 pub mod Found
 pub mod Counted
+pub mod FromRoot
 pub mod NearFound
 pub mod Resolved
 pub mod Opened
+pub mod MostSeen
 pub mod Seen
 pub mod NearSeen
 pub mod Keeping

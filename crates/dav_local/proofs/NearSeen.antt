@@ -31,8 +31,9 @@ use Rattle.dav_cache.proofs.Keys.{path_decides, path_tells}
 use Rattle.dav_cache.proofs.Lists.{lookup-without_other}
 use Rattle.dav_local.specs.declared.file.LocalFsFile.{LocalFsFile}
 use Rattle.dav_local.specs.declared.gathering.LocalFsReadDir.{LocalFsReadDir}
-use Rattle.dav_local.specs.Calls.{AfterFound, LooksAt}
+use Rattle.dav_local.specs.Calls.{AfterFound, IsOpening, LooksAt, is_shut}
 use Rattle.dav_local.specs.Files.{filed}
+use Rattle.dav_local.specs.FromRoot.{CostsAtMost}
 use Rattle.dav_local.specs.Gathering.{BeginsDir}
 use Rattle.dav_local.specs.LocalFiles.{local_file}
 use Rattle.dav_local.specs.Near.{Calls, CallsAtMost, FindsAtOnce, FindsHere, IsAtOnce, KeepsAsked, KeepsPaths, KeepsSeen, MissesUnasked, OpensThereByTwo, SeeksIn, SeeksNear, SeesThere, SoughtIn, StandsClear, members_at}
@@ -43,6 +44,7 @@ use Rattle.dav_local.specs.Seeing.{AnswersSeen, OpensAt}
 use Rattle.dav_local.specs.Ways.{Ways, rules_of}
 use Rattle.dav_model.specs.Folds.{Name, fold_path}
 use Rattle.dav_local.proofs.Counted.{calls_then, few_called, few_more, few_then, one_then, unasked}
+use Rattle.dav_local.proofs.FromRoot.{costs_before, costs_few}
 use Rattle.dav_local.proofs.Memories.{error_of}
 use Rattle.dav_local.proofs.Recalling.{no_refusal, no_rise, same_folds}
 use Rattle.dav_local.proofs.NearFound.{got_unkept, in_as, nothing_after, nothing_before, seen_there, some_none, unseen}
@@ -257,30 +259,45 @@ no_both : {A : Type 0} (b : Bool) → b ≡ true → b ≡ false → A
 no_both b e f = cc
 
 -- The two files that are looked for cost nothing.
-pub saves_virtual : (p q : Place) (path : WebPath) (r : Result Info FsError) → is_virtual (rules_of p.ways) path ≡ true → SavesLook p path r q
-saves_virtual p q path r is = record {
+pub saves_virtual : (p q : Place) (path : WebPath) (r : Result Info FsError) → is_virtual (rules_of p.ways) path ≡ true → q ≡ p → SavesLook p path r q
+saves_virtual p q path r is same = record {
   held = λ real. no_both (is_virtual (rules_of p.ways) path) is real;
   here = λ real. no_both (is_virtual (rules_of p.ways) path) is real;
   above = λ real. no_both (is_virtual (rules_of p.ways) path) is real;
   kept = λ real. no_both (is_virtual (rules_of p.ways) path) is real;
+  most = λ known. costs_few 0 6 p q path.names (omega arith) (unasked 0 p.disk q.disk (ap (λ (x : Place). x.disk) same));
 }
 
 pub saves_look : (p q : Place) (path : WebPath) (names : Names) (slash : Bool) (r : Result Info FsError) → names ≡ path.names → slash ≡ has_slash p.ways.alone path → SavesAt p names r q
-    → SeesAsAsked p names r q → SeeksNear 4 p names (LooksAt true slash) r q → KeepsSeen p names q → SavesLook p path r q
-saves_look p q path names slash r same slashed held here above kept = record {
+    → SeesAsAsked p names r q → SeeksNear 4 p names (LooksAt true slash) r q → KeepsSeen p names q → CostsAtMost 6 p names q → SavesLook p path r q
+saves_look p q path names slash r same slashed held here above kept most = record {
   held = λ real. subst (λ n. SavesAt p n r q) same held;
   here = λ real known. subst (λ n. SeesAsAsked p n r q) same here;
   above = λ real known. subst (λ s. SeeksNear 4 p path.names (LooksAt true s) r q) slashed (subst (λ n. SeeksNear 4 p n (LooksAt true slash) r q) same above);
   kept = λ real known. subst (λ n. KeepsSeen p n q) same kept;
+  most = λ known. subst (λ n. CostsAtMost 6 p n q) same most;
 }
 
 pub saves_open : (p q : Place) (path : WebPath) (names : Names) (how : OpenOptions) (r : Result LocalFsFile FsError) → names ≡ path.names → SavesOpening p names r q → OpensAsAsked p names r q
-    → SeeksNear 4 p names (OpensAt reading) r q → SavesOpen p path how r q
-saves_open p q path names how r same held here above = record {
+    → SeeksNear 4 p names (OpensAt reading) r q → CostsAtMost 5 p names q → SavesOpen p path how r q
+saves_open p q path names how r same held here above most = record {
   held = λ unshut reads. subst (λ n. SavesOpening p n r q) same held;
   here = λ unshut reads known. subst (λ n. OpensAsAsked p n r q) same here;
   above = λ unshut reads known. subst (λ n. SeeksNear 4 p n (OpensAt reading) r q) same above;
+  most = λ reads known. subst (λ n. CostsAtMost 5 p n q) same most;
 }
+
+-- What these rules shut costs none.
+pub shut_opening : (p : Place) (path : WebPath) (how : OpenOptions) → is_shut p.ways path ≡ true → IsOpening p path how (Err FsError.Forbidden) p × SavesOpen p path how (Err FsError.Forbidden) p
+shut_opening p path how is = (
+  record { forbidden = λ shut. (refl, refl); asked = λ unshut. no_both (is_shut p.ways path) is unshut },
+  record {
+    held = λ unshut. no_both (is_shut p.ways path) is unshut;
+    here = λ unshut. no_both (is_shut p.ways path) is unshut;
+    above = λ unshut. no_both (is_shut p.ways path) is unshut;
+    most = λ reads known. costs_few 0 5 p p path.names (omega arith) (inl refl);
+  },
+)
 
 -- ---- listings
 
@@ -317,7 +334,24 @@ not_known false true e = (refl, refl)
 not_known false false e = cc
 
 pub saves_dir : (p m q : Place) (path : WebPath) (at : Names) (gathers : Bool) (wanted : ReadDirMeta) (r : Result LocalFsReadDir FsError) → (p.ways.alone ≡ None → p.ways.folds ≡ true → FindsAtOnce p path.names m)
-    → p.disk.faults ≤ m.disk.faults → m.disk.faults ≤ q.disk.faults → BeginsDir gathers at wanted m.disk r q.disk → SavesDir p path r q
-saves_dir p m q path at gathers wanted r finds first then begins = λ known.
-    let (alone, folds) = not_known (is_some p.ways.alone) p.ways.folds known in
-    dir_begun p m q path.names at gathers wanted r (finds (none_is p.ways.alone alone) folds) first then begins
+    → p.disk.faults ≤ m.disk.faults → m.disk.faults ≤ q.disk.faults → BeginsDir gathers at wanted m.disk r q.disk → (p.ways.alone ≡ None → p.ways.folds ≡ true → CostsAtMost 4 p path.names m) → SavesDir p path r q
+saves_dir p m q path at gathers wanted r finds first then begins most = record {
+  held = λ known.
+      (let (alone, folds) = not_known (is_some p.ways.alone) p.ways.folds known in
+      dir_begun p m q path.names at gathers wanted r (finds (none_is p.ways.alone alone) folds) first then begins);
+  most = λ known.
+      (let (alone, folds) = not_known (is_some p.ways.alone) p.ways.folds known in
+      costs_before 2 4 6 p m q path.names (omega arith) (most (none_is p.ways.alone alone) folds) (begun_few gathers at wanted m.disk r q.disk begins));
+}
+
+-- no directory is found
+pub unfound_dir : (p q : Place) (path : WebPath) (e : FsError) → (p.ways.alone ≡ None → p.ways.folds ≡ true → FindsAtOnce p path.names q) → (p.ways.alone ≡ None → p.ways.folds ≡ true → CostsAtMost 4 p path.names q)
+    → SavesDir p path (Err e) q
+unfound_dir p q path e finds most = record {
+  held = λ known nothing place once.
+      (let (alone, folds) = not_known (is_some p.ways.alone) p.ways.folds known in
+      few_more 1 3 p.disk q.disk (omega arith) (finds (none_is p.ways.alone alone) folds nothing place once));
+  most = λ known.
+      (let (alone, folds) = not_known (is_some p.ways.alone) p.ways.folds known in
+      costs_before 0 4 6 p q q path.names (omega arith) (most (none_is p.ways.alone alone) folds) (inl refl));
+}

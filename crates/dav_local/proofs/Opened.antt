@@ -1,7 +1,7 @@
 -- What an opening for reading leaves as it was.
 use Rattle.std.specs.Prelude.{◌==◌, ◌≢◌, cond, option_map}
 use Rattle.std.specs.Option.{is_some}
-use Rattle.std.proofs.Common.{◌≡◌, ℕ, Bool, true, false, List, Option, None, Some, Result, Ok, Err, refl, sym, ap, subst, ◌∙◌, inl, inr}
+use Rattle.std.proofs.Common.{◌≡◌, ℕ, Bool, true, false, Option, None, Some, Result, Ok, Err, refl, sym, ap, subst, ◌∙◌, inl, inr}
 use Rattle.dav_io.specs.Told.{Both}
 use Rattle.dav_io.proofs.ToldLemmas.{both_map}
 use Rattle.dav_core.specs.declared.handle.DiskError.{DiskError}

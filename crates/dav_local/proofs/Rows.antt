@@ -65,7 +65,7 @@ one_of f (r ∷ rows) e = elim (or_true (f r) (list_any f rows) e) [
   | inr later ↦ let (x, o, t) = one_of f rows later in (x, inr o, t)
 ]
 
-any_of : (f : Row → Bool) (rows : List Row) (x : Row) → IsOf x rows → f x ≡ true → list_any f rows ≡ true
+pub any_of : (f : Row → Bool) (rows : List Row) (x : Row) → IsOf x rows → f x ≡ true → list_any f rows ≡ true
 any_of f [] x o t = absurd o
 any_of f (r ∷ rows) x (inl same) t = ap (λ b. b || list_any f rows) (ap f (sym same) ∙ t)
 any_of f (r ∷ rows) x (inr o) t = later (f r) (any_of f rows x o t)

@@ -31,7 +31,7 @@ use Rattle.dav_local.specs.declared.file.LocalFsFile.{LocalFsFile}
 use Rattle.dav_local.specs.Files.{filed}
 use Rattle.dav_local.specs.LocalFiles.{local_file}
 use Rattle.dav_local.specs.Places.{Place}
-use Rattle.dav_local.specs.Saving.{AsksOneCall, OpensOnce, SavesAt, SavesLook, SavesOpening, SeesOnce, is_judged}
+use Rattle.dav_local.specs.Saving.{AsksOneCall, OpensOnce, SavesAt, SavesOpening, SeesOnce, is_judged}
 use Rattle.dav_local.specs.Seeing.{AnswersSeen, FindsAlike, OpensAt, OpensThere}
 use Rattle.dav_local.specs.Walking.{Misses, RecallsBy, StandsAt, Walks}
 use Rattle.dav_local.specs.Ways.{is_known, rules_of}

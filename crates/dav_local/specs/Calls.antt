@@ -7,7 +7,7 @@ use Rattle.dav_core.specs.declared.error.FsError.TheVariants as fs
 use Rattle.dav_core.specs.declared.error.FsError.TheVariants.{Forbidden, NotFound}
 use Rattle.dav_core.specs.declared.handle.DiskError.{DiskError}
 use Rattle.dav_core.specs.declared.handle.DiskError.TheVariants as disk
-use Rattle.dav_core.specs.declared.handle.DiskError.TheVariants.{NotDir}
+use Rattle.dav_core.specs.declared.handle.DiskError.TheVariants.{Failed, NotDir}
 use Rattle.dav_core.specs.declared.handle.Meta.{Meta}
 use Rattle.dav_core.specs.declared.handle.OpenOptions.{OpenOptions}
 use Rattle.dav_core.specs.DavPath.{WebPath, last_name}
@@ -127,21 +127,34 @@ abbrev pub AsksToCopy : Place → WebPath → WebPath → Result Unit FsError �
 AsksToCopy p from to result q = FindsBoth p from to
     (λ at into. Asks (λ s answer t. Copies s at into answer t) done_by) result q
 
--- whether a look found a directory
-abbrev pub found_dir : Result Meta DiskError → Bool
-found_dir (Ok m) = is_dir m.kind
-found_dir (Err e) = false
+-- A move that was refused since something is no directory is forbidden, unless the call behind it, that was to help, met
+-- a fault or want of memory.
+abbrev pub blocked_by : DiskError → FsError
+blocked_by Failed = fs.GeneralFailure
+blocked_by disk.NoMemory = fs.NoMemory
+blocked_by e = Forbidden
+
+-- A second move is answered as the disk does; where it was refused as the first since the file still stands, its removal
+-- says why.
+abbrev pub again_by : Result Unit DiskError → Result Unit DiskError → Result Unit FsError
+again_by (Err e) (Err NotDir) = Err (blocked_by e)
+again_by removal again = done_by again
 
 -- Where a directory was to take a file's place, the file is removed, and the move is made again whatever the removal
--- answered. Else the first answer stands.
+-- answered.
 abbrev pub MovesAgain : Bool → Names → Names → DiskState → Result Unit FsError → DiskState → Type 0
 MovesAgain false at into s result t = (result ≡ Err Forbidden) × (t ≡ s)
 MovesAgain true at into s result t = (removal : Result Unit DiskError) × (m : DiskState) × RemovesFile s into removal m
-    × (again : Result Unit DiskError) × Renames m at into again t × (result ≡ done_by again)
+    × (again : Result Unit DiskError) × Renames m at into again t × (result ≡ again_by removal again)
+
+-- by what a look at its source found
+abbrev pub AfterNotDir : Result Meta DiskError → Names → Names → DiskState → Result Unit FsError → DiskState → Type 0
+AfterNotDir (Ok m) at into s result t = MovesAgain (is_dir m.kind) at into s result t
+AfterNotDir (Err e) at into s result t = (result ≡ Err (blocked_by e)) × (t ≡ s)
 
 abbrev pub AfterMove : Result Unit DiskError → Names → Names → DiskState → Result Unit FsError → DiskState → Type 0
 AfterMove (Err NotDir) at into s result t = (look : Result Meta DiskError) × (m : DiskState) × Metas s at look m
-    × MovesAgain (found_dir look) at into m result t
+    × AfterNotDir look at into m result t
 AfterMove answer at into s result t = (result ≡ done_by answer) × (t ≡ s)
 
 abbrev pub MovesAt : Names → Names → Place → Result Unit FsError → Place → Type 0

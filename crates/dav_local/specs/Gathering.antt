@@ -1,6 +1,6 @@
 -- The listings of a local store. Where the rules for macOS hold, a listing gathers the names that begin with `._`, and
 -- at its end the memory is sealed with them.
-use Rattle.std.specs.Prelude.{◌≡◌, ◌⊎◌, ℕ, [], Bool, true, false, Option, None, Some, Result, Ok, Err}
+use Rattle.std.specs.Prelude.{◌≡◌, ◌⊎◌, ℕ, Bool, true, false, Option, None, Some, Result, Ok, Err}
 use Rattle.dav_io.specs.declared.clock.Moment.{Moment}
 use Rattle.dav_io.specs.declared.failure.NoMemory.{NoMemory as Starved}
 use Rattle.dav_core.specs.declared.error.FsError.{FsError}

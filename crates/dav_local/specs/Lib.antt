@@ -15,6 +15,7 @@ pub mod Made
 pub mod Gathering
 pub mod Calls
 pub mod Near
+pub mod FromRoot
 pub mod Seeing
 pub mod Saving
 pub mod Shown

@@ -5,14 +5,14 @@ ghost use Rattle.dav_core.specs.declared.handle.Handle.{Handle};
 ghost use Rattle.dav_core.specs.Disk.{DiskState, Opens};
 ghost use Rattle.dav_core.specs.Writing.{Copies, CreatesDir, RemovesDir, RemovesFile, Renames};
 ghost use Rattle.dav_store.specs.Frames.{KeepsOpen, OpensOne};
-ghost use Rattle.dav_local.specs.Calls.{AfterMove, MakesMissing, MovesAgain, found_dir};
+ghost use Rattle.dav_local.specs.Calls.{AfterMove, MakesMissing, MovesAgain, again_by, blocked_by};
 ghost use Rattle.dav_local.specs.Files.{done_by, filed};
 ghost use Rattle.dav_local.specs.LocalFiles.{local_file};
 
 use crate::LocalFsFile;
 use crate::lists::look;
 use crate::meta::done;
-use dav_core::{Disk, DiskError, FsError, FsPath, Kind, Meta, OpenOptions};
+use dav_core::{Disk, DiskError, FsError, FsPath, Kind, OpenOptions};
 
 // Opens what stands at a place.
 pub fn open_at<D: Disk>(
@@ -52,6 +52,15 @@ pub fn take_dir_at<D: Disk>(disk: &mut D, at: &FsPath) -> Result<(), FsError>
     done(disk.remove_dir(at))
 }
 
+// Removes a file at the disk.
+fn remove_at<D: Disk>(disk: &mut D, at: &FsPath) -> Result<(), DiskError>
+    ensures done { RemovesFile (D.state disk.old) at.now result (D.state disk.new) }
+    ensures keeps { KeepsOpen (D.state disk.old) (D.state disk.new) }
+    ensures loan { D.loan disk.new ≡ D.loan disk.old }
+{
+    disk.remove_file(at)
+}
+
 // Removes a file.
 pub fn take_file_at<D: Disk>(disk: &mut D, at: &FsPath) -> Result<(), FsError>
     ensures done { (answer : Result Unit DiskError) × RemovesFile (D.state disk.old) at.now answer (D.state disk.new)
@@ -59,7 +68,7 @@ pub fn take_file_at<D: Disk>(disk: &mut D, at: &FsPath) -> Result<(), FsError>
     ensures keeps { KeepsOpen (D.state disk.old) (D.state disk.new) }
     ensures loan { D.loan disk.new ≡ D.loan disk.old }
 {
-    done(disk.remove_file(at))
+    done(remove_at(disk, at))
 }
 
 // Copies a file.
@@ -81,13 +90,23 @@ fn rename_at<D: Disk>(disk: &mut D, from: &FsPath, to: &FsPath) -> Result<(), Di
     disk.rename(from, to)
 }
 
-// Whether a directory was found.
-fn is_dir(found: Result<Meta, DiskError>) -> bool
-    ensures { result ≡ found_dir found }
+// Why a move stays refused that met what is no directory: what refused the call behind it, if that was the disk.
+fn blocked(error: DiskError) -> FsError
+    ensures { result ≡ blocked_by error }
 {
-    match found {
-        Ok(meta) => meta.kind == Kind::Dir,
-        Err(_) => false,
+    match error {
+        DiskError::Failed | DiskError::NoMemory => error.into(),
+        _ => FsError::Forbidden,
+    }
+}
+
+// What a second move answers, by what the removal did before it.
+fn again(removal: Result<(), DiskError>, moved: Result<(), DiskError>) -> Result<(), FsError>
+    ensures { result ≡ again_by removal moved }
+{
+    match (removal, moved) {
+        (Err(error), Err(DiskError::NotDir)) => Err(blocked(error)),
+        _ => done(moved),
     }
 }
 
@@ -97,8 +116,8 @@ fn move_over<D: Disk>(disk: &mut D, from: &FsPath, to: &FsPath) -> Result<(), Fs
     ensures keeps { KeepsOpen (D.state disk.old) (D.state disk.new) }
     ensures loan { D.loan disk.new ≡ D.loan disk.old }
 {
-    let _removal = take_file_at(disk, to);
-    done(rename_at(disk, from, to))
+    let removal = remove_at(disk, to);
+    again(removal, rename_at(disk, from, to))
 }
 
 // Moves what stands at a place to another. A directory takes the place of a file.
@@ -110,12 +129,11 @@ pub fn move_at<D: Disk>(disk: &mut D, from: &FsPath, to: &FsPath) -> Result<(), 
     ensures loan { D.loan disk.new ≡ D.loan disk.old }
 {
     match rename_at(disk, from, to) {
-        Err(DiskError::NotDir) => {
-            if is_dir(look(disk, from)) {
-                return move_over(disk, from, to);
-            }
-            Err(FsError::Forbidden)
-        }
+        Err(DiskError::NotDir) => match look(disk, from) {
+            Ok(meta) if meta.kind == Kind::Dir => move_over(disk, from, to),
+            Ok(_) => Err(FsError::Forbidden),
+            Err(error) => Err(blocked(error)),
+        },
         answer => done(answer),
     }
 }

@@ -9,7 +9,8 @@ ghost use Rattle.dav_store.specs.Standing.{info_in};
 ghost use Rattle.dav_local.specs.Calls.{LooksAt};
 ghost use Rattle.dav_local.specs.Files.{local_info};
 ghost use Rattle.dav_local.specs.LocalFiles.{local_file};
-ghost use Rattle.dav_local.specs.Near.{KeepsAsked, KeepsSeen, MissesUnasked, OpensThereByTwo, SeeksNear, SeesThere};
+ghost use Rattle.dav_local.specs.FromRoot.{CostsAtMost};
+ghost use Rattle.dav_local.specs.Near.{CallsAtMost, KeepsAsked, KeepsSeen, MissesUnasked, OpensThereByTwo, SeeksNear, SeesThere};
 ghost use Rattle.dav_local.specs.Places.{Stays, place_of};
 ghost use Rattle.dav_local.specs.Saving.{OpensAsAsked, OpensOnce, SavesAt, SavesOpening, SeesAsAsked, SeesOnce};
 ghost use Rattle.dav_local.specs.Seeing.{AnswersSeen, FindsAlike, OpensAt, OpensThere};
@@ -41,6 +42,7 @@ impl<D: Disk, R: Remember> LocalFs<D, R> {
             (info_in local_info result) (place_of D.state R.state self.new) }
         ensures kept { KeepsSeen (place_of D.state R.state self.old) path.now (place_of D.state R.state self.new) }
         ensures keeps { Keeps (D.state self.old.disk) (D.state self.new.disk) }
+        ensures most { CostsAtMost 6 (place_of D.state R.state self.old) path.now (place_of D.state R.state self.new) }
         ensures stays { Stays self.old self.new }
         ensures loan { D.loan self.new.disk ≡ D.loan self.old.disk }
     {
@@ -60,6 +62,7 @@ impl<D: Disk, R: Remember> LocalFs<D, R> {
         ensures unasked { MissesUnasked (place_of D.state R.state self.old) path.now result (place_of D.state R.state self.new) }
         ensures kept { KeepsAsked (place_of D.state R.state self.old) path.now (place_of D.state R.state self.new) }
         ensures keeps { Keeps (D.state self.old.disk) (D.state self.new.disk) }
+        ensures few { CallsAtMost 1 (D.state self.old.disk) (D.state self.new.disk) }
         ensures stays { Stays self.old self.new }
         ensures loan { D.loan self.new.disk ≡ D.loan self.old.disk }
     {
@@ -77,6 +80,7 @@ impl<D: Disk, R: Remember> LocalFs<D, R> {
         ensures above { SeeksNear 4 (place_of D.state R.state self.old) path.now (LooksAt true slash)
             (info_in local_info result) (place_of D.state R.state self.new) }
         ensures keeps { Keeps (D.state self.old.disk) (D.state self.new.disk) }
+        ensures most { CostsAtMost 5 (place_of D.state R.state self.old) path.now (place_of D.state R.state self.new) }
         ensures stays { Stays self.old self.new }
         ensures loan { D.loan self.new.disk ≡ D.loan self.old.disk }
     {
@@ -94,6 +98,7 @@ impl<D: Disk, R: Remember> LocalFs<D, R> {
         ensures above { SeeksNear 3 (place_of D.state R.state self.old) path.now (LooksAt true slash)
             (info_in local_info result) (place_of D.state R.state self.new) }
         ensures keeps { Keeps (D.state self.old.disk) (D.state self.new.disk) }
+        ensures most { CostsAtMost 4 (place_of D.state R.state self.old) path.now (place_of D.state R.state self.new) }
         ensures stays { Stays self.old self.new }
         ensures loan { D.loan self.new.disk ≡ D.loan self.old.disk }
     {
@@ -133,6 +138,7 @@ impl<D: Disk, R: Remember> LocalFs<D, R> {
             (place_of D.state R.state self.new) }
         ensures one { OpensOne local_file reading (D.state self.old.disk) result
             (D.state self.new.disk) }
+        ensures most { CostsAtMost 5 (place_of D.state R.state self.old) path.now (place_of D.state R.state self.new) }
         ensures stays { Stays self.old self.new }
         ensures loan { D.loan self.new.disk ≡ D.loan self.old.disk }
     {
@@ -151,6 +157,7 @@ impl<D: Disk, R: Remember> LocalFs<D, R> {
             (place_of D.state R.state self.new) }
         ensures unasked { MissesUnasked (place_of D.state R.state self.old) path.now result (place_of D.state R.state self.new) }
         ensures one { OpensThere (D.state self.old.disk) result (D.state self.new.disk) }
+        ensures few { CallsAtMost 1 (D.state self.old.disk) (D.state self.new.disk) }
         ensures stays { Stays self.old self.new }
         ensures loan { D.loan self.new.disk ≡ D.loan self.old.disk }
     {
@@ -169,6 +176,7 @@ impl<D: Disk, R: Remember> LocalFs<D, R> {
             (place_of D.state R.state self.new) }
         ensures one { OpensOne local_file reading (D.state self.old.disk) result
             (D.state self.new.disk) }
+        ensures most { CostsAtMost 4 (place_of D.state R.state self.old) path.now (place_of D.state R.state self.new) }
         ensures stays { Stays self.old self.new }
         ensures loan { D.loan self.new.disk ≡ D.loan self.old.disk }
     {

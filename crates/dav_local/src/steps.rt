@@ -5,7 +5,8 @@
 ghost use Rattle.std.specs.Prelude.{◌≡◌, IfOk, None, OnOk, Result, true};
 ghost use Rattle.dav_core.specs.declared.error.FsError.{FsError};
 ghost use Rattle.dav_core.specs.Path.{Names, is_plain};
-ghost use Rattle.dav_local.specs.Near.{FindsAtOnce, FindsDir, FindsDirHere, FindsHere, MissesUnasked, SearchesFew, SoughtIn};
+ghost use Rattle.dav_local.specs.FromRoot.{CostsAtMost, StepsFew};
+ghost use Rattle.dav_local.specs.Near.{CallsAtMost, FindsAtOnce, FindsDir, FindsDirHere, FindsHere, MissesUnasked, SearchesFew, SoughtIn};
 ghost use Rattle.dav_local.specs.Places.{Stays, place_of};
 ghost use Rattle.dav_local.specs.Remembering.{HasFirst, HasNext, KeepsAbove, KeepsWork, RemembersRows, SavesCalls, SavesWork};
 ghost use Rattle.dav_local.specs.Resolving.{Resolves, StandsFor, found_at};
@@ -32,6 +33,8 @@ impl<D: Disk, R: Remember> LocalFs<D, R> {
             (place_of D.state R.state self.new) }
         ensures near { self.old.ways.alone ≡ None → self.old.ways.folds ≡ true
             → FindsAtOnce (place_of D.state R.state self.old) path.now (place_of D.state R.state self.new) }
+        ensures most { self.old.ways.alone ≡ None → self.old.ways.folds ≡ true
+            → CostsAtMost 4 (place_of D.state R.state self.old) path.now (place_of D.state R.state self.new) }
         ensures stays { Stays self.old self.new }
         ensures loan { D.loan self.new.disk ≡ D.loan self.old.disk }
     {
@@ -53,6 +56,7 @@ impl<D: Disk, R: Remember> LocalFs<D, R> {
         ensures above { BringsUnheld (place_of D.state R.state self.old) path.now (found_at path.now result)
             (place_of D.state R.state self.new) }
         ensures near { FindsAtOnce (place_of D.state R.state self.old) path.now (place_of D.state R.state self.new) }
+        ensures most { CostsAtMost 4 (place_of D.state R.state self.old) path.now (place_of D.state R.state self.new) }
         ensures stays { Stays self.old self.new }
         ensures loan { D.loan self.new.disk ≡ D.loan self.old.disk }
     {
@@ -72,6 +76,7 @@ impl<D: Disk, R: Remember> LocalFs<D, R> {
         ensures near { SoughtIn 4 (place_of D.state R.state self.old) path.now (found_at path.now result)
             (place_of D.state R.state self.new) }
         ensures here { FindsHere (place_of D.state R.state self.old) path.now result (place_of D.state R.state self.new) }
+        ensures most { CostsAtMost 3 (place_of D.state R.state self.old) path.now (place_of D.state R.state self.new) }
         ensures stays { Stays self.old self.new }
         ensures loan { D.loan self.new.disk ≡ D.loan self.old.disk }
     {
@@ -89,6 +94,7 @@ impl<D: Disk, R: Remember> LocalFs<D, R> {
         ensures above { BringsAbove (place_of D.state R.state self.old) path.now result
             (place_of D.state R.state self.new) }
         ensures near { SoughtIn 3 (place_of D.state R.state self.old) path.now result (place_of D.state R.state self.new) }
+        ensures most { CostsAtMost 2 (place_of D.state R.state self.old) path.now (place_of D.state R.state self.new) }
         ensures stays { Stays self.old self.new }
         ensures loan { D.loan self.new.disk ≡ D.loan self.old.disk }
     {
@@ -110,6 +116,7 @@ impl<D: Disk, R: Remember> LocalFs<D, R> {
     fn find_parent(&mut self, dir: FsPath) -> Result<Option<FsPath>, FsError>
         ensures done { FindsParent (place_of D.state R.state self.old) dir result (place_of D.state R.state self.new) }
         ensures near { FindsDir (place_of D.state R.state self.old) dir result (place_of D.state R.state self.new) }
+        ensures few { CallsAtMost 2 (D.state self.old.disk) (D.state self.new.disk) }
         ensures stays { Stays self.old self.new }
         ensures loan { D.loan self.new.disk ≡ D.loan self.old.disk }
     {
@@ -127,6 +134,7 @@ impl<D: Disk, R: Remember> LocalFs<D, R> {
     fn parent_on_disk(&mut self, dir: FsPath) -> Result<Option<FsPath>, FsError>
         ensures done { FindsParent (place_of D.state R.state self.old) dir result (place_of D.state R.state self.new) }
         ensures near { FindsDirHere (place_of D.state R.state self.old) dir result (place_of D.state R.state self.new) }
+        ensures few { CallsAtMost 1 (D.state self.old.disk) (D.state self.new.disk) }
         ensures stays { Stays self.old self.new }
         ensures loan { D.loan self.new.disk ≡ D.loan self.old.disk }
     {
@@ -170,6 +178,7 @@ impl<D: Disk, R: Remember> LocalFs<D, R> {
         ensures done { Walks (place_of D.state R.state self.old) path.now result (place_of D.state R.state self.new) }
         ensures above { BringsAbove (place_of D.state R.state self.old) path.now result
             (place_of D.state R.state self.new) }
+        ensures most { CostsAtMost 0 (place_of D.state R.state self.old) path.now (place_of D.state R.state self.new) }
         ensures stays { Stays self.old self.new }
         ensures loan { D.loan self.new.disk ≡ D.loan self.old.disk }
     {
@@ -195,6 +204,7 @@ impl<D: Disk, R: Remember> LocalFs<D, R> {
         ensures done { StepsOn (place_of D.state R.state self.old) at.now name.now result
             (place_of D.state R.state self.new) }
         ensures first { last ≡ true → OnOk result (HasFirst at.now at.now (R.state self.new.memory)) }
+        ensures few { StepsFew (D.state self.old.disk) at.now (D.state self.new.disk) }
         ensures stays { Stays self.old self.new }
         ensures loan { D.loan self.new.disk ≡ D.loan self.old.disk }
     {
@@ -212,6 +222,7 @@ impl<D: Disk, R: Remember> LocalFs<D, R> {
         ensures done { Recalls (place_of D.state R.state self.old) path.now result
             (place_of D.state R.state self.new) }
         ensures unasked { MissesUnasked (place_of D.state R.state self.old) path.now result (place_of D.state R.state self.new) }
+        ensures few { CallsAtMost 1 (D.state self.old.disk) (D.state self.new.disk) }
         ensures stays { Stays self.old self.new }
         ensures loan { D.loan self.new.disk ≡ D.loan self.old.disk }
     {

@@ -4,6 +4,7 @@ ghost use Rattle.std.specs.Prelude.{◌≡◌, ◌++◌, Err, IfOk, IsSome, OnEr
 ghost use Rattle.std.specs.Option.{unwrap_or};
 ghost use Rattle.dav_core.specs.Path.{all_plain, is_plain, parent_of};
 ghost use Rattle.dav_model.specs.Folds as folds;
+ghost use Rattle.dav_local.specs.FromRoot.{StepsFew};
 ghost use Rattle.dav_local.specs.Near.{ReadsFew, SearchesFew};
 ghost use Rattle.dav_local.specs.Walking.{Searches, SearchesIn, Steps};
 
@@ -88,6 +89,7 @@ pub fn alike<D: Disk>(disk: &mut D, at: &FsPath, name: &Text) -> Result<Option<F
 pub fn step<D: Disk>(disk: &mut D, at: &FsPath, name: &Text) -> Result<Option<FsPath>, FsError>
     requires { is_plain name.now ≡ true }
     ensures done { Steps (D.state disk.old) at.now name.now result (D.state disk.new) }
+    ensures few { StepsFew (D.state disk.old) at.now (D.state disk.new) }
     ensures loan { D.loan disk.new ≡ D.loan disk.old }
 {
     let Ok(path) = at.child(name.as_str()) else {

@@ -14,13 +14,13 @@ use Rattle.dav_core.specs.Tree.{is_dir, is_file, look}
 use Rattle.dav_core.specs.World.{SameBesidesOpens, World, bytes_of, bytes_or_none, is_numbered}
 use Rattle.dav_core.specs.Writing.{LeftBy}
 use Rattle.dav_core.proofs.UnchangedLemmas.{same_besides_then}
+use Rattle.dav_core.proofs.PlaceLemmas.{place_there}
 use Rattle.dav_store.specs.View.{Listings, View}
 use Rattle.dav_model.specs.Finding.{IsOf}
 use Rattle.dav_model.proofs.LooseWalks.{find_row}
 use Rattle.dav_methods.specs.Follows.{Calls}
 use Rattle.dav_methods.specs.Pouring.{Writes}
 use Rattle.dav_methods.proofs.EditsJoined.{filled_after, made_after, moved_after, taken_after}
-use Rattle.dav_methods.proofs.OpenedFile.{place_row}
 use Rattle.dav_methods.proofs.Stages.{found_numbered}
 
 -- ---- what stands has a number
@@ -38,7 +38,7 @@ numbered_in (r ∷ rows) x (inr of) = later (x.number == r.number) (numbered_in 
     later false e = e
 
 placed_numbered : (tree : List Row) (path : Names) (there : Row) → place tree path ≡ Ok (Some there) → is_numbered tree there.number ≡ true
-placed_numbered tree path there e = numbered_in tree there (find_row (λ r. same_names path r.path) tree there (place_row tree [] path (Some there) e)).1
+placed_numbered tree path there e = numbered_in tree there (find_row (λ r. same_names path r.path) tree there (place_there tree [] path (Some there) e)).1
 
 -- ---- what an edit that is allowed fills
 

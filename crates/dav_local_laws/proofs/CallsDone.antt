@@ -41,7 +41,7 @@ pub calls_for : (allowed : Allowed) (d : DiskError) → allowed ≡ Err d → Ca
 calls_for allowed d e = rw e refl
 
 -- what was spoiled later was so from before
-spoiled_from : (s m t : DiskState) (e : FsError) → s.faults ≤ m.faults → Spoiled {T = Unit {0}} m (Err e) t → Spoiled {T = Unit {0}} s (Err e) t
+pub spoiled_from : (s m t : DiskState) (e : FsError) → s.faults ≤ m.faults → Spoiled {T = Unit {0}} m (Err e) t → Spoiled {T = Unit {0}} s (Err e) t
 spoiled_from s m t e le (inl (is, rose)) = inl (is, rose_from s.faults m.faults t.faults le rose)
 spoiled_from s m t e le (inr none) = inr none
 

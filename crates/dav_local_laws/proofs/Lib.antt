@@ -22,5 +22,6 @@ pub mod LocalFollows
 pub mod LocalLoosely
 pub mod LocalLeads
 pub mod LocalShows
+pub mod RuledMembers
 pub mod LocalSeals
 pub mod LocalDates

@@ -1,6 +1,7 @@
 -- How often a local store asks its disk for a GET or HEAD: of a path that is found without the disk, and that the rules
--- for macOS don't touch, and of one that the memory has or that stands as it is asked.
-use Rattle.std.proofs.Common.{◌≡◌, ◌≤◌, ◌⊎◌, ◌&&◌, ◌||◌, inl, inr, ℕ, Bool, true, false, Option, None, Some, option_map, Result, Ok, Err, refl, sym, ap, subst, ◌∙◌, arith}
+-- for macOS don't touch, of one that the memory has or that stands as it is asked, and at most of any other.
+use Rattle.std.proofs.Common.{◌≡◌, ◌≤◌, ◌+◌, ◌*◌, ◌⊎◌, ◌&&◌, ◌||◌, inl, inr, ℕ, length, Bool, true, false, Option, None, Some, option_map, Result, Ok, Err, refl, sym, ap, subst, ◌∙◌, arith}
+use Rattle.std.specs.List.{count_by}
 use Rattle.std.specs.Map.{lookup}
 use Rattle.dav_io.specs.Counts.{RefusedNothing, one_more}
 use Rattle.dav_io.specs.declared.clock.Moment.{Moment}
@@ -20,14 +21,14 @@ use Rattle.dav_store.specs.declared.entry.ReadDirMeta.TheVariants.{Data}
 use Rattle.dav_store.specs.Files.{AsksOnce, AsksToGive}
 use Rattle.dav_store.specs.View.{Listings, View}
 use Rattle.dav_methods.specs.Pouring.{Writes}
-use Rattle.dav_get.specs.Calls.{AsksFor, AsksToOpen}
+use Rattle.dav_get.specs.Calls.{AsksAtMostFor, AsksFor, AsksToOpen}
 use Rattle.dav_get.proofs.Asking.{asked_once}
 use Rattle.dav_cache.specs.declared.cache.PathEntry.{PathEntry}
 use Rattle.dav_cache.specs.Entries.{PathCache}
 use Rattle.dav_cache.specs.Memory.{MemoryState}
 use Rattle.dav_cache.specs.Trees.{same_path}
-use Rattle.dav_model.specs.Calls.{AreNear, IsNear, calls_to_open}
-use Rattle.dav_model.specs.Due.{Query}
+use Rattle.dav_model.specs.Calls.{AreNear, IsNear, IsWalkedBy, calls_from_root, calls_to_open, calls_to_seek, is_link_on_way, is_on_way}
+use Rattle.dav_model.specs.Due.{OfItsPaths, Query}
 use Rattle.dav_model.specs.Finding.{has_slash, is_localized, is_virtual, or_walk}
 use Rattle.dav_model.specs.Folds.{fold_path, is_dot}
 use Rattle.dav_model.proofs.Courses.{at_opened}
@@ -37,6 +38,7 @@ use Rattle.dav_local.specs.declared.gathering.LocalFsReadDir.{LocalFsReadDir}
 use Rattle.dav_local.specs.declared.ways.Ways.{Ways}
 use Rattle.dav_local.specs.Calls.{AfterAbsent, Asks, BeginsAt, Finds, IsOpening, LooksAt, Place, is_shut}
 use Rattle.dav_local.specs.Files.{filed}
+use Rattle.dav_local.specs.FromRoot.{CostsAtMost}
 use Rattle.dav_local.specs.Near.{CallsAtMost, IsAsAsked, IsAtOnce, KeepsPaths}
 use Rattle.dav_local.specs.Remembering.{IsRemembered}
 use Rattle.dav_local.specs.Saving.{AsksOneCall, OpensByTwo}
@@ -282,7 +284,7 @@ module _ {S C : Type 0} (view : View S C LocalFsFile) (lists : Listings S C Loca
         open_so held m t c path o there (unknown m c r looked) (so_far (view.state s).faults (view.state m).faults (view.state t).faults most nothing keeps.counts counts end)
         (so_after held (at s) (at m) path.names there (kept m t c r looked keeps counts end) keeps (near_so held (at s) w path.names there told so)) h);
     refuses_list = λ m t c r e looked h keeps counts end.
-        local.begins_once m t c q.path Data (Err e) h (unknown m c r looked) (so_far (view.state s).faults (view.state m).faults (view.state t).faults most nothing keeps.counts counts end) near.seen.at
+        (local.begins_once m t c q.path Data (Err e) h).held (unknown m c r looked) (so_far (view.state s).faults (view.state m).faults (view.state t).faults most nothing keeps.counts counts end) near.seen.at
         (so_once held (at m) q.path.names near.seen.at (so_after held (at s) (at m) q.path.names near.seen.at (kept m t c r looked keeps counts end) keeps seen));
     files = local.once;
   }
@@ -299,3 +301,30 @@ module _ {S C : Type 0} (view : View S C LocalFsFile) (lists : Listings S C Loca
           (local.looks s m c q.path r looked).3.kept near.seen.plain known
           (so_far (view.state s).faults (view.state s).faults (view.state m).faults most nothing (omega arith) keeps.counts (omega (arith, counts, end))) near.seen.at
           (so_once held (at s) q.path.names near.seen.at seen) near.seen.fair
+
+  -- ---- sought, by so many calls at most
+
+  pub asks_sought : (s : S) (q : Query) (most : ℕ) (w : World) → is_known (ways s) ≡ false → (view.state s).told ≡ Some w → OfItsPaths q (IsWalkedBy most w) → AsksAtMostFor view lists q (calls_to_seek most) s
+  asks_sought s q most w known told both = record {
+    looks = λ t c r h. walked 6 (at s) (at t) q.path.names w (omega arith) told (both.path.clear, both.path.few) ((local.looks s t c q.path r h).3.most known);
+    opens = λ m t c r kind path o looked on h keeps.
+        (let (v, now, tree) = later m keeps in
+        walked 5 (at m) (at t) path.names v (omega arith) now (on_tree v path tree (at_opened q (IsWalkedBy most w) both kind path on)) ((local.opens_once m t c path reading o h).most refl (unknown m c r looked)));
+    refuses_list = λ m t c r e looked h keeps.
+        (let (v, now, tree) = later m keeps in
+        walked 6 (at m) (at t) q.path.names v (omega arith) now (on_tree v q.path tree both.path) ((local.begins_once m t c q.path Data (Err e) h).most (unknown m c r looked)));
+    files = local.once;
+  }
+    where
+      walked : (n : ℕ) (p q : Place) (names : Names) (v : World) → n ≤ 6 → p.disk.told ≡ Some v → (is_link_on_way v.tree names ≡ false) × (calls_from_root v names ≤ most) → CostsAtMost n p names q
+          → CallsAtMost (calls_to_seek most) p.disk q.disk
+      walked n p q names v le told (clear, few) costs = few_more (calls_from_root v names + n) (calls_to_seek most) p.disk q.disk (omega (arith, le, few)) (costs v told clear)
+
+      unknown : (m : S) (c : C) (r : Result Info FsError) → view.looks s c q.path r m → is_known (ways m) ≡ false
+      unknown m c r looked = ap is_known (ways_after s m c q.path r looked) ∙ known
+
+      later : (m : S) → Keeps (view.state s) (view.state m) → (v : World) × ((view.state m).told ≡ Some v) × (v.tree ≡ w.tree)
+      later m keeps = let (v, now, same) = told_after (view.state s).told (view.state m).told SameBesidesOpens w keeps.world told in (v, now, same.tree)
+
+      on_tree : (v : World) (path : WebPath) → v.tree ≡ w.tree → IsWalkedBy most w path → (is_link_on_way v.tree path.names ≡ false) × (calls_from_root v path.names ≤ most)
+      on_tree v path tree by = (ap (λ z. is_link_on_way z path.names) tree ∙ by.clear, subst (λ z. 3 * length path.names + count_by (is_on_way path.names) z ≤ most) (sym tree) by.few)

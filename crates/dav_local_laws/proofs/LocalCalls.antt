@@ -1,7 +1,7 @@
 -- What the calls of a local store that change what stands make of the told world, whatever its ways are.
 use Rattle.std.proofs.Common.{◌≡◌, ◌≤◌, inr, ◌||◌, Bool, true, false, List, Result, Ok, Err, refl, sym, ap, subst, ◌∙◌, arith}
 use Rattle.dav_io.specs.Told.{Both}
-use Rattle.dav_io.proofs.ToldLemmas.{both_map, both_same, both_then}
+use Rattle.dav_io.proofs.ToldLemmas.{both_known, both_map, both_same, both_then}
 use Rattle.dav_io.specs.declared.clock.Moment.{Moment}
 use Rattle.dav_core.specs.declared.error.FsError.{FsError}
 use Rattle.dav_core.specs.declared.handle.DiskError.{DiskError}
@@ -22,7 +22,6 @@ use Rattle.dav_model.specs.Plans.{put_options}
 use Rattle.dav_model.specs.Rules.{Rules}
 use Rattle.dav_methods.specs.Follows.{Calls, IfBothFound, IfFound, OpensBy, Told, UnlessShut}
 use Rattle.dav_methods.specs.Pouring.{Writes}
-use Rattle.dav_methods.proofs.Stages.{both_known}
 use Rattle.dav_cache.specs.Memory.{MemoryState}
 use Rattle.dav_local.specs.declared.entry.LocalFsDirEntry.{LocalFsDirEntry}
 use Rattle.dav_local.specs.declared.file.LocalFsFile.{LocalFsFile}

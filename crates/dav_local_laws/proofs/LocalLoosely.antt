@@ -1,12 +1,12 @@
 -- In every run each call of a local store that changes what stands is at a place where a loose walk of its path may end.
-use Rattle.std.proofs.Common.{◌≡◌, ◌≤◌, ◌||◌, inl, inr, true, false, List, Result, Ok, Err, refl, sym, ap, subst, ◌∙◌, arith}
+use Rattle.std.proofs.Common.{◌≡◌, ◌≤◌, ◌||◌, inr, true, false, List, Result, Ok, Err, refl, sym, ap, subst, ◌∙◌, arith}
 use Rattle.dav_io.specs.declared.clock.Moment.{Moment}
 use Rattle.dav_io.specs.Told.{Both}
 use Rattle.dav_io.proofs.ToldLemmas.{both_same, both_then}
 use Rattle.dav_core.specs.declared.error.FsError.{FsError}
 use Rattle.dav_core.specs.declared.handle.DiskError.{DiskError}
 use Rattle.dav_core.specs.declared.tree.Row.{Row}
-use Rattle.dav_core.specs.Allowed.{Allowed, copying, making_dir, moving, taking_dir, taking_file}
+use Rattle.dav_core.specs.Allowed.{Allowed, copying, making_dir, taking_dir, taking_file}
 use Rattle.dav_core.specs.DavPath.{WebPath}
 use Rattle.dav_core.specs.Disk.{DiskState, IsCounted, OpenedOver, Opens, kind_opened}
 use Rattle.dav_core.specs.Path.{Names}
@@ -37,7 +37,7 @@ use Rattle.dav_local_laws.proofs.CallsDone.{calls_from, opened_as}
 use Rattle.dav_local_laws.proofs.LocalCalls.{LedToBoth, calls_spoiled, found_both, led_to, unless_told}
 use Rattle.dav_local_laws.proofs.LocalLeads.{calls_remain}
 use Rattle.dav_local_laws.proofs.LocalLooks.{spoiled_as}
-use Rattle.dav_local_laws.proofs.LocalMoves.{moved_by, moves_before}
+use Rattle.dav_local_laws.proofs.LocalMoves.{moved_by, moves_before, moves_spoiled}
 use Rattle.dav_local_laws.specs.LocalStore.{IsLocalStore, place}
 use Rattle.dav_local_laws.specs.Loosely.{AtSome, FollowsLoosely, finding_at}
 
@@ -172,7 +172,7 @@ module _ {S C : Type 0} (view : View S C LocalFsFile) (lists : Listings S C Loca
       (local.renames m n c from to r h).0
       (found_both view lists writes c ways memory moment local settings m n from to r MovesAt (λ v w. Between (Moved m r n w) m from to v)
       (λ e k q v w le spoiled is ends same. between_any (Moved m r n w) m from to v
-      (λ one other. inl (calls_spoiled view lists writes c ways memory moment local settings m n (moving v.tree one other) e r k q v w le spoiled is ends same)))
+      (λ one other. moves_spoiled view lists writes c ways memory moment local settings one other m n e r k q v w le spoiled is ends same))
       (λ one other q led le moves. moved_at m n from to r one other q led le moves))
 
   -- ---- opening

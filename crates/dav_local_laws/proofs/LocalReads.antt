@@ -197,7 +197,7 @@ shown_could rules w f looked opened listed is p q r =
 
 -- ---- worlds that differ in what is open
 
-opened_still : (ways : Ways) (w v : World) (end : Names) (path : WebPath) → SameBesidesOpens w v → opened_by ways v end path ≡ opened_by ways w end path
+pub opened_still : (ways : Ways) (w v : World) (end : Names) (path : WebPath) → SameBesidesOpens w v → opened_by ways v end path ≡ opened_by ways w end path
 opened_still ways w v end path same = ap (λ x. cond (is_shut ways path) (Err fs.Forbidden) x) (same_found w v false end same)
 
 member_still : (w v : World) (row : Row) → SameBesidesOpens w v → is_numbered v.tree row.number ≡ true → member_of v row ≡ member_of w row
@@ -214,12 +214,12 @@ members_of_still w v p (row ∷ rows) same all = by (p row) (members_of_still w 
     by true rest = ap (λ m. m ∷ map (member_of v) (filter p rows)) (member_still w v row same all.0) ∙ ap (λ ms. member_of w row ∷ ms) rest
     by false rest = rest
 
-members_still : (w v : World) (dir : Names) → SameBesidesOpens w v → members v dir ≡ members w dir
+pub members_still : (w v : World) (dir : Names) → SameBesidesOpens w v → members v dir ≡ members w dir
 members_still w v dir same =
     members_of_still w v (stands_in dir) v.tree same (each_numbered v.tree v.tree (λ n e. e))
     ∙ ap (λ rows. map (member_of w) (filter (stands_in dir) rows)) same.tree
 
-begins_still : (w v : World) (dir : Names) (r : Result LocalFsReadDir FsError) → SameBesidesOpens w v → BeginsThere (listed_in v dir) r → BeginsThere (listed_in w dir) r
+pub begins_still : (w v : World) (dir : Names) (r : Result LocalFsReadDir FsError) → SameBesidesOpens w v → BeginsThere (listed_in v dir) r → BeginsThere (listed_in w dir) r
 begins_still w v dir r same there =
     subst (λ rows. BeginsThere (members_or w dir (listable (look rows dir))) r) same.tree (begun_by w v dir (listable (look v.tree dir)) r there)
 

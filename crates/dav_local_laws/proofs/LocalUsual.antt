@@ -36,7 +36,7 @@ use Rattle.dav_local.specs.declared.entry.LocalFsDirEntry.{LocalFsDirEntry}
 use Rattle.dav_local.specs.declared.file.LocalFsFile.{LocalFsFile}
 use Rattle.dav_local.specs.declared.meta.LocalFsMetaData.{LocalFsMetaData}
 use Rattle.dav_local.specs.declared.ways.Ways.{Ways}
-use Rattle.dav_local.specs.Calls.{AfterAbsent, AfterFound, AfterMove, Asks, AsksToCopy, AsksToMake, AsksToMove, AsksToTakeDir, AsksToTakeFile, BeginsAt, Finds, FindsBoth, IsOpening, Looks, LooksAt, MovesAgain, MovesAt, Place, Unless, found_dir, is_shut}
+use Rattle.dav_local.specs.Calls.{AfterAbsent, AfterFound, AfterMove, AfterNotDir, Asks, AsksToCopy, AsksToMake, AsksToMove, AsksToTakeDir, AsksToTakeFile, BeginsAt, Finds, FindsBoth, IsOpening, Looks, LooksAt, MovesAgain, MovesAt, Place, Unless, again_by, blocked_by, is_shut}
 use Rattle.dav_local.specs.Entries.{Says, said_info}
 use Rattle.dav_local.specs.Files.{done_by, filed, looked_as, said_by}
 use Rattle.dav_local.specs.Listing.{Begins, stopped, Fills, Gives, GivesEntry, IsKnown, ListingState, NextEntry, ReadsOne, Refills, WasRead, dir_of, with_given}
@@ -212,16 +212,43 @@ copy_usual p q from to r copies =
     both_usual p q from to _ r
     (λ at into k asks. asks_usual Unit Unit (λ s answer t. Copies s at into answer t) done_by k q r (λ answer t does. counted_done answer k.disk t does.asks.counted) asks) copies
 
+blocked_usual : (T : Type 0) (d : DiskError) (s m t : DiskState) → IsCounted {T = T} (Err d) s m → m.faults ≤ t.faults → Usual {T = Unit} s (Err (blocked_by d)) t
+blocked_usual T d s m t counted later = record { counts = omega (arith, counted.counts, later); refused = by d counted }
+  where
+    by : (d : DiskError) → IsCounted {T = T} (Err d) s m → RefusedUsually {T = Unit} s (Err (blocked_by d)) t
+    by NotFound counted = (refl, λ f. cc)
+    by Exists counted = (refl, λ f. cc)
+    by NotDir counted = (refl, λ f. cc)
+    by IsDir counted = (refl, λ f. cc)
+    by NotEmpty counted = (refl, λ f. cc)
+    by Failed counted = (refl, λ f. rose_on s.faults m.faults t.faults (counted.rose refl) later)
+    by NoMemory counted = (refl, λ f. cc)
+
+again_answer : (removal again : Result Unit DiskError) (s m t : DiskState) → IsCounted removal s m → IsCounted again m t → Usual s (again_by removal again) t
+again_answer (Ok x) again s m t first counted = usual_from Unit (done_by again) s m t first.counts (counted_done again m t counted)
+again_answer (Err d) (Err NotDir) s m t first counted = blocked_usual Unit d s m t first counted.counts
+again_answer (Err d) (Ok x) s m t first counted = usual_from Unit (Ok x) s m t first.counts (counted_done (Ok x) m t counted)
+again_answer (Err d) (Err NotFound) s m t first counted = usual_from Unit (done_by (Err NotFound)) s m t first.counts (counted_done (Err NotFound) m t counted)
+again_answer (Err d) (Err Exists) s m t first counted = usual_from Unit (done_by (Err Exists)) s m t first.counts (counted_done (Err Exists) m t counted)
+again_answer (Err d) (Err IsDir) s m t first counted = usual_from Unit (done_by (Err IsDir)) s m t first.counts (counted_done (Err IsDir) m t counted)
+again_answer (Err d) (Err NotEmpty) s m t first counted = usual_from Unit (done_by (Err NotEmpty)) s m t first.counts (counted_done (Err NotEmpty) m t counted)
+again_answer (Err d) (Err Failed) s m t first counted = usual_from Unit (done_by (Err Failed)) s m t first.counts (counted_done (Err Failed) m t counted)
+again_answer (Err d) (Err NoMemory) s m t first counted = usual_from Unit (done_by (Err NoMemory)) s m t first.counts (counted_done (Err NoMemory) m t counted)
+
 again_usual : (dir : Bool) (at into : Names) (s : DiskState) (r : Result Unit FsError) (t : DiskState) → MovesAgain dir at into s r t → Usual s r t
 again_usual false at into s r t (is, same) = refused_at_once Unit fs.Forbidden r s t is same refl (λ f. cc)
-again_usual true at into s r t (removal, m, removes, answer, moves, is) =
-    rw is (usual_from Unit (done_by answer) s m t removes.asks.counts (counted_done answer m t moves.asks.counted))
+again_usual true at into s r t (removal, m, removes, answer, moves, is) = rw is (again_answer removal answer s m t removes.asks.counted moves.asks.counted)
+
+-- what follows a look behind a move that met what is no directory
+looked_again : (found : Result Meta DiskError) (at into : Names) (s k : DiskState) (r : Result Unit FsError) (t : DiskState) → IsCounted found s k → AfterNotDir found at into k r t → Usual s r t
+looked_again (Ok m) at into s k r t counted after = usual_from Unit r s k t counted.counts (again_usual (is_dir m.kind) at into k r t after)
+looked_again (Err d) at into s k r t counted (is, same) = rw (is, same) (blocked_usual Meta d s k k counted (omega arith))
 
 -- what follows a first move that was asked between two states
 moved_usual : (answer : Result Unit DiskError) (at into : Names) (s m : DiskState) (r : Result Unit FsError) (t : DiskState) → IsCounted answer s m → AfterMove answer at into m r t → Usual s r t
 moved_usual (Ok x) at into s m r t counted (is, same) = rw (is, same) (counted_done (Ok x) s m counted)
 moved_usual (Err NotDir) at into s m r t counted (look, k, metas, again) =
-    usual_from Unit r s k t (omega (arith, counted.counts, metas.asks.counts)) (again_usual (found_dir look) at into k r t again)
+    usual_from Unit r s m t counted.counts (looked_again look at into m k r t metas.asks.counted again)
 moved_usual (Err NotFound) at into s m r t counted (is, same) = rw (is, same) (counted_done (Err NotFound) s m counted)
 moved_usual (Err Exists) at into s m r t counted (is, same) = rw (is, same) (counted_done (Err Exists) s m counted)
 moved_usual (Err IsDir) at into s m r t counted (is, same) = rw (is, same) (counted_done (Err IsDir) s m counted)

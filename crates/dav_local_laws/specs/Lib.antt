@@ -1,4 +1,5 @@
 pub mod Simple
+pub mod Ruled
 pub mod LocalStore
 pub mod Sealed
 pub mod Loosely

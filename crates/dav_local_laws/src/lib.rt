@@ -21,35 +21,36 @@ ghost use Rattle.dav_core.specs.Path.{Names};
 ghost use Rattle.dav_core.specs.Tree.{is_linked};
 ghost use Rattle.dav_core.specs.Writing.{reading};
 ghost use Rattle.dav_core.specs.World.{World};
-ghost use Rattle.dav_get.specs.Calls.{AsksFor};
+ghost use Rattle.dav_get.specs.Calls.{AsksAtMostFor, AsksFor};
 ghost use Rattle.dav_get.specs.Heard.{Heard};
 ghost use Rattle.dav_get.specs.Lives.{OpenOnlyHeld};
 ghost use Rattle.dav_get.specs.Right.{IsOfNumber, or_zero, reply_at};
 ghost use Rattle.dav_get.specs.Table.{Given};
+ghost use Rattle.dav_local.specs.FromRoot.{CostsAtMost};
 ghost use Rattle.dav_local.specs.Made.{MadeAt};
 ghost use Rattle.dav_local.specs.Remembering.{IsRemembered};
 ghost use Rattle.dav_local.specs.Near.{IsAsAsked, SeeksNear};
 ghost use Rattle.dav_local.specs.Saving.{AsksOneCall, OpensByTwo, is_judged};
 ghost use Rattle.dav_local.specs.Seeing.{OpensAt};
 ghost use Rattle.dav_local.specs.Shown.{knowledge_of};
-ghost use Rattle.dav_local.specs.Standing.{HasNoLinks};
 ghost use Rattle.dav_local.specs.Ways.{rules_of, rules_with};
 ghost use Rattle.dav_local.specs.declared.file.LocalFsFile.{LocalFsFile};
 ghost use Rattle.dav_local.specs.declared.fs.LocalFs.{LocalFs};
 ghost use Rattle.dav_methods.specs.Answers.{RefusesUsually};
 ghost use Rattle.dav_methods.specs.Follows.{Follows, Reached};
-ghost use Rattle.dav_model.specs.Calls.{AreNear, calls_to_open, is_meant, is_touched};
-ghost use Rattle.dav_model.specs.Due.{Query};
-ghost use Rattle.dav_model.specs.Finding.{is_virtual, listed_in};
+ghost use Rattle.dav_model.specs.Calls.{AreNear, IsWalkedBy, calls_to_open, calls_to_seek, is_meant, is_touched};
+ghost use Rattle.dav_model.specs.Due.{OfItsPaths, Query};
+ghost use Rattle.dav_model.specs.Finding.{is_virtual};
 ghost use Rattle.dav_model.specs.Head.{Reply};
 ghost use Rattle.dav_model.specs.Play.{Reads};
 ghost use Rattle.dav_model.specs.Rules.{Learns, plain_rules};
+ghost use Rattle.dav_store.specs.declared.entry.ReadDirMeta.{ReadDirMeta};
 ghost use Rattle.dav_store.specs.Leads.{LeadsOn};
 ghost use Rattle.dav_store.specs.Members.{ShowsMembers};
 ghost use Rattle.dav_store.specs.Reached.{ShowsOn};
 ghost use Rattle.dav_local_laws.specs.LocalStore.{IsLocalStore};
 ghost use Rattle.dav_local_laws.specs.Loosely.{FollowsLoosely};
-ghost use Rattle.dav_local_laws.specs.Simple.{opened, plain_ways};
+ghost use Rattle.dav_local_laws.specs.Ruled.{FindsOnce, HasFreeMembers, IsFree, IsOfRules, members_in, opened_in};
 
 use dav_cache::Remember;
 use dav_core::{DavPath, Disk};
@@ -112,7 +113,8 @@ pub fn reads_are_right<D: Disk, R: Remember>(_fs: &LocalFs<D, R>)
 /// How often the local store asks its disk for a GET or HEAD. Where names don't fold, or one file is served alone, it
 /// asks once to look at a path that the rules for macOS don't touch, and once to open (`meant`). Where they fold, and the
 /// disk refuses nothing, it asks once to look at a path that its memory has, or that it hasn't and that stands as it is
-/// asked; and to open such a path once or twice (`near`). Where a listing is refused it asks three times at most.
+/// asked; and to open such a path once or twice (`near`). Where a listing is refused it asks three times at most. Where they
+/// fold, each of these three asks of any path six calls at most beside those of a walk from the root (`sought`).
 pub fn local_stores_ask_few<D: Disk, R: Remember>(_fs: &LocalFs<D, R>)
     ensures meant { (q : Query) (most : ℕ) → is_meant (rules_with q.settings _fs.now.ways) ≡ true
         → is_touched (rules_with q.settings _fs.now.ways) q.path ≡ false
@@ -124,6 +126,11 @@ pub fn local_stores_ask_few<D: Disk, R: Remember>(_fs: &LocalFs<D, R>)
         → AreNear held (rules_with q.settings _fs.now.ways) (knowledge_of (R.state _fs.now.memory)) w q
         → AsksFor ⟦<LocalFs<D, R> as DavFileSystem>⟧.view ⟦<LocalFs<D, R> as DavFileSystem>⟧.listings q
         (calls_to_open held) most _fs.now }
+    ensures sought { (q : Query) (most : ℕ) (w : World)
+        → is_meant (rules_with q.settings _fs.now.ways) ≡ false
+        → (D.state _fs.now.disk).told ≡ Some w → OfItsPaths q (IsWalkedBy most w)
+        → AsksAtMostFor ⟦<LocalFs<D, R> as DavFileSystem>⟧.view ⟦<LocalFs<D, R> as DavFileSystem>⟧.listings q
+        (calls_to_seek most) _fs.now }
 {
     calls_are_local(_fs)
 }
@@ -225,6 +232,27 @@ pub fn members_are_sought_where_their_directory_is<D: Disk, R: Remember>(
     calls_are_local(_fs)
 }
 
+/// Where names fold, no path costs more than a walk from the root: three calls of the disk for each of its names, and one
+/// for each row that stands in a directory on its way, names folded. A look asks six more at most, an opening for reading
+/// five, and the beginning of a listing six. It is so whatever the memory has and whatever was refused, over a told world
+/// in which no link is met on the way.
+pub fn no_path_costs_more_than_a_walk<D: Disk, R: Remember>(_fs: &LocalFs<D, R>, _path: &DavPath)
+    ensures looks { (result : Result Info FsError) (t : LocalFs D R)
+        → ⟦<LocalFs<D, R> as DavFileSystem>⟧.view.looks _fs.now tt _path.now result t
+        → _fs.now.ways.folds ≡ true → _fs.now.ways.alone ≡ None
+        → CostsAtMost 6 (place_of D.state R.state _fs.now) _path.now.names (place_of D.state R.state t) }
+    ensures opens { (result : Result LocalFsFile FsError) (t : LocalFs D R)
+        → ⟦<LocalFs<D, R> as DavFileSystem>⟧.view.opens _fs.now tt _path.now reading result t
+        → _fs.now.ways.folds ≡ true → _fs.now.ways.alone ≡ None
+        → CostsAtMost 5 (place_of D.state R.state _fs.now) _path.now.names (place_of D.state R.state t) }
+    ensures lists { (wanted : ReadDirMeta) (result : Result LocalFsReadDir FsError) (t : LocalFs D R)
+        → ⟦<LocalFs<D, R> as DavFileSystem>⟧.listings.lists _fs.now tt _path.now wanted result t
+        → _fs.now.ways.folds ≡ true → _fs.now.ways.alone ≡ None
+        → CostsAtMost 6 (place_of D.state R.state _fs.now) _path.now.names (place_of D.state R.state t) }
+{
+    calls_are_local(_fs)
+}
+
 /// The calls of a local store leave its moment, and what its memory remembers anew in them has it: a path in whole
 /// seconds, and a directory and its names in nanoseconds.
 pub fn entries_have_the_moment<D: Disk, R: Remember>(_fs: &LocalFs<D, R>)
@@ -267,18 +295,22 @@ pub fn calls_teach_nothing<D: Disk, R: Remember>(_fs: &LocalFs<D, R>)
     calls_are_local(_fs)
 }
 
-/// Where the disk tells its world and each path is meant as it is written, the local store shows what stands in the
-/// world: what is opened at each path on the way to which no link stands, also after looks, openings for reading, calls
-/// of open files and listings; and the members of a directory, where no link stands on the way to it or at one of them.
+/// Where the disk tells its world and the rules find each path in one place, as they do unless two names of a directory
+/// fold alike, the local store shows what stands in the world by its rules, whatever its memory knows: what is opened at
+/// each path on the way to which no link stands, also after looks, openings for reading, calls of open files and
+/// listings; and the members of a directory, where no link stands on the way to it or at one of them. It is what a run by
+/// these rules shows, whatever its owner sets (`ruled`).
 pub fn local_stores_show_the_tree<D: Disk, R: Remember>(_fs: &LocalFs<D, R>)
-    ensures opened { (w : World) (path : WebPath) → (D.state _fs.now.disk).told ≡ Some w → _fs.now.ways ≡ plain_ways
-        → is_linked w.tree path.names ≡ false
+    ensures opened { (w : World) (path : WebPath) → (D.state _fs.now.disk).told ≡ Some w → FindsOnce _fs.now.ways w
+        → IsFree _fs.now.ways w path.names
         → ShowsOn ⟦<LocalFs<D, R> as DavFileSystem>⟧.view ⟦<LocalFs<D, R> as DavFileSystem>⟧.listings _fs.now tt path
-        (opened w path) }
-    ensures listed { (w : World) (path : WebPath) → (D.state _fs.now.disk).told ≡ Some w → _fs.now.ways ≡ plain_ways
-        → HasNoLinks w path.names
+        (opened_in _fs.now.ways w path) }
+    ensures listed { (w : World) (path : WebPath) → (D.state _fs.now.disk).told ≡ Some w → FindsOnce _fs.now.ways w
+        → HasFreeMembers _fs.now.ways w path.names
         → ShowsMembers ⟦<LocalFs<D, R> as DavFileSystem>⟧.view
-        ⟦<LocalFs<D, R> as DavFileSystem>⟧.listings _fs.now tt path (listed_in w path.names) }
+        ⟦<LocalFs<D, R> as DavFileSystem>⟧.listings _fs.now tt path (members_in _fs.now.ways w path) }
+    ensures ruled { (w : World) (path : WebPath) → IsFree _fs.now.ways w path.names
+        → IsOfRules _fs.now.ways w path }
 {
     calls_are_local(_fs)
 }

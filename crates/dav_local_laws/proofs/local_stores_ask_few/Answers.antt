@@ -1,7 +1,7 @@
 use Rattle.dav_model.specs.Calls.{is_judged}
 use Rattle.dav_model.specs.Finding.{is_virtual, or_walk}
 use Rattle.dav_local.specs.Ways.{rules_with}
-use Rattle.dav_local_laws.proofs.LocalAsks.{asks_meant, asks_near, or_parts}
+use Rattle.dav_local_laws.proofs.LocalAsks.{asks_meant, asks_near, asks_sought, or_parts}
 use Rattle.dav_local_laws.proofs.local_stores_ask_few.Goals as goal
 
 pub returns-clause-meant : goal.returns-clause-meant
@@ -14,3 +14,6 @@ pub returns-clause-near : goal.returns-clause-near
 returns-clause-near g c = λ q most w held meant nothing told near.
     asks_near _ _ _ (λ s. s.ways) (λ s. g.R.Remember.state s.memory) (λ s. s.moment) c.calls_are_local.ensures c.args._fs.now q most w held meant nothing told
     (record { seen = record { at = near.seen.at; near = near.seen.near; fair = near.seen.fair; plain = near.seen.plain }; opened = near.opened })
+
+pub returns-clause-sought : goal.returns-clause-sought
+returns-clause-sought g c = λ q most w meant told both. asks_sought _ _ _ (λ s. s.ways) (λ s. g.R.Remember.state s.memory) (λ s. s.moment) c.calls_are_local.ensures c.args._fs.now q most w meant told both

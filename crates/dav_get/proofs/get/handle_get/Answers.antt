@@ -1,6 +1,7 @@
 use Rattle.std.proofs.Common.{inl, inr}
 use Rattle.dav_model.specs.Due.{query}
 use Rattle.dav_get.proofs.Asking.{gets_asks}
+use Rattle.dav_get.proofs.AskingMost.{gets_most}
 use Rattle.dav_get.proofs.FileOpened.{gets_opened}
 use Rattle.dav_get.proofs.Framing.{gets_framed, gets_sound}
 use Rattle.dav_get.proofs.HeardIsRight.{heard_right}
@@ -29,6 +30,10 @@ returns-clause-right g c = λ looked opened listed shows.
 pub returns-clause-asks : goal.returns-clause-asks
 returns-clause-asks g c = λ calls some few.
     gets_asks g.S.GuardedFileSystem.view g.S.GuardedFileSystem.listings (query c.args.settings.now c.args.fields.now c.args.method c.args.path.now) calls some c.args.credentials.now c.args.fs.now c.get_once.result c.get_once.new.fs few c.get_once.ensures.life c.get_once.ensures.table
+
+pub returns-clause-bounded : goal.returns-clause-bounded
+returns-clause-bounded g c = λ each few.
+    gets_most g.S.GuardedFileSystem.view g.S.GuardedFileSystem.listings (query c.args.settings.now c.args.fields.now c.args.method c.args.path.now) each c.args.credentials.now c.args.fs.now c.get_once.result c.get_once.new.fs few c.get_once.ensures.life c.get_once.ensures.table
 
 pub returns-clause-opened : goal.returns-clause-opened
 returns-clause-opened g c =

@@ -1,4 +1,4 @@
-use Rattle.std.proofs.Common.{Err, None, Ok, Some, refl}
+use Rattle.std.proofs.Common.{Err, Ok, refl}
 use Rattle.dav_local.proofs.Gathered.{finishes_seen}
 use Rattle.dav_local.proofs.gathering.finish.Goals as goal
 

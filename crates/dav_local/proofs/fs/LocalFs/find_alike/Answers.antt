@@ -2,6 +2,8 @@ use Rattle.dav_local.specs.Places.{place_of}
 use Rattle.dav_local.specs.Resolving.{found_at}
 use Rattle.dav_local.proofs.Found.{unheld_recalled, unheld_unknown, saves_recalled, saves_starved, saves_unknown, walks_recalled, walks_unknown}
 use Rattle.dav_local.proofs.NearFound.{once_recalled, once_starved, once_unknown}
+use Rattle.dav_local.proofs.FromRoot.{costs_few, costs_then}
+use Rattle.std.proofs.Common.{arith}
 use Rattle.dav_local.proofs.fs.LocalFs.find_alike.Goals as goal
 
 pub returns-in-Ok-Some-clause-done : goal.returns-in-Ok-Some-clause-done
@@ -33,3 +35,12 @@ returns-in-Ok-None-clause-near g c = once_unknown (place_of g.D.Disk.state g.R.R
 
 pub returns-in-Err-clause-near : goal.returns-in-Err-clause-near
 returns-in-Err-clause-near g c = once_starved (place_of g.D.Disk.state g.R.Remember.state c.args.self.now) (place_of g.D.Disk.state g.R.Remember.state c.recall.new.self) c.args.path.now c.in-Err.error c.in-Err.ensures.done
+
+pub returns-in-Ok-Some-clause-most : goal.returns-in-Ok-Some-clause-most
+returns-in-Ok-Some-clause-most g c = costs_few 1 4 (place_of g.D.Disk.state g.R.Remember.state c.args.self.now) (place_of g.D.Disk.state g.R.Remember.state c.recall.new.self) c.args.path.now (omega arith) c.in-Ok-Some.ensures.few
+
+pub returns-in-Ok-None-clause-most : goal.returns-in-Ok-None-clause-most
+returns-in-Ok-None-clause-most g c = costs_then 1 3 4 (place_of g.D.Disk.state g.R.Remember.state c.args.self.now) (place_of g.D.Disk.state g.R.Remember.state c.recall.new.self) (place_of g.D.Disk.state g.R.Remember.state c.find_on_disk.new.self) c.args.path.now (omega arith) c.in-Ok-None.ensures.few c.in-Ok-None.ensures.done.keeps.keeps c.find_on_disk.ensures.most
+
+pub returns-in-Err-clause-most : goal.returns-in-Err-clause-most
+returns-in-Err-clause-most g c = costs_few 1 4 (place_of g.D.Disk.state g.R.Remember.state c.args.self.now) (place_of g.D.Disk.state g.R.Remember.state c.recall.new.self) c.args.path.now (omega arith) c.in-Err.ensures.few

@@ -4,6 +4,8 @@ use Rattle.dav_core.specs.declared.error.FsError.{FsError}
 use Rattle.dav_local.specs.Places.{place_of}
 use Rattle.dav_local.proofs.Found.{missing_above, walk_whole, walks_missing, whole_above}
 use Rattle.dav_local.proofs.NearFound.{here_seen, here_unseen, sought_failed, sought_missing, sought_seen}
+use Rattle.dav_local.proofs.FromRoot.{costs_few, costs_then}
+use Rattle.dav_local.proofs.MostSeen.{looked_few}
 use Rattle.dav_local.proofs.fs.LocalFs.find_on_disk.Goals as goal
 
 pub returns-in-Ok-clause-done : goal.returns-in-Ok-clause-done
@@ -48,3 +50,15 @@ returns-in_err-find_elsewhere-in-Err-clause-near g c =
 
 pub returns-in_err-find_elsewhere-in-Err-clause-here : goal.returns-in_err-find_elsewhere-in-Err-clause-here
 returns-in_err-find_elsewhere-in-Err-clause-here g c = here_unseen (place_of g.D.Disk.state g.R.Remember.state c.args.self.now) (place_of g.D.Disk.state g.R.Remember.state c.find_elsewhere.new.self) (g.D.Disk.state c.look.new.disk) c.args.path.now c.in-Err.field-0 _ c.in-Err.ensures.done c.in_err-find_elsewhere-in-Err.ensures.done.keeps.keeps.counts
+
+pub returns-in-Ok-clause-most : goal.returns-in-Ok-clause-most
+returns-in-Ok-clause-most g c = costs_few 1 3 (place_of g.D.Disk.state g.R.Remember.state c.args.self.now) (place_of g.D.Disk.state g.R.Remember.state (record c.args.self.now { disk = c.look.new.disk })) c.args.path.now (omega arith) (looked_few _ _ _ _ c.in-Ok.ensures.done)
+
+pub returns-in-Err-Failed-clause-most : goal.returns-in-Err-Failed-clause-most
+returns-in-Err-Failed-clause-most g c = costs_few 1 3 (place_of g.D.Disk.state g.R.Remember.state c.args.self.now) (place_of g.D.Disk.state g.R.Remember.state (record c.args.self.now { disk = c.look.new.disk })) c.args.path.now (omega arith) (looked_few _ _ _ _ c.in-Err-Failed.ensures.done)
+
+pub returns-in_ok-find_elsewhere-in-Err-clause-most : goal.returns-in_ok-find_elsewhere-in-Err-clause-most
+returns-in_ok-find_elsewhere-in-Err-clause-most g c = costs_then 1 2 3 (place_of g.D.Disk.state g.R.Remember.state c.args.self.now) (place_of g.D.Disk.state g.R.Remember.state (record c.args.self.now { disk = c.look.new.disk })) (place_of g.D.Disk.state g.R.Remember.state c.find_elsewhere.new.self) c.args.path.now (omega arith) (looked_few _ _ _ _ c.in-Err.ensures.done) c.look.ensures.keeps c.in_ok-find_elsewhere-in-Err.ensures.most
+
+pub returns-in_err-find_elsewhere-in-Err-clause-most : goal.returns-in_err-find_elsewhere-in-Err-clause-most
+returns-in_err-find_elsewhere-in-Err-clause-most g c = costs_then 1 2 3 (place_of g.D.Disk.state g.R.Remember.state c.args.self.now) (place_of g.D.Disk.state g.R.Remember.state (record c.args.self.now { disk = c.look.new.disk })) (place_of g.D.Disk.state g.R.Remember.state c.find_elsewhere.new.self) c.args.path.now (omega arith) (looked_few _ _ _ _ c.in-Err.ensures.done) c.look.ensures.keeps c.in_err-find_elsewhere-in-Err.ensures.most

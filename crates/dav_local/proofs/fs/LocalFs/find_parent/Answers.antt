@@ -3,6 +3,7 @@ use Rattle.std.proofs.lemmas.Bool.Decides.{nat_tests}
 use Rattle.dav_local.proofs.Found.{parent_recalled, parent_root, parent_unknown}
 use Rattle.dav_local.specs.Places.{place_of}
 use Rattle.dav_local.proofs.NearFound.{dir_recalled, dir_root, dir_starved, dir_unknown}
+use Rattle.dav_local.proofs.Counted.{few_more, few_then}
 use Rattle.dav_local.proofs.fs.LocalFs.find_parent.Goals as goal
 
 pub returns-then-is_empty-clause-done : goal.returns-then-is_empty-clause-done
@@ -25,3 +26,12 @@ returns-in-Ok-None-clause-near g c = dir_unknown (place_of g.D.Disk.state g.R.Re
 
 pub returns-in-Err-clause-near : goal.returns-in-Err-clause-near
 returns-in-Err-clause-near g c = dir_starved (place_of g.D.Disk.state g.R.Remember.state c.args.self.now) (place_of g.D.Disk.state g.R.Remember.state c.recall.new.self) c.args.dir c.in-Err.error c.in-Err.ensures.done
+
+pub returns-in-Ok-Some-clause-few : goal.returns-in-Ok-Some-clause-few
+returns-in-Ok-Some-clause-few g c = few_more 1 2 (g.D.Disk.state c.args.self.now.disk) (g.D.Disk.state c.recall.new.self.disk) (omega arith) c.in-Ok-Some.ensures.few
+
+pub returns-in-Ok-None-clause-few : goal.returns-in-Ok-None-clause-few
+returns-in-Ok-None-clause-few g c = few_then 1 1 (g.D.Disk.state c.args.self.now.disk) (g.D.Disk.state c.recall.new.self.disk) (g.D.Disk.state c.parent_on_disk.new.self.disk) c.in-Ok-None.ensures.few c.parent_on_disk.ensures.few
+
+pub returns-in-Err-clause-few : goal.returns-in-Err-clause-few
+returns-in-Err-clause-few g c = few_more 1 2 (g.D.Disk.state c.args.self.now.disk) (g.D.Disk.state c.recall.new.self.disk) (omega arith) c.in-Err.ensures.few

@@ -1,4 +1,4 @@
-use Rattle.std.proofs.Common.{◌≡◌, false, true}
+use Rattle.std.proofs.Common.{◌≡◌, false, true, refl}
 use Rattle.dav_model.specs.Finding.{is_virtual}
 use Rattle.dav_local.specs.Ways.{is_known, rules_of}
 use Rattle.dav_core.proofs.UnchangedLemmas.{keeps_then}
@@ -20,9 +20,9 @@ returns-clause-keeps g c = keeps_then _ _ _ c.in_ok-found.ensures.done.keeps c.l
 pub returns-then-not-is_known-clause-saved : goal.returns-then-not-is_known-clause-saved
 returns-then-not-is_known-clause-saved g c = λ follows.
     saves_look (place_of g.D.Disk.state g.R.Remember.state c.args.self.now) (place_of g.D.Disk.state g.R.Remember.state c.look_alike.new.self) c.args.path.now c.names.result.now c.has_slash-slash.result _
-    c.names.ensures.value c.has_slash-slash.ensures c.look_alike.ensures.saved c.look_alike.ensures.here c.look_alike.ensures.above c.look_alike.ensures.kept
+    c.names.ensures.value c.has_slash-slash.ensures c.look_alike.ensures.saved c.look_alike.ensures.here c.look_alike.ensures.above c.look_alike.ensures.kept c.look_alike.ensures.most
 
 pub returns-then-is_virtual-clause-saved : goal.returns-then-is_virtual-clause-saved
 returns-then-is_virtual-clause-saved g c = λ follows.
     let virtual : is_virtual (rules_of c.args.self.now.ways) c.args.path.now ≡ true = cc (c.if-is_virtual.ensures, c.is_virtual.ensures) in
-    saves_virtual _ _ _ _ virtual
+    saves_virtual _ _ _ _ virtual refl

@@ -1,9 +1,12 @@
-use Rattle.std.proofs.Common.{true, arith}
+use Rattle.std.proofs.Common.{◌+◌, true, arith}
 use Rattle.dav_core.proofs.UnchangedLemmas.{keeps_then}
 use Rattle.dav_cache.specs.Calls.{Seeing}
 use Rattle.dav_local.specs.Calls.{LooksAt, place_of}
 use Rattle.dav_local.proofs.Seen.{look_saved, look_starved, look_unknown, finds_refused, finds_unknown, look_recalled}
 use Rattle.dav_local.proofs.NearSeen.{asked_recalled, asked_starved, asked_unknown, looks_starved, missed_kept, seeks_recalled, seeks_starved, seeks_unknown, seen_kept, starved_kept}
+use Rattle.dav_local.proofs.FromRoot.{costs_few, costs_then}
+use Rattle.dav_local.proofs.MostSeen.{seen_few}
+use Rattle.dav_local.proofs.Counted.{few_then}
 use Rattle.dav_local.proofs.fs.LocalFs.look_alike.Goals as goal
 
 pub returns-in-Ok-Some-clause-done : goal.returns-in-Ok-Some-clause-done
@@ -58,3 +61,12 @@ returns-in-Ok-None-clause-kept g c = missed_kept (place_of g.D.Disk.state g.R.Re
 
 pub returns-in-Err-clause-kept : goal.returns-in-Err-clause-kept
 returns-in-Err-clause-kept g c = starved_kept (place_of g.D.Disk.state g.R.Remember.state c.args.self.now) (place_of g.D.Disk.state g.R.Remember.state c.recall_seen.new.self) c.args.path.now c.in-Err.ensures.kept
+
+pub returns-in-Ok-Some-clause-most : goal.returns-in-Ok-Some-clause-most
+returns-in-Ok-Some-clause-most g c = costs_few (1 + 2) 6 (place_of g.D.Disk.state g.R.Remember.state c.args.self.now) (place_of g.D.Disk.state g.R.Remember.state c.look_seen.new.self) c.args.path.now (omega arith) (few_then 1 2 (g.D.Disk.state c.args.self.now.disk) (g.D.Disk.state c.recall_seen.new.self.disk) (g.D.Disk.state c.look_seen.new.self.disk) c.in-Ok-Some.ensures.few (seen_few (place_of g.D.Disk.state g.R.Remember.state c.recall_seen.new.self) (place_of g.D.Disk.state g.R.Remember.state c.look_seen.new.self) c.in-Ok-Some.at c.in-Ok-Some.meta c.args.slash _ c.look_seen.ensures.done))
+
+pub returns-in-Ok-None-clause-most : goal.returns-in-Ok-None-clause-most
+returns-in-Ok-None-clause-most g c = costs_then 1 5 6 (place_of g.D.Disk.state g.R.Remember.state c.args.self.now) (place_of g.D.Disk.state g.R.Remember.state c.recall_seen.new.self) (place_of g.D.Disk.state g.R.Remember.state c.look_on_disk.new.self) c.args.path.now (omega arith) c.in-Ok-None.ensures.few c.in-Ok-None.ensures.keeps c.look_on_disk.ensures.most
+
+pub returns-in-Err-clause-most : goal.returns-in-Err-clause-most
+returns-in-Err-clause-most g c = costs_few 1 6 (place_of g.D.Disk.state g.R.Remember.state c.args.self.now) (place_of g.D.Disk.state g.R.Remember.state c.recall_seen.new.self) c.args.path.now (omega arith) c.in-Err.ensures.few

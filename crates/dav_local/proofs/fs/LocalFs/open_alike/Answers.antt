@@ -5,6 +5,8 @@ use Rattle.dav_local.specs.Seeing.{OpensAt}
 use Rattle.dav_local.specs.Calls.{place_of}
 use Rattle.dav_local.proofs.Seen.{finds_unknown, open_recalled, open_saved, open_unknown, missed_counts, opened_counts, opened_recalled, opened_unknown}
 use Rattle.dav_local.proofs.NearSeen.{opening_starved, seeks_recalled, seeks_starved, seeks_unknown, two_recalled, two_unknown}
+use Rattle.dav_local.proofs.FromRoot.{costs_few, costs_then}
+use Rattle.dav_local.proofs.MostSeen.{missed_keeps}
 use Rattle.dav_local.proofs.fs.LocalFs.open_alike.Goals as goal
 
 pub returns-in-Ok-Some-clause-done : goal.returns-in-Ok-Some-clause-done
@@ -41,3 +43,12 @@ returns-in-Ok-None-clause-above g c = seeks_unknown (OpensAt reading) (place_of 
 
 pub returns-clause-above : goal.returns-clause-above
 returns-clause-above g c = seeks_starved (OpensAt reading) 4 (place_of g.D.Disk.state g.R.Remember.state c.args.self.now) (place_of g.D.Disk.state g.R.Remember.state c.recall_open.new.self) c.args.path.now c.in-Err.error (omega arith) (opening_starved (place_of g.D.Disk.state g.R.Remember.state c.args.self.now) (place_of g.D.Disk.state g.R.Remember.state c.recall_open.new.self) c.args.path.now c.in-Err.error c.in-Err.ensures.once)
+
+pub returns-in-Ok-Some-clause-most : goal.returns-in-Ok-Some-clause-most
+returns-in-Ok-Some-clause-most g c = costs_few 1 5 (place_of g.D.Disk.state g.R.Remember.state c.args.self.now) (place_of g.D.Disk.state g.R.Remember.state c.recall_open.new.self) c.args.path.now (omega arith) c.in-Ok-Some.ensures.few
+
+pub returns-in-Ok-None-clause-most : goal.returns-in-Ok-None-clause-most
+returns-in-Ok-None-clause-most g c = costs_then 1 4 5 (place_of g.D.Disk.state g.R.Remember.state c.args.self.now) (place_of g.D.Disk.state g.R.Remember.state c.recall_open.new.self) (place_of g.D.Disk.state g.R.Remember.state c.open_on_disk.new.self) c.args.path.now (omega arith) c.in-Ok-None.ensures.few (missed_keeps _ _ c.in-Ok-None.field-0 c.in-Ok-None.ensures.one c.in-Ok-None.field-0-is) c.open_on_disk.ensures.most
+
+pub returns-clause-most : goal.returns-clause-most
+returns-clause-most g c = costs_few 1 5 (place_of g.D.Disk.state g.R.Remember.state c.args.self.now) (place_of g.D.Disk.state g.R.Remember.state c.recall_open.new.self) c.args.path.now (omega arith) c.in-Err.ensures.few

@@ -5,6 +5,8 @@ use Rattle.dav_cache.specs.Calls.{Seeing}
 use Rattle.dav_core.specs.Path.{Names}
 use Rattle.dav_local.specs.Places.{place_of}
 use Rattle.dav_local.proofs.NearFound.{missed_as}
+use Rattle.dav_local.proofs.MostSeen.{got_seen}
+use Rattle.dav_local.proofs.Counted.{unasked}
 use Rattle.dav_local.proofs.fs.LocalFs.recall.Goals as goal
 
 pub returns-in-Ok-Some-clause-done : goal.returns-in-Ok-Some-clause-done
@@ -21,3 +23,12 @@ returns-in-Ok-Some-clause-unasked g c = missed_as Seeing (place_of g.D.Disk.stat
 
 pub returns-in-Ok-None-clause-unasked : goal.returns-in-Ok-None-clause-unasked
 returns-in-Ok-None-clause-unasked g c = missed_as {B = Names} Seeing (place_of g.D.Disk.state g.R.Remember.state c.args.self.now) (place_of g.D.Disk.state g.R.Remember.state (record c.args.self.now { disk = c.get.new.disk; memory = c.get.new.self })) c.args.path.now c.in-Ok-None.field-0 None (ap is_some (sym c.in-Ok-None.field-0-is)) c.in-Ok-None.ensures.done
+
+pub returns-in-Ok-Some-clause-few : goal.returns-in-Ok-Some-clause-few
+returns-in-Ok-Some-clause-few g c = got_seen _ _ _ _ _ _ c.in-Ok-Some.ensures.done
+
+pub returns-in-Ok-None-clause-few : goal.returns-in-Ok-None-clause-few
+returns-in-Ok-None-clause-few g c = got_seen _ _ _ _ _ _ c.in-Ok-None.ensures.done
+
+pub returns-in-Err-clause-few : goal.returns-in-Err-clause-few
+returns-in-Err-clause-few g c = unasked 1 _ _ c.in-Err.ensures.unasked

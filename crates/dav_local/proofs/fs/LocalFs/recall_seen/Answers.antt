@@ -4,6 +4,8 @@ use Rattle.dav_cache.specs.Calls.{Seeing}
 use Rattle.dav_local.specs.Places.{place_of}
 use Rattle.dav_local.proofs.NearFound.{got_unasked}
 use Rattle.dav_local.proofs.NearSeen.{asked_kept, unasked_kept}
+use Rattle.dav_local.proofs.MostSeen.{got_seen}
+use Rattle.dav_local.proofs.Counted.{unasked}
 use Rattle.dav_local.proofs.fs.LocalFs.recall_seen.Goals as goal
 
 pub returns-in-Ok-clause-done : goal.returns-in-Ok-clause-done
@@ -26,3 +28,9 @@ returns-in-Ok-clause-kept g c = asked_kept (place_of g.D.Disk.state g.R.Remember
 
 pub returns-in-Err-clause-kept : goal.returns-in-Err-clause-kept
 returns-in-Err-clause-kept g c = unasked_kept (place_of g.D.Disk.state g.R.Remember.state c.args.self.now) (place_of g.D.Disk.state g.R.Remember.state (record c.args.self.now { disk = c.get.new.disk; memory = c.get.new.self })) c.args.path.now (ap g.R.Remember.state c.in-Err.ensures.err)
+
+pub returns-in-Ok-clause-few : goal.returns-in-Ok-clause-few
+returns-in-Ok-clause-few g c = got_seen _ _ _ _ _ _ c.in-Ok.ensures.done
+
+pub returns-in-Err-clause-few : goal.returns-in-Err-clause-few
+returns-in-Err-clause-few g c = unasked 1 _ _ c.in-Err.ensures.unasked
