@@ -1,19 +1,17 @@
 -- What a cache opened for reading is what the store inside opened, but for the bytes that are held of it: in every run, also where tags lie.
-use Rattle.std.specs.Prelude.{◌≡◌, ◌+◌, ◌==◌, ◌&&◌, ◌⊎◌, ℕ, List, length, Bool, true, false, cond, Option, None, Some, Result, Ok, Err, refl}
-use Rattle.std.specs.Option.{option_map}
-use Rattle.std.proofs.Common.{sym, ap, subst, ◌∙◌, inl, inr, arith}
+use Rattle.std.specs.Prelude.{◌≡◌, ◌⊎◌, Bool, true, false, cond, Option, None, Some, Result, Ok, Err, refl}
+use Rattle.std.proofs.Common.{sym, ap, subst, ◌∙◌, inl, inr}
 use Rattle.dav_io.specs.declared.failure.NoMemory.{NoMemory}
 use Rattle.dav_core.specs.declared.error.FsError.{FsError}
 use Rattle.dav_core.specs.declared.error.FsError.TheVariants as fs
-use Rattle.dav_core.specs.declared.tree.Kind.{Kind}
 use Rattle.dav_core.specs.Disk.{DiskState}
 use Rattle.dav_core.specs.Tree.{is_file}
-use Rattle.dav_store.specs.Files.{IsFault, Spoiled}
-use Rattle.dav_store.specs.Shows.{IsThere, OpensThere, seen_of}
+use Rattle.dav_store.specs.Files.{Spoiled}
+use Rattle.dav_store.specs.Shows.{IsThere, OpensThere}
 use Rattle.dav_store.specs.Standing.{Seen, Standing}
 use Rattle.dav_store.specs.View.{View, seen_in}
 use Rattle.dav_model.specs.Head.{Stood}
-use Rattle.dav_get.specs.Told.{found_as, stood_of}
+use Rattle.dav_get.specs.Told.{stood_of}
 use Rattle.dav_readcache.specs.declared.cached.CachedFile.{CachedFile}
 use Rattle.dav_readcache.specs.declared.cached.Content.{Content}
 use Rattle.dav_readcache.specs.declared.cached.Reading.{Reading}

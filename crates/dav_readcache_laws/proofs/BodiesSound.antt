@@ -1,5 +1,5 @@
 -- What the file of a body holds is sound from the call that gave it on, and so the body stands in each world that is told.
-use Rattle.std.specs.Prelude.{◌≡◌, List, Bool, true, false, is_some, IfOk, Option, None, Some, Result, Ok, Err, refl}
+use Rattle.std.specs.Prelude.{◌≡◌, List, true, is_some, IfOk, Option, None, Some, Ok, Err, refl}
 use Rattle.std.specs.Option.{option_map}
 use Rattle.std.proofs.Common.{sym, ap, subst, ◌∙◌}
 use Rattle.std.proofs.lemmas.Bool.{and_parts}
@@ -18,7 +18,6 @@ use Rattle.dav_get.specs.declared.body.GetBody.{GetBody}
 use Rattle.dav_get.specs.declared.open_at.OpenAt.{OpenAt}
 use Rattle.dav_get.specs.Bodies.{IsHeld, StandsIn, TouchesOwn}
 use Rattle.dav_get.specs.Lives.{HasOpened, IsOpenedHere, OpenOnlyHeld}
-use Rattle.dav_get.specs.OpenFiles.{IsAt}
 use Rattle.dav_get.specs.Table.{Given}
 use Rattle.dav_get.proofs.BodyKept.{held_stays}
 use Rattle.dav_local.specs.declared.file.LocalFsFile.{LocalFsFile}
@@ -27,18 +26,16 @@ use Rattle.dav_local.specs.LocalFiles.{local_file}
 use Rattle.dav_local.specs.LocalStays.{local_stays}
 use Rattle.dav_local.specs.Standing.{seen_in, seen_with}
 use Rattle.dav_readcache.specs.declared.cached.CachedFile.{CachedFile}
-use Rattle.dav_readcache.specs.declared.cached.Content.{Content}
 use Rattle.dav_readcache.specs.declared.store.ReadCache.{ReadCache}
-use Rattle.dav_readcache.specs.Cached.{IsLeft, cached_file, content_of}
+use Rattle.dav_readcache.specs.Cached.{cached_file, content_of}
 use Rattle.dav_readcache.specs.CachedStays.{cached_reads_on, cached_stays}
-use Rattle.dav_readcache.specs.Shelf.{ShelfState}
-use Rattle.dav_readcache.specs.Sound.{AreFaithful, AreFilesTold, AreSound, In, IsHeldSound, IsSound, IsSoundIn, OpensTold}
+use Rattle.dav_readcache.specs.Sound.{AreFaithful, AreFilesTold, AreSound, In, IsHeldSound, IsSound, OpensTold}
 use Rattle.dav_readcache.specs.Store.{cache_view}
-use Rattle.dav_readcache.proofs.Alike.{file_kind}
 use Rattle.dav_readcache.proofs.Contents.{held_sound}
 use Rattle.dav_readcache.proofs.Told.{local_files_told}
 use Rattle.dav_readcache_laws.specs.Bodies.{Along, IsFileSound, IsGivenSound, begun, left, polled, starved}
 use Rattle.dav_readcache_laws.proofs.Joined.{body_stands}
+use Rattle.dav_core.proofs.Rows.{file_kind}
 
 -- ---- from the opening
 

@@ -1,5 +1,5 @@
 -- A cache shows what a GET or HEAD asks for where the store inside shows it, and a body over it stands where its file does.
-use Rattle.std.specs.Prelude.{◌≡◌, ℕ, List, Option, None, Some, Result, Ok, Err, refl}
+use Rattle.std.specs.Prelude.{◌≡◌, List, Option, Some, Result}
 use Rattle.std.proofs.Common.{sym, ap, ◌∙◌}
 use Rattle.dav_core.specs.declared.error.FsError.{FsError}
 use Rattle.dav_core.specs.declared.member.Member.{Member}

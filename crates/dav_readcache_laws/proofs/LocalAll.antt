@@ -1,5 +1,5 @@
 -- A local store over a told disk shows all that a GET or HEAD asks for, where each path is meant as it is written and no link stands.
-use Rattle.std.proofs.Common.{◌≡◌, ◌⊎◌, inl, inr, List, [], ◌∷◌, Bool, true, false, Option, None, Some, Result, Ok, Err, refl, sym, ap, subst, ◌∙◌}
+use Rattle.std.proofs.Common.{◌≡◌, ◌⊎◌, List, [], ◌∷◌, Bool, true, false, None, Some, Result, refl, sym, ap, subst, ◌∙◌}
 use Rattle.std.specs.List.{AllByRecursion, filter}
 use Rattle.dav_io.specs.declared.clock.Moment.{Moment}
 use Rattle.dav_io.proofs.ToldLemmas.{told_after}
@@ -9,11 +9,12 @@ use Rattle.dav_core.specs.DavPath.{WebPath}
 use Rattle.dav_core.specs.Info.{Info}
 use Rattle.dav_core.specs.Listing.{stands_in}
 use Rattle.dav_core.specs.Path.{Names}
-use Rattle.dav_core.specs.Tree.{is_linked, look}
-use Rattle.dav_core.specs.World.{IsWorld, SameBesidesOpens, World}
+use Rattle.dav_core.specs.Tree.{is_linked}
+use Rattle.dav_core.specs.World.{SameBesidesOpens, World}
 use Rattle.dav_core.specs.Writing.{reading}
 use Rattle.dav_store.specs.Files.{Spoiled}
-use Rattle.dav_store.specs.Reached.{Reached, by_look, by_look_at_link, by_none}
+use Rattle.dav_store.specs.Members.{ShowsMembers}
+use Rattle.dav_store.specs.Reached.{Reached, ShowsOn, by_look, by_look_at_link, by_none}
 use Rattle.dav_store.specs.Shows.{Looked, LooksThere, Shows, here, looks, looks_at_link}
 use Rattle.dav_store.specs.View.{Listings, View}
 use Rattle.dav_methods.specs.Pouring.{Writes}
@@ -30,13 +31,15 @@ use Rattle.dav_local.specs.declared.gathering.LocalFsReadDir.{LocalFsReadDir}
 use Rattle.dav_local.specs.declared.ways.Ways.{Ways}
 use Rattle.dav_local.specs.Places.{Place}
 use Rattle.dav_local.specs.Shown.{LooksByRules, knowledge_of, looked_by}
-use Rattle.dav_local.specs.Standing.{HasNoLinks, found}
-use Rattle.dav_local.specs.Ways.{rules_of}
+use Rattle.dav_local.specs.Standing.{HasNoLinks}
+use Rattle.dav_local.specs.Ways.{resolved_by, rules_of}
 use Rattle.dav_local.proofs.ByRules.{looks_by_rules}
 use Rattle.dav_local.proofs.Showing.{same_found}
 use Rattle.dav_local_laws.specs.LocalStore.{IsLocalStore, place}
+use Rattle.dav_local_laws.specs.Ruled.{FindsOnce, members_in, opened_in}
 use Rattle.dav_local_laws.specs.Simple.{opened, plain_ways}
 use Rattle.dav_local_laws.proofs.LocalShows.{local_shows_members, local_shows_on}
+use Rattle.dav_local_laws.proofs.PlainWays.{plain_members, plain_once, plain_opened}
 use Rattle.dav_readcache.proofs.LocalWorlds.{look_keeps, looked_stays, opening_stays}
 use Rattle.dav_readcache_laws.specs.Plain.{HasNoLink, listed, looked}
 
@@ -89,11 +92,22 @@ module _ {S C : Type 0} (view : View S C LocalFsFile) (lists : Listings S C Loca
         by_rules m n path r v same (subst (λ x. LooksByRules x (knowledge_of (memory m)) v path (view.state m) r (view.state n)) (ways_stay s c m before ∙ plain)
         (looks_by_rules (at m) (at n) v path r now (local.looks m n c path r call).0))
 
+    once : FindsOnce (ways s) w
+    once = subst (λ x. FindsOnce x w) (sym plain) (plain_once w)
+
+    shows_on : (path : WebPath) → ShowsOn view lists s c path (opened w path)
+    shows_on path = subst (ShowsOn view lists s c path) (ap (λ x. opened_in x w path) plain ∙ plain_opened w path)
+        (local_shows_on view lists writes ways memory moment local s c path w once told (none (resolved_by (ways s) w.tree path.names)))
+
+    shows_members : (path : WebPath) → ShowsMembers view lists s c path (listed w path)
+    shows_members path = subst (ShowsMembers view lists s c path) (ap (λ x. members_in x w path) plain ∙ plain_members w path)
+        (local_shows_members view lists writes ways memory moment local s c path w once told (no_links w (resolved_by (ways s) w.tree path.names) none))
+
     -- what a look and an opening find at a path
     shows_all : (path : WebPath) → Shows view s c path (looked w path) (opened w path)
     shows_all path = record {
       looks_there = λ m n r before call. looks_there m n path r before call;
-      opens_there = λ m n o before call. local_shows_on view lists writes ways memory moment local s c path w plain told (none path.names) m n o (reached s c m before) call;
+      opens_there = λ m n o before call. shows_on path m n o (reached s c m before) call;
       looks_counts = λ m n r before call. (look_keeps true (at m) (at n) path r (local.looks m n c path r call).0).counts;
       opens_counts = λ m n o before call. (opening_stays (at m) (at n) path o (local.opens m n c path reading o call).0).0;
     }
@@ -102,5 +116,5 @@ module _ {S C : Type 0} (view : View S C LocalFsFile) (lists : Listings S C Loca
     shows_for_all q = record {
       path = shows_all q.path;
       at = λ there path is course. shows_all path;
-      members = λ there is course. local_shows_members view lists writes ways memory moment local s c q.path w plain told (no_links w q.path.names none);
+      members = λ there is course. shows_members q.path;
     }

@@ -1,5 +1,5 @@
 -- Where the reads of the store inside are those of the rules, so are a cache's, whatever is held.
-use Rattle.std.specs.Prelude.{◌≡◌, ◌⊎◌, List, Option, None, Some, Result, Ok, Err, refl}
+use Rattle.std.specs.Prelude.{◌≡◌, ◌⊎◌, List, Option, None, Some, Result, Ok, Err}
 use Rattle.std.proofs.Common.{sym, ap, subst, ◌∙◌, inl, inr}
 use Rattle.dav_io.specs.declared.failure.NoMemory.{NoMemory}
 use Rattle.dav_core.specs.declared.error.FsError.{FsError}
@@ -7,7 +7,6 @@ use Rattle.dav_core.specs.declared.error.FsError.TheVariants as fs
 use Rattle.dav_core.specs.declared.member.Member.{Member}
 use Rattle.dav_core.specs.DavPath.{WebPath}
 use Rattle.dav_core.specs.Errors.{CouldRefuse}
-use Rattle.dav_core.specs.World.{World}
 use Rattle.dav_core.specs.Writing.{reading}
 use Rattle.dav_store.specs.Files.{Spoiled}
 use Rattle.dav_store.specs.Leads.{ListedOn, begun as just_begun, goes_on, says as says_on}
@@ -20,12 +19,10 @@ use Rattle.dav_local.specs.declared.ways.Ways.{Ways}
 use Rattle.dav_readcache.specs.declared.cached.CachedFile.{CachedFile}
 use Rattle.dav_readcache.specs.declared.cached.Reading.{Reading}
 use Rattle.dav_readcache.specs.declared.store.ReadCache.{ReadCache}
-use Rattle.dav_readcache.specs.Cached.{cached_file}
 use Rattle.dav_readcache.specs.Opening.{AfterOpen, EndsOpen, Opening}
-use Rattle.dav_readcache.specs.Shelf.{ShelfState}
 use Rattle.dav_readcache.specs.Store.{cache_listings, cache_view}
 use Rattle.dav_readcache.proofs.Inside.{walked_inside}
-use Rattle.dav_readcache_laws.specs.ByRules.{OpensLoosely, ReadsByRules}
+use Rattle.dav_readcache_laws.specs.ByRules.{ReadsByRules}
 use Rattle.dav_readcache_laws.proofs.AlikeOpen.{opened_alike}
 
 -- ---- listings

@@ -1,17 +1,15 @@
 -- The looks, openings for reading and listings of a local store are those of the rules.
-use Rattle.std.proofs.Common.{◌≡◌, ◌≤◌, ◌⊎◌, ℕ, true, List, length, Option, None, Some, Result, Ok, Err, refl, sym, ap, subst, ◌∙◌, inl, inr, arith}
+use Rattle.std.proofs.Common.{◌≡◌, ◌≤◌, ◌⊎◌, ℕ, true, List, length, Option, None, Some, Result, Ok, Err, refl, sym, subst, inl, inr, arith}
 use Rattle.dav_io.specs.Counts.{Rose}
 use Rattle.dav_io.specs.declared.clock.Moment.{Moment}
 use Rattle.dav_core.specs.declared.error.FsError.{FsError}
-use Rattle.dav_core.specs.declared.error.FsError.TheVariants as fs
 use Rattle.dav_core.specs.declared.member.Member.{Member}
 use Rattle.dav_core.specs.DavPath.{WebPath}
-use Rattle.dav_core.specs.Disk.{DiskState}
 use Rattle.dav_core.specs.Members.{members}
 use Rattle.dav_core.specs.World.{World}
 use Rattle.dav_store.specs.declared.entry.ReadDirMeta.TheVariants.{Data}
 use Rattle.dav_store.specs.Files.{Spoiled}
-use Rattle.dav_store.specs.Members.{Answered, ReadsThere, Stops, WasListed, members_told}
+use Rattle.dav_store.specs.Members.{Answered, ReadsThere, Stops, WasListed}
 use Rattle.dav_store.specs.Shows.{OpensThere}
 use Rattle.dav_store.specs.View.{Listings, View}
 use Rattle.dav_store.proofs.Reading.{reads_there, rose_on}
@@ -23,7 +21,7 @@ use Rattle.dav_local.specs.declared.file.LocalFsFile.{LocalFsFile}
 use Rattle.dav_local.specs.declared.gathering.LocalFsReadDir.{LocalFsReadDir}
 use Rattle.dav_local.specs.declared.ways.Ways.{Ways}
 use Rattle.dav_local.specs.Places.{Place}
-use Rattle.dav_local.specs.Shown.{EndsBy, OpensByRules, opened_by}
+use Rattle.dav_local.specs.Shown.{EndsBy, opened_by}
 use Rattle.dav_local.specs.Standing.{HasNoLinks}
 use Rattle.dav_local.proofs.ByRules.{lists_by_rules, looks_by_rules, opens_by_rules}
 use Rattle.dav_local.proofs.Walked.{walk_ends, walk_told}

@@ -1,5 +1,5 @@
 -- A tree without links, over a store that means each path as it is written.
-use Rattle.std.specs.Prelude.{◌≡◌, ◌⊎◌, false, List, Option, Some, Result}
+use Rattle.std.specs.Prelude.{◌≡◌, false, List, Result}
 use Rattle.dav_core.specs.declared.error.FsError.{FsError}
 use Rattle.dav_core.specs.declared.member.Member.{Member}
 use Rattle.dav_core.specs.DavPath.{WebPath}

@@ -6,5 +6,6 @@ pub mod Walks
 pub mod Due
 pub mod Selected
 pub mod Linked
+pub mod OfRequests
 pub mod OfTheTree
 pub mod Exact

@@ -9,7 +9,8 @@ use std::alloc::Global;
 /// The time of all that stands on it.
 const TIME: FileTime = FileTime { secs: 1, nanos: 0 };
 
-fn path_of(alloc: Global, text: &str) -> Result<FsPath> {
+/// The names of a path.
+pub fn path_of(alloc: Global, text: &str) -> Result<FsPath> {
     Ok(DavPath::new(alloc, text)?.names().try_clone()?)
 }
 
