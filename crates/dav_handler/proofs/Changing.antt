@@ -1,5 +1,5 @@
 -- What a method that writes is answered, and makes of the told world: from what its table gave to the clause of its step.
-use Rattle.std.proofs.Common.{◌≡◌, ◌⊎◌, inl, inr, ℕ, List, [], ◌∷◌, Bool, true, false, None, Result, Ok, Err, refl, sym, ap, subst, ◌∙◌, true≢false}
+use Rattle.std.proofs.Common.{◌≡◌, inl, inr, ℕ, List, [], ◌∷◌, Bool, true, false, None, Result, Ok, Err, refl, sym, ap, subst, ◌∙◌, true≢false}
 use Rattle.std.specs.Prelude.{IfOk}
 use Rattle.dav_io.specs.Counts.{Rose}
 use Rattle.dav_io.specs.Told.{Both}
@@ -12,7 +12,6 @@ use Rattle.dav_core.specs.DavPath.{WebPath}
 use Rattle.dav_core.specs.Disk.{DiskState}
 use Rattle.dav_core.specs.Statuses.{closes, lacks_memory, status_of}
 use Rattle.dav_core.specs.World.{World}
-use Rattle.dav_model.specs.declared.asked.Asked.{Asked}
 use Rattle.dav_model.specs.declared.outcome.Outcome.{Outcome}
 use Rattle.dav_model.specs.declared.target.Target.TheVariants.{Writes}
 use Rattle.dav_model.specs.CarryPlans.{carry_plan}
@@ -22,8 +21,7 @@ use Rattle.dav_model.specs.Plans.{Act, Ask, Plan, does, halts, plan}
 use Rattle.dav_model.specs.Rules.{Knowledge, Rules}
 use Rattle.dav_model.specs.Valid.{IsRegular}
 use Rattle.dav_model.specs.Bodies.{read_size_of}
-use Rattle.dav_model.specs.Written.{ByActs, EndsAs, IsHeldOff, IsWriteReply, Makes, MakesAs, PartOf, ask_of}
-use Rattle.dav_model.proofs.JoiningLemmas.{part_none}
+use Rattle.dav_model.specs.Written.{ByActs, EndsAs, IsWriteReply, Makes, MakesAs, PartOf, ask_of}
 use Rattle.dav_store.specs.Frames.{KeepsOpen}
 use Rattle.dav_methods.specs.Answers.{IsAnswer, RefusesUsually}
 use Rattle.dav_store.specs.View.{View, Listings}
@@ -34,13 +32,12 @@ use Rattle.dav_methods.specs.Carrying.{CopiesTo, MovesTo}
 use Rattle.dav_methods.specs.Changing.{Changes}
 use Rattle.dav_methods.specs.Follows.{Follows, answer_or}
 use Rattle.dav_methods.specs.Pouring.{Writes as FileWrites}
-use Rattle.dav_methods.proofs.AnswersListed.{mkcalendar_listed, mkcol_listed, put_listed}
+use Rattle.dav_methods.proofs.AnswersListed.{delete_listed, mkcalendar_listed, mkcol_listed, put_listed}
 use Rattle.dav_methods.proofs.CarriedRight.{copy_follows, move_follows}
 use Rattle.dav_methods.proofs.CopiesListed.{carry_listed}
 use Rattle.dav_methods.proofs.DeleteRight.{deletes_right}
 use Rattle.dav_methods.proofs.MakingFollows.{mkcalendar_follows, mkcol_follows}
 use Rattle.dav_methods.proofs.PutFollows.{put_follows}
-use Rattle.dav_methods.proofs.RemovalsListed.{delete_listed}
 use Rattle.dav_methods.specs.Lines.{Given}
 use Rattle.dav_handler.specs.declared.found.Found.{Found}
 use Rattle.dav_handler.specs.By.{By, Over}
@@ -56,12 +53,6 @@ ends_part : (fields : Fields) (plan : Plan) (reply : Reply) (rose : Type 0) (v w
 ends_part fields plan reply rose v w (inl by) = acts_part fields plan.acts plan.done reply v w by
 ends_part fields plan reply rose v w (inr (is, r, part)) = part
 
--- So is what was made of what was asked for, where it was held off as well.
-carried_part : (rules : Rules) (ask : Ask) (asked : Result Asked DavError) (reply : Reply) (rose : Type 0) (v w : World)
-    → EndsAs ask.fields (carry_plan rules v ask asked) (Ok reply) rose v w ⊎ IsHeldOff rules ask asked (Ok reply) v w → PartOf (carry_plan rules v ask asked).acts v w
-carried_part rules ask asked reply rose v w (inl ends) = ends_part ask.fields (carry_plan rules v ask asked) reply rose v w ends
-carried_part rules ask asked reply rose v w (inr (over, is, same)) = part_none (carry_plan rules v ask asked).acts v w same
-
 -- What a method that writes did between two states of the disk, and what it made of the told world.
 pub record Did (rules : Rules) (k : Knowledge) (ask : Ask) (s : DiskState) (r : Given) (t : DiskState) : Type 0 where
   pub keeps : KeepsOpen s t
@@ -71,8 +62,8 @@ pub record Did (rules : Rules) (k : Knowledge) (ask : Ask) (s : DiskState) (r : 
 
 -- Where it is known what was made for an answer, it is known where memory was refused for that.
 lost_as : (method : DavMethod) (rules : Rules) (ask : Ask) (reply : Reply) (e : NoMemory) (rose : Type 0) (v w : World) → MakesAs method rules ask (Ok reply) rose v w → MakesAs method rules ask (Err e) rose v w
-lost_as Copy rules ask reply e rose v w (asked, asks, ends) = inr (asked, asks, λ clear. inl (carried_part rules ask asked reply rose v w (ends clear)))
-lost_as Move rules ask reply e rose v w (asked, asks, ends) = inr (asked, asks, λ clear. inl (carried_part rules ask asked reply rose v w (ends clear)))
+lost_as Copy rules ask reply e rose v w (asked, asks, ends) = inr (asked, asks, λ clear. ends_part ask.fields (carry_plan rules v ask asked) reply rose v w (ends clear))
+lost_as Move rules ask reply e rose v w (asked, asks, ends) = inr (asked, asks, λ clear. ends_part ask.fields (carry_plan rules v ask asked) reply rose v w (ends clear))
 lost_as other rules ask reply e rose v w makes = λ clear. ends_part ask.fields (plan rules v ask) reply rose v w (makes clear)
 
 done_listed : (method : DavMethod) (prefix : List ℕ) (fields : Fields) (rose : Type 0) (outcome : Outcome) → IsAnswer method prefix fields rose (Ok outcome)

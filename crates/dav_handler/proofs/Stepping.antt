@@ -25,7 +25,6 @@ use Rattle.dav_model.specs.declared.target.Target.TheVariants.{At, Methods, Refu
 use Rattle.dav_model.specs.Play.{Gets, Lets, Quiet, Stage, Stepped, has_slice}
 use Rattle.dav_model.specs.Rules.{Forgets}
 use Rattle.dav_model.specs.Trail.{Goes, target_of}
-use Rattle.dav_model.specs.Written.{Makes}
 use Rattle.dav_model.proofs.JoiningLemmas.{learns_same, makes_kept}
 use Rattle.dav_local.specs.declared.file.LocalFsFile.{LocalFsFile}
 use Rattle.dav_local.specs.Shown.{knowledge_of}

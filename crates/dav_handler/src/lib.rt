@@ -6,6 +6,7 @@ mod found;
 mod gates;
 mod player;
 mod playing;
+mod replies;
 
 pub use dav_cache::{Forget, Remember};
 pub use dav_config::{DavConfig, DavHandler};
@@ -13,3 +14,4 @@ pub use dav_local::LocalFs;
 pub use dav_model::{Answer, Settings, Step};
 pub use player::Player;
 pub use playing::play;
+pub use replies::Reply;

@@ -1,21 +1,22 @@
 ghost use Rattle.std.specs.Prelude.{◌≡◌, ◌<◌, ◌≤◌, ◌+◌, ◌^◌, [], IfSome, IsSome, None, Ok};
 ghost use Rattle.dav_model.specs.Bodies.{read_size_of};
 ghost use Rattle.dav_core.specs.Disk.{Turns};
-ghost use Rattle.dav_model.specs.declared.answer.Answer.TheVariants.{Reply as Replied};
 ghost use Rattle.dav_handler.specs.By.{by_store};
 ghost use Rattle.dav_handler.specs.Held.{IsPlaying, body_at};
 ghost use Rattle.dav_handler.specs.Purging.{PurgesBy};
+ghost use Rattle.dav_handler.specs.Replies.{answered as the_answered};
 ghost use Rattle.dav_cache.specs.Memory.{Purges};
 ghost use Rattle.dav_local.specs.Made.{MadeAt};
 
 use crate::bodies::{Bodies, end_body, hold_body, no_bodies, open_body, poll_body, sweep};
 use crate::found::{Found, find_for};
+use crate::replies::{Reply, answered, numbered};
 use dav_cache::Remember;
 use dav_config::DavHandler;
 use dav_core::Disk;
 use dav_io::{Moment, NoMemory, Octets};
 use dav_local::LocalFs;
-use dav_model::{Answer, Outcome, Settings, Step};
+use dav_model::{Answer, Settings, Step};
 use dav_store::DavFileSystem;
 use http::Request;
 use std::alloc::Global;
@@ -72,6 +73,21 @@ impl<D: Disk, R: Remember> Player<D, R> {
             bodies: no_bodies(alloc),
             replies: 0,
         }
+    }
+
+    /// Starts over, over the same store and by the same settings: no reply is given yet, and no body is held. The disk
+    /// isn't asked, so the file of a body that had bytes left stays open, as where its player is let go.
+    pub fn renew(&mut self)
+        ensures store { self.new.store ≡ self.old.store }
+        ensures settings { self.new.settings ≡ self.old.settings }
+        ensures stage { stage_of self.new ≡ record {
+          at = D.state self.old.store.disk;
+          playing = playing_by (by_store R.state self.old.settings self.old.store) 0 (λ _. []) (λ _. None);
+        } }
+        ensures loan { D.loan self.new.store.disk ≡ D.loan self.old.store.disk }
+    {
+        self.bodies = no_bodies(self.alloc);
+        self.replies = 0;
     }
 
     /// Lends the disk.
@@ -163,11 +179,11 @@ impl<D: Disk, R: Remember> Player<D, R> {
         Answer::Done
     }
 
-    /// A request, as its step is answered. A file that was opened for it is held by its body, or closed again. What the
-    /// memory of the store remembers anew has the request's moment.
-    pub fn request(&mut self, request: &Request<Octets>, now: Moment) -> Result<Answer, NoMemory>
+    /// The reply to a request, as its step is answered. A file that was opened for it is held by its body, or closed
+    /// again. What the memory of the store remembers anew has the request's moment.
+    pub fn request(&mut self, request: &Request<Octets>, now: Moment) -> Result<Reply, NoMemory>
         requires { self.old.replies + 1 < 2 ^ 32 }
-        ensures done { Stepped (stage_of self.old) (Asks request.now now) result (stage_of self.new) }
+        ensures done { Stepped (stage_of self.old) (Asks request.now now) (the_answered result) (stage_of self.new) }
         ensures made { MadeAt now (R.state self.old.store.memory) (R.state self.new.store.memory) }
         ensures loan { D.loan self.new.store.disk ≡ D.loan self.old.store.disk }
     {
@@ -181,12 +197,12 @@ impl<D: Disk, R: Remember> Player<D, R> {
         match body {
             None => {
                 self.replies = number + 1;
-                Ok(reply(outcome, number))
+                Ok(numbered(outcome, number))
             }
             Some(open) => match hold_body(&mut self.bodies, number, open) {
                 Ok(()) => {
                     self.replies = number + 1;
-                    Ok(reply(outcome, number))
+                    Ok(numbered(outcome, number))
                 }
                 Err(open) => {
                     open.close(DavFileSystem::disk(&mut self.store));
@@ -234,24 +250,12 @@ impl<D: Disk, R: Remember> Player<D, R> {
         ensures loan { D.loan self.new.store.disk ≡ D.loan self.old.store.disk }
     {
         match step {
-            Step::Request { request, now } => self.request(request, *now),
+            Step::Request { request, now } => answered(self.request(request, *now)),
             Step::Poll(body) => self.poll(*body),
             Step::Abandon(body) => Ok(self.abandon(*body)),
             Step::Purge(now) => Ok(self.purge(*now)),
             Step::Turn => self.turn(),
         }
-    }
-}
-
-// A reply with a body of this number.
-fn reply(outcome: Outcome, body: u32) -> Answer
-    ensures { result ≡ Replied outcome.status outcome.fields body }
-{
-    let Outcome { status, fields } = outcome;
-    Answer::Reply {
-        status,
-        headers: fields,
-        body,
     }
 }
 

@@ -9,28 +9,19 @@ use Rattle.dav_core.specs.Path.{Names}
 use Rattle.dav_fetch.specs.declared.copied.Copied.{Copied}
 use Rattle.dav_fetch.specs.declared.copied.Kept.{Kept}
 use Rattle.dav_fetch.specs.declared.error.MirrorError.{MirrorError}
-use Rattle.dav_fetch.specs.declared.error.MirrorError.TheVariants.{Peer as PeerFailed, Refused, NotAPage, BadReply, Short, TooLong, Budget, NoMemory as LacksMemory}
-use Rattle.dav_fetch.specs.Fetching.{AtFile, AtPage, Fetched, FileEnds, Goes, Visited, Visits, WholeVisits}
+use Rattle.dav_fetch.specs.declared.error.MirrorError.TheVariants.{Peer as PeerFailed, Refused, Short, Budget, NoMemory as LacksMemory}
+use Rattle.dav_fetch.specs.Fetching.{AtFile, AtPage, Fetched, FileEnds, Goes, WholeVisits}
 use Rattle.dav_fetch.specs.Judging.{Use, gives, keeps, refuses, spoils}
 use Rattle.dav_fetch.specs.Peer.{PeerState}
 use Rattle.dav_fetch.specs.Walk.{Visit, Way}
 use Rattle.dav_mirror.specs.Mirrors.{EndsBy, Mirrors, status_of}
 use Rattle.dav_mirror.specs.Seen.{replies_in}
-
-rose_from : (a b c : ℕ) → a ≤ b → Rose b c → Rose a c
-rose_from a b c less (inl more) = inl (omega (arith, less, more))
-rose_from a b c less (inr most) = inr most
-
-visited_counts : (s t : PeerState) (visit : Visit) → Visited s visit t → s.faults ≤ t.faults
-visited_counts s t visit v = omega (arith, v.counts, v.read.counts)
-
-visits_count : (s t : PeerState) (visits : List Visit) → Visits s visits t → s.faults ≤ t.faults
-visits_count s t [] e = omega (arith, ap (λ (z : PeerState). z.faults) e)
-visits_count s t (visit ∷ visits) (m, one, rest) = omega (arith, visited_counts s m visit one, visits_count m t visits rest)
+use Rattle.dav_io.proofs.Rising.{rose_before}
+use Rattle.dav_fetch.proofs.Quiet.{visit_counts, visits_count}
 
 whole_count : (s t : PeerState) (visits : List Visit) → WholeVisits s visits t → s.faults ≤ t.faults
 whole_count s t [] e = omega (arith, ap (λ (z : PeerState). z.faults) e)
-whole_count s t (visit ∷ visits) (m, one, over, rest) = omega (arith, visited_counts s m visit one, whole_count m t visits rest)
+whole_count s t (visit ∷ visits) (m, one, over, rest) = omega (arith, visit_counts s m visit one, whole_count m t visits rest)
 
 file_rose : (path : Names) (worth : Use) (visit : Visit) (s t : PeerState) → FileEnds path worth visit PeerFailed s t → Rose s.faults t.faults
 file_rose path (gives f n) visit s t e = e.1
@@ -42,24 +33,24 @@ files_rose : (left : List Names) (old got : List Kept) (made most : ℕ) (s t : 
 files_rose [] old got made most s t last new e = absurd e
 files_rose (path ∷ more) old got made most s t last new (inl e) = e.not.2
 files_rose (path ∷ more) old got made most s t last new (inr e) =
-    rose_from s.faults e.at.faults t.faults (visited_counts s e.at e.visit e.visited) (file_rose path e.worth e.visit e.at t e.ends)
+    rose_before s.faults e.at.faults t.faults (visit_counts s e.at e.visit e.visited) (file_rose path e.worth e.visit e.at t e.ends)
 
 page_rose : (dir : Names) (made most : ℕ) (s t : PeerState) (last : List Visit) → AtPage dir made most PeerFailed s last t → Rose s.faults t.faults
 page_rose dir made most s t last (inl (none, e)) = e.2
-page_rose dir made most s t last (inr (visit, m, one, visited, is, e)) = rose_from s.faults m.faults t.faults (visited_counts s m visit visited) e.1
+page_rose dir made most s t last (inr (visit, m, one, visited, is, e)) = rose_before s.faults m.faults t.faults (visit_counts s m visit visited) e.1
 
 no_want : (e : MirrorError) → e ≡ PeerFailed → (◌≡◌ {A = Result Unit MirrorError} (Err e) (Err LacksMemory)) → ⊥
 no_want e is lacks = cc
 
 goes_rose : (due : List Names) (way : Way) (made most : ℕ) (old : Copied) (s t : PeerState) (rest : List Visit) (new : Copied) → Goes due way made most old s rest (Err PeerFailed) t new → Rose s.faults t.faults
 goes_rose [] way made most old s t rest new (inl e) =
-    rose_from s.faults e.mid.faults t.faults (visits_count s e.mid e.visits e.chain) (files_rose e.left old.files e.got (made + length e.visits) most e.mid t e.last new.files e.ends)
+    rose_before s.faults e.mid.faults t.faults (visits_count s e.mid e.visits e.chain) (files_rose e.left old.files e.got (made + length e.visits) most e.mid t e.last new.files e.ends)
 goes_rose [] way made most old s t rest new (inr e) = absurd (no_want PeerFailed refl e.lacks)
 goes_rose (dir ∷ due) way made most old s t rest new e = page_rose dir made most s t rest e.0
 
 pub fetched_rose : (s t : PeerState) (old new : Copied) (most : ℕ) → Fetched s old most (Err PeerFailed) t new → Rose s.faults t.faults
 fetched_rose s t old new most f =
-    rose_from s.faults f.mid.faults t.faults (whole_count s f.mid f.pages f.chain) (goes_rose f.way.due f.way (length f.pages) most old f.mid t f.rest new f.goes)
+    rose_before s.faults f.mid.faults t.faults (whole_count s f.mid f.pages f.chain) (goes_rose f.way.due f.way (length f.pages) most old f.mid t f.rest new f.goes)
 
 -- the same of the disk, whose count the peer has
 pub disk_rose : (first last : PeerState) (before after : ℕ) → first.faults ≡ before → last.faults ≡ after → Rose first.faults last.faults → Rose before after
@@ -71,11 +62,9 @@ pub ends_by_error : (e : MirrorError) (copy : Copied) (before after : ℕ) (old 
 ends_by_error PeerFailed copy before after old new result same is rose = (same, is, rose refl)
 ends_by_error LacksMemory copy before after old new result same is rose = (same, subst (λ r. IsErr r) (sym is) refl)
 ends_by_error (Refused p status) copy before after old new result same is rose = (same, is)
-ends_by_error (NotAPage p) copy before after old new result same is rose = (same, is)
-ends_by_error (BadReply p) copy before after old new result same is rose = (same, is)
 ends_by_error (Short p got announced) copy before after old new result same is rose = (same, is)
-ends_by_error (TooLong p) copy before after old new result same is rose = (same, is)
 ends_by_error (Budget made) copy before after old new result same is rose = (same, is)
+ends_by_error other copy before after old new result same is rose = (same, is)
 
 -- So few requests never ask the player for all its replies.
 pub none_refused : (given refused : ℕ) → replies_in given refused ≤ 1000000 → refused ≡ 0

@@ -12,7 +12,7 @@ use Rattle.dav_fetch.specs.Peer.{Carries, IsAskable, links_most}
 use Rattle.dav_mirror.specs.Asking.{CanBeTarget, IsTarget}
 use Rattle.dav_mirror.proofs.Askable.{askable_none}
 use Rattle.dav_mirror.proofs.Fields.{none_carried}
-use Rattle.dav_mirror.proofs.Paths.{if_some}
+use Rattle.dav_io.proofs.Cases.{if_some}
 
 target_is : (path : WebPath) (o : Option Uri) (u : Uri) → o ≡ Some u → IsTarget path o → uri_path u ≡ link_of (shown path)
 target_is path None u e h = cc

@@ -8,7 +8,7 @@ use Rattle.dav_core.specs.World.{World}
 use Rattle.dav_core.proofs.UnchangedLemmas.{same_besides}
 use Rattle.dav_fetch.specs.declared.copied.Copied.{Copied}
 use Rattle.dav_fetch.specs.declared.error.MirrorError.{MirrorError}
-use Rattle.dav_fetch.specs.declared.error.MirrorError.TheVariants.{Peer as PeerFailed, Refused, NotAPage, BadReply, Short, TooLong, Budget, NoMemory as LacksMemory}
+use Rattle.dav_fetch.specs.declared.error.MirrorError.TheVariants.{Peer as PeerFailed, Refused, Short, Budget, NoMemory as LacksMemory}
 use Rattle.dav_fetch.specs.Fetching.{visits_of}
 use Rattle.dav_fetch.specs.Mirroring.{IsLinkless, IsOverOne, Mirrors as IsFetched, TellsStill}
 use Rattle.dav_fetch.proofs.Empty.{empty_copy}
@@ -39,11 +39,9 @@ lists_by w (Ok x) copy before after old result new is ends = inl (copy, is, ends
 lists_by w (Err LacksMemory) copy before after old result new is ends = inr ends
 lists_by w (Err PeerFailed) copy before after old result new is ends = absurd is
 lists_by w (Err (Refused p status)) copy before after old result new is ends = absurd is
-lists_by w (Err (NotAPage p)) copy before after old result new is ends = absurd is
-lists_by w (Err (BadReply p)) copy before after old result new is ends = absurd is
 lists_by w (Err (Short p got announced)) copy before after old result new is ends = absurd is
-lists_by w (Err (TooLong p)) copy before after old result new is ends = absurd is
 lists_by w (Err (Budget made)) copy before after old result new is ends = absurd is
+lists_by w (Err other) copy before after old result new is ends = absurd is
 
 pub listed : (before after : DiskState) (old new : Stream) (result : Result ℕ NoMemory) → Mirrors before after old result new → (w : World) → StandsStill before after w → Lists w old result new
 listed before after old new result m w stands =

@@ -1,12 +1,10 @@
 -- Paths that are one.
-use Rattle.std.proofs.Common.{◌≡◌, ◌↔◌, ◌∙◌, Bool, true, false, cond, not, IfSome, Option, None, Some, Result, Ok, Err, refl, sym, ap, ap₂, nat_eq, true≢false}
-use Rattle.std.specs.Cmp.{unsigned_Decides}
-use Rattle.std.specs.Cmp.Lexicographic.{pointwise}
-use Rattle.std.proofs.lemmas.Slice.Eq.{slice_eq-Decides}
+use Rattle.std.proofs.Common.{◌≡◌, ◌↔◌, ◌∙◌, Bool, true, false, cond, not, Result, Ok, Err, refl, sym, ap, ap₂, true≢false}
 use Rattle.dav_core.specs.declared.parse_error.ParseError.{ParseError}
 use Rattle.dav_core.specs.DavPath.{WebPath}
 use Rattle.dav_core.specs.Path.{Names, same_names}
 use Rattle.dav_core.proofs.Plain.{names_same}
+use Rattle.dav_core.proofs.Paths.{names_refl}
 
 same_end : (x y : Bool) → cond x y (not y) ≡ true → x ≡ y
 same_end true true e = refl
@@ -24,18 +22,10 @@ pub same_paths : (a b : WebPath) (p q m n : Names) (x y z : Bool) → p ≡ a.pr
 same_paths a b p q m n x y z pa qb px xt ma nb my yt zs zt =
     parts_same a b (sym pa ∙ names_same p q (sym px ∙ xt) ∙ qb) (sym ma ∙ names_same m n (sym my ∙ yt) ∙ nb) (same_end a.slash b.slash (sym zs ∙ zt))
 
--- what holds of a value that is there
-pub if_some : {A : Type 0} (P : A → Type 0) (o : Option A) (x : A) → o ≡ Some x → IfSome o P → P x
-if_some P None x e p = cc
-if_some P (Some y) x e p = let same : y ≡ x = cc in rw (← same) p
-
-same_self : (names : Names) → same_names names names ≡ true
-same_self names = (slice_eq-Decides (λ c d. slice_eq-Decides unsigned_Decides c d (pointwise nat_eq c d) refl) names names (same_names names names) refl).1 refl
-
 -- names that are told apart aren't the same
 pub never_same : (p q m n : Names) (x : Bool) → m ≡ p → n ≡ q → x ≡ same_names m n → x ≡ false → p ≡ q → ⊥
 never_same p q m n x a b is apart e =
-    true≢false (sym (same_self q) ∙ sym (ap₂ same_names (a ∙ e) b) ∙ sym is ∙ apart)
+    true≢false (sym (names_refl q) ∙ sym (ap₂ same_names (a ∙ e) b) ∙ sym is ∙ apart)
 
 pub end_same : (a b : WebPath) (z : Bool) → z ≡ cond a.slash b.slash (not b.slash) → a ≡ b → z ≡ true
 end_same a b z is e = is ∙ ap (λ (x : WebPath). cond x.slash b.slash (not b.slash)) e ∙ by b.slash

@@ -1,30 +1,23 @@
 -- A player over a world of which nothing is to change tells the same one behind a request.
-use Rattle.std.proofs.Common.{◌≡◌, ◌&&◌, ◌++◌, ℕ, List, Bool, true, false, cond, not, Option, None, Some, Result, Ok, Err, refl, sym, ap, subst, ◌∙◌, true≢false}
-use Rattle.std.proofs.lemmas.Bool.{and_parts}
-use Rattle.dav_io.proofs.ToldLemmas.{told_after}
+use Rattle.std.proofs.Common.{◌≡◌, ◌&&◌, ◌++◌, ℕ, List, Bool, true, false, cond, not, Option, None, Some, Result, Ok, Err, refl, sym, ap, subst, ◌∙◌}
+use Rattle.std.proofs.lemmas.Bool.{and_parts, not-true}
 use Rattle.dav_io.specs.declared.clock.Moment.{Moment}
 use Rattle.dav_io.specs.declared.failure.NoMemory.{NoMemory}
 use Rattle.dav_io.specs.declared.fields.Field.{Field}
 use Rattle.dav_core.specs.DavPath.{WebPath}
-use Rattle.dav_core.specs.World.{World, SameBesidesOpens}
-use Rattle.dav_core.proofs.UnchangedLemmas.{same_besides, same_besides_then}
+use Rattle.dav_core.specs.World.{World}
+use Rattle.dav_core.proofs.UnchangedLemmas.{same_besides}
 use Rattle.dav_model.specs.declared.answer.Answer.{Answer}
 use Rattle.dav_model.specs.declared.step.Step.TheVariants.{Abandon, Request, Turn}
 use Rattle.dav_model.specs.Conditions.{Asked}
 use Rattle.dav_model.specs.Play.{Playing, Stage, Stepped}
 use Rattle.dav_model.specs.Still.{StandsAs}
-use Rattle.dav_model.specs.Trail.{Leaves, Point}
-use Rattle.dav_model.proofs.StillSteps.{still_after}
+use Rattle.dav_model.proofs.StillSteps.{still_after, still_left}
 use Rattle.dav_fetch.specs.Peer.{Seen, StaysStill, body_in}
 use Rattle.dav_mirror.specs.Asking.{Hears, IsAskedFor}
 use Rattle.dav_mirror.specs.Seen.{are_peer_rules, has_links, left_at, peer_in, seen_in, seen_of}
 use Rattle.dav_mirror.specs.declared.asking.Asking.{Asking}
 use Rattle.dav_mirror.proofs.Telling.{leaves_by, seen_some, target_by}
-
-still_left : (w : World) (s t : Point) → Leaves s t → StandsAs w s → StandsAs w t
-still_left w s t leaves still =
-    let (v, told, same) = told_after s.told t.told SameBesidesOpens still.now leaves still.told in
-    record { now = v; told = told; same = same_besides_then w still.now v still.same same; script = still.script }
 
 -- the end of a body
 pub abandoned_still : (a b : Stage) (body : ℕ) (result : Result Answer NoMemory) → Stepped a (Abandon body) result b → (w : World) → StandsAs w a.at → StandsAs w b.at
@@ -51,10 +44,6 @@ record IsTold (heard : Bool) (a : Stage) (v : Seen) : Type 0 where
   pub told : a.at.told ≡ Some v.world
   pub none : has_links v.world.tree ≡ false
 
-off_is : (b : Bool) → not b ≡ true → b ≡ false
-off_is true e = absurd (true≢false (sym e))
-off_is false e = refl
-
 is_told : (heard : Bool) (kept : List ℕ) (body : Option ℕ) (a : Stage) (v : Seen) → seen_of heard kept body a ≡ Some v → IsTold heard a v
 is_told heard kept body a v e = by (heard && are_peer_rules a.playing.rules) a.at.told refl refl e
   where
@@ -74,7 +63,7 @@ is_told heard kept body a v e = by (heard && are_peer_rules a.playing.rules) a.a
             record {
               rules = (and_parts heard (are_peer_rules a.playing.rules) (on ∙ p.0)).1;
               told = is ∙ ap (λ u. Some u) world;
-              none = subst (λ (u : World). has_links u.tree ≡ false) world (off_is _ p.1);
+              none = subst (λ (u : World). has_links u.tree ≡ false) world (not-true _ p.1);
             }
           where
             world_of : (u : Seen) → Some u ≡ Some v → u.world ≡ v.world

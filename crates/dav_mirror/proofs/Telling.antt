@@ -1,6 +1,6 @@
 -- What a player tells as a peer, before and after its steps.
 use Rattle.std.proofs.Common.{◌≡◌, ◌≢◌, inl, inr, ◌≤◌, ◌<◌, ◌+◌, ◌==◌, ◌&&◌, ◌||◌, ◌++◌, ℕ, List, [], ◌∷◌, length, take, drop, min, replicate, Bool, true, false, cond, not, is_some, Option, None, Some, Result, Ok, Err, refl, sym, ap, ap₂, subst, ◌∙◌, arith, append_assoc, eqb-true, true≢false}
-use Rattle.std.proofs.lemmas.Bool.{and_parts, or_parts}
+use Rattle.std.proofs.lemmas.Bool.{and_parts, or_parts, not-true}
 use Rattle.std.specs.List.{AllByRecursion, filter, list_all, list_any}
 use Rattle.http.specs.Request.{head_of, body_of}
 use Rattle.dav_io.specs.Counts.{Rose, greatest}
@@ -67,10 +67,6 @@ on_is : (o : Option Bool) → is_on o ≡ true → o ≡ Some true
 on_is None e = absurd (true≢false (sym e))
 on_is (Some on) e = ap (λ b. Some b) e
 
-off_is : (b : Bool) → not b ≡ true → b ≡ false
-off_is true e = absurd (true≢false (sym e))
-off_is false e = refl
-
 same_settings : (s : Settings) → s.prefix ≡ [] → s.allow ≡ None → s.principal ≡ None → s.hide_symlinks ≡ None → s.autoindex ≡ Some true → s.indexfile ≡ None → s.redirect ≡ None
     → s ≡ sized s.read_buf_size
 same_settings s a b c d e f g =
@@ -103,7 +99,7 @@ rules_are r e =
     let a = and_parts _ _ e in
     let b = and_parts _ _ a.1 in
     let c = and_parts _ _ b.1 in
-    same_rules r (sized r.settings.read_buf_size) (set_is r.settings a.0) (off_is _ b.0) (off_is _ c.0) (absent _ c.1)
+    same_rules r (sized r.settings.read_buf_size) (set_is r.settings a.0) (not-true _ b.0) (not-true _ c.0) (absent _ c.1)
 
 -- No answer asks for the size of the read buffer.
 module _ (n : Option ℕ) (fields : Fields) (path : WebPath) (w : World) where

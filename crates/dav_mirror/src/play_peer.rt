@@ -7,7 +7,7 @@ use crate::asking::{Asking, request_for};
 use dav_cache::Remember;
 use dav_core::{DavPath, Disk};
 use dav_fetch::{Got, Peer, PeerFault};
-use dav_handler::{Answer, Player, Step};
+use dav_handler::{Answer, Player, Reply, Step};
 use dav_io::{Fields, Moment, NoMemory, Octets};
 use http::Request;
 use std::alloc::Global;
@@ -161,18 +161,16 @@ impl<D: Disk, R: Remember> Peer for PlayPeer<D, R> {
             return Err(PeerFault::NoMemory);
         }
         match self.player.request(&request, Moment(0)) {
-            Ok(
-                Answer::Reply {
+            Ok(reply) => {
+                let Reply {
                     status,
                     headers,
                     body,
-                },
-            ) => {
+                } = reply;
                 self.body = Some(body);
                 self.heard = heard;
                 Ok(Got { status, headers })
             }
-            Ok(_) => unreachable!("a request is answered by a reply"),
             Err(_) => Err(PeerFault::NoMemory),
         }
     }

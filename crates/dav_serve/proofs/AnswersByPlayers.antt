@@ -1,18 +1,22 @@
--- An exchange by a player that was made for it is the answer to its request.
-use Rattle.dav_model.specs.Play.{Stage}
-use Rattle.std.proofs.Common.{◌≡◌, ◌∙◌, ℕ, List, Ok, Err, Result, sym, ap, subst, IfOk, OnErr}
+-- An exchange by a player that starts over is the answer to its request, and the player keeps its rules.
+use Rattle.dav_model.specs.Play.{Ends, Playing, Plays, Stage}
+use Rattle.std.proofs.Common.{◌≡◌, ◌∙◌, ℕ, Bool, List, [], ◌∷◌, Ok, Err, Result, Option, sym, ap, subst, IfOk, OnErr}
 use Rattle.http.specs.declared.request.Parts.{Parts}
 use Rattle.http.specs.Request.{head_of, body_of}
 use Rattle.dav_io.specs.declared.failure.NoMemory.{NoMemory}
 use Rattle.dav_io.specs.declared.clock.Moment.{Moment}
+use Rattle.dav_io.specs.Outside.{Stream}
+use Rattle.dav_model.specs.declared.step.Step.{Step}
 use Rattle.dav_model.specs.Conditions.{Asked}
-use Rattle.dav_model.specs.Rules.{Knowledge}
-use Rattle.dav_model.specs.Trail.{Point}
+use Rattle.dav_model.specs.Rules.{Knowledge, Rules}
+use Rattle.dav_model.specs.Trail.{Move, Point}
+use Rattle.dav_model.proofs.JoiningLemmas.{step_rules}
 use Rattle.dav_serve.specs.declared.exchange.Ended.{Ended}
 use Rattle.dav_serve.specs.declared.exchange.Ended.TheVariants.{Open, Closed, SinkFailed, Broke as BrokeOff}
 use Rattle.dav_serve.specs.Exchange.{Exchange, ClosesAfter}
-use Rattle.dav_serve.specs.Ends.{IsAt, IsAnswerTo, Exchanges, Answers, MemoryStopped}
-use Rattle.dav_serve.specs.Stages.{Outlet, Work}
+use Rattle.dav_serve.specs.Ends.{BrokenOff, IsAt, IsAnswerTo, Exchanges, MemoryStopped, SinkStopped, Whole}
+use Rattle.dav_serve.specs.Serving.{HoldsSoFar, Setup, ready, setup_by}
+use Rattle.dav_serve.specs.Stages.{Outlet, Outside, Work, outside_of}
 use Rattle.dav_serve.proofs.RunEnds.{reached_as}
 
 -- the request has these parts and this body, and asks so
@@ -35,26 +39,64 @@ exchanges_as Is As a Closed b f e = record { exchange = e.exchange; is = f e.exc
 exchanges_as Is As a SinkFailed b f e = record { bytes = e.bytes; reached = reached_as Is As f e.reached; sent = e.sent; rose = e.rose }
 exchanges_as Is As a BrokeOff b f e = record { exchange = e.exchange; is = f e.exchange e.is; played = e.played; sent = e.sent; rose = e.rose }
 
--- one request was answered by a player of its own
-pub answered : {request : Asked} {parts : Parts} {body : List ℕ} {closing : _} (now : Moment) (made start : Stage) (outlet : Outlet) (b : Work) (t : Point) (knows : Knowledge) (result : Result Ended NoMemory)
-    → Comes request parts body closing → made ≡ start → b.stage.at ≡ t → b.stage.playing.knows ≡ knows → IfOk result (λ ended. Exchanges (IsAt request now closing) (record { outlet = outlet; stage = made }) ended b)
-    → IfOk result (λ ended. Answers parts body now (record { outlet = outlet; stage = start }) ended b.outlet t knows)
-answered now made start outlet b t knows (Err e) comes first last known exchanges = tt
-answered {request = request} {parts = parts} {body = body} {closing = closing} now made start outlet b t knows (Ok ended) comes first last known exchanges = (
-  b.stage.playing,
-  known,
-  exchanges_as (IsAt request now closing) (IsAnswerTo parts body now) (record { outlet = outlet; stage = start }) ended (record { outlet = b.outlet; stage = record { at = t; playing = b.stage.playing } })
-      (answer_of request parts body now closing comes)
-      (subst (λ z. Exchanges (IsAt request now closing) (record { outlet = outlet; stage = start }) ended (record { outlet = b.outlet; stage = record { at = z; playing = b.stage.playing } })) last
-      (subst (λ z. Exchanges (IsAt request now closing) (record { outlet = outlet; stage = z }) ended b) first exchanges)),
-)
+-- one request was answered by a player that started over
+pub answered : {request : Asked} {parts : Parts} {body : List ℕ} {closing : _} (now : Moment) (made start : Stage) (outlet : Outlet) (b : Work) (result : Result Ended NoMemory)
+    → Comes request parts body closing → made ≡ start → IfOk result (λ ended. Exchanges (IsAt request now closing) (record { outlet = outlet; stage = made }) ended b)
+    → IfOk result (λ ended. Exchanges (IsAnswerTo parts body now) (record { outlet = outlet; stage = start }) ended b)
+answered now made start outlet b (Err e) comes first exchanges = tt
+answered {request = request} {parts = parts} {body = body} {closing = closing} now made start outlet b (Ok ended) comes first exchanges =
+    exchanges_as (IsAt request now closing) (IsAnswerTo parts body now) (record { outlet = outlet; stage = start }) ended b (answer_of request parts body now closing comes)
+    (subst (λ z. Exchanges (IsAt request now closing) (record { outlet = outlet; stage = z }) ended b) first exchanges)
 
 -- or memory was refused
-pub unanswered : {request : Asked} {parts : Parts} {body : List ℕ} {closing : _} (now : Moment) (made start : Stage) (outlet b : Outlet) (u t : Point) (result : Result Ended NoMemory)
-    → Comes request parts body closing → made ≡ start → u ≡ t → OnErr result (MemoryStopped (IsAt request now closing) (record { outlet = outlet; stage = made }) b u)
+pub unanswered : {request : Asked} {parts : Parts} {body : List ℕ} {closing : _} (now : Moment) (made start : Stage) (outlet b : Outlet) (t : Point) (result : Result Ended NoMemory)
+    → Comes request parts body closing → made ≡ start → OnErr result (MemoryStopped (IsAt request now closing) (record { outlet = outlet; stage = made }) b t)
     → OnErr result (MemoryStopped (IsAnswerTo parts body now) (record { outlet = outlet; stage = start }) b t)
-unanswered now made start outlet b u t (Ok ended) comes first last stopped = tt
-unanswered {request = request} {parts = parts} {body = body} {closing = closing} now made start outlet b u t (Err e) comes first last stopped =
-    let here = subst (λ z. MemoryStopped (IsAt request now closing) (record { outlet = outlet; stage = start }) b z) last
-    (subst (λ z. MemoryStopped (IsAt request now closing) (record { outlet = outlet; stage = z }) b u) first stopped) in
+unanswered now made start outlet b t (Ok ended) comes first stopped = tt
+unanswered {request = request} {parts = parts} {body = body} {closing = closing} now made start outlet b t (Err e) comes first stopped =
+    let here = subst (λ z. MemoryStopped (IsAt request now closing) (record { outlet = outlet; stage = z }) b t) first stopped in
     record { bytes = here.bytes; reached = reached_as (IsAt request now closing) (IsAnswerTo parts body now) (answer_of request parts body now closing comes) here.reached; sent = here.sent }
+
+-- ---- the rules
+
+plays_rules : (p : Playing) (s : Point) (xs : List Move) (q : Playing) → Plays p s xs q → q.rules ≡ p.rules
+plays_rules p s [] q e = ap (λ (z : Playing). z.rules) e
+plays_rules p s (x ∷ xs) q (m, st, o, rest) = plays_rules m x.to xs q rest ∙ step_rules p s x.to x.step x.answer m st
+
+ends_rules : (rest : List Step) (m b : Stage) → Ends (Ok tt) rest m b → b.playing.rules ≡ m.playing.rules
+ends_rules [] m b ends = ap (λ (z : Stage). z.playing.rules) ends
+ends_rules (step ∷ rest) m b ends = elim ends [ ]
+
+-- A player that made a whole exchange has the rules that it had.
+pub whole_rules : {Is : Exchange → Type 0} {closed : Bool} {a b : Work} → Whole Is closed a b → b.stage.playing.rules ≡ a.stage.playing.rules
+whole_rules {a = a} {b = b} made =
+    let r = made.played in
+    ends_rules r.played.rest _ b.stage r.played.ends ∙ plays_rules a.stage.playing a.stage.at r.trail r.played.player r.played.answered
+
+-- What a player comes to that starts over by the same rules, it comes to by these.
+module _ {Is : Exchange → Type 0} {rules other : Rules} {knows : Knowledge} {s : Point} {outlet : Outlet} (same : other ≡ rules) where
+  pub whole_ruled : {closed : Bool} {b : Work} → Whole Is closed (record { outlet = outlet; stage = ready other knows s }) b → Whole Is closed (record { outlet = outlet; stage = ready rules knows s }) b
+  whole_ruled {closed = closed} {b = b} e = subst (λ z. Whole Is closed (record { outlet = outlet; stage = ready z knows s }) b) same e
+
+  pub unsent_ruled : {b : Outlet} {t : Point} → SinkStopped Is (record { outlet = outlet; stage = ready other knows s }) b t → SinkStopped Is (record { outlet = outlet; stage = ready rules knows s }) b t
+  unsent_ruled {b = b} {t = t} e = subst (λ z. SinkStopped Is (record { outlet = outlet; stage = ready z knows s }) b t) same e
+
+  pub broken_ruled : {b : Work} → BrokenOff Is (record { outlet = outlet; stage = ready other knows s }) b → BrokenOff Is (record { outlet = outlet; stage = ready rules knows s }) b
+  broken_ruled {b = b} e = subst (λ z. BrokenOff Is (record { outlet = outlet; stage = ready z knows s }) b) same e
+
+  pub stopped_ruled : {b : Outlet} {t : Point} → MemoryStopped Is (record { outlet = outlet; stage = ready other knows s }) b t → MemoryStopped Is (record { outlet = outlet; stage = ready rules knows s }) b t
+  stopped_ruled {b = b} {t = t} e = subst (λ z. MemoryStopped Is (record { outlet = outlet; stage = ready z knows s }) b t) same e
+
+-- ---- the disk that is lent
+
+-- What a run by a player comes to is what one over its disk does that begins so.
+pub over_the_disk : (P : Setup → Outside → Outside → Type 0) (shown : Option Moment) (a start : Stage) (source sink left written : Stream) (t u : Point) → a ≡ start → t ≡ u
+    → P (setup_by shown a) (outside_of source sink a.at) (outside_of left written t) → P (setup_by shown start) (outside_of source sink start.at) (outside_of left written u)
+over_the_disk P shown a start source sink left written t u first last holds =
+    subst (λ z. P (setup_by shown start) (outside_of source sink start.at) (outside_of left written z)) last
+    (subst (λ z. P (setup_by shown z) (outside_of source sink z.at) (outside_of left written t)) first holds)
+
+-- It is asked for where one over its disk is that begins so.
+pub asks_over : (may : Stream → Stream → Type 0) (shown : Option Moment) (start a : Stage) (source sink : Stream) → start ≡ a → HoldsSoFar (setup_by shown start) (outside_of source sink start.at) may
+    → HoldsSoFar (setup_by shown a) (outside_of source sink a.at) may
+asks_over may shown start a source sink first holds = subst (λ z. HoldsSoFar (setup_by shown z) (outside_of source sink z.at) may) first holds

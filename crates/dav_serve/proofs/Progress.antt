@@ -1,5 +1,5 @@
 -- What a run has served, exchange by exchange.
-use Rattle.dav_model.specs.Play.{Stage}
+use Rattle.dav_model.specs.Play.{Playing, Stage}
 use Rattle.std.proofs.Common.{◌≡◌, ◌<◌, ◌≤◌, ◌+◌, ◌*◌, ◌-◌, ◌^◌, ◌++◌, ℕ, suc, if◌then◌else◌, List, [], ◌∷◌, true, false, Bool, Option, Ok, length, sym, ap, subst, ◌∙◌, refl, arith, append_assoc, append-nil, length-append}
 use Rattle.std.proofs.Math.Dec.{leb}
 use Rattle.std.proofs.lemmas.Bool.{leb-true, le-leb}
@@ -19,11 +19,10 @@ use Rattle.dav_wire.specs.Messages.{Message, IsMessage, Messages}
 use Rattle.dav_wire.specs.Writing.{Pushes, Sent}
 use Rattle.dav_wire.proofs.Pushing.{holds, none_sent, sent_more, sent_then, sent_all_of}
 use Rattle.dav_wire.proofs.MessageLemmas.{message_stays, messages_join}
-use Rattle.dav_serve.specs.declared.exchange.Ended.TheVariants.{Open}
 use Rattle.dav_serve.specs.Exchange.{Exchange, ClosesAfter, IsShown, IsOf, is_closed, steps_of, answers_of, wire_of}
-use Rattle.dav_serve.specs.Ends.{IsAnswerTo, Answers, Whole}
+use Rattle.dav_serve.specs.Ends.{IsAnswerTo, Whole}
 use Rattle.dav_serve.specs.Serving.{Setup, Chain, Alike, Follow, IsOpen, wires, Serving, TookBytes, IsWanting, Faces, ServedSoFar, Halfway, nothing, ready}
-use Rattle.dav_serve.specs.Stages.{PlayedOn, Outside, Work, outlet_of, outside_of, work_of}
+use Rattle.dav_serve.specs.Stages.{PlayedOn, Outside, Work, outside_of, stage_at, work_of}
 use Rattle.dav_serve.proofs.RequestsAreSome.{message_shorter}
 
 -- what was served, what of it was sent and waits, how many bytes were taken for it, and what the memory knows then
@@ -177,16 +176,15 @@ abbrev pub working : Setup → List ℕ → Outside → Knowledge → Work
 working setup waiting now knows = work_of now.sink waiting (ready setup.rules knows now.disk)
 
 -- one exchange more
-pub served_more : {setup : Setup} {before : Outside} {held : Pending} {waiting : List ℕ} {mid : Outside} {parts : Parts} {body : List ℕ} {now : Moment} {rest : Pending} {later : List ℕ} {next : Outside} {knows learned : Knowledge}
+pub served_more : {setup : Setup} {before : Outside} {held : Pending} {waiting : List ℕ} {mid : Outside} {parts : Parts} {body : List ℕ} {now : Moment} {rest : Pending} {later : List ℕ} {next : Outside} {knows : Knowledge} {q : Playing}
     → Progress setup before held waiting mid knows → Meets setup.shown held parts body now rest → next.source ≡ mid.source
-    → Answers parts body now (working setup waiting mid knows) Open (outlet_of next.sink later) next.disk learned → Progress setup before rest later next learned
-served_more {setup = setup} {before = before} {held = held} {waiting = waiting} {mid = mid} {parts = parts} {now = now} {rest = rest} {later = later} {next = next} {knows = knows} v m same (q, learns, made) =
+    → Whole (IsAnswerTo parts body now) false (working setup waiting mid knows) (work_of next.sink later (stage_at next.disk q)) → Progress setup before rest later next q.knows
+served_more {setup = setup} {before = before} {held = held} {waiting = waiting} {mid = mid} {parts = parts} {now = now} {rest = rest} {later = later} {next = next} {knows = knows} {q = q} v m same made =
     let x = made.exchange in
     record {
       exchanges = v.exchanges ++ x ∷ [];
-      serving = subst (λ k. Serving setup false before next.source rest.bytes (v.exchanges ++ x ∷ []) (ready setup.rules k next.disk)) learns
-          (subst (λ z. Serving setup false before z rest.bytes (v.exchanges ++ x ∷ []) (ready setup.rules q.knows next.disk)) (sym same)
-          (serving_more false (working setup waiting mid knows) _ v m refl made));
+      serving = subst (λ z. Serving setup false before z rest.bytes (v.exchanges ++ x ∷ []) (ready setup.rules q.knows next.disk)) (sym same)
+          (serving_more false (working setup waiting mid knows) _ v m refl made);
       sent = subst (λ z. Sent before.sink next.sink z later) (wires_more v.exchanges x) (sent_then before.sink mid.sink next.sink (wires v.exchanges) waiting (wire_of x) later v.sent made.sent);
       taken = subst (λ z. TookBytes before.source z rest.taken) (sym same) (subst (λ z. TookBytes before.source mid.source z) (sym m.same) v.taken);
     }

@@ -1,5 +1,5 @@
 -- How a run ends, by what was served and what happened then.
-use Rattle.dav_model.specs.Play.{Stage}
+use Rattle.dav_model.specs.Play.{Playing, Stage}
 use Rattle.std.proofs.Common.{◌≡◌, ◌<◌, ◌≤◌, ◌+◌, ◌^◌, ◌++◌, ℕ, List, [], ◌∷◌, true, false, Ok, Err, Result, length, sym, subst, ◌∙◌, refl, inl, inr, arith, append-nil, true≢false}
 use Rattle.http.specs.declared.request.Parts.{Parts}
 use Rattle.dav_io.specs.Counts.{Rose}
@@ -20,11 +20,10 @@ use Rattle.dav_wire.proofs.MessageLemmas.{message_refusal_stays}
 use Rattle.dav_wire.proofs.Pushing.{none_sent, sent_on, sent_on_front, sent_flush, sent_flush_front, sent_push, sent_push_front, sent_then, sent_then_front, sent_all_of, sent_some}
 use Rattle.dav_serve.specs.declared.ending.Ending.{Ending}
 use Rattle.dav_serve.specs.declared.ending.Ending.TheVariants.{Over, Closed as RunClosed, Refused, Unfinished, SourceFailed, SinkFailed as RunSinkFailed, DiskFailed, TooMuch}
-use Rattle.dav_serve.specs.declared.exchange.Ended.TheVariants.{Closed, SinkFailed, Broke as BrokeOff}
 use Rattle.dav_serve.specs.Exchange.{Exchange, begun_wire_of, wire_of}
-use Rattle.dav_serve.specs.Ends.{IsAnswerTo, Answers, MemoryStopped, Reached}
+use Rattle.dav_serve.specs.Ends.{BrokenOff, IsAnswerTo, MemoryStopped, Reached, SinkStopped, Whole}
 use Rattle.dav_serve.specs.Serving.{Setup, wires, Serving, LeftIs, IsRefusedBy, IsEmptied, TookBytes, TookFewer, IsWanting, Faces, HoldsSoFar, Partway, nothing, refusal, exchange, Halfway, ServedPartly, Starved, EndsBy, Finishes, ready}
-use Rattle.dav_serve.specs.Stages.{Outlet, Outside, outlet_of, outside_of}
+use Rattle.dav_serve.specs.Stages.{Outlet, Outside, outlet_of, outside_of, stage_at, work_of}
 use Rattle.dav_serve.proofs.ExchangesEnd.{rose_between}
 use Rattle.dav_serve.proofs.Progress.{Progress, Meets, faces, chain_counts, serving_more, so_far, none_halfway, wires_more, working}
 
@@ -69,10 +68,10 @@ reached_as Is As f (inr (inr u)) = inr (inr (record { exchange = u.exchange; is 
 -- ---- an answer is the last
 
 -- an answer closes, and then all is given to the sink
-pub ends_closing : {setup : Setup} {before : Outside} {held : Pending} {waiting : List ℕ} {mid next : Outside} {knows learned : Knowledge} {parts : Parts} {body : List ℕ} {now : Moment} {rest : Pending} (between : Stream) (later : List ℕ)
+pub ends_closing : {setup : Setup} {before : Outside} {held : Pending} {waiting : List ℕ} {mid next : Outside} {knows : Knowledge} {q : Playing} {parts : Parts} {body : List ℕ} {now : Moment} {rest : Pending} (between : Stream) (later : List ℕ)
     (end : Ending) → Progress setup before held waiting mid knows → Meets setup.shown held parts body now rest → next.source ≡ mid.source
-    → Answers parts body now (working setup waiting mid knows) Closed (outlet_of between later) next.disk learned → Finishes RunClosed (outlet_of between later) next.sink end → EndsBy setup before next end
-ends_closing {setup = setup} {before = before} {waiting = waiting} {mid = mid} {next = next} {knows = knows} {rest = rest} between later end v m same (q, learns, made) (inl (is, given)) =
+    → Whole (IsAnswerTo parts body now) true (working setup waiting mid knows) (work_of between later (stage_at next.disk q)) → Finishes RunClosed (outlet_of between later) next.sink end → EndsBy setup before next end
+ends_closing {setup = setup} {before = before} {waiting = waiting} {mid = mid} {next = next} {knows = knows} {q = q} {rest = rest} between later end v m same made (inl (is, given)) =
     let x = made.exchange in
     let sent = sent_then before.sink mid.sink between (wires v.exchanges) waiting (wire_of x) later v.sent made.sent in
     subst (EndsBy setup before next) (sym is) (record {
@@ -84,7 +83,7 @@ ends_closing {setup = setup} {before = before} {waiting = waiting} {mid = mid} {
       sent = subst (λ z. SentAll before.sink next.sink z) (wires_more v.exchanges x)
           (sent_all_of before.sink next.sink (wires v.exchanges ++ wire_of x) [] refl (sent_on before.sink between next.sink (wires v.exchanges ++ wire_of x) later [] sent given));
     })
-ends_closing {setup = setup} {before = before} {waiting = waiting} {mid = mid} {next = next} {knows = knows} {rest = rest} between later end v m same (q, learns, made) (inr (is, given, rose)) =
+ends_closing {setup = setup} {before = before} {waiting = waiting} {mid = mid} {next = next} {knows = knows} {q = q} {rest = rest} between later end v m same made (inr (is, given, rose)) =
     let x = made.exchange in
     let sent = sent_then before.sink mid.sink between (wires v.exchanges) waiting (wire_of x) later v.sent made.sent in
     subst (EndsBy setup before next) (sym is) (
@@ -107,10 +106,10 @@ ends_closing {setup = setup} {before = before} {waiting = waiting} {mid = mid} {
     )
 
 -- the sink failed in an answer
-pub ends_unsent : {setup : Setup} {before : Outside} {held : Pending} {waiting : List ℕ} {mid next : Outside} {knows learned : Knowledge} {parts : Parts} {body : List ℕ} {now : Moment} {rest : Pending} (later : List ℕ)
+pub ends_unsent : {setup : Setup} {before : Outside} {held : Pending} {waiting : List ℕ} {mid next : Outside} {knows : Knowledge} {parts : Parts} {body : List ℕ} {now : Moment} {rest : Pending} (later : List ℕ)
     → Progress setup before held waiting mid knows → Meets setup.shown held parts body now rest → next.source ≡ mid.source
-    → Answers parts body now (working setup waiting mid knows) SinkFailed (outlet_of next.sink later) next.disk learned → EndsBy setup before next RunSinkFailed
-ends_unsent {setup = setup} {before = before} {held = held} {waiting = waiting} {mid = mid} {next = next} {parts = parts} {body = body} {now = now} later v m same (q, learns, made) = (
+    → SinkStopped (IsAnswerTo parts body now) (working setup waiting mid knows) (outlet_of next.sink later) next.disk → EndsBy setup before next RunSinkFailed
+ends_unsent {setup = setup} {before = before} {held = held} {waiting = waiting} {mid = mid} {next = next} {parts = parts} {body = body} {now = now} later v m same made = (
   rose_between before.sink.faults mid.sink.faults mid.sink.faults next.sink.faults v.sent.counts (omega arith) made.rose,
   record {
     exchanges = v.exchanges;
@@ -132,10 +131,10 @@ starves_answering {setup = setup} {before = before} {held = held} {waiting = wai
 }
 
 -- a body broke in an answer, and then all is given to the sink
-pub ends_broken : {setup : Setup} {before : Outside} {held : Pending} {waiting : List ℕ} {mid next : Outside} {knows learned : Knowledge} {parts : Parts} {body : List ℕ} {now : Moment} {rest : Pending} (between : Stream) (later : List ℕ)
+pub ends_broken : {setup : Setup} {before : Outside} {held : Pending} {waiting : List ℕ} {mid next : Outside} {knows : Knowledge} {q : Playing} {parts : Parts} {body : List ℕ} {now : Moment} {rest : Pending} (between : Stream) (later : List ℕ)
     (end : Ending) → Progress setup before held waiting mid knows → Meets setup.shown held parts body now rest → next.source ≡ mid.source
-    → Answers parts body now (working setup waiting mid knows) BrokeOff (outlet_of between later) next.disk learned → Finishes DiskFailed (outlet_of between later) next.sink end → EndsBy setup before next end
-ends_broken {setup = setup} {before = before} {held = held} {waiting = waiting} {mid = mid} {next = next} {knows = knows} between later end v m same (q, learns, made) (inl (is, given)) =
+    → BrokenOff (IsAnswerTo parts body now) (working setup waiting mid knows) (work_of between later (stage_at next.disk q)) → Finishes DiskFailed (outlet_of between later) next.sink end → EndsBy setup before next end
+ends_broken {setup = setup} {before = before} {held = held} {waiting = waiting} {mid = mid} {next = next} {knows = knows} {q = q} between later end v m same made (inl (is, given)) =
     let x = made.exchange in
     let sent = sent_then before.sink mid.sink between (wires v.exchanges) waiting (begun_wire_of x) later v.sent made.sent in
     subst (EndsBy setup before next) (sym is) (
@@ -152,7 +151,7 @@ ends_broken {setup = setup} {before = before} {held = held} {waiting = waiting} 
         sent = sent_all_of before.sink next.sink (wires v.exchanges ++ begun_wire_of x) [] refl (sent_on before.sink between next.sink (wires v.exchanges ++ begun_wire_of x) later [] sent given);
       },
     )
-ends_broken {setup = setup} {before = before} {held = held} {waiting = waiting} {mid = mid} {next = next} {knows = knows} between later end v m same (q, learns, made) (inr (is, given, rose)) =
+ends_broken {setup = setup} {before = before} {held = held} {waiting = waiting} {mid = mid} {next = next} {knows = knows} {q = q} between later end v m same made (inr (is, given, rose)) =
     let x = made.exchange in
     let sent = sent_then before.sink mid.sink between (wires v.exchanges) waiting (begun_wire_of x) later v.sent made.sent in
     subst (EndsBy setup before next) (sym is) (

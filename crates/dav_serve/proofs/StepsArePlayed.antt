@@ -1,5 +1,5 @@
 -- Steps that are made one after the other are played along one trail.
-use Rattle.std.proofs.Common.{◌≡◌, ℕ, List, [], ◌∷◌, Ok, Err, refl, sym, subst}
+use Rattle.std.proofs.Common.{◌≡◌, ℕ, List, [], ◌∷◌, Ok, Err, refl, subst}
 use Rattle.dav_io.specs.declared.clock.Moment.{Moment}
 use Rattle.dav_io.specs.declared.failure.NoMemory.{NoMemory}
 use Rattle.dav_model.specs.declared.step.Step.{Step}
@@ -10,7 +10,6 @@ use Rattle.dav_model.specs.Conditions.{Asked}
 use Rattle.dav_model.specs.Trail.{Move}
 use Rattle.dav_model.specs.Play.{AreFull, Ends, Played, Stage, StaysOpen, Stepped}
 use Rattle.dav_model.proofs.JoiningLemmas.{none_played, one_more_played, refused_played}
-use Rattle.dav_serve.specs.Exchange.{IsReply}
 use Rattle.dav_serve.specs.Stages.{PlayedOn, RefusedAt}
 use Rattle.dav_serve.proofs.PlayedByTree.{played_along}
 
@@ -24,10 +23,6 @@ turn_done a b answer stepped = stepped.0.0.is
 
 pub purge_done : (a b : Stage) (now : Moment) (answer : Answer) → Stepped a (Purge now) (Ok answer) b → answer ≡ Done
 purge_done a b now answer stepped = stepped.0.0
-
--- A request is answered by a reply.
-pub request_replied : (a b : Stage) (request : Asked) (now : Moment) (answer : Answer) → Stepped a (Request request now) (Ok answer) b → IsReply answer
-request_replied a b request now answer stepped = subst IsReply (sym stepped.0.is) tt
 
 -- a run that wasn't refused memory has no steps left
 pub all_played : (rest : List Step) (m b : Stage) → Ends (Ok tt) rest m b → rest ≡ []
@@ -82,12 +77,11 @@ module _ (a : Stage) (held : StaysOpen a.at a.playing) (full : AreFull a.playing
       (played_along _ a b (Turn ∷ Poll body ∷ []) (first ∷ answer ∷ []) (Ok tt) (two m b Turn (Poll body) first answer turned polled))
 
   -- a turn, a purge and a request
-  pub request_played : (m n b : Stage) (now : Moment) (request : Asked) (first second answer reply : Answer) → Stepped a Turn (Ok first) m → Stepped m (Purge now) (Ok second) n
-      → Stepped n (Request request now) (Ok answer) b → answer ≡ reply
+  pub request_played : (m n b : Stage) (now : Moment) (request : Asked) (first second reply : Answer) → Stepped a Turn (Ok first) m → Stepped m (Purge now) (Ok second) n
+      → Stepped n (Request request now) (Ok reply) b
       → PlayedOn a (Turn ∷ Purge now ∷ Request request now ∷ []) (Done ∷ Done ∷ reply ∷ []) (Ok tt) b
-  request_played m n b now request first second answer reply turned purged asked is =
+  request_played m n b now request first second reply turned purged asked =
       let steps : List Step = Turn ∷ Purge now ∷ Request request now ∷ [] in
-      subst (λ x. PlayedOn a steps (Done ∷ Done ∷ x ∷ []) (Ok tt) b) is
-      (subst (λ x. PlayedOn a steps (Done ∷ x ∷ answer ∷ []) (Ok tt) b) (purge_done m n now second purged)
-      (subst (λ x. PlayedOn a steps (x ∷ second ∷ answer ∷ []) (Ok tt) b) (turn_done a m first turned)
-      (played_along _ a b steps (first ∷ second ∷ answer ∷ []) (Ok tt) (three m n b Turn (Purge now) (Request request now) first second answer turned purged asked))))
+      subst (λ x. PlayedOn a steps (Done ∷ x ∷ reply ∷ []) (Ok tt) b) (purge_done m n now second purged)
+      (subst (λ x. PlayedOn a steps (x ∷ second ∷ reply ∷ []) (Ok tt) b) (turn_done a m first turned)
+      (played_along _ a b steps (first ∷ second ∷ reply ∷ []) (Ok tt) (three m n b Turn (Purge now) (Request request now) first second reply turned purged asked)))

@@ -15,7 +15,6 @@ use Rattle.dav_model.specs.declared.step.Step.TheVariants.{Poll, Turn}
 use Rattle.dav_model.specs.declared.answer.Answer.{Answer}
 use Rattle.dav_model.specs.declared.answer.Answer.TheVariants.{Broken, Done}
 use Rattle.dav_model.specs.Conditions.{Asked}
-use Rattle.dav_model.specs.Rules.{Knowledge}
 use Rattle.dav_model.specs.Trail.{Point}
 use Rattle.dav_serve.specs.declared.exchange.Ended.{Ended}
 use Rattle.dav_serve.specs.declared.exchange.Ended.TheVariants.{Open, Closed, SinkFailed, Broke as BrokeOff}
@@ -123,10 +122,3 @@ Exchanges Is a Open b = Whole Is false a b
 Exchanges Is a Closed b = Whole Is true a b
 Exchanges Is a SinkFailed b = SinkStopped Is a b.outlet b.stage.at
 Exchanges Is a BrokeOff b = BrokenOff Is a b
-
-module _ (parts : Parts) (body : List ℕ) (now : Moment) where
-  -- One request was answered by a player of its own, over a memory that knows this afterwards.
-  abbrev pub Answers : Work → Ended → Outlet → Point → Knowledge → Type 0
-  Answers a ended b t knows =
-      (q : Playing) × (q.knows ≡ knows)
-      × Exchanges (IsAnswerTo parts body now) a ended (record { outlet = b; stage = stage_at t q })

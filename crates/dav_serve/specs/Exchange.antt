@@ -10,7 +10,7 @@ use Rattle.dav_io.specs.declared.fields.Field.{Field}
 use Rattle.dav_model.specs.declared.step.Step.{Step}
 use Rattle.dav_model.specs.declared.step.Step.TheVariants.{Request, Poll, Purge, Turn}
 use Rattle.dav_model.specs.declared.answer.Answer.{Answer}
-use Rattle.dav_model.specs.declared.answer.Answer.TheVariants.{Reply as Replied, Piece, End, Broken, Done}
+use Rattle.dav_model.specs.declared.answer.Answer.TheVariants.{Reply as Replied, Piece, End, Done}
 use Rattle.dav_model.specs.Conditions.{Asked}
 use Rattle.dav_model.specs.Rules.{Rules, Knowledge}
 use Rattle.dav_wire.specs.Answers.{head_text, has_close_field}
@@ -109,11 +109,3 @@ exchange_of request now closing status fields body =
 -- the same exchange with these pieces
 abbrev pub with_pieces : Exchange → List (List ℕ) → Exchange
 with_pieces x pieces = record x { pieces = pieces }
-
--- an answer to a request
-abbrev pub IsReply : Answer → Type 0
-IsReply (Replied status fields body) = Unit {0}
-IsReply (Piece bytes) = ⊥
-IsReply End = ⊥
-IsReply Broken = ⊥
-IsReply Done = ⊥

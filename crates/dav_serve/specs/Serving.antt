@@ -1,15 +1,13 @@
 -- What a run has served so far, and how it ends.
 use Rattle.dav_model.specs.Play.{Stage, Playing}
-use Rattle.std.specs.Prelude.{◌≡◌, ◌≤◌, ◌<◌, ◌+◌, ◌^◌, ◌⊎◌, ℕ, List, [], ◌∷◌, ◌++◌, length, Bool, true, false, Ok, Option, Some, None}
+use Rattle.std.specs.Prelude.{◌≡◌, ◌≤◌, ◌<◌, ◌+◌, ◌^◌, ◌⊎◌, ℕ, List, [], ◌∷◌, ◌++◌, length, Bool, true, false, Ok, Option, Some}
 use Rattle.std.specs.List.{flat_map, AllByRecursion}
 use Rattle.httparse.specs.Grammar.{RequestHead, HasNoRequest, MayBecomeRequest}
-use Rattle.dav_cache.specs.Memory.{MemoryState}
 use Rattle.dav_io.specs.Counts.{Rose}
 use Rattle.dav_io.specs.Told.{Both}
 use Rattle.dav_io.specs.Outside.{Stream}
 use Rattle.dav_io.specs.declared.clock.Moment.{Moment}
 use Rattle.dav_model.specs.declared.answer.Answer.TheVariants.{Broken, Done}
-use Rattle.dav_local.specs.Shown.{knowledge_of}
 use Rattle.dav_model.specs.Rules.{Knowledge, Rules, nothing_known}
 use Rattle.dav_model.specs.Trail.{Point}
 use Rattle.dav_wire.specs.Announced.{announces}
@@ -38,14 +36,17 @@ setup_over shown rules knows = record { shown = shown; rules = rules; knows = kn
 abbrev pub setup_with : Option Moment → Rules → Setup
 setup_with shown rules = setup_over shown rules nothing_known
 
--- what a memory knows, where there is one
-abbrev pub knows_in : {R : Type 0} → (R → MemoryState) → Option R → Knowledge
-knows_in state None = nothing_known
-knows_in state (Some memory) = knowledge_of (state memory)
-
 -- a new player over the disk and a memory that knows this
 abbrev pub ready : Rules → Knowledge → Point → Stage
 ready rules knows s = stage_at s (fresh rules knows)
+
+-- of a run by a player that stands so
+abbrev pub setup_by : Option Moment → Stage → Setup
+setup_by shown a = setup_over shown a.playing.rules a.playing.knows
+
+-- what a player stands on that starts over
+abbrev pub renewed : Stage → Stage
+renewed a = ready a.playing.rules a.playing.knows a.at
 
 -- The exchanges were played one after the other, each by a new player over the disk and the memory that the one before
 -- it left.

@@ -1,11 +1,11 @@
 // Serving the requests of a source, one after the other.
-ghost use Rattle.std.specs.Prelude.{◌≡◌, ◌++◌, IfOk, IsSome, OnErr, [], false};
+ghost use Rattle.std.specs.Prelude.{◌≡◌, ◌++◌, IfOk, OnErr, [], false};
 ghost use Rattle.dav_handler.specs.Player.{stage_of};
 ghost use Rattle.dav_local.specs.Shown.{knowledge_of};
 ghost use Rattle.dav_wire.specs.Answers.{refusal_text as the_refusal_text};
 ghost use Rattle.dav_serve.specs.declared.ending.Ending.TheVariants.{Refused};
-ghost use Rattle.dav_serve.specs.Ends.{Answers, IsAnswerTo, MemoryStopped};
-ghost use Rattle.dav_serve.specs.Serving.{HoldsSoFar, EndsBy, ServedPartly, Starved, Finishes, knows_in, ready, setup_over};
+ghost use Rattle.dav_serve.specs.Ends.{Exchanges, IsAnswerTo, MemoryStopped};
+ghost use Rattle.dav_serve.specs.Serving.{HoldsSoFar, EndsBy, ServedPartly, Starved, Finishes, ready, renewed, setup_by, setup_over};
 ghost use Rattle.dav_serve.specs.Stages.{outlet_of, outside_of, work_of};
 ghost use Rattle.dav_serve.specs.Words.{set_by, settings_by};
 
@@ -30,6 +30,27 @@ struct Held {
     spare: Spare,
 }
 
+// Nothing is taken from a source yet, and nothing waits for a sink.
+fn none_held(alloc: Global) -> Result<Held, NoMemory>
+    ensures unread { IfOk result (λ held. held.input ≡ record { bytes = []; taken = 0 }) }
+    ensures empty { IfOk result (λ held. held.output ≡ []) }
+{
+    let input = match Input::new(alloc) {
+        Ok(input) => input,
+        Err(error) => return Err(error),
+    };
+    let output = match Output::new(alloc) {
+        Ok(output) => output,
+        Err(error) => return Err(error),
+    };
+    Ok(Held {
+        alloc,
+        input,
+        output,
+        spare: Spare::new(alloc),
+    })
+}
+
 // A player over the disk from its root on and a memory, by these settings, whose store finds names as the options say.
 // What it makes is its owner's alone. It gave no reply yet.
 fn player_over<D: Disk + Drop, R: Remember + Drop>(
@@ -48,50 +69,37 @@ fn player_over<D: Disk + Drop, R: Remember + Drop>(
     Player::over(alloc, settings, store)
 }
 
-// Answers a request by a player of its own over the disk and the memory, so that no count of replies ever runs out.
-// What held its fields goes back to the input.
-fn answer<K: Sink, D: Disk, R: Remember + Drop>(
-    options: &Options<'_>,
-    disk: &mut D,
-    memory: &mut Option<R>,
+// Answers a request by a player, which starts over for it, so that no count of replies ever runs out. What held the
+// request's fields goes back to the input.
+fn answer<K: Sink, D: Disk, R: Remember>(
+    player: &mut Player<D, R>,
     held: &mut Held,
     sink: &mut K,
     now: Moment,
     message: Message,
 ) -> Result<Ended, NoMemory>
-    requires { IsSome memory.old }
     ensures input { held.new.input ≡ held.old.input }
-    ensures some { IsSome memory.new }
-    ensures ends { IfOk result (λ ended. Answers message.parts message.body now
-        (work_of (K.stream sink.old) held.old.output
-        (ready (set_by options.now) (knows_in R.state memory.old) (D.state disk.old)))
-        ended (outlet_of (K.stream sink.new) held.new.output) (D.state disk.new) (knows_in R.state memory.new)) }
+    ensures loan { D.loan player.new.store.disk ≡ D.loan player.old.store.disk }
+    ensures ends { IfOk result (λ ended. Exchanges (IsAnswerTo message.parts message.body now)
+        (work_of (K.stream sink.old) held.old.output (renewed (stage_of player.old))) ended
+        (work_of (K.stream sink.new) held.new.output (stage_of player.new))) }
     ensures memory { OnErr result (MemoryStopped (IsAnswerTo message.parts message.body now)
-        (work_of (K.stream sink.old) held.old.output
-        (ready (set_by options.now) (knows_in R.state memory.old) (D.state disk.old)))
-        (outlet_of (K.stream sink.new) held.new.output) (D.state disk.new)) }
+        (work_of (K.stream sink.old) held.old.output (renewed (stage_of player.old)))
+        (outlet_of (K.stream sink.new) held.new.output) (stage_of player.new).at) }
 {
     let manner = manner_of(&message.parts);
     let Message { parts, body } = message;
     let request = Request::from_parts(parts, body);
-    let settings = match options.settings(held.alloc) {
-        Ok(settings) => settings,
-        Err(error) => return Err(error),
-    };
-    let Some(known) = memory.take() else {
-        unreachable!("there is a memory");
-    };
-    let mut player = player_over(held.alloc, &mut *disk, known, settings, options);
+    player.renew();
     let ended = exchange(
         &mut held.spare,
-        &mut player,
+        player,
         &mut held.output,
         sink,
         now,
         manner,
         &request,
     );
-    let _ = player.into_disk(memory);
     let (parts, _) = request.into_parts();
     held.input.take_back(parts.headers);
     ended
@@ -118,41 +126,36 @@ fn refuse<K: Sink>(output: &mut Output, sink: &mut K, flaw: Flaw) -> Ending
     }
 }
 
-// Answers requests until the input ends, an answer closes, or something fails. Answers to requests that came together
-// leave together: what waits for the sink is given to it before the client is asked again, and at the end. Where memory
-// is refused, it waits still.
-fn answer_all<S: Client<K>, K: Sink, D: Disk, R: Remember + Drop, C: Clock>(
-    options: &Options<'_>,
+// Answers requests by a player until the input ends, an answer closes, or something fails. Answers to requests that came
+// together leave together: what waits for the sink is given to it before the client is asked again, and at the end.
+// Where memory is refused, it waits still.
+fn answer_all<S: Client<K>, K: Sink, D: Disk, R: Remember, C: Clock>(
+    player: &mut Player<D, R>,
     held: &mut Held,
     source: &mut S,
     sink: &mut K,
-    disk: &mut D,
-    first: R,
     clock: &mut C,
 ) -> Result<Ending, NoMemory>
     requires unread { held.old.input ≡ record { bytes = []; taken = 0 } }
     requires empty { held.old.output ≡ [] }
-    requires waits { HoldsSoFar
-        (setup_over (C.shows clock.old) (set_by options.now) (knowledge_of (R.state first)))
-        (outside_of (S.stream source.old) (K.stream sink.old) (D.state disk.old))
+    requires waits { HoldsSoFar (setup_by (C.shows clock.old) (stage_of player.old))
+        (outside_of (S.stream source.old) (K.stream sink.old) (stage_of player.old).at)
         (S.may source.old) }
     ensures clock { C.shows clock.new ≡ C.shows clock.old }
-    ensures ends { IfOk result (EndsBy
-        (setup_over (C.shows clock.old) (set_by options.now) (knowledge_of (R.state first)))
-        (outside_of (S.stream source.old) (K.stream sink.old) (D.state disk.old))
-        (outside_of (S.stream source.new) (K.stream sink.new) (D.state disk.new))) }
-    ensures memory { OnErr result (Starved
-        (setup_over (C.shows clock.old) (set_by options.now) (knowledge_of (R.state first)))
-        (outside_of (S.stream source.old) (K.stream sink.old) (D.state disk.old))
+    ensures loan { D.loan player.new.store.disk ≡ D.loan player.old.store.disk }
+    ensures ends { IfOk result (EndsBy (setup_by (C.shows clock.old) (stage_of player.old))
+        (outside_of (S.stream source.old) (K.stream sink.old) (stage_of player.old).at)
+        (outside_of (S.stream source.new) (K.stream sink.new) (stage_of player.new).at)) }
+    ensures memory { OnErr result (Starved (setup_by (C.shows clock.old) (stage_of player.old))
+        (outside_of (S.stream source.old) (K.stream sink.old) (stage_of player.old).at)
         held.new.output
-        (outside_of (S.stream source.new) (K.stream sink.new) (D.state disk.new))) }
+        (outside_of (S.stream source.new) (K.stream sink.new) (stage_of player.new).at)) }
 {
-    let mut memory = Some(first);
     'requests: loop {
         match next_message(held.alloc, &mut held.input, source, &mut held.output, sink) {
             Ok(Next::Whole(message)) => {
                 let now = clock.now();
-                match answer(options, disk, &mut memory, held, sink, now, message) {
+                match answer(player, held, sink, now, message) {
                     Ok(Ended::Open) => {}
                     Ok(Ended::Closed) => return Ok(finish(&mut held.output, sink, Ending::Closed)),
                     Ok(Ended::SinkFailed) => return Ok(Ending::SinkFailed),
@@ -177,7 +180,7 @@ fn answer_all<S: Client<K>, K: Sink, D: Disk, R: Remember + Drop, C: Clock>(
 
 /// Reads requests from a client and writes their answers to a sink, until the input ends, an answer closes, or
 /// something fails. It answers how it ended. The client is asked only where all requests that came whole are answered
-/// and written. What was remembered at one request is known at the next.
+/// and written. One player over the disk answers them all, so what was remembered at one request is known at the next.
 pub fn serve<S: Client<K>, K: Sink, D: Disk, R: Remember + Drop, C: Clock>(
     alloc: Global,
     options: &Options<'_>,
@@ -201,21 +204,20 @@ pub fn serve<S: Client<K>, K: Sink, D: Disk, R: Remember + Drop, C: Clock>(
         (outside_of (S.stream source.old) (K.stream sink.old) (D.state disk.old))
         (outside_of (S.stream source.new) (K.stream sink.new) (D.state disk.new))) }
 {
-    let input = match Input::new(alloc) {
-        Ok(input) => input,
+    let settings = match options.settings(alloc) {
+        Ok(settings) => settings,
         Err(error) => return Err(error),
     };
-    let output = match Output::new(alloc) {
-        Ok(output) => output,
+    let mut held = match none_held(alloc) {
+        Ok(held) => held,
         Err(error) => return Err(error),
     };
-    let mut held = Held {
-        alloc,
-        input,
-        output,
-        spare: Spare::new(alloc),
-    };
-    match answer_all(options, &mut held, source, sink, disk, memory, clock) {
+    let mut player = player_over(alloc, &mut *disk, memory, settings, options);
+    let ended = answer_all(&mut player, &mut held, source, sink, clock);
+    // The disk goes back to its lender, and the memory is let go.
+    let mut left = None;
+    let _ = player.into_disk(&mut left);
+    match ended {
         Ok(ending) => Ok(ending),
         Err(error) => {
             // What was answered before is written also where memory is refused.

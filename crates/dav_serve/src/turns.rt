@@ -1,23 +1,14 @@
 // Steps of the player, a few at a time.
 ghost use Rattle.std.specs.Prelude.{◌≡◌, ◌+◌, ◌<◌, ◌≤◌, ◌^◌, ◌∷◌, [], IfOk, OnOk, OnErr, Ok};
 ghost use Rattle.dav_handler.specs.Player.{stage_of};
-ghost use Rattle.dav_serve.specs.Exchange.{IsReply};
 ghost use Rattle.dav_serve.specs.Stages.{PlayedOn, RefusedAt};
 ghost use Rattle.dav_model.specs.declared.step.Step.TheVariants.{Poll, Purge, Request as Asks, Turn};
 ghost use Rattle.dav_model.specs.declared.answer.Answer.TheVariants.{Done, Reply as Replied};
 
 use dav_core::Disk;
-use dav_handler::{Answer, Player, Remember};
-use dav_io::{Fields, Moment, NoMemory, Octets};
+use dav_handler::{Answer, Player, Remember, Reply};
+use dav_io::{Moment, NoMemory, Octets};
 use http::Request;
-
-/// A reply: its status, its fields and the number of its body.
-#[derive(Drop)]
-pub struct Reply {
-    pub status: u16,
-    pub headers: Fields,
-    pub body: u32,
-}
 
 /// A turn of the outside and a poll. The piece takes the memory of `spare`.
 pub fn poll_turn<D: Disk, R: Remember>(
@@ -64,26 +55,7 @@ pub fn request_turn<D: Disk, R: Remember>(
     }
     let _purged = player.purge(now);
     match player.request(request, now) {
-        Ok(answer) => Ok(into_reply(answer)),
+        Ok(reply) => Ok(reply),
         Err(error) => Err(error),
-    }
-}
-
-// The reply that an answer is.
-fn into_reply(answer: Answer) -> Reply
-    requires { IsReply answer }
-    ensures { answer ≡ Replied result.status result.headers result.body }
-{
-    match answer {
-        Answer::Reply {
-            status,
-            headers,
-            body,
-        } => Reply {
-            status,
-            headers,
-            body,
-        },
-        _ => unreachable!(),
     }
 }

@@ -1,6 +1,6 @@
 use Rattle.std.proofs.Common.{Ok, Err, true, refl}
 use Rattle.dav_model.specs.Due.{query}
-use Rattle.dav_model.specs.Calls.{calls_to_open}
+use Rattle.dav_model.specs.Calls.{calls_to_open, calls_to_seek}
 use Rattle.dav_handler.specs.By.{by_store}
 use Rattle.dav_handler.proofs.Answering.{given_answers, given_heard, refused_answers, some_to_open, stays_read, unless_memory}
 use Rattle.dav_handler.proofs.found.find_at.Goals as goal
@@ -20,6 +20,7 @@ returns-in-Ok-clause-done g c body = rw c.give.ensures.rest (
       meant = λ meant untouched. given_heard c.in-Ok.given (c.in-Ok.ensures.asks 1 (some_to_open true) (λ known. c.local_stores_ask_few.ensures.meant (query c.args.settings.now c.args.fields.now c.args.method c.args.path.now) _ meant untouched));
       near = λ meant nothing w held told near.
           given_heard c.in-Ok.given (c.in-Ok.ensures.asks (calls_to_open held) (some_to_open held) (λ known. c.local_stores_ask_few.ensures.near (query c.args.settings.now c.args.fields.now c.args.method c.args.path.now) _ w held meant nothing told near));
+      sought = λ meant w most told both. given_heard c.in-Ok.given (c.in-Ok.ensures.bounded (calls_to_seek most) (λ known. c.local_stores_ask_few.ensures.sought (query c.args.settings.now c.args.fields.now c.args.method c.args.path.now) most w meant told both));
     })
     c.in-Ok.ensures.life.0 c.in-Ok.ensures.life.1 c.in-Ok.ensures.most c.give.ensures.outcome c.give.ensures.gives)
 
@@ -35,6 +36,7 @@ returns-in-Err-clause-done g c body =
       meant = λ meant untouched. unless_memory c.in-Err.error had (c.in-Err.ensures.asks 1 (some_to_open true) (λ known. c.local_stores_ask_few.ensures.meant (query c.args.settings.now c.args.fields.now c.args.method c.args.path.now) _ meant untouched));
       near = λ meant nothing w held told near.
           unless_memory c.in-Err.error had (c.in-Err.ensures.asks (calls_to_open held) (some_to_open held) (λ known. c.local_stores_ask_few.ensures.near (query c.args.settings.now c.args.fields.now c.args.method c.args.path.now) _ w held meant nothing told near));
+      sought = λ meant w most told both. unless_memory c.in-Err.error had (c.in-Err.ensures.bounded (calls_to_seek most) (λ known. c.local_stores_ask_few.ensures.sought (query c.args.settings.now c.args.fields.now c.args.method c.args.path.now) most w meant told both));
     })
     c.refuse.ensures
 

@@ -1,7 +1,8 @@
 use Rattle.std.proofs.Common.{◌≡◌, rules}
 use Rattle.dav_core.specs.DavPath.{link_of, shown}
-use Rattle.dav_mirror.proofs.Targets.{link_is_input, link_is_path, not_so, out_of_memory_by}
+use Rattle.dav_mirror.proofs.Targets.{link_is_input, link_is_path}
 use Rattle.dav_mirror.proofs.asking.target_of.Goals as goal
+use Rattle.dav_core.proofs.UriPaths.{not_so, out_of_memory_by}
 
 pub returns-in-Ok : goal.returns-in-Ok
 returns-in-Ok c = λ can.

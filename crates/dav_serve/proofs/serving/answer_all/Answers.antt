@@ -1,10 +1,11 @@
-use Rattle.std.proofs.Common.{rules, ◌∙◌, refl}
+use Rattle.std.proofs.Common.{◌∙◌, refl}
+use Rattle.dav_serve.proofs.AnswersByPlayers.{broken_ruled, stopped_ruled, unsent_ruled, whole_ruled, whole_rules}
 use Rattle.dav_serve.proofs.Progress.{none_served, meets, meets_shorter, served_more, served_on, served_read, shown_now}
 use Rattle.dav_serve.proofs.RunEnds.{ends_broken, ends_closing, ends_failed, ends_over, ends_refused, ends_stopped, ends_too_much, ends_unfinished, ends_unsent, may_ask, starves, starves_answering}
 use Rattle.dav_serve.proofs.serving.answer_all.Goals as goal
 
 pub requests-init : goal.requests-init
-requests-init g c = record { clock = refl; some = search rules; progress = none_served _ _ _ _ c.requires.unread c.requires.empty; may = λ left written may. may }
+requests-init g c = record { clock = refl; loan = refl; rules = refl; progress = none_served _ _ _ _ c.requires.unread c.requires.empty; may = λ left written may. may }
 
 pub next_message-requires : goal.next_message-requires
 next_message-requires g c = record {
@@ -20,12 +21,14 @@ requests-smaller g c =
 pub requests-preserved : goal.requests-preserved
 requests-preserved g c =
     let reads = rw c.in-Ok-Whole.field-0-is at c.in-Ok-Whole.ensures.reads in
+    let made = rw c.in-Ok-Open.field-0-is at c.in-Ok-Open.ensures.ends in
     record {
       clock = c.now-now.ensures.stays ∙ c.requests.invariant.clock;
-      some = c.in-Ok-Open.ensures.some;
+      loan = c.in-Ok-Open.ensures.loan ∙ c.requests.invariant.loan;
+      rules = whole_rules made ∙ c.requests.invariant.rules;
       progress = rw c.in-Ok-Open.ensures.input (served_more (served_on c.requests.invariant.progress reads.on c.in-Ok-Whole.ensures.sends)
           (meets _ _ _ _ _ _ reads.gives refl (shown_now _ _ _ c.requests.invariant.clock c.now-now.ensures.shown)) refl
-          (rw c.in-Ok-Open.field-0-is at c.in-Ok-Open.ensures.ends));
+          (whole_ruled c.requests.invariant.rules made));
       may = λ left written may. c.in-Ok-Whole.ensures.stays left written (c.requests.invariant.may left written may);
     }
 
@@ -35,14 +38,14 @@ returns-in-Ok-Closed-clause-ends g c =
     ends_closing (g.K.Sink.stream c.answer.new.sink) c.answer.new.held.output _
     (served_on c.requests.invariant.progress reads.on c.in-Ok-Whole.ensures.sends)
     (meets _ _ _ _ _ _ reads.gives refl (shown_now _ _ _ c.requests.invariant.clock c.now-now.ensures.shown)) refl
-    (rw c.in-Ok-Closed.field-0-is at c.in-Ok-Closed.ensures.ends) c.finish.ensures
+    (whole_ruled c.requests.invariant.rules (rw c.in-Ok-Closed.field-0-is at c.in-Ok-Closed.ensures.ends)) c.finish.ensures
 
 pub returns-in-Ok-SinkFailed-clause-ends : goal.returns-in-Ok-SinkFailed-clause-ends
 returns-in-Ok-SinkFailed-clause-ends g c =
     let reads = rw c.in-Ok-Whole.field-0-is at c.in-Ok-Whole.ensures.reads in
     ends_unsent c.answer.new.held.output (served_on c.requests.invariant.progress reads.on c.in-Ok-Whole.ensures.sends)
     (meets _ _ _ _ _ _ reads.gives refl (shown_now _ _ _ c.requests.invariant.clock c.now-now.ensures.shown)) refl
-    (rw c.in-Ok-SinkFailed.field-0-is at c.in-Ok-SinkFailed.ensures.ends)
+    (unsent_ruled c.requests.invariant.rules (rw c.in-Ok-SinkFailed.field-0-is at c.in-Ok-SinkFailed.ensures.ends))
 
 pub returns-in-Ok-Broke-clause-ends : goal.returns-in-Ok-Broke-clause-ends
 returns-in-Ok-Broke-clause-ends g c =
@@ -50,14 +53,14 @@ returns-in-Ok-Broke-clause-ends g c =
     ends_broken (g.K.Sink.stream c.answer.new.sink) c.answer.new.held.output _
     (served_on c.requests.invariant.progress reads.on c.in-Ok-Whole.ensures.sends)
     (meets _ _ _ _ _ _ reads.gives refl (shown_now _ _ _ c.requests.invariant.clock c.now-now.ensures.shown)) refl
-    (rw c.in-Ok-Broke.field-0-is at c.in-Ok-Broke.ensures.ends) c.finish-in-Ok-Broke.ensures
+    (broken_ruled c.requests.invariant.rules (rw c.in-Ok-Broke.field-0-is at c.in-Ok-Broke.ensures.ends)) c.finish-in-Ok-Broke.ensures
 
 pub returns-in-Err-clause-memory : goal.returns-in-Err-clause-memory
 returns-in-Err-clause-memory g c =
     let reads = rw c.in-Ok-Whole.field-0-is at c.in-Ok-Whole.ensures.reads in
     starves_answering _ (served_on c.requests.invariant.progress reads.on c.in-Ok-Whole.ensures.sends)
     (meets _ _ _ _ _ _ reads.gives refl (shown_now _ _ _ c.requests.invariant.clock c.now-now.ensures.shown)) refl
-    c.in-Err.ensures.memory
+    (stopped_ruled c.requests.invariant.rules c.in-Err.ensures.memory)
 
 pub returns-in-Ok-Refused-clause-ends : goal.returns-in-Ok-Refused-clause-ends
 returns-in-Ok-Refused-clause-ends g c =
