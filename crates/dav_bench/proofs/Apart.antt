@@ -1,24 +1,17 @@
 -- No two names of the large input are the same, or fold alike.
-use Rattle.std.proofs.Common.{◌≡◌, ◌⊎◌, inl, inr, ℕ, zero, suc, ◌+◌, ◌-◌, ◌*◌, ◌<◌, ◌≤◌, ◌^◌, ◌||◌, ◌&&◌, Bool, true, false, cond, not, List, [], ◌∷◌, ◌++◌, length, map, take, codes, decimal, refl, sym, ap, ap₂, ◌∙◌, arith}
-use Rattle.std.proofs.lemmas.Bool.{and_parts}
+use Rattle.std.proofs.Common.{◌≡◌, ℕ, ◌<◌, ◌^◌, ◌&&◌, true, false, List, [], ◌∷◌, ◌++◌, length, codes, decimal, sym, ap, ◌∙◌, arith}
+use Rattle.std.proofs.lemmas.Bool.{and_parts, false_from_ne_true}
 use Rattle.dav_core.specs.declared.tree.Row.{Row}
 use Rattle.dav_core.specs.Path.{Names, same_names, parent_of}
 use Rattle.dav_core.proofs.Plain.{names_same}
 use Rattle.dav_model.specs.Finding.{is_alike}
 use Rattle.dav_model.specs.Folds.{Name, fold_name, fold_path, folds_like}
 use Rattle.dav_model.specs.Valid.{are_twins}
-use Rattle.dav_bench.specs.Names.{dir_name, file_name, dir_path, file_path, asked_dir, asked_file}
-use Rattle.dav_bench.specs.Tree.{root_row, dir_row, file_row}
+use Rattle.dav_bench.specs.Names.{dir_name, file_name, asked_dir, asked_file}
 use Rattle.dav_bench.proofs.Digits.{same_number}
 use Rattle.dav_bench.proofs.Folding.{fold_dir, fold_file, fold_asked_dir, fold_asked_file}
 use Rattle.dav_bench.proofs.Lists.{left_out}
-
-pub untrue : (b : Bool) → (b ≡ true → ⊥) → b ≡ false
-untrue true f = absurd (f refl)
-untrue false f = refl
-
-pub differ : (a b : Names) → (a ≡ b → ⊥) → same_names a b ≡ false
-differ a b f = untrue (same_names a b) (λ e. f (names_same a b e))
+use Rattle.dav_core.proofs.Paths.{names_differ}
 
 -- ---- parts of lists
 
@@ -73,7 +66,7 @@ pub record AreAlike (at : Names) (name : Name) (row : Row) : Type 0 where
 
 pub alike_parts : (at : Names) (name : Name) (row : Row) → (at ++ name ∷ [] ≡ row.path → ⊥) → is_alike true at name row ≡ true → AreAlike at name row
 alike_parts at name row other e =
-    let rest : (same_names (parent_of row.path) at && folds_like row.path (at ++ name ∷ [])) ≡ true = left_out (same_names (at ++ name ∷ []) row.path) (same_names (parent_of row.path) at && folds_like row.path (at ++ name ∷ [])) (differ (at ++ name ∷ []) row.path other) e in
+    let rest : (same_names (parent_of row.path) at && folds_like row.path (at ++ name ∷ [])) ≡ true = left_out (same_names (at ++ name ∷ []) row.path) (same_names (parent_of row.path) at && folds_like row.path (at ++ name ∷ [])) (names_differ (at ++ name ∷ []) row.path other) e in
     let parts = and_parts (same_names (parent_of row.path) at) (folds_like row.path (at ++ name ∷ [])) rest in
     record { parent = names_same (parent_of row.path) at parts.0; folded = names_same (fold_path row.path) (fold_path (at ++ name ∷ [])) parts.1 }
 
@@ -87,4 +80,4 @@ twin_parts a b e =
     record { parent = names_same (parent_of a.path) (parent_of b.path) parts.0; folded = names_same (fold_path a.path) (fold_path b.path) parts.1 }
 
 pub no_twin : (a b : Row) → (Twins a b → ⊥) → are_twins a b ≡ false
-no_twin a b f = untrue (are_twins a b) (λ e. f (twin_parts a b e))
+no_twin a b f = false_from_ne_true (are_twins a b) (λ e. f (twin_parts a b e))

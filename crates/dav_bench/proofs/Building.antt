@@ -1,12 +1,12 @@
 -- How the tree of the large input grows, row by row: each row may be added, and no two names fold alike.
-use Rattle.std.proofs.Common.{◌≡◌, ◌⊎◌, inl, inr, ℕ, zero, suc, ◌+◌, ◌-◌, ◌*◌, ◌==◌, ◌<◌, ◌≤◌, ◌^◌, ◌||◌, ◌&&◌, Bool, true, false, cond, not, nat_lt, List, [], ◌∷◌, ◌++◌, length, map, flat_map, take, Option, None, Some, Result, Ok, Err, refl, sym, ap, ap₂, ◌∙◌, arith, append_assoc, append-nil, add-one}
-use Rattle.std.proofs.lemmas.Bool.{and_parts}
+use Rattle.std.proofs.Common.{◌≡◌, ℕ, zero, suc, ◌+◌, ◌*◌, ◌==◌, ◌<◌, ◌≤◌, true, false, not, List, [], ◌∷◌, ◌++◌, map, flat_map, Some, refl, sym, ap, ◌∙◌, arith, append_assoc, append-nil, add-one}
+use Rattle.std.proofs.lemmas.Bool.{and_parts, and_from}
 use Rattle.std.proofs.lemmas.Bool.Decides.{nat_tests}
 use Rattle.std.specs.Option.{is_none}
-use Rattle.std.specs.List.{AllByRecursion, find, list_any, list_all}
+use Rattle.std.specs.List.{AllByRecursion, list_any, list_all}
 use Rattle.dav_core.specs.declared.tree.Row.{Row}
 use Rattle.dav_core.specs.Changes.{is_free_in}
-use Rattle.dav_core.specs.Path.{Names, same_names, parent_of}
+use Rattle.dav_core.specs.Path.{same_names}
 use Rattle.dav_core.specs.Tree.{row_at, has_dir, is_dir_row}
 use Rattle.dav_core.proofs.Plain.{names_same as same}
 use Rattle.dav_model.specs.Folds.{fold_name, fold_path}
@@ -14,9 +14,10 @@ use Rattle.dav_model.specs.Valid.{are_twins, no_twins}
 use Rattle.dav_model.proofs.LooseWalks.{names_equal}
 use Rattle.dav_bench.specs.Names.{dir_name, file_name, dir_path, file_path}
 use Rattle.dav_bench.specs.Tree.{upto, root_row, dir_row, file_row, dirs, files_of, files_below, rows, rows_so_far}
-use Rattle.dav_bench.proofs.Apart.{Twins, alike_dirs, alike_files, differ, heads, longer, no_twin, same_dir, same_file, tails}
-use Rattle.dav_bench.proofs.Lists.{each_dir, each_row, each_so_far, find_none, find_only, none_any, some_dir}
+use Rattle.dav_bench.proofs.Apart.{alike_dirs, alike_files, heads, longer, no_twin, same_dir, same_file, tails}
+use Rattle.dav_bench.proofs.Lists.{each_so_far, find_none, find_only, none_any, some_dir}
 use Rattle.dav_bench.proofs.Standing.{few, small}
+use Rattle.dav_core.proofs.Paths.{names_differ}
 
 -- ---- one row more
 
@@ -70,19 +71,16 @@ rows_at_last m = ap (λ z. root_row ∷ (dirs 8 ++ z)) (no_file_yet m 8 (files_b
 
 -- ---- no twins
 
-and_true : (a b : Bool) → a ≡ true → b ≡ true → (a && b) ≡ true
-and_true a b e f = rw (e, f) refl
-
 none_twin : (row : Row) (all : List Row) → AllByRecursion (λ other. are_twins other row ≡ false) all → no_twins all ≡ true → no_twins (all ++ row ∷ []) ≡ true
 none_twin row [] each old = refl
 none_twin row (other ∷ all) (here, each) old =
     let parts = and_parts (list_all (λ r. not (are_twins other r)) all) (no_twins all) old in
-    and_true (list_all (λ r. not (are_twins other r)) (all ++ row ∷ [])) (no_twins (all ++ row ∷ [])) (more all parts.0) (none_twin row all each parts.1)
+    and_from (list_all (λ r. not (are_twins other r)) (all ++ row ∷ [])) (no_twins (all ++ row ∷ [])) (more all parts.0) (none_twin row all each parts.1)
   where
     more : (xs : List Row) → list_all (λ r. not (are_twins other r)) xs ≡ true → list_all (λ r. not (are_twins other r)) (xs ++ row ∷ []) ≡ true
     more [] e = rw here refl
     more (x ∷ xs) e = let p = and_parts (not (are_twins other x)) (list_all (λ r. not (are_twins other r)) xs) e in
-        and_true (not (are_twins other x)) (list_all (λ r. not (are_twins other r)) (xs ++ row ∷ [])) p.0 (more xs p.1)
+        and_from (not (are_twins other x)) (list_all (λ r. not (are_twins other r)) (xs ++ row ∷ [])) p.0 (more xs p.1)
 
 -- rows that stand before a directory, and before a file
 not_same : (k n : ℕ) → k < n → k ≡ n → ⊥
@@ -130,7 +128,7 @@ pub dir_is_free : (m n : ℕ) → n < 8 → is_free_in (rows_so_far n m 0 0) (di
 dir_is_free m n lt = ap is_none (find_none (λ row. same_names (dir_path n) row.path) (rows_so_far n m 0 0)
     (each_so_far (λ row. same_names (dir_path n) row.path ≡ false) n m 0 0
     refl
-    (λ k less. differ (dir_path n) (dir_path k) (λ e. not_same k n less (sym (same_dir n k (few n lt) (few k (omega arith)) (heads (dir_name n) (dir_name k) [] [] e)))))
+    (λ k less. names_differ (dir_path n) (dir_path k) (λ e. not_same k n less (sym (same_dir n k (few n lt) (few k (omega arith)) (heads (dir_name n) (dir_name k) [] [] e)))))
     (λ k l less few. absurd (omega arith))
     (λ l less. absurd (omega arith))))
 
@@ -143,14 +141,14 @@ dir_stands m i j k lt = find_only (λ row. same_names (dir_path k) row.path) (di
     (some_dir (λ row. same_names (dir_path k) row.path) 8 k (files_below m i ++ files_of m i j) lt (names_equal (dir_path k) (dir_path k) refl))
 
 pub file_is_free : (m i j : ℕ) → m ≤ 400 → i < 8 → j < m → is_free_in (rows_so_far 8 m i j) (file_path i j) ≡ true
-file_is_free m i j most it jt = and_true (has_dir (rows_so_far 8 m i j) (dir_path i)) (is_none (row_at (rows_so_far 8 m i j) (file_path i j)))
+file_is_free m i j most it jt = and_from (has_dir (rows_so_far 8 m i j) (dir_path i)) (is_none (row_at (rows_so_far 8 m i j) (file_path i j)))
     (ap is_dir_row (dir_stands m i j i it))
     (ap is_none (find_none (λ row. same_names (file_path i j) row.path) (rows_so_far 8 m i j)
     (each_so_far (λ row. same_names (file_path i j) row.path ≡ false) 8 m i j
     refl
-    (λ k less. differ (file_path i j) (dir_path k) (λ e. let f : 2 ≡ 1 = longer (file_path i j) (dir_path k) e in omega arith))
-    (λ k l less lt. differ (file_path i j) (file_path k l) (λ e. not_same k i less (sym (same_dir i k (few i it) (few k (omega arith)) (heads (dir_name i) (dir_name k) (file_name j ∷ []) (file_name l ∷ []) e)))))
-    (λ l less. differ (file_path i j) (file_path i l) (λ e. not_same l j less (sym (same_file j l (small j m jt most) (small l m (omega arith) most)
+    (λ k less. names_differ (file_path i j) (dir_path k) (λ e. let f : 2 ≡ 1 = longer (file_path i j) (dir_path k) e in omega arith))
+    (λ k l less lt. names_differ (file_path i j) (file_path k l) (λ e. not_same k i less (sym (same_dir i k (few i it) (few k (omega arith)) (heads (dir_name i) (dir_name k) (file_name j ∷ []) (file_name l ∷ []) e)))))
+    (λ l less. names_differ (file_path i j) (file_path i l) (λ e. not_same l j less (sym (same_file j l (small j m jt most) (small l m (omega arith) most)
     (heads (file_name j) (file_name l) [] [] (tails (dir_name i) (dir_name i) (file_name j ∷ []) (file_name l ∷ []) e)))))))))
 
 -- a number above all numbers so far is new

@@ -1,7 +1,6 @@
 -- What the answers to the steps of files add to the counts.
-use Rattle.std.proofs.Common.{◌≡◌, ℕ, zero, suc, ◌+◌, ◌*◌, ◌<◌, ◌≤◌, min, List, [], ◌∷◌, ◌++◌, length, map, flat_map, sum, Ok, Err, Result, OnOk, refl, sym, ap, ap₂, subst, ◌∙◌, arith, add-one}
+use Rattle.std.proofs.Common.{◌≡◌, ℕ, zero, suc, ◌+◌, ◌*◌, ◌<◌, ◌≤◌, min, List, [], ◌∷◌, ◌++◌, length, map, flat_map, sum, Ok, Result, refl, sym, ap, ap₂, subst, ◌∙◌, arith, add-one}
 use Rattle.std.proofs.lemmas.List.Sums.{sum_by-append}
-use Rattle.std.specs.List.{sum_by}
 use Rattle.dav_io.specs.Counts.{greatest, one_more}
 use Rattle.dav_io.specs.declared.failure.NoMemory.{NoMemory}
 use Rattle.dav_model.specs.declared.step.Step.{Step}
@@ -9,9 +8,9 @@ use Rattle.dav_model.specs.declared.answer.Answer.{Answer}
 use Rattle.dav_model.specs.declared.answer.Answer.TheVariants.{Reply as Replied, Piece, End}
 use Rattle.dav_model.specs.Play.{PlayedOn, Stage}
 use Rattle.dav_bench.specs.declared.counting.Counts.{Counts}
-use Rattle.dav_bench.specs.Asking.{AreStepsFor, IsReady, IsSpared, steps_for}
-use Rattle.dav_bench.specs.Counting.{HasPlace, added, all_counted, nothing_counted, totals_of}
-use Rattle.dav_bench.specs.Report.{Totals, lengths, totals}
+use Rattle.dav_bench.specs.Asking.{AreStepsFor, IsReady, IsSpared}
+use Rattle.dav_bench.specs.Counting.{HasPlace, added, all_counted, nothing_counted}
+use Rattle.dav_bench.specs.Report.{lengths}
 use Rattle.dav_bench.specs.Tree.{length_of, letters, upto}
 use Rattle.dav_bench.proofs.Due.{letters_length}
 use Rattle.dav_bench.proofs.Moves.{ThreeMoves, three_moves}

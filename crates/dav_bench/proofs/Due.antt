@@ -1,29 +1,20 @@
 -- What is due to a request of the large input: the whole file.
-use Rattle.std.proofs.Common.{◌≡◌, ◌⊎◌, inl, inr, ℕ, zero, suc, ◌+◌, ◌*◌, ◌<◌, ◌≤◌, ◌^◌, ◌==◌, ◌&&◌, ◌||◌, Bool, true, false, cond, not, List, [], ◌∷◌, ◌++◌, length, replicate, codes, Option, None, Some, Result, Ok, Err, refl, sym, ap, ap₂, subst, ◌∙◌, arith}
+use Rattle.std.proofs.Common.{◌≡◌, inl, inr, ℕ, zero, suc, ◌<◌, ◌≤◌, ◌==◌, Bool, true, false, cond, List, [], ◌∷◌, length, Ok, refl, ap, subst, ◌∙◌, arith}
 use Rattle.std.proofs.lemmas.Bool.Decides.{nat_tests}
-use Rattle.dav_io.specs.Counts.{Rose, greatest}
-use Rattle.dav_core.specs.declared.error.FsError.{FsError}
-use Rattle.dav_core.specs.declared.handle.DiskError.{DiskError}
+use Rattle.dav_io.specs.Counts.{Rose}
 use Rattle.dav_core.specs.declared.method.DavMethod.TheVariants.{Get}
-use Rattle.dav_core.specs.declared.time.FileTime.{FileTime}
-use Rattle.dav_core.specs.declared.tree.Row.{Row}
-use Rattle.dav_core.specs.declared.tree.Kind.TheVariants.{Dir, File}
-use Rattle.dav_core.specs.DavPath.{WebPath, last_name, type_of_last}
+use Rattle.dav_core.specs.DavPath.{WebPath}
 use Rattle.dav_core.specs.Path.{Names}
 use Rattle.dav_core.specs.Tree.{look, is_linked}
 use Rattle.dav_core.specs.World.{World, bytes_of}
-use Rattle.dav_model.specs.declared.sent.Sent.{Sent}
 use Rattle.dav_model.specs.declared.sent.Sent.TheVariants.{All}
-use Rattle.dav_model.specs.Bodies.{Part, slice}
-use Rattle.dav_model.specs.Conditions.{Fields, condition, ranges_are_heard, first_bytes, strong}
-use Rattle.dav_model.specs.Due.{Course, Due, IsHead, IsRight, OfItsPaths, Query, due, due_looked, due_opened, file, query, IsSpoiled}
-use Rattle.dav_model.specs.Finding.{exactly, looked_at, opened_at, resolved, resolved_from, shown_in, stood_at}
-use Rattle.dav_model.specs.Head.{IsSent, Reply, Stood, sent_by, sent_of, sent_reply, slice_where, stood_in}
+use Rattle.dav_model.specs.Bodies.{slice}
+use Rattle.dav_model.specs.Due.{IsHead, IsRight, Query, due, due_looked, due_opened, file, query}
+use Rattle.dav_model.specs.Finding.{resolved, resolved_from, shown_in, stood_at}
+use Rattle.dav_model.specs.Head.{IsSent, Reply, Stood, stood_in}
 use Rattle.dav_model.specs.Play.{MeetsNoLink}
-use Rattle.dav_model.specs.Shown.{Shown}
-use Rattle.dav_model.specs.Slices.{ranges}
 use Rattle.dav_model.specs.Unset.{nothing_set}
-use Rattle.dav_bench.specs.Names.{asked_at, asked_path, file_path}
+use Rattle.dav_bench.specs.Names.{asked_at, asked_path}
 use Rattle.dav_bench.specs.Tree.{IsBench, file_row, length_of, letters, rows}
 use Rattle.dav_bench.specs.Asking.{bench_rules}
 use Rattle.dav_bench.proofs.Standing.{asked_is_found, file_stands, none_linked}

@@ -1,17 +1,17 @@
 -- How names of ASCII fold.
-use Rattle.std.proofs.Common.{◌≡◌, ℕ, zero, suc, ◌+◌, ◌<◌, ◌≤◌, ◌^◌, cond, nat_lt, List, [], ◌∷◌, ◌++◌, length, map, chars, encode_utf8_all, codes, decimal, refl, sym, ap, ap₂, ◌∙◌, arith}
+use Rattle.std.proofs.Common.{◌≡◌, ℕ, zero, suc, ◌<◌, ◌≤◌, ◌^◌, List, [], ◌∷◌, ◌++◌, map, encode_utf8_all, codes, decimal, refl, ap, ap₂, ◌∙◌, arith}
 use Rattle.std.proofs.lemmas.Bool.Decides.{nat_tests}
-use Rattle.std.specs.List.{AllByRecursion, slice_index}
+use Rattle.std.specs.List.{AllByRecursion}
 use Rattle.std.specs.Char.{to_ascii_lowercase}
 use Rattle.std.specs.Str.{IsAscii}
-use Rattle.std.proofs.lemmas.Str.{chars-IsAscii, encode_ascii, encodes-append}
+use Rattle.std.proofs.lemmas.Str.{chars-IsAscii, encode_ascii}
 use Rattle.caseless.specs.Caseless.{default_case_fold}
 use Rattle.caseless.proofs.CaselessLemmas.{default_case_fold-nil, default_case_fold-cons}
-use Rattle.ucd_case.specs.CaseFolding.{full_fold}
 use Rattle.ucd_case.proofs.CaseFoldingLemmas.{full_fold-ascii}
 use Rattle.dav_model.specs.Folds.{fold_name}
 use Rattle.dav_bench.specs.Names.{dir_name, file_name, asked_dir, asked_file}
 use Rattle.dav_bench.proofs.Digits.{decimal_each, each_append}
+use Rattle.std.proofs.lemmas.Str.Ascii.{lowercase_ascii}
 
 abbrev pub AreAscii : List ℕ → Type 0
 AreAscii bs = AllByRecursion (λ b. b < 128) bs
@@ -25,12 +25,9 @@ folds_to : (bs : List ℕ) → AreAscii bs → default_case_fold bs ≡ map to_a
 folds_to [] all = default_case_fold-nil
 folds_to (b ∷ bs) (here, all) = default_case_fold-cons b bs ∙ ap₂ (λ (x y : List ℕ). x ++ y) (full_fold-ascii b here) (folds_to bs all)
 
-lower_ascii : (b : ℕ) → b < 128 → to_ascii_lowercase b < 128
-lower_ascii b h = grind (arith, nat_tests)
-
 all_lower : (bs : List ℕ) → AreAscii bs → AreAscii (map to_ascii_lowercase bs)
 all_lower [] all = tt
-all_lower (b ∷ bs) (here, all) = (lower_ascii b here, all_lower bs all)
+all_lower (b ∷ bs) (here, all) = (lowercase_ascii b here, all_lower bs all)
 
 encodes_itself : (bs : List ℕ) → AreAscii bs → encode_utf8_all bs ≡ bs
 encodes_itself [] all = refl

@@ -1,8 +1,9 @@
 -- What holds of each row of the large input, and of one of them.
-use Rattle.std.proofs.Common.{◌≡◌, ◌⊎◌, inl, inr, ℕ, zero, suc, ◌+◌, ◌*◌, ◌<◌, ◌≤◌, ◌||◌, ◌&&◌, Bool, true, false, cond, not, List, [], ◌∷◌, ◌++◌, length, map, flat_map, Option, None, Some, refl, sym, ap, ◌∙◌, arith}
-use Rattle.std.specs.List.{AllByRecursion, list_any, list_all, find}
+use Rattle.std.proofs.Common.{◌≡◌, ◌⊎◌, inl, inr, ℕ, zero, suc, ◌<◌, ◌||◌, Bool, true, false, cond, List, [], ◌∷◌, ◌++◌, map, flat_map, Option, None, Some, refl, sym, ap, ◌∙◌, arith}
+use Rattle.std.specs.List.{AllByRecursion, list_any, find}
 use Rattle.dav_core.specs.declared.tree.Row.{Row}
-use Rattle.dav_bench.specs.Tree.{upto, root_row, dir_row, file_row, dirs, files_of, files_below, rows, rows_so_far}
+use Rattle.dav_bench.specs.Tree.{upto, root_row, dir_row, file_row, dirs, files_of, files_below, rows_so_far}
+use Rattle.std.proofs.lemmas.Bool.{or_right}
 
 -- ---- each
 
@@ -47,10 +48,6 @@ each_so_far P n m i j root dir below file = (
 )
 
 -- ---- some
-
-or_right : (a b : Bool) → b ≡ true → (a || b) ≡ true
-or_right true b e = refl
-or_right false b e = e
 
 or_more : (a b c : Bool) → (a || b) ≡ true → (b ≡ true → c ≡ true) → (a || c) ≡ true
 or_more true b c e f = refl

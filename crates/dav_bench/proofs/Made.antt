@@ -1,5 +1,5 @@
 -- Row by row the disk of the large input is made.
-use Rattle.std.proofs.Common.{◌≡◌, ◌⊎◌, inl, inr, ℕ, zero, suc, ◌+◌, ◌-◌, ◌*◌, ◌==◌, ◌<◌, ◌≤◌, ◌^◌, ◌||◌, ◌&&◌, Bool, true, false, cond, not, nat_lt, max, List, [], ◌∷◌, ◌++◌, length, Option, None, Some, Result, Ok, Err, OnOk, refl, sym, ap, ap₂, subst, ◌∙◌, arith, pos, ◌+ℤ◌, ◌<ℤ◌}
+use Rattle.std.proofs.Common.{◌≡◌, ◌⊎◌, inl, inr, ℕ, ◌+◌, ◌*◌, ◌==◌, ◌<◌, ◌≤◌, ◌&&◌, Bool, true, false, not, nat_lt, max, List, [], ◌∷◌, ◌++◌, Option, None, Some, Result, Ok, Err, OnOk, refl, sym, ap, ap₂, subst, ◌∙◌, arith}
 use Rattle.std.proofs.lemmas.Bool.Decides.{nat_tests}
 use Rattle.std.proofs.lemmas.Int.{ints}
 use Rattle.std.specs.Option.{is_none}
@@ -11,13 +11,14 @@ use Rattle.dav_core.specs.Path.{Names}
 use Rattle.dav_core.specs.World.{Stored, World, bytes_of, bytes_or_none, put}
 use Rattle.dav_disk.specs.declared.sure_disk.SureDisk.{SureDisk}
 use Rattle.dav_disk.specs.Calls.{state_of}
-use Rattle.dav_disk.specs.Memory.{HasRoom}
 use Rattle.dav_disk.specs.Rows.{at_second, can_add, first_world, later_of, second_past, with_dir, with_file}
 use Rattle.dav_disk.specs.Sure.{sure_state, sure_world}
 use Rattle.dav_bench.specs.Names.{dir_path, file_path}
 use Rattle.dav_bench.specs.Making.{IsSoFar}
-use Rattle.dav_bench.specs.Tree.{IsBench, beginning, dir_row, file_row, length_of, letters, rows, rows_so_far}
+use Rattle.dav_bench.specs.Tree.{IsBench, beginning, dir_row, file_row, length_of, letters}
 use Rattle.dav_bench.proofs.Building.{dir_is_free, dir_more, dir_number_is_new, earlier_dir, file_is_free, file_more, file_number_is_new, next_dir, rows_at_first, rows_at_last}
+use Rattle.std.proofs.lemmas.Bool.{ne_eqb, eq-eqb}
+use Rattle.std.proofs.lemmas.Option.{same_Some}
 
 pub at_first : (m : ℕ) → IsSoFar 0 m 0 0 first_world
 at_first m = record {
@@ -77,17 +78,11 @@ file_may_be_added m i j w most it jt so =
     (ap is_none (so.others (10 + (i * m + j)) (inr (omega arith))))
     (low (10 + (i * m + j)) (omega arith))
 
-unequal : (a b : ℕ) → (a ≡ b → ⊥) → (a == b) ≡ false
-unequal a b f = grind (arith, nat_tests)
-
-equal : (a b : ℕ) → a ≡ b → (a == b) ≡ true
-equal a b e = grind (arith, nat_tests)
-
 put_other : (k n : ℕ) (s : Option Stored) (files : ℕ → Option Stored) → (n ≡ k → ⊥) → put k s files n ≡ files n
-put_other k n s files f = rw (unequal n k f) refl
+put_other k n s files f = rw (ne_eqb n k f) refl
 
 put_here : (k n : ℕ) (s : Option Stored) (files : ℕ → Option Stored) → n ≡ k → put k s files n ≡ s
-put_here k n s files e = rw (equal n k e) refl
+put_here k n s files e = rw (eq-eqb n k e) refl
 
 -- the files that stood there keep their bytes
 kept_bytes : (m i j number : ℕ) (w : World) (bytes expected : List ℕ) → number < 10 + (i * m + j) → bytes_of w number ≡ expected
@@ -159,11 +154,8 @@ all_is_made m w most so = record {
 
 -- ---- disks
 
-some_world : (v w : World) → Some v ≡ Some w → v ≡ w
-some_world v w e = cc
-
 pub world_told : (d e : SureDisk) (w : World) → sure_state e ≡ record (sure_state d) { told = Some w } → sure_world e ≡ w
-world_told d e w same = some_world (sure_world e) w (ap (λ s. s.told) same)
+world_told d e w same = same_Some (sure_world e) w (ap (λ s. s.told) same)
 
 -- the same with a path, a time and bytes that are known to be those
 pub dir_fits : (m n : ℕ) (d : SureDisk) (path : Names) (time : FileTime) → path ≡ dir_path n → time ≡ beginning → n < 8 → IsSoFar n m 0 0 (sure_world d)
@@ -191,7 +183,7 @@ file_made m i j d new path time bytes e f g it jt so told =
     subst (IsSoFar 8 m i (j + 1)) (sym w) (file_is_added m i j (sure_world d) it jt so)
 
 pub new_made : (m : ℕ) (d : SureDisk) → sure_state d ≡ state_of (record { world = first_world; live = λ _. None }) 0 0 true → IsSoFar 0 m 0 0 (sure_world d)
-new_made m d e = let w : sure_world d ≡ first_world = some_world (sure_world d) first_world (ap (λ s. s.told) e) in subst (IsSoFar 0 m 0 0) (sym w) (at_first m)
+new_made m d e = let w : sure_world d ≡ first_world = same_Some (sure_world d) first_world (ap (λ s. s.told) e) in subst (IsSoFar 0 m 0 0) (sym w) (at_first m)
 
 pub made_then : {E A B : Type 0} (r : Result Unit E) → (A → B) → OnOk r A → OnOk r B
 made_then (Ok x) f a = f a

@@ -1,11 +1,11 @@
 -- The moves of a trail that answers a request and two polls.
-use Rattle.std.proofs.Common.{◌≡◌, ◌⊎◌, inl, inr, ℕ, zero, suc, ◌+◌, Bool, true, false, List, [], ◌∷◌, ◌++◌, map, Option, None, Some, Result, Ok, Err, refl, sym, ap, ap₂, subst, ◌∙◌, append-nil}
+use Rattle.std.proofs.Common.{◌≡◌, ℕ, List, [], ◌∷◌, ◌++◌, Result, Ok, refl, sym, ap, subst, ◌∙◌, append-nil}
 use Rattle.dav_io.specs.declared.clock.Moment.{Moment}
 use Rattle.dav_io.specs.declared.failure.NoMemory.{NoMemory}
 use Rattle.dav_model.specs.declared.answer.Answer.{Answer}
 use Rattle.dav_model.specs.declared.step.Step.{Step}
 use Rattle.dav_model.specs.declared.step.Step.TheVariants.{Request, Poll, Abandon, Purge, Turn}
-use Rattle.dav_model.specs.Play.{Answered, EachByTree, Ends, Played, PlayedOn, Playing, Plays, Polled, Replies, RepliesByTree, Stage, Stands, StaysOpen, StepByTree, points_from}
+use Rattle.dav_model.specs.Play.{Answered, EachByTree, Ends, PlayedOn, Playing, Plays, Polled, RepliesByTree, Stage, Stands, StepByTree, points_from}
 use Rattle.http.specs.Request.{body_of}
 use Rattle.dav_model.specs.Conditions.{Asked, fields_of}
 use Rattle.dav_model.specs.Trail.{Move, Point, answers_of, last_of, steps_of, target_of}

@@ -1,43 +1,33 @@
 -- What the steps of one file are answered, and that the player is ready for the next.
-use Rattle.std.proofs.Common.{◌≡◌, ◌⊎◌, inl, inr, ℕ, zero, suc, ◌+◌, ◌-◌, ◌*◌, ◌==◌, ◌<◌, ◌≤◌, ◌||◌, Bool, true, false, cond, min, List, [], ◌∷◌, ◌++◌, length, take, drop, replicate, IsTrue, Option, None, Some, is_some, Result, Ok, Err, refl, sym, ap, ap₂, subst, ◌∙◌, arith, append-nil}
+use Rattle.std.proofs.Common.{◌≡◌, inl, inr, ℕ, zero, suc, ◌+◌, ◌-◌, ◌==◌, ◌<◌, ◌≤◌, Bool, true, false, min, List, [], ◌∷◌, ◌++◌, length, take, Option, None, Some, is_some, Ok, refl, sym, ap, ap₂, subst, ◌∙◌, arith, append-nil}
 use Rattle.std.proofs.lemmas.Bool.Decides.{nat_tests}
-use Rattle.std.specs.List.{AllByRecursion, list_any}
 use Rattle.dav_io.specs.Counts.{Rose, greatest}
 use Rattle.dav_io.specs.Told.{Both}
-use Rattle.dav_io.specs.declared.clock.Moment.{Moment}
-use Rattle.dav_io.specs.declared.failure.NoMemory.{NoMemory}
 use Rattle.dav_io.specs.declared.fields.Field.{Field}
 use Rattle.dav_core.specs.declared.method.DavMethod.TheVariants.{Get}
-use Rattle.dav_core.specs.declared.tree.Row.{Row}
-use Rattle.dav_core.specs.declared.time.FileTime.{FileTime}
-use Rattle.dav_core.specs.Tree.{is_linked}
-use Rattle.dav_core.specs.World.{Holds, SameBesidesOpens, World, bytes_of, bytes_or_none, is_numbered, put}
-use Rattle.dav_disk.specs.Memory.{HasRoom}
+use Rattle.dav_core.specs.World.{Holds, SameBesidesOpens, World, bytes_or_none, is_numbered, put}
 use Rattle.dav_model.specs.declared.answer.Answer.{Answer}
-use Rattle.dav_model.specs.declared.answer.Answer.TheVariants.{Reply as Replied, Piece, End, Broken}
+use Rattle.dav_model.specs.declared.answer.Answer.TheVariants.{Reply as Replied, Piece, End}
 use Rattle.dav_model.specs.declared.target.Target.{Target}
 use Rattle.dav_model.specs.declared.target.Target.TheVariants.{At}
 use Rattle.http.specs.Request.{body_of}
-use Rattle.dav_model.specs.Bodies.{Breaks, Gives, Part, PieceOf, Polls, moved, slice, standing_from, read_size_of}
-use Rattle.dav_model.specs.Due.{IsRight, query}
-use Rattle.dav_model.specs.Finding.{shown_in}
+use Rattle.dav_model.specs.Bodies.{Part, PieceOf, Polls, moved, slice, standing_from, read_size_of}
 use Rattle.dav_model.specs.Head.{Reply}
-use Rattle.dav_model.specs.Play.{Answered, Gets, MeetsNoLink, PlayedOn, Playing, Polled, RepliesByTree, Stage}
+use Rattle.dav_model.specs.Play.{Gets, Playing, RepliesByTree, Stage}
 use Rattle.dav_model.specs.Conditions.{Asked, fields_of}
 use Rattle.dav_model.specs.Rules.{Rules}
-use Rattle.dav_model.specs.Trail.{Goes, Leaves, Point, target_of}
-use Rattle.dav_model.specs.Unset.{nothing_set}
-use Rattle.dav_model.specs.Valid.{Occurs, Twinless, Valid, no_twins}
+use Rattle.dav_model.specs.Trail.{Leaves, Point, target_of}
+use Rattle.dav_model.specs.Valid.{Occurs, Valid, no_twins}
 use Rattle.dav_model.specs.Written.{Makes}
 use Rattle.dav_bench.specs.Names.{asked_at}
 use Rattle.dav_bench.specs.Tree.{IsBench, file_row, length_of, letters, rows}
-use Rattle.dav_bench.specs.Asking.{IsAsking, IsReady, bench_rules, steps_for}
+use Rattle.dav_bench.specs.Asking.{IsAsking, IsReady, bench_rules}
 use Rattle.dav_bench.proofs.Lists.{some_file}
 use Rattle.dav_bench.proofs.Standing.{few, small}
 use Rattle.dav_bench.proofs.Building.{rows_have_no_twins}
 use Rattle.dav_bench.proofs.Targets.{asks_at}
-use Rattle.dav_bench.proofs.Due.{IsWhole, bench_query, letters_length, meets_none, reply_is_whole}
-use Rattle.dav_bench.proofs.Moves.{ByTree, ThreeMoves, three_moves}
+use Rattle.dav_bench.proofs.Due.{IsWhole, letters_length, meets_none, reply_is_whole}
+use Rattle.dav_bench.proofs.Moves.{ThreeMoves}
 
 -- ---- worlds
 

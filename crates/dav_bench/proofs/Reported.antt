@@ -1,7 +1,6 @@
 -- What was counted is what the large input has, and its lines are written.
-use Rattle.std.proofs.Common.{◌≡◌, ◌⊎◌, ℕ, ◌+◌, ◌*◌, ◌≤◌, List, ◌++◌, take, sum, Some, Result, Ok, Err, refl, sym, ap, ap₂, subst, ◌∙◌, arith, append-nil}
+use Rattle.std.proofs.Common.{◌≡◌, ℕ, ◌+◌, ◌*◌, List, ◌++◌, take, sum, Some, Result, Err, refl, sym, ap, ap₂, subst, ◌∙◌, arith, append-nil}
 use Rattle.dav_io.specs.Outside.{Stream}
-use Rattle.dav_io.specs.Told.{Both}
 use Rattle.dav_io.specs.declared.failure.NoMemory.{NoMemory}
 use Rattle.dav_io.proofs.ToldLemmas.{both_map, both_same}
 use Rattle.dav_core.specs.World.{World}
@@ -11,6 +10,7 @@ use Rattle.dav_disk.specs.Sure.{sure_state, sure_world}
 use Rattle.dav_bench.specs.declared.counting.Counts.{Counts}
 use Rattle.dav_bench.specs.Counting.{added, nothing_counted, totals_of}
 use Rattle.dav_bench.specs.Report.{Benches, FrontWritten, Reports, Totals, Wrote, lengths, lines, totals}
+use Rattle.std.proofs.lemmas.Option.{same_Some}
 
 same_totals : (t u : Totals) → t.requests ≡ u.requests → t.ok ≡ u.ok → t.pieces ≡ u.pieces → t.bytes ≡ u.bytes → t.listings ≡ u.listings → t ≡ u
 same_totals t u e f g h k =
@@ -51,12 +51,8 @@ none_written m e v = record { listings = 0; count = 0; front = sym (append-nil v
 pub benched_none : (m : ℕ) (e : NoMemory) (s : Stream) → Benches m s (Err e) s
 benched_none m e s = record { counts = omega arith; status = tt; told = both_same s.bytes s.bytes (Wrote m (Err e)) (none_written m e) refl }
 
--- a disk that never lacked a number or a time
-some_world : (v w : World) → Some v ≡ Some w → v ≡ w
-some_world v w e = cc
-
 spared_disk : (d : SureDisk) → (HasRoom (sure_world d) → (sure_state d).faults ≡ 0) → (w : World) → (sure_state d).told ≡ Some w → HasRoom w → (sure_state d).faults ≡ 0
-spared_disk d law w told room = law (subst HasRoom (sym (some_world (sure_world d) w told)) room)
+spared_disk d law w told room = law (subst HasRoom (sym (same_Some (sure_world d) w told)) room)
 
 -- the same by a disk that was lent
 pub spared_lent : (d lent : SureDisk) → lent ≡ d → (HasRoom (sure_world lent) → (sure_state lent).faults ≡ 0) → (w : World) → (sure_state d).told ≡ Some w → HasRoom w

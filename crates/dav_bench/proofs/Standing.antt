@@ -1,20 +1,18 @@
 -- What stands in the tree of the large input, and where a path is found that asks for it.
-use Rattle.std.proofs.Common.{◌≡◌, ◌⊎◌, inl, inr, ℕ, zero, suc, ◌+◌, ◌-◌, ◌*◌, ◌<◌, ◌≤◌, ◌^◌, ◌||◌, ◌&&◌, Bool, true, false, cond, not, List, [], ◌∷◌, ◌++◌, length, map, take, Option, None, Some, Result, Ok, Err, refl, sym, ap, ap₂, ◌∙◌, arith}
-use Rattle.std.specs.List.{AllByRecursion, find}
-use Rattle.dav_core.specs.declared.tree.Row.{Row}
-use Rattle.dav_core.specs.declared.tree.Kind.TheVariants.{Dir, File}
-use Rattle.dav_core.specs.declared.handle.DiskError.{DiskError}
+use Rattle.std.proofs.Common.{◌≡◌, ℕ, ◌<◌, ◌≤◌, ◌^◌, ◌&&◌, true, false, [], ◌∷◌, None, Some, Ok, refl, sym, ap, ap₂, ◌∙◌, arith}
+use Rattle.std.specs.List.{find}
 use Rattle.dav_core.proofs.Plain.{names_same as same}
 use Rattle.dav_core.specs.Path.{Names, same_names, parent_of, is_front}
 use Rattle.dav_core.specs.Tree.{row_at, look, is_linked, is_link, below, standing}
 use Rattle.dav_model.specs.Finding.{is_alike, member, member_or, on_from, resolved_from}
-use Rattle.dav_model.specs.Folds.{Name, fold_name, fold_path, folds_like}
-use Rattle.dav_model.specs.Valid.{are_twins, no_twins}
+use Rattle.dav_model.specs.Folds.{fold_name, fold_path, folds_like}
 use Rattle.dav_model.proofs.LooseWalks.{names_equal}
 use Rattle.dav_bench.specs.Names.{dir_name, file_name, dir_path, file_path, asked_dir, asked_file, asked_path}
-use Rattle.dav_bench.specs.Tree.{root_row, dir_row, file_row, dirs, files_below, rows}
-use Rattle.dav_bench.proofs.Apart.{AreAlike, Twins, alike_parts, alike_dirs, alike_files, differ, dir_asked, file_asked, heads, longer, no_twin, not_asked_dir, not_asked_file, same_dir, same_file, tails, untrue}
+use Rattle.dav_bench.specs.Tree.{root_row, dir_row, file_row, files_below, rows}
+use Rattle.dav_bench.proofs.Apart.{AreAlike, alike_parts, alike_dirs, alike_files, dir_asked, file_asked, heads, longer, not_asked_dir, not_asked_file, same_dir, same_file, tails}
 use Rattle.dav_bench.proofs.Lists.{each_row, find_none, find_only, none_any, some_dir, some_file}
+use Rattle.std.proofs.lemmas.Bool.{or_right, and_from}
+use Rattle.dav_core.proofs.Paths.{names_differ}
 
 -- numbers that are written as they are
 pub small : (n m : ℕ) → n < m → m ≤ 400 → n < 2 ^ 64
@@ -23,20 +21,13 @@ small n m lt le = omega arith
 pub few : (n : ℕ) → n < 8 → n < 2 ^ 64
 few n lt = small n 8 lt (omega arith)
 
-or_second : (a b : Bool) → b ≡ true → (a || b) ≡ true
-or_second true b e = refl
-or_second false b e = e
-
-both_true : (a b : Bool) → a ≡ true → b ≡ true → (a && b) ≡ true
-both_true a b e f = rw (e, f) refl
-
 -- ---- a directory that is asked for
 
 asked_dir_at : (i : ℕ) (m : ℕ) → row_at (rows m) (asked_dir i ∷ []) ≡ None
 asked_dir_at i m = find_none (λ row. same_names (asked_dir i ∷ []) row.path) (rows m) (each_row (λ row. same_names (asked_dir i ∷ []) row.path ≡ false) 8 m
     refl
-    (λ k lt. differ (asked_dir i ∷ []) (dir_path k) (λ e. not_asked_dir i k (heads (asked_dir i) (dir_name k) [] [] e)))
-    (λ k l lt less. differ (asked_dir i ∷ []) (file_path k l) (λ e. let n : 1 ≡ 2 = longer (asked_dir i ∷ []) (file_path k l) e in omega arith)))
+    (λ k lt. names_differ (asked_dir i ∷ []) (dir_path k) (λ e. not_asked_dir i k (heads (asked_dir i) (dir_name k) [] [] e)))
+    (λ k l lt less. names_differ (asked_dir i ∷ []) (file_path k l) (λ e. let n : 1 ≡ 2 = longer (asked_dir i ∷ []) (file_path k l) e in omega arith)))
 
 dir_is : (i k : ℕ) → i < 8 → k < 8 → AreAlike [] (asked_dir i) (dir_row k) → dir_row k ≡ dir_row i
 dir_is i k lt less a =
@@ -47,8 +38,8 @@ dir_is i k lt less a =
 dir_alike : (i : ℕ) → i < 8 → is_alike true [] (asked_dir i) (dir_row i) ≡ true
 dir_alike i lt =
     let e : fold_path (dir_path i) ≡ fold_path (asked_dir i ∷ []) = ap (λ n. n ∷ []) (dir_asked i (few i lt)) in
-    or_second (same_names (asked_dir i ∷ []) (dir_path i)) (same_names (parent_of (dir_path i)) [] && folds_like (dir_path i) (asked_dir i ∷ []))
-    (both_true (same_names (parent_of (dir_path i)) []) (folds_like (dir_path i) (asked_dir i ∷ [])) refl (names_equal (fold_path (dir_path i)) (fold_path (asked_dir i ∷ [])) e))
+    or_right (same_names (asked_dir i ∷ []) (dir_path i)) (same_names (parent_of (dir_path i)) [] && folds_like (dir_path i) (asked_dir i ∷ []))
+    (and_from (same_names (parent_of (dir_path i)) []) (folds_like (dir_path i) (asked_dir i ∷ [])) refl (names_equal (fold_path (dir_path i)) (fold_path (asked_dir i ∷ [])) e))
 
 asked_dir_like : (i m : ℕ) → i < 8 → find (is_alike true [] (asked_dir i)) (rows m) ≡ Some (dir_row i)
 asked_dir_like i m lt = find_only (is_alike true [] (asked_dir i)) (dir_row i) (rows m) (each_row (λ row. is_alike true [] (asked_dir i) row ≡ true → row ≡ dir_row i) 8 m
@@ -67,8 +58,8 @@ member_dir i m lt = ap₂ member_or (asked_dir_at i m) (asked_dir_like i m lt)
 asked_file_at : (i j m : ℕ) → row_at (rows m) (dir_name i ∷ asked_file j ∷ []) ≡ None
 asked_file_at i j m = find_none (λ row. same_names (dir_name i ∷ asked_file j ∷ []) row.path) (rows m) (each_row (λ row. same_names (dir_name i ∷ asked_file j ∷ []) row.path ≡ false) 8 m
     refl
-    (λ k lt. differ (dir_name i ∷ asked_file j ∷ []) (dir_path k) (λ e. let n : 2 ≡ 1 = longer (dir_name i ∷ asked_file j ∷ []) (dir_path k) e in omega arith))
-    (λ k l lt less. differ (dir_name i ∷ asked_file j ∷ []) (file_path k l) (λ e.
+    (λ k lt. names_differ (dir_name i ∷ asked_file j ∷ []) (dir_path k) (λ e. let n : 2 ≡ 1 = longer (dir_name i ∷ asked_file j ∷ []) (dir_path k) e in omega arith))
+    (λ k l lt less. names_differ (dir_name i ∷ asked_file j ∷ []) (file_path k l) (λ e.
     not_asked_file j l (heads (asked_file j) (file_name l) [] [] (tails (dir_name i) (dir_name k) (asked_file j ∷ []) (file_name l ∷ []) e)))))
 
 other_file : (i j k l : ℕ) → dir_name i ∷ asked_file j ∷ [] ≡ file_path k l → ⊥
@@ -85,8 +76,8 @@ file_is m i j k l most it jt kt lt a =
 file_alike : (m i j : ℕ) → m ≤ 400 → j < m → is_alike true (dir_path i) (asked_file j) (file_row m i j) ≡ true
 file_alike m i j most lt =
     let e : fold_path (file_path i j) ≡ fold_path (dir_name i ∷ asked_file j ∷ []) = ap (λ n. fold_name (dir_name i) ∷ n ∷ []) (file_asked j (small j m lt most)) in
-    or_second (same_names (dir_name i ∷ asked_file j ∷ []) (file_path i j)) (same_names (parent_of (file_path i j)) (dir_path i) && folds_like (file_path i j) (dir_name i ∷ asked_file j ∷ []))
-    (both_true (same_names (parent_of (file_path i j)) (dir_path i)) (folds_like (file_path i j) (dir_name i ∷ asked_file j ∷ []))
+    or_right (same_names (dir_name i ∷ asked_file j ∷ []) (file_path i j)) (same_names (parent_of (file_path i j)) (dir_path i) && folds_like (file_path i j) (dir_name i ∷ asked_file j ∷ []))
+    (and_from (same_names (parent_of (file_path i j)) (dir_path i)) (folds_like (file_path i j) (dir_name i ∷ asked_file j ∷ []))
     (names_equal (parent_of (file_path i j)) (dir_path i) refl) (names_equal (fold_path (file_path i j)) (fold_path (dir_name i ∷ asked_file j ∷ [])) e))
 
 asked_file_like : (m i j : ℕ) → m ≤ 400 → i < 8 → j < m → find (is_alike true (dir_path i) (asked_file j)) (rows m) ≡ Some (file_row m i j)

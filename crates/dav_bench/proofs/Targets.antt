@@ -1,22 +1,19 @@
 -- What the large input asks for is what its text says.
-use Rattle.std.proofs.Common.{◌≡◌, ℕ, zero, suc, ◌+◌, ◌<◌, ◌≤◌, ◌^◌, ◌==◌, ◌||◌, ◌&&◌, Bool, true, false, cond, not, nat_le, nat_eq, List, [], ◌∷◌, ◌++◌, length, map, flat_map, codes, decimal, Ok, Err, refl, sym, ap, ap₂, ◌∙◌, arith, append_assoc, append-nil}
+use Rattle.std.proofs.Common.{◌≡◌, ℕ, suc, ◌<◌, ◌≤◌, ◌^◌, ◌==◌, ◌&&◌, Bool, true, false, List, [], ◌∷◌, ◌++◌, length, codes, decimal, Ok, refl, sym, ap, ap₂, ◌∙◌, arith, append-nil}
 use Rattle.std.proofs.lemmas.Bool.Decides.{nat_tests}
 use Rattle.std.proofs.lemmas.Str.{IsUtf8-from_ascii, is_utf8-from_IsUtf8}
-use Rattle.std.specs.List.{AllByRecursion, list_any, list_all}
+use Rattle.std.specs.List.{AllByRecursion, list_any}
 use Rattle.std.specs.Str.{is_utf8}
 use Rattle.http.specs.Request.{head_of, body_of}
-use Rattle.http_uri.specs.Uri.{uri_path}
 use Rattle.dav_core.specs.declared.method.DavMethod.TheVariants.{Get}
-use Rattle.dav_core.specs.DavPath.{WebPath, IsPath, are_texts, link_byte, link_of, shown, stays}
+use Rattle.dav_core.specs.DavPath.{IsPath, link_byte, link_of, shown, stays}
 use Rattle.dav_core.specs.Grammar.{parsed}
 use Rattle.dav_core.specs.Methods.{method_of}
 use Rattle.dav_core.specs.Path.{all_plain, is_plain, parts_names}
 use Rattle.dav_core.proofs.Back.{parsed_back}
-use Rattle.dav_model.specs.declared.target.Target.{Target}
 use Rattle.dav_model.specs.declared.target.Target.TheVariants.{At}
-use Rattle.dav_model.specs.Conditions.{Fields, Asked, fields_of}
-use Rattle.dav_model.specs.Gates.{admitted, bulk_of, gates, weighed, with_method, with_path}
-use Rattle.dav_model.specs.Rules.{Rules}
+use Rattle.dav_model.specs.Conditions.{Asked}
+use Rattle.dav_model.specs.Gates.{admitted, bulk_of, weighed, with_method, with_path}
 use Rattle.dav_model.specs.Trail.{target_of}
 use Rattle.dav_model.specs.Unset.{nothing_set}
 use Rattle.dav_bench.specs.Names.{dir_name, file_name, dir_path, file_path, asked_dir, asked_file, asked_at, target}

@@ -1,5 +1,5 @@
 -- What is written of the large input: five lines with what was counted.
-use Rattle.std.specs.Prelude.{◌≡◌, ◌≤◌, ◌+◌, ◌*◌, ◌⊎◌, ℕ, List, ◌++◌, codes, decimal, flat_map, map, sum, take, Result, Ok, IfOk}
+use Rattle.std.specs.Prelude.{◌≡◌, ◌≤◌, ◌*◌, ◌⊎◌, ℕ, List, ◌++◌, codes, decimal, flat_map, map, sum, take, Result, Ok, IfOk}
 use Rattle.dav_io.specs.Counts.{Rose}
 use Rattle.dav_io.specs.Outside.{Stream}
 use Rattle.dav_io.specs.Told.{Both}

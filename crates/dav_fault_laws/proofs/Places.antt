@@ -1,54 +1,24 @@
 -- Members of a directory have places of their own.
-use Rattle.std.proofs.Common.{◌≡◌, ◌==◌, ◌+◌, ◌-◌, ◌&&◌, ℕ, zero, suc, Bool, true, false, not, cond, List, [], ◌∷◌, ◌++◌, length, map, take, Option, None, Some, refl, sym, ap, ◌∙◌, arith, length-append}
-use Rattle.std.specs.List.{AllByRecursion, filter, list_all, slice_get}
-use Rattle.std.proofs.Math.Seq.{get_or-append_seam}
+use Rattle.std.proofs.Common.{◌≡◌, ◌==◌, ◌+◌, ◌-◌, ◌&&◌, ℕ, Bool, true, false, not, cond, List, [], ◌∷◌, ◌++◌, map, Option, None, Some, refl, sym, ap, ◌∙◌, arith}
+use Rattle.std.specs.List.{AllByRecursion, filter, list_all}
 use Rattle.std.proofs.lemmas.List.{append_cancel_right}
-use Rattle.std.proofs.lemmas.Option.{slice_get-get_or}
 use Rattle.std.specs.Str.{bytes_eq}
-use Rattle.std.proofs.lemmas.Bool.{and_parts}
-use Rattle.std.proofs.lemmas.Bool.Decides.{nat_tests}
+use Rattle.std.proofs.lemmas.Bool.{and_parts, false_from_ne_true, not-true}
 use Rattle.std.proofs.lemmas.Slice.Eq.{bytes_eq-Decides}
 use Rattle.dav_core.specs.declared.member.Member.{Member}
 use Rattle.dav_core.specs.declared.tree.Row.{Row}
-use Rattle.dav_core.specs.DavPath.{final_slash, last_name}
-use Rattle.dav_core.specs.Listing.{name_of, or_empty, stands_in}
+use Rattle.dav_core.specs.DavPath.{final_slash}
+use Rattle.dav_core.specs.Listing.{name_of, stands_in}
 use Rattle.dav_core.specs.Members.{member_of, members}
-use Rattle.dav_core.specs.Path.{Names, is_front, same_names}
+use Rattle.dav_core.specs.Path.{Names, same_names}
 use Rattle.dav_core.specs.Tree.{has_dir, is_apart, is_dir, is_free, is_placed}
 use Rattle.dav_core.specs.World.{IsWorld, World}
-use Rattle.dav_disk.proofs.Trees.{false_or, not_both, not_true, same_refl, same_yes}
+use Rattle.dav_disk.proofs.Trees.{not_both}
 use Rattle.dav_page.specs.Listed.{place_of}
+use Rattle.dav_core.proofs.Paths.{names_equal}
+use Rattle.dav_core.proofs.Rows.{path_in}
 
 -- ---- paths of rows in a directory
-
-nothing : (path : Names) → length path ≡ 0 → path ≡ []
-nothing [] e = refl
-nothing (x ∷ path) e = absurd (omega arith)
-
-last_at : (path : Names) (n : ℕ) → length path ≡ n + 1 → (x : List ℕ) × (path ≡ take n path ++ x ∷ [])
-last_at [] n e = absurd (omega arith)
-last_at (x ∷ path) zero e = let none : length path ≡ 0 = omega arith in (x, ap (λ names. x ∷ names) (nothing path none))
-last_at (x ∷ path) (suc n) e = let rest = last_at path n (omega arith) in (rest.0, ap (λ names. x ∷ names) rest.1)
-
--- the last name of what is pushed
-last_pushed : (dir : Names) (name : List ℕ) → or_empty (last_name (dir ++ name ∷ [])) ≡ name
-last_pushed dir name =
-    let long : length (dir ++ name ∷ []) ≡ length dir + 1 = length-append dir (name ∷ []) in
-    let place : length (dir ++ name ∷ []) - 1 ≡ length dir = omega (arith, long) in
-    ap or_empty (ap (slice_get (dir ++ name ∷ [])) place ∙ (slice_get-get_or (dir ++ name ∷ []) (length dir) name (omega (arith, long)) ∙ ap (λ x. Some x) (get_or-append_seam dir name [] name)))
-
--- a path in a directory, by the name behind it
-path_by : (dir : Names) (x : List ℕ) (row : Row) → row.path ≡ take (length dir) row.path ++ x ∷ [] → dir ≡ take (length dir) row.path → row.path ≡ dir ++ name_of row ∷ []
-path_by dir x row is front =
-    let path : row.path ≡ dir ++ x ∷ [] = is ∙ ap (λ z. z ++ x ∷ []) (sym front) in
-    path ∙ ap (λ z. dir ++ z ∷ []) (sym (ap (λ z. or_empty (last_name z)) path ∙ last_pushed dir x))
-
-path_in : (dir : Names) (row : Row) → stands_in dir row ≡ true → row.path ≡ dir ++ name_of row ∷ []
-path_in dir row stands =
-    let p = and_parts (length row.path == length dir + 1) (is_front dir row.path) stands in
-    let long : length row.path ≡ length dir + 1 = grind (arith, nat_tests, p.0) in
-    let last = last_at row.path (length dir) long in
-    path_by dir last.0 row last.1 (same_yes dir (take (length dir) row.path) p.1)
 
 -- ---- places
 
@@ -93,13 +63,13 @@ rows_apart w dir r (s ∷ rows) free stands = by_row (stands_in dir s) refl (row
     parts = and_parts (not (same_names s.path r.path) && not (s.number == r.number)) (is_free rows r) free
 
     other : same_names s.path r.path ≡ false
-    other = not_true (same_names s.path r.path) (and_parts (not (same_names s.path r.path)) (not (s.number == r.number)) parts.0).0
+    other = not-true (same_names s.path r.path) (and_parts (not (same_names s.path r.path)) (not (s.number == r.number)) parts.0).0
 
     apart : stands_in dir s ≡ true → alike (member_of w s) (member_of w r) ≡ false
-    apart there = false_or (alike (member_of w s) (member_of w r)) (λ e.
+    apart there = false_from_ne_true (alike (member_of w s) (member_of w r)) (λ e.
         let name : name_of s ≡ name_of r = same_place (member_of w s) (member_of w r) ((bytes_eq-Decides (place_of (member_of w s)) (place_of (member_of w r))).0 e) in
         let path : s.path ≡ r.path = path_in dir s there ∙ (ap (λ z. dir ++ z ∷ []) name ∙ sym (path_in dir r stands)) in
-        not_both (same_names s.path r.path) (same_refl s.path r.path path) other)
+        not_both (same_names s.path r.path) (names_equal s.path r.path path) other)
 
     by_row : (b : Bool) → stands_in dir s ≡ b → AllByRecursion (λ n. alike n (member_of w r) ≡ false) (map (member_of w) (filter (stands_in dir) rows))
         → AllByRecursion (λ n. alike n (member_of w r) ≡ false) (map (member_of w) (cond b (s ∷ filter (stands_in dir) rows) (filter (stands_in dir) rows)))

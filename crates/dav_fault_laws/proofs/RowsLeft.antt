@@ -1,6 +1,5 @@
 -- The rows that a page has left are a part of its rows, in their order.
-use Rattle.std.proofs.Common.{◌≡◌, ◌==◌, ◌<◌, ◌≤◌, ◌⊎◌, inl, inr, ℕ, suc, Bool, true, false, cond, List, [], ◌∷◌, ◌++◌, length, get_or, refl, sym, ap, subst, ◌∙◌, arith, add-one}
-use Rattle.std.proofs.lemmas.Bool.Decides.{nat_tests}
+use Rattle.std.proofs.Common.{◌≡◌, ◌<◌, ◌≤◌, ◌⊎◌, inl, inr, ℕ, suc, Bool, true, false, cond, List, [], ◌∷◌, ◌++◌, length, get_or, refl, sym, ap, subst, ◌∙◌, arith, add-one}
 use Rattle.std.proofs.lemmas.List.Elements.{All-from_recursion, recursion_from_All}
 use Rattle.std.proofs.lemmas.List.Sorted.{All-permutation, ranks_by, sum_by-IsPermutation}
 use Rattle.std.proofs.lemmas.List.Sums.{sum_by-append, sum_by-cons}
@@ -9,10 +8,8 @@ use Rattle.std.specs.Cmp.{IsStrictWeakOrder}
 use Rattle.std.specs.Cmp.Lexicographic.{nat_list_cmp_total, slice_cmp}
 use Rattle.std.specs.List.{AllByRecursion, AllZip, filter, sum_by}
 use Rattle.std.specs.List.Sorted.{IsPermutation, IsSortedByKey}
-use Rattle.std.specs.Ordering.{is_lt, nat_cmp, ordering_then}
-use Rattle.std.specs.Prelude.{nat_lt}
+use Rattle.std.specs.Ordering.{is_lt, nat_cmp}
 use Rattle.std.specs.Str.{bytes_eq}
-use Rattle.std.specs.declared.cmp.Ordering.TheVariants.{Less, Equal, Greater}
 use Rattle.dav_core.specs.declared.member.Member.{Member}
 use Rattle.dav_core.specs.DavPath.{WebPath}
 use Rattle.dav_core.specs.Members.{members}
@@ -23,6 +20,7 @@ use Rattle.dav_page.specs.declared.row.PageRow.{PageRow}
 use Rattle.dav_fault_laws.specs.Parts.{IsPart}
 use Rattle.dav_fault_laws.proofs.Dates.{one_row}
 use Rattle.dav_fault_laws.proofs.Places.{IsFound, alike, all_found, members_apart, one_found}
+use Rattle.dav_core.proofs.ByteOrder.{not_itself, same_name}
 
 -- ---- the order of places
 
@@ -31,31 +29,6 @@ below x y = is_lt (slice_cmp nat_cmp x y)
 
 order : IsStrictWeakOrder below
 order = ranks_by nat_list_cmp_total (λ (x : List ℕ). x)
-
-not_itself : (x : List ℕ) → below x x ≡ false
-not_itself x = by_bool (below x x) refl
-  where
-    by_bool : (b : Bool) → below x x ≡ b → b ≡ false
-    by_bool true e = let f : below x x ≡ false = order.one_way x x e in sym e ∙ f
-    by_bool false e = refl
-
-same_heads : (a b : ℕ) (x y : List ℕ) (l e m f : Bool) → nat_lt a b ≡ l → (a == b) ≡ e → nat_lt b a ≡ m → (b == a) ≡ f → (below x y ≡ false → below y x ≡ false → x ≡ y)
-    → is_lt (ordering_then (cond l Less (cond e Equal Greater)) (slice_cmp nat_cmp x y)) ≡ false → is_lt (ordering_then (cond m Less (cond f Equal Greater)) (slice_cmp nat_cmp y x)) ≡ false
-    → ◌≡◌ {A = List ℕ} (a ∷ x) (b ∷ y)
-same_heads a b x y true e m f p q r s next first second = cc
-same_heads a b x y false e true f p q r s next first second = cc
-same_heads a b x y false true false true p q r s next first second =
-    let same : a ≡ b = grind (arith, nat_tests) in
-    ap (λ n. n ∷ x) same ∙ ap (λ z. b ∷ z) (next first second)
-same_heads a b x y false false false f p q r s next first second = absurd (grind (arith, nat_tests))
-same_heads a b x y false true false false p q r s next first second = absurd (grind (arith, nat_tests))
-
--- places of which neither is below the other are the same
-same_key : (x y : List ℕ) → below x y ≡ false → below y x ≡ false → x ≡ y
-same_key [] [] p q = refl
-same_key [] (b ∷ y) p q = cc
-same_key (a ∷ x) [] p q = cc
-same_key (a ∷ x) (b ∷ y) p q = same_heads a b x y (nat_lt a b) (a == b) (nat_lt b a) (b == a) refl refl refl refl (same_key x y) p q
 
 -- ---- members that ascend
 
@@ -135,7 +108,7 @@ fewer_without x y xs ys up down other fewer k = by_bool (bytes_eq k (place_of y)
 
     none : 0 < count (place_of y) (x ∷ xs) → ⊥
     none some =
-        let same : place_of x ≡ place_of y = same_key (place_of x) (place_of y) there (back some) in
+        let same : place_of x ≡ place_of y = same_name (place_of x) (place_of y) there (back some) in
         let bad : true ≡ false = sym ((bytes_eq-Decides (place_of x) (place_of y)).1 same) ∙ other in cc
 
     by_bool : (b : Bool) → bytes_eq k (place_of y) ≡ b → count k (x ∷ xs) ≤ count k ys

@@ -2,7 +2,7 @@
 use Rattle.std.proofs.Common.{inr, ◌<◌, ℕ}
 use Rattle.dav_core.specs.DavPath.{WebPath}
 use Rattle.dav_fetch.specs.declared.error.MirrorError.{MirrorError}
-use Rattle.dav_fetch.specs.declared.error.MirrorError.TheVariants.{Peer as PeerFailed, Refused, NotAPage, BadReply, Short, TooLong, Budget, NoMemory}
+use Rattle.dav_fetch.specs.declared.error.MirrorError.TheVariants.{Peer as PeerFailed, Refused, Short, Budget, NoMemory}
 use Rattle.dav_fetch.specs.Fetching.{NotAsked, link_is_short}
 use Rattle.dav_fetch.specs.Peer.{PeerState}
 use Rattle.dav_fetch.specs.Steps.{NotGot}
@@ -11,8 +11,6 @@ pub not_got : (path : WebPath) (made most : ℕ) (e : MirrorError) (s t : PeerSt
 not_got path made most PeerFailed s t few short h = (short, few, h)
 not_got path made most NoMemory s t few short h = inr (few, short, h)
 not_got path made most (Refused p status) s t few short h = absurd h
-not_got path made most (NotAPage p) s t few short h = absurd h
-not_got path made most (BadReply p) s t few short h = absurd h
 not_got path made most (Short p got announced) s t few short h = absurd h
-not_got path made most (TooLong p) s t few short h = absurd h
 not_got path made most (Budget m) s t few short h = absurd h
+not_got path made most other s t few short h = absurd h

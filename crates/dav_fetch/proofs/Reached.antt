@@ -52,11 +52,9 @@ none_other : (w : World) (e : MirrorError) (new : Copied) → (IsOther e → ⊥
 none_other w NoMemory new never = tt
 none_other w PeerFailed new never = never tt
 none_other w (Refused p status) new never = never tt
-none_other w (NotAPage p) new never = never tt
-none_other w (BadReply p) new never = never tt
 none_other w (Short p got announced) new never = never tt
-none_other w (TooLong p) new never = never tt
 none_other w (Budget m) new never = never tt
+none_other w other new never = never tt
 
 same_count : (s t : PeerState) → t ≡ s → s.faults ≤ t.faults
 same_count s t e = let f : t.faults ≡ s.faults = ap (λ (x : PeerState). x.faults) e in omega (arith, f)
@@ -92,20 +90,16 @@ gives_ends_counts path f n visit (Short p got announced) s t room other h = same
 gives_ends_counts path f n visit PeerFailed s t room other h = risen s.faults t.faults room h.1
 gives_ends_counts path f n visit NoMemory s t room other h = absurd other
 gives_ends_counts path f n visit (Refused p status) s t room other h = absurd h
-gives_ends_counts path f n visit (NotAPage p) s t room other h = absurd h
-gives_ends_counts path f n visit (BadReply p) s t room other h = absurd h
-gives_ends_counts path f n visit (TooLong p) s t room other h = absurd h
 gives_ends_counts path f n visit (Budget m) s t room other h = absurd h
+gives_ends_counts path f n visit any s t room other h = absurd h
 
 refuses_ends_counts : (path : Names) (visit : Visit) (e : MirrorError) (s t : PeerState) → IsOther e → FileEnds path refuses visit e s t → s.faults ≤ t.faults
 refuses_ends_counts path visit (Refused p status) s t other h = same_count s t h.2
 refuses_ends_counts path visit PeerFailed s t other h = absurd h
 refuses_ends_counts path visit NoMemory s t other h = absurd other
-refuses_ends_counts path visit (NotAPage p) s t other h = absurd h
-refuses_ends_counts path visit (BadReply p) s t other h = absurd h
 refuses_ends_counts path visit (Short p got announced) s t other h = absurd h
-refuses_ends_counts path visit (TooLong p) s t other h = absurd h
 refuses_ends_counts path visit (Budget m) s t other h = absurd h
+refuses_ends_counts path visit any s t other h = absurd h
 
 spoils_ends_counts : (path : Names) (visit : Visit) (e : MirrorError) (s t : PeerState) → IsOther e → FileEnds path spoils visit e s t → s.faults ≤ t.faults
 spoils_ends_counts path visit (BadReply p) s t other h = same_count s t h.1
@@ -121,11 +115,9 @@ keeps_ends_never : (path : Names) (visit : Visit) (e : MirrorError) (s t : PeerS
 keeps_ends_never path visit NoMemory s t other h = other
 keeps_ends_never path visit PeerFailed s t other h = h
 keeps_ends_never path visit (Refused p status) s t other h = h
-keeps_ends_never path visit (NotAPage p) s t other h = h
-keeps_ends_never path visit (BadReply p) s t other h = h
 keeps_ends_never path visit (Short p got announced) s t other h = h
-keeps_ends_never path visit (TooLong p) s t other h = h
 keeps_ends_never path visit (Budget m) s t other h = h
+keeps_ends_never path visit any s t other h = h
 
 file_ends_counts : (path : Names) (worth : Use) (visit : Visit) (e : MirrorError) (s t : PeerState) → t.faults < greatest → IsOther e → FileEnds path worth visit e s t → s.faults ≤ t.faults
 file_ends_counts path (gives f n) visit e s t room other h = gives_ends_counts path f n visit e s t room other h

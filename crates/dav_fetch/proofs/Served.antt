@@ -1,7 +1,7 @@
 -- Where a told peer answers a file's request with 200, 206 or 304, a file stands there, and this is sent of it.
 use Rattle.std.proofs.Common.{◌≡◌, inl, inr, ◌==◌, ◌||◌, ℕ, Bool, true, false, Result, Ok, Err, refl, sym, ap, subst, ◌∙◌, true≢false}
 use Rattle.dav_core.specs.declared.handle.DiskError.{DiskError}
-use Rattle.dav_core.specs.declared.handle.DiskError.TheVariants.{NotFound, Exists, NotDir, IsDir, NotEmpty, Failed, NoMemory}
+use Rattle.dav_core.specs.declared.handle.DiskError.TheVariants.{NotFound}
 use Rattle.dav_core.specs.declared.method.DavMethod.TheVariants.{Get}
 use Rattle.dav_core.specs.declared.tree.Kind.{Kind}
 use Rattle.dav_core.specs.declared.tree.Kind.TheVariants.{Dir, File, Link}
@@ -61,12 +61,7 @@ due_is w fields names (Ok row) is =
 -- none of the disk's refusals has such a status
 refusals_arent : (e : DiskError) → is_awaited (fs_status (fs_error_of e)) ≡ false
 refusals_arent NotFound = refl
-refusals_arent Exists = refl
-refusals_arent NotDir = refl
-refusals_arent IsDir = refl
-refusals_arent NotEmpty = refl
-refusals_arent Failed = refl
-refusals_arent NoMemory = refl
+refusals_arent other = refl
 
 never : {A : Type 0} (reply : Reply) (status : ℕ) → is_awaited reply.status ≡ true → reply.status ≡ status → is_awaited status ≡ false → A
 never reply status awaited is not = absurd (true≢false (sym awaited ∙ ap is_awaited is ∙ not))

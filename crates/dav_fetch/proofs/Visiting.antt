@@ -5,7 +5,7 @@ use Rattle.dav_core.specs.DavPath.{WebPath}
 use Rattle.dav_core.specs.Path.{Names}
 use Rattle.dav_fetch.specs.declared.copied.Kept.{Kept}
 use Rattle.dav_fetch.specs.declared.error.MirrorError.{MirrorError}
-use Rattle.dav_fetch.specs.declared.error.MirrorError.TheVariants.{Peer as PeerFailed, Refused, NotAPage, BadReply, Short, TooLong, Budget, NoMemory}
+use Rattle.dav_fetch.specs.declared.error.MirrorError.TheVariants.{Peer as PeerFailed, Refused, BadReply, Short, Budget, NoMemory}
 use Rattle.dav_fetch.specs.declared.peer.Got.{Got}
 use Rattle.dav_fetch.specs.declared.taking.Taken.{Taken}
 use Rattle.dav_fetch.specs.Asking.{asked_for, awaits, dir_path, file_path}
@@ -38,10 +38,8 @@ bytes_visit path names f n visit (Err (Short p got announced)) s t is (at, b, c,
 bytes_visit path names f n visit (Err PeerFailed) s t is h = h
 bytes_visit path names f n visit (Err NoMemory) s t is h = h
 bytes_visit path names f n visit (Err (Refused p status)) s t is h = absurd h
-bytes_visit path names f n visit (Err (NotAPage p)) s t is h = absurd h
-bytes_visit path names f n visit (Err (BadReply p)) s t is h = absurd h
-bytes_visit path names f n visit (Err (TooLong p)) s t is h = absurd h
 bytes_visit path names f n visit (Err (Budget m)) s t is h = absurd h
+bytes_visit path names f n visit (Err other) s t is h = absurd h
 
 pub refused_visit : (path : WebPath) (names : Names) (visit : Visit) (e : MirrorError) (s : PeerState) → path ≡ file_path names → (e ≡ Refused path visit.got.status) ⊎ (e ≡ NoMemory) → FileEnds names refuses visit e s s
 refused_visit path names visit e s is (inl so) = subst (λ x. FileEnds names refuses visit x s s) (sym so) (is, refl, refl)

@@ -13,7 +13,7 @@ use Rattle.dav_upload.specs.Shown.{IsCommitted, SameShown}
 use Rattle.dav_upload.specs.Steps.{is_fault}
 use Rattle.dav_upload.proofs.Moving.{never}
 use Rattle.dav_put.specs.declared.running.Ending.{Ending}
-use Rattle.dav_put.specs.declared.running.Ending.TheVariants.{Busy, DiskFailed, Done, NoMemory, Refused as RefusedWith, SourceFailed, Words}
+use Rattle.dav_put.specs.declared.running.Ending.TheVariants.{DiskFailed, Done, NoMemory, Refused as RefusedWith}
 use Rattle.dav_put.specs.declared.storing.Stop.TheVariants.{Refused}
 use Rattle.dav_put.specs.Ending.{ending_by, ending_of, is_failure}
 use Rattle.dav_put.specs.Whole.{EndedBy, EndsWhole, StoredWhole}
@@ -31,9 +31,7 @@ ends_so e Done target bytes v w ended stored = absurd ended
 ends_so e DiskFailed target bytes v w ended stored = either e target bytes v w stored
 ends_so e NoMemory target bytes v w ended stored = either e target bytes v w stored
 ends_so e (RefusedWith status) target bytes v w ended stored = only_same e target bytes v w stored ended
-ends_so e Busy target bytes v w ended stored = only_same e target bytes v w stored ended
-ends_so e Words target bytes v w ended stored = only_same e target bytes v w stored ended
-ends_so e SourceFailed target bytes v w ended stored = only_same e target bytes v w stored ended
+ends_so e other target bytes v w ended stored = only_same e target bytes v w stored ended
 
 -- ---- the ending of a refusal
 
@@ -41,20 +39,11 @@ fault_of : (d : DavError) → is_fault (Dav d) ≡ is_failure d
 fault_of (dav.Status code) = refl
 fault_of (dav.StatusClose code) = refl
 fault_of (dav.Path e) = refl
-fault_of (dav.Fs fs.NotFound) = refl
-fault_of (dav.Fs fs.Forbidden) = refl
-fault_of (dav.Fs fs.Exists) = refl
-fault_of (dav.Fs fs.GeneralFailure) = refl
-fault_of (dav.Fs fs.NotImplemented) = refl
-fault_of (dav.Fs fs.InsufficientStorage) = refl
-fault_of (dav.Fs fs.LoopDetected) = refl
-fault_of (dav.Fs fs.PathTooLong) = refl
-fault_of (dav.Fs fs.TooLarge) = refl
-fault_of (dav.Fs fs.IsRemote) = refl
-fault_of (dav.Fs fs.NoMemory) = refl
 fault_of dav.Body = refl
 fault_of dav.UnknownDavMethod = refl
 fault_of dav.NoMemory = refl
+fault_of (dav.Fs fs.NotFound) = refl
+fault_of (dav.Fs other) = refl
 
 ended_by_store : (d : DavError) → EndedBy (Dav d) (ending_by d)
 ended_by_store d = by (lacks_memory d) (is_failure d) refl

@@ -17,8 +17,8 @@ use Rattle.dav_methods.specs.Answers.{RefusesUsually, Usual}
 use Rattle.dav_methods.specs.Lines.{Given}
 use Rattle.dav_methods.specs.Pouring.{Writes}
 use Rattle.dav_methods.specs.Putting.{MayPut}
-use Rattle.dav_methods.proofs.AnswersListed.{IsListed, put_listed}
-use Rattle.dav_methods.proofs.RemovalsListed.{unread_listed}
+use Rattle.dav_methods.proofs.AnswersListed.{put_listed, unread_listed}
+use Rattle.dav_methods.proofs.LinesListed.{IsListed}
 use Rattle.dav_upload.specs.declared.error.UploadError.{UploadError}
 use Rattle.dav_upload.specs.declared.error.UploadError.TheVariants as upload
 use Rattle.dav_upload.specs.declared.error.UploadError.TheVariants.{Busy, Dav}
@@ -47,20 +47,11 @@ failure_of : (d : DavError) → is_failure d ≡ true → d ≡ dav.Fs fs.Genera
 failure_of (dav.Status code) e = cc
 failure_of (dav.StatusClose code) e = cc
 failure_of (dav.Path fault) e = cc
-failure_of (dav.Fs fs.NotFound) e = cc
-failure_of (dav.Fs fs.Forbidden) e = cc
-failure_of (dav.Fs fs.Exists) e = cc
 failure_of (dav.Fs fs.GeneralFailure) e = refl
-failure_of (dav.Fs fs.NotImplemented) e = cc
-failure_of (dav.Fs fs.InsufficientStorage) e = cc
-failure_of (dav.Fs fs.LoopDetected) e = cc
-failure_of (dav.Fs fs.PathTooLong) e = cc
-failure_of (dav.Fs fs.TooLarge) e = cc
-failure_of (dav.Fs fs.IsRemote) e = cc
-failure_of (dav.Fs fs.NoMemory) e = cc
 failure_of dav.Body e = cc
 failure_of dav.UnknownDavMethod e = cc
 failure_of dav.NoMemory e = cc
+failure_of (dav.Fs other) e = cc
 
 ended_failed : (d : DavError) → ending_by d ≡ ends.DiskFailed → is_failure d ≡ true
 ended_failed d is = by (lacks_memory d) (is_failure d) refl is
@@ -84,30 +75,12 @@ failed_put d is = by (lacks_memory d) is
     by false e = cc
 
 failed_call : (e : FsError) → refused_by e ≡ Failure → e ≡ fs.GeneralFailure
-failed_call fs.NotFound is = cc
-failed_call fs.Forbidden is = cc
-failed_call fs.Exists is = cc
 failed_call fs.GeneralFailure is = refl
-failed_call fs.NotImplemented is = cc
-failed_call fs.InsufficientStorage is = cc
-failed_call fs.LoopDetected is = cc
-failed_call fs.PathTooLong is = cc
-failed_call fs.TooLarge is = cc
-failed_call fs.IsRemote is = cc
-failed_call fs.NoMemory is = cc
+failed_call other is = cc
 
 failed_opening : (name : List ℕ) (e : FsError) → refused_opening name e ≡ Failure → e ≡ fs.GeneralFailure
-failed_opening name fs.NotFound is = cc
-failed_opening name fs.Forbidden is = cc
-failed_opening name fs.Exists is = cc
 failed_opening name fs.GeneralFailure is = refl
-failed_opening name fs.NotImplemented is = cc
-failed_opening name fs.InsufficientStorage is = cc
-failed_opening name fs.LoopDetected is = cc
-failed_opening name fs.PathTooLong is = cc
-failed_opening name fs.TooLarge is = cc
-failed_opening name fs.IsRemote is = cc
-failed_opening name fs.NoMemory is = cc
+failed_opening name other is = cc
 
 module _ {S C F L E : Type 0} (view : View S C F) (lists : Listings S C L E) (writes : Writes F) (c : C) (few : RefusesUsually view lists writes c) where
   abbrev Counts : S → S → Type 0

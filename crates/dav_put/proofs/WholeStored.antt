@@ -23,7 +23,7 @@ use Rattle.dav_upload.specs.Standing.{StandsIn}
 use Rattle.dav_upload.specs.Steps.{Committed, IsBeside, IsClear, SameLinks}
 use Rattle.dav_upload.specs.Takes.{TakesUploads}
 use Rattle.dav_upload.specs.Uploading.{Aborts, AfterJudging, Begins, BeginsAs, Commits, Judges, PieceOn, WritesPiece, begun as upload_begun}
-use Rattle.dav_upload.proofs.Chains.{aborted, began, commit_between, committed, judged_plain, never_appends, one_told, pieced, shown_then, told_on}
+use Rattle.dav_upload.proofs.Chains.{aborted, began, commit_between, committed, judged_plain, never_appends, one_told, pieced, shown_then}
 use Rattle.dav_upload.proofs.Links.{links_kept, links_then}
 use Rattle.dav_upload.proofs.Making.{kept_unseen}
 use Rattle.dav_upload.proofs.Tokens.{token_hides}
@@ -33,6 +33,7 @@ use Rattle.dav_put.specs.Storing.{Ends, Fed, Gives, IsOver, Pours, Stops, Stores
 use Rattle.dav_put.specs.Storing.Fed.{begun, goes}
 use Rattle.dav_put.specs.Storing.Tried.{more, none}
 use Rattle.dav_put.specs.Whole.{IsOpenTo, StoredWhole}
+use Rattle.dav_io.proofs.ToldLemmas.{told_after}
 
 -- ---- the paths of an upload
 
@@ -57,11 +58,11 @@ open_still v w target links clear = record {
 -- the bytes that are told of it are those that were taken, and those that are left
 gave : (i j : Stream) (taken bytes : List ℕ) → i.bytes ≡ Some bytes → Gives i taken j → (rest : List ℕ) × (j.bytes ≡ Some rest) × (bytes ≡ taken ++ rest)
 gave i j taken bytes told (buffer, n, takes, some, is) =
-    let (rest, left, old) = told_on i.bytes j.bytes _ bytes takes.told told in
+    let (rest, left, old) = told_after i.bytes j.bytes _ bytes takes.told told in
     (rest, left, old.0 ∙ ap (λ (k : List ℕ). k ++ rest) (sym is))
 
 was_over : (i j : Stream) (bytes : List ℕ) → i.bytes ≡ Some bytes → IsOver i j → bytes ≡ []
-was_over i j bytes told (buffer, takes) = let (rest, left, old) = told_on i.bytes j.bytes _ bytes takes.told told in old.1 refl
+was_over i j bytes told (buffer, takes) = let (rest, left, old) = told_after i.bytes j.bytes _ bytes takes.told told in old.1 refl
 
 module _ {S C F : Type 0} (view : View S C F) (writes : Writes F) (c : C) (test : S → Bool) (takes_all : TakesUploads view writes c test) where
   -- a world behind calls that changed nothing of what is shown
@@ -82,7 +83,7 @@ module _ {S C F : Type 0} (view : View S C F) (writes : Writes F) (c : C) (test 
   -- the store where a PUT of the target was judged
   judged_waits : (v : World) (target : WebPath) (fields : Fields) (token : ℕ) (s t : S) (r : Result (Upload F) UploadError) → Waits v s → (j : Judges view c target fields token s r t) → Waits v j.judged
   judged_waits v target fields token s t r x j =
-      let (u, here, same) = told_on (view.state s).told (view.state j.judged).told SameBesidesOpens x.world j.keeps.world x.here in
+      let (u, here, same) = told_after (view.state s).told (view.state j.judged).told SameBesidesOpens x.world j.keeps.world x.here in
       record { world = u; here = here; plain = judged_plain view writes c test takes_all target fields s j.may j.judged x.plain j.judges; same = same_besides_then v x.world u x.same same }
 
   waits_clear : (v : World) (m : S) (target : WebPath) (token : ℕ) → IsOpenTo v target.names → (x : Waits v m) → is_linked x.world.tree (hidden_beside target token).names ≡ false
@@ -97,7 +98,7 @@ module _ {S C F : Type 0} (view : View S C F) (writes : Writes F) (c : C) (test 
       by_may m y (Ok outcome) (Ok file, opens, one, is) = cc
       by_may m y (Ok outcome) (Err f, opens, one, is) =
           let call = takes_all.opens m t (hidden_beside target token) (Err f) y.plain opens in
-          let (w, here, made) = told_on (view.state m).told (view.state t).told _ y.world call.1 y.here in
+          let (w, here, made) = told_after (view.state m).told (view.state t).told _ y.world call.1 y.here in
           record { world = w; here = here; plain = call.0; same = same_besides_then v y.world w y.same (made (waits_clear v m target token clear y)) }
 
       by : (b : Bool) → BeginsAs view c b target fields token s (Err e) t → Waits v t
@@ -132,7 +133,7 @@ module _ {S C F : Type 0} (view : View S C F) (writes : Writes F) (c : C) (test 
       by_may m y free (Ok outcome) (Err f, opens, one, is) = cc
       by_may m y free (Ok outcome) (Ok file, opens, one, is) =
           let call = takes_all.opens m t (hidden_beside target token) (Ok file) y.plain opens in
-          let (w, here, made) = told_on (view.state m).told (view.state t).told _ y.world call.1 y.here in
+          let (w, here, made) = told_after (view.state m).told (view.state t).told _ y.world call.1 y.here in
           let same : u ≡ upload_begun target token file = cc in
           let did = began view writes c test takes_all s t x.world w x.here here target fields token (Ok u) x.plain (waits_clear v s target token clear x) begins in (
             record {
@@ -166,7 +167,7 @@ module _ {S C F : Type 0} (view : View S C F) (writes : Writes F) (c : C) (test 
       by true e on = cc
       by false e (y, file, writes_so, is, answer) =
           let told = takes_all.writes_file m t u.file file bytes y writes_so (never_appends view writes c test takes_all ((view.state m).live (view.file.handle u.file)) g.stands.how) in
-          let (w, here, wrote) = told_on (view.state m).told (view.state t).told _ g.world told g.here in
+          let (w, here, wrote) = told_after (view.state m).told (view.state t).told _ g.world told g.here in
           let (shown, links, stands) = pieced view writes c test takes_all u x m t g.world w bytes pieces r g.here here g.stands piece_so in
           record {
             world = w;

@@ -11,13 +11,9 @@ use Rattle.dav_put.specs.declared.running.Task.TheVariants.{Store, Sweep}
 use Rattle.dav_put.specs.Words.{IsPathSaid, IsSaid, asked_of, task_said}
 
 unsaid : (task : WebPath → Task) (given : Result WebPath ParseError) (ending : Ending) → IsPathSaid given (Err ending) → IsSaid (asked_of task given) (Err ending)
-unsaid task given ends.Done is = is
 unsaid task given (ends.Refused status) is = is
-unsaid task given ends.Busy is = is
 unsaid task given ends.Words (fault, none) = ap (asked_of task) none
-unsaid task given ends.SourceFailed is = is
-unsaid task given ends.DiskFailed is = is
-unsaid task given ends.NoMemory is = is
+unsaid task given other is = is
 
 -- the path of two words says nothing
 pub two_unsaid : {A : Type 0} (words : List (String A)) (path : String A) (ending : Ending) → 2 ≤ length words → length words < 3 → path ≡ get_or words 1 path → IsPathSaid (parsed (string_bytes path) []) (Err ending)

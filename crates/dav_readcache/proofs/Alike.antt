@@ -10,8 +10,7 @@ use Rattle.dav_io.specs.declared.failure.NoMemory.{NoMemory}
 use Rattle.dav_io.proofs.ToldLemmas.{told_after}
 use Rattle.dav_core.specs.declared.error.FsError.{FsError}
 use Rattle.dav_core.specs.declared.error.FsError.TheVariants as fs
-use Rattle.dav_core.specs.declared.tree.Kind.{Kind}
-use Rattle.dav_core.specs.declared.tree.Kind.TheVariants.{Dir, File, Link}
+use Rattle.dav_core.specs.declared.tree.Kind.TheVariants.{File}
 use Rattle.dav_core.specs.DavPath.{WebPath}
 use Rattle.dav_core.specs.Disk.{DiskState}
 use Rattle.dav_core.specs.Info.{Info, known, tag_of}
@@ -34,11 +33,7 @@ use Rattle.dav_readcache.specs.Store.{cache_view}
 use Rattle.dav_readcache.proofs.Opened.{IsReadFrom, is_holding, is_unheld, kept_from, refused_any}
 use Rattle.dav_readcache.proofs.Showing.{same_bytes, tag_same}
 use Rattle.dav_readcache.proofs.Stepping.{place_placed}
-
-pub file_kind : (k : Kind) → is_file k ≡ true → k ≡ File
-file_kind Dir e = cc
-file_kind File e = refl
-file_kind Link e = cc
+use Rattle.dav_core.proofs.Rows.{file_kind}
 
 -- Sound in a world, sound in one that differs only in what is open.
 pub sound_beside : (w v : World) (tag bytes : List ℕ) → SameBesidesOpens w v → IsSoundIn w tag bytes → IsSoundIn v tag bytes

@@ -1,25 +1,18 @@
 -- What is held of a file leaves it open as it was opened, but for its bytes: in every run, also where tags lie.
-use Rattle.std.specs.Prelude.{◌≡◌, ◌+◌, ◌==◌, ◌&&◌, ◌⊎◌, ℕ, List, length, Bool, true, false, Option, None, Some, Result, Ok, refl}
+use Rattle.std.specs.Prelude.{◌≡◌, ◌+◌, ◌==◌, ◌&&◌, ◌⊎◌, ℕ, List, Option, None, Some, Result, Ok, refl}
 use Rattle.std.specs.Option.{option_map}
 use Rattle.std.proofs.Common.{ap, ◌∙◌, inl, inr, arith}
-use Rattle.std.proofs.lemmas.Bool.{and_parts}
 use Rattle.dav_io.specs.declared.failure.NoMemory.{NoMemory}
 use Rattle.dav_io.proofs.ToldLemmas.{told_after}
-use Rattle.dav_core.proofs.UnchangedLemmas.{equal_keys}
 use Rattle.dav_store.specs.Standing.{Seen}
 use Rattle.dav_store.specs.View.{View, seen_in}
 use Rattle.dav_readcache.specs.declared.cached.Reading.{Reading}
 use Rattle.dav_readcache.specs.declared.keeping.Wanted.{Wanted}
 use Rattle.dav_readcache.specs.Cached.{place_of, seen_as, shown}
-use Rattle.dav_readcache.specs.Opening.{Fetches, FrontIn, Holds, HoldsBy, HoldsWanted, KeepsWhere, Opening, Starves, says_tag, wanted_by}
-use Rattle.dav_readcache.specs.Shelf.{ShelfState, bytes_for}
-use Rattle.dav_readcache.proofs.Opened.{IsReadFrom, is_holding, is_unheld, kept_from, refused_any}
+use Rattle.dav_readcache.specs.Opening.{Fetches, FrontIn, Holds, HoldsBy, HoldsWanted, Opening, Starves, says_tag, wanted_by}
+use Rattle.dav_readcache.specs.Shelf.{bytes_for}
+use Rattle.dav_readcache.proofs.Opened.{IsReadFrom, is_holding, is_unheld, refused_any, kept_where}
 use Rattle.dav_readcache.proofs.Stepping.{place_placed}
-
-kept_where : (b : Bool) (n len : ℕ) (tag buffer : List ℕ) (s t : ShelfState) (result : Result Reading NoMemory) (same : Bool) → ((n == len) && same) ≡ b → length buffer ≡ len
-    → KeepsWhere b tag buffer n s result t → IsReadFrom n result
-kept_where true n len tag buffer s t result same all is keeps = kept_from n tag buffer s t result (let e : n ≡ len = equal_keys n len (and_parts (n == len) same all).0 in omega (arith, e, is)) keeps
-kept_where false n len tag buffer s t result same all is keeps = is_unheld n result keeps.0
 
 module _ (f : Seen) {S C F : Type 0} (view : View S C F) where
   -- the file is told as it was opened, at the place up to which it was read

@@ -42,7 +42,7 @@ pub kept_from : (n : ℕ) (tag bytes : List ℕ) (s t : ShelfState) (result : Re
 kept_from n tag bytes s t result e (inl done) = is_holding tag bytes n result (done.0 ∙ ap (λ k. Ok (holding tag bytes k)) (sym e))
 kept_from n tag bytes s t result e (inr refused) = refused_any n result refused.0
 
-kept_where : (b : Bool) (n len : ℕ) (tag buffer : List ℕ) (s t : ShelfState) (result : Result Reading NoMemory) (same : Bool) → ((n == len) && same) ≡ b → length buffer ≡ len
+pub kept_where : (b : Bool) (n len : ℕ) (tag buffer : List ℕ) (s t : ShelfState) (result : Result Reading NoMemory) (same : Bool) → ((n == len) && same) ≡ b → length buffer ≡ len
     → KeepsWhere b tag buffer n s result t → IsReadFrom n result
 kept_where true n len tag buffer s t result same all is keeps = kept_from n tag buffer s t result (let e : n ≡ len = equal_keys n len (and_parts (n == len) same all).0 in omega (arith, e, is)) keeps
 kept_where false n len tag buffer s t result same all is keeps = is_unheld n result keeps.0

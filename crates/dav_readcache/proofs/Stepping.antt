@@ -1,6 +1,6 @@
 -- Reads in steps.
 use Rattle.std.specs.Prelude.{◌≡◌, ◌≤◌, ◌<◌, ◌+◌, ℕ, List, Bool, true, false, OnErr, length, take, drop, min, Option, None, Some, IfSome, Result, Ok, Err, refl}
-use Rattle.std.proofs.Common.{sym, ap, subst, ◌∙◌, inl, inr, arith}
+use Rattle.std.proofs.Common.{sym, ap, subst, ◌∙◌, arith}
 use Rattle.dav_io.specs.Counts.{Rose}
 use Rattle.dav_io.specs.Told.{Both}
 use Rattle.dav_core.specs.declared.error.FsError.{FsError}
@@ -20,10 +20,7 @@ use Rattle.dav_store.specs.Standing.{AgreesOpen, Standing}
 use Rattle.dav_readcache.specs.declared.cached.Content.{Content}
 use Rattle.dav_readcache.specs.declared.cached.Reading.{Reading}
 use Rattle.dav_readcache.specs.Cached.{Copies, IsFresh, IsFreshFor, IsKnown, Stays, bytes_in, is_held, is_of, is_tag, pending_at, place_in, place_of, place_or, placed_at, seen_as, shown}
-
-rose_after : (a b c : ℕ) → a ≤ b → Rose b c → Rose a c
-rose_after a b c le (inl lt) = inl (omega (arith, le, lt))
-rose_after a b c le (inr top) = inr top
+use Rattle.dav_io.proofs.Rising.{rose_before}
 
 reads_as : (p q : Bool) (buffer : List ℕ) (result : Result ℕ FsError) (e f g : Seen) → (p ≡ true → q ≡ true) → f ≡ e → ReadsIn q buffer result f g → ReadsIn p buffer result e g
 reads_as p q buffer (Ok n) e f g on same (within, copied, none, all, moved) =
@@ -41,7 +38,7 @@ told_then p q buffer result (Some e) (Some f) (Some g) on same reads = reads_as 
 
 refused_on : (s m t : DiskState) (result : Result ℕ FsError) → s.faults ≤ m.faults → OnErr result (IsFault m result t) → OnErr result (IsFault s result t)
 refused_on s m t (Ok n) le refused = refused
-refused_on s m t (Err e) le (is, rose) = (is, rose_after s.faults m.faults t.faults le rose)
+refused_on s m t (Err e) le (is, rose) = (is, rose_before s.faults m.faults t.faults le rose)
 
 -- A read behind a step that leaves what is shown is a read.
 pub reads_then : (h : ℕ) (s m t : DiskState) (seen mid after : Option Seen) (buffer : List ℕ) (result : Result ℕ FsError)

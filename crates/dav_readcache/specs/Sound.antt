@@ -1,5 +1,5 @@
 -- When the bytes that are held for a tag are those of every file of that tag.
-use Rattle.std.specs.Prelude.{◌≡◌, ◌⊎◌, ℕ, List, [], ◌∷◌, length, Option, None, Some}
+use Rattle.std.specs.Prelude.{◌≡◌, ◌⊎◌, ℕ, List, [], ◌∷◌, length, Option, Some}
 use Rattle.std.specs.List.{AllByRecursion}
 use Rattle.std.specs.Prelude.{Ok, Result}
 use Rattle.dav_core.specs.declared.error.FsError.{FsError}

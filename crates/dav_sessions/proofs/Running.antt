@@ -1,11 +1,9 @@
 -- A step of a session, and what it leaves.
-use Rattle.std.proofs.Common.{◌≡◌, ◌⊎◌, ◌<◌, ◌+◌, inl, inr, ℕ, zero, suc, Bool, true, List, [], ◌∷◌, length, get_or, Option, None, Some, Ok, refl, sym, ap, subst, ◌∙◌, arith}
+use Rattle.std.proofs.Common.{◌≡◌, ◌<◌, inl, inr, ℕ, zero, suc, true, List, [], ◌∷◌, length, get_or, Option, None, refl, sym, ap, subst, ◌∙◌, arith}
 use Rattle.std.specs.List.{AllByRecursion}
-use Rattle.dav_core.specs.declared.time.FileTime.{FileTime}
-use Rattle.dav_core.specs.Path.{Names}
 use Rattle.dav_model.specs.declared.answer.Answer.{Answer}
 use Rattle.dav_model.specs.declared.step.Step.{Step}
-use Rattle.dav_model.specs.Play.{Playing, Stage, Stands}
+use Rattle.dav_model.specs.Play.{Playing, Stands}
 use Rattle.dav_model.specs.Rules.{Rules}
 use Rattle.dav_model.specs.Trail.{Point}
 use Rattle.dav_shared.specs.declared.waiting.Waiting.{Waiting}

@@ -1,16 +1,15 @@
 -- What waits behind a step may be settled.
-use Rattle.std.proofs.Common.{◌≡◌, ◌⊎◌, ◌&&◌, inl, inr, Bool, true, false, List, [], ◌∷◌, Option, None, Some, is_some, refl, sym, ap, ◌∙◌}
+use Rattle.std.proofs.Common.{◌≡◌, true, false, List, [], ◌∷◌, Option, None, Some, refl, sym, ◌∙◌}
 use Rattle.dav_core.specs.declared.time.FileTime.{FileTime}
 use Rattle.dav_core.specs.Path.{Names}
 use Rattle.dav_model.specs.Folds.{Name, is_dot as is_dotted}
 use Rattle.dav_model.specs.Rules.{SameDots}
-use Rattle.dav_cache.specs.Trees.{is_dot, same_name, same_path, same_time}
+use Rattle.dav_cache.specs.Trees.{is_dot}
 use Rattle.dav_cache.proofs.Keys.{path_decides, time_decides}
-use Rattle.dav_shared.specs.Books.{Page, Listing, MaySettle, has_in, is_of, kept_by, known_in}
+use Rattle.dav_shared.specs.Books.{Page, Listing, MaySettle, has_in, is_of, kept_by}
 use Rattle.dav_local.specs.Shown.{knowledge_of}
 use Rattle.dav_sessions.specs.Sessions.{known_by_page}
 use Rattle.dav_model.specs.Still.{Agree}
-use Rattle.std.specs.List.{list_any}
 
 dotted : (x : Name) → is_dotted x ≡ is_dot x
 dotted [] = refl

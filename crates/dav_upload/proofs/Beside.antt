@@ -1,21 +1,24 @@
 -- What a tree says of a file with a hidden name: nothing lies below it, and a directory stands above.
-use Rattle.std.proofs.Common.{◌≡◌, ◌≤◌, ◌<◌, ◌||◌, ◌-◌, ◌++◌, inl, inr, ℕ, suc, List, [], ◌∷◌, length, take, drop, Bool, true, false, not, Option, None, Some, Result, Ok, Err, refl, sym, ap, subst, ◌∙◌, arith, append-nil, append_assoc, take-append-drop}
+use Rattle.std.proofs.Common.{◌≡◌, ◌≤◌, ◌<◌, ◌||◌, ◌-◌, ◌++◌, inl, inr, ℕ, List, [], ◌∷◌, length, drop, Bool, true, false, not, Option, None, Some, Ok, refl, sym, ap, subst, ◌∙◌, arith, append-nil, append_assoc, take-append-drop}
 use Rattle.std.specs.List.{AllByRecursion}
 use Rattle.std.proofs.lemmas.List.Elements.{recursion_from_All}
 use Rattle.dav_core.specs.declared.tree.Row.{Row}
 use Rattle.dav_core.specs.declared.tree.Kind.{Kind}
-use Rattle.dav_core.specs.declared.tree.Kind.TheVariants.{Dir, File, Link}
-use Rattle.dav_core.specs.declared.handle.DiskError.{DiskError}
-use Rattle.dav_core.specs.Allowed.{place, place_from, through, through_kind}
+use Rattle.dav_core.specs.declared.tree.Kind.TheVariants.{Dir, File}
+use Rattle.dav_core.specs.Allowed.{place, place_from}
 use Rattle.dav_core.specs.Changes.{is_leaf}
 use Rattle.dav_core.specs.Path.{Names, is_front, parent_of, same_names}
 use Rattle.dav_core.specs.Tree.{look, row_at}
 use Rattle.dav_core.specs.World.{IsGiven, IsWorld, World}
+use Rattle.dav_core.proofs.Paths.{names_equal, parent_length}
+use Rattle.dav_core.proofs.Elements.{In, all_in}
+use Rattle.dav_core.proofs.Rows.{dir_kind, row_at_in}
 use Rattle.dav_upload.specs.Names.{is_hidden_path}
 use Rattle.dav_upload.specs.Shown.{AreBelow, IsHiddenIn, StandsBeside}
 use Rattle.dav_upload.proofs.Moving.{never}
-use Rattle.dav_methods.proofs.WalkOrder.{In}
-use Rattle.dav_methods.proofs.TreeRows.{DirAt, Parts, above, all_in, at_row, dir_kind, front_equal, front_of, look_row, not_both, only_row, parent_length, parts_of, row_at_in, same_of}
+use Rattle.dav_methods.proofs.TreeRows.{DirAt, Parts, above, at_row, front_equal, front_of, look_row, not_both, only_row, parts_of}
+use Rattle.dav_core.proofs.PlaceLemmas.{row_passed}
+use Rattle.dav_core.proofs.Paths.{parent_cons}
 
 module _ (tree : List Row) (parts : Parts tree) where
   dir_there : (p : Names) → DirAt tree p → (r : Row) → row_at tree p ≡ Some r → r.kind ≡ Dir
@@ -29,7 +32,7 @@ module _ (tree : List Row) (parts : Parts tree) where
   leaf_by p no_dir r i false b e f = refl
   leaf_by p no_dir r i true true e f = refl
   leaf_by p no_dir r i true false e f =
-      let d = above tree r p parts i e (λ g. not_both (same_names p r.path) (same_of p r.path g) f) in
+      let d = above tree r p parts i e (λ g. not_both (same_names p r.path) (names_equal p r.path g) f) in
       absurd (no_dir d.row (ap (row_at tree) (sym d.at) ∙ at_row tree d.row parts.once d.in_tree) (dir_kind d.row.kind d.dir))
 
   -- nothing lies below what is no directory
@@ -61,7 +64,7 @@ no_row : {P : Type 0} (r : Row) (o : Option Row) → o ≡ None → o ≡ Some r
 no_row r o e f = let g : None ≡ Some r = sym e ∙ f in cc
 
 -- the root has no hidden name
-hidden_some : (p : Names) → is_hidden_path p ≡ true → 0 < length p
+pub hidden_some : (p : Names) → is_hidden_path p ≡ true → 0 < length p
 hidden_some [] e = cc
 hidden_some (x ∷ p) e = omega arith
 
@@ -123,40 +126,14 @@ below_greatest w is p r at =
 
 -- ---- a path on which nothing stands, and which can be made
 
-dir_through : (o : Option Row) (found : Result (Option Row) DiskError) (p : Option Row) → through o found ≡ Ok p → ((r : Row) → o ≡ Some r → r.kind ≡ Dir) × (found ≡ Ok p)
-dir_through None found p e = cc
-dir_through (Some x) found p e = by x.kind refl
-  where
-    by : (k : Kind) → x.kind ≡ k → ((r : Row) → Some x ≡ Some r → r.kind ≡ Dir) × (found ≡ Ok p)
-    by Dir f = (λ r g. (let h : x ≡ r = cc in subst (λ (y : Row). y.kind ≡ Dir) h f), sym (ap (λ k. through_kind k found) f) ∙ e)
-    by File f = (let g : Err _ ≡ Ok p = sym (ap (λ k. through_kind k found) f) ∙ e in cc)
-    by Link f = (let g : Err _ ≡ Ok p = sym (ap (λ k. through_kind k found) f) ∙ e in cc)
-
-parent_one : (name : List ℕ) → parent_of (name ∷ []) ≡ []
-parent_one name = refl
-
-pub parent_more : (name next : List ℕ) (names : Names) → parent_of (name ∷ next ∷ names) ≡ name ∷ parent_of (next ∷ names)
-parent_more name next names =
-    let e : length (name ∷ next ∷ names) - 1 ≡ suc (length (next ∷ names) - 1) = omega arith in
-    ap (λ n. take n (name ∷ next ∷ names)) e
-
 place_above : (tree : List Row) (at names : Names) (o : Option Row) → 0 < length names → place_from tree at names ≡ Ok o → (r : Row) → row_at tree (at ++ parent_of names) ≡ Some r → r.kind ≡ Dir
 place_above tree at [] o some e = absurd (omega (arith, some))
 place_above tree at (name ∷ []) o some e = λ r there.
-    (dir_through (row_at tree at) (place_from tree (at ++ name ∷ []) []) o e).0 r (ap (row_at tree) (sym (append-nil at)) ∙ there)
+    (row_passed (row_at tree at) (place_from tree (at ++ name ∷ []) []) o e).0 r (ap (row_at tree) (sym (append-nil at)) ∙ there)
 place_above tree at (name ∷ next ∷ names) o some e = λ r there.
     (let more : (at ++ name ∷ []) ++ parent_of (next ∷ names) ≡ at ++ parent_of (name ∷ next ∷ names) =
-    append_assoc at (name ∷ []) (parent_of (next ∷ names)) ∙ ap (λ x. at ++ x) (sym (parent_more name next names)) in
-    place_above tree (at ++ name ∷ []) (next ∷ names) o (omega arith) (dir_through (row_at tree at) (place_from tree (at ++ name ∷ []) (next ∷ names)) o e).1 r (ap (row_at tree) more ∙ there))
-
-place_at : (tree : List Row) (at names : Names) (o : Option Row) → place_from tree at names ≡ Ok o → row_at tree (at ++ names) ≡ o
-place_at tree at [] o e = ap (row_at tree) (append-nil at) ∙ (let f : row_at tree at ≡ o = cc in f)
-place_at tree at (name ∷ names) o e =
-    ap (row_at tree) (sym (append_assoc at (name ∷ []) names)) ∙ place_at tree (at ++ name ∷ []) names o (dir_through (row_at tree at) (place_from tree (at ++ name ∷ []) names) o e).1
-
--- Where a place can be looked at, what is found is the row there, and a directory stands above.
-pub placed_row : (tree : List Row) (path : Names) (o : Option Row) → place tree path ≡ Ok o → row_at tree path ≡ o
-placed_row tree path o e = place_at tree [] path o e
+    append_assoc at (name ∷ []) (parent_of (next ∷ names)) ∙ ap (λ x. at ++ x) (sym (parent_cons name next names)) in
+    place_above tree (at ++ name ∷ []) (next ∷ names) o (omega arith) (row_passed (row_at tree at) (place_from tree (at ++ name ∷ []) (next ∷ names)) o e).1 r (ap (row_at tree) more ∙ there))
 
 pub placed_above : (tree : List Row) (path : Names) (o : Option Row) → 0 < length path → place tree path ≡ Ok o → (r : Row) → row_at tree (parent_of path) ≡ Some r → r.kind ≡ Dir
 placed_above tree path o some e = place_above tree [] path o some e

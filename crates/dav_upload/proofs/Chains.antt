@@ -6,7 +6,7 @@ use Rattle.dav_core.specs.declared.error.FsError.TheVariants as fs
 use Rattle.dav_core.specs.declared.handle.DiskError.{DiskError}
 use Rattle.dav_core.specs.declared.tree.Kind.TheVariants.{File}
 use Rattle.dav_core.specs.declared.tree.Row.{Row}
-use Rattle.dav_core.specs.Allowed.{Allowed, opening, opening_at, place}
+use Rattle.dav_core.specs.Allowed.{opening, opening_at, place}
 use Rattle.dav_core.specs.DavPath.{WebPath}
 use Rattle.dav_core.specs.Disk.{Live}
 use Rattle.dav_core.specs.Edits.{Edit, EditedBy, Edited, makes}
@@ -35,8 +35,8 @@ use Rattle.dav_upload.specs.Standing.{OthersOpen, StandsIn}
 use Rattle.dav_upload.specs.Steps.{Began, Committed, IsBeside, IsClear, Pieced, SameLinks, is_fault}
 use Rattle.dav_upload.specs.Takes.{TakesUploads}
 use Rattle.dav_upload.specs.Uploading.{AfterClose, AfterJudged, AfterJudging, AfterMove, Aborts, Begins, BeginsAs, Commits, Judges, PieceOn, WritesPiece, is_refused, opened_as, refused_by}
-use Rattle.dav_upload.proofs.Beside.{below_greatest, file_beside, file_hidden, none_hidden, placed_above, placed_row}
-use Rattle.dav_upload.proofs.Ends.{MayBeDone, may_move, moved_or_left, none_taken, taken_or_left, unlinked_after}
+use Rattle.dav_upload.proofs.Beside.{below_greatest, file_beside, file_hidden, none_hidden, placed_above, hidden_some}
+use Rattle.dav_upload.proofs.Ends.{MayBeDone, may_move, moved_or_left, none_taken, taken_or_left, unlinked_after, edit_of}
 use Rattle.dav_upload.proofs.Hiding.{taken_unseen}
 use Rattle.dav_upload.proofs.Making.{filled_unseen, kept_unseen, made_unseen, written_behind}
 use Rattle.dav_upload.proofs.Kept.{same_keep}
@@ -44,6 +44,8 @@ use Rattle.dav_upload.proofs.Links.{links_filled, links_kept, links_made, links_
 use Rattle.dav_upload.proofs.Moving.{moved_commits, moved_gone, never, numbered}
 use Rattle.dav_upload.proofs.Stands.{made_stands, written_stands}
 use Rattle.dav_upload.proofs.Tokens.{beside_hides}
+use Rattle.dav_io.proofs.ToldLemmas.{told_after}
+use Rattle.dav_core.proofs.PlaceLemmas.{placed_row}
 
 -- ---- what is told
 
@@ -51,11 +53,6 @@ pub told_pair : {A : Type 0} (a b : Option A) (P : A → A → Type 0) (v w : A)
 told_pair None b P v w both e f = cc
 told_pair (Some x) None P v w both e f = cc
 told_pair (Some x) (Some y) P v w both e f = let g : x ≡ v = cc in let h : y ≡ w = cc in subst (λ z. P z w) g (subst (λ z. P x z) h both)
-
-pub told_on : {A : Type 0} (a b : Option A) (P : A → A → Type 0) (v : A) → Both a b P → a ≡ Some v → (w : A) × (b ≡ Some w) × P v w
-told_on None b P v both e = cc
-told_on (Some x) None P v both e = absurd both
-told_on (Some x) (Some y) P v both e = let g : x ≡ v = cc in (y, refl, subst (λ z. P z y) g both)
 
 pub one_told : {A : Type 0} (o : Option A) (v w : A) → o ≡ Some v → o ≡ Some w → v ≡ w
 one_told o v w e f = let g : Some v ≡ Some w = sym e ∙ f in cc
@@ -80,22 +77,11 @@ commit_between u v w x target pieces a is b = record {
 
 -- a fault of the store is one of the upload
 spoiled_fault : (e : FsError) → is_spoiled e ≡ true → is_fault (refused_by e) ≡ true
-spoiled_fault fs.NotFound f = cc
-spoiled_fault fs.Forbidden f = cc
-spoiled_fault fs.Exists f = cc
 spoiled_fault fs.GeneralFailure f = refl
-spoiled_fault fs.NotImplemented f = cc
-spoiled_fault fs.InsufficientStorage f = cc
-spoiled_fault fs.LoopDetected f = cc
-spoiled_fault fs.PathTooLong f = cc
-spoiled_fault fs.TooLarge f = cc
-spoiled_fault fs.IsRemote f = cc
 spoiled_fault fs.NoMemory f = refl
+spoiled_fault other f = cc
 
 -- ---- an opening of the hidden name
-
-ok_edit : (a b : Option Edit) → ◌≡◌ {A = Allowed} (Ok a) (Ok b) → a ≡ b
-ok_edit a b e = cc
 
 pub new_at : (tree : List Row) (path : Names) (edit : Option Edit) → opening tree path upload_options ≡ Ok edit → (place tree path ≡ Ok None) × (edit ≡ Some (makes path File []))
 new_at tree path edit e = by (place tree path) refl e
@@ -103,11 +89,7 @@ new_at tree path edit e = by (place tree path) refl e
     by : (o : Result (Option Row) DiskError) → place tree path ≡ o → opening_at upload_options path o ≡ Ok edit → (place tree path ≡ Ok None) × (edit ≡ Some (makes path File []))
     by (Err d) f g = cc
     by (Ok (Some row)) f g = cc
-    by (Ok None) f g = (f, sym (ok_edit (Some (makes path File [])) edit g))
-
-pub hidden_long : (p : Names) → is_hidden_path p ≡ true → 0 < length p
-hidden_long [] e = cc
-hidden_long (x ∷ p) e = omega arith
+    by (Ok None) f g = (f, sym (edit_of (Some (makes path File [])) edit g))
 
 pub named_long : (p : Names) → p ≢ [] → 0 < length p
 named_long [] ne = absurd (ne refl)
@@ -160,7 +142,7 @@ module _ {S C F : Type 0} (view : View S C F) (writes : Writes F) (c : C) (test 
         let world = takes_all.worlds m u here in
         let hides = beside_hides target token in
         let none = placed_row u.tree path None free in
-        let hidden : IsHiddenIn u path = none_hidden u path world hides none (placed_above u.tree path None (hidden_long path hides) free) in
+        let hidden : IsHiddenIn u path = none_hidden u path world hides none (placed_above u.tree path None (hidden_some path hides) free) in
         let unseen : SameShown u w = made_unseen u w path [] hidden (below_greatest u world) did in
         let others : OthersOpen (view.file.handle f) (view.state m).live (view.state t).live u w = record {
           lives = one.others.live;
@@ -186,7 +168,7 @@ module _ {S C F : Type 0} (view : View S C F) (writes : Writes F) (c : C) (test 
         judged j = by_may j.may j.opens
           where
             there : (u : World) × ((view.state j.judged).told ≡ Some u) × SameBesidesOpens v u
-            there = told_on (view.state s).told (view.state j.judged).told SameBesidesOpens v j.keeps.world was
+            there = told_after (view.state s).told (view.state j.judged).told SameBesidesOpens v j.keeps.world was
 
             by_may : (may : Given) → AfterJudging view c may target token j.judged r t → Began view.file.handle (view.state t).live r v w
             by_may (Err e) (same, is) = refused_began r _ is (shown_then v there.0 w (kept_unseen v there.0 there.2) (shown_same there.0 w (stays_told j.judged same there.0 there.1)))
@@ -306,7 +288,7 @@ module _ {S C F : Type 0} (view : View S C F) (writes : Writes F) (c : C) (test 
 
     closed_waits : (closed : S) → Closes view s u.file closed → Waits closed
     closed_waits closed closes =
-        let (x, here, same) = told_on (view.state s).told (view.state closed).told SameBesidesOpens v closes.done.keeps.world was in
+        let (x, here, same) = told_after (view.state s).told (view.state closed).told SameBesidesOpens v closes.done.keeps.world was in
         record { world = x; here = here; same = same; plainly = takes_all.lends s closed p closes.lent.store }
 
     row_waits : (m : S) (x : Waits m) → row_at x.world.tree u.hidden.names ≡ Some stands.row
@@ -338,7 +320,7 @@ module _ {S C F : Type 0} (view : View S C F) (writes : Writes F) (c : C) (test 
           let open_way = ap (λ tree. is_linked tree u.target.names) x.same.tree ∙ clear.to_target in
           let ends = told_pair (view.state m).told (view.state k).told _ x.world z (takes_all.moves m k u.hidden u.target r x.plainly renames).1 x.here there free open_way stands.row at stands.kind in
           let long = named_long u.target.names beside.named in
-          let may = may_move x.world u.hidden.names u.target.names stands.row world at stands.kind (hidden_long u.hidden.names stands.hides) long differ in
+          let may = may_move x.world u.hidden.names u.target.names stands.row world at stands.kind (hidden_some u.hidden.names stands.hides) long differ in
           elim (moved_or_left x.world z u.hidden.names u.target.names r may ends) [
             | inl (edited, no_dir, done) ↦
                 let so : StandsBeside x.world u.hidden.names u.target.names stands.row =
@@ -377,12 +359,12 @@ module _ {S C F : Type 0} (view : View S C F) (writes : Writes F) (c : C) (test 
       ends_judged m x (Err e) result ((r, removes, keeps), is) = subst (λ o. Committed u.target.names false pieces o v w) (sym is) (inl (removed_after m x r clear.to_hidden removes))
       ends_judged m x (Ok outcome) result (r, k, renames, keeps, after) =
           let moves_told = takes_all.moves m k u.hidden u.target r x.plainly renames in
-          let (z, there, so) = told_on (view.state m).told (view.state k).told _ x.world moves_told.1 x.here in
+          let (z, there, so) = told_after (view.state m).told (view.state k).told _ x.world moves_told.1 x.here in
           ends_moved m k x z there moves_told.0 r renames outcome result after
 
     judged_waits : (m k : S) (x : Waits m) (fields : Fields) (may : Given) → MayPut view c u.target fields m may k → Keeps (view.state m) (view.state k) → Waits k
     judged_waits m k x fields may judges keeps =
-        let (y, here, same) = told_on (view.state m).told (view.state k).told SameBesidesOpens x.world keeps.world x.here in
+        let (y, here, same) = told_after (view.state m).told (view.state k).told SameBesidesOpens x.world keeps.world x.here in
         record { world = y; here = here; same = same_besides_then v x.world y x.same same; plainly = judged_plain u.target fields m may k x.plainly judges }
 
     pub committed : (fields : Fields) (result : Result Outcome UploadError) → IsBeside u.target.names u.hidden.names → IsClear v u.target.names u.hidden.names → Commits view c u fields s result t

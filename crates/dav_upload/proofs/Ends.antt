@@ -1,8 +1,7 @@
 -- How the edits of an upload end: its hidden file is taken or moved, or stays.
-use Rattle.std.proofs.Common.{◌≡◌, ◌⊎◌, ◌<◌, ◌&&◌, ◌||◌, ◌++◌, inl, inr, List, [], ◌∷◌, length, drop, map, Bool, true, false, not, cond, Option, None, Some, Result, Ok, Err, refl, sym, ap, subst, ◌∙◌, arith, append-nil}
+use Rattle.std.proofs.Common.{◌≡◌, ◌⊎◌, ◌<◌, ◌&&◌, ◌||◌, ◌++◌, inl, inr, List, [], ◌∷◌, length, drop, map, Bool, true, false, not, cond, Option, None, Some, Result, Ok, Err, refl, sym, ap, subst, ◌∙◌, append-nil}
 use Rattle.std.proofs.Math.Seq.{drop-length}
-use Rattle.std.proofs.lemmas.Bool.{and_parts}
-use Rattle.std.proofs.lemmas.Bool.Decides.{nat_tests}
+use Rattle.std.proofs.lemmas.Bool.{and_parts, or_parts}
 use Rattle.dav_core.specs.declared.error.FsError.{FsError}
 use Rattle.dav_core.specs.declared.handle.DiskError.{DiskError}
 use Rattle.dav_core.specs.declared.handle.DiskError.TheVariants.{NotDir, NotEmpty, IsDir}
@@ -14,14 +13,18 @@ use Rattle.dav_core.specs.Allowed.{Allowed, found_then, is_root, moving, moving_
 use Rattle.dav_core.specs.Changes.{is_leaf, moved_row, timed_row, without}
 use Rattle.dav_core.specs.Edits.{Edit, Edited, EditedBy, moves, takes}
 use Rattle.dav_core.specs.Path.{Names, is_front, parent_of, same_names}
-use Rattle.dav_core.specs.Tree.{is_dir, is_link, is_linked, look, row_at, standing}
+use Rattle.dav_core.specs.Tree.{is_dir, is_link, is_linked, row_at}
 use Rattle.dav_core.specs.World.{IsWorld, SameBesidesOpens, World}
 use Rattle.dav_core.specs.Writing.{LeftBy}
-use Rattle.dav_core.proofs.PlaceLemmas.{look_place, stands_at}
+use Rattle.dav_core.proofs.PlaceLemmas.{placed_row}
 use Rattle.dav_upload.specs.Ends.{EndsAs, is_spoiled}
 use Rattle.dav_upload.specs.Shown.{StandsBeside}
-use Rattle.dav_upload.proofs.Beside.{looked_at, placed_row}
-use Rattle.dav_upload.proofs.Moving.{path_of, same_yes, timed_kind, timed_path}
+use Rattle.dav_upload.proofs.Beside.{looked_at}
+use Rattle.dav_upload.proofs.Moving.{path_of}
+use Rattle.dav_core.proofs.LeftLemmas.{left_refused}
+use Rattle.dav_core.proofs.LookLemmas.{not_looked}
+use Rattle.dav_core.proofs.Paths.{not_root, names_same}
+use Rattle.dav_core.proofs.ChangedRows.{timed_kind, timed_path}
 
 -- ---- a removal
 
@@ -30,7 +33,7 @@ takes_allowed w hidden row is at kind =
     ap (found_then taking_file_row) (looked_at w hidden row is at)
     ∙ (ap (λ k. cond (is_dir k) (Err IsDir) (Ok (Some (takes row.path)))) kind ∙ ap (λ p. Ok (Some (takes p))) (sym (path_of w.tree hidden row at)))
 
-edit_of : (a b : Option Edit) → ◌≡◌ {A = Allowed} (Ok a) (Ok b) → a ≡ b
+pub edit_of : (a b : Option Edit) → ◌≡◌ {A = Allowed} (Ok a) (Ok b) → a ≡ b
 edit_of a b e = cc
 
 -- the hidden file is taken, or all stays
@@ -46,17 +49,6 @@ taken_or_left v w hidden row (Err e) is at kind left =
     by false same = inr same
     by true (inl same) = inr same
     by true (inr (part, none, edited)) = absurd none
-
-pub left_refused : (b : Bool) (d : DiskError) (v w : World) → LeftBy b (Err d) v w → SameBesidesOpens v w
-left_refused true d v w left = left
-left_refused false d v w left = left
-
-not_looked : (tree : List Row) (path : Names) → row_at tree path ≡ None → (d : DiskError) × (look tree path ≡ Err d)
-not_looked tree path none = by (place tree path) refl
-  where
-    by : (o : Result (Option Row) DiskError) → place tree path ≡ o → (d : DiskError) × (look tree path ≡ Err d)
-    by (Err d) e = (d, look_place tree path ∙ ap stands_at e)
-    by (Ok o) e = let gone : o ≡ None = sym (placed_row tree path o e) ∙ none in (_, look_place tree path ∙ (ap stands_at e ∙ ap standing gone))
 
 -- where nothing stands nothing is taken
 pub none_taken : (v w : World) (hidden : Names) (r : Result Unit FsError) → row_at v.tree hidden ≡ None → EndsAs (taking_file v.tree hidden) r v w → SameBesidesOpens v w
@@ -99,10 +91,6 @@ over_file tree row target (Some there) kind = by there.kind refl
       λ r f dir. (let same : there ≡ r = cc in let g : Link ≡ Dir = sym e ∙ (ap (λ (x : Row). x.kind) same ∙ dir) in cc),
     )
 
-no_root : (p : Names) → 0 < length p → is_root p ≡ false
-no_root [] some = absurd (omega (arith, some))
-no_root (x ∷ p) some = grind (arith, nat_tests)
-
 pub may_move : (w : World) (hidden target : Names) (row : Row) → IsWorld w → row_at w.tree hidden ≡ Some row → row.kind ≡ File → 0 < length hidden → 0 < length target → (hidden ≡ target → ⊥)
     → MayMove w.tree hidden target
 may_move w hidden target row is at kind some named differ = by_place (place w.tree target) refl
@@ -114,14 +102,14 @@ may_move w hidden target row is at kind some named differ = by_place (place w.tr
     found = ap (found_then (λ row. moving_to w.tree row target (place w.tree target))) (looked_at w hidden row is at)
 
     roots : (is_root row.path || is_root target) ≡ false
-    roots = ap (λ b. b || is_root target) (ap is_root (sym here) ∙ no_root hidden some) ∙ no_root target named
+    roots = ap (λ b. b || is_root target) (ap is_root (sym here) ∙ not_root hidden some) ∙ not_root target named
 
     apart : same_names row.path target ≡ false
     apart = off (same_names row.path target) refl
       where
         off : (b : Bool) → same_names row.path target ≡ b → same_names row.path target ≡ false
         off false e = e
-        off true e = absurd (differ (here ∙ same_yes row.path target e))
+        off true e = absurd (differ (here ∙ names_same row.path target e))
 
     judged : (o : Option Row) → moving_to w.tree row target (Ok o) ≡ cond (is_front row.path target) (Err NotEmpty) (moving_over w.tree row target o)
     judged o = ap (λ b. cond b (Err NotEmpty) (cond (same_names row.path target) (Ok None) (cond (is_front row.path target) (Err NotEmpty) (moving_over w.tree row target o)))) roots
@@ -167,10 +155,6 @@ pub timed_linked : (q : Names) (t : FileTime) (rows : List Row) (p : Names) → 
 timed_linked q t [] p = refl
 timed_linked q t (r ∷ rows) p = rw (timed_kind q t r, timed_path q t r, timed_linked q t rows p) refl
 
-or_parts : (a b : Bool) → (a || b) ≡ false → (a ≡ false) × (b ≡ false)
-or_parts true b e = cc
-or_parts false b e = (refl, e)
-
 moved_unlinked : (hidden target : Names) (rows : List Row) → is_leaf hidden rows ≡ true → is_front target hidden ≡ false → is_linked rows hidden ≡ false
     → is_linked (map (moved_row hidden target) (without target rows)) hidden ≡ false
 moved_unlinked hidden target [] leaf apart clear = refl
@@ -183,7 +167,7 @@ moved_unlinked hidden target (r ∷ rows) leaf apart clear =
         → (is_link (moved_row hidden target r).kind && is_front (moved_row hidden target r).path hidden) ≡ false
     one false e leaf clear = rw e clear
     one true e leaf clear =
-        let same : hidden ≡ r.path = same_yes hidden r.path (sym (ap (λ b. not b || same_names hidden r.path) e) ∙ leaf) in
+        let same : hidden ≡ r.path = names_same hidden r.path (sym (ap (λ b. not b || same_names hidden r.path) e) ∙ leaf) in
         let there : target ++ drop (length hidden) r.path ≡ target = ap (λ x. target ++ drop (length hidden) x) (sym same) ∙ (ap (λ x. target ++ x) (drop-length hidden) ∙ append-nil target) in
         rw e (ap (λ x. is_link r.kind && is_front x hidden) there ∙ (ap (λ b. is_link r.kind && b) apart ∙ and_false (is_link r.kind)))
       where

@@ -11,7 +11,8 @@ use Rattle.dav_core.specs.World.{Holds, World, bytes_of, bytes_or_none}
 use Rattle.dav_core.proofs.UnchangedLemmas.{put_other}
 use Rattle.dav_upload.specs.Names.{is_hidden_path}
 use Rattle.dav_upload.specs.Shown.{IsHiddenIn, SameShown, shown_at, shown_row}
-use Rattle.dav_upload.proofs.Moving.{beside_at, never, numbered, path_of, shown_row_alike, timed_at, timed_kind, timed_number, timed_time}
+use Rattle.dav_upload.proofs.Moving.{beside_at, never, numbered, path_of, shown_row_alike, timed_at, timed_time}
+use Rattle.dav_core.proofs.ChangedRows.{timed_kind, timed_number}
 
 module _ (v w : World) (hidden : Names) (stands : IsHiddenIn v hidden) (t : FileTime)
     (tree : w.tree ≡ map (timed_row (parent_of hidden) t) (without hidden v.tree)) (files : (number : ℕ) → Holds w number → w.files number ≡ v.files number) where

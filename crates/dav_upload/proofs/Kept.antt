@@ -15,7 +15,9 @@ use Rattle.dav_upload.specs.Kept.{KeepsRow}
 use Rattle.dav_upload.specs.Names.{is_hidden_path}
 use Rattle.dav_upload.specs.Shown.{AreBelow, IsUnseen, SameShown, ShownRow, shown_as, shown_at, shown_row}
 use Rattle.dav_upload.proofs.Making.{more_at, renewed_at}
-use Rattle.dav_upload.proofs.Moving.{after_at, beside_at, leaf_without, moved_at, same_of, timed_at, timed_kind, timed_number, twice}
+use Rattle.dav_upload.proofs.Moving.{after_at, beside_at, leaf_without, moved_at, timed_at, twice}
+use Rattle.dav_core.proofs.Paths.{names_equal}
+use Rattle.dav_core.proofs.ChangedRows.{timed_kind, timed_number}
 
 -- ---- rows
 
@@ -73,7 +75,7 @@ kept_filled v w number bytes p (inr (other, t, new, becomes)) =
 -- ---- the row that is made
 
 made_there : (r : Row) (rows : List Row) → row_at rows r.path ≡ None → row_at (rows ++ r ∷ []) r.path ≡ Some r
-made_there r [] none = ap (λ b. cond b (Some r) None) (same_of r.path r.path refl)
+made_there r [] none = ap (λ b. cond b (Some r) None) (names_equal r.path r.path refl)
 made_there r (x ∷ rows) none = by (same_names r.path x.path) refl none (made_there r rows)
   where
     by : (b : Bool) → same_names r.path x.path ≡ b → cond b (Some x) (row_at rows r.path) ≡ None → (row_at rows r.path ≡ None → row_at (rows ++ r ∷ []) r.path ≡ Some r)

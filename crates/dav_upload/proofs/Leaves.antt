@@ -1,6 +1,6 @@
 -- Which rows and which bytes the edits of uploads leave.
-use Rattle.std.proofs.Common.{◌≡◌, ◌≢◌, ◌⊎◌, ◌≤◌, ◌==◌, ◌||◌, ◌&&◌, ◌++◌, inl, inr, ℕ, List, [], ◌∷◌, map, Bool, true, false, not, cond, Option, None, Some, refl, sym, ap, subst, ◌∙◌, arith}
-use Rattle.std.proofs.lemmas.Bool.{and_parts}
+use Rattle.std.proofs.Common.{◌≡◌, ◌≢◌, ◌⊎◌, ◌≤◌, ◌==◌, ◌||◌, ◌&&◌, ◌++◌, inl, inr, ℕ, List, [], ◌∷◌, map, Bool, true, false, not, Some, refl, sym, ap, ◌∙◌, arith}
+use Rattle.std.proofs.lemmas.Bool.{and_parts, or_right}
 use Rattle.std.proofs.lemmas.Bool.Decides.{nat_tests}
 use Rattle.std.specs.List.{list_all}
 use Rattle.dav_core.specs.declared.tree.Row.{Row}
@@ -9,14 +9,16 @@ use Rattle.dav_core.specs.declared.time.FileTime.{FileTime}
 use Rattle.dav_core.specs.Changes.{is_leaf, moved_row, timed_row, without}
 use Rattle.dav_core.specs.Edits.{Edited, fills, makes, moves, takes, timed_number as renewed_row}
 use Rattle.dav_core.specs.Path.{Names, is_front, parent_of, same_names}
-use Rattle.dav_core.specs.Tree.{has_dir, is_apart, is_free, is_placed, is_tree, row_at}
+use Rattle.dav_core.specs.Tree.{has_dir, is_apart, is_free, is_placed, row_at}
 use Rattle.dav_core.specs.World.{Holds, IsWorld, SameBesidesOpens, World, bytes_of, bytes_or_none, is_numbered, number_of}
-use Rattle.dav_methods.proofs.TreeRows.{row_at_in}
-use Rattle.dav_methods.proofs.WalkOrder.{In}
+use Rattle.dav_core.proofs.Rows.{row_at_in}
+use Rattle.dav_core.proofs.Elements.{In}
 use Rattle.dav_upload.specs.Kept.{KeepsRow}
 use Rattle.dav_upload.proofs.Hiding.{fills_keep, moves_keep, takes_keep}
 use Rattle.dav_upload.proofs.Kept.{kept_filled, kept_made, kept_moved, kept_same, kept_taken, makes_keep, renewed_number}
-use Rattle.dav_upload.proofs.Moving.{never, same_yes, timed_number}
+use Rattle.dav_core.proofs.ChangedRows.{moved_number, timed_number}
+use Rattle.dav_core.proofs.Rows.{first_some, next_some}
+use Rattle.dav_core.proofs.Paths.{names_same}
 
 -- These rows stay, and what of these numbers somebody holds then was held, with its bytes.
 pub record Leaves (P : ℕ → Type 0) (other : Names → Type 0) (v w : World) : Type 0 where
@@ -43,10 +45,6 @@ leaves_same P other v w same = record {
 
 -- ---- the numbers of a tree
 
-or_more : (a b : Bool) → b ≡ true → (a || b) ≡ true
-or_more true b e = refl
-or_more false b e = e
-
 same_numbered : (f : Row → Row) → ((r : Row) → (f r).number ≡ r.number) → (rows : List Row) (n : ℕ) → is_numbered (map f rows) n ≡ is_numbered rows n
 same_numbered f like [] n = refl
 same_numbered f like (r ∷ rows) n = ap (λ k. (n == k) || is_numbered (map f rows) n) (like r) ∙ ap (λ b. (n == r.number) || b) (same_numbered f like rows n)
@@ -58,10 +56,10 @@ less_numbered path (r ∷ rows) n e = by (not (is_front path r.path)) refl e (le
     by_number : (c : Bool) → (n == r.number) ≡ c → ((n == r.number) || is_numbered (without path rows) n) ≡ true → (is_numbered (without path rows) n ≡ true → is_numbered rows n ≡ true)
         → ((n == r.number) || is_numbered rows n) ≡ true
     by_number true f g more = ap (λ b. b || is_numbered rows n) f
-    by_number false f g more = or_more (n == r.number) (is_numbered rows n) (more (sym (ap (λ b. b || is_numbered (without path rows) n) f) ∙ g))
+    by_number false f g more = or_right (n == r.number) (is_numbered rows n) (more (sym (ap (λ b. b || is_numbered (without path rows) n) f) ∙ g))
 
     by : (b : Bool) → not (is_front path r.path) ≡ b → is_numbered (without path (r ∷ rows)) n ≡ true → (is_numbered (without path rows) n ≡ true → is_numbered rows n ≡ true) → is_numbered (r ∷ rows) n ≡ true
-    by false f g more = or_more (n == r.number) (is_numbered rows n) (more (rw f at g))
+    by false f g more = or_right (n == r.number) (is_numbered rows n) (more (rw f at g))
     by true f g more = by_number (n == r.number) refl (rw f at g) more
 
 -- one row more, of another number
@@ -76,14 +74,7 @@ more_numbered row (r ∷ rows) n ne e = by (n == r.number) refl e (more_numbered
     by : (b : Bool) → (n == r.number) ≡ b → ((n == r.number) || is_numbered (rows ++ row ∷ []) n) ≡ true → (is_numbered (rows ++ row ∷ []) n ≡ true → is_numbered rows n ≡ true)
         → ((n == r.number) || is_numbered rows n) ≡ true
     by true f g more = ap (λ b. b || is_numbered rows n) f
-    by false f g more = or_more (n == r.number) (is_numbered rows n) (more (sym (ap (λ b. b || is_numbered (rows ++ row ∷ []) n) f) ∙ g))
-
-moved_same : (from to : Names) (r : Row) → (moved_row from to r).number ≡ r.number
-moved_same from to r = by (is_front from r.path) refl
-  where
-    by : (b : Bool) → is_front from r.path ≡ b → (moved_row from to r).number ≡ r.number
-    by true e = rw e refl
-    by false e = rw e refl
+    by false f g more = or_right (n == r.number) (is_numbered rows n) (more (sym (ap (λ b. b || is_numbered (rows ++ row ∷ []) n) f) ∙ g))
 
 -- what is held by a tree with these rows, or by what is open as before
 abbrev HeldBy : World → List Row → ℕ → Type 0
@@ -135,7 +126,7 @@ moved_numbered : (v : World) (from to : Names) (t u : FileTime) (n : ℕ) → is
     → is_numbered v.tree n ≡ true
 moved_numbered v from to t u n e =
     less_numbered to v.tree n
-    (sym (same_numbered (moved_row from to) (moved_same from to) (without to v.tree) n)
+    (sym (same_numbered (moved_row from to) (moved_number from to) (without to v.tree) n)
     ∙ (sym (same_numbered (timed_row (parent_of from) t) (timed_number (parent_of from) t) (map (moved_row from to) (without to v.tree)) n)
     ∙ (sym (same_numbered (timed_row (parent_of to) u) (timed_number (parent_of to) u) (map (timed_row (parent_of from) t) (map (moved_row from to) (without to v.tree))) n) ∙ e)))
 
@@ -164,14 +155,6 @@ free_of (r ∷ rows) x s free i e =
       | inr j ↦ free_of rows x s parts.1 j e
     ]
 
-first_some : (b : Bool) (r x : Row) (o : Option Row) → b ≡ true → cond b (Some r) o ≡ Some x → r ≡ x
-first_some true r x o e f = cc
-first_some false r x o e f = cc
-
-next_some : (b : Bool) (r x : Row) (o : Option Row) → b ≡ false → cond b (Some r) o ≡ Some x → o ≡ Some x
-next_some false r x o e f = f
-next_some true r x o e f = cc
-
 once_numbered : (rows : List Row) → is_apart rows ≡ true → (p q : Names) (r s : Row) → row_at rows p ≡ Some r → row_at rows q ≡ Some s → r.number ≡ s.number → p ≡ q
 once_numbered [] apart p q r s at there e = cc
 once_numbered (x ∷ rows) apart p q r s at there e =
@@ -181,7 +164,7 @@ once_numbered (x ∷ rows) apart p q r s at there e =
     parts = and_parts (is_free rows x) (is_apart rows) apart
 
     by : (a b : Bool) → same_names p x.path ≡ a → same_names q x.path ≡ b → (row_at rows p ≡ Some r → row_at rows q ≡ Some s → r.number ≡ s.number → p ≡ q) → p ≡ q
-    by true true f g more = same_yes p x.path f ∙ sym (same_yes q x.path g)
+    by true true f g more = names_same p x.path f ∙ sym (names_same q x.path g)
     by true false f g more =
         let here : x ≡ r = first_some (same_names p x.path) x r (row_at rows p) f at in
         let i = (row_at_in rows q s (next_some (same_names q x.path) x s (row_at rows q) g there)).0 in

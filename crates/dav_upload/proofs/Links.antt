@@ -3,7 +3,7 @@ use Rattle.std.proofs.Common.{◌≡◌, ◌&&◌, ◌||◌, ◌++◌, inl, inr,
 use Rattle.dav_core.specs.declared.tree.Row.{Row}
 use Rattle.dav_core.specs.declared.tree.Kind.TheVariants.{File}
 use Rattle.dav_core.specs.declared.time.FileTime.{FileTime}
-use Rattle.dav_core.specs.Changes.{timed_row, without}
+use Rattle.dav_core.specs.Changes.{without}
 use Rattle.dav_core.specs.Edits.{Edited, fills, makes, takes, timed_number as renewed_row}
 use Rattle.dav_core.specs.Path.{Names, is_front, parent_of}
 use Rattle.dav_core.specs.Tree.{is_link, is_linked}
@@ -12,6 +12,7 @@ use Rattle.dav_upload.specs.Steps.{SameLinks}
 use Rattle.dav_upload.proofs.Ends.{timed_linked}
 use Rattle.dav_upload.proofs.Kept.{renewed_kind}
 use Rattle.dav_upload.proofs.Making.{renewed_path}
+use Rattle.std.proofs.lemmas.Bool.{or_parts}
 
 pub links_then : (u v w : World) → SameLinks u v → SameLinks v w → SameLinks u w
 links_then u v w a b p = b p ∙ a p
@@ -42,14 +43,10 @@ links_filled v w number bytes (inr (other, t, new, becomes)) p = ap (λ rows. is
 
 -- ---- where no link stood
 
-or_none : (a b : Bool) → (a || b) ≡ false → (a ≡ false) × (b ≡ false)
-or_none true b e = cc
-or_none false b e = (refl, e)
-
 less_linked : (path : Names) (rows : List Row) (p : Names) → is_linked rows p ≡ false → is_linked (without path rows) p ≡ false
 less_linked path [] p clear = refl
 less_linked path (r ∷ rows) p clear =
-    let parts = or_none (is_link r.kind && is_front r.path p) (is_linked rows p) clear in
+    let parts = or_parts (is_link r.kind && is_front r.path p) (is_linked rows p) clear in
     by (not (is_front path r.path)) refl parts.0 (less_linked path rows p parts.1)
   where
     by : (b : Bool) → not (is_front path r.path) ≡ b → (is_link r.kind && is_front r.path p) ≡ false → is_linked (without path rows) p ≡ false → is_linked (without path (r ∷ rows)) p ≡ false

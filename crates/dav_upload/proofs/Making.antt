@@ -15,12 +15,15 @@ use Rattle.dav_core.specs.Writing.{written}
 use Rattle.dav_core.proofs.UnchangedLemmas.{equal_keys, put_other}
 use Rattle.dav_upload.specs.Names.{is_hidden_path}
 use Rattle.dav_upload.specs.Shown.{AreBelow, IsHiddenIn, IsUnseen, SameShown, shown_at, shown_row}
-use Rattle.dav_upload.proofs.Moving.{never, numbered, off, other_names, path_of, shown_row_alike, timed_at, timed_kind, timed_number, timed_time}
+use Rattle.dav_upload.proofs.Moving.{never, numbered, path_of, shown_row_alike, timed_at, timed_time}
+use Rattle.std.proofs.lemmas.Bool.{false_from_ne_true}
+use Rattle.dav_core.proofs.Paths.{names_differ}
+use Rattle.dav_core.proofs.ChangedRows.{timed_kind, timed_number}
 
 -- ---- a row more
 
 pub more_at : (r : Row) (rows : List Row) (p : Names) → (p ≡ r.path → ⊥) → row_at (rows ++ r ∷ []) p ≡ row_at rows p
-more_at r [] p ne = ap (λ b. cond b (Some r) None) (other_names p r.path ne)
+more_at r [] p ne = ap (λ b. cond b (Some r) None) (names_differ p r.path ne)
 more_at r (x ∷ rows) p ne = ap (λ o. cond (same_names p x.path) (Some x) o) (more_at r rows p ne)
 
 module _ (v w : World) (hidden : Names) (stands : IsHiddenIn v hidden) (below : AreBelow v) (row : Row) (at : row.path ≡ hidden) (u : FileTime) (above : v.greatest < row.number) (stored : Option Stored)
@@ -69,7 +72,7 @@ renewed_at number t (r ∷ rows) p = rw (renewed_path number t r, renewed_at num
     by false = refl
 
 renewed_off : (number : ℕ) (t : FileTime) (r : Row) → r.number ≢ number → renewed_row number t r ≡ r
-renewed_off number t r ne = ap (λ b. cond b (record r { time = t }) r) (off (r.number == number) (λ e. ne (equal_keys r.number number e)))
+renewed_off number t r ne = ap (λ b. cond b (record r { time = t }) r) (false_from_ne_true (r.number == number) (λ e. ne (equal_keys r.number number e)))
 
 module _ (v w : World) (number : ℕ) (unseen : IsUnseen v number) (t : FileTime) (stored : Option Stored)
     (tree : w.tree ≡ map (renewed_row number t) v.tree) (files : (n : ℕ) → Holds w n → w.files n ≡ put number stored v.files n) where

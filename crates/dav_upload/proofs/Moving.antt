@@ -1,10 +1,8 @@
 -- What a move of a hidden file makes of the shown world.
-use Rattle.std.proofs.Common.{◌≡◌, ◌&&◌, ◌||◌, ◌==◌, ◌++◌, ℕ, List, [], ◌∷◌, length, take, drop, map, ◌⊎◌, inl, inr, Bool, true, false, not, cond, Option, None, Some, refl, sym, ap, subst, ◌∙◌, arith, append-nil}
+use Rattle.std.proofs.Common.{◌≡◌, ◌&&◌, ◌||◌, ◌==◌, ◌++◌, ℕ, List, [], ◌∷◌, length, drop, map, ◌⊎◌, inl, inr, Bool, true, false, not, cond, Option, None, Some, refl, sym, ap, subst, ◌∙◌, arith, append-nil}
 use Rattle.std.specs.Option.{option_map}
-use Rattle.std.specs.Bool.{Decides}
-use Rattle.std.proofs.lemmas.Bool.{and_parts}
-use Rattle.std.proofs.lemmas.Slice.Eq.{slice_eq-Decides, bytes_eq-Decides}
-use Rattle.std.proofs.Math.Seq.{drop-length, take-append_seam}
+use Rattle.std.proofs.lemmas.Bool.{and_parts, false_from_ne_true, or_right}
+use Rattle.std.proofs.Math.Seq.{drop-length}
 use Rattle.std.proofs.lemmas.Bool.Decides.{nat_tests}
 use Rattle.dav_core.specs.declared.tree.Row.{Row}
 use Rattle.dav_core.specs.declared.tree.Kind.{Kind}
@@ -17,35 +15,15 @@ use Rattle.dav_core.specs.Tree.{row_at}
 use Rattle.dav_core.specs.World.{Holds, World, bytes_of, bytes_or_none, is_numbered}
 use Rattle.dav_upload.specs.Names.{is_hidden_path}
 use Rattle.dav_upload.specs.Shown.{IsCommitted, StandsBeside, shown_as, shown_at, shown_row}
-
-names_decide : (a b : Names) → Decides (same_names a b) (a ≡ b)
-names_decide a b = slice_eq-Decides bytes_eq-Decides a b (same_names a b) refl
-
-pub same_yes : (a b : Names) → same_names a b ≡ true → a ≡ b
-same_yes a b = (names_decide a b).0
-
-pub same_of : (a b : Names) → a ≡ b → same_names a b ≡ true
-same_of a b = (names_decide a b).1
+use Rattle.dav_core.proofs.Paths.{names_same, names_equal, names_differ, front_itself}
+use Rattle.dav_core.proofs.ChangedRows.{timed_path, timed_kind, timed_number}
+use Rattle.dav_core.proofs.Rows.{first_none, first_some, next_some}
 
 pub never : {P : Type 0} (b : Bool) → b ≡ true → b ≡ false → P
 never true e f = cc
 never false e f = cc
 
-pub off : (b : Bool) → (b ≡ true → ⊥) → b ≡ false
-off true h = absurd (h refl)
-off false h = refl
-
-pub other_names : (a b : Names) → (a ≡ b → ⊥) → same_names a b ≡ false
-other_names a b ne = off (same_names a b) (λ e. ne (same_yes a b e))
-
 -- ---- times
-
-pub timed_path : (q : Names) (t : FileTime) (r : Row) → (timed_row q t r).path ≡ r.path
-timed_path q t r = by (same_names q r.path) refl
-  where
-    by : (b : Bool) → same_names q r.path ≡ b → (timed_row q t r).path ≡ r.path
-    by true e = rw e refl
-    by false e = rw e refl
 
 pub timed_at : (q : Names) (t : FileTime) (rows : List Row) (p : Names) → row_at (map (timed_row q t) rows) p ≡ option_map (timed_row q t) (row_at rows p)
 timed_at q t [] p = refl
@@ -63,12 +41,9 @@ without_at to (r ∷ rows) p other = by (is_front to r.path) refl (without_at to
   where
     by : (b : Bool) → is_front to r.path ≡ b → row_at (without to rows) p ≡ row_at rows p → row_at (without to (r ∷ rows)) p ≡ row_at (r ∷ rows) p
     by true e rest =
-        let apart : same_names p r.path ≡ false = off (same_names p r.path) (λ f. never (is_front to r.path) e (subst (λ z. is_front to z ≡ false) (same_yes p r.path f) other)) in
+        let apart : same_names p r.path ≡ false = false_from_ne_true (same_names p r.path) (λ f. never (is_front to r.path) e (subst (λ z. is_front to z ≡ false) (names_same p r.path f) other)) in
         rw (e, apart) rest
     by false e rest = rw e (ap (λ o. cond (same_names p r.path) (Some r) o) rest)
-
-pub front_itself : (a : Names) → is_front a a ≡ true
-front_itself a = same_of a (take (length a) a) (sym (take-append_seam a []) ∙ ap (take (length a)) (append-nil a))
 
 gone_below : (to : Names) (rows : List Row) (p : Names) → is_front to p ≡ true → row_at (without to rows) p ≡ None
 gone_below to [] p below = refl
@@ -77,7 +52,7 @@ gone_below to (r ∷ rows) p below = by (is_front to r.path) refl (gone_below to
     by : (b : Bool) → is_front to r.path ≡ b → row_at (without to rows) p ≡ None → row_at (without to (r ∷ rows)) p ≡ None
     by true e rest = rw e rest
     by false e rest =
-        let apart : same_names p r.path ≡ false = off (same_names p r.path) (λ f. never (is_front to r.path) (subst (λ z. is_front to z ≡ true) (same_yes p r.path f) below) e) in
+        let apart : same_names p r.path ≡ false = false_from_ne_true (same_names p r.path) (λ f. never (is_front to r.path) (subst (λ z. is_front to z ≡ true) (names_same p r.path f) below) e) in
         rw (e, apart) rest
 
 pub gone_at : (to : Names) (rows : List Row) → row_at (without to rows) to ≡ None
@@ -87,11 +62,11 @@ none_below : (to : Names) (rows : List Row) (p : Names) → is_leaf to rows ≡ 
 none_below to [] p leaf below ne = refl
 none_below to (r ∷ rows) p leaf below ne =
     let parts = and_parts (not (is_front to r.path) || same_names to r.path) (is_leaf to rows) leaf in
-    let apart : same_names p r.path ≡ false = off (same_names p r.path) (λ f. ne (same_yes p r.path f ∙ sym (at_front (is_front to r.path) (subst (λ z. is_front to z ≡ true) (same_yes p r.path f) below) refl parts.0))) in
+    let apart : same_names p r.path ≡ false = false_from_ne_true (same_names p r.path) (λ f. ne (names_same p r.path f ∙ sym (at_front (is_front to r.path) (subst (λ z. is_front to z ≡ true) (names_same p r.path f) below) refl parts.0))) in
     rw apart (none_below to rows p parts.1 below ne)
   where
     at_front : (b : Bool) → is_front to r.path ≡ true → is_front to r.path ≡ b → (not b || same_names to r.path) ≡ true → to ≡ r.path
-    at_front true e f both = same_yes to r.path both
+    at_front true e f both = names_same to r.path both
     at_front false e f both = never (is_front to r.path) e f
 
 -- the rows but for what was at the target
@@ -126,7 +101,7 @@ moved_off from to r e = ap (λ b. cond b (record r { path = to ++ drop (length f
 leaf_same : (from : Names) (r : Row) (rest : Bool) → ((not (is_front from r.path) || same_names from r.path) && rest) ≡ true → is_front from r.path ≡ true → (from ≡ r.path) × (rest ≡ true)
 leaf_same from r rest leaf front =
     let parts = and_parts (not (is_front from r.path) || same_names from r.path) rest leaf in
-    (same_yes from r.path (sym (ap (λ b. not b || same_names from r.path) front) ∙ parts.0), parts.1)
+    (names_same from r.path (sym (ap (λ b. not b || same_names from r.path) front) ∙ parts.0), parts.1)
 
 pub moved_at : (from to : Names) (rows : List Row) (p : Names) → is_leaf from rows ≡ true → (p ≡ to → ⊥) → (p ≡ from → ⊥) → row_at (map (moved_row from to) rows) p ≡ row_at rows p
 moved_at from to [] p leaf ne other = refl
@@ -137,8 +112,8 @@ moved_at from to (r ∷ rows) p leaf ne other = by (is_front from r.path) refl (
         → (is_leaf from rows ≡ true → row_at (map (moved_row from to) rows) p ≡ row_at rows p) → row_at (map (moved_row from to) (r ∷ rows)) p ≡ row_at (r ∷ rows) p
     by true e parts more =
         let (same, rest) = leaf_same from r (is_leaf from rows) leaf e in
-        let apart : same_names p (moved_row from to r).path ≡ false = other_names p (moved_row from to r).path (λ f. ne (f ∙ moved_path from to r e same)) in
-        let away : same_names p r.path ≡ false = other_names p r.path (λ f. other (f ∙ sym same)) in
+        let apart : same_names p (moved_row from to r).path ≡ false = names_differ p (moved_row from to r).path (λ f. ne (f ∙ moved_path from to r e same)) in
+        let away : same_names p r.path ≡ false = names_differ p r.path (λ f. other (f ∙ sym same)) in
         rw (apart, away) (more rest)
     by false e parts more = rw e (ap (λ o. cond (same_names p r.path) (Some r) o) (more parts.1))
 
@@ -151,10 +126,10 @@ moved_from from to (r ∷ rows) leaf ne = by (is_front from r.path) refl (and_pa
         → (is_leaf from rows ≡ true → row_at (map (moved_row from to) rows) from ≡ None) → row_at (map (moved_row from to) (r ∷ rows)) from ≡ None
     by true e parts more =
         let (same, rest) = leaf_same from r (is_leaf from rows) leaf e in
-        let apart : same_names from (moved_row from to r).path ≡ false = other_names from (moved_row from to r).path (λ f. ne (f ∙ moved_path from to r e same)) in
+        let apart : same_names from (moved_row from to r).path ≡ false = names_differ from (moved_row from to r).path (λ f. ne (f ∙ moved_path from to r e same)) in
         rw apart (more rest)
     by false e parts more =
-        let away : same_names from r.path ≡ false = off (same_names from r.path) (λ f. never (is_front from r.path) (subst (λ z. is_front from z ≡ true) (same_yes from r.path f) (front_itself from)) e) in
+        let away : same_names from r.path ≡ false = false_from_ne_true (same_names from r.path) (λ f. never (is_front from r.path) (subst (λ z. is_front from z ≡ true) (names_same from r.path f) (front_itself from)) e) in
         ap (λ (x : Row). cond (same_names from x.path) (Some x) (row_at (map (moved_row from to) rows) from)) (moved_off from to r e)
         ∙ (ap (λ b. cond b (Some r) (row_at (map (moved_row from to) rows) from)) away ∙ more parts.1)
 
@@ -164,18 +139,6 @@ pub record IsLike (o : Option Row) (row : Row) : Type 0 where
   pub at : o ≡ Some found
   pub kind : found.kind ≡ row.kind
   pub number : found.number ≡ row.number
-
-first_none : (b : Bool) (r : Row) (o : Option Row) → cond b (Some r) o ≡ None → (b ≡ false) × (o ≡ None)
-first_none true r o e = cc
-first_none false r o e = (refl, e)
-
-first_some : (b : Bool) (r row : Row) (o : Option Row) → b ≡ true → cond b (Some r) o ≡ Some row → r ≡ row
-first_some true r row o e f = cc
-first_some false r row o e f = cc
-
-next_some : (b : Bool) (r row : Row) (o : Option Row) → b ≡ false → cond b (Some r) o ≡ Some row → o ≡ Some row
-next_some true r row o e f = cc
-next_some false r row o e f = f
 
 moved_to : (from to : Names) (rows : List Row) (row : Row) → is_leaf from rows ≡ true → row_at rows to ≡ None → row_at rows from ≡ Some row → IsLike (row_at (map (moved_row from to) rows) to) row
 moved_to from to [] row leaf none at = cc
@@ -187,12 +150,12 @@ moved_to from to (r ∷ rows) row leaf none at = by (is_front from r.path) refl 
         → IsLike (row_at (map (moved_row from to) (r ∷ rows)) to) row
     by true e parts more =
         let (same, rest) = leaf_same from r (is_leaf from rows) leaf e in
-        let here : same_names to (moved_row from to r).path ≡ true = same_of to (moved_row from to r).path (sym (moved_path from to r e same)) in
-        let is : r ≡ row = first_some (same_names from r.path) r row (row_at rows from) (same_of from r.path same) at in
+        let here : same_names to (moved_row from to r).path ≡ true = names_equal to (moved_row from to r).path (sym (moved_path from to r e same)) in
+        let is : r ≡ row = first_some (same_names from r.path) r row (row_at rows from) (names_equal from r.path same) at in
         record { found = moved_row from to r; at = rw here refl; kind = rw e (ap (λ (x : Row). x.kind) is); number = rw e (ap (λ (x : Row). x.number) is) }
     by false e parts more =
         let first = first_none (same_names to r.path) r (row_at rows to) none in
-        let apart : same_names from r.path ≡ false = off (same_names from r.path) (λ f. never (is_front from r.path) (subst (λ z. is_front from z ≡ true) (same_yes from r.path f) (front_itself from)) e) in
+        let apart : same_names from r.path ≡ false = false_from_ne_true (same_names from r.path) (λ f. never (is_front from r.path) (subst (λ z. is_front from z ≡ true) (names_same from r.path f) (front_itself from)) e) in
         let like = more parts.1 first.1 (next_some (same_names from r.path) r row (row_at rows from) apart at) in
         record {
           found = like.found;
@@ -204,10 +167,6 @@ moved_to from to (r ∷ rows) row leaf none at = by (is_front from r.path) refl 
 
 -- ---- numbers
 
-or_more : (a b : Bool) → b ≡ true → (a || b) ≡ true
-or_more true b e = refl
-or_more false b e = e
-
 itself : (n : ℕ) → (n == n) ≡ true
 itself n = grind (arith, nat_tests)
 
@@ -217,38 +176,24 @@ numbered (r ∷ rows) p x at = by (same_names p r.path) refl (λ there. numbered
   where
     by : (b : Bool) → same_names p r.path ≡ b → (row_at rows p ≡ Some x → is_numbered rows x.number ≡ true) → is_numbered (r ∷ rows) x.number ≡ true
     by true e more = ap (λ c. c || is_numbered rows x.number) (ap (λ (y : Row). x.number == y.number) (first_some (same_names p r.path) r x (row_at rows p) e at) ∙ itself x.number)
-    by false e more = or_more (x.number == r.number) (is_numbered rows x.number) (more (next_some (same_names p r.path) r x (row_at rows p) e at))
+    by false e more = or_right (x.number == r.number) (is_numbered rows x.number) (more (next_some (same_names p r.path) r x (row_at rows p) e at))
 
 pub path_of : (rows : List Row) (p : Names) (x : Row) → row_at rows p ≡ Some x → p ≡ x.path
 path_of [] p x at = cc
 path_of (r ∷ rows) p x at = by (same_names p r.path) refl (λ there. path_of rows p x there)
   where
     by : (b : Bool) → same_names p r.path ≡ b → (row_at rows p ≡ Some x → p ≡ x.path) → p ≡ x.path
-    by true e more = same_yes p r.path e ∙ ap (λ (y : Row). y.path) (first_some (same_names p r.path) r x (row_at rows p) e at)
+    by true e more = names_same p r.path e ∙ ap (λ (y : Row). y.path) (first_some (same_names p r.path) r x (row_at rows p) e at)
     by false e more = more (next_some (same_names p r.path) r x (row_at rows p) e at)
 
 -- ---- how a row is shown
-
-pub timed_kind : (q : Names) (t : FileTime) (r : Row) → (timed_row q t r).kind ≡ r.kind
-timed_kind q t r = by (same_names q r.path) refl
-  where
-    by : (b : Bool) → same_names q r.path ≡ b → (timed_row q t r).kind ≡ r.kind
-    by true e = rw e refl
-    by false e = rw e refl
-
-pub timed_number : (q : Names) (t : FileTime) (r : Row) → (timed_row q t r).number ≡ r.number
-timed_number q t r = by (same_names q r.path) refl
-  where
-    by : (b : Bool) → same_names q r.path ≡ b → (timed_row q t r).number ≡ r.number
-    by true e = rw e refl
-    by false e = rw e refl
 
 -- only a directory gets another time
 pub timed_time : (q : Names) (t : FileTime) (r : Row) → (q ≡ r.path → r.kind ≡ Dir) → (r.kind ≡ Dir) ⊎ ((timed_row q t r).time ≡ r.time)
 timed_time q t r dir = by (same_names q r.path) refl
   where
     by : (b : Bool) → same_names q r.path ≡ b → (r.kind ≡ Dir) ⊎ ((timed_row q t r).time ≡ r.time)
-    by true e = inl (dir (same_yes q r.path e))
+    by true e = inl (dir (names_same q r.path e))
     by false e = inr (rw e refl)
 
 shown_alike : (k : Kind) (n : ℕ) (s t : FileTime) (x y : List ℕ) → (k ≡ Dir) ⊎ (s ≡ t) → x ≡ y → shown_as k n s x ≡ shown_as k n t y

@@ -1,14 +1,12 @@
 -- What the steps of an upload leave to those who read, and to other uploads.
-use Rattle.std.proofs.Common.{◌≡◌, ◌≢◌, ◌⊎◌, ◌≤◌, ◌<◌, ◌+◌, ◌++◌, inl, inr, ℕ, List, [], ◌∷◌, Bool, true, false, Option, None, Some, IsSome, Result, Ok, Err, refl, sym, ap, subst, ◌∙◌, arith}
+use Rattle.std.proofs.Common.{◌≡◌, ◌≢◌, ◌≤◌, ◌+◌, inr, ℕ, List, [], Bool, true, false, Option, None, Some, sym, ap, subst, ◌∙◌, arith}
 use Rattle.std.specs.Option.{option_map}
 use Rattle.dav_core.specs.declared.tree.Row.{Row}
 use Rattle.dav_core.specs.Disk.{DiskState, Live}
 use Rattle.dav_core.specs.Path.{Names}
 use Rattle.dav_core.specs.Tree.{row_at}
-use Rattle.dav_core.specs.Unchanged.{Keeps, KeepsBut}
 use Rattle.dav_core.specs.World.{Holds, IsWorld, OpenFile, SameBesidesOpens, World, bytes_of}
 use Rattle.dav_store.specs.Frames.{KeepsOpen, KeepsOpenBut}
-use Rattle.dav_upload.specs.Kept.{KeepsRow}
 use Rattle.dav_upload.specs.Names.{is_hidden_path}
 use Rattle.dav_upload.specs.Others.{IsNot, LeavesOthers}
 use Rattle.dav_upload.specs.Shown.{IsUnseen, SameShown}
@@ -18,7 +16,8 @@ use Rattle.dav_upload.proofs.Chains.{told_pair}
 use Rattle.dav_upload.proofs.Kept.{unseen_same}
 use Rattle.dav_upload.proofs.Leaves.{Leaves, leaves_same, one_path}
 use Rattle.dav_upload.proofs.Making.{kept_unseen}
-use Rattle.dav_upload.proofs.Stands.{other_stands, some_of}
+use Rattle.dav_upload.proofs.Stands.{other_stands}
+use Rattle.dav_io.proofs.Cases.{some_of}
 
 -- every number
 abbrev pub IsOfAny : ℕ → Type 0

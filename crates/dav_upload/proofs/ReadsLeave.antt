@@ -1,5 +1,5 @@
 -- What calls that write nothing leave to uploads.
-use Rattle.std.proofs.Common.{◌≡◌, ◌≢◌, ℕ, List, Bool, true, false, Option, None, Some, refl, sym, ap, ◌∙◌}
+use Rattle.std.proofs.Common.{◌≡◌, ◌≢◌, ℕ, List, Bool, false, None, Some, sym, ap, ◌∙◌}
 use Rattle.dav_core.specs.declared.tree.Row.{Row}
 use Rattle.dav_core.specs.Disk.{DiskState, Live}
 use Rattle.dav_core.specs.Path.{Names}
@@ -17,7 +17,7 @@ use Rattle.dav_upload.proofs.Kept.{unseen_same}
 use Rattle.dav_upload.proofs.Leaves.{Leaves, leaves_same}
 use Rattle.dav_upload.proofs.Making.{kept_unseen}
 use Rattle.dav_upload.proofs.Others.{IsOfAny, body_left, frame_but, not_own, quiet_left, upload_left}
-use Rattle.dav_upload.proofs.Stands.{some_of}
+use Rattle.dav_io.proofs.Cases.{some_of}
 
 module _ (s t : DiskState) (v w : World) (was : s.told ≡ Some v) (now : t.told ≡ Some w) (is : IsWorld v) where
   pub keeps_leave : Keeps s t → SameShown v w × LeavesOthers None IsAny s.live t.live v w

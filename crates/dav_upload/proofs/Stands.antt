@@ -17,10 +17,7 @@ use Rattle.dav_upload.proofs.Beside.{below_greatest}
 use Rattle.dav_upload.proofs.Kept.{IsMadeIn, kept_filled, made_in, same_keep, unseen_new, unseen_same}
 use Rattle.dav_upload.proofs.Making.{filled_unseen}
 use Rattle.dav_upload.proofs.Moving.{numbered}
-
-pub some_of : {A : Type 0} (o : Option A) → IsSome o → (a : A) × (o ≡ Some a)
-some_of None s = cc
-some_of (Some a) s = (a, refl)
+use Rattle.dav_io.proofs.Cases.{some_of}
 
 module _ (own : ℕ) (live then : ℕ → Option Live) (v w : World) (others : OthersOpen own live then v w) where
   -- no other handle than `h` has the number, where `own` hasn't

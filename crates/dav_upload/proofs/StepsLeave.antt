@@ -1,49 +1,46 @@
 -- What each step of an upload leaves to others, over a store whose calls do what the tree allows.
-use Rattle.std.proofs.Common.{◌≡◌, ◌≢◌, ◌⊎◌, ◌≤◌, ◌<◌, ◌+◌, ◌++◌, inl, inr, ℕ, List, [], ◌∷◌, length, Bool, true, false, Option, None, Some, IsSome, Result, Ok, Err, refl, sym, ap, subst, ◌∙◌, arith}
-use Rattle.dav_io.specs.Told.{Both}
+use Rattle.std.proofs.Common.{◌≡◌, ◌≢◌, ◌⊎◌, ◌≤◌, ◌++◌, inl, inr, ℕ, List, [], length, Bool, true, false, None, Some, Result, Ok, Err, refl, sym, ap, subst, ◌∙◌, arith}
 use Rattle.dav_core.specs.declared.error.FsError.{FsError}
-use Rattle.dav_core.specs.declared.tree.Kind.{Kind}
-use Rattle.dav_core.specs.declared.tree.Kind.TheVariants.{Dir, File}
-use Rattle.dav_core.specs.declared.tree.Row.{Row}
+use Rattle.dav_core.specs.declared.tree.Kind.TheVariants.{File}
 use Rattle.dav_core.specs.DavPath.{WebPath}
-use Rattle.dav_core.specs.Disk.{DiskState, Live}
-use Rattle.dav_core.specs.Edits.{Edited, EditedBy, fills, makes, moves, takes}
-use Rattle.dav_core.specs.Path.{Names, parent_of, same_names}
+use Rattle.dav_core.specs.Edits.{Edited, EditedBy, makes, moves}
+use Rattle.dav_core.specs.Path.{Names, same_names}
 use Rattle.dav_core.specs.Tree.{is_linked, row_at}
 use Rattle.dav_core.specs.Unchanged.{Keeps}
-use Rattle.dav_core.specs.World.{IsWorld, OpenFile, SameBesidesOpens, World, bytes_of}
-use Rattle.dav_core.specs.Writing.{written}
+use Rattle.dav_core.specs.World.{IsWorld, SameBesidesOpens, World, bytes_of}
 use Rattle.dav_core.proofs.UnchangedLemmas.{same_besides, same_besides_then}
 use Rattle.dav_store.specs.Frames.{KeepsOpen, KeepsOpenBut, OpensOne}
 use Rattle.dav_store.specs.View.{Closes, View}
 use Rattle.dav_methods.proofs.KeptOpen.{but_kept, but_then, open_after, open_kept, open_same, open_then}
 use Rattle.dav_methods.specs.Lines.{Given}
-use Rattle.dav_methods.specs.Pouring.{Writes, WritesFile}
+use Rattle.dav_methods.specs.Pouring.{Writes}
 use Rattle.dav_methods.specs.Putting.{MayPut}
 use Rattle.dav_model.specs.declared.outcome.Outcome.{Outcome}
 use Rattle.dav_model.specs.Conditions.{Fields}
 use Rattle.dav_upload.specs.declared.error.UploadError.{UploadError}
 use Rattle.dav_upload.specs.declared.upload.Upload.{Upload}
-use Rattle.dav_upload.specs.Ends.{EndsAs, MakesFile, WritesAt}
+use Rattle.dav_upload.specs.Ends.{WritesAt}
 use Rattle.dav_upload.specs.Names.{hidden_beside, is_hidden_path, is_taken}
 use Rattle.dav_upload.specs.Others.{IsNot, LeavesOthers}
 use Rattle.dav_upload.specs.Pieces.{upload_options}
-use Rattle.dav_upload.specs.Shown.{IsCommitted, IsUnseen, SameShown, StandsBeside}
-use Rattle.dav_upload.specs.Standing.{OthersOpen, StandsIn}
+use Rattle.dav_upload.specs.Shown.{IsUnseen, StandsBeside}
+use Rattle.dav_upload.specs.Standing.{StandsIn}
 use Rattle.dav_upload.specs.Steps.{IsBeside, IsClear, Pieced}
 use Rattle.dav_upload.specs.Takes.{TakesUploads}
-use Rattle.dav_upload.specs.Uploading.{AfterClose, AfterJudged, AfterJudging, AfterMove, Aborts, Begins, BeginsAs, Commits, Judges, PieceOn, TriesToRemove, WritesPiece, begun as upload_begun, is_refused}
-use Rattle.dav_upload.proofs.Beside.{below_greatest, file_beside, file_hidden}
-use Rattle.dav_upload.proofs.Chains.{hidden_long, judged_plain, named_long, never_appends, new_at, one_told, opened_began, pieced, told_on, told_pair}
+use Rattle.dav_upload.specs.Uploading.{AfterClose, AfterJudged, AfterJudging, AfterMove, Aborts, Begins, BeginsAs, Commits, Judges, PieceOn, WritesPiece, begun as upload_begun}
+use Rattle.dav_upload.proofs.Beside.{file_beside, hidden_some}
+use Rattle.dav_upload.proofs.Chains.{judged_plain, named_long, never_appends, new_at, one_told, opened_began, pieced, told_pair}
 use Rattle.dav_upload.proofs.Closing.{but_open}
-use Rattle.dav_upload.proofs.Ends.{may_move, moved_or_left, none_taken, taken_or_left, unlinked_after}
+use Rattle.dav_upload.proofs.Ends.{may_move, moved_or_left, none_taken, unlinked_after}
 use Rattle.dav_upload.proofs.Hiding.{taken_unseen}
 use Rattle.dav_upload.proofs.Kept.{unseen_at, unseen_same}
-use Rattle.dav_upload.proofs.Leaves.{Leaves, leaves_filled, leaves_made, leaves_moved, leaves_same, leaves_taken, leaves_then, one_path}
+use Rattle.dav_upload.proofs.Leaves.{Leaves, leaves_filled, leaves_made, leaves_moved, leaves_same, leaves_taken, leaves_then}
 use Rattle.dav_upload.proofs.Making.{kept_unseen}
-use Rattle.dav_upload.proofs.Moving.{moved_commits, moved_gone, moved_number, never, same_of, same_yes}
+use Rattle.dav_upload.proofs.Moving.{moved_commits, moved_gone, moved_number, never}
 use Rattle.dav_upload.proofs.Others.{IsHiddenBut, IsOfAny, ended_left, left_but, new_left, quiet_left, written_left}
 use Rattle.dav_upload.proofs.Sweeps.{Took, hidden_took}
+use Rattle.dav_io.proofs.ToldLemmas.{told_after}
+use Rattle.dav_core.proofs.Paths.{names_equal, names_same}
 
 pub equal_worlds : (v w : World) → v ≡ w → SameBesidesOpens v w
 equal_worlds v w e = subst (SameBesidesOpens v) e (same_besides v)
@@ -92,7 +89,7 @@ module _ {S C F : Type 0} (view : View S C F) (writes : Writes F) (c : C) (test 
     judged_left fields r j = by j.may j.opens
       where
         there : (u : World) × ((view.state j.judged).told ≡ Some u) × SameBesidesOpens v u
-        there = told_on (view.state s).told (view.state j.judged).told SameBesidesOpens v j.keeps.world was
+        there = told_after (view.state s).told (view.state j.judged).told SameBesidesOpens v j.keeps.world was
 
         by : (may : Given) → AfterJudging view c may target token j.judged r t → Left
         by (Err e) (same, is) =
@@ -163,10 +160,10 @@ module _ {S C F : Type 0} (view : View S C F) (writes : Writes F) (c : C) (test 
       where
         by : (b : Bool) → same_names path u.target.names ≡ b → r.number ≢ n
         by true e f =
-            let here : path ≡ u.target.names = same_yes path u.target.names e in
+            let here : path ≡ u.target.names = names_same path u.target.names e in
             ne (sym f ∙ moved_number x y hidden u.target.names stands.row beside edited r (ap (row_at y.tree) (sym here) ∙ at))
         by false e f =
-            unseen_at x y n path ((moved_commits x y hidden u.target.names stands.row beside edited).others path (λ g. never (same_names path u.target.names) (same_of path u.target.names g) e)) unseen r at shows f
+            unseen_at x y n path ((moved_commits x y hidden u.target.names stands.row beside edited).others path (λ g. never (same_names path u.target.names) (names_equal path u.target.names g) e)) unseen r at shows f
 
     did_left : KeepsOpenBut h (view.state s) (view.state t) → (view.state t).live h ≡ None → Did → LeftEnded
     did_left keeps gone did = ended_left (view.state s) (view.state t) v w was now (takes_all.worlds s v was) hidden h keeps u.broken pieces stands (leaves did) gone (unseen did)
@@ -198,7 +195,7 @@ module _ {S C F : Type 0} (view : View S C F) (writes : Writes F) (c : C) (test 
 
     closed_waits : (closed : S) → Closes view s u.file closed → Waits closed
     closed_waits closed closes =
-        let (x, here, same) = told_on (view.state s).told (view.state closed).told SameBesidesOpens v closes.done.keeps.world was in
+        let (x, here, same) = told_after (view.state s).told (view.state closed).told SameBesidesOpens v closes.done.keeps.world was in
         record { world = x; here = here; same = same; plainly = takes_all.lends s closed p closes.lent.store }
 
     row_waits : (m : S) (x : Waits m) → row_at x.world.tree hidden ≡ Some stands.row
@@ -250,7 +247,7 @@ module _ {S C F : Type 0} (view : View S C F) (writes : Writes F) (c : C) (test 
           let open_way = ap (λ tree. is_linked tree u.target.names) x.same.tree ∙ clear.to_target in
           let ends = told_pair (view.state m).told (view.state k).told _ x.world z (takes_all.moves m k u.hidden u.target r x.plainly renames).1 x.here there free open_way stands.row at stands.kind in
           let long = named_long u.target.names beside.named in
-          let may = may_move x.world hidden u.target.names stands.row world at stands.kind (hidden_long hidden stands.hides) long differ in
+          let may = may_move x.world hidden u.target.names stands.row world at stands.kind (hidden_some hidden stands.hides) long differ in
           elim (moved_or_left x.world z hidden u.target.names r may ends) [
             | inl (edited, no_dir, done) ↦ inl (file_beside x.world hidden u.target.names stands.row world stands.hides beside.shows beside.beside long at stands.kind no_dir, edited)
             | inr (same, never_ok) ↦ inr same
@@ -272,12 +269,12 @@ module _ {S C F : Type 0} (view : View S C F) (writes : Writes F) (c : C) (test 
       did_judged m x (Err e) result ((r, removes, keeps), is) = removed_did m x r clear.to_hidden removes
       did_judged m x (Ok outcome) result (r, k, renames, keeps, after) =
           let moves_told = takes_all.moves m k u.hidden u.target r x.plainly renames in
-          let (z, there, so) = told_on (view.state m).told (view.state k).told _ x.world moves_told.1 x.here in
+          let (z, there, so) = told_after (view.state m).told (view.state k).told _ x.world moves_told.1 x.here in
           did_moved m k x z there moves_told.0 (moved m k x z there r renames) r outcome result after
 
       judged_waits : (m k : S) (x : Waits m) (fields : Fields) (may : Given) → MayPut view c u.target fields m may k → Keeps (view.state m) (view.state k) → Waits k
       judged_waits m k x fields may judges keeps =
-          let (y, here, same) = told_on (view.state m).told (view.state k).told SameBesidesOpens x.world keeps.world x.here in
+          let (y, here, same) = told_after (view.state m).told (view.state k).told SameBesidesOpens x.world keeps.world x.here in
           record { world = y; here = here; same = same_besides_then v x.world y x.same same; plainly = judged_plain view writes c test takes_all u.target fields m may k x.plainly judges }
 
       pub commit_left : (fields : Fields) (result : Result Outcome UploadError) → Commits view c u fields s result t → LeftEnded

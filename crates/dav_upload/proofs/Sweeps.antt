@@ -1,19 +1,18 @@
 -- A sweep leaves what is shown: each file that it removes has a hidden name.
-use Rattle.std.proofs.Common.{◌≡◌, ◌⊎◌, ◌+◌, ◌&&◌, ◌++◌, inl, inr, ℕ, List, [], ◌∷◌, map, Bool, true, false, not, cond, Option, None, Some, Result, Ok, Err, refl, sym, ap, subst, ◌∙◌}
+use Rattle.std.proofs.Common.{◌≡◌, ◌⊎◌, ◌+◌, ◌++◌, inl, inr, ℕ, List, [], ◌∷◌, Bool, true, false, not, cond, Option, None, Some, Result, Ok, Err, refl, sym, ap, subst, ◌∙◌}
 use Rattle.std.proofs.lemmas.Bool.{and_parts}
-use Rattle.std.specs.List.{AllByRecursion, filter}
+use Rattle.std.specs.List.{AllByRecursion}
 use Rattle.dav_core.specs.declared.error.FsError.{FsError}
 use Rattle.dav_core.specs.declared.handle.DiskError.TheVariants.{IsDir}
 use Rattle.dav_core.specs.declared.tree.Kind.{Kind}
 use Rattle.dav_core.specs.declared.tree.Kind.TheVariants.{Dir, File, Link}
 use Rattle.dav_core.specs.declared.tree.Row.{Row}
 use Rattle.dav_core.specs.Allowed.{found_then, taking_file, taking_file_row}
-use Rattle.dav_core.specs.DavPath.{WebPath, last_name}
-use Rattle.dav_core.specs.Edits.{Edit, Edited, takes}
+use Rattle.dav_core.specs.DavPath.{WebPath}
+use Rattle.dav_core.specs.Edits.{Edited, takes}
 use Rattle.dav_core.specs.Listing.{or_empty}
 use Rattle.dav_core.specs.Path.{Names}
 use Rattle.dav_core.specs.Tree.{is_dir, is_link, is_linked, row_at}
-use Rattle.dav_core.specs.Unchanged.{Keeps}
 use Rattle.dav_core.specs.World.{IsWorld, SameBesidesOpens, World}
 use Rattle.dav_core.specs.Writing.{LeftBy}
 use Rattle.dav_store.specs.View.{Listings, View}
@@ -21,22 +20,23 @@ use Rattle.dav_methods.specs.declared.child.Child.{Child}
 use Rattle.dav_methods.specs.Pouring.{Writes}
 use Rattle.dav_model.proofs.PlainWalks.{unlinked_row}
 use Rattle.dav_upload.specs.declared.error.UploadError.{UploadError}
-use Rattle.dav_upload.specs.declared.error.UploadError.TheVariants.{NoMemory}
 use Rattle.dav_upload.specs.Ends.{EndsAs, is_spoiled}
 use Rattle.dav_upload.specs.Names.{is_hidden, is_hidden_path}
 use Rattle.dav_upload.specs.Shown.{IsHiddenIn, SameShown}
 use Rattle.dav_upload.specs.Steps.{HasClearNames}
 use Rattle.dav_upload.specs.Takes.{ReadsPlainly, TakesUploads}
-use Rattle.dav_upload.specs.Uploading.{Sweeps, TakesAll, hidden_files, in_dir, is_hidden_file}
+use Rattle.dav_upload.specs.Uploading.{Sweeps, TakesAll, hidden_files, is_hidden_file}
 use Rattle.dav_upload.specs.Uploading.TakesAll.{done, goes, short, stops}
 use Rattle.dav_upload.proofs.Beside.{file_hidden, looked_at}
-use Rattle.dav_upload.proofs.Chains.{one_told, shown_same, shown_then, told_on, told_pair}
-use Rattle.dav_upload.proofs.Ends.{left_refused, none_taken, taken_or_left}
+use Rattle.dav_upload.proofs.Chains.{one_told, shown_same, shown_then, told_pair}
+use Rattle.dav_upload.proofs.Ends.{none_taken, taken_or_left}
 use Rattle.dav_upload.proofs.Hiding.{taken_unseen}
 use Rattle.dav_upload.proofs.Links.{links_kept, taken_unlinked}
 use Rattle.dav_upload.proofs.Making.{kept_unseen}
 use Rattle.dav_upload.proofs.Moving.{never}
-use Rattle.dav_upload.proofs.Tokens.{last_of}
+use Rattle.dav_io.proofs.ToldLemmas.{told_after}
+use Rattle.dav_core.proofs.LeftLemmas.{left_refused}
+use Rattle.dav_core.proofs.Paths.{last_pushed}
 
 -- ---- one removal
 
@@ -99,7 +99,7 @@ files_clear w dir (m ∷ members) clear = by (is_hidden_file m) refl (files_clea
     by false e rest = rw e rest
     by true e rest =
         let hides = (and_parts (not m.dir) (is_hidden m.name) e).1 in
-        rw e ((ap (λ o. is_hidden (or_empty o)) (last_of dir.names m.name) ∙ hides, clear m.name hides), rest)
+        rw e ((ap (λ o. is_hidden (or_empty o)) (last_pushed dir.names m.name) ∙ hides, clear m.name hides), rest)
 
 module _ {S C F : Type 0} (view : View S C F) (writes : Writes F) (c : C) (test : S → Bool) (takes_all : TakesUploads view writes c test) where
   module _ {L E : Type 0} (lists : Listings S C L E) (reads : ReadsPlainly view lists c test) where
@@ -119,7 +119,7 @@ module _ {S C F : Type 0} (view : View S C F) (writes : Writes F) (c : C) (test 
     taken_all paths n s t r v w was now plain (stops path rest i a b e removes keeps) ((hides, free), clear) = (removed_one path s t v w (Err e) was now plain hides free removes).shown
     taken_all paths n s t r v w was now plain (goes path rest i a m b q removes keeps on) ((hides, free), clear) =
         let taken = takes_all.removes s m path (Ok tt) plain removes in
-        let (x, here, ends) = told_on (view.state s).told (view.state m).told _ v taken.1 was in
+        let (x, here, ends) = told_after (view.state s).told (view.state m).told _ v taken.1 was in
         let unseen = removed_one path s m v x (Ok tt) was here plain hides free removes in
         shown_then v x w unseen.shown (taken_all rest (i + 1) m t r x w here now taken.0 on (still_clear v x rest unseen clear))
 
@@ -127,6 +127,6 @@ module _ {S C F : Type 0} (view : View S C F) (writes : Writes F) (c : C) (test 
         → Sweeps view lists c dir s r t → SameShown v w
     swept dir s t v w r was now plain clear (inl (e, hasnt, is)) = kept_unseen v w (told_pair (view.state s).told (view.state t).told SameBesidesOpens v w hasnt.keeps.world was now)
     swept dir s t v w r was now plain clear (inr (members, m, has, keeps, removals)) =
-        let (x, here, same) = told_on (view.state s).told (view.state m).told SameBesidesOpens v keeps.world was in
+        let (x, here, same) = told_after (view.state s).told (view.state m).told SameBesidesOpens v keeps.world was in
         let still : HasClearNames x dir.names = λ name hides. links_kept v x same (dir.names ++ name ∷ []) ∙ clear name hides in
         shown_then v x w (kept_unseen v x same) (taken_all (hidden_files dir members) 0 m t r x w here now (reads s m dir members plain has) removals (files_clear x dir members still))

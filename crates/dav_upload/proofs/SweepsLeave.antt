@@ -1,11 +1,9 @@
 -- What a sweep leaves to others.
-use Rattle.std.proofs.Common.{◌≡◌, ◌≢◌, ◌⊎◌, ◌+◌, ◌&&◌, ◌++◌, inl, inr, ℕ, List, [], ◌∷◌, map, Bool, true, false, not, Option, None, Some, Result, Ok, Err, refl, sym, ap, subst, ◌∙◌}
-use Rattle.std.specs.List.{AllByRecursion, filter}
-use Rattle.dav_core.specs.declared.error.FsError.{FsError}
+use Rattle.std.proofs.Common.{◌≡◌, ◌+◌, ◌++◌, inl, inr, ℕ, List, [], ◌∷◌, Bool, true, false, None, Some, Result, Ok, Err, refl, ap, ◌∙◌}
+use Rattle.std.specs.List.{AllByRecursion}
 use Rattle.dav_core.specs.DavPath.{WebPath}
 use Rattle.dav_core.specs.Path.{Names, parent_of}
-use Rattle.dav_core.specs.Unchanged.{Keeps}
-use Rattle.dav_core.specs.World.{IsWorld, SameBesidesOpens, World}
+use Rattle.dav_core.specs.World.{SameBesidesOpens, World}
 use Rattle.dav_store.specs.Frames.{KeepsOpen}
 use Rattle.dav_store.specs.View.{Listings, View}
 use Rattle.dav_methods.proofs.KeptOpen.{open_after, open_kept, open_same, open_then}
@@ -15,17 +13,17 @@ use Rattle.dav_model.proofs.LooseWalks.{parent_pushed}
 use Rattle.dav_upload.specs.declared.error.UploadError.{UploadError}
 use Rattle.dav_upload.specs.Names.{is_hidden_path}
 use Rattle.dav_upload.specs.Others.{IsNotHiddenIn, LeavesOthers}
-use Rattle.dav_upload.specs.Shown.{SameShown}
 use Rattle.dav_upload.specs.Steps.{HasClearNames}
 use Rattle.dav_upload.specs.Takes.{ReadsPlainly, TakesUploads}
-use Rattle.dav_upload.specs.Uploading.{Sweeps, TakesAll, hidden_files, in_dir, is_hidden_file}
+use Rattle.dav_upload.specs.Uploading.{Sweeps, TakesAll, hidden_files, is_hidden_file}
 use Rattle.dav_upload.specs.Uploading.TakesAll.{done, goes, short, stops}
-use Rattle.dav_upload.proofs.Chains.{one_told, told_on, told_pair}
+use Rattle.dav_upload.proofs.Chains.{one_told, told_pair}
 use Rattle.dav_upload.proofs.Leaves.{Leaves, leaves_same, leaves_taken, leaves_then}
 use Rattle.dav_upload.proofs.Links.{links_kept}
 use Rattle.dav_upload.proofs.Others.{IsOfAny, all_left, frame_open}
 use Rattle.dav_upload.proofs.StepsLeave.{equal_worlds}
-use Rattle.dav_upload.proofs.Sweeps.{AreClear, Took, Unseen, files_clear, removed_one, still_clear, swept, took_one}
+use Rattle.dav_upload.proofs.Sweeps.{AreClear, Took, files_clear, removed_one, still_clear, swept, took_one}
+use Rattle.dav_io.proofs.ToldLemmas.{told_after}
 
 -- each path is of a name in the directory
 abbrev AreIn : Names → List WebPath → Type 0
@@ -56,7 +54,7 @@ module _ {S C F : Type 0} (view : View S C F) (writes : Writes F) (c : C) (test 
         (took_leaves dir path.names v w hides within (took_one view writes c test takes_all lists reads path s t v w (Err e) was now plain hides free removes), keeps)
     paths_leave dir paths n s t r v w was now plain (goes path rest i a m b q removes keeps on) ((hides, free), clear) (within, more) =
         let taken = takes_all.removes s m path (Ok tt) plain removes in
-        let (x, here, ends) = told_on (view.state s).told (view.state m).told _ v taken.1 was in
+        let (x, here, ends) = told_after (view.state s).told (view.state m).told _ v taken.1 was in
         let took = took_one view writes c test takes_all lists reads path s m v x (Ok tt) was here plain hides free removes in
         let unseen = removed_one view writes c test takes_all lists reads path s m v x (Ok tt) was here plain hides free removes in
         let (then, open_then_on) = paths_leave dir rest (i + 1) m t r x w here now taken.0 on (still_clear v x rest unseen clear) more in
@@ -67,7 +65,7 @@ module _ {S C F : Type 0} (view : View S C F) (writes : Writes F) (c : C) (test 
     sweep_leaves dir s t v w r was now plain clear (inl (e, hasnt, is)) =
         (leaves_same IsOfAny (IsNotHiddenIn dir.names) v w (told_pair (view.state s).told (view.state t).told SameBesidesOpens v w hasnt.keeps.world was now), open_kept (view.state s) (view.state t) hasnt.keeps)
     sweep_leaves dir s t v w r was now plain clear (inr (members, m, has, keeps, removals)) =
-        let (x, here, same) = told_on (view.state s).told (view.state m).told SameBesidesOpens v keeps.world was in
+        let (x, here, same) = told_after (view.state s).told (view.state m).told SameBesidesOpens v keeps.world was in
         let still : HasClearNames x dir.names = λ name hides. links_kept v x same (dir.names ++ name ∷ []) ∙ clear name hides in
         let (leaves, open_on) = paths_leave dir.names (hidden_files dir members) 0 m t r x w here now (reads s m dir members plain has) removals (files_clear x dir members still) (files_in dir members) in
         (leaves_then IsOfAny (IsNotHiddenIn dir.names) v x w (leaves_same IsOfAny (IsNotHiddenIn dir.names) v x same) leaves, open_after (view.state s) (view.state m) (view.state t) keeps open_on)

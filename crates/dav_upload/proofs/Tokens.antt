@@ -1,14 +1,15 @@
 -- The name that is made of a token is hidden and plain.
-use Rattle.std.proofs.Common.{◌≡◌, ◌<◌, ◌-◌, ◌/◌, ◌%◌, ◌&&◌, ◌++◌, ◌∷◌, [], ℕ, zero, suc, List, length, Bool, true, false, Some, refl, ap, ◌∙◌, arith, length-append, slice_index, slice_get}
+use Rattle.std.proofs.Common.{◌≡◌, ◌<◌, ◌/◌, ◌%◌, ◌∷◌, [], ℕ, zero, suc, List, length, Bool, true, false, refl, ap, ◌∙◌, arith, slice_index}
 use Rattle.std.specs.Int.{to_be_bytes, bytes_high_first, byte_at, w64}
 use Rattle.std.specs.List.{list_all, list_any}
-use Rattle.std.proofs.lemmas.Bool.{and_parts}
+use Rattle.std.proofs.lemmas.Bool.{and_parts, and_from}
 use Rattle.std.proofs.lemmas.Bool.Decides.{nat_tests}
 use Rattle.hex.specs.Hex.{encode_lower, encode_with, lower_digits}
-use Rattle.dav_core.specs.DavPath.{WebPath, last_name}
+use Rattle.dav_core.specs.DavPath.{WebPath}
 use Rattle.dav_core.specs.Listing.{or_empty}
-use Rattle.dav_core.specs.Path.{Names, is_plain, parent_of, parts_names}
+use Rattle.dav_core.specs.Path.{is_plain, parent_of, parts_names}
 use Rattle.dav_upload.specs.Names.{hidden_beside, hidden_name, is_digit, is_hidden, is_hidden_path}
+use Rattle.dav_core.proofs.Paths.{last_pushed}
 
 at_index : (q : ℕ → Bool) (xs : List ℕ) (k : ℕ) → list_all q xs ≡ true → k < length xs → q (slice_index xs k) ≡ true
 at_index q [] k all lt = absurd (omega (arith, lt))
@@ -22,16 +23,13 @@ byte_below : (k n : ℕ) → byte_at k n < 256
 byte_below zero n = omega arith
 byte_below (suc k) n = omega arith
 
-both : (a b : Bool) → a ≡ true → b ≡ true → (a && b) ≡ true
-both a b e f = rw (e, f) refl
-
 all_digits : (k n : ℕ) → list_all is_digit (encode_lower (bytes_high_first k n)) ≡ true
 unfolding encode_with
 all_digits zero n = refl
 all_digits (suc k) n =
     let small = byte_below k n in
-    both (is_digit (slice_index lower_digits (byte_at k n / 16))) _ (digit_at (byte_at k n / 16) (omega (arith, small)))
-    (both (is_digit (slice_index lower_digits (byte_at k n % 16))) _ (digit_at (byte_at k n % 16) (omega (arith, small))) (all_digits k n))
+    and_from (is_digit (slice_index lower_digits (byte_at k n / 16))) _ (digit_at (byte_at k n / 16) (omega (arith, small)))
+    (and_from (is_digit (slice_index lower_digits (byte_at k n % 16))) _ (digit_at (byte_at k n % 16) (omega (arith, small))) (all_digits k n))
 
 pub token_hides : (token : ℕ) → is_hidden (hidden_name token) ≡ true
 unfolding encode_with
@@ -48,14 +46,5 @@ pub token_plain : (token : ℕ) → is_plain (hidden_name token) ≡ true
 unfolding encode_with
 token_plain token = rw (no_parts (encode_lower (to_be_bytes w64 token)) (all_digits 8 token)) refl
 
-get_last : (front : Names) (name : List ℕ) → slice_get (front ++ name ∷ []) (length front) ≡ Some name
-get_last [] name = refl
-get_last (x ∷ front) name = get_last front name
-
-pub last_of : (front : Names) (name : List ℕ) → last_name (front ++ name ∷ []) ≡ Some name
-last_of front name =
-    let long : length (front ++ name ∷ []) - 1 ≡ length front = omega (arith, length-append front (name ∷ [])) in
-    ap (slice_get (front ++ name ∷ [])) long ∙ get_last front name
-
 pub beside_hides : (target : WebPath) (token : ℕ) → is_hidden_path (hidden_beside target token).names ≡ true
-beside_hides target token = ap (λ o. is_hidden (or_empty o)) (last_of (parent_of target.names) (hidden_name token)) ∙ token_hides token
+beside_hides target token = ap (λ o. is_hidden (or_empty o)) (last_pushed (parent_of target.names) (hidden_name token)) ∙ token_hides token

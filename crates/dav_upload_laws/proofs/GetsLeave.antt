@@ -47,11 +47,11 @@ use Rattle.dav_local.proofs.Rows.{looked_row}
 use Rattle.dav_local_laws.specs.LocalStore.{IsLocalStore, place}
 use Rattle.dav_upload.specs.Others.{IsAny, LeavesOthers}
 use Rattle.dav_upload.specs.Shown.{SameShown}
-use Rattle.dav_upload.proofs.Chains.{told_on}
 use Rattle.dav_upload.proofs.ReadsLeave.{keeps_leave, opened_leaves, read_leaves}
 use Rattle.dav_upload_laws.specs.Reading.{IsRead, IsShownAt, handle_of}
 use Rattle.dav_upload_laws.specs.Written.{finds_as_written}
 use Rattle.dav_upload_laws.proofs.LocalTakes.{finds_here}
+use Rattle.dav_io.proofs.ToldLemmas.{told_after}
 
 -- ---- a file's number, by what is seen of it
 
@@ -253,7 +253,7 @@ module _ {S C : Type 0} (view : View S C LocalFsFile) (lists : Listings S C Loca
       of_disk : (answer : Result Handle DiskError) (t : DiskState) → DiskOpens (view.state m) path.names reading answer t → Ok file ≡ filed answer → t ≡ view.state n → IsOfRow v path n file
       of_disk (Err d) t call is same = cc
       of_disk (Ok h) t call is same =
-          let (w, now, over) = told_on (view.state m).told t.told (OpenedIn path.names (Ok h) (kind_opened (Ok h) t)) v call.told was in
+          let (w, now, over) = told_after (view.state m).told t.told (OpenedIn path.names (Ok h) (kind_opened (Ok h) t)) v call.told was in
           let (number, world, holds, rows) = over in
           let (row, looked, numbered, kind) = rows clear in
           let own : file ≡ record { handle = h } = cc in
@@ -287,7 +287,7 @@ module _ {S C : Type 0} (view : View S C LocalFsFile) (lists : Listings S C Loca
     held_leaves : (answer : Answer LocalFsFile) (h : OpenAt LocalFsFile) → finds_as_written (ways s) ≡ true → KeepsBut (view.file.handle h.file) (view.state s) (view.state t)
         → (view.state s).live (view.file.handle h.file) ≡ None → (view.state t).live (view.file.handle h.file) ≡ Some read_file → OpenedAt view lists c (IsShownAt v) q s answer t → answer.1.file ≡ Some h → Left
     held_leaves answer h plain keeps fresh live o file =
-        let (u, here, same) = told_on (view.state s).told (view.state o.before).told SameBesidesOpens v o.keeps.world was in
+        let (u, here, same) = told_after (view.state s).told (view.state o.before).told SameBesidesOpens v o.keeps.world was in
         let still : finds_as_written (ways o.before) ≡ true = ap finds_as_written (local.looks s o.before c q.path o.look o.looks).1 ∙ plain in
         let r = opened_row o.before o.opened o.path o.file u still here (ap (λ tree. is_linked tree o.path.names) same.tree ∙ o.allowed.clear) o.opens in
         opened_leaves (view.state s) (view.state t) v w was now is_world (view.file.handle h.file) keeps fresh o.path.names r.row (ap (λ tree. row_at tree o.path.names) (sym same.tree) ∙ r.at) o.allowed.shows

@@ -3,7 +3,7 @@
 use Rattle.std.proofs.Common.{◌≡◌, ◌⊎◌, ◌≤◌, inl, inr, ◌&&◌, ◌||◌, ℕ, Bool, true, false, not, List, length, drop, Option, None, Some, Result, Ok, Err, refl, sym, ap, subst, ◌∙◌}
 use Rattle.std.specs.Option.{is_some, option_map}
 use Rattle.dav_io.specs.Told.{Both}
-use Rattle.dav_io.proofs.ToldLemmas.{both_map, both_same, both_then}
+use Rattle.dav_io.proofs.ToldLemmas.{both_known, both_map, both_same, both_then, told_after, both_and}
 use Rattle.dav_io.specs.declared.clock.Moment.{Moment}
 use Rattle.dav_core.specs.declared.error.FsError.{FsError}
 use Rattle.dav_core.specs.declared.error.FsError.TheVariants as fs
@@ -26,14 +26,13 @@ use Rattle.dav_core.proofs.UnchangedLemmas.{put_same, same_besides, same_besides
 use Rattle.dav_store.specs.Files.{Spoiled}
 use Rattle.dav_store.specs.View.{Listings, View}
 use Rattle.dav_methods.specs.Pouring.{Writes, WritesFile}
-use Rattle.dav_methods.proofs.Stages.{both_known}
 use Rattle.dav_cache.specs.Memory.{MemoryState}
 use Rattle.dav_model.specs.Finding.{is_forbidden, or_walk}
 use Rattle.dav_local.specs.declared.entry.LocalFsDirEntry.{LocalFsDirEntry}
 use Rattle.dav_local.specs.declared.file.LocalFsFile.{LocalFsFile}
 use Rattle.dav_local.specs.declared.gathering.LocalFsReadDir.{LocalFsReadDir}
 use Rattle.dav_local.specs.declared.ways.Ways.{Ways}
-use Rattle.dav_local.specs.Calls.{AfterMove, AsksToMove, AsksToTakeFile, Finds, IsOpening, MovesAgain, MovesAt, Place, found_dir, is_shut}
+use Rattle.dav_local.specs.Calls.{AfterMove, AfterNotDir, AsksToMove, AsksToTakeFile, Finds, IsOpening, MovesAgain, MovesAt, Place, blocked_by, is_shut}
 use Rattle.dav_local.specs.Files.{done_by, filed}
 use Rattle.dav_local.specs.Ways.{is_known, rules_of}
 use Rattle.dav_local.specs.Writing.{WritesAll}
@@ -44,16 +43,10 @@ use Rattle.dav_local_laws.specs.LocalStore.{IsLocalStore, place}
 use Rattle.dav_upload.specs.Ends.{EndsAs, MakesFile, WritesAt, is_spoiled}
 use Rattle.dav_upload.specs.Pieces.{upload_options}
 use Rattle.dav_upload.specs.Takes.{TakesUploads}
-use Rattle.dav_upload.proofs.Chains.{told_on}
 use Rattle.dav_upload_laws.specs.Written.{finds_as_written}
+use Rattle.dav_core.proofs.LeftLemmas.{left_more}
 
 -- ---- what is told
-
-both_and : {A : Type 0} (a b : Option A) (P Q : A → A → Type 0) → Both a b P → Both a b Q → Both a b (λ v w. P v w × Q v w)
-both_and None None P Q p q = tt
-both_and None (Some w) P Q p q = absurd p
-both_and (Some v) None P Q p q = absurd p
-both_and (Some v) (Some w) P Q p q = (p, q)
 
 -- ---- where a path is found
 
@@ -92,12 +85,6 @@ left_all false (Ok (Some e)) v w same = same
 left_all false (Ok None) v w same = same
 left_all false (Err d) v w same = same
 
-left_part : (may : Bool) (allowed : Allowed) (v w : World) → LeftBy may allowed v w → LeftBy true allowed v w
-left_part true allowed v w left = left
-left_part false (Ok (Some e)) v w left = inl left
-left_part false (Ok None) v w left = left
-left_part false (Err d) v w left = left
-
 -- where the tree calls for the refusal
 left_none : (may b : Bool) (d : DiskError) (allowed : Allowed) (v w : World) → allowed ≡ Err d → LeftBy may allowed v w → LeftBy b allowed v w
 left_none may b d allowed v w is left = subst (λ a. LeftBy b a v w) (sym is) (left_all b (Err d) v w (same may (subst (λ a. LeftBy may a v w) is left)))
@@ -108,8 +95,8 @@ left_none may b d allowed v w is left = subst (λ a. LeftBy b a v w) (sym is) (l
 
 done_ends : (may : Bool) (allowed : Allowed) (answer : Result Unit DiskError) (v w : World) → DoesIn may allowed answer v w → EndsAs allowed (done_by answer) v w
 done_ends may allowed (Ok x) v w done = done
-done_ends may allowed (Err Failed) v w (why, left) = left_part may allowed v w left
-done_ends may allowed (Err NoMemory) v w (why, left) = left_part may allowed v w left
+done_ends may allowed (Err Failed) v w (why, left) = left_more may allowed v w left
+done_ends may allowed (Err NoMemory) v w (why, left) = left_more may allowed v w left
 done_ends may allowed (Err NotFound) v w (why, left) = left_none may (is_spoiled (fs_error_of NotFound)) NotFound allowed v w why left
 done_ends may allowed (Err Exists) v w (why, left) = left_none may (is_spoiled (fs_error_of Exists)) Exists allowed v w why left
 done_ends may allowed (Err NotDir) v w (why, left) = left_none may (is_spoiled (fs_error_of NotDir)) NotDir allowed v w why left
@@ -136,12 +123,7 @@ may_here l h piece v w (inr (can, n, wrote)) o at = wrote_here (appends l) h pie
 write_here : (l : Option Live) (h : ℕ) (piece : List ℕ) (r : Result ℕ DiskError) (v w : World) → WrittenIn l h piece r v w → StaysHere h v w
 write_here l h piece (Ok n) v w (can, wrote) = wrote_here (appends l) h piece n v w wrote
 write_here l h piece (Err IsDir) v w (can, same, opens) = may_here l h piece v w (inl (same, opens))
-write_here l h piece (Err NotFound) v w left = may_here l h piece v w left
-write_here l h piece (Err Exists) v w left = may_here l h piece v w left
-write_here l h piece (Err NotDir) v w left = may_here l h piece v w left
-write_here l h piece (Err NotEmpty) v w left = may_here l h piece v w left
-write_here l h piece (Err Failed) v w left = may_here l h piece v w left
-write_here l h piece (Err NoMemory) v w left = may_here l h piece v w left
+write_here l h piece (Err other) v w left = may_here l h piece v w left
 
 here_then : (h : ℕ) (u v w : World) → StaysHere h u v → StaysHere h v w → StaysHere h u w
 here_then h u v w first then o at =
@@ -236,7 +218,7 @@ module _ {S C : Type 0} (view : View S C LocalFsFile) (lists : Listings S C Loca
   ]
     where
       called : (d : DiskError) (t : DiskState) → Opens (view.state m) path.names upload_options (Err d) t → Refused d (opening v.tree path.names upload_options)
-      called d t opens = let (w, here, over) = told_on (view.state m).told t.told _ v opens.told was in (over.1 clear).1
+      called d t opens = let (w, here, over) = told_after (view.state m).told t.told _ v opens.told was in (over.1 clear).1
 
       never_allowed : (d : DiskError) (t : DiskState) → opening v.tree path.names upload_options ≡ Err d → Spoiled {T = LocalFsFile} (view.state m) (Err e) t
       never_allowed d t is = let f : Ok edit ≡ Err d = sym allowed ∙ is in cc
@@ -297,9 +279,8 @@ module _ {S C : Type 0} (view : View S C LocalFsFile) (lists : Listings S C Loca
   abbrev NoDir : Names → World → World → Type 0
   NoDir from v w = is_linked v.tree from ≡ false → (row : Row) → row_at v.tree from ≡ Some row → row.kind ≡ File → ⊥
 
-  dir_looked : (from : Names) (look_says : Result Meta DiskError) (s t : DiskState) (v : World) → Metas s from look_says t → found_dir look_says ≡ true → s.told ≡ Some v → NoDir from v v
-  dir_looked from (Err e) s t v metas dir told clear row there kind = cc
-  dir_looked from (Ok meta) s t v metas dir told clear row there kind =
+  dir_looked : (from : Names) (meta : Meta) (s t : DiskState) (v : World) → Metas s from (Ok meta) t → is_dir meta.kind ≡ true → s.told ≡ Some v → NoDir from v v
+  dir_looked from meta s t v metas dir told clear row there kind =
       let (found, stands, of) = metas.told v told clear in
       let same : found ≡ row = (let g : Some found ≡ Some row = sym (looked_row v.tree from found stands) ∙ there in cc) in
       let file : meta.kind ≡ File = of.kind ∙ (ap (λ (x : Row). x.kind) same ∙ kind) in
@@ -314,21 +295,26 @@ module _ {S C : Type 0} (view : View S C LocalFsFile) (lists : Listings S C Loca
 
     -- what follows a first move that was refused, over the world that it left
     abbrev After : World → World → Type 0
-    After u w = is_linked u.tree from.names ≡ false → (row : Row) → row_at u.tree from.names ≡ Some row → row.kind ≡ File → SameBesidesOpens u w × (r ≡ Err fs.Forbidden)
+    After u w = is_linked u.tree from.names ≡ false → (row : Row) → row_at u.tree from.names ≡ Some row → row.kind ≡ File → SameBesidesOpens u w × (e : FsError) × (r ≡ Err e)
 
-    after_refused : (dir : Bool) (look_says : Result Meta DiskError) (k j t : DiskState) → Metas k from.names look_says j → found_dir look_says ≡ dir → MovesAgain dir from.names to.names j r t → Both k.told t.told After
-    after_refused false look_says k j t metas dir (is, same) =
-        both_same k.told t.told After (λ w clear row there kind. (same_besides w, is)) (ap (λ (d : DiskState). d.told) same ∙ metas.world)
-    after_refused true look_says k j t metas dir (removal, i, removes, again, renames, is) =
-        both_known k.told t.told (λ v w. Unit) After (λ v w told x clear row there kind. absurd (dir_looked from.names look_says k j v metas dir told clear row there kind))
+    after_found : (dir : Bool) (meta : Meta) (k j t : DiskState) → Metas k from.names (Ok meta) j → is_dir meta.kind ≡ dir → MovesAgain dir from.names to.names j r t → Both k.told t.told After
+    after_found false meta k j t metas dir (is, same) =
+        both_same k.told t.told After (λ w clear row there kind. (same_besides w, fs.Forbidden, is)) (ap (λ (d : DiskState). d.told) same ∙ metas.world)
+    after_found true meta k j t metas dir (removal, i, removes, again, renames, is) =
+        both_known k.told t.told (λ v w. Unit) After (λ v w told x clear row there kind. absurd (dir_looked from.names meta k j v metas dir told clear row there kind))
         (subst (λ told. Both told t.told (λ v w. Unit)) metas.world
         (both_then j.told i.told t.told _ _ (λ v w. Unit) (λ a b d x y. tt) removes.told renames.told))
+
+    after_refused : (look_says : Result Meta DiskError) (k j t : DiskState) → Metas k from.names look_says j → AfterNotDir look_says from.names to.names j r t → Both k.told t.told After
+    after_refused (Ok meta) k j t metas after = after_found (is_dir meta.kind) meta k j t metas refl after
+    after_refused (Err e) k j t metas (is, same) =
+        both_same k.told t.told After (λ w clear row there kind. (same_besides w, blocked_by e, is)) (ap (λ (d : DiskState). d.told) same ∙ metas.world)
 
     then_went : (v u w : World) → Renamed from.names to.names (Err NotDir) v u → After u w → Went from to r v w
     then_went v u w does after clear free row there kind =
         let same = refused_file v u does clear free in
-        let (rest, is) = after (ap (λ t. is_linked t from.names) same.tree ∙ clear) row (ap (λ t. row_at t from.names) same.tree ∙ there) kind in
-        went_same v w (same_besides_then v u w same rest) fs.Forbidden is
+        let (rest, e, is) = after (ap (λ t. is_linked t from.names) same.tree ∙ clear) row (ap (λ t. row_at t from.names) same.tree ∙ there) kind in
+        went_same v w (same_besides_then v u w same rest) e is
 
     went_once : (answer : Result Unit DiskError) (k t : DiskState) → Renames (view.state m) from.names to.names answer k → r ≡ done_by answer → t ≡ k → Both (view.state m).told t.told (Went from to r)
     went_once answer k t renames is same =
@@ -340,7 +326,7 @@ module _ {S C : Type 0} (view : View S C LocalFsFile) (lists : Listings S C Loca
     went_by (Ok x) k t renames (is, same) = went_once (Ok x) k t renames is same
     went_by (Err NotDir) k t renames (look_says, j, metas, again) =
         both_then (view.state m).told k.told t.told (Renamed from.names to.names (Err NotDir)) After (Went from to r) then_went renames.told
-        (after_refused (found_dir look_says) look_says k j t metas refl again)
+        (after_refused look_says k j t metas again)
     went_by (Err NotFound) k t renames (is, same) = went_once (Err NotFound) k t renames is same
     went_by (Err Exists) k t renames (is, same) = went_once (Err Exists) k t renames is same
     went_by (Err IsDir) k t renames (is, same) = went_once (Err IsDir) k t renames is same

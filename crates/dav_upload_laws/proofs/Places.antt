@@ -11,10 +11,13 @@ use Rattle.dav_core.specs.Edits.{makes, moves, takes}
 use Rattle.dav_core.specs.Path.{Names, is_front, parent_of, same_names}
 use Rattle.dav_core.specs.Tree.{below, below_kind, is_dir, is_link, is_linked, look, look_from, row_at, standing}
 use Rattle.dav_core.specs.World.{IsWorld, World}
-use Rattle.dav_methods.proofs.TreeRows.{front_equal, front_of, front_then, parent_length}
+use Rattle.dav_core.proofs.Paths.{parent_length}
+use Rattle.dav_methods.proofs.TreeRows.{front_equal, front_of, front_then}
 use Rattle.dav_upload.specs.Pieces.{upload_options}
-use Rattle.dav_upload.proofs.Beside.{looked_at, parent_more}
-use Rattle.dav_upload.proofs.Moving.{path_of, same_yes}
+use Rattle.dav_upload.proofs.Beside.{looked_at}
+use Rattle.dav_upload.proofs.Moving.{path_of}
+use Rattle.dav_core.proofs.Paths.{names_same, parent_and_last}
+use Rattle.std.proofs.lemmas.Bool.{false_from_ne_true}
 
 -- ---- a name in a directory
 
@@ -53,17 +56,9 @@ placed_in tree at (next ∷ names) name row looks dir = by (row_at tree at) refl
 pub placed : (tree : List Row) (dir : Names) (name : List ℕ) (row : Row) → look tree dir ≡ Ok row → row.kind ≡ Dir → place tree (dir ++ name ∷ []) ≡ Ok (row_at tree (dir ++ name ∷ []))
 placed tree dir name row looks kind = placed_in tree [] dir name row looks kind
 
--- a path that isn't the root is its parent and a name
-pub parent_and : (p : Names) → 0 < length p → (name : List ℕ) × (p ≡ parent_of p ++ name ∷ [])
-parent_and [] some = absurd (omega (arith, some))
-parent_and (name ∷ []) some = (name, refl)
-parent_and (name ∷ next ∷ names) some =
-    let (last, is) = parent_and (next ∷ names) (omega arith) in
-    (last, ap (λ x. name ∷ x) is ∙ ap (λ x. x ++ last ∷ []) (sym (parent_more name next names)))
-
 pub placed_below : (tree : List Row) (p : Names) (row : Row) → 0 < length p → look tree (parent_of p) ≡ Ok row → row.kind ≡ Dir → place tree p ≡ Ok (row_at tree p)
 placed_below tree p row some looks kind =
-    let (name, is) = parent_and p some in
+    let (name, is) = parent_and_last p some in
     subst (λ x. place tree x ≡ Ok (row_at tree x)) (sym is) (placed tree (parent_of p) name row looks kind)
 
 -- ---- what may be done
@@ -79,10 +74,6 @@ over_ok tree row target None kind no_dir = refl
 over_ok tree row target (Some there) kind no_dir =
     ap (λ k. cond (is_dir k) (cond (is_dir there.kind) (cond (is_leaf there.path tree) (Ok (Some (moves row.path target))) (Err NotEmpty)) (Err NotDir)) (cond (is_dir there.kind) (Err IsDir) (Ok (Some (moves row.path target))))) kind
     ∙ ap (λ b. cond b (Err IsDir) (Ok (Some (moves row.path target)))) (no_dir there refl)
-
-not_true : (b : Bool) → (b ≡ true → ⊥) → b ≡ false
-not_true true f = absurd (f refl)
-not_true false f = refl
 
 pub may_go : (w : World) (hidden target : Names) (row : Row) → IsWorld w → row_at w.tree hidden ≡ Some row → row.kind ≡ File → 0 < length hidden → 0 < length target → parent_of hidden ≡ parent_of target → (hidden ≡ target → ⊥)
     → place w.tree target ≡ Ok (row_at w.tree target) → ((r : Row) → row_at w.tree target ≡ Some r → is_dir r.kind ≡ false) → moving w.tree hidden target ≡ Ok (Some (moves row.path target))
@@ -104,13 +95,13 @@ may_go w hidden target row is at kind some named beside differ there no_dir =
     roots = ap (λ b. b || is_root target) (ap is_root (sym here) ∙ no_root hidden some) ∙ no_root target named
 
     apart : same_names row.path target ≡ false
-    apart = not_true (same_names row.path target) (λ e. differ (here ∙ same_yes row.path target e))
+    apart = false_from_ne_true (same_names row.path target) (λ e. differ (here ∙ names_same row.path target e))
 
     long : length target ≡ length hidden
     long = let a = parent_length hidden in let b = parent_length target in let c = ap length beside in omega (arith, a, b, c, some, named)
 
     no_front : is_front row.path target ≡ false
-    no_front = not_true (is_front row.path target)
+    no_front = false_from_ne_true (is_front row.path target)
         (λ e. differ (front_equal hidden target (ap (λ x. is_front x target) here ∙ e) (omega (arith, long))))
 
 -- ---- links

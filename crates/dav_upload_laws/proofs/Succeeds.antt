@@ -66,14 +66,17 @@ use Rattle.dav_upload.specs.Pieces.{upload_options}
 use Rattle.dav_upload.specs.Standing.{StandsIn}
 use Rattle.dav_upload.specs.Steps.{IsBeside, IsClear}
 use Rattle.dav_upload.specs.Uploading.{AfterClose, AfterJudged, AfterJudging, AfterMove, Aborts, Begins, BeginsAs, Commits, Judges, PieceOn, WritesPiece, done_as, opened_as, refusal_of, refused_by}
-use Rattle.dav_upload.proofs.Beside.{looked_at}
-use Rattle.dav_upload.proofs.Chains.{hidden_long, named_long, told_on}
-use Rattle.dav_upload.proofs.Moving.{never, same_yes}
+use Rattle.dav_upload.proofs.Beside.{looked_at, hidden_some}
+use Rattle.dav_upload.proofs.Chains.{named_long}
+use Rattle.dav_upload.proofs.Moving.{never}
 use Rattle.dav_upload.proofs.Tokens.{beside_hides}
 use Rattle.dav_upload_laws.specs.Passing.{PassesTable, Succeeds}
 use Rattle.dav_upload_laws.specs.Written.{finds_as_written}
 use Rattle.dav_upload_laws.proofs.LocalTakes.{local_opens_only, written_parts}
 use Rattle.dav_upload_laws.proofs.Places.{clear_above, may_go, may_make, may_take, placed_below}
+use Rattle.dav_io.proofs.ToldLemmas.{told_after}
+use Rattle.dav_core.proofs.Paths.{names_same}
+use Rattle.std.proofs.lemmas.Bool.{not-false, or_from}
 
 -- ---- counts
 
@@ -99,10 +102,6 @@ when_none : (b : Bool) (status : ℕ) → when b status ≡ None → b ≡ false
 when_none true status e = cc
 when_none false status e = refl
 
-not_false : (b : Bool) → not b ≡ false → b ≡ true
-not_false true e = refl
-not_false false e = cc
-
 failing_none : (o : Option ℕ) → failing o ≡ None → o ≡ None
 failing_none None e = refl
 failing_none (Some n) e = cc
@@ -122,7 +121,7 @@ passed rules w path fields e =
     let d = first_none _ _ c.1 in
     let f = first_none _ _ d.1 in record {
       slash = when_none path.slash 405 a.0;
-      parent = not_false (has_parent rules w path) (when_none (not (has_parent rules w path)) 409 b.0);
+      parent = not-false (has_parent rules w path) (when_none (not (has_parent rules w path)) 409 b.0);
       there = c.0;
       no_dir = when_none (is_dir_found (stands rules w path)) 405 d.0;
       met = f.0;
@@ -136,16 +135,7 @@ parent_line (Err e) found dir finds = cc
 
 missing_line : (e : FsError) → refused_there (Err e) ≡ None → e ≡ fs.NotFound
 missing_line fs.NotFound f = refl
-missing_line fs.Forbidden f = cc
-missing_line fs.Exists f = cc
-missing_line fs.GeneralFailure f = cc
-missing_line fs.NotImplemented f = cc
-missing_line fs.InsufficientStorage f = cc
-missing_line fs.LoopDetected f = cc
-missing_line fs.PathTooLong f = cc
-missing_line fs.TooLarge f = cc
-missing_line fs.IsRemote f = cc
-missing_line fs.NoMemory f = cc
+missing_line other f = cc
 
 -- the target lets a PUT go on
 put_line : (fields : Fields) (y : Result Stood FsError) (found : Result Info FsError) → refused_there y ≡ None → is_dir_found y ≡ false → the_unmet Put fields y ≡ None → Finds y found → may_put fields found ≡ Ok tt
@@ -171,7 +161,7 @@ hidden_unforbidden rules path hides = by rules.macos refl
       where
         by : (b : Bool) → same_names path.names (name ∷ []) ≡ b → b ≡ false
         by false e = refl
-        by true e = never (is_hidden name) (ap is_hidden_path (sym (same_yes path.names (name ∷ []) e)) ∙ hides) shows
+        by true e = never (is_hidden name) (ap is_hidden_path (sym (names_same path.names (name ∷ []) e)) ∙ hides) shows
 
     virtual : is_virtual rules path ≡ false
     virtual =
@@ -207,9 +197,6 @@ written_resolved settings ways plain tree names =
 
 no_slash_at : (ways : Ways) (path : WebPath) → finds_as_written ways ≡ true → path.slash ≡ false → has_slash ways.alone path ≡ false
 no_slash_at ways path plain flat = ap (λ o. has_slash o path) (written_parts ways plain).0 ∙ flat
-
-neither : (a b : Bool) → a ≡ false → b ≡ false → (a || b) ≡ false
-neither a b e f = ap (λ x. x || b) e ∙ f
 
 -- what a look finds that finds a directory
 dir_of : (w : World) (slash : Bool) (found : Result Row DiskError) → is_dir_found (stood_at slash w found) ≡ true → (row : Row) × (found ≡ Ok row) × (row.kind ≡ Dir)
@@ -315,7 +302,7 @@ module _ {S C : Type 0} (view : View S C LocalFsFile) (lists : Listings S C Loca
 
           what : Finds (stands (rules s) v path) found ⊎ Spoiled (view.state n) found (view.state m)
           what =
-              let (w, now, says) = told_on (view.state n).told (view.state m).told _ u ((follows s).looks n m path found reached look) there in
+              let (w, now, says) = told_after (view.state n).told (view.state m).told _ u ((follows s).looks n m path found reached look) there in
               elim (says.1 (regular_same (rules s) (knowledge_of (memory s)) v u same.tree regular) (linked_at u path.names same.tree clear)) [
                 | inl finds ↦ inl (subst (λ y. Finds y found) (stands_same (rules s) v u path same) finds)
                 | inr spoiled ↦ inr spoiled
@@ -337,7 +324,7 @@ module _ {S C : Type 0} (view : View S C LocalFsFile) (lists : Listings S C Loca
       below (inr (up, n, look, goes)) = by goes
         where
           there : (u : World) × ((view.state n).told ≡ Some u) × LooksBy view lists writes c (rules s) (knowledge_of (memory s)) (above path) s up n v u
-          there = told_on (view.state s).told (view.state n).told _ v ((follows s).looks s n (above path) up here look) was
+          there = told_after (view.state s).told (view.state n).told _ v ((follows s).looks s n (above path) up here look) was
 
           after : Unless (no_parent up) (MayReplace view c path fields) n may t → Judged may
           after goes = elim (there.2.1 regular (linked_at v (parent_of path.names) refl (clear_above v.tree path.names clear))) [
@@ -432,13 +419,13 @@ module _ {S C : Type 0} (view : View S C LocalFsFile) (lists : Listings S C Loca
           → r ≡ opened_as target token opened → Succeeds r
       opened m keeps q (Ok f) opens is = subst Succeeds (sym is) tt
       opened m keeps q (Err e) opens is =
-          let (u, there, kept) = told_on (view.state s).told (view.state m).told SameBesidesOpens v keeps.world was in
+          let (u, there, kept) = told_after (view.state s).told (view.state m).told SameBesidesOpens v keeps.world was in
           let (row, looks, kind) = dir_stands settings (ways s) plain v target p.parent in
           let above_hidden : parent_of (hidden_beside target token).names ≡ parent_of target.names = parent_pushed (parent_of target.names) (hidden_name token) in
-          let placed_there = placed_below v.tree (hidden_beside target token).names row (hidden_long (hidden_beside target token).names (beside_hides target token)) (ap (look v.tree) above_hidden ∙ looks) kind in
+          let placed_there = placed_below v.tree (hidden_beside target token).names row (hidden_some (hidden_beside target token).names (beside_hides target token)) (ap (look v.tree) above_hidden ∙ looks) kind in
           let may = may_make v.tree (hidden_beside target token).names placed_there none_there in
           let shut : is_shut (ways m) (hidden_beside target token) ≡ false =
-          neither (is_forbidden (rules_of (ways m)) (hidden_beside target token)) (has_slash (ways m).alone (hidden_beside target token)) (hidden_unforbidden (rules_of (ways m)) (hidden_beside target token) (beside_hides target token))
+          or_from (is_forbidden (rules_of (ways m)) (hidden_beside target token)) (has_slash (ways m).alone (hidden_beside target token)) (hidden_unforbidden (rules_of (ways m)) (hidden_beside target token) (beside_hides target token))
           (no_slash_at (ways m) (hidden_beside target token) q refl) in
           let spoiled = local_opens_only view lists writes c ways memory moment local m t (hidden_beside target token) e q shut opens u there
           (ap (λ tree. is_linked tree (hidden_beside target token).names) kept.tree ∙ open_way) (Some (makes (hidden_beside target token).names File []))
@@ -495,8 +482,8 @@ module _ {S C : Type 0} (view : View S C LocalFsFile) (lists : Listings S C Loca
   -- A move that is allowed is one change.
   one_change : (m k : S) (v w : World) (from to : Names) (edit : Option Edit) (answer : Result Unit FsError) → moving v.tree from to ≡ Ok edit → MovesBy view lists writes c from to m answer k v w
       → Calls view lists writes c (moving v.tree from to) m answer k v w
-  one_change m k v w from to edit answer is (inl calls) = calls
-  one_change m k v w from to edit answer is (inr (refused, x, taken, moved)) = absurd (let f : Ok edit ≡ Err disk.NotDir = sym is ∙ refused in cc)
+  one_change m k v w from to edit answer is (inl (calls, held)) = calls
+  one_change m k v w from to edit answer is (inr (meets, x, taken, moved)) = absurd (let f : Ok edit ≡ Err disk.NotDir = sym is ∙ meets.0 in cc)
 
   passes_same : (x : Rules) (v u : World) (path : WebPath) (fields : Fields) → SameBesidesOpens v u → PassesTable x v path fields → PassesTable x u path fields
   passes_same x v u path fields same passes =
@@ -514,7 +501,7 @@ module _ {S C : Type 0} (view : View S C LocalFsFile) (lists : Listings S C Loca
 
     closed_waits : (closed : S) → Closes view s u.file closed → Waits closed
     closed_waits closed closes =
-        let (x, here_so, same) = told_on (view.state s).told (view.state closed).told SameBesidesOpens v closes.done.keeps.world was in
+        let (x, here_so, same) = told_after (view.state s).told (view.state closed).told SameBesidesOpens v closes.done.keeps.world was in
         record { world = x; here = here_so; same = same; reached = ends_to s closed u.file here closes }
 
     row_waits : (m : S) (x : Waits m) → row_at x.world.tree u.hidden.names ≡ Some stands_so.row
@@ -540,12 +527,12 @@ module _ {S C : Type 0} (view : View S C LocalFsFile) (lists : Listings S C Loca
             within (view.state s).faults (view.state aborts.closed).faults (view.state t).faults (view.state t).faults none (let c = aborts.closes.done.counts in omega (arith, c)) aborts.keeps.counts (omega arith)
 
         shut : (is_forbidden (rules s) u.hidden || has_slash (ways s).alone u.hidden) ≡ false
-        shut = neither (is_forbidden (rules s) u.hidden) (has_slash (ways s).alone u.hidden) (hidden_unforbidden (rules s) u.hidden stands_so.hides) (no_slash_at (ways s) u.hidden plain flat)
+        shut = or_from (is_forbidden (rules s) u.hidden) (has_slash (ways s).alone u.hidden) (hidden_unforbidden (rules s) u.hidden stands_so.hides) (no_slash_at (ways s) u.hidden plain flat)
 
         by : (answer : Result Unit FsError) → view.removes_file aborts.closed c u.hidden answer t → r ≡ done_as answer → Succeeds r
         by (Ok z) removes is = subst Succeeds (sym is) tt
         by (Err e) removes is =
-            let (w, now, unless_so) = told_on (view.state aborts.closed).told (view.state t).told _ x.world ((follows s).removes_file aborts.closed t u.hidden (Err e) x.reached removes) x.here in
+            let (w, now, unless_so) = told_after (view.state aborts.closed).told (view.state t).told _ x.world ((follows s).removes_file aborts.closed t u.hidden (Err e) x.reached removes) x.here in
             let calls = unless_so.called shut (apart aborts.closed x) (found_at aborts.closed x u.hidden.names clear) in
             let allowed : taking_file x.world.tree (resolved (rules s) x.world.tree u.hidden.names) ≡ Ok (Some (takes stands_so.row.path)) =
             ap (taking_file x.world.tree) (written_resolved settings (ways s) plain x.world.tree u.hidden.names)
@@ -563,15 +550,15 @@ module _ {S C : Type 0} (view : View S C LocalFsFile) (lists : Listings S C Loca
           → AfterMove view c answer outcome u.hidden k r t → Succeeds r
       moved m k x (Ok z) outcome quiet renames (same, is) = subst Succeeds (sym is) tt
       moved m k x (Err e) outcome quiet renames (tries, is) =
-          let (w, now, unless_so) = told_on (view.state m).told (view.state k).told _ x.world ((follows s).renames m k u.hidden u.target (Err e) x.reached renames) x.here in
+          let (w, now, unless_so) = told_after (view.state m).told (view.state k).told _ x.world ((follows s).renames m k u.hidden u.target (Err e) x.reached renames) x.here in
           let shut : (is_forbidden (rules s) u.hidden || is_forbidden (rules s) u.target) ≡ false =
-          neither (is_forbidden (rules s) u.hidden) (is_forbidden (rules s) u.target) (hidden_unforbidden (rules s) u.hidden stands_so.hides) open_at in
+          or_from (is_forbidden (rules s) u.hidden) (is_forbidden (rules s) u.target) (hidden_unforbidden (rules s) u.hidden stands_so.hides) open_at in
           let world = local.worlds m x.world x.here in
           let p : Passed (rules s) x.world u.target fields = passed (rules s) x.world u.target fields (passes_same (rules s) v x.world u.target fields x.same passes) in
           let (row, looks_so, kind) = dir_stands settings (ways s) plain x.world u.target p.parent in
           let long = named_long u.target.names beside.named in
           let there = placed_below x.world.tree u.target.names row long looks_so kind in
-          let may = may_go x.world u.hidden.names u.target.names stands_so.row world (row_waits m x) stands_so.kind (hidden_long u.hidden.names stands_so.hides) long beside.beside
+          let may = may_go x.world u.hidden.names u.target.names stands_so.row world (row_waits m x) stands_so.kind (hidden_some u.hidden.names stands_so.hides) long beside.beside
           (λ f. never (is_hidden_path u.target.names) (ap is_hidden_path (sym f) ∙ stands_so.hides) beside.shows) there
           (λ q at. no_dir_stands settings (ways s) plain x.world u.target q world p.slash open_at p.no_dir at) in
           let allowed : moving x.world.tree (resolved (rules s) x.world.tree u.hidden.names) (resolved (rules s) x.world.tree u.target.names) ≡ Ok (Some (moves stands_so.row.path u.target.names)) =
@@ -603,7 +590,7 @@ module _ {S C : Type 0} (view : View S C LocalFsFile) (lists : Listings S C Loca
               let a = keeps.counts in
               let b = judged_counts m may after in
               let x = closed_waits commits.closed commits.closes in
-              let (y, there, same) = told_on (view.state commits.closed).told (view.state m).told SameBesidesOpens x.world keeps.world x.here in
+              let (y, there, same) = told_after (view.state commits.closed).told (view.state m).told SameBesidesOpens x.world keeps.world x.here in
               let placed_so = local.lends s commits.closed commits.closes.lent.store in
               let regular_there : IsRegular (rules commits.closed) (knowledge_of (memory commits.closed)) x.world =
               subst (λ (q : Place). IsRegular (rules_with settings q.ways) (knowledge_of q.memory) x.world) (sym placed_so) (regular_same (rules s) (knowledge_of (memory s)) v x.world x.same.tree regular) in

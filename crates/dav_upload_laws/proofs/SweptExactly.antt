@@ -1,7 +1,6 @@
 -- A sweep over a local store takes exactly the regular files with hidden names of a directory.
-use Rattle.std.proofs.Common.{◌≡◌, ◌⊎◌, ◌+◌, ◌&&◌, ◌==◌, ◌++◌, inl, inr, ℕ, List, [], ◌∷◌, length, drop, map, Bool, true, false, not, cond, Option, None, Some, Result, Ok, Err, refl, sym, ap, subst, ◌∙◌, arith, length-append, length-drop}
-use Rattle.std.proofs.lemmas.Bool.{and_parts}
-use Rattle.std.proofs.lemmas.Bool.Decides.{nat_tests}
+use Rattle.std.proofs.Common.{◌≡◌, ◌⊎◌, ◌+◌, ◌&&◌, ◌++◌, inl, inr, ℕ, List, [], ◌∷◌, length, map, Bool, true, false, not, cond, Option, None, Some, Result, Ok, Err, refl, sym, ap, subst, ◌∙◌, arith}
+use Rattle.std.proofs.lemmas.Bool.{and_parts, not-true}
 use Rattle.std.specs.List.{filter}
 use Rattle.std.specs.Option.{option_map}
 use Rattle.dav_io.specs.declared.clock.Moment.{Moment}
@@ -14,9 +13,11 @@ use Rattle.dav_core.specs.Changes.{timed_row, without}
 use Rattle.dav_core.specs.DavPath.{WebPath, last_name}
 use Rattle.dav_core.specs.Edits.{Edit, Edited, EditedBy, takes}
 use Rattle.dav_core.specs.Listing.{name_of, or_empty, stands_in}
-use Rattle.dav_core.specs.Path.{Names, is_front, parent_of, same_names}
+use Rattle.dav_core.specs.Path.{Names, parent_of, same_names}
 use Rattle.dav_core.specs.Tree.{is_dir, is_link, is_linked, row_at}
 use Rattle.dav_core.specs.World.{IsWorld, SameBesidesOpens, World}
+use Rattle.dav_core.proofs.Elements.{In, filter_in, in_filter}
+use Rattle.dav_core.proofs.Rows.{row_at_in}
 use Rattle.dav_store.specs.View.{Listings, View}
 use Rattle.dav_cache.specs.Memory.{MemoryState}
 use Rattle.dav_model.specs.Finding.{is_clear}
@@ -29,8 +30,7 @@ use Rattle.dav_methods.specs.Follows.{child_of, children_in}
 use Rattle.dav_methods.specs.Follows.Reached.{here}
 use Rattle.dav_methods.specs.Pouring.{Writes}
 use Rattle.dav_methods.specs.Reading.{HasMembers}
-use Rattle.dav_methods.proofs.TreeRows.{at_row, filter_in, front_join, front_rest, in_filter, parts_of, row_at_in}
-use Rattle.dav_methods.proofs.WalkOrder.{In}
+use Rattle.dav_methods.proofs.TreeRows.{at_row, parts_of}
 use Rattle.dav_local.specs.declared.entry.LocalFsDirEntry.{LocalFsDirEntry}
 use Rattle.dav_local.specs.declared.file.LocalFsFile.{LocalFsFile}
 use Rattle.dav_local.specs.declared.gathering.LocalFsReadDir.{LocalFsReadDir}
@@ -45,21 +45,22 @@ use Rattle.dav_upload.specs.Steps.{HasClearNames}
 use Rattle.dav_upload.specs.Takes.{TakesUploads}
 use Rattle.dav_upload.specs.Uploading.{Sweeps, TakesAll, hidden_files, is_hidden_file}
 use Rattle.dav_upload.specs.Uploading.TakesAll.{done, goes, short, stops}
-use Rattle.dav_upload.proofs.Beside.{looked_at}
-use Rattle.dav_upload.proofs.Chains.{hidden_long, one_told, told_on, told_pair}
+use Rattle.dav_upload.proofs.Beside.{looked_at, hidden_some}
+use Rattle.dav_upload.proofs.Chains.{one_told, told_pair}
 use Rattle.dav_upload.proofs.Kept.{kept_same, kept_taken}
 use Rattle.dav_upload.proofs.Leaves.{rows_then}
 use Rattle.dav_upload.proofs.Links.{links_kept}
-use Rattle.dav_upload.proofs.Moving.{beside_at, gone_at, never, path_of, same_of, same_yes, timed_at}
+use Rattle.dav_upload.proofs.Moving.{beside_at, gone_at, never, path_of, timed_at}
 use Rattle.dav_upload.proofs.StepsLeave.{equal_worlds}
 use Rattle.dav_upload.proofs.Sweeps.{AreClear, Took, files_clear, removed_one, still_clear, took_one}
-use Rattle.dav_upload.proofs.Tokens.{last_of}
 use Rattle.dav_upload_laws.specs.Swept.{IsLeftOver, Swept}
 use Rattle.dav_upload_laws.specs.Written.{finds_as_written}
 use Rattle.dav_upload_laws.proofs.LocalReading.{local_reads}
 use Rattle.dav_upload_laws.proofs.LocalTakes.{local_takes, written_parts}
-use Rattle.dav_upload_laws.proofs.Places.{parent_and}
 use Rattle.dav_upload_laws.proofs.Succeeds.{written_resolved}
+use Rattle.dav_io.proofs.ToldLemmas.{told_after}
+use Rattle.dav_core.proofs.Paths.{names_equal, names_same, last_pushed, parent_and_last}
+use Rattle.dav_core.proofs.Rows.{path_in, stands_there}
 
 -- ---- the order of members keeps them all
 
@@ -122,10 +123,6 @@ record Of (dir : WebPath) (rows : List Row) (p : Names) : Type 0 where
   hides : is_hidden (name_of row) ≡ true
   at : p ≡ dir.names ++ name_of row ∷ []
 
-not_false : (b : Bool) → not b ≡ true → b ≡ false
-not_false true e = cc
-not_false false e = refl
-
 among_from : (dir : WebPath) (rows : List Row) (p : Names) → IsAmong p (hidden_files dir (map (child_of dir) rows)) → Of dir rows p
 among_from dir [] p i = absurd i
 among_from dir (row ∷ rows) p i = by (is_hidden_file (child_of dir row)) refl i (among_from dir rows p)
@@ -134,7 +131,7 @@ among_from dir (row ∷ rows) p i = by (is_hidden_file (child_of dir row)) refl 
     more o = record { row = o.row; within = inr o.within; file = o.file; hides = o.hides; at = o.at }
 
     first : is_hidden_file (child_of dir row) ≡ true → p ≡ dir.names ++ name_of row ∷ [] → Of dir (row ∷ rows) p
-    first e at = let (a, b) = and_parts (not (is_dir row.kind)) (is_hidden (name_of row)) e in record { row = row; within = inl refl; file = not_false (is_dir row.kind) a; hides = b; at = at }
+    first e at = let (a, b) = and_parts (not (is_dir row.kind)) (is_hidden (name_of row)) e in record { row = row; within = inl refl; file = not-true (is_dir row.kind) a; hides = b; at = at }
 
     either : is_hidden_file (child_of dir row) ≡ true → (p ≡ dir.names ++ name_of row ∷ []) ⊎ IsAmong p (hidden_files dir (map (child_of dir) rows)) → (IsAmong p (hidden_files dir (map (child_of dir) rows)) → Of dir rows p)
         → Of dir (row ∷ rows) p
@@ -147,26 +144,6 @@ among_from dir (row ∷ rows) p i = by (is_hidden_file (child_of dir row)) refl 
 
 -- ---- names in a directory
 
-one_long : (x : List (List ℕ)) → length x ≡ 1 → (name : List ℕ) × (x ≡ name ∷ [])
-one_long [] e = absurd (omega (arith, e))
-one_long (name ∷ []) e = (name, refl)
-one_long (name ∷ next ∷ x) e = absurd (omega (arith, e))
-
-in_path : (dir : Names) (r : Row) → stands_in dir r ≡ true → r.path ≡ dir ++ name_of r ∷ []
-in_path dir r e =
-    let (long, front) = and_parts (length r.path == length dir + 1) (is_front dir r.path) e in
-    let count : length r.path ≡ length dir + 1 = grind (arith, nat_tests, long) in
-    let rest = front_rest dir r.path front in
-    let (name, is) = one_long (drop (length dir) r.path) (omega (arith, length-drop (length dir) r.path, count)) in
-    let all : r.path ≡ dir ++ name ∷ [] = rest ∙ ap (λ x. dir ++ x) is in
-    let called : name_of r ≡ name = ap (λ p. or_empty (last_name p)) all ∙ ap or_empty (last_of dir name) in
-    all ∙ ap (λ n. dir ++ n ∷ []) (sym called)
-
-path_in : (dir : Names) (r : Row) (name : List ℕ) → r.path ≡ dir ++ name ∷ [] → stands_in dir r ≡ true
-path_in dir r name is =
-    let long : (length r.path == length dir + 1) ≡ true = (let e = ap length is in let f = length-append dir (name ∷ []) in grind (arith, nat_tests, e, f)) in
-    ap (λ b. b && is_front dir r.path) long ∙ (ap (is_front dir) is ∙ front_join dir (name ∷ []))
-
 -- ---- what one removal takes
 
 none_took : (v w : World) (hidden p : Names) → Took hidden v w → row_at v.tree p ≡ None → row_at w.tree p ≡ None
@@ -174,8 +151,8 @@ none_took v w hidden p (inr same) none = ap (λ rows. row_at rows p) same.tree �
 none_took v w hidden p (inl (there, (t, new, becomes))) none = ap (λ rows. row_at rows p) becomes.tree ∙ (timed_at (parent_of hidden) t (without hidden v.tree) p ∙ ap (option_map (timed_row (parent_of hidden) t)) (by (same_names p hidden) refl))
   where
     by : (b : Bool) → same_names p hidden ≡ b → row_at (without hidden v.tree) p ≡ None
-    by true e = ap (row_at (without hidden v.tree)) (same_yes p hidden e) ∙ gone_at hidden v.tree
-    by false e = beside_at hidden v.tree p there.alone (λ f. never (same_names p hidden) (same_of p hidden f) e) ∙ none
+    by true e = ap (row_at (without hidden v.tree)) (names_same p hidden e) ∙ gone_at hidden v.tree
+    by false e = beside_at hidden v.tree p there.alone (λ f. never (same_names p hidden) (names_equal p hidden f) e) ∙ none
 
 gone_behind : (v w : World) (hidden : Names) → Edited (takes hidden) v w → row_at w.tree hidden ≡ None
 gone_behind v w hidden (t, new, becomes) =
@@ -244,7 +221,7 @@ module _ {S C : Type 0} (view : View S C LocalFsFile) (lists : Listings S C Loca
       }
   paths_gone paths n s t r v w was now plain (goes path rest i a m b q removes keeps on) ((hides, free), clear) =
       let taken = takes_all.removes s m path (Ok tt) plain removes in
-      let (x, here_so, ends) = told_on (view.state s).told (view.state m).told _ v taken.1 was in
+      let (x, here_so, ends) = told_after (view.state s).told (view.state m).told _ v taken.1 was in
       let took = took_one view writes c (λ s. finds_as_written (ways s)) takes_all lists (local_reads view lists writes c ways memory moment local) path s m v x (Ok tt) was here_so plain hides free removes in
       let unseen = removed_one view writes c (λ s. finds_as_written (ways s)) takes_all lists (local_reads view lists writes c ways memory moment local) path s m v x (Ok tt) was here_so plain hides free removes in
       let then = paths_gone rest (i + 1) m t r x w here_so now taken.0 on (still_clear v x rest unseen clear) in
@@ -264,7 +241,7 @@ module _ {S C : Type 0} (view : View S C LocalFsFile) (lists : Listings S C Loca
       → HasMembers view lists s c dir members m → members ≡ children_in v.tree dir.names dir
   members_read dir s m v members was plain clear has =
       let follows = local_follows view lists writes c ways memory moment local nothing_set s in
-      let (x, here_so, lists_so) = told_on (view.state s).told (view.state m).told _ v (follows.members s m dir members here has) was in
+      let (x, here_so, lists_so) = told_after (view.state s).told (view.state m).told _ v (follows.members s m dir members here has) was in
       let same = written_resolved nothing_set (ways s) plain v.tree dir.names in
       lists_so.1 (λ folds. (let no : true ≡ false = sym folds ∙ (written_parts (ways s) plain).1 in cc)) (ap (is_clear v.tree) same ∙ clear) ∙ ap (λ names. children_in v.tree names dir) same
 
@@ -272,14 +249,14 @@ module _ {S C : Type 0} (view : View S C LocalFsFile) (lists : Listings S C Loca
   of_left dir v p is clear i =
       let o = among_from dir (in_order dir_first (filter (stands_in dir.names) v.tree)) p i in
       let (in_tree, stands) = in_filter (stands_in dir.names) v.tree o.row (order_from dir_first (filter (stands_in dir.names) v.tree) o.row o.within) in
-      let path : o.row.path ≡ p = in_path dir.names o.row stands ∙ sym o.at in
+      let path : o.row.path ≡ p = path_in dir.names o.row stands ∙ sym o.at in
       let at : row_at v.tree p ≡ Some o.row = ap (row_at v.tree) (sym path) ∙ at_row v.tree o.row (parts_of v.tree is.tree).once in_tree in
       let free : is_linked v.tree p ≡ false = ap (is_linked v.tree) o.at ∙ clear (name_of o.row) o.hides in
       record {
         row = o.row;
         at = at;
         file = kinds o.row.kind o.file (unlinked_row v.tree p o.row (looked_at v p o.row is at) free);
-        hides = ap is_hidden_path o.at ∙ (ap (λ n. is_hidden (or_empty n)) (last_of dir.names (name_of o.row)) ∙ o.hides);
+        hides = ap is_hidden_path o.at ∙ (ap (λ n. is_hidden (or_empty n)) (last_pushed dir.names (name_of o.row)) ∙ o.hides);
         within = ap parent_of o.at ∙ parent_pushed dir.names (name_of o.row);
       }
     where
@@ -290,11 +267,11 @@ module _ {S C : Type 0} (view : View S C LocalFsFile) (lists : Listings S C Loca
 
   left_of : (dir : WebPath) (v : World) (p : Names) → IsLeftOver v dir.names p → IsAmong p (hidden_files dir (children_in v.tree dir.names dir))
   left_of dir v p left =
-      let (name, is) = parent_and p (hidden_long p left.hides) in
+      let (name, is) = parent_and_last p (hidden_some p left.hides) in
       let path : left.row.path ≡ dir.names ++ name ∷ [] = sym (path_of v.tree p left.row left.at) ∙ (is ∙ ap (λ x. x ++ name ∷ []) left.within) in
-      let stands = path_in dir.names left.row name path in
+      let stands = stands_there dir.names name left.row path in
       let in_tree = (row_at_in v.tree p left.row left.at).0 in
-      let called : name_of left.row ≡ name = ap (λ x. or_empty (last_name x)) path ∙ ap or_empty (last_of dir.names name) in
+      let called : name_of left.row ≡ name = ap (λ x. or_empty (last_name x)) path ∙ ap or_empty (last_pushed dir.names name) in
       let hides : is_hidden (name_of left.row) ≡ true = ap (λ x. is_hidden (or_empty (last_name x))) (sym (path_of v.tree p left.row left.at)) ∙ left.hides in
       subst (λ x. IsAmong x (hidden_files dir (children_in v.tree dir.names dir))) (ap (λ n. dir.names ++ n ∷ []) called ∙ (ap (λ x. x ++ name ∷ []) (sym left.within) ∙ sym is))
       (among_to dir (in_order dir_first (filter (stands_in dir.names) v.tree)) left.row (order_to dir_first (filter (stands_in dir.names) v.tree) left.row (filter_in (stands_in dir.names) v.tree left.row stands in_tree))
@@ -309,7 +286,7 @@ module _ {S C : Type 0} (view : View S C LocalFsFile) (lists : Listings S C Loca
         count = λ n ok. (let f : Err _ ≡ Ok n = sym is ∙ ok in cc);
       }
   swept_exactly dir s t v w r was now plain clear_names clear (inr (members, m, has, keeps, removals)) =
-      let (x, here_so, same) = told_on (view.state s).told (view.state m).told SameBesidesOpens v keeps.world was in
+      let (x, here_so, same) = told_after (view.state s).told (view.state m).told SameBesidesOpens v keeps.world was in
       let still : HasClearNames x dir.names = λ name hides. links_kept v x same (dir.names ++ name ∷ []) ∙ clear_names name hides in
       let world = takes_all.worlds s v was in
       let all : members ≡ children_in v.tree dir.names dir = members_read dir s m v members was plain clear has in

@@ -1,9 +1,10 @@
-use Rattle.std.proofs.Common.{◌≡◌, ap, sym, ◌∙◌, arith, rules, string_bytes}
+use Rattle.std.proofs.Common.{◌≡◌, ap, ◌∙◌, arith, rules}
 use Rattle.http.specs.declared.request.Parts.{Parts}
 use Rattle.http_uri.specs.Uri.{uri_path}
 use Rattle.dav_bench.specs.Names.{target}
-use Rattle.dav_bench.proofs.Uris.{path_is_text, target_is_input, not_so, out_of_memory_by}
+use Rattle.dav_bench.proofs.Uris.{path_is_text, target_is_input}
 use Rattle.dav_bench.proofs.asking.request_for.Goals as goal
+use Rattle.dav_core.proofs.UriPaths.{not_so, out_of_memory_by}
 
 pub returns : goal.returns
 returns c =

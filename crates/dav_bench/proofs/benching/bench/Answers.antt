@@ -1,4 +1,4 @@
-use Rattle.std.proofs.Common.{◌≡◌, ◌+◌, ◌*◌, ap, subst, ◌∙◌, sum}
+use Rattle.std.proofs.Common.{◌+◌, subst}
 use Rattle.dav_bench.specs.Report.{Benches}
 use Rattle.dav_bench.proofs.Reported.{benched, benched_none}
 use Rattle.dav_bench.proofs.benching.bench.Goals as goal

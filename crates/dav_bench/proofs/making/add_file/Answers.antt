@@ -1,4 +1,4 @@
-use Rattle.std.proofs.Common.{◌≡◌, ◌∙◌, Result, Ok, Err, arith, rules, sym}
+use Rattle.std.proofs.Common.{◌≡◌, ◌∙◌, rules}
 use Rattle.dav_bench.specs.Tree.{length_of, letters}
 use Rattle.dav_bench.proofs.Made.{file_fits, file_made, made_then}
 use Rattle.dav_bench.proofs.making.add_file.Goals as goal

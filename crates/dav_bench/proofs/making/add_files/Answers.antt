@@ -1,4 +1,4 @@
-use Rattle.std.proofs.Common.{◌≡◌, ◌≤◌, arith, subst}
+use Rattle.std.proofs.Common.{◌≡◌, arith, subst}
 use Rattle.dav_disk.specs.Sure.{sure_world}
 use Rattle.dav_bench.specs.Making.{IsSoFar}
 use Rattle.dav_bench.proofs.Made.{dir_is_done}

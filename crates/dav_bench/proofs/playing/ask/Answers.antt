@@ -1,6 +1,6 @@
 use Rattle.std.proofs.Common.{ap, ◌∙◌}
 use Rattle.dav_model.specs.Play.{Stage}
-use Rattle.dav_handler.specs.Player.{playing_of, stage_of}
+use Rattle.dav_handler.specs.Player.{stage_of}
 use Rattle.dav_bench.specs.Counting.{all_counted}
 use Rattle.dav_bench.proofs.Counted.{Asked, asked_play, file_counted}
 use Rattle.dav_bench.proofs.Reported.{spared_lent}

@@ -1,4 +1,4 @@
-use Rattle.std.proofs.Common.{arith, ◌∙◌}
+use Rattle.std.proofs.Common.{arith}
 use Rattle.dav_bench.proofs.Counted.{all_begin, all_go_on, all_have_place}
 use Rattle.dav_bench.proofs.playing.ask_all.Goals as goal
 

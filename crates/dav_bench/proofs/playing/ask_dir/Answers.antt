@@ -1,4 +1,4 @@
-use Rattle.std.proofs.Common.{arith, ◌∙◌}
+use Rattle.std.proofs.Common.{arith}
 use Rattle.dav_bench.proofs.Counted.{dir_begins, dir_goes_on, dir_has_place}
 use Rattle.dav_bench.proofs.playing.ask_dir.Goals as goal
 

@@ -1,5 +1,5 @@
-use Rattle.std.proofs.Common.{arith, ap, ◌∙◌, ◌≡◌}
-use Rattle.dav_bench.specs.Counting.{added, nothing_counted}
+use Rattle.std.proofs.Common.{ap, ◌∙◌}
+use Rattle.dav_bench.specs.Counting.{added}
 use Rattle.dav_bench.specs.Report.{lengths}
 use Rattle.std.proofs.Common.{sum, ◌*◌}
 use Rattle.dav_bench.proofs.Counted.{second_round}

@@ -1,4 +1,4 @@
-use Rattle.std.proofs.Common.{◌≡◌, ◌==◌, ◌∙◌, List, length, refl, ap}
+use Rattle.std.proofs.Common.{◌==◌, ◌∙◌, List, length, refl, ap}
 use Rattle.dav_model.specs.declared.settings.Settings.{Settings}
 use Rattle.dav_model.specs.declared.step.Step.{Step}
 use Rattle.dav_sessions.specs.Sessions.{rules_of}

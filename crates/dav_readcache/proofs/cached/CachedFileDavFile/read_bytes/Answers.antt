@@ -1,4 +1,4 @@
-use Rattle.std.proofs.Common.{◌≡◌, Ok, Err, length, take, refl, inl, inr, arith}
+use Rattle.std.proofs.Common.{◌≡◌, Ok, Err, length, refl, inl, inr, arith}
 use Rattle.std.proofs.lemmas.Grind.{common_steps}
 use Rattle.dav_readcache.proofs.cached.CachedFileDavFile.read_bytes.Goals as goal
 
