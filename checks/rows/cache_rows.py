@@ -260,7 +260,7 @@ def wanted(row):
         world = Core(number_of(cells[0]), *sizes_of(cells[1:3]))
         return " ".join(world.step(word) for word in words)
     except Unread:
-        return "a word of the row isn't understood"
+        return "no answer"
 
 
 def sizes_of(cells):

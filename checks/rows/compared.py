@@ -4,9 +4,9 @@ import os
 
 HERE = os.path.dirname(os.path.abspath(__file__))
 TOP = os.path.dirname(os.path.dirname(HERE))
-DRIVERS = ("step_rows", "run_rows", "handle_rows", "local_rows", "disk_rows", "condition_rows", "page_rows",
-           "path_rows", "wire_rows", "report_rows", "selection_rows", "cache_rows", "body_rows", "host_rows",
-           "entity_rows", "upload_rows", "mirror_rows", "session_rows", "readcache_rows")
+DRIVERS = ("step_rows", "run_rows", "handle_rows", "local_rows", "memory_rows", "condition_rows", "text_rows",
+           "wire_rows", "report_rows", "selection_rows", "body_rows", "host_rows", "upload_rows",
+           "mirror_rows", "session_rows", "readcache_rows")
 
 
 def file_of(driver, name):

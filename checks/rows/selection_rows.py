@@ -8,6 +8,7 @@ from reports import Bad, FreeBusy, selected
 from store import Store
 from texts import number, print_wanted, unescaped, word
 
+WAYS = {"fold": (True, False), "macos": (False, True), "both": (True, True)}
 SIGNS = {"\n": "\\n", "\r": "\\r", "\t": "\\t", " ": "\\_", "\\": "\\\\"}
 
 
@@ -49,10 +50,16 @@ def told(store, words):
     return line + "".join(" missing " + link for link in missing)
 
 
-def answer(disk, words):
+def store_of(disk, ways):
+    """The store over the disk that finds paths as a row says."""
+    folds, macos = WAYS.get(word(ways, 1), (False, False))
+    return Store(disk, None, folds, macos, names_of(ways[2]) if word(ways, 1) == "alone" else None)
+
+
+def answer(disk, ways, words):
     before = disk.asked
     try:
-        line = told(Store(disk), words)
+        line = told(store_of(disk, ways), words)
     except FsError as error:
         line = FS_TEXTS[error.name]
     except Bad:
@@ -67,11 +74,13 @@ def is_answered(row):
 
 
 def wanted_all(rows):
-    disk, lines = Disk(), []
+    disk, ways, lines = Disk(), [], []
     for row in rows:
         words = row.split(" ")
         if is_answered(row):
-            lines.append(answer(disk, words))
+            lines.append(answer(disk, ways, words))
+        elif words[0] == "ways":
+            ways = words
         else:
             disk = change(disk, words)
     return lines

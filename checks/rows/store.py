@@ -359,7 +359,8 @@ class Store:
 
     def rename(self, start, end):
         """Where a directory was to take a file's place, the file is removed, and the move is made again whatever the
-        removal answers. Whether it is one is looked at behind the refusal."""
+        removal answers. Whether it is one is looked at behind the refusal. A look that the disk fails is the answer; so
+        is a removal, where the second move is refused as the first."""
         self.need_allowed(start, end)
         start, end = self.resolve(start), self.resolve(end)
         try:
@@ -367,16 +368,27 @@ class Store:
         except DiskError as error:
             if error.name != "NotDir" or not self.is_dir(start):
                 raise FsError(FROM_DISK[error.name]) from None
-            try:
-                self.disk.remove_file(end)
-            except DiskError:
-                pass
-            self.asks(self.disk.rename, start, end)
+            self.move_over(start, end)
+
+    def move_over(self, start, end):
+        failed = False
+        try:
+            self.disk.remove_file(end)
+        except DiskError as error:
+            failed = error.name == "Failed"
+        try:
+            self.disk.rename(start, end)
+        except DiskError as error:
+            kept = failed and error.name == "NotDir"
+            raise FsError("GeneralFailure" if kept else FROM_DISK[error.name]) from None
 
     def is_dir(self, place):
+        """What is no directory is none; a failure of the disk is told."""
         try:
             return self.disk.meta(place).kind == "dir"
-        except DiskError:
+        except DiskError as error:
+            if error.name == "Failed":
+                raise FsError("GeneralFailure") from None
             return False
 
     def create_defaults(self):

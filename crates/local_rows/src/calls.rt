@@ -22,12 +22,12 @@ use crate::carrying::carry;
 use crate::listing::{front, list_while};
 use crate::outside::outside;
 use crate::scene::moment_of;
-use anyhow::{Result, bail};
 use dav_cache::{Owned, Remember};
 use dav_core::{DavMetaData, DavPath, FsError, FsPath, Kind, Member, OpenOptions};
 use dav_disk::MemDisk;
+use dav_io::Moment;
 use dav_local::{LocalFs, LocalFsMetaData};
-use dav_rows::Line;
+use dav_rows::{Line, word};
 use dav_store::{DavFile, DavFileSystem, GuardedFileSystem, file_close, file_read, read_members};
 use std::alloc::Global;
 
@@ -90,19 +90,23 @@ fn tell_members(line: &mut Line, answer: Result<Vec<Member>, FsError>) {
     }
 }
 
+fn tell_bytes(line: &mut Line, read: Result<usize, FsError>, bytes: &[u8]) {
+    match read {
+        Ok(count) => {
+            let text = str::from_utf8(bytes.get(..count).unwrap_or(b"?"));
+            line.tell("read ", text.unwrap_or("?"));
+        }
+        Err(error) => line.add_value(&error),
+    }
+}
+
 fn read(line: &mut Line, store: &mut Store, path: &DavPath) {
     match GuardedFileSystem::open(store, path, OpenOptions::read(), &()) {
         Ok(mut file) => {
             let mut into = [0u8; MOST_BYTES];
             let read = file_read::<Store, ()>(store, &mut file, &mut into);
             file_close::<Store, ()>(store, file);
-            match read {
-                Ok(count) => {
-                    let text = str::from_utf8(into.get(..count).unwrap_or(b"?"));
-                    line.tell("read ", text.unwrap_or("?"));
-                }
-                Err(error) => line.add_value(&error),
-            }
+            tell_bytes(line, read, &into);
         }
         Err(error) => line.add_value(&error),
     }
@@ -145,53 +149,51 @@ fn find(line: &mut Line, store: &mut Store, path: &DavPath) {
 }
 
 // Makes a call that changes what stands at one path or two.
-fn change(
-    line: &mut Line,
-    store: &mut Store,
-    kind: &str,
-    path: &DavPath,
-    to: &DavPath,
-) -> Result<()> {
-    let answer = match kind {
-        "mkdir" => DavFileSystem::create_dir(store, path),
-        "rmdir" => DavFileSystem::remove_dir(store, path),
-        "rm" => DavFileSystem::remove_file(store, path),
-        "mv" => DavFileSystem::rename(store, path, to),
-        "cp" => DavFileSystem::copy(store, path, to),
-        _ => bail!("no call: {kind}"),
-    };
-    tell_done(line, answer);
-    Ok(())
+fn change(line: &mut Line, store: &mut Store, kind: &str, path: &DavPath, to: &DavPath) {
+    match kind {
+        "mkdir" => tell_done(line, DavFileSystem::create_dir(store, path)),
+        "rmdir" => tell_done(line, DavFileSystem::remove_dir(store, path)),
+        "rm" => tell_done(line, DavFileSystem::remove_file(store, path)),
+        "mv" => tell_done(line, DavFileSystem::rename(store, path, to)),
+        "cp" => tell_done(line, DavFileSystem::copy(store, path, to)),
+        _ => line.refuse(),
+    }
 }
 
-// Makes the call of a part that has paths.
-fn call_at(alloc: Global, line: &mut Line, store: &mut Store, part: &str) -> Result<()> {
-    let mut words = part.split(' ');
-    let kind = words.next().unwrap_or("");
-    let Ok(path) = DavPath::new(alloc, words.next().unwrap_or("/")) else {
-        bail!("no path: {part}");
-    };
-    let third = words.next().unwrap_or("/");
-    match kind {
-        "look" | "link" => look(alloc, line, store, &path, kind),
-        "where" => find(line, store, &path),
-        "read" => read(line, store, &path),
-        "write" => write(line, store, &path, third),
-        "list" => tell_members(line, read_members(alloc, store, &path, &())),
-        "front" => front(line, store, &path, part)?,
-        "while" => list_while(alloc, line, store, &path, part)?,
-        "rules" => {
-            line.add_whether("empty ", store.is_virtual(&path));
-            line.add_whether(", forbidden ", store.is_forbidden(&path));
-        }
-        _ => {
-            let Ok(to) = DavPath::new(alloc, third) else {
-                bail!("no path: {part}");
-            };
-            change(line, store, kind, &path, &to)?;
-        }
+fn third(part: &str) -> &str {
+    part.split(' ').nth(2).unwrap_or("/")
+}
+
+fn change_at(alloc: Global, line: &mut Line, store: &mut Store, path: &DavPath, part: &str) {
+    match DavPath::new(alloc, third(part)) {
+        Ok(to) => change(line, store, word(part, 0), path, &to),
+        Err(_) => line.refuse(),
     }
-    Ok(())
+}
+
+// Makes the call of a part at its path.
+fn call_at(alloc: Global, line: &mut Line, store: &mut Store, path: &DavPath, part: &str) {
+    match word(part, 0) {
+        "look" | "link" => look(alloc, line, store, path, word(part, 0)),
+        "where" => find(line, store, path),
+        "read" => read(line, store, path),
+        "write" => write(line, store, path, third(part)),
+        "list" => tell_members(line, read_members(alloc, store, path, &())),
+        "front" => front(line, store, path, part),
+        "while" => list_while(alloc, line, store, path, part),
+        "rules" => {
+            line.add_whether("empty ", store.is_virtual(path));
+            line.add_whether(", forbidden ", store.is_forbidden(path));
+        }
+        _ => change_at(alloc, line, store, path, part),
+    }
+}
+
+fn call_path(alloc: Global, line: &mut Line, store: &mut Store, part: &str) {
+    match DavPath::new(alloc, part.split(' ').nth(1).unwrap_or("/")) {
+        Ok(path) => call_at(alloc, line, store, &path, part),
+        Err(_) => line.refuse(),
+    }
 }
 
 fn tell_kept(line: &mut Line, memory: &Owned) {
@@ -200,27 +202,26 @@ fn tell_kept(line: &mut Line, memory: &Owned) {
 }
 
 // Sets the moment, or forgets what is too old then.
-fn pass(line: &mut Line, store: &mut Store, part: &str) -> Result<()> {
-    let now = moment_of(part.split(' ').nth(1).unwrap_or(""))?;
-    if part.starts_with("now ") {
-        DavFileSystem::set_now(store, now);
-    } else {
-        store.memory().purge(now);
+fn pass(line: &mut Line, store: &mut Store, kind: &str, now: Moment) {
+    match kind {
+        "now" => DavFileSystem::set_now(store, now),
+        _ => store.memory().purge(now),
     }
     line.add("done");
-    Ok(())
 }
 
 /// Makes the call of a part.
-pub fn call(alloc: Global, store: &mut Store, part: &str, line: &mut Line) -> Result<()> {
-    match part.split(' ').next().unwrap_or("") {
+pub fn call(alloc: Global, line: &mut Line, store: &mut Store, part: &str) {
+    match word(part, 0) {
         "asked" => line.add_number("asked ", DavFileSystem::disk(store).asked()),
         "defaults" => tell_done(line, store.create_defaults(alloc)),
         "kept" => tell_kept(line, store.memory()),
-        "now" | "purge" => return pass(line, store, part),
-        "out" => return outside(alloc, line, DavFileSystem::disk(store), part),
-        "copy" | "move" | "delete" => return carry(alloc, line, store, part),
-        _ => return call_at(alloc, line, store, part),
+        "now" | "purge" => match moment_of(word(part, 1)) {
+            Some(now) => pass(line, store, word(part, 0), now),
+            None => line.refuse(),
+        },
+        "out" => outside(alloc, line, DavFileSystem::disk(store), part),
+        "copy" | "move" | "delete" => carry(alloc, line, store, part),
+        _ => call_path(alloc, line, store, part),
     }
-    Ok(())
 }

@@ -1,30 +1,35 @@
 //! COPY, MOVE and DELETE over the local store.
-use anyhow::{Result, bail};
 use dav_cache::Owned;
 use dav_core::{DavError, DavPath, FsError, ParseError};
 use dav_disk::MemDisk;
 use dav_local::LocalFs;
 use dav_methods::{copy, delete, move_to};
 use dav_model::Outcome;
-use dav_rows::{Line, bytes_of};
+use dav_rows::{Line, bytes_of, word};
 use http::HeaderMap;
 use http::header::{HeaderName, HeaderValue};
 use std::alloc::Global;
 
-fn add_field(alloc: Global, fields: &mut HeaderMap, word: &str) -> Result<()> {
-    let mut halves = word.splitn(2, ':');
-    let name = HeaderName::from_bytes(alloc, halves.next().unwrap_or("").as_bytes())?;
-    let value = bytes_of(alloc, halves.next().unwrap_or(""))?;
-    fields.append(name, HeaderValue::from_bytes(alloc, value.as_slice())?)?;
-    Ok(())
+type Store = LocalFs<MemDisk, Owned>;
+
+fn value_of(alloc: Global, cell: &str) -> Option<HeaderValue> {
+    let bytes = bytes_of(alloc, cell).ok()?;
+    HeaderValue::from_bytes(alloc, bytes.as_slice()).ok()
 }
 
-fn fields_of(alloc: Global, part: &str) -> Result<HeaderMap> {
-    let mut fields = HeaderMap::new(alloc);
+fn add_field(alloc: Global, fields: &mut HeaderMap, word: &str) -> Option<()> {
+    let (name, value) = word.split_once(':').unwrap_or((word, ""));
+    let value = value_of(alloc, value)?;
+    let name = HeaderName::from_bytes(alloc, name.as_bytes()).ok()?;
+    fields.append(name, value).ok()?;
+    Some(())
+}
+
+// Adds the fields of a part.
+fn add_fields(alloc: Global, line: &mut Line, fields: &mut HeaderMap, part: &str) {
     for word in part.split(' ').skip(3) {
-        add_field(alloc, &mut fields, word)?;
+        line.need(add_field(alloc, fields, word));
     }
-    Ok(fields)
 }
 
 // Want of memory has no status.
@@ -44,27 +49,27 @@ fn tell_outcome(line: &mut Line, answer: Result<Outcome, DavError>) {
     }
 }
 
-/// Makes the call of a method.
-pub fn carry(
-    alloc: Global,
-    line: &mut Line,
-    store: &mut LocalFs<MemDisk, Owned>,
-    part: &str,
-) -> Result<()> {
-    let mut words = part.split(' ');
-    let kind = words.next().unwrap_or("");
-    let text = words.next().unwrap_or("/");
-    let word = words.next().unwrap_or("-");
-    let prefix = if word == "-" { "" } else { word };
-    let Ok(path) = DavPath::from_str_and_prefix(alloc, text, prefix) else {
-        bail!("no path: {part}");
-    };
-    let fields = fields_of(alloc, part)?;
-    let answer = match kind {
-        "move" => move_to(alloc, store, &(), &path, &fields, prefix),
-        "delete" => delete(alloc, store, &(), &path, &fields),
-        _ => copy(alloc, store, &(), &path, &fields, prefix),
+fn prefix_of(word: &str) -> &str {
+    if word == "-" { "" } else { word }
+}
+
+// Makes the call of a method at a path.
+fn carry_at(alloc: Global, line: &mut Line, store: &mut Store, path: &DavPath, part: &str) {
+    let prefix = prefix_of(word(part, 2));
+    let mut fields = HeaderMap::new(alloc);
+    add_fields(alloc, line, &mut fields, part);
+    let answer = match word(part, 0) {
+        "move" => move_to(alloc, store, &(), path, &fields, prefix),
+        "delete" => delete(alloc, store, &(), path, &fields),
+        _ => copy(alloc, store, &(), path, &fields, prefix),
     };
     tell_outcome(line, answer);
-    Ok(())
+}
+
+/// Makes the call of a method.
+pub fn carry(alloc: Global, line: &mut Line, store: &mut Store, part: &str) {
+    match DavPath::from_str_and_prefix(alloc, word(part, 1), prefix_of(word(part, 2))) {
+        Ok(path) => carry_at(alloc, line, store, &path, part),
+        Err(_) => line.refuse(),
+    }
 }

@@ -4,12 +4,11 @@ ghost use Rattle.dav_store.specs.Listings.{HasLister};
 
 use crate::outside::{Outer, make_outer, outer_of, tell_outer};
 use crate::scene::number;
-use anyhow::Result;
 use dav_cache::Owned;
 use dav_core::{DavPath, DiskError};
 use dav_disk::MemDisk;
 use dav_local::LocalFs;
-use dav_rows::Line;
+use dav_rows::{Line, word};
 use dav_store::{DavDirEntry, DavFileSystem, GuardedFileSystem, ReadDirMeta};
 use std::alloc::Global;
 
@@ -38,8 +37,8 @@ fn list_on<S: GuardedFileSystem<()>>(store: &mut S, dir: &mut S::Dir, most: u64,
 }
 
 /// Adds the names that a listing gives first, and leaves it there.
-pub fn front(line: &mut Line, store: &mut Store, path: &DavPath, part: &str) -> Result<()> {
-    let count = number(part.split(' ').nth(2).unwrap_or(""))?;
+pub fn front(line: &mut Line, store: &mut Store, path: &DavPath, part: &str) {
+    let count = number(word(part, 2)).unwrap_or(0);
     match DavFileSystem::read_dir(store, path, ReadDirMeta::Data) {
         Ok(mut dir) => {
             line.add("names");
@@ -49,7 +48,6 @@ pub fn front(line: &mut Line, store: &mut Store, path: &DavPath, part: &str) -> 
         }
         Err(error) => line.add_value(&error),
     }
-    Ok(())
 }
 
 // Others change the disk, while a listing of the store is open.
@@ -65,24 +63,13 @@ fn change<S: GuardedFileSystem<()>>(
     make_outer(store.disk(), outer)
 }
 
-/// Adds the names of a directory. Behind so many of them others change the disk.
-pub fn list_while(
-    alloc: Global,
-    line: &mut Line,
-    store: &mut Store,
-    path: &DavPath,
-    part: &str,
-) -> Result<()> {
-    let mut words = part.split(' ').skip(2);
-    let count = number(words.next().unwrap_or(""))?;
-    let kind = words.next().unwrap_or("");
-    let from = words.next().unwrap_or("");
-    let outer = outer_of(alloc, kind, from, words.next().unwrap_or(""))?;
+// Adds the names of a directory. Behind so many of them others change the disk.
+fn list_around(line: &mut Line, store: &mut Store, path: &DavPath, count: u64, outer: &Outer) {
     match DavFileSystem::read_dir(store, path, ReadDirMeta::Data) {
         Ok(mut dir) => {
             line.add("names");
             list_on(store, &mut dir, count, line);
-            let answer = change(store, &dir, &outer);
+            let answer = change(store, &dir, outer);
             line.add(" ");
             tell_outer(line, answer);
             list_on(store, &mut dir, MOST, line);
@@ -90,5 +77,13 @@ pub fn list_while(
         }
         Err(error) => line.add_value(&error),
     }
-    Ok(())
+}
+
+/// The same, by the words of a part.
+pub fn list_while(alloc: Global, line: &mut Line, store: &mut Store, path: &DavPath, part: &str) {
+    let count = number(word(part, 2)).unwrap_or(0);
+    match outer_of(alloc, word(part, 3), word(part, 4), word(part, 5)) {
+        Some(outer) => list_around(line, store, path, count, &outer),
+        None => line.refuse(),
+    }
 }

@@ -13,67 +13,110 @@ mod listing;
 mod outside;
 mod scene;
 
-use anyhow::{Result, bail};
 use calls::call;
 use dav_cache::Owned;
+use dav_core::FsPath;
 use dav_disk::MemDisk;
 use dav_local::LocalFs;
-use dav_rows::Line;
+use dav_rows::{Line, word};
 use scene::{is_set, memory_of, path_of, set};
 use std::alloc::Global;
+use std::io;
 
-// The store that the first part of a row names.
-fn store_of(
-    alloc: Global,
-    ways: &str,
-    disk: MemDisk,
-    memory: Owned,
-) -> Result<LocalFs<MemDisk, Owned>> {
-    let mut words = ways.split(' ');
-    match words.next().unwrap_or("") {
-        "plain" => Ok(LocalFs::new(disk, memory, false, false, false)),
-        "fold" => Ok(LocalFs::new(disk, memory, false, true, false)),
-        "macos" => Ok(LocalFs::new(disk, memory, false, false, true)),
-        "both" => Ok(LocalFs::new(disk, memory, false, true, true)),
-        "alone" => {
-            let file = path_of(alloc, words.next().unwrap_or(""))?;
-            Ok(LocalFs::new_file(disk, memory, file, false))
-        }
-        word => bail!("no store: {word}"),
+type Store = LocalFs<MemDisk, Owned>;
+
+// How paths are found, by a folder's two rules, or the one file.
+#[derive(Drop)]
+enum Ways {
+    Folder { fold: bool, macos: bool },
+    Alone(FsPath),
+}
+
+// The ways that the first part of a row names.
+fn ways_of(alloc: Global, part: &str) -> Option<Ways> {
+    let (fold, macos) = match word(part, 0) {
+        "plain" => (false, false),
+        "fold" => (true, false),
+        "macos" => (false, true),
+        "both" => (true, true),
+        "alone" => return Some(Ways::Alone(path_of(alloc, word(part, 1))?)),
+        _ => return None,
+    };
+    Some(Ways::Folder { fold, macos })
+}
+
+fn store_of(disk: MemDisk, memory: Owned, ways: Ways) -> Store {
+    match ways {
+        Ways::Folder { fold, macos } => LocalFs::new(disk, memory, false, fold, macos),
+        Ways::Alone(file) => LocalFs::new_file(disk, memory, file, false),
     }
 }
 
-fn answer(alloc: Global, row: &str, line: &mut Line) -> Result<()> {
-    let mut disk = MemDisk::new(alloc)?;
-    let mut memory = memory_of(alloc, row)?;
+// Sets what stands on the disk, and what is remembered.
+fn set_all(alloc: Global, line: &mut Line, disk: &mut MemDisk, memory: &mut Owned, row: &str) {
     for part in row.split('|').skip(1) {
         if is_set(part.trim()) {
-            set(alloc, &mut disk, &mut memory, part.trim())?;
+            line.need(set(alloc, disk, memory, part.trim()));
         }
     }
-    let ways = row.split('|').next().unwrap_or("").trim();
-    let mut store = store_of(alloc, ways, disk, memory)?;
+}
+
+fn call_all(alloc: Global, line: &mut Line, store: &mut Store, row: &str) {
     for part in row.split('|').skip(1) {
         if !is_set(part.trim()) {
-            call(alloc, &mut store, part.trim(), line)?;
+            call(alloc, line, store, part.trim());
             line.add(" | ");
         }
     }
-    let (disk, _memory) = store.into_parts();
-    line.add_number("asked ", disk.asked());
-    Ok(())
 }
 
-fn main(rt: HostRuntime) -> Result<()> {
-    for line in rt.lines(rt.alloc()) {
-        let row = line?;
-        let mut text = Line::new(rt.alloc());
+// What owns a disk, a memory or a store makes one call after the other, of which none has a way out.
+fn play(
+    alloc: Global,
+    line: &mut Line,
+    mut disk: MemDisk,
+    mut memory: Owned,
+    ways: Ways,
+    row: &str,
+) {
+    set_all(alloc, line, &mut disk, &mut memory, row);
+    let mut store = store_of(disk, memory, ways);
+    call_all(alloc, line, &mut store, row);
+    let (disk, _memory) = store.into_parts();
+    line.add_number("asked ", disk.asked());
+}
+
+fn over_disk(alloc: Global, line: &mut Line, disk: MemDisk, ways: Ways, row: &str) {
+    match memory_of(alloc, row) {
+        Some(memory) => play(alloc, line, disk, memory, ways, row),
+        None => line.refuse(),
+    }
+}
+
+fn over(alloc: Global, line: &mut Line, ways: Ways, row: &str) {
+    match MemDisk::new(alloc) {
+        Ok(disk) => over_disk(alloc, line, disk, ways, row),
+        Err(_) => line.refuse(),
+    }
+}
+
+fn answer(alloc: Global, line: &mut Line, row: &str) {
+    match ways_of(alloc, row.split('|').next().unwrap_or("").trim()) {
+        Some(ways) => over(alloc, line, ways, row),
+        None => line.refuse(),
+    }
+}
+
+fn main(rt: HostRuntime) -> io::Result<()> {
+    for row in rt.lines(rt.alloc()) {
+        let row = row?;
+        let mut line = Line::new(rt.alloc());
         if row.as_str().starts_with("#") {
-            text.add(row.as_str());
+            line.add(row.as_str());
         } else {
-            answer(rt.alloc(), row.as_str(), &mut text)?;
+            answer(rt.alloc(), &mut line, row.as_str());
         }
-        println!(rt; "{}", text.as_str())?;
+        println!(rt; "{}", line.as_str())?;
     }
     Ok(())
 }

@@ -2,9 +2,8 @@
 ghost use Rattle.std.specs.Prelude.{◌≡◌};
 
 use crate::scene::path_of;
-use anyhow::{Result, bail};
 use dav_core::{Disk, DiskError, FsPath};
-use dav_rows::Line;
+use dav_rows::{Line, word};
 use std::alloc::Global;
 
 /// A change of the disk: a rename, or a copy of a file.
@@ -16,17 +15,15 @@ pub struct Outer {
 }
 
 /// The change of these words.
-pub fn outer_of(alloc: Global, kind: &str, from: &str, to: &str) -> Result<Outer> {
+pub fn outer_of(alloc: Global, kind: &str, from: &str, to: &str) -> Option<Outer> {
     let copies = match kind {
         "mv" => false,
         "cp" => true,
-        _ => bail!("nobody does this: {kind}"),
+        _ => return None,
     };
-    Ok(Outer {
-        copies,
-        from: path_of(alloc, from)?,
-        to: path_of(alloc, to)?,
-    })
+    let from = path_of(alloc, from)?;
+    let to = path_of(alloc, to)?;
+    Some(Outer { copies, from, to })
 }
 
 /// Makes a change. What is listed goes on to be.
@@ -49,11 +46,9 @@ pub fn tell_outer(line: &mut Line, answer: Result<(), DiskError>) {
 }
 
 /// Makes the change of a part, whose first word is passed over.
-pub fn outside<D: Disk>(alloc: Global, line: &mut Line, disk: &mut D, part: &str) -> Result<()> {
-    let mut words = part.split(' ').skip(1);
-    let kind = words.next().unwrap_or("");
-    let from = words.next().unwrap_or("");
-    let outer = outer_of(alloc, kind, from, words.next().unwrap_or(""))?;
-    tell_outer(line, make_outer(disk, &outer));
-    Ok(())
+pub fn outside<D: Disk>(alloc: Global, line: &mut Line, disk: &mut D, part: &str) {
+    match outer_of(alloc, word(part, 1), word(part, 2), word(part, 3)) {
+        Some(outer) => tell_outer(line, make_outer(disk, &outer)),
+        None => line.refuse(),
+    }
 }

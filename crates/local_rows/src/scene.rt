@@ -8,50 +8,49 @@
 //!                                      without it 16 and 16
 //!
 //! What the disk doesn't take isn't set.
-use anyhow::{Result, bail};
 use dav_cache::{DUCacheBuilder, Owned};
 use dav_core::{FileTime, FsPath};
 use dav_disk::MemDisk;
 use dav_io::{Moment, Text};
-use dav_rows::text_of;
+use dav_rows::{text_of, word};
 use std::alloc::Global;
 
 /// Whether a part sets something.
 pub fn is_set(part: &str) -> bool {
-    matches!(
-        part.split(' ').next().unwrap_or(""),
-        "dir" | "file" | "fail" | "sealed" | "room"
-    )
+    matches!(word(part, 0), "dir" | "file" | "fail" | "sealed" | "room")
 }
 
-/// The path of a word: its names, each behind a slash. Each `%XX` in a name is a byte.
-pub fn path_of(alloc: Global, word: &str) -> Result<FsPath> {
+fn names_of(alloc: Global, word: &str) -> Option<Vec<Text>> {
     let mut names = Vec::new(alloc);
     for name in word.split('/') {
         if !name.is_empty() {
-            names.push(Text::new(text_of(alloc, name)?))?;
+            names.push(Text::new(text_of(alloc, name).ok()?)).ok()?;
         }
     }
-    if !FsPath::fits(&names) {
-        bail!("no path: {word}");
+    Some(names)
+}
+
+/// The path of a word: its names, each behind a slash. Each `%XX` in a name is a byte.
+pub fn path_of(alloc: Global, word: &str) -> Option<FsPath> {
+    let names = names_of(alloc, word)?;
+    if FsPath::fits(&names) {
+        Some(FsPath::new(names))
+    } else {
+        None
     }
-    Ok(FsPath::new(names))
 }
 
 /// The number of a word.
-pub fn number(word: &str) -> Result<u64> {
-    match word.parse::<u64>() {
-        Ok(number) => Ok(number),
-        Err(_) => bail!("no number: {word}"),
-    }
+pub fn number(word: &str) -> Option<u64> {
+    word.parse::<u64>().ok()
 }
 
 /// The moment of a word: seconds, at most a million, and nanoseconds behind a point.
-pub fn moment_of(word: &str) -> Result<Moment> {
-    let mut halves = word.splitn(2, '.');
-    let secs = number(halves.next().unwrap_or(""))?.min(1_000_000);
-    let nanos = number(halves.next().unwrap_or("0"))?.min(999_999_999);
-    Ok(Moment(secs * 1_000_000_000 + nanos))
+pub fn moment_of(word: &str) -> Option<Moment> {
+    let (secs, nanos) = word.split_once('.').unwrap_or((word, "0"));
+    let secs = number(secs)?.min(1_000_000);
+    let nanos = number(nanos)?.min(999_999_999);
+    Some(Moment(secs * 1_000_000_000 + nanos))
 }
 
 // The words behind the first part that sets a room.
@@ -65,62 +64,63 @@ fn room_words(row: &str) -> &str {
 }
 
 /// An empty memory of the room that a row sets.
-pub fn memory_of(alloc: Global, row: &str) -> Result<Owned> {
-    let mut words = room_words(row).split(' ');
-    let paths = number(words.next().unwrap_or(""))? as usize;
-    let dots = number(words.next().unwrap_or(""))? as usize;
+pub fn memory_of(alloc: Global, row: &str) -> Option<Owned> {
+    let words = room_words(row);
+    let paths = number(word(words, 0))? as usize;
+    let dots = number(word(words, 1))? as usize;
     if paths == 0 || dots == 0 {
-        bail!("no room: {row}");
+        return None;
     }
-    Ok(Owned::new(alloc, paths, dots)?)
+    Owned::new(alloc, paths, dots).ok()
 }
 
-fn stand(alloc: Global, disk: &mut MemDisk, part: &str) -> Result<()> {
-    let mut words = part.split(' ');
-    let is_file = words.next().unwrap_or("") == "file";
-    let path = path_of(alloc, words.next().unwrap_or(""))?;
-    let number = number(words.next().unwrap_or(""))?;
-    let Ok(secs) = words.next().unwrap_or("").parse::<i64>() else {
-        bail!("no time: {part}");
-    };
-    let time = FileTime { secs, nanos: 0 };
-    if !disk.can_add(&path, number, time) {
-        return Ok(());
+fn add(disk: &mut MemDisk, path: &FsPath, number: u64, time: FileTime, part: &str) -> Option<()> {
+    if !disk.can_add(path, number, time) {
+        return Some(());
     }
-    if is_file {
-        let bytes = words.next().unwrap_or("");
-        disk.add_file(&path, number, time, bytes.as_bytes())?;
+    if word(part, 0) == "file" {
+        disk.add_file(path, number, time, word(part, 4).as_bytes())
+            .ok()
     } else {
-        disk.add_dir(&path, number, time)?;
+        disk.add_dir(path, number, time).ok()
     }
-    Ok(())
 }
 
-fn seal(alloc: Global, disk: &mut MemDisk, memory: &mut Owned, part: &str) -> Result<()> {
-    let mut words = part.split(' ').skip(1);
-    let dir = path_of(alloc, words.next().unwrap_or(""))?;
-    let mut builder = DUCacheBuilder::start(alloc, dir, disk);
-    for name in words {
-        builder.add(name)?;
+fn stand(alloc: Global, disk: &mut MemDisk, part: &str) -> Option<()> {
+    let number = number(word(part, 2))?;
+    let secs = word(part, 3).parse::<i64>().ok()?;
+    let path = path_of(alloc, word(part, 1))?;
+    add(disk, &path, number, FileTime { secs, nanos: 0 }, part)
+}
+
+fn add_names(builder: &mut DUCacheBuilder, part: &str) -> Option<()> {
+    for name in part.split(' ').skip(2) {
+        builder.add(name).ok()?;
     }
-    builder.finish(disk, memory, Moment(0))?;
-    Ok(())
+    Some(())
+}
+
+fn seal(alloc: Global, disk: &mut MemDisk, memory: &mut Owned, part: &str) -> Option<()> {
+    let dir = path_of(alloc, word(part, 1))?;
+    let mut builder = DUCacheBuilder::start(alloc, dir, disk);
+    add_names(&mut builder, part)?;
+    builder.finish(disk, memory, Moment(0)).ok()
+}
+
+fn fail(disk: &mut MemDisk, part: &str) -> Option<()> {
+    for word in part.split(' ').skip(1) {
+        disk.fail(number(word)?).ok()?;
+    }
+    Some(())
 }
 
 /// Sets what a part says.
-pub fn set(alloc: Global, disk: &mut MemDisk, memory: &mut Owned, part: &str) -> Result<()> {
-    if part.starts_with("sealed ") {
-        return seal(alloc, disk, memory, part);
+pub fn set(alloc: Global, disk: &mut MemDisk, memory: &mut Owned, part: &str) -> Option<()> {
+    match word(part, 0) {
+        "sealed" => seal(alloc, disk, memory, part),
+        // The memory was made with its room.
+        "room" => Some(()),
+        "fail" => fail(disk, part),
+        _ => stand(alloc, disk, part),
     }
-    // The memory was made with its room.
-    if part.starts_with("room ") {
-        return Ok(());
-    }
-    if part.starts_with("fail ") {
-        for word in part.split(' ').skip(1) {
-            disk.fail(number(word)?)?;
-        }
-        return Ok(());
-    }
-    stand(alloc, disk, part)
 }

@@ -1,7 +1,7 @@
 //! Texts of rows.
-use anyhow::Result;
-use dav_io::{Field, Octets, Text};
-use percent_encoding::{AsciiSet, CONTROLS, percent_decode, percent_encode};
+use dav_io::{Field, NoMemory, Octets, Text};
+use dav_rows::Line;
+use percent_encoding::{CONTROLS, percent_decode};
 use std::alloc::Global;
 
 // A longer text is shown by its two ends.
@@ -10,12 +10,10 @@ const LONG: usize = 200;
 const END: usize = 20;
 
 // Appends the bytes of a cell.
-pub fn add_cell(bytes: &mut Vec<u8>, cell: &str) -> Result<()> {
-    let mut halves = cell.splitn(2, '*');
-    let count = halves.next().unwrap_or("").parse::<usize>().unwrap_or(0);
-    match halves.next() {
-        Some(text) => {
-            for _ in 0..count {
+fn add_cell(bytes: &mut Vec<u8>, cell: &str) -> Result<(), NoMemory> {
+    match cell.split_once('*') {
+        Some((count, text)) => {
+            for _ in 0..count.parse::<usize>().unwrap_or(0) {
                 percent_decode(text.as_bytes()).append_to(bytes)?;
             }
         }
@@ -24,22 +22,31 @@ pub fn add_cell(bytes: &mut Vec<u8>, cell: &str) -> Result<()> {
     Ok(())
 }
 
-// The bytes of a cell.
-pub fn bytes_of(alloc: Global, cell: &str) -> Result<Vec<u8>> {
+/// The bytes of a cell.
+pub fn bytes_of(alloc: Global, cell: &str) -> Result<Vec<u8>, NoMemory> {
     let mut bytes = Vec::new(alloc);
     add_cell(&mut bytes, cell)?;
     Ok(bytes)
 }
 
-fn field_of(alloc: Global, cell: &str) -> Result<Field> {
-    let mut halves = cell.splitn(2, ':');
-    let name = Text::copy(alloc, halves.next().unwrap_or(""))?;
-    let value = Octets::new(bytes_of(alloc, halves.next().unwrap_or(""))?);
+/// The bytes of a row's cells behind so many, one after the other.
+pub fn joined_of(alloc: Global, row: &str, before: usize) -> Result<Octets, NoMemory> {
+    let mut bytes = Vec::new(alloc);
+    for cell in row.split(' ').skip(before) {
+        add_cell(&mut bytes, cell)?;
+    }
+    Ok(Octets::new(bytes))
+}
+
+fn field_of(alloc: Global, cell: &str) -> Result<Field, NoMemory> {
+    let (name, value) = cell.split_once(':').unwrap_or((cell, ""));
+    let value = Octets::new(bytes_of(alloc, value)?);
+    let name = Text::copy(alloc, name)?;
     Ok(Field { name, value })
 }
 
-// The fields of a row, behind so many cells.
-pub fn fields_of(alloc: Global, row: &str, before: usize) -> Result<Vec<Field>> {
+/// The fields of a row, behind so many cells.
+pub fn fields_of(alloc: Global, row: &str, before: usize) -> Result<Vec<Field>, NoMemory> {
     let mut fields = Vec::new(alloc);
     for cell in row.split(' ').skip(before) {
         fields.push(field_of(alloc, cell)?)?;
@@ -47,23 +54,19 @@ pub fn fields_of(alloc: Global, row: &str, before: usize) -> Result<Vec<Field>> 
     Ok(fields)
 }
 
-// Appends bytes as a cell spells them.
-pub fn show(text: &mut String, bytes: &[u8]) -> Result<()> {
-    let set: AsciiSet = CONTROLS.add(b'%');
-    percent_encode(bytes, set).append_to(text)?;
-    Ok(())
+/// Adds bytes as a cell spells them.
+pub fn show(line: &mut Line, bytes: &[u8]) {
+    line.add_bytes(bytes, CONTROLS.add(b'%'));
 }
 
-// Bytes as a cell spells them; of many bytes the two ends, and between them their number.
-pub fn shown(alloc: Global, bytes: &[u8]) -> Result<String> {
-    let mut text = String::new(alloc);
+/// Adds bytes as a cell spells them; of many bytes the two ends, and between them their number.
+pub fn show_ends(line: &mut Line, bytes: &[u8]) {
     if bytes.len() <= LONG {
-        show(&mut text, bytes)?;
-        return Ok(text);
+        show(line, bytes);
+        return;
     }
-    show(&mut text, &bytes[..END])?;
-    let count = bytes.len();
-    text.push_str(format!(in alloc; "..{count}..")?.as_str())?;
-    show(&mut text, &bytes[bytes.len() - END..])?;
-    Ok(text)
+    show(line, &bytes[..END]);
+    line.add_number("..", bytes.len() as u64);
+    line.add("..");
+    show(line, &bytes[bytes.len() - END..]);
 }

@@ -35,19 +35,14 @@ mod outside;
 mod requests;
 mod sending;
 
-use anyhow::Result;
-use cells::{bytes_of, fields_of, shown};
-use dav_io::MemSink;
-use dav_wire::{
-    Flaw, Framing, Output, answer_head, bad_request_text, framing, refusal_text, says_close,
-};
-use requests::requests;
+use cells::{fields_of, show_ends};
+use dav_io::Field;
+use dav_rows::{Line, word};
+use dav_wire::{Flaw, Framing, answer_head, bad_request_text, framing, refusal_text, says_close};
 use std::alloc::Global;
+use std::io;
 
-// Room for what a row writes.
-const ROOM: usize = 100_000;
-
-pub fn framing_of(cell: &str) -> Framing {
+fn framing_of(cell: &str) -> Framing {
     if cell == "chunked" {
         Framing::Chunked
     } else {
@@ -55,79 +50,74 @@ pub fn framing_of(cell: &str) -> Framing {
     }
 }
 
-fn head(alloc: Global, row: &str) -> Result<String> {
-    let mut cells = row.split(' ').skip(1);
-    let status = cells.next().unwrap_or("").parse::<u16>().unwrap_or(0);
-    let closing = cells.next().unwrap_or("") == "closes";
-    let way = framing_of(cells.next().unwrap_or(""));
-    let fields = fields_of(alloc, row, 4)?;
-    let text = answer_head(alloc, status, &fields, closing, way)?;
-    shown(alloc, text.as_slice())
+fn status_of(cell: &str) -> u16 {
+    cell.parse::<u16>().unwrap_or(0)
 }
 
-fn way(alloc: Global, row: &str) -> Result<String> {
-    let mut cells = row.split(' ').skip(1);
-    let chunks = cells.next().unwrap_or("") == "chunks";
-    let status = cells.next().unwrap_or("").parse::<u16>().unwrap_or(0);
-    let fields = fields_of(alloc, row, 3)?;
-    let word = match framing(chunks, status, &fields) {
+fn tell_head(alloc: Global, line: &mut Line, row: &str, fields: &[Field]) {
+    let closing = word(row, 2) == "closes";
+    let way = framing_of(word(row, 3));
+    match answer_head(alloc, status_of(word(row, 1)), fields, closing, way) {
+        Ok(text) => show_ends(line, text.as_slice()),
+        Err(_) => line.refuse(),
+    }
+}
+
+fn head(alloc: Global, line: &mut Line, row: &str) {
+    match fields_of(alloc, row, 4) {
+        Ok(fields) => tell_head(alloc, line, row, &fields),
+        Err(_) => line.refuse(),
+    }
+}
+
+fn way_word(way: Framing) -> &'static str {
+    match way {
         Framing::Chunked => "chunked",
         Framing::Raw => "raw",
-    };
-    Ok(String::from_str(alloc, word)?)
-}
-
-fn give(alloc: Global, row: &str, output: &mut Output, sink: &mut MemSink) -> Result<()> {
-    let way = framing_of(row.split(' ').nth(1).unwrap_or(""));
-    for cell in row.split(' ').skip(2) {
-        let piece = bytes_of(alloc, cell)?;
-        output.push_piece(sink, way, piece.as_slice())?;
-    }
-    output.push_end(sink, way)?;
-    output.flush(sink)?;
-    Ok(())
-}
-
-fn body(alloc: Global, row: &str) -> Result<String> {
-    let mut output = Output::new(alloc)?;
-    let mut sink = MemSink::new(alloc, ROOM, 7, Vec::new(alloc))?;
-    give(alloc, row, &mut output, &mut sink)?;
-    shown(alloc, sink.written())
-}
-
-fn says(alloc: Global, row: &str) -> Result<String> {
-    let closes = says_close(&fields_of(alloc, row, 1)?);
-    Ok(String::from_str(alloc, if closes { "closes" } else { "stays" })?)
-}
-
-fn answer(alloc: Global, row: &str) -> Result<String> {
-    match row.split(' ').next().unwrap_or("") {
-        "input" => requests(alloc, row),
-        "messages" => messages::messages(alloc, row),
-        "head" => head(alloc, row),
-        "framing" => way(alloc, row),
-        "body" => body(alloc, row),
-        "refusal" => shown(alloc, bad_request_text()),
-        "large" => shown(alloc, refusal_text(Flaw::TooLarge)),
-        "says" => says(alloc, row),
-        "room" => sending::room(alloc, row),
-        "push" => sending::push(alloc, row),
-        "asked" => sending::asked(alloc, row),
-        "source" => outside::source(alloc, row),
-        "sink" => outside::sink(alloc, row),
-        "clock" => outside::clock(alloc, row),
-        "texts" => outside::texts(alloc, row),
-        "octets" => outside::octets(alloc, row),
-        "fields" => outside::fields(alloc, row),
-        "errors" => outside::errors(alloc),
-        _ => Ok(String::from_str(alloc, row)?),
     }
 }
 
-fn main(rt: HostRuntime) -> Result<()> {
-    for line in rt.lines(rt.alloc()) {
-        let text = answer(rt.alloc(), line?.as_str())?;
-        println!(rt; "{text}")?;
+fn way(alloc: Global, line: &mut Line, row: &str) {
+    let chunks = word(row, 1) == "chunks";
+    match fields_of(alloc, row, 3) {
+        Ok(fields) => line.add(way_word(framing(chunks, status_of(word(row, 2)), &fields))),
+        Err(_) => line.refuse(),
+    }
+}
+
+fn says(alloc: Global, line: &mut Line, row: &str) {
+    match fields_of(alloc, row, 1) {
+        Ok(fields) => line.add(if says_close(&fields) {
+            "closes"
+        } else {
+            "stays"
+        }),
+        Err(_) => line.refuse(),
+    }
+}
+
+fn answer(alloc: Global, line: &mut Line, row: &str) {
+    match word(row, 0) {
+        "input" => requests::requests(alloc, line, row),
+        "messages" => messages::messages(alloc, line, row),
+        "head" => head(alloc, line, row),
+        "framing" => way(alloc, line, row),
+        "refusal" => show_ends(line, bad_request_text()),
+        "large" => show_ends(line, refusal_text(Flaw::TooLarge)),
+        "says" => says(alloc, line, row),
+        "body" => sending::body(alloc, line, row),
+        "room" => sending::room(alloc, line, row),
+        "push" => sending::push(alloc, line, row),
+        "asked" => sending::asked(alloc, line, row),
+        _ => outside::answer(alloc, line, row),
+    }
+}
+
+fn main(rt: HostRuntime) -> io::Result<()> {
+    for row in rt.lines(rt.alloc()) {
+        let mut line = Line::new(rt.alloc());
+        answer(rt.alloc(), &mut line, row?.as_str());
+        println!(rt; "{}", line.as_str())?;
     }
     Ok(())
 }

@@ -1,10 +1,10 @@
-//! Requests of an input with their bodies, one after the other.
-use crate::cells::{add_cell, shown};
-use crate::outside::numbers;
-use crate::requests::{Seen, error_word, next};
-use anyhow::Result;
+//! Requests of an input with their bodies, one after the other. Nothing is given to the sink.
+use crate::cells::show_ends;
+use crate::requests::{Seen, error_word, next, source_of};
 use dav_io::{MemSink, MemSource, Octets};
-use dav_wire::{BodyRead, Flaw, Input, Output, announced_by, read_body};
+use dav_rows::Line;
+use dav_wire::{Announced, BodyRead, Flaw, Input, Output, ReadError, announced_by, read_body};
+use http::request::Parts;
 use std::alloc::Global;
 
 // What stands behind a head.
@@ -21,80 +21,101 @@ fn flaw_word(flaw: Flaw) -> &'static str {
     }
 }
 
-// An input and its source, and a sink to which nothing is given.
-#[derive(Drop)]
-struct Ends {
-    input: Input,
-    source: MemSource,
-    output: Output,
-    sink: MemSink,
+fn show_target(line: &mut Line, parts: &Parts) {
+    line.add(parts.method.as_str());
+    line.tell(" ", parts.uri.path());
+    line.add(" ");
 }
 
-// Appends the method and path of the next request, and reads its body.
-fn behind_head(alloc: Global, line: &mut String, ends: &mut Ends) -> Result<Behind> {
-    let announced = match next(alloc, &mut ends.input, &mut ends.source)? {
+// Adds the method and path of a request, and tells which body it announces; or a word where there is no request.
+fn announced(line: &mut Line, seen: Seen) -> Result<Announced, &'static str> {
+    match seen {
         Seen::Request(parts) => {
-            line.push_str(parts.method.as_str())?;
-            line.push(' ')?;
-            line.push_str(parts.uri.path())?;
-            line.push(' ')?;
-            announced_by(&parts)
+            show_target(line, &parts);
+            Ok(announced_by(&parts))
         }
-        Seen::Over(word) => return Ok(Behind::Over(word)),
-    };
-    let read = read_body(
-        alloc,
-        announced,
-        &mut ends.input,
-        &mut ends.source,
-        &mut ends.output,
-        &mut ends.sink,
-    );
-    match read {
-        Ok(BodyRead::Whole(body)) => Ok(Behind::Body(body)),
-        Ok(BodyRead::Refused(flaw)) => Ok(Behind::Over(flaw_word(flaw))),
-        Ok(BodyRead::Ended) => Ok(Behind::Over("cut")),
-        Err(error) => Ok(Behind::Over(error_word(error))),
+        Seen::Over(word) => Err(word),
     }
 }
 
-// Appends a body: its bytes, and what ends it on the line.
-fn show_body(alloc: Global, line: &mut String, body: &Octets) -> Result<()> {
-    line.push_str(shown(alloc, body.as_slice())?.as_str())?;
-    line.push_str("; ")?;
-    Ok(())
+fn found_behind(read: Result<BodyRead, ReadError>) -> Behind {
+    match read {
+        Ok(BodyRead::Whole(body)) => Behind::Body(body),
+        Ok(BodyRead::Refused(flaw)) => Behind::Over(flaw_word(flaw)),
+        Ok(BodyRead::Ended) => Behind::Over("cut"),
+        Err(error) => Behind::Over(error_word(error)),
+    }
+}
+
+// Adds the method and path of the next request, and reads its body.
+fn next_body(
+    alloc: Global,
+    line: &mut Line,
+    input: &mut Input,
+    source: &mut MemSource,
+    output: &mut Output,
+    sink: &mut MemSink,
+) -> Behind {
+    match announced(line, next(alloc, input, source)) {
+        Ok(announced) => found_behind(read_body(alloc, announced, input, source, output, sink)),
+        Err(word) => Behind::Over(word),
+    }
 }
 
 // The messages of a source, and how they end.
-fn messages_of(alloc: Global, source: MemSource) -> Result<String> {
-    let mut ends = Ends {
-        input: Input::new(alloc)?,
-        source,
-        output: Output::new(alloc)?,
-        sink: MemSink::new(alloc, 0, 1, Vec::new(alloc))?,
-    };
-    let mut line = String::new(alloc);
+fn show_messages(
+    alloc: Global,
+    line: &mut Line,
+    input: &mut Input,
+    source: &mut MemSource,
+    output: &mut Output,
+    sink: &mut MemSink,
+) {
     for _ in 0..99 {
-        match behind_head(alloc, &mut line, &mut ends)? {
-            Behind::Body(body) => show_body(alloc, &mut line, &body)?,
+        match next_body(alloc, line, input, source, output, sink) {
+            Behind::Body(body) => {
+                show_ends(line, body.as_slice());
+                line.add("; ");
+            }
             Behind::Over(word) => {
-                line.push_str(word)?;
-                return Ok(line);
+                line.add(word);
+                return;
             }
         }
     }
-    Ok(line)
+}
+
+fn messages_by(
+    alloc: Global,
+    line: &mut Line,
+    source: &mut MemSource,
+    output: &mut Output,
+    sink: &mut MemSink,
+) {
+    match Input::new(alloc) {
+        Ok(mut input) => show_messages(alloc, line, &mut input, source, output, sink),
+        Err(_) => line.refuse(),
+    }
+}
+
+fn messages_to(alloc: Global, line: &mut Line, source: &mut MemSource, sink: &mut MemSink) {
+    match Output::new(alloc) {
+        Ok(mut output) => messages_by(alloc, line, source, &mut output, sink),
+        Err(_) => line.refuse(),
+    }
+}
+
+fn messages_of(alloc: Global, line: &mut Line, source: &mut MemSource) {
+    match MemSink::new(alloc, 0, 1, Vec::new(alloc)) {
+        Ok(mut sink) => messages_to(alloc, line, source, &mut sink),
+        Err(_) => line.refuse(),
+    }
 }
 
 /// The messages of the bytes of a row, and how they end.
-pub fn messages(alloc: Global, row: &str) -> Result<String> {
-    let (most, calls) = numbers(alloc, row.split(' ').nth(1).unwrap_or(""))?;
-    let mut bytes = Vec::new(alloc);
-    for cell in row.split(' ').skip(2) {
-        add_cell(&mut bytes, cell)?;
+pub fn messages(alloc: Global, line: &mut Line, row: &str) {
+    match source_of(alloc, row) {
+        Ok(mut source) => messages_of(alloc, line, &mut source),
+        Err(_) => line.refuse(),
     }
-    messages_of(
-        alloc,
-        MemSource::new(Octets::new(bytes), most.max(1), calls),
-    )
 }

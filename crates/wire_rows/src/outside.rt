@@ -1,16 +1,16 @@
 //! Sources, sinks, clocks and the small types, call by call.
 use crate::cells::{bytes_of, fields_of, show};
-use anyhow::Result;
 use dav_io::{
     Clock, Failed, Field, Fields, MemSink, MemSource, Moment, NoMemory, Octets, SetClock, Sink,
     Source, SureSink, SureSource, Text, TryClone,
 };
+use dav_rows::{Line, word};
 use std::alloc::Global;
 use std::cmp::Ordering;
 use std::hash::{DefaultHasher, Hash, Hasher};
 
 /// The number in front of a cell, and the numbers behind it with commas between them.
-pub fn numbers(alloc: Global, cell: &str) -> Result<(usize, Vec<u64>)> {
+pub fn numbers(alloc: Global, cell: &str) -> Result<(usize, Vec<u64>), NoMemory> {
     let mut words = cell.split(',');
     let most = words.next().unwrap_or("").parse::<usize>().unwrap_or(1);
     let mut calls = Vec::new(alloc);
@@ -21,94 +21,104 @@ pub fn numbers(alloc: Global, cell: &str) -> Result<(usize, Vec<u64>)> {
 }
 
 // What eight calls of a source give, each into four bytes.
-fn taken<S: Source>(line: &mut String, source: &mut S) -> Result<()> {
+fn taken<S: Source>(line: &mut Line, source: &mut S) {
     for _ in 0..8u8 {
         let mut into = [b'-'; 4];
         match source.take(&mut into) {
             Ok(count) => {
-                line.push(' ')?;
-                show(line, into.get(..count).unwrap_or(b"?"))?;
+                line.add(" ");
+                show(line, into.get(..count).unwrap_or(b"?"));
             }
-            Err(Failed) => line.push_str(" failed")?,
+            Err(Failed) => line.add(" failed"),
         }
-        line.push('.')?;
+        line.add(".");
     }
-    Ok(())
 }
 
-/// What a source gives. It gives MOST bytes a call, and the calls of the numbers fail. One without MOST is sure.
-pub fn source(alloc: Global, row: &str) -> Result<String> {
-    let mut cells = row.split(' ').skip(1);
-    let cell = cells.next().unwrap_or("");
-    let bytes = Octets::new(bytes_of(alloc, cells.next().unwrap_or(""))?);
-    let mut line = String::from_str(alloc, "gives")?;
+fn give(alloc: Global, line: &mut Line, cell: &str, bytes: Octets) {
     if cell == "sure" {
         let mut sure = SureSource::new(bytes);
         let mut lent = &mut sure;
-        taken(&mut line, &mut lent)?;
-        return Ok(line);
+        taken(line, &mut lent);
+        return;
     }
-    let (most, calls) = numbers(alloc, cell)?;
-    taken(&mut line, &mut MemSource::new(bytes, most.max(1), calls))?;
-    Ok(line)
+    match numbers(alloc, cell) {
+        Ok((most, calls)) => taken(line, &mut MemSource::new(bytes, most.max(1), calls)),
+        Err(_) => line.refuse(),
+    }
+}
+
+// What a source gives. It gives MOST bytes a call, and the calls of the numbers fail. One without MOST is sure.
+fn source(alloc: Global, line: &mut Line, row: &str) {
+    line.add("gives");
+    match bytes_of(alloc, word(row, 2)) {
+        Ok(bytes) => give(alloc, line, word(row, 1), Octets::new(bytes)),
+        Err(_) => line.refuse(),
+    }
 }
 
 // What six puts of `abc` answer.
-fn put<K: Sink>(alloc: Global, line: &mut String, sink: &mut K) -> Result<()> {
+fn put<K: Sink>(line: &mut Line, sink: &mut K) {
+    line.add("takes");
     for _ in 0..6u8 {
         match sink.put(b"abc") {
-            Ok(count) => line.push_str(format!(in alloc; " {count}")?.as_str())?,
-            Err(Failed) => line.push_str(" failed")?,
+            Ok(count) => line.add_number(" ", count as u64),
+            Err(Failed) => line.add(" failed"),
         }
     }
-    Ok(())
+    line.add(" has ");
 }
 
-fn taken_by_sure(alloc: Global, sure: &mut SureSink) -> Result<String> {
-    let mut line = String::from_str(alloc, "takes")?;
+fn put_surely(line: &mut Line, sure: &mut SureSink) {
     let mut lent = &mut *sure;
-    put(alloc, &mut line, &mut lent)?;
-    line.push_str(" has ")?;
-    show(&mut line, sure.written())?;
-    Ok(line)
+    put(line, &mut lent);
+    show(line, sure.written());
 }
 
-fn taken_by(alloc: Global, sink: &mut MemSink) -> Result<String> {
-    let mut line = String::from_str(alloc, "takes")?;
-    put(alloc, &mut line, sink)?;
-    line.push_str(" has ")?;
-    show(&mut line, sink.written())?;
-    Ok(line)
-}
-
-/// What a sink takes with so much room: MOST bytes a call, and the calls of the numbers fail. One without MOST is sure.
-pub fn sink(alloc: Global, row: &str) -> Result<String> {
-    let mut cells = row.split(' ').skip(1);
-    let cell = cells.next().unwrap_or("");
-    let room = cells.next().unwrap_or("").parse::<usize>().unwrap_or(0);
-    if cell == "sure" {
-        return taken_by_sure(alloc, &mut SureSink::new(alloc, room)?);
+fn take_surely(alloc: Global, line: &mut Line, room: usize) {
+    match SureSink::new(alloc, room) {
+        Ok(mut sure) => put_surely(line, &mut sure),
+        Err(_) => line.refuse(),
     }
+}
+
+fn sink_of(alloc: Global, cell: &str, room: usize) -> Result<MemSink, NoMemory> {
     let (most, calls) = numbers(alloc, cell)?;
-    taken_by(alloc, &mut MemSink::new(alloc, room, most.max(1), calls)?)
+    MemSink::new(alloc, room, most.max(1), calls)
+}
+
+// What a sink takes with so much room: MOST bytes a call, and the calls of the numbers fail. One without MOST is sure.
+fn sink(alloc: Global, line: &mut Line, row: &str) {
+    let room = word(row, 2).parse::<usize>().unwrap_or(0);
+    if word(row, 1) == "sure" {
+        take_surely(alloc, line, room);
+        return;
+    }
+    match sink_of(alloc, word(row, 1), room) {
+        Ok(mut sink) => {
+            put(line, &mut sink);
+            show(line, sink.written());
+        }
+        Err(_) => line.refuse(),
+    }
 }
 
 // What a clock shows at two looks.
-fn shown_by<C: Clock>(alloc: Global, clock: &mut C) -> Result<String> {
+fn look<C: Clock>(line: &mut Line, clock: &mut C) {
     let (Moment(first), Moment(second)) = (clock.now(), clock.now());
-    Ok(format!(in alloc; "{first} {second}")?)
+    line.add_number("", first);
+    line.add_number(" ", second);
 }
 
-/// What a clock shows that is set.
-pub fn clock(alloc: Global, row: &str) -> Result<String> {
-    let mut cells = row.split(' ').skip(1);
-    let first = cells.next().unwrap_or("").parse::<u64>().unwrap_or(0);
-    let second = cells.next().unwrap_or("").parse::<u64>().unwrap_or(0);
+// What a clock shows that is set.
+fn clock(line: &mut Line, row: &str) {
+    let first = word(row, 1).parse::<u64>().unwrap_or(0);
+    let second = word(row, 2).parse::<u64>().unwrap_or(0);
     let mut clock = SetClock::new(Moment(first));
-    let before = shown_by(alloc, &mut clock)?;
+    look(line, &mut clock);
+    line.add(" ");
     clock.set(Moment(second));
-    let after = shown_by(alloc, &mut clock)?;
-    Ok(format!(in alloc; "{before} {after}")?)
+    look(line, &mut clock);
 }
 
 fn hash_of<T: Hash>(value: &T) -> u64 {
@@ -125,57 +135,126 @@ fn order_word(order: Ordering) -> &'static str {
     }
 }
 
-/// How two texts stand to each other, whether a copy is equal, and whether a text is hashed as its bytes.
-pub fn texts(alloc: Global, row: &str) -> Result<String> {
-    let mut cells = row.split(' ').skip(1);
-    let text = Text::copy(alloc, cells.next().unwrap_or(""))?;
-    let other = Text::new(String::from_str(alloc, cells.next().unwrap_or(""))?);
-    let order = order_word(text.cmp(&other));
-    let partial = text.partial_cmp(&other) == Some(text.cmp(&other));
-    let copied = text.try_clone()? == text;
-    let same = text == other;
-    let hashed = hash_of(&text) == hash_of(&text.as_slice());
-    Ok(format!(in alloc; "{order} {partial} {same} {copied} {hashed}")?)
+fn is_copied(text: &Text) -> Result<bool, NoMemory> {
+    let copy = text.try_clone()?;
+    Ok(copy == *text)
 }
 
-/// Bytes that are copied, and then are more.
-pub fn octets(alloc: Global, row: &str) -> Result<String> {
-    let mut cells = row.split(' ').skip(1);
-    let mut bytes = Octets::new(bytes_of(alloc, cells.next().unwrap_or(""))?);
-    let copy = bytes.try_clone()?;
-    let same = copy == bytes;
-    let more = bytes_of(alloc, cells.next().unwrap_or(""))?;
-    bytes.extend(more.as_slice())?;
-    let after = copy == bytes;
-    let mut line = format!(in alloc; "{same} {after} ")?;
-    show(&mut line, copy.as_slice())?;
-    line.push(' ')?;
-    show(&mut line, bytes.into_vec().as_slice())?;
-    Ok(line)
+fn compare(line: &mut Line, text: &Text, other: &Text) {
+    line.add(order_word(text.cmp(other)));
+    line.add_whether(" ", text.partial_cmp(other) == Some(text.cmp(other)));
+    line.add_whether(" ", *text == *other);
+    match is_copied(text) {
+        Ok(copied) => line.add_whether(" ", copied),
+        Err(_) => line.refuse(),
+    }
+    line.add_whether(" ", hash_of(text) == hash_of(&text.as_slice()));
 }
 
-/// Fields that are copied one by one and all together.
-pub fn fields(alloc: Global, row: &str) -> Result<String> {
+fn compare_to(alloc: Global, line: &mut Line, text: &Text, cell: &str) {
+    match String::from_str(alloc, cell) {
+        Ok(other) => compare(line, text, &Text::new(other)),
+        Err(_) => line.refuse(),
+    }
+}
+
+// How two texts stand to each other, whether a copy is equal, and whether a text is hashed as its bytes.
+fn texts(alloc: Global, line: &mut Line, row: &str) {
+    match Text::copy(alloc, word(row, 1)) {
+        Ok(text) => compare_to(alloc, line, &text, word(row, 2)),
+        Err(_) => line.refuse(),
+    }
+}
+
+fn extend(alloc: Global, line: &mut Line, bytes: &mut Octets, cell: &str) {
+    match bytes_of(alloc, cell) {
+        Ok(more) => {
+            if bytes.extend(more.as_slice()).is_err() {
+                line.refuse();
+            }
+        }
+        Err(_) => line.refuse(),
+    }
+}
+
+// Bytes that are copied, and then are more.
+fn tell_octets(alloc: Global, line: &mut Line, bytes: &mut Octets, cell: &str) {
+    match bytes.try_clone() {
+        Ok(copy) => {
+            line.add_whether("", copy == *bytes);
+            extend(alloc, line, bytes, cell);
+            line.add_whether(" ", copy == *bytes);
+            line.add(" ");
+            show(line, copy.as_slice());
+        }
+        Err(_) => line.refuse(),
+    }
+}
+
+fn octets(alloc: Global, line: &mut Line, row: &str) {
+    match bytes_of(alloc, word(row, 1)) {
+        Ok(bytes) => {
+            let mut bytes = Octets::new(bytes);
+            tell_octets(alloc, line, &mut bytes, word(row, 2));
+            line.add(" ");
+            show(line, bytes.into_vec().as_slice());
+        }
+        Err(_) => line.refuse(),
+    }
+}
+
+fn copied(alloc: Global, fields: &[Field]) -> Result<Fields, NoMemory> {
     let mut list = Vec::new(alloc);
-    for field in &fields_of(alloc, row, 1)? {
+    for field in fields {
         list.push(field.try_clone()?)?;
     }
-    told(alloc, Fields::new(list).try_clone()?.as_slice())
+    Ok(Fields::new(list))
 }
 
-fn told(alloc: Global, fields: &[Field]) -> Result<String> {
-    let mut line = String::from_str(alloc, "fields")?;
+fn tell_fields(line: &mut Line, fields: &[Field]) {
+    line.add("fields");
     for field in fields {
-        line.push(' ')?;
-        line.push_str(field.name.as_str())?;
-        line.push(':')?;
-        show(&mut line, field.value.as_slice())?;
+        line.tell(" ", field.name.as_str());
+        line.add(":");
+        show(line, field.value.as_slice());
     }
-    Ok(line)
 }
 
-/// The texts of the two errors.
-pub fn errors(alloc: Global) -> Result<String> {
-    let (failed, memory) = (Failed, NoMemory);
-    Ok(format!(in alloc; "{failed}; {memory}")?)
+fn copy_fields(line: &mut Line, fields: &Fields) {
+    match fields.try_clone() {
+        Ok(copy) => tell_fields(line, copy.as_slice()),
+        Err(_) => line.refuse(),
+    }
+}
+
+// Fields that are copied one by one and all together.
+fn fields(alloc: Global, line: &mut Line, row: &str) {
+    match fields_of(alloc, row, 1) {
+        Ok(fields) => match copied(alloc, &fields) {
+            Ok(copy) => copy_fields(line, &copy),
+            Err(_) => line.refuse(),
+        },
+        Err(_) => line.refuse(),
+    }
+}
+
+// The texts of the two errors.
+fn errors(line: &mut Line) {
+    line.add_value(&Failed);
+    line.add("; ");
+    line.add_value(&NoMemory);
+}
+
+/// Adds the answer to a row.
+pub fn answer(alloc: Global, line: &mut Line, row: &str) {
+    match word(row, 0) {
+        "source" => source(alloc, line, row),
+        "sink" => sink(alloc, line, row),
+        "clock" => clock(line, row),
+        "texts" => texts(alloc, line, row),
+        "octets" => octets(alloc, line, row),
+        "fields" => fields(alloc, line, row),
+        "errors" => errors(line),
+        _ => line.add(row),
+    }
 }

@@ -1,8 +1,8 @@
 //! Requests of an input, one after the other.
-use crate::cells::{add_cell, show};
+use crate::cells::{joined_of, show};
 use crate::outside::numbers;
-use anyhow::Result;
-use dav_io::{MemSource, Octets};
+use dav_io::{MemSource, NoMemory, Octets};
+use dav_rows::{Line, word};
 use dav_wire::{Found, Input, ReadError, asks_close, into_request, is_old, takes_chunks};
 use http::request::Parts;
 use http::{HeaderMap, Request};
@@ -11,13 +11,14 @@ use std::alloc::Global;
 // More calls of a source than any row makes.
 const CALLS: usize = 100_000;
 
-// What stands next in an input.
+/// What stands next in an input.
 #[derive(Drop)]
 pub enum Seen {
     Request(Parts),
     Over(&'static str),
 }
 
+/// How a reader ended, in words.
 pub fn error_word(error: ReadError) -> &'static str {
     match error {
         ReadError::Failed => "failed",
@@ -27,20 +28,21 @@ pub fn error_word(error: ReadError) -> &'static str {
     }
 }
 
-// The next head of an input.
-pub fn next(alloc: Global, input: &mut Input, source: &mut MemSource) -> Result<Seen> {
+/// The next head of an input.
+pub fn next(alloc: Global, input: &mut Input, source: &mut MemSource) -> Seen {
     for _ in 0..CALLS {
-        match input.next_head(alloc)? {
-            Found::Whole(parts) => return Ok(Seen::Request(parts)),
-            Found::Refused => return Ok(Seen::Over("refused")),
-            Found::More => match input.fill(source) {
-                Ok(0) => return Ok(Seen::Over(end_of(input))),
+        match input.next_head(alloc) {
+            Ok(Found::Whole(parts)) => return Seen::Request(parts),
+            Ok(Found::Refused) => return Seen::Over("refused"),
+            Ok(Found::More) => match input.fill(source) {
+                Ok(0) => return Seen::Over(end_of(input)),
                 Ok(_) => {}
-                Err(error) => return Ok(Seen::Over(error_word(error))),
+                Err(error) => return Seen::Over(error_word(error)),
             },
+            Err(_) => return Seen::Over("no memory"),
         }
     }
-    Ok(Seen::Over("waits"))
+    Seen::Over("waits")
 }
 
 // How an input ends.
@@ -52,99 +54,83 @@ fn end_of(input: &Input) -> &'static str {
     }
 }
 
-fn show_fields(line: &mut String, fields: &HeaderMap) -> Result<()> {
+fn show_each(line: &mut Line, fields: &HeaderMap) {
     for (name, value) in fields.iter() {
-        line.push(' ')?;
-        line.push_str(name.as_str())?;
-        line.push('=')?;
-        show(line, value.as_bytes())?;
+        line.tell(" ", name.as_str());
+        line.add("=");
+        show(line, value.as_bytes());
     }
-    Ok(())
-}
-
-// Appends words, each with a blank before it.
-fn show_words(line: &mut String, words: &[&str]) -> Result<()> {
-    for word in words {
-        line.push(' ')?;
-        line.push_str(word)?;
-    }
-    Ok(())
-}
-
-// What a request asks of the connection and of the body.
-fn asked_words(parts: &Parts) -> [&'static str; 3] {
-    [
-        if is_old(parts.version) { "1.0" } else { "1.1" },
-        if asks_close(&parts.headers) {
-            "closes"
-        } else {
-            "stays"
-        },
-        if takes_chunks(parts) {
-            "chunks"
-        } else {
-            "plain"
-        },
-    ]
 }
 
 // The fields, or their number where they are many.
-fn show_all_fields(alloc: Global, line: &mut String, fields: &HeaderMap) -> Result<()> {
+fn show_fields(line: &mut Line, fields: &HeaderMap) {
     let count = fields.len();
     if count <= 9 {
-        return show_fields(line, fields);
+        show_each(line, fields);
+        return;
     }
-    line.push_str(format!(in alloc; " {count} fields")?.as_str())?;
-    Ok(())
+    line.add_number(" ", count as u64);
+    line.add(" fields");
 }
 
-// A request: its method and path, what it asks, and its fields.
-fn show_asked(
-    alloc: Global,
-    line: &mut String,
-    request: &Request<Octets>,
-    asked: &[&str],
-) -> Result<()> {
-    line.push_str(request.method().as_str())?;
-    show_words(line, &[request.uri().path()])?;
-    show_words(line, asked)?;
-    show_all_fields(alloc, line, request.headers())?;
-    line.push_str("; ")?;
-    Ok(())
+// What a request asks of the connection and of the body.
+fn show_asked(line: &mut Line, parts: &Parts) {
+    let old = is_old(parts.version);
+    line.add(if old { " 1.0" } else { " 1.1" });
+    let closes = asks_close(&parts.headers);
+    line.add(if closes { " closes" } else { " stays" });
+    let chunks = takes_chunks(parts);
+    line.add(if chunks { " chunks" } else { " plain" });
 }
 
-// No call that may fail stands beside a request that is owned: each would let go of all its parts.
-fn show_request(alloc: Global, line: &mut String, parts: Parts) -> Result<()> {
-    let asked = asked_words(&parts);
+// A request: its method and path.
+fn show_target(line: &mut Line, request: &Request<Octets>) {
+    line.add(request.method().as_str());
+    line.tell(" ", request.uri().path());
+}
+
+// Nothing may fail beside a request that is owned: each way out would let go of all its parts.
+fn show_request(alloc: Global, line: &mut Line, parts: Parts) {
+    let mut asked = Line::new(alloc);
+    show_asked(&mut asked, &parts);
     let request = into_request(alloc, parts);
-    show_asked(alloc, line, &request, &asked)
+    show_target(line, &request);
+    line.add(asked.as_str());
+    show_fields(line, request.headers());
+    line.add("; ");
 }
 
 // The requests of a source, and how they end.
-fn requests_of(alloc: Global, source: &mut MemSource) -> Result<String> {
-    let mut input = Input::new(alloc)?;
-    let mut line = String::new(alloc);
+fn show_requests(alloc: Global, line: &mut Line, input: &mut Input, source: &mut MemSource) {
     for _ in 0..99 {
-        match next(alloc, &mut input, source)? {
-            Seen::Request(parts) => show_request(alloc, &mut line, parts)?,
+        match next(alloc, input, source) {
+            Seen::Request(parts) => show_request(alloc, line, parts),
             Seen::Over(word) => {
-                line.push_str(word)?;
-                return Ok(line);
+                line.add(word);
+                return;
             }
         }
     }
-    Ok(line)
 }
 
-// The requests of the bytes of a row, and how they end.
-pub fn requests(alloc: Global, row: &str) -> Result<String> {
-    let (most, calls) = numbers(alloc, row.split(' ').nth(1).unwrap_or(""))?;
-    let mut bytes = Vec::new(alloc);
-    for cell in row.split(' ').skip(2) {
-        add_cell(&mut bytes, cell)?;
+fn requests_of(alloc: Global, line: &mut Line, source: &mut MemSource) {
+    match Input::new(alloc) {
+        Ok(mut input) => show_requests(alloc, line, &mut input, source),
+        Err(_) => line.refuse(),
     }
-    requests_of(
-        alloc,
-        &mut MemSource::new(Octets::new(bytes), most.max(1), calls),
-    )
+}
+
+/// The source that a row says.
+pub fn source_of(alloc: Global, row: &str) -> Result<MemSource, NoMemory> {
+    let bytes = joined_of(alloc, row, 2)?;
+    let (most, calls) = numbers(alloc, word(row, 1))?;
+    Ok(MemSource::new(bytes, most.max(1), calls))
+}
+
+/// The requests of the bytes of a row, and how they end.
+pub fn requests(alloc: Global, line: &mut Line, row: &str) {
+    match source_of(alloc, row) {
+        Ok(mut source) => requests_of(alloc, line, &mut source),
+        Err(_) => line.refuse(),
+    }
 }
