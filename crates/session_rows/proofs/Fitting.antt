@@ -1,22 +1,19 @@
 -- What a book tells stands in a world with such a tree.
-use Rattle.std.proofs.Common.{◌≡◌, ◌⊎◌, inl, inr, ◌&&◌, ◌==◌, Bool, true, false, List, [], ◌∷◌, ℕ, Option, None, Some, codes, refl, ap, sym, subst, ◌∙◌}
-use Rattle.std.specs.List.{AllByRecursion, list_any}
+use Rattle.std.proofs.Common.{◌≡◌, ◌⊎◌, inl, inr, ◌&&◌, ◌==◌, Bool, true, false, List, [], ◌∷◌, None, Some, codes, refl, ap, sym, ◌∙◌}
+use Rattle.std.specs.List.{AllByRecursion}
 use Rattle.dav_core.specs.declared.time.FileTime.{FileTime}
-use Rattle.dav_core.specs.declared.tree.Row.{Row}
 use Rattle.dav_core.specs.Disk.{DiskState}
 use Rattle.dav_core.specs.Path.{Names}
-use Rattle.dav_core.specs.Tree.{is_linked}
 use Rattle.dav_core.specs.World.{World}
 use Rattle.dav_core.proofs.UnchangedLemmas.{same_besides}
 use Rattle.dav_model.specs.declared.step.Step.{Step}
 use Rattle.dav_model.specs.Folds.{Name, dir_time, has_name}
 use Rattle.dav_model.specs.Rules.{Rules, SameDots}
 use Rattle.dav_model.specs.Still.{Fits, is_quiet}
-use Rattle.dav_model.specs.Trail.{Point}
 use Rattle.dav_cache.specs.Trees.{same_path, same_time}
 use Rattle.dav_cache.proofs.Keys.{path_decides, time_decides}
-use Rattle.dav_shared.specs.Books.{has_in, one_book, one_folder, seconds}
-use Rattle.dav_sessions.specs.Sessions.{IsStill, known_by_page}
+use Rattle.dav_shared.specs.Books.{has_in, one_book, seconds}
+use Rattle.dav_sessions.specs.Sessions.{known_by_page}
 use Rattle.session_rows.specs.Told.{AreQuiet, CanBeTold, IsQuiet, IsToldOf, TellsTree, told_tree}
 
 -- ---- names of two letters and more, of which there is no other

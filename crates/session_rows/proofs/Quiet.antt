@@ -1,5 +1,5 @@
 -- A GET writes nothing, whatever is set.
-use Rattle.std.proofs.Common.{◌≡◌, Bool, true, false, not, List, ℕ, Option, None, Some, Result, Ok, Err, codes, cond, refl, ap, sym, subst, ◌∙◌}
+use Rattle.std.proofs.Common.{◌≡◌, Bool, true, false, not, None, Result, Ok, Err, codes, cond, refl, ap}
 use Rattle.http.specs.declared.request.Parts.{Parts}
 use Rattle.http.specs.Request.{head_of, body_of}
 use Rattle.http_uri.specs.Uri.{uri_path}
@@ -10,7 +10,6 @@ use Rattle.dav_core.specs.declared.parse_error.ParseError.{ParseError}
 use Rattle.dav_core.specs.DavPath.{WebPath}
 use Rattle.dav_core.specs.Grammar.{parsed}
 use Rattle.dav_core.specs.Methods.{method_of}
-use Rattle.dav_core.specs.Statuses.{path_status}
 use Rattle.dav_model.specs.declared.settings.Settings.{Settings}
 use Rattle.dav_model.specs.declared.target.Target.{Target}
 use Rattle.dav_model.specs.declared.target.Target.TheVariants.{At, Refused}

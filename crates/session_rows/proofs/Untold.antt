@@ -1,5 +1,5 @@
 -- What a disk does that tells its world it does also where it doesn't tell.
-use Rattle.std.proofs.Common.{◌≡◌, Bool, List, ℕ, Option, Result, None, refl}
+use Rattle.std.proofs.Common.{Bool, List, ℕ, Option, Result, refl}
 use Rattle.dav_core.specs.declared.handle.DiskError.{DiskError}
 use Rattle.dav_core.specs.declared.handle.Handle.{Handle}
 use Rattle.dav_core.specs.declared.handle.Lister.{Lister}

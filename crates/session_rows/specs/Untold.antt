@@ -1,6 +1,6 @@
 -- A disk that tells nothing of its world.
 use Rattle.std.specs.Prelude.{◌≡◌, None, Some}
-use Rattle.dav_core.specs.Disk.{DiskState, TellsLive}
+use Rattle.dav_core.specs.Disk.{DiskState}
 use Rattle.dav_core.specs.World.{World, IsWorld}
 
 -- the same counts, live handles and live listers, and nothing told
