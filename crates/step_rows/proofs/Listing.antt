@@ -1,5 +1,5 @@
 -- A lister that is asked for a name stays live.
-use Rattle.std.proofs.Common.{◌≡◌, ℕ, List, Option, None, Some, IsSome, is_some, Result, Ok, Err, ap, ◌∙◌}
+use Rattle.std.proofs.Common.{ℕ, List, Option, None, Some, IsSome, is_some, Result, Ok, Err, ap, ◌∙◌}
 use Rattle.dav_core.specs.declared.handle.DiskError.{DiskError}
 use Rattle.dav_core.specs.Disk.{DiskState}
 use Rattle.dav_core.specs.Listing.{ListersAfterNext, ListsOn}
