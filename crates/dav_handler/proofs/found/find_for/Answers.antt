@@ -1,6 +1,6 @@
 use Rattle.std.proofs.Common.{refl}
 use Rattle.dav_local.proofs.Dating.{made_same}
-use Rattle.dav_methods.proofs.KeptOpen.{open_same}
+use Rattle.dav_walks.proofs.calls.KeptOpen.{open_same}
 use Rattle.dav_model.proofs.JoiningLemmas.{gate_none, leaves_same, makes_kept}
 use Rattle.dav_model.specs.Trail.{target_of}
 use Rattle.dav_local.specs.Ways.{rules_with}
