@@ -13,10 +13,10 @@
 #![tactic(auto)]
 
 use anyhow::Result;
+use dav_conditions::{if_match, ranges_are_heard};
 use dav_core::{ETag, FileTime, Kind, Meta, dav_method};
 use dav_get::slices;
 use dav_io::Octets;
-use dav_methods::{if_match, ranges_are_heard};
 use dav_model::Ranges;
 use http::header::{HeaderName, HeaderValue};
 use http::{HeaderMap, Method};

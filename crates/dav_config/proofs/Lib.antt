@@ -8,6 +8,6 @@ mod Pieces
 mod Polling
 mod RefusedFields
 mod Staying
-mod Unstored
+pub mod Unstored
 mod WriteCauses
 mod WriteFaults

@@ -124,7 +124,7 @@ module _ (head : Parts) where
   allowed_parted fields bulk method path true e = path_parted fields bulk method path e
   allowed_parted fields bulk method path false e = tt
 
-  known_parted : (settings : Settings) (stored : Bool) (bulk : Bulk) (method : Result DavMethod DavError) → asks_to_write head ≡ is_of_writing method
+  pub known_parted : (settings : Settings) (stored : Bool) (bulk : Bulk) (method : Result DavMethod DavError) → asks_to_write head ≡ is_of_writing method
       → IsWritten (weighed head.headers bulk (with_method settings stored head method)) head
   known_parted settings stored bulk (Err fault) e = tt
   known_parted settings stored bulk (Ok method) e =

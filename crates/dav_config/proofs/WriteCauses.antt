@@ -33,16 +33,17 @@ use Rattle.dav_model.specs.declared.asked.Asked.{Asked}
 use Rattle.dav_methods.specs.Carrying.{CopyMoves, may_leave, may_take_place}
 use Rattle.dav_model.specs.CarryPlans.{method_of}
 use Rattle.dav_model.specs.Destination.{Asks, IsDestination, IsPlace, asked_by, depth_of, overwrite_of, path_or_refusal}
-use Rattle.dav_methods.specs.Follows as on
-use Rattle.dav_methods.specs.Lines.{Given, Line, fails_when, first_of, found_or_failed, info_there, is_dir_there, is_there, made, may_delete, may_make, may_put, no_parent, refused_but_missing, silent, unless, unmet, with_status}
+use Rattle.dav_walks.specs.Follows as on
+use Rattle.dav_walks.specs.Lines.{Line, fails_when}
+use Rattle.dav_methods.specs.Lines.{Given, first_of, found_or_failed, info_there, is_dir_there, is_there, made, may_delete, may_make, may_put, no_parent, refused_but_missing, silent, unless, unmet, with_status}
 use Rattle.dav_model.specs.Overlap.{overlap}
-use Rattle.dav_methods.specs.Pouring.{Poured, Stops, Writes, WritesFile, begun as none_poured, goes as pours_on}
+use Rattle.dav_walks.specs.Pouring.{Poured, Stops, Writes, WritesFile, begun as none_poured, goes as pours_on}
 use Rattle.dav_methods.specs.Putting.{AfterChecks, MayPut, Puts, put_options}
-use Rattle.dav_methods.specs.Reading.{HasNoMembers, MembersUnread, ReadRefused}
-use Rattle.dav_methods.specs.Removing.{Deletes}
+use Rattle.dav_walks.specs.Reading.{HasNoMembers, MembersUnread, ReadRefused}
+use Rattle.dav_methods.specs.Deleting.{Deletes}
 use Rattle.dav_methods.specs.Table.{MkCalendars, MkCols, Next, Run}
-use Rattle.dav_methods.proofs.ListingsLead.{listed_on, unread_on}
-use Rattle.dav_methods.proofs.TablesKept.{CallsKeep, CarryJudges, Fits, Gives, Judges, Keeps, Left, carry_keeps, delete_keeps, may_put_keeps, mkcalendar_keeps, mkcol_keeps}
+use Rattle.dav_walks.proofs.calls.ListingsLead.{listed_on, unread_on}
+use Rattle.dav_methods.proofs.tables.TablesKept.{CallsKeep, CarryJudges, Fits, Gives, Judges, Keeps, Left, carry_keeps, delete_keeps, may_put_keeps, mkcalendar_keeps, mkcol_keeps}
 use Rattle.dav_config.specs.Writing as one
 use Rattle.dav_config.specs.Writing.{ByMethod, Order, RefusedOnWay, RefusesOne}
 

@@ -6,8 +6,8 @@ use Rattle.dav_store.specs.Leads as list
 use Rattle.dav_store.specs.View.{View, Listings}
 use Rattle.dav_get.proofs.HeardIsRight.{rose_through}
 use Rattle.dav_methods.specs.Answers.{RefusesUsually}
-use Rattle.dav_methods.specs.Follows as on
-use Rattle.dav_methods.specs.Pouring.{Writes}
+use Rattle.dav_walks.specs.Follows as on
+use Rattle.dav_walks.specs.Pouring.{Writes}
 use Rattle.dav_config.specs.Writing as one
 use Rattle.dav_config.specs.Writing.{RefusedOnWay, RefusesOne}
 

@@ -23,7 +23,7 @@ use Rattle.dav_store.specs.declared.guarded.GuardedFileSystem.{Ghosts as StoreGh
 use Rattle.dav_store.specs.Bodies.{BodyState}
 use Rattle.dav_store.specs.Standing.{Standing}
 use Rattle.dav_store.specs.View.{View, Listings}
-use Rattle.dav_methods.specs.Pouring.{Writes as FileWritesOf}
+use Rattle.dav_walks.specs.Pouring.{Writes as FileWritesOf}
 use Rattle.dav_get.specs.Heard.{Heard}
 use Rattle.dav_get.specs.Lives.{HasMost, OpenOnlyHeld}
 use Rattle.dav_get.specs.Right.{reply_at}

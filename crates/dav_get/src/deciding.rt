@@ -7,9 +7,9 @@ ghost use Rattle.dav_get.specs.Table.{stood_by, first_place as the_first_place};
 ghost use Rattle.dav_get.specs.Prepared.{IsSentOf};
 
 use crate::ranges::slices;
+use dav_conditions::{first_value, if_match, ranges_are_heard};
 use dav_core::{DavMetaData, DavMethod, ETag, FileTime};
 use dav_io::NoMemory;
-use dav_methods::{first_value, if_match, ranges_are_heard};
 use dav_model::{Ranges, Sent};
 use http::HeaderMap;
 use http::header::{IF_RANGE, RANGE};

@@ -27,7 +27,7 @@ use Rattle.dav_model.specs.Rules.{Learns}
 use Rattle.dav_model.specs.Bodies.{read_size_of}
 use Rattle.dav_model.specs.Trail.{Leaves}
 use Rattle.dav_model.proofs.JoiningLemmas.{learns_same, leaves_same}
-use Rattle.dav_methods.proofs.KeptOpen.{open_kept, open_same}
+use Rattle.dav_walks.proofs.calls.KeptOpen.{open_kept, open_same}
 use Rattle.dav_store.specs.Standing.{Seen}
 use Rattle.dav_store.specs.Leads.{LeadsOn}
 use Rattle.dav_store.specs.View.{Listings, View}

@@ -30,14 +30,15 @@ use Rattle.dav_local.specs.declared.file.LocalFsFile.{LocalFsFile}
 use Rattle.dav_local.specs.declared.gathering.LocalFsReadDir.{LocalFsReadDir}
 use Rattle.dav_methods.specs.Carrying.{CopiesTo, MovesTo}
 use Rattle.dav_methods.specs.Changing.{Changes}
-use Rattle.dav_methods.specs.Follows.{Follows, answer_or}
-use Rattle.dav_methods.specs.Pouring.{Writes as FileWrites}
-use Rattle.dav_methods.proofs.AnswersListed.{delete_listed, mkcalendar_listed, mkcol_listed, put_listed}
-use Rattle.dav_methods.proofs.CarriedRight.{copy_follows, move_follows}
-use Rattle.dav_methods.proofs.CopiesListed.{carry_listed}
-use Rattle.dav_methods.proofs.DeleteRight.{deletes_right}
-use Rattle.dav_methods.proofs.MakingFollows.{mkcalendar_follows, mkcol_follows}
-use Rattle.dav_methods.proofs.PutFollows.{put_follows}
+use Rattle.dav_walks.specs.Follows.{Follows}
+use Rattle.dav_methods.specs.ByPlan.{answer_or}
+use Rattle.dav_walks.specs.Pouring.{Writes as FileWrites}
+use Rattle.dav_methods.proofs.tables.AnswersListed.{delete_listed, mkcalendar_listed, mkcol_listed, put_listed}
+use Rattle.dav_methods.proofs.plans.CarryFollows.{copy_follows, move_follows}
+use Rattle.dav_methods.proofs.tables.CopiesListed.{carry_listed}
+use Rattle.dav_methods.proofs.plans.DeleteFollows.{deletes_right}
+use Rattle.dav_methods.proofs.plans.MakingFollows.{mkcalendar_follows, mkcol_follows}
+use Rattle.dav_methods.proofs.plans.PutFollows.{put_follows}
 use Rattle.dav_methods.specs.Lines.{Given}
 use Rattle.dav_handler.specs.declared.found.Found.{Found}
 use Rattle.dav_handler.specs.By.{By, Over}

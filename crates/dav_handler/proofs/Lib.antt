@@ -7,3 +7,4 @@ pub mod Handles
 pub mod Tables
 pub mod Changing
 pub mod PurgedOnce
+mod WritingTargets

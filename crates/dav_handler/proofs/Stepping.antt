@@ -30,7 +30,7 @@ use Rattle.dav_local.specs.declared.file.LocalFsFile.{LocalFsFile}
 use Rattle.dav_local.specs.Shown.{knowledge_of}
 use Rattle.dav_get.specs.declared.open_at.OpenAt.{OpenAt}
 use Rattle.dav_store.specs.Frames.{KeepsOpen}
-use Rattle.dav_methods.proofs.KeptOpen.{open_kept}
+use Rattle.dav_walks.proofs.calls.KeptOpen.{open_kept}
 use Rattle.dav_get.specs.Bodies.{Closes}
 use Rattle.dav_get.specs.Lives.{OpensOnly}
 use Rattle.dav_handler.specs.declared.found.Found.{Found}

@@ -10,7 +10,7 @@ use Rattle.dav_model.specs.Bodies.{NoneEmpty, Part}
 use Rattle.dav_model.specs.Play.{AreFull, HasOpen, StaysOpen}
 use Rattle.dav_store.specs.Files.{LeavesOpen}
 use Rattle.dav_store.specs.Frames.{KeepsOpen}
-use Rattle.dav_methods.proofs.KeptOpen.{open_kept}
+use Rattle.dav_walks.proofs.calls.KeptOpen.{open_kept}
 use Rattle.dav_local.specs.LocalFiles.{local_file}
 use Rattle.dav_local.specs.declared.file.LocalFsFile.{LocalFsFile}
 use Rattle.dav_get.specs.declared.open_at.OpenAt.{OpenAt}

@@ -1,13 +1,14 @@
 -- What a request finds over a store.
-use Rattle.std.specs.Prelude.{◌≡◌, ℕ, List, [], false, Option, None, Some, Result, Ok, Err}
+use Rattle.std.specs.Prelude.{◌≡◌, ℕ, List, [], true, false, Option, None, Some, Result, Ok, Err}
 use Rattle.http.specs.Request.{body_of}
 use Rattle.dav_io.specs.declared.failure.NoMemory.{NoMemory}
 use Rattle.dav_core.specs.declared.dav_error.DavError.{DavError}
 use Rattle.dav_core.specs.Disk.{DiskState}
 use Rattle.dav_core.specs.Statuses.{closes, lacks_memory, status_of}
 use Rattle.dav_model.specs.declared.target.Target.{Target}
+use Rattle.dav_model.specs.declared.target.Target.TheVariants.{Writes}
 use Rattle.dav_model.specs.Calls.{AsksAtGate, AsksToReply}
-use Rattle.dav_model.specs.Conditions.{Fields, Asked, fields_of}
+use Rattle.dav_model.specs.Conditions.{Fields, Asked, fields_of, writes}
 use Rattle.dav_model.specs.Head.{Reply, refusal}
 use Rattle.dav_model.specs.Bodies.{read_size_of}
 use Rattle.dav_model.specs.Play.{Replies}
@@ -19,6 +20,11 @@ use Rattle.dav_get.specs.Lives.{OpensOnly}
 use Rattle.dav_handler.specs.declared.found.Found.{Found}
 use Rattle.dav_handler.specs.By.{Over}
 use Rattle.dav_handler.specs.Held.{Body, IsOpen, handle_of, parts_in}
+
+-- What is asked for by writing is asked for by a method that writes.
+abbrev pub OnlyWrites : Target → Type 0
+OnlyWrites (Writes method path) = writes method ≡ true
+OnlyWrites other = Unit {0}
 
 -- the fields and the body of a request
 pub record Said : Type 0 where

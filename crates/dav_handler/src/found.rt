@@ -1,7 +1,8 @@
 // What a request finds over the store.
-ghost use Rattle.std.specs.Prelude.{◌≡◌, IfOk, List, None, false, ℕ};
+ghost use Rattle.std.specs.Prelude.{◌≡◌, IfOk, List, None, false, true, ℕ};
 ghost use Rattle.dav_get.specs.Bodies.{IsHeld};
 ghost use Rattle.dav_model.specs.Allowing.{allowing};
+ghost use Rattle.dav_model.specs.Conditions.{writes as the_writes};
 ghost use Rattle.dav_model.specs.Head.{refusal as the_refusal};
 ghost use Rattle.dav_model.specs.Trail.{target_of};
 ghost use Rattle.dav_model.specs.declared.target.Target.TheVariants.{At, Writes};
@@ -11,7 +12,7 @@ ghost use Rattle.dav_local.specs.Ways.{rules_with};
 ghost use Rattle.dav_store.specs.Frames.{KeepsOpen};
 ghost use Rattle.dav_methods.specs.Changing.{Changes};
 ghost use Rattle.dav_handler.specs.By.{over_of};
-ghost use Rattle.dav_handler.specs.Found.{Finds, Gives, IsAlone, IsRefusedBy, said_in};
+ghost use Rattle.dav_handler.specs.Found.{Finds, Gives, IsAlone, IsRefusedBy, OnlyWrites, said_in};
 
 use crate::gates::target;
 use dav_cache::Remember;
@@ -141,6 +142,7 @@ fn change<D: Disk, R: Remember>(
     body: &[u8],
     prefix: &str,
 ) -> Result<Outcome, DavError>
+    requires writes { the_writes method ≡ true }
     ensures table { Changes ⟦<LocalFs<D, R> as DavFileSystem>⟧.view ⟦<LocalFs<D, R> as DavFileSystem>⟧.listings
         ⟦<LocalFsFile as DavFile<D>>⟧.view.writes tt method prefix.now path.now fields.now body.now store.old result
         store.new }
@@ -153,7 +155,10 @@ fn change<D: Disk, R: Remember>(
         DavMethod::Delete => delete(alloc, store, &(), path, fields),
         DavMethod::Copy => copy(alloc, store, &(), path, fields, prefix),
         DavMethod::Move => move_to(alloc, store, &(), path, fields, prefix),
-        _ => mkcalendar(alloc, store, &(), path, fields),
+        DavMethod::MkCalendar | DavMethod::MkAddressbook => {
+            mkcalendar(alloc, store, &(), path, fields)
+        }
+        _ => unreachable!("no other method writes"),
     }
 }
 
@@ -167,6 +172,7 @@ fn write_at<D: Disk, R: Remember>(
     fields: &HeaderMap,
     body: &[u8],
 ) -> Result<Found, NoMemory>
+    requires writes { the_writes method ≡ true }
     ensures done { Finds (over_of D.state R.state settings.now store.old)
         (record { fields = fields.now; body = body.now }) (Writes method path.now) result
         (over_of D.state R.state settings.now store.new) }
@@ -194,6 +200,7 @@ fn find<D: Disk, R: Remember>(
     fields: &HeaderMap,
     body: &[u8],
 ) -> Result<Found, NoMemory>
+    requires writes { OnlyWrites target.now }
     ensures done { Finds (over_of D.state R.state settings.now store.old)
         (record { fields = fields.now; body = body.now }) target.now result
         (over_of D.state R.state settings.now store.new) }

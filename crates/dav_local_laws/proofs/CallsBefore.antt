@@ -18,10 +18,10 @@ use Rattle.dav_core.proofs.PlaceLemmas.{place_there}
 use Rattle.dav_store.specs.View.{Listings, View}
 use Rattle.dav_model.specs.Finding.{IsOf}
 use Rattle.dav_model.proofs.LooseWalks.{find_row}
-use Rattle.dav_methods.specs.Follows.{Calls}
-use Rattle.dav_methods.specs.Pouring.{Writes}
-use Rattle.dav_methods.proofs.EditsJoined.{filled_after, made_after, moved_after, taken_after}
-use Rattle.dav_methods.proofs.Stages.{found_numbered}
+use Rattle.dav_walks.specs.Follows.{Calls}
+use Rattle.dav_walks.specs.Pouring.{Writes}
+use Rattle.dav_walks.proofs.trees.EditsJoined.{filled_after, made_after, moved_after, taken_after}
+use Rattle.dav_walks.proofs.trees.StandsAsBefore.{found_numbered}
 
 -- ---- what stands has a number
 

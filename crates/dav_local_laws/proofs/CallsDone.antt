@@ -20,8 +20,8 @@ use Rattle.dav_store.proofs.Reading.{rose_from}
 use Rattle.dav_model.specs.Finding.{resolved}
 use Rattle.dav_model.specs.Plans.{put_options, putting}
 use Rattle.dav_model.specs.Rules.{Rules}
-use Rattle.dav_methods.specs.Follows.{Calls, CallsFor, OpensBy}
-use Rattle.dav_methods.specs.Pouring.{Writes}
+use Rattle.dav_walks.specs.Follows.{Calls, CallsFor, OpensBy}
+use Rattle.dav_walks.specs.Pouring.{Writes}
 use Rattle.dav_local.specs.Files.{done_by}
 use Rattle.dav_local_laws.proofs.CallsBefore.{edited_before, opening_numbered}
 use Rattle.dav_local_laws.proofs.PlainLooks.{called_for}

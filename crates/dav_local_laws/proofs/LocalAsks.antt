@@ -20,7 +20,7 @@ use Rattle.dav_core.specs.Writing.{reading}
 use Rattle.dav_store.specs.declared.entry.ReadDirMeta.TheVariants.{Data}
 use Rattle.dav_store.specs.Files.{AsksOnce, AsksToGive}
 use Rattle.dav_store.specs.View.{Listings, View}
-use Rattle.dav_methods.specs.Pouring.{Writes}
+use Rattle.dav_walks.specs.Pouring.{Writes}
 use Rattle.dav_get.specs.Calls.{AsksAtMostFor, AsksFor, AsksToOpen}
 use Rattle.dav_get.proofs.Asking.{asked_once}
 use Rattle.dav_cache.specs.declared.cache.PathEntry.{PathEntry}

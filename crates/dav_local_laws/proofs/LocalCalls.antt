@@ -20,8 +20,8 @@ use Rattle.dav_model.specs.declared.settings.Settings.{Settings}
 use Rattle.dav_model.specs.Finding.{has_slash, is_forbidden, resolved}
 use Rattle.dav_model.specs.Plans.{put_options}
 use Rattle.dav_model.specs.Rules.{Rules}
-use Rattle.dav_methods.specs.Follows.{Calls, IfBothFound, IfFound, OpensBy, Told, UnlessShut}
-use Rattle.dav_methods.specs.Pouring.{Writes}
+use Rattle.dav_walks.specs.Follows.{Calls, IfBothFound, IfFound, OpensBy, Told, UnlessShut}
+use Rattle.dav_walks.specs.Pouring.{Writes}
 use Rattle.dav_cache.specs.Memory.{MemoryState}
 use Rattle.dav_local.specs.declared.entry.LocalFsDirEntry.{LocalFsDirEntry}
 use Rattle.dav_local.specs.declared.file.LocalFsFile.{LocalFsFile}

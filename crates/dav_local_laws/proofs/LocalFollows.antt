@@ -36,10 +36,10 @@ use Rattle.dav_model.specs.Rules.{Rules}
 use Rattle.dav_model.specs.Valid.{TellsApart}
 use Rattle.dav_model.specs.Walks.{dir_first, in_order}
 use Rattle.dav_model.proofs.LooseWalks.{found_exactly}
-use Rattle.dav_methods.specs.declared.child.Child.{Child}
-use Rattle.dav_methods.specs.Follows.{Calls, FailsToList, Follows, IfBothFound, IfFound, ListsBy, LooksBy, MovesBy, OpensBy, Reached, Told, UnlessShut, child_of, children_in}
-use Rattle.dav_methods.specs.Pouring.{Writes, WritesFile}
-use Rattle.dav_methods.specs.Reading.{AllSaid, HasMembers, HasNoMembers, MembersUnread, ReadRefused, child_named, child_said, children_said}
+use Rattle.dav_walks.specs.declared.child.Child.{Child}
+use Rattle.dav_walks.specs.Follows.{Calls, FailsToList, Follows, IfBothFound, IfFound, ListsBy, LooksBy, MovesBy, OpensBy, Reached, Told, UnlessShut, child_of, children_in}
+use Rattle.dav_walks.specs.Pouring.{Writes, WritesFile}
+use Rattle.dav_walks.specs.Reading.{AllSaid, HasMembers, HasNoMembers, MembersUnread, ReadRefused, child_named, child_said, children_said}
 use Rattle.dav_cache.specs.Memory.{LearnsNothing, MemoryState}
 use Rattle.dav_local.specs.declared.entry.LocalFsDirEntry.{LocalFsDirEntry}
 use Rattle.dav_local.specs.declared.file.LocalFsFile.{LocalFsFile}

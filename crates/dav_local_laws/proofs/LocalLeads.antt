@@ -17,9 +17,9 @@ use Rattle.dav_store.specs.declared.entry.ReadDirMeta.TheVariants.{Data, DataSym
 use Rattle.dav_store.specs.Leads.{LeadsOn, ListedOn, begun as just_begun, goes_on as goes_further, says as says_on, none as by_none, looks as by_look, opens as by_open, unlisted as by_no_list, listed as by_list, lends as by_lend}
 use Rattle.dav_store.proofs.Leading.{leads_world}
 use Rattle.dav_store.specs.View.{Listings, View}
-use Rattle.dav_methods.specs.Follows.{Reached}
-use Rattle.dav_methods.specs.Follows as on
-use Rattle.dav_methods.specs.Pouring.{Writes}
+use Rattle.dav_walks.specs.Follows.{Reached}
+use Rattle.dav_walks.specs.Follows as on
+use Rattle.dav_walks.specs.Pouring.{Writes}
 use Rattle.dav_model.specs.Rules.{Learns}
 use Rattle.dav_model.specs.Finding.{has_slash, is_forbidden, is_virtual}
 use Rattle.dav_cache.specs.Memory.{LearnsNothing, MemoryState}

@@ -23,7 +23,7 @@ use Rattle.dav_core.specs.World.{World}
 use Rattle.dav_store.specs.declared.entry.ReadDirMeta.TheVariants.{Data}
 use Rattle.dav_store.specs.Leads.{ListedOn, ListedThrough, begun as just_begun, goes_on as goes_further, says as says_on}
 use Rattle.dav_store.specs.View.{Listings, View}
-use Rattle.dav_methods.specs.Pouring.{Writes}
+use Rattle.dav_walks.specs.Pouring.{Writes}
 use Rattle.dav_model.specs.Folds.{Name, dir_time, dir_time_of, has_name, is_dot}
 use Rattle.dav_model.specs.Rules.{Knowledge, Learns, SameDots, ShowsNames, WasKnown}
 use Rattle.dav_cache.specs.Builder.{BuilderState, Finishes, Settles, may_settle, time_found, with_name}

@@ -28,9 +28,9 @@ use Rattle.dav_model.specs.Rules.{IsSound, Knowledge, Rules}
 use Rattle.dav_model.specs.Valid.{IsRegular, TellsApart}
 use Rattle.dav_model.proofs.Denied.{denies_rightly}
 use Rattle.dav_model.proofs.LooseWalks.{found_exactly, names_refl}
-use Rattle.dav_methods.specs.Follows.{Finds as Found, LooksBy, Told}
-use Rattle.dav_methods.specs.Pouring.{Writes}
-use Rattle.dav_methods.proofs.Stages.{stands_same}
+use Rattle.dav_walks.specs.Follows.{Finds as Found, LooksBy, Told}
+use Rattle.dav_walks.specs.Pouring.{Writes}
+use Rattle.dav_walks.proofs.trees.StandsAsBefore.{stands_same}
 use Rattle.dav_cache.specs.Memory.{LearnsNothing, MemoryState}
 use Rattle.dav_local.specs.declared.entry.LocalFsDirEntry.{LocalFsDirEntry}
 use Rattle.dav_local.specs.declared.file.LocalFsFile.{LocalFsFile}

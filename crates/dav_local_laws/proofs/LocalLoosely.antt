@@ -21,8 +21,8 @@ use Rattle.dav_model.specs.Finding.{has_slash, is_forbidden, resolved}
 use Rattle.dav_model.specs.Plans.{put_options}
 use Rattle.dav_model.specs.Rules.{Rules, nothing_known}
 use Rattle.dav_model.proofs.LooseWalks.{exactly_may}
-use Rattle.dav_methods.specs.Follows.{Calls, MovesBy, OpensBy, Reached, Told, UnlessShut}
-use Rattle.dav_methods.specs.Pouring.{Writes}
+use Rattle.dav_walks.specs.Follows.{Calls, MovesBy, OpensBy, Reached, Told, UnlessShut}
+use Rattle.dav_walks.specs.Pouring.{Writes}
 use Rattle.dav_cache.specs.Memory.{MemoryState}
 use Rattle.dav_local.specs.declared.entry.LocalFsDirEntry.{LocalFsDirEntry}
 use Rattle.dav_local.specs.declared.file.LocalFsFile.{LocalFsFile}

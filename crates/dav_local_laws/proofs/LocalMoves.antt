@@ -26,10 +26,10 @@ use Rattle.dav_store.proofs.Reading.{rose_from, rose_on}
 use Rattle.dav_model.specs.declared.settings.Settings.{Settings}
 use Rattle.dav_model.specs.Finding.{is_forbidden, resolved}
 use Rattle.dav_model.specs.Rules.{Rules}
-use Rattle.dav_methods.specs.Follows.{Calls, IfBothFound, MeetsFile, MovesBy, Told, UnlessShut}
-use Rattle.dav_methods.specs.Pouring.{Writes}
-use Rattle.dav_methods.proofs.Beside.{unlinked_from}
-use Rattle.dav_methods.proofs.RemovalWork.{back_taken}
+use Rattle.dav_walks.specs.Follows.{Calls, IfBothFound, MeetsFile, MovesBy, Told, UnlessShut}
+use Rattle.dav_walks.specs.Pouring.{Writes}
+use Rattle.dav_walks.proofs.trees.OthersStay.{unlinked_from}
+use Rattle.dav_walks.proofs.removals.RemovalsAllowed.{back_taken}
 use Rattle.dav_cache.specs.Memory.{MemoryState}
 use Rattle.dav_local.specs.declared.entry.LocalFsDirEntry.{LocalFsDirEntry}
 use Rattle.dav_local.specs.declared.file.LocalFsFile.{LocalFsFile}

@@ -45,7 +45,7 @@ use Rattle.dav_model.specs.Rules.{Knowledge, Rules}
 use Rattle.dav_model.specs.Shown.{Could, CouldShow, CouldStand, Shown}
 use Rattle.dav_model.proofs.LooseWalks.{exactly_may}
 use Rattle.dav_model.proofs.WorldsCouldShow.{world_could}
-use Rattle.dav_methods.specs.Pouring.{Writes}
+use Rattle.dav_walks.specs.Pouring.{Writes}
 use Rattle.dav_get.specs.Heard.{Heard, HearsCourse, HearsFile, HearsLook, IsPlacedOr, RefusesFew, WasHad, looked_of, looked_stood, shown_alike, shown_heard}
 use Rattle.dav_get.specs.Lives.{OpenOnlyHeld}
 use Rattle.dav_get.specs.Right.{IsOfNumber, or_zero, reply_at}

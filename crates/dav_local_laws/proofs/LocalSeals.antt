@@ -25,7 +25,7 @@ use Rattle.dav_core.proofs.Plain.{names_same}
 use Rattle.dav_store.specs.Files.{AsksOnce}
 use Rattle.dav_store.specs.Members.{Answered, Walked, begun, goes}
 use Rattle.dav_store.specs.View.{Listings, View}
-use Rattle.dav_methods.specs.Pouring.{Writes}
+use Rattle.dav_walks.specs.Pouring.{Writes}
 use Rattle.dav_model.specs.Finding.{has_slash, is_virtual, or_walk}
 use Rattle.dav_model.specs.Folds.{Name, dir_time, dir_time_of, is_dot}
 use Rattle.dav_cache.specs.declared.du_cache.Sealed.{Sealed}

@@ -23,8 +23,8 @@ use Rattle.dav_store.specs.Reached.{Reached, ShowsOn, by_file, by_listing, by_lo
 use Rattle.dav_store.specs.Shows.{Looked, OpensThere, here, looks, looks_at_link}
 use Rattle.dav_store.specs.View.{Listings, View}
 use Rattle.dav_store.proofs.Reached.{reached_world}
-use Rattle.dav_methods.specs.Follows.{LooksBy, Told}
-use Rattle.dav_methods.specs.Pouring.{Writes}
+use Rattle.dav_walks.specs.Follows.{LooksBy, Told}
+use Rattle.dav_walks.specs.Pouring.{Writes}
 use Rattle.dav_model.specs.Finding.{EndsLoosely, listed_in, members_or}
 use Rattle.dav_model.specs.Unset.{nothing_set}
 use Rattle.dav_model.proofs.LooseWalks.{found_exactly}

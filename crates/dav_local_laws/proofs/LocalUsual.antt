@@ -27,7 +27,7 @@ use Rattle.dav_store.specs.Members.{Answered, Walked, begun, goes as walks}
 use Rattle.dav_store.specs.View.{Listings, View}
 use Rattle.dav_store.proofs.Reading.{rose_from, rose_on}
 use Rattle.dav_methods.specs.Answers.{RefusedUsually, RefusesUsually, Usual, is_usual}
-use Rattle.dav_methods.specs.Pouring.{Writes}
+use Rattle.dav_walks.specs.Pouring.{Writes}
 use Rattle.dav_cache.specs.Memory.{MemoryState}
 use Rattle.dav_model.specs.Finding.{has_slash, is_forbidden, is_virtual}
 use Rattle.dav_local.specs.declared.entry.EntryMeta.{EntryMeta}

@@ -9,9 +9,9 @@ use Rattle.dav_core.specs.Path.{Names}
 use Rattle.dav_core.specs.Tree.{is_dir, look}
 use Rattle.dav_core.specs.World.{World}
 use Rattle.dav_model.specs.Walks.{dir_first, in_order}
-use Rattle.dav_methods.specs.declared.child.Child.{Child}
-use Rattle.dav_methods.specs.Follows.{child_of}
-use Rattle.dav_methods.specs.Reading.{child_named}
+use Rattle.dav_walks.specs.declared.child.Child.{Child}
+use Rattle.dav_walks.specs.Follows.{child_of}
+use Rattle.dav_walks.specs.Reading.{child_named}
 use Rattle.dav_local.proofs.EntriesTold.{StandsIn}
 use Rattle.dav_local_laws.proofs.NameOrder.{all_in_order}
 

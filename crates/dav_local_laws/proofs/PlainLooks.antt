@@ -19,7 +19,7 @@ use Rattle.dav_store.specs.Files.{Spoiled}
 use Rattle.dav_model.specs.Finding.{stood_at}
 use Rattle.dav_model.specs.Head.{Stood, stood_in}
 use Rattle.dav_model.proofs.PlainWalks.{linked_below, unlinked_row}
-use Rattle.dav_methods.specs.Follows.{Agrees, Finds}
+use Rattle.dav_walks.specs.Follows.{Agrees, Finds}
 use Rattle.dav_local.specs.Files.{looked_as}
 use Rattle.dav_local.specs.Standing.{under_slash}
 

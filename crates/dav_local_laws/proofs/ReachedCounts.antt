@@ -4,8 +4,8 @@ use Rattle.dav_store.specs.declared.entry.ReadDirMeta.TheVariants.{DataSymlink}
 use Rattle.dav_store.specs.Leads.{ListedOn, begun, goes_on, says}
 use Rattle.dav_store.specs.View.{Listings, View}
 use Rattle.dav_methods.specs.Answers.{RefusesUsually}
-use Rattle.dav_methods.specs.Follows.{Reached, copies, ends_file, here, listed, looks, looks_at_link, makes_dir, opens, removes_dir, removes_file, renames, unlisted, writes_file}
-use Rattle.dav_methods.specs.Pouring.{Writes}
+use Rattle.dav_walks.specs.Follows.{Reached, copies, ends_file, here, listed, looks, looks_at_link, makes_dir, opens, removes_dir, removes_file, renames, unlisted, writes_file}
+use Rattle.dav_walks.specs.Pouring.{Writes}
 
 further : (a b c : ℕ) → a ≤ b → b ≤ c → a ≤ c
 further a b c p q = omega arith

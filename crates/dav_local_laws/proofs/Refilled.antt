@@ -9,7 +9,7 @@ use Rattle.dav_core.specs.World.{Holds, NotAfter, Stored, World, bytes_of, put}
 use Rattle.dav_core.specs.Writing.{written}
 use Rattle.dav_core.proofs.TimesLemmas.{later_than, not_after_then}
 use Rattle.dav_core.proofs.EditsLemmas.{edit_then}
-use Rattle.dav_methods.proofs.EditsJoined.{filled_after, filled_bytes, numbered_map}
+use Rattle.dav_walks.proofs.trees.EditsJoined.{filled_after, filled_bytes, numbered_map}
 use Rattle.dav_local.proofs.WrittenBytes.{written_on}
 
 -- ---- rows and numbers

@@ -12,8 +12,8 @@ use Rattle.dav_store.specs.View.{Listings, View}
 use Rattle.dav_model.specs.Finding.{EndsLoosely, has_slash, is_forbidden}
 use Rattle.dav_model.specs.Plans.{put_options}
 use Rattle.dav_model.specs.Rules.{Rules}
-use Rattle.dav_methods.specs.Follows.{Calls, MovesBy, OpensBy, Reached, Told, UnlessShut}
-use Rattle.dav_methods.specs.Pouring.{Writes}
+use Rattle.dav_walks.specs.Follows.{Calls, MovesBy, OpensBy, Reached, Told, UnlessShut}
+use Rattle.dav_walks.specs.Pouring.{Writes}
 
 -- A place where a loose walk of the path ends, and this of it, if no link stands on the way there.
 pub record AtSome (rules : Rules) (v : World) (path : WebPath) (P : Names → Type 0) : Type 0 where

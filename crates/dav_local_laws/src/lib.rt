@@ -37,7 +37,7 @@ ghost use Rattle.dav_local.specs.Ways.{rules_of, rules_with};
 ghost use Rattle.dav_local.specs.declared.file.LocalFsFile.{LocalFsFile};
 ghost use Rattle.dav_local.specs.declared.fs.LocalFs.{LocalFs};
 ghost use Rattle.dav_methods.specs.Answers.{RefusesUsually};
-ghost use Rattle.dav_methods.specs.Follows.{Follows, Reached};
+ghost use Rattle.dav_walks.specs.Follows.{Follows, Reached};
 ghost use Rattle.dav_model.specs.Calls.{AreNear, IsWalkedBy, calls_to_open, calls_to_seek, is_meant, is_touched};
 ghost use Rattle.dav_model.specs.Due.{OfItsPaths, Query};
 ghost use Rattle.dav_model.specs.Finding.{is_virtual};

@@ -18,7 +18,7 @@ use Rattle.dav_model.specs.Conditions.{Fields}
 use Rattle.dav_model.specs.WellFormed.{is_among}
 use Rattle.dav_model.specs.Written.{MayEnd, halt_statuses, may_close}
 use Rattle.dav_methods.specs.Lines.{Given, made, silent}
-use Rattle.dav_methods.specs.Pouring.{Writes, WritesFile}
+use Rattle.dav_walks.specs.Pouring.{Writes, WritesFile}
 
 -- ---- stores that refuse few things
 

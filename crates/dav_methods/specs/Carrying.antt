@@ -11,13 +11,15 @@ use Rattle.dav_model.specs.declared.outcome.Outcome.{Outcome}
 use Rattle.dav_model.specs.CarryPlans.{method_of}
 use Rattle.dav_model.specs.Conditions.{Fields}
 use Rattle.dav_model.specs.declared.asked.Asked.{Asked}
-use Rattle.dav_methods.specs.declared.transfer.Transfer.{Transfer}
-use Rattle.dav_methods.specs.declared.work.Work.TheVariants.{Whole}
-use Rattle.dav_methods.specs.Copying.{Copies}
+use Rattle.dav_walks.specs.declared.transfer.Transfer.{Transfer}
+use Rattle.dav_walks.specs.declared.work.Work.TheVariants.{Whole}
+use Rattle.dav_walks.specs.Copying.{Copies}
 use Rattle.dav_model.specs.Destination.{Asks}
-use Rattle.dav_methods.specs.Lines.{Line, fails_when, first_of, is_dir_there, is_there, made, refused, refused_but_missing, silent, unless, unmet}
+use Rattle.dav_walks.specs.Lines.{Line, fails_when}
+use Rattle.dav_methods.specs.Lines.{first_of, is_dir_there, is_there, made, refused, refused_but_missing, silent, unless, unmet}
 use Rattle.dav_model.specs.Overlap.{overlap}
-use Rattle.dav_methods.specs.Removing.{LooksAtLink, Removes}
+use Rattle.dav_walks.specs.Removing.{Removes}
+use Rattle.dav_methods.specs.Deleting.{LooksAtLink}
 use Rattle.dav_methods.specs.Table.{Below, Ends, Looks, Next, Run, Unless, answered}
 
 -- What was found at the source lets a request go on.

@@ -6,9 +6,9 @@ use Rattle.dav_core.specs.DavPath.{WebPath}
 use Rattle.dav_store.specs.View.{View, Listings}
 use Rattle.dav_model.specs.Conditions.{Fields}
 use Rattle.dav_methods.specs.Carrying.{CopiesTo, MovesTo}
-use Rattle.dav_methods.specs.Pouring.{Writes}
+use Rattle.dav_walks.specs.Pouring.{Writes}
 use Rattle.dav_methods.specs.Putting.{PutsWhole}
-use Rattle.dav_methods.specs.Removing.{Deletes}
+use Rattle.dav_methods.specs.Deleting.{Deletes}
 use Rattle.dav_methods.specs.Table.{MkCalendars, MkCols, Run}
 
 module _ {S C F L E : Type 0} (view : View S C F) (lists : Listings S C L E) (writes : Writes F) (c : C) where

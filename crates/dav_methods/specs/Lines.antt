@@ -1,19 +1,18 @@
 -- The answers of the methods that write, and the lines of their tables (RFC 4918, sections 9.3, 9.6, 9.7 and 9.8).
-use Rattle.std.specs.Prelude.{ℕ, List, [], ◌∷◌, codes, Bool, true, false, not, Option, None, Some, Result, Ok, Err, ◌==◌, ◌&&◌}
+use Rattle.std.specs.Prelude.{ℕ, List, [], ◌∷◌, codes, Bool, true, false, not, Option, None, Some, Result, Ok, Err}
 use Rattle.dav_core.specs.declared.dav_error.DavError.{DavError}
 use Rattle.dav_core.specs.declared.dav_error.DavError.TheVariants as dav
 use Rattle.dav_core.specs.declared.error.FsError.{FsError}
 use Rattle.dav_core.specs.declared.error.FsError.TheVariants as fs
 use Rattle.dav_core.specs.declared.method.DavMethod.{DavMethod}
 use Rattle.dav_core.specs.declared.method.DavMethod.TheVariants.{Delete, MkCol, Put}
-use Rattle.dav_core.specs.DavPath.{WebPath}
 use Rattle.dav_core.specs.Info.{Info}
-use Rattle.dav_core.specs.Path.{parent_of}
 use Rattle.dav_core.specs.Statuses.{of_fs}
 use Rattle.dav_core.specs.Tree.{is_dir}
 use Rattle.dav_model.specs.declared.outcome.Outcome.{Outcome}
 use Rattle.dav_model.specs.Conditions.{Fields, condition_of}
 use Rattle.dav_model.specs.Head.{field}
+use Rattle.dav_walks.specs.Lines.{Line, fails_when}
 
 -- what is answered, or the error
 abbrev pub Given : Type 0
@@ -46,14 +45,7 @@ abbrev pub done_over : Result Info FsError → Outcome
 done_over (Ok info) = silent
 done_over (Err e) = made
 
--- the directory above a path
-abbrev pub above : WebPath → WebPath
-above path = record path { names = parent_of path.names; slash = true }
-
--- ---- lines: the error of one that fits
-
-abbrev pub Line : Type 0
-Line = Result Unit DavError
+-- ---- lines
 
 -- The first line that fits decides.
 abbrev pub first_of : List Line → Line
@@ -65,10 +57,6 @@ first_of (Err e ∷ lines) = Err e
 abbrev pub unless : Line → Outcome → Given
 unless (Ok x) outcome = Ok outcome
 unless (Err e) outcome = Err e
-
-abbrev pub fails_when : Bool → ℕ → Line
-fails_when true status = Err (dav.Status status)
-fails_when false status = Ok tt
 
 -- The look was refused.
 abbrev pub refused : Result Info FsError → Line
@@ -116,10 +104,3 @@ may_put fields found = first_of (refused_but_missing found ∷ fails_when (is_di
 -- What was found lets a DELETE go on.
 abbrev pub may_delete : Fields → Result Info FsError → Line
 may_delete fields found = first_of (refused found ∷ unmet Delete fields found ∷ [])
-
--- ---- the names of the fields that carry preconditions
-
--- `if-` stands before each of them
-abbrev pub begins_with_if : List ℕ → Bool
-begins_with_if (a ∷ b ∷ c ∷ more) = a == 105 && (b == 102 && c == 45)
-begins_with_if _ = false

@@ -9,9 +9,10 @@ use Rattle.dav_store.specs.Frames.{OpensOne}
 use Rattle.dav_store.specs.View.{View, Closes}
 use Rattle.dav_model.specs.declared.outcome.Outcome.{Outcome}
 use Rattle.dav_model.specs.Conditions.{Fields}
-use Rattle.dav_methods.specs.Lines.{Given, Line, done_over, fails_when, may_put, unless}
-use Rattle.dav_methods.specs.Pouring.{Pours, Writes, WritesFile}
-use Rattle.dav_methods.specs.Removing.{line_of}
+use Rattle.dav_walks.specs.Lines.{Line, fails_when}
+use Rattle.dav_methods.specs.Lines.{Given, done_over, may_put, unless}
+use Rattle.dav_walks.specs.Pouring.{Pours, Writes, WritesFile}
+use Rattle.dav_walks.specs.Removing.{line_of}
 use Rattle.dav_methods.specs.Table.{Below, Ends, Looks, Next, Run, Unless}
 
 -- How the file of a PUT is opened: it is made where nothing stands, and emptied where a file does.

@@ -8,8 +8,8 @@ use Rattle.dav_model.specs.Finding.{resolved}
 use Rattle.dav_model.specs.Plans.{Ask, meets_link, plan}
 use Rattle.dav_model.specs.Rules.{Rules}
 use Rattle.dav_model.specs.Written.{PartOf}
-use Rattle.dav_methods.specs.Follows.{RightIn, Turn}
-use Rattle.dav_methods.specs.Pouring.{Writes, most_bytes}
+use Rattle.dav_methods.specs.ByPlan.{RightIn, Turn}
+use Rattle.dav_walks.specs.Pouring.{Writes, most_bytes}
 
 -- The bytes that the reader has left are the body of the request, and fewer than the bound of a body.
 pub record TellsBody (ask : Ask) (b : BodyState) : Type 0 where

@@ -10,7 +10,8 @@ use Rattle.dav_core.specs.Statuses.{of_fs}
 use Rattle.dav_store.specs.View.{View}
 use Rattle.dav_model.specs.declared.outcome.Outcome.{Outcome}
 use Rattle.dav_model.specs.Conditions.{Fields}
-use Rattle.dav_methods.specs.Lines.{Given, Line, above, found_or_failed, made, may_make, no_parent}
+use Rattle.dav_walks.specs.Lines.{Line, above}
+use Rattle.dav_methods.specs.Lines.{Given, found_or_failed, made, may_make, no_parent}
 
 -- from a store, an answer and the store that is left
 abbrev pub Run : Type 0 → Type 1

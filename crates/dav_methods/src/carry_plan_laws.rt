@@ -1,6 +1,6 @@
 //! Laws over the tables of COPY and MOVE and their plans, each the contract of a function that does nothing.
 ghost use Rattle.std.specs.Prelude.{false, true};
-ghost use Rattle.dav_methods.specs.Follows.{CarriesByPlan};
+ghost use Rattle.dav_methods.specs.ByPlan.{CarriesByPlan};
 
 use dav_store::GuardedFileSystem;
 

@@ -2,21 +2,20 @@
 ghost use Rattle.std.specs.Prelude.{◌≡◌, ◌⊎◌, Ok, Err};
 ghost use Rattle.dav_methods.specs.Carrying.{Arrives, CopiesTo, CopyMoves, Goes, Leaves, MovesTo, Replaces};
 ghost use Rattle.dav_model.specs.CarryPlans.{method_of as the_method_of};
-ghost use Rattle.dav_methods.specs.Lines.{fails_when};
+ghost use Rattle.dav_walks.specs.Lines.{fails_when};
 ghost use Rattle.dav_model.specs.Overlap.{overlap};
 ghost use Rattle.dav_store.specs.View.{StaysOpen};
-ghost use Rattle.dav_methods.specs.Removing.{LooksAtLink};
+ghost use Rattle.dav_methods.specs.Deleting.{LooksAtLink};
 ghost use Rattle.dav_methods.specs.Table.{Next, Unless};
 
-use crate::copying::copy_all;
 use crate::destination::asked;
 use crate::lines::{pass_met, pass_missing, pass_parent};
 use crate::outcomes::{answer, created, silent};
 use crate::overlap::overlaps;
-use crate::removing::{line_of, remove_all};
 use dav_core::{DavError, DavMetaData, DavMethod, DavPath, FsError};
 use dav_model::{Asked, Outcome};
 use dav_store::GuardedFileSystem;
+use dav_walks::{copy_all, line_of, remove_all};
 use http::{HeaderMap, StatusCode};
 use std::alloc::Global;
 

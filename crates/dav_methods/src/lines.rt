@@ -6,7 +6,7 @@ ghost use Rattle.dav_model.specs.Conditions.{condition_of};
 ghost use Rattle.dav_store.specs.View.{Stays};
 ghost use Rattle.dav_methods.specs.Lines.{found_or_failed, may_delete, may_make as the_may_make, may_put as the_may_put, no_parent, refused_but_missing, with_status};
 
-use crate::conditions::if_match;
+use dav_conditions::if_match;
 use dav_core::{DavError, DavMetaData, DavMethod, DavPath, FsError};
 use dav_store::{EmptyMetaData, GuardedFileSystem};
 use http::{HeaderMap, StatusCode};

@@ -1,7 +1,7 @@
 // The answers of the methods that write, where all was done.
 ghost use Rattle.std.specs.Prelude.{◌≡◌, IfOk};
 ghost use Rattle.dav_methods.specs.Lines.{made, silent as the_silent, unless};
-ghost use Rattle.dav_methods.specs.Removing.{line_of};
+ghost use Rattle.dav_walks.specs.Removing.{line_of};
 
 use dav_core::{DavError, FsError};
 use dav_io::{Field, FieldName, Items, NoMemory, Octets, Text};

@@ -6,10 +6,10 @@ ghost use Rattle.dav_methods.specs.Putting.{AfterChecks, AfterChecksWhole, MayPu
 
 use crate::lines::{may_put_new, may_put_over, pass_parent};
 use crate::outcomes::{answer, answer_written, created, silent};
-use crate::pouring::{file_write, pour};
 use dav_core::{DavError, DavMetaData, DavPath, FsError, OpenOptions};
 use dav_model::Outcome;
 use dav_store::{BodyReader, GuardedFileSystem, file_close};
+use dav_walks::{file_write, pour};
 use http::{HeaderMap, StatusCode};
 use std::alloc::Global;
 

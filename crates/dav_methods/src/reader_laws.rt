@@ -5,7 +5,7 @@ ghost use Rattle.dav_model.specs.Plans.{Ask};
 ghost use Rattle.dav_model.specs.Rules.{Knowledge, Rules};
 ghost use Rattle.dav_model.specs.Valid.{IsRegular};
 ghost use Rattle.dav_store.specs.Bodies.{BodyState};
-ghost use Rattle.dav_methods.specs.Follows.{Follows, Told};
+ghost use Rattle.dav_walks.specs.Follows.{Follows, Told};
 ghost use Rattle.dav_methods.specs.Lines.{Given};
 ghost use Rattle.dav_methods.specs.Putting.{Puts};
 ghost use Rattle.dav_methods.specs.Readers.{ReadIn, TellsBody};

@@ -6,9 +6,10 @@ ghost use Rattle.dav_model.specs.Conditions.{Fields};
 ghost use Rattle.dav_model.specs.Rules.{Knowledge, Rules};
 ghost use Rattle.dav_model.specs.Valid.{IsRegular};
 ghost use Rattle.dav_methods.specs.Answers.{Answers, RefusesUsually};
-ghost use Rattle.dav_methods.specs.Follows.{Follows, RightIn, Told};
+ghost use Rattle.dav_walks.specs.Follows.{Follows, Told};
+ghost use Rattle.dav_methods.specs.ByPlan.{RightIn};
 ghost use Rattle.dav_methods.specs.Lines.{Given};
-ghost use Rattle.dav_methods.specs.Removing.{Deletes};
+ghost use Rattle.dav_methods.specs.Deleting.{Deletes};
 
 use dav_store::GuardedFileSystem;
 

@@ -97,7 +97,7 @@ fn words_told(
 }
 
 // These words with commas between them.
-#[tactic(auto, using(crate::proofs::Joined::joined_words))]
+#[tactic(auto, using(crate::proofs::texts::WordsJoined::joined_words))]
 fn told(alloc: Global, allow: Option<DavMethodSet>, void: bool) -> Result<String, NoMemory>
     ensures { IfOk result (λ text. string_bytes text ≡ join_by (λ word. word) (codes ",") (the_words_told allow void)) }
 {

@@ -15,10 +15,10 @@ use Rattle.dav_model.specs.declared.outcome.Outcome.{Outcome}
 use Rattle.dav_model.specs.Conditions.{Fields}
 use Rattle.dav_methods.specs.Answers.{RefusesUsually, Usual}
 use Rattle.dav_methods.specs.Lines.{Given}
-use Rattle.dav_methods.specs.Pouring.{Writes}
+use Rattle.dav_walks.specs.Pouring.{Writes}
 use Rattle.dav_methods.specs.Putting.{MayPut}
-use Rattle.dav_methods.proofs.AnswersListed.{put_listed, unread_listed}
-use Rattle.dav_methods.proofs.LinesListed.{IsListed}
+use Rattle.dav_methods.proofs.tables.AnswersListed.{put_listed, unread_listed}
+use Rattle.dav_methods.proofs.tables.LinesListed.{IsListed}
 use Rattle.dav_upload.specs.declared.error.UploadError.{UploadError}
 use Rattle.dav_upload.specs.declared.error.UploadError.TheVariants as upload
 use Rattle.dav_upload.specs.declared.error.UploadError.TheVariants.{Busy, Dav}

@@ -3,7 +3,7 @@ use Rattle.std.proofs.Common.{◌≡◌, ℕ, subst}
 use Rattle.dav_io.specs.Outside.{Stream}
 use Rattle.dav_core.specs.DavPath.{WebPath}
 use Rattle.dav_store.specs.View.{Listings, View}
-use Rattle.dav_methods.specs.Pouring.{Writes}
+use Rattle.dav_walks.specs.Pouring.{Writes}
 use Rattle.dav_put.specs.declared.running.Ending.{Ending}
 use Rattle.dav_put.specs.declared.running.Task.{Task}
 use Rattle.dav_put.specs.declared.running.Task.TheVariants.{Sweep}

@@ -4,8 +4,8 @@ use Rattle.dav_io.specs.Outside.{Stream, Takes}
 use Rattle.dav_core.specs.Disk.{DiskState, Live}
 use Rattle.dav_store.specs.Frames.{KeepsOpenBut}
 use Rattle.dav_store.specs.View.{StaysBy, View}
-use Rattle.dav_methods.specs.Pouring.{Writes}
-use Rattle.dav_methods.proofs.KeptOpen.{but_same, but_then}
+use Rattle.dav_walks.specs.Pouring.{Writes}
+use Rattle.dav_walks.proofs.calls.KeptOpen.{but_same, but_then}
 use Rattle.dav_upload.specs.declared.upload.Upload.{Upload}
 use Rattle.dav_upload.specs.Pieces.{KeepsUpload}
 use Rattle.dav_upload.specs.Uploading.{WritesPiece}

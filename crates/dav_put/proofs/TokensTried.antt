@@ -3,7 +3,7 @@ use Rattle.std.proofs.Common.{◌≡◌, ◌+◌, ℕ, true, false, List, Result
 use Rattle.dav_core.specs.DavPath.{WebPath}
 use Rattle.dav_model.specs.Conditions.{Fields}
 use Rattle.dav_store.specs.View.{View}
-use Rattle.dav_methods.specs.Pouring.{Writes}
+use Rattle.dav_walks.specs.Pouring.{Writes}
 use Rattle.dav_upload.specs.declared.error.UploadError.{UploadError}
 use Rattle.dav_upload.specs.declared.error.UploadError.TheVariants.{Busy, Dav, Hidden, NoMemory}
 use Rattle.dav_upload.specs.Uploading.{Begins}

@@ -4,7 +4,7 @@ use Rattle.dav_io.specs.Outside.{Stream}
 use Rattle.dav_core.specs.DavPath.{WebPath}
 use Rattle.dav_model.specs.declared.outcome.Outcome.{Outcome}
 use Rattle.dav_store.specs.View.{Listings, View}
-use Rattle.dav_methods.specs.Pouring.{Writes}
+use Rattle.dav_walks.specs.Pouring.{Writes}
 use Rattle.dav_put.specs.declared.running.Ending.{Ending}
 use Rattle.dav_put.specs.declared.running.Ending.TheVariants.{Refused}
 use Rattle.dav_put.specs.declared.running.Task.{Task}

@@ -6,7 +6,7 @@ use Rattle.dav_core.specs.DavPath.{WebPath}
 use Rattle.dav_store.specs.View.{View}
 use Rattle.dav_model.specs.declared.outcome.Outcome.{Outcome}
 use Rattle.dav_model.specs.Conditions.{Fields}
-use Rattle.dav_methods.specs.Pouring.{Writes}
+use Rattle.dav_walks.specs.Pouring.{Writes}
 use Rattle.dav_put.specs.declared.storing.Stop.{Stop}
 use Rattle.dav_put.specs.declared.storing.Stop.TheVariants.{Refused, SourceFailed, TooMuch}
 use Rattle.dav_upload.specs.declared.error.UploadError.{UploadError}

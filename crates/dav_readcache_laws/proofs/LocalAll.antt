@@ -17,7 +17,7 @@ use Rattle.dav_store.specs.Members.{ShowsMembers}
 use Rattle.dav_store.specs.Reached.{Reached, ShowsOn, by_look, by_look_at_link, by_none}
 use Rattle.dav_store.specs.Shows.{Looked, LooksThere, Shows, here, looks, looks_at_link}
 use Rattle.dav_store.specs.View.{Listings, View}
-use Rattle.dav_methods.specs.Pouring.{Writes}
+use Rattle.dav_walks.specs.Pouring.{Writes}
 use Rattle.dav_model.specs.Due.{Query}
 use Rattle.dav_model.specs.Finding.{EndsLoosely}
 use Rattle.dav_model.specs.Unset.{nothing_set}

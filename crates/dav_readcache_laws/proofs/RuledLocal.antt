@@ -13,7 +13,7 @@ use Rattle.dav_store.specs.Members.{Answered, ReadsThere, Stops, WasListed}
 use Rattle.dav_store.specs.Shows.{OpensThere}
 use Rattle.dav_store.specs.View.{Listings, View}
 use Rattle.dav_store.proofs.Reading.{reads_there, rose_on}
-use Rattle.dav_methods.specs.Pouring.{Writes}
+use Rattle.dav_walks.specs.Pouring.{Writes}
 use Rattle.dav_cache.specs.Memory.{MemoryState}
 use Rattle.dav_core.specs.Writing.{reading}
 use Rattle.dav_local.specs.declared.entry.LocalFsDirEntry.{LocalFsDirEntry}

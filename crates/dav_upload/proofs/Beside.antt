@@ -16,7 +16,7 @@ use Rattle.dav_core.proofs.Rows.{dir_kind, row_at_in}
 use Rattle.dav_upload.specs.Names.{is_hidden_path}
 use Rattle.dav_upload.specs.Shown.{AreBelow, IsHiddenIn, StandsBeside}
 use Rattle.dav_upload.proofs.Moving.{never}
-use Rattle.dav_methods.proofs.TreeRows.{DirAt, Parts, above, at_row, front_equal, front_of, look_row, not_both, only_row, parts_of}
+use Rattle.dav_walks.proofs.trees.TreeRows.{DirAt, Parts, above, at_row, front_equal, front_of, look_row, not_both, only_row, parts_of}
 use Rattle.dav_core.proofs.PlaceLemmas.{row_passed}
 use Rattle.dav_core.proofs.Paths.{parent_cons}
 

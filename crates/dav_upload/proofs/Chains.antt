@@ -21,8 +21,9 @@ use Rattle.dav_store.specs.Frames.{OpensOne}
 use Rattle.dav_store.specs.View.{Closes, View}
 use Rattle.dav_model.specs.declared.outcome.Outcome.{Outcome}
 use Rattle.dav_model.specs.Conditions.{Fields}
-use Rattle.dav_methods.specs.Lines.{Given, Line, done_over, fails_when, may_put, no_parent, unless}
-use Rattle.dav_methods.specs.Pouring.{Writes, WritesFile}
+use Rattle.dav_walks.specs.Lines.{Line, fails_when}
+use Rattle.dav_methods.specs.Lines.{Given, done_over, may_put, no_parent, unless}
+use Rattle.dav_walks.specs.Pouring.{Writes, WritesFile}
 use Rattle.dav_methods.specs.Putting.{MayPut, MayReplace}
 use Rattle.dav_methods.specs.Table.{Below, Ends, Looks, Next, Run, Unless}
 use Rattle.dav_upload.specs.declared.error.UploadError.{UploadError}

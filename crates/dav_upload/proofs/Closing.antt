@@ -4,7 +4,7 @@ use Rattle.dav_core.specs.Disk.{DiskState}
 use Rattle.dav_core.specs.Unchanged.{Keeps}
 use Rattle.dav_store.specs.Frames.{KeepsOpen, KeepsOpenBut}
 use Rattle.dav_store.specs.View.{Closes, StaysBy, StaysOpen, View}
-use Rattle.dav_methods.proofs.KeptOpen.{but_kept, but_then, open_after, open_kept, open_then}
+use Rattle.dav_walks.proofs.calls.KeptOpen.{but_kept, but_then, open_after, open_kept, open_then}
 use Rattle.dav_upload.specs.declared.error.UploadError.{UploadError}
 use Rattle.dav_upload.specs.declared.upload.Upload.{Upload}
 use Rattle.dav_upload.specs.Pieces.{ClosesUpload}

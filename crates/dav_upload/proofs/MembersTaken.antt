@@ -4,9 +4,9 @@ use Rattle.std.proofs.Math.ListN.{drop_of_length-le}
 use Rattle.std.specs.List.{filter}
 use Rattle.dav_core.specs.DavPath.{WebPath}
 use Rattle.dav_store.specs.View.{Listings, View}
-use Rattle.dav_methods.specs.declared.child.Child.{Child}
-use Rattle.dav_methods.specs.declared.member.Member.{Member}
-use Rattle.dav_methods.specs.Walking.{member_at, members_at}
+use Rattle.dav_walks.specs.declared.child.Child.{Child}
+use Rattle.dav_walks.specs.declared.member.Member.{Member}
+use Rattle.dav_walks.specs.Walking.{member_at, members_at}
 use Rattle.dav_upload.specs.declared.error.UploadError.{UploadError}
 use Rattle.dav_upload.specs.declared.error.UploadError.TheVariants.{NoMemory}
 use Rattle.dav_upload.specs.Uploading.{TakesAll, TakesMember, TakesMemberAs, hidden_files, in_dir, is_hidden_file}

@@ -7,7 +7,7 @@ use Rattle.dav_core.specs.Tree.{row_at}
 use Rattle.dav_core.specs.Unchanged.{Keeps, KeepsBut}
 use Rattle.dav_core.specs.World.{IsWorld, OpenFile, World}
 use Rattle.dav_core.specs.Writing.{reading}
-use Rattle.dav_methods.proofs.KeptOpen.{but_kept, open_kept}
+use Rattle.dav_walks.proofs.calls.KeptOpen.{but_kept, open_kept}
 use Rattle.dav_upload.specs.Names.{is_hidden_path}
 use Rattle.dav_upload.specs.Others.{IsAny, LeavesOthers}
 use Rattle.dav_upload.specs.Shown.{SameShown}

@@ -11,9 +11,9 @@ use Rattle.dav_core.specs.World.{IsWorld, SameBesidesOpens, World, bytes_of}
 use Rattle.dav_core.proofs.UnchangedLemmas.{same_besides, same_besides_then}
 use Rattle.dav_store.specs.Frames.{KeepsOpen, KeepsOpenBut, OpensOne}
 use Rattle.dav_store.specs.View.{Closes, View}
-use Rattle.dav_methods.proofs.KeptOpen.{but_kept, but_then, open_after, open_kept, open_same, open_then}
+use Rattle.dav_walks.proofs.calls.KeptOpen.{but_kept, but_then, open_after, open_kept, open_same, open_then}
 use Rattle.dav_methods.specs.Lines.{Given}
-use Rattle.dav_methods.specs.Pouring.{Writes}
+use Rattle.dav_walks.specs.Pouring.{Writes}
 use Rattle.dav_methods.specs.Putting.{MayPut}
 use Rattle.dav_model.specs.declared.outcome.Outcome.{Outcome}
 use Rattle.dav_model.specs.Conditions.{Fields}

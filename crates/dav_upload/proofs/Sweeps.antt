@@ -16,8 +16,8 @@ use Rattle.dav_core.specs.Tree.{is_dir, is_link, is_linked, row_at}
 use Rattle.dav_core.specs.World.{IsWorld, SameBesidesOpens, World}
 use Rattle.dav_core.specs.Writing.{LeftBy}
 use Rattle.dav_store.specs.View.{Listings, View}
-use Rattle.dav_methods.specs.declared.child.Child.{Child}
-use Rattle.dav_methods.specs.Pouring.{Writes}
+use Rattle.dav_walks.specs.declared.child.Child.{Child}
+use Rattle.dav_walks.specs.Pouring.{Writes}
 use Rattle.dav_model.proofs.PlainWalks.{unlinked_row}
 use Rattle.dav_upload.specs.declared.error.UploadError.{UploadError}
 use Rattle.dav_upload.specs.Ends.{EndsAs, is_spoiled}

@@ -6,9 +6,9 @@ use Rattle.dav_core.specs.Path.{Names, parent_of}
 use Rattle.dav_core.specs.World.{SameBesidesOpens, World}
 use Rattle.dav_store.specs.Frames.{KeepsOpen}
 use Rattle.dav_store.specs.View.{Listings, View}
-use Rattle.dav_methods.proofs.KeptOpen.{open_after, open_kept, open_same, open_then}
-use Rattle.dav_methods.specs.declared.child.Child.{Child}
-use Rattle.dav_methods.specs.Pouring.{Writes}
+use Rattle.dav_walks.proofs.calls.KeptOpen.{open_after, open_kept, open_same, open_then}
+use Rattle.dav_walks.specs.declared.child.Child.{Child}
+use Rattle.dav_walks.specs.Pouring.{Writes}
 use Rattle.dav_model.proofs.LooseWalks.{parent_pushed}
 use Rattle.dav_upload.specs.declared.error.UploadError.{UploadError}
 use Rattle.dav_upload.specs.Names.{is_hidden_path}

@@ -12,9 +12,9 @@ use Rattle.dav_core.specs.Tree.{is_linked, row_at}
 use Rattle.dav_core.specs.World.{IsWorld, OpenFile, World, bytes_of}
 use Rattle.dav_core.specs.Writing.{appends}
 use Rattle.dav_store.specs.View.{Listings, View}
-use Rattle.dav_methods.specs.declared.child.Child.{Child}
-use Rattle.dav_methods.specs.Pouring.{Writes, WritesFile}
-use Rattle.dav_methods.specs.Reading.{HasMembers}
+use Rattle.dav_walks.specs.declared.child.Child.{Child}
+use Rattle.dav_walks.specs.Pouring.{Writes, WritesFile}
+use Rattle.dav_walks.specs.Reading.{HasMembers}
 use Rattle.dav_upload.specs.Ends.{EndsAs, MakesFile, WritesAt}
 use Rattle.dav_upload.specs.Pieces.{upload_options}
 

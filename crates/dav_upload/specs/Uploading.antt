@@ -13,11 +13,11 @@ use Rattle.dav_store.specs.Frames.{KeepsOpen, OpensOne}
 use Rattle.dav_store.specs.View.{View, Listings, Closes}
 use Rattle.dav_model.specs.declared.outcome.Outcome.{Outcome}
 use Rattle.dav_model.specs.Conditions.{Fields}
-use Rattle.dav_methods.specs.declared.child.Child.{Child}
+use Rattle.dav_walks.specs.declared.child.Child.{Child}
 use Rattle.dav_methods.specs.Lines.{Given}
-use Rattle.dav_methods.specs.Pouring.{Writes, WritesFile}
+use Rattle.dav_walks.specs.Pouring.{Writes, WritesFile}
 use Rattle.dav_methods.specs.Putting.{MayPut}
-use Rattle.dav_methods.specs.Reading.{HasMembers, HasNoMembers}
+use Rattle.dav_walks.specs.Reading.{HasMembers, HasNoMembers}
 use Rattle.dav_upload.specs.declared.error.UploadError.{UploadError}
 use Rattle.dav_upload.specs.declared.error.UploadError.TheVariants.{Dav, Busy, Hidden, NoMemory}
 use Rattle.dav_upload.specs.declared.names.Named.{Named}

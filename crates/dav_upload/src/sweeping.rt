@@ -1,13 +1,13 @@
 //! What runs that were cut off left is removed.
 ghost use Rattle.dav_store.specs.View.{StaysOpen};
-ghost use Rattle.dav_methods.specs.Walking.{member_at, members_at};
+ghost use Rattle.dav_walks.specs.Walking.{member_at, members_at};
 ghost use Rattle.dav_upload.specs.Uploading.{Sweeps, TakesAll, TakesMember, hidden_files};
 
 use crate::error::{UploadError, refused_by};
 use crate::names::is_hidden;
 use dav_core::DavPath;
-use dav_methods::{Member, read_members};
 use dav_store::GuardedFileSystem;
+use dav_walks::{Member, read_members};
 use std::alloc::Global;
 
 // Removes a member of a directory, where it is a file with a hidden name, and answers how many that are.

@@ -4,7 +4,7 @@ ghost use Rattle.dav_store.specs.View.{StaysBy, StaysOpen};
 ghost use Rattle.dav_upload.specs.Pieces.{ClosesUpload, KeepsUpload, upload_options as the_upload_options};
 ghost use Rattle.dav_upload.specs.Uploading.{AfterClose, AfterJudged, AfterJudging, Aborts, Begins, Commits, OpensUpload, TriesToRemove, WritesPiece, named_for};
 ghost use Rattle.dav_core.specs.DavPath.{WebPath};
-ghost use Rattle.dav_methods.specs.Pouring.{WritesFile};
+ghost use Rattle.dav_walks.specs.Pouring.{WritesFile};
 
 use crate::error::{UploadError, refusal_of, refused_by};
 use crate::names::{Named, is_taken, names_of};

@@ -21,7 +21,7 @@ use Rattle.dav_core.proofs.UnchangedLemmas.{keeps_same, put_same}
 use Rattle.dav_store.specs.Standing.{Seen, Standing}
 use Rattle.dav_store.specs.Files.{SeeksIn}
 use Rattle.dav_store.specs.View.{Listings, Says, Seeks, View, seen_in}
-use Rattle.dav_methods.specs.Pouring.{Writes}
+use Rattle.dav_walks.specs.Pouring.{Writes}
 use Rattle.dav_cache.specs.Memory.{MemoryState}
 use Rattle.dav_model.specs.declared.sent.Sent.{Sent}
 use Rattle.dav_model.specs.Due.{Course, OfItsPaths, Query, course, dir_course, directing, index_course, index_path, listing, opening, page_course, refusing}

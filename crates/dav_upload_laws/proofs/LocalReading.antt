@@ -2,9 +2,9 @@
 use Rattle.std.proofs.Common.{ap, ◌∙◌}
 use Rattle.dav_io.specs.declared.clock.Moment.{Moment}
 use Rattle.dav_store.specs.View.{Listings, View}
-use Rattle.dav_methods.specs.Follows.{here}
-use Rattle.dav_methods.specs.Pouring.{Writes}
-use Rattle.dav_methods.proofs.ListingsLead.{listed_on}
+use Rattle.dav_walks.specs.Follows.{here}
+use Rattle.dav_walks.specs.Pouring.{Writes}
+use Rattle.dav_walks.proofs.calls.ListingsLead.{listed_on}
 use Rattle.dav_cache.specs.Memory.{MemoryState}
 use Rattle.dav_local.specs.declared.entry.LocalFsDirEntry.{LocalFsDirEntry}
 use Rattle.dav_local.specs.declared.file.LocalFsFile.{LocalFsFile}

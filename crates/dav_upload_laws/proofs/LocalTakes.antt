@@ -25,7 +25,7 @@ use Rattle.dav_core.specs.Writing.{DoesIn, LeftBy, Renames, RemovesFile, Written
 use Rattle.dav_core.proofs.UnchangedLemmas.{put_same, same_besides, same_besides_then}
 use Rattle.dav_store.specs.Files.{Spoiled}
 use Rattle.dav_store.specs.View.{Listings, View}
-use Rattle.dav_methods.specs.Pouring.{Writes, WritesFile}
+use Rattle.dav_walks.specs.Pouring.{Writes, WritesFile}
 use Rattle.dav_cache.specs.Memory.{MemoryState}
 use Rattle.dav_model.specs.Finding.{is_forbidden, or_walk}
 use Rattle.dav_local.specs.declared.entry.LocalFsDirEntry.{LocalFsDirEntry}

@@ -12,7 +12,7 @@ use Rattle.dav_core.specs.Path.{Names, is_front, parent_of, same_names}
 use Rattle.dav_core.specs.Tree.{below, below_kind, is_dir, is_link, is_linked, look, look_from, row_at, standing}
 use Rattle.dav_core.specs.World.{IsWorld, World}
 use Rattle.dav_core.proofs.Paths.{parent_length}
-use Rattle.dav_methods.proofs.TreeRows.{front_equal, front_of, front_then}
+use Rattle.dav_walks.proofs.trees.TreeRows.{front_equal, front_of, front_then}
 use Rattle.dav_upload.specs.Pieces.{upload_options}
 use Rattle.dav_upload.proofs.Beside.{looked_at}
 use Rattle.dav_upload.proofs.Moving.{path_of}

@@ -41,13 +41,14 @@ use Rattle.dav_model.specs.Rules.{Rules}
 use Rattle.dav_model.specs.Valid.{IsRegular, TellsApart}
 use Rattle.dav_model.proofs.LooseWalks.{parent_pushed}
 use Rattle.dav_model.proofs.PlainWalks.{plain_resolved}
-use Rattle.dav_methods.specs.Follows.{Calls, CallsFor, Finds, Follows, LooksBy, MovesBy, Reached}
-use Rattle.dav_methods.specs.Follows.Reached.{copies as copies_to, ends_file as ends_to, here, listed as listed_to, looks as looks_to, looks_at_link as links_to, makes_dir as makes_to, opens as opens_to, removes_dir as dir_to, removes_file as removes_to, renames as renames_to, unlisted as unlisted_to, writes_file as writes_to}
-use Rattle.dav_methods.specs.Lines.{Given, Line, above, done_over, fails_when, first_of, may_put, no_parent, unless, unmet, with_status}
-use Rattle.dav_methods.specs.Pouring.{Writes, WritesFile}
+use Rattle.dav_walks.specs.Follows.{Calls, CallsFor, Finds, Follows, LooksBy, MovesBy, Reached}
+use Rattle.dav_walks.specs.Follows.Reached.{copies as copies_to, ends_file as ends_to, here, listed as listed_to, looks as looks_to, looks_at_link as links_to, makes_dir as makes_to, opens as opens_to, removes_dir as dir_to, removes_file as removes_to, renames as renames_to, unlisted as unlisted_to, writes_file as writes_to}
+use Rattle.dav_walks.specs.Lines.{Line, above, fails_when}
+use Rattle.dav_methods.specs.Lines.{Given, done_over, first_of, may_put, no_parent, unless, unmet, with_status}
+use Rattle.dav_walks.specs.Pouring.{Writes, WritesFile}
 use Rattle.dav_methods.specs.Putting.{MayPut, MayReplace}
 use Rattle.dav_methods.specs.Table.{Below, Ends, Next, Unless}
-use Rattle.dav_methods.proofs.Stages.{regular_same, stands_same}
+use Rattle.dav_walks.proofs.trees.StandsAsBefore.{regular_same, stands_same}
 use Rattle.dav_local.specs.declared.entry.LocalFsDirEntry.{LocalFsDirEntry}
 use Rattle.dav_local.specs.declared.file.LocalFsFile.{LocalFsFile}
 use Rattle.dav_local.specs.declared.gathering.LocalFsReadDir.{LocalFsReadDir}
@@ -70,6 +71,8 @@ use Rattle.dav_upload.proofs.Beside.{looked_at, hidden_some}
 use Rattle.dav_upload.proofs.Chains.{named_long}
 use Rattle.dav_upload.proofs.Moving.{never}
 use Rattle.dav_upload.proofs.Tokens.{beside_hides}
+use Rattle.dav_methods.proofs.plans.CarryLooks.{missing_only}
+use Rattle.dav_methods.proofs.plans.LinesMatch.{none_when}
 use Rattle.dav_upload_laws.specs.Passing.{PassesTable, Succeeds}
 use Rattle.dav_upload_laws.specs.Written.{finds_as_written}
 use Rattle.dav_upload_laws.proofs.LocalTakes.{local_opens_only, written_parts}
@@ -98,10 +101,6 @@ first_none : (a : Option Halt) (rest : List (Option Halt)) → first (a ∷ rest
 first_none None rest e = (refl, e)
 first_none (Some l) rest e = cc
 
-when_none : (b : Bool) (status : ℕ) → when b status ≡ None → b ≡ false
-when_none true status e = cc
-when_none false status e = refl
-
 failing_none : (o : Option ℕ) → failing o ≡ None → o ≡ None
 failing_none None e = refl
 failing_none (Some n) e = cc
@@ -120,10 +119,10 @@ passed rules w path fields e =
     let c = first_none _ _ b.1 in
     let d = first_none _ _ c.1 in
     let f = first_none _ _ d.1 in record {
-      slash = when_none path.slash 405 a.0;
-      parent = not-false (has_parent rules w path) (when_none (not (has_parent rules w path)) 409 b.0);
+      slash = none_when path.slash 405 a.0;
+      parent = not-false (has_parent rules w path) (none_when (not (has_parent rules w path)) 409 b.0);
       there = c.0;
-      no_dir = when_none (is_dir_found (stands rules w path)) 405 d.0;
+      no_dir = none_when (is_dir_found (stands rules w path)) 405 d.0;
       met = f.0;
     }
 
@@ -132,10 +131,6 @@ parent_line : (y : Result Stood FsError) (found : Result Info FsError) → is_di
 parent_line (Ok there) (Ok info) dir agrees = ap (λ k. fails_when (not (is_dir k)) 409) agrees.kind ∙ ap (λ b. fails_when (not b) 409) dir
 parent_line (Ok there) (Err e) dir finds = absurd finds
 parent_line (Err e) found dir finds = cc
-
-missing_line : (e : FsError) → refused_there (Err e) ≡ None → e ≡ fs.NotFound
-missing_line fs.NotFound f = refl
-missing_line other f = cc
 
 -- the target lets a PUT go on
 put_line : (fields : Fields) (y : Result Stood FsError) (found : Result Info FsError) → refused_there y ≡ None → is_dir_found y ≡ false → the_unmet Put fields y ≡ None → Finds y found → may_put fields found ≡ Ok tt
@@ -147,7 +142,7 @@ put_line fields (Ok there) (Ok info) fine no_dir met agrees =
 put_line fields (Ok there) (Err e) fine no_dir met finds = absurd finds
 put_line fields (Err e) (Ok info) fine no_dir met finds = absurd finds
 put_line fields (Err e) (Err f) fine no_dir met finds =
-    let is : f ≡ fs.NotFound = finds ∙ missing_line e fine in
+    let is : f ≡ fs.NotFound = finds ∙ missing_only e fine in
     ap (λ z. may_put fields (Err z)) is ∙ ap (λ o. first_of (with_status o ∷ [])) (failing_none _ met)
 
 -- ---- hidden names are no names that the rules for macOS forbid

@@ -25,12 +25,12 @@ use Rattle.dav_model.specs.Unset.{nothing_set}
 use Rattle.dav_model.specs.Walks.{dir_first, in_order, put_by}
 use Rattle.dav_model.proofs.LooseWalks.{parent_pushed}
 use Rattle.dav_model.proofs.PlainWalks.{unlinked_row}
-use Rattle.dav_methods.specs.declared.child.Child.{Child}
-use Rattle.dav_methods.specs.Follows.{child_of, children_in}
-use Rattle.dav_methods.specs.Follows.Reached.{here}
-use Rattle.dav_methods.specs.Pouring.{Writes}
-use Rattle.dav_methods.specs.Reading.{HasMembers}
-use Rattle.dav_methods.proofs.TreeRows.{at_row, parts_of}
+use Rattle.dav_walks.specs.declared.child.Child.{Child}
+use Rattle.dav_walks.specs.Follows.{child_of, children_in}
+use Rattle.dav_walks.specs.Follows.Reached.{here}
+use Rattle.dav_walks.specs.Pouring.{Writes}
+use Rattle.dav_walks.specs.Reading.{HasMembers}
+use Rattle.dav_walks.proofs.trees.TreeRows.{at_row, parts_of}
 use Rattle.dav_local.specs.declared.entry.LocalFsDirEntry.{LocalFsDirEntry}
 use Rattle.dav_local.specs.declared.file.LocalFsFile.{LocalFsFile}
 use Rattle.dav_local.specs.declared.gathering.LocalFsReadDir.{LocalFsReadDir}

@@ -6,7 +6,7 @@ use Rattle.dav_core.specs.DavPath.{WebPath}
 use Rattle.dav_core.specs.Path.{Names, parent_of}
 use Rattle.dav_core.specs.Tree.{row_at}
 use Rattle.dav_core.specs.World.{World}
-use Rattle.dav_methods.specs.Follows.{children_in}
+use Rattle.dav_walks.specs.Follows.{children_in}
 use Rattle.dav_upload.specs.declared.error.UploadError.{UploadError}
 use Rattle.dav_upload.specs.Kept.{KeepsRow}
 use Rattle.dav_upload.specs.Names.{is_hidden_path}

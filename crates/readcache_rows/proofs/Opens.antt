@@ -7,7 +7,7 @@ use Rattle.dav_store.specs.FileView.{FileView}
 use Rattle.dav_store.specs.Frames.{KeepsOpen, KeepsOpenBut}
 use Rattle.dav_get.proofs.BodyKept.{held_stays}
 use Rattle.dav_handler.proofs.Frames.{turn_leaves}
-use Rattle.dav_methods.proofs.KeptOpen.{but_kept, but_then, open_closed}
+use Rattle.dav_walks.proofs.calls.KeptOpen.{but_kept, but_then, open_closed}
 use Rattle.readcache_rows.specs.declared.opened.Opened.{Opened}
 use Rattle.readcache_rows.specs.declared.opened.Opened.TheVariants.{Nothing, File, Body}
 use Rattle.readcache_rows.specs.Open.{IsFor}

@@ -5,7 +5,7 @@ use Rattle.dav_core.specs.Disk.{DiskState}
 use Rattle.dav_core.specs.Unchanged.{KeepsBut}
 use Rattle.dav_store.specs.Frames.{IsOpened, IsUnopened, KeepsOpen, KeepsOpenBut}
 use Rattle.dav_store.specs.Standing.{Seen}
-use Rattle.dav_methods.proofs.KeptOpen.{but_kept, but_then, open_closed}
+use Rattle.dav_walks.proofs.calls.KeptOpen.{but_kept, but_then, open_closed}
 use Rattle.dav_upload.specs.Pieces.{ClosesUpload, IsMade, KeepsUpload}
 use Rattle.upload_rows.specs.Slots.{Goes, IsLive, IsNot, Under}
 

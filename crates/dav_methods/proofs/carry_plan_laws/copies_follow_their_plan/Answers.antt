@@ -1,5 +1,5 @@
 use Rattle.dav_core.specs.declared.method.DavMethod.TheVariants.{Copy}
-use Rattle.dav_methods.proofs.CarriedRight.{copy_follows}
+use Rattle.dav_methods.proofs.plans.CarryFollows.{copy_follows}
 use Rattle.dav_methods.proofs.carry_plan_laws.copies_follow_their_plan.Goals as goal
 
 pub returns : goal.returns

@@ -1,5 +1,5 @@
 use Rattle.dav_core.specs.declared.method.DavMethod.TheVariants.{Move}
-use Rattle.dav_methods.proofs.CarriedRight.{move_follows}
+use Rattle.dav_methods.proofs.plans.CarryFollows.{move_follows}
 use Rattle.dav_methods.proofs.carry_plan_laws.moves_follow_their_plan.Goals as goal
 
 pub returns : goal.returns

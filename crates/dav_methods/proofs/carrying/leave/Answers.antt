@@ -1,5 +1,5 @@
 use Rattle.dav_store.proofs.Staying.{stays_after}
-use Rattle.dav_methods.proofs.Leaving.{leaves}
+use Rattle.dav_methods.proofs.tables.BehindLooks.{leaves}
 use Rattle.dav_methods.proofs.carrying.leave.Goals as goal
 
 pub returns-clause-table : goal.returns-clause-table

@@ -1,6 +1,6 @@
 use Rattle.std.proofs.Common.{false, true, refl}
 use Rattle.dav_core.specs.declared.method.DavMethod.TheVariants.{Copy, Move}
-use Rattle.dav_methods.proofs.CopiesListed.{carry_listed}
+use Rattle.dav_methods.proofs.tables.CopiesListed.{carry_listed}
 use Rattle.dav_methods.proofs.copy_laws.copies_are_listed.Goals as goal
 
 pub returns-clause-copy : goal.returns-clause-copy

@@ -1,5 +1,5 @@
 use Rattle.std.proofs.Common.{inl, inr, refl, ap, ◌∙◌, not}
-use Rattle.dav_methods.proofs.Addresses.{none_shown, some_shown, without_scheme}
+use Rattle.dav_methods.proofs.texts.Addresses.{none_shown, some_shown, without_scheme}
 use Rattle.dav_methods.proofs.destination.address.Goals as goal
 
 pub returns-then-is_none : goal.returns-then-is_none

@@ -1,5 +1,5 @@
 use Rattle.std.proofs.Common.{◌∙◌, IsUtf8, subst, sym}
-use Rattle.dav_methods.proofs.Addresses.{read_err, read_ok, unread}
+use Rattle.dav_methods.proofs.texts.Addresses.{read_err, read_ok, unread}
 use Rattle.dav_methods.proofs.destination.path_in.Goals as goal
 
 pub returns-in-Ok-clause-ok : goal.returns-in-Ok-clause-ok

@@ -1,6 +1,6 @@
 use Rattle.std.proofs.Common.{refl}
 use Rattle.dav_core.specs.declared.method.DavMethod.TheVariants.{MkAddressbook, MkCalendar, MkCol, Put}
-use Rattle.dav_methods.proofs.AnswersListed.{mkcalendar_listed, mkcol_listed, put_listed}
+use Rattle.dav_methods.proofs.tables.AnswersListed.{mkcalendar_listed, mkcol_listed, put_listed}
 use Rattle.dav_methods.proofs.laws.answers_are_listed.Goals as goal
 
 pub returns-clause-mkcol : goal.returns-clause-mkcol

@@ -1,5 +1,5 @@
-use Rattle.dav_methods.proofs.MakingFollows.{calendar_plan, mkcalendar_follows, mkcol_follows}
-use Rattle.dav_methods.proofs.PutFollows.{put_follows}
+use Rattle.dav_methods.proofs.plans.MakingFollows.{calendar_plan, mkcalendar_follows, mkcol_follows}
+use Rattle.dav_methods.proofs.plans.PutFollows.{put_follows}
 use Rattle.dav_methods.proofs.laws.writes_follow_their_plans.Goals as goal
 
 pub returns-clause-mkcol : goal.returns-clause-mkcol

@@ -1,4 +1,4 @@
-use Rattle.dav_methods.proofs.WritesLead.{writes_lead}
+use Rattle.dav_methods.proofs.tables.WritesLead.{writes_lead}
 use Rattle.dav_methods.proofs.laws.writes_lead_on.Goals as goal
 
 pub returns : goal.returns

@@ -1,6 +1,6 @@
 use Rattle.std.proofs.Common.{Err}
 use Rattle.dav_store.proofs.Staying.{stays_after}
-use Rattle.dav_methods.proofs.TableLines.{line_next}
+use Rattle.dav_methods.proofs.tables.TableLines.{line_next}
 use Rattle.dav_methods.proofs.making.mkcol.Goals as goal
 
 pub returns-clause-table : goal.returns-clause-table

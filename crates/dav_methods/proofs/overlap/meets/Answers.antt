@@ -1,5 +1,5 @@
 use Rattle.std.proofs.Common.{sym, ◌∙◌, arith}
-use Rattle.dav_methods.proofs.Overlaps.{all_same, one_differs}
+use Rattle.dav_methods.proofs.texts.Overlaps.{all_same, one_differs}
 use Rattle.dav_methods.proofs.overlap.meets.Goals as goal
 
 pub returns-then-not-branch : goal.returns-then-not-branch

@@ -1,6 +1,6 @@
 use Rattle.std.proofs.Common.{Ok}
 use Rattle.dav_store.proofs.Staying.{stays_after}
-use Rattle.dav_methods.proofs.FilePut.{put_read}
+use Rattle.dav_methods.proofs.tables.PutBehindOpening.{put_read}
 use Rattle.dav_methods.proofs.putting.put.Goals as goal
 
 pub returns-clause-table : goal.returns-clause-table

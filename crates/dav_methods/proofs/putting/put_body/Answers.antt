@@ -1,6 +1,6 @@
 use Rattle.std.proofs.Common.{◌∙◌}
-use Rattle.dav_methods.proofs.PiecesWritten.{stays_pours, still_live}
-use Rattle.dav_methods.proofs.FilePut.{put_ends, put_leaves}
+use Rattle.dav_walks.proofs.steps.PiecesWritten.{stays_pours, still_live}
+use Rattle.dav_methods.proofs.tables.PutBehindOpening.{put_ends, put_leaves}
 use Rattle.dav_methods.proofs.putting.put_body.Goals as goal
 
 pub file_close-requires : goal.file_close-requires

@@ -1,6 +1,6 @@
 use Rattle.std.proofs.Common.{◌∙◌}
-use Rattle.dav_methods.proofs.PiecesWritten.{stays_written}
-use Rattle.dav_methods.proofs.FilePut.{put_leaves}
+use Rattle.dav_walks.proofs.steps.PiecesWritten.{stays_written}
+use Rattle.dav_methods.proofs.tables.PutBehindOpening.{put_leaves}
 use Rattle.dav_methods.proofs.putting.put_bytes.Goals as goal
 
 pub returns-clause-stays : goal.returns-clause-stays

@@ -1,4 +1,4 @@
-use Rattle.dav_methods.proofs.TableLines.{line_answer}
+use Rattle.dav_methods.proofs.tables.TableLines.{line_answer}
 use Rattle.dav_methods.proofs.putting.put_over.Goals as goal
 
 pub returns : goal.returns

@@ -1,4 +1,4 @@
-use Rattle.dav_methods.proofs.ReaderPut.{read_follows}
+use Rattle.dav_methods.proofs.plans.ReaderPutFollows.{read_follows}
 use Rattle.dav_methods.proofs.reader_laws.reads_follow_their_plan.Goals as goal
 
 pub returns : goal.returns

@@ -1,6 +1,6 @@
 use Rattle.std.proofs.Common.{refl}
 use Rattle.dav_core.specs.declared.method.DavMethod.TheVariants.{Delete}
-use Rattle.dav_methods.proofs.AnswersListed.{delete_listed}
+use Rattle.dav_methods.proofs.tables.AnswersListed.{delete_listed}
 use Rattle.dav_methods.proofs.removal_laws.removals_are_listed.Goals as goal
 
 pub returns : goal.returns

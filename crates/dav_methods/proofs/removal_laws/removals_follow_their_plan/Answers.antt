@@ -1,4 +1,4 @@
-use Rattle.dav_methods.proofs.DeleteRight.{deletes_right}
+use Rattle.dav_methods.proofs.plans.DeleteFollows.{deletes_right}
 use Rattle.dav_methods.proofs.removal_laws.removals_follow_their_plan.Goals as goal
 
 pub returns : goal.returns

@@ -1,5 +1,5 @@
 use Rattle.std.proofs.Common.{◌≡◌, ◌≤◌, ◌∷◌, ◌+◌, drop, subst, arith}
-use Rattle.dav_methods.specs.Walking.{member_at, members_at}
+use Rattle.dav_walks.specs.Walking.{member_at, members_at}
 use Rattle.dav_upload.specs.Uploading.{hidden_files}
 use Rattle.dav_upload.proofs.Closing.{stays_then}
 use Rattle.dav_upload.proofs.MembersTaken.{Far, at_most_one, ended_all, ended_there, next_member, taken_one}

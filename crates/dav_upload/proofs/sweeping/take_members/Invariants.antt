@@ -1,6 +1,6 @@
 use Rattle.std.proofs.Common.{◌≤◌, drop}
 use Rattle.dav_store.specs.View.{StaysOpen}
-use Rattle.dav_methods.specs.Walking.{members_at}
+use Rattle.dav_walks.specs.Walking.{members_at}
 use Rattle.dav_upload.specs.Uploading.{hidden_files}
 use Rattle.dav_upload.proofs.MembersTaken.{Far}
 use Rattle.dav_upload.proofs.sweeping.take_members.Given as goal

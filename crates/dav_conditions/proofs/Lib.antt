@@ -1,0 +1,2 @@
+mod TagsCompared
+mod Unconditional

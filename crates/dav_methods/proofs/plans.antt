@@ -1,0 +1,16 @@
+pub mod EndsByPlan
+pub mod LinesMatch
+pub mod MakingFollows
+pub mod PutFollows
+pub mod ReaderPutFollows
+pub mod FilledTwice
+pub mod OpenedFile
+pub mod DeleteFollows
+pub mod CarryLooks
+pub mod CarryClears
+pub mod CarryFollows
+pub mod CarryOverOneFile
+pub mod CopyBegins
+pub mod CopyLastAct
+pub mod CopyOverOneFile
+pub mod MoveLastAct

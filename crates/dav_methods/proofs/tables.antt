@@ -1,0 +1,9 @@
+pub mod TablesKept
+pub mod TableLines
+pub mod WritesLead
+pub mod AnswersListed
+pub mod LinesListed
+pub mod ReadingListed
+pub mod CopiesListed
+pub mod BehindLooks
+pub mod PutBehindOpening

@@ -1,0 +1,3 @@
+pub mod WordsJoined
+pub mod Addresses
+pub mod Overlaps

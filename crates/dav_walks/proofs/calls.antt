@@ -1,0 +1,4 @@
+pub mod ActsJoined
+pub mod CallsDoActs
+pub mod ListingsLead
+pub mod KeptOpen

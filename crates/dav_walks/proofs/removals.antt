@@ -1,0 +1,5 @@
+pub mod RemovalOrder
+pub mod RemovalsAllowed
+pub mod WorkCovers
+pub mod RemovalDoesActs
+pub mod OneFileRemoved

@@ -1,0 +1,6 @@
+pub mod PathsPending
+pub mod WorkGetsLighter
+pub mod RemovesByTable
+pub mod CopiesByTable
+pub mod MembersRead
+pub mod PiecesWritten

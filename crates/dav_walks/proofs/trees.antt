@@ -1,0 +1,12 @@
+pub mod NoLinkAbove
+pub mod TreeRows
+pub mod StillApart
+pub mod FoundStill
+pub mod FoundBeneath
+pub mod OthersStay
+pub mod FreePlaces
+pub mod PlaceCleared
+pub mod TimedRows
+pub mod OneFileGone
+pub mod EditsJoined
+pub mod StandsAsBefore
